@@ -1,15 +1,14 @@
 -- The content with a copy in it: by look-ups, and good.
-use Rattle.std.proofs.Common.{◌≡◌, ◌≢◌, ◌+◌, ◌-◌, ◌≤◌, ◌||◌, ◌==◌, ℕ, Bool, true, false, cond, not, List, [], ◌∷◌, ◌++◌, length, refl, sym, ◌∙◌, ap, subst, Some, None, Option, ⊎_elim, arith}
-use Rattle.std.specs.Prelude.{is_some, is_none, IsSome, IsTrue, option_map, slice_get, unwrap_or, nat_lt}
+use Rattle.std.proofs.Common.{◌≡◌, ◌≢◌, ◌+◌, ◌≤◌, ◌<◌, ◌||◌, ◌==◌, ℕ, Bool, true, false, cond, not, List, [], ◌∷◌, ◌++◌, length, refl, sym, ◌∙◌, ap, subst, Some, None, Option, ⊎_elim, arith}
+use Rattle.std.specs.Prelude.{is_some, is_none, IsSome, IsTrue, option_map, unwrap_or, nat_lt}
 use Rattle.std.specs.Option.{option_map_or}
 use Rattle.std.specs.Ordering.{eq_by_cmp}
 use Rattle.std.specs.List.{IsDistinct}
 use Rattle.std.specs.List.Sorted.{IsStrictlySortedBy}
 use Rattle.std.specs.Map.{keys_of, set_value}
-use Rattle.std.proofs.lemmas.Bool.{cases_Bool, false≢true, true≢false, false_from_ne_true, leb-true, le-leb}
+use Rattle.std.proofs.lemmas.Bool.{cases_Bool, false≢true, true≢false, false_from_ne_true, leb-true, leb-false, le-leb}
 use Rattle.std.proofs.lemmas.List.{length-map}
 use Rattle.std.proofs.lemmas.Map.{keys-set_value}
-use Rattle.std.proofs.lemmas.Option.{get_or_from_slice_get}
 use Rattle.sp_base.specs.PathExact.{exact_paths}
 use Rattle.sp_base.specs.Paths.{is_path, is_under}
 use Rattle.resource_tree.specs.declared.nodes.Node.{Node}
@@ -60,19 +59,40 @@ not_more n small = false_from_ne_true _ (λ is. let large : 200001 ≤ n = leb-t
 more : (n : ℕ) → 200001 ≤ n → nat_lt 200000 n ≡ true
 more n large = le-leb 200001 n large
 
+pub part_fits : (tree : Content) (source target : List (List ℕ)) → is_too_deep tree source target ≡ false → length tree + length (part tree source) ≤ 200000 → part_size_fault tree source target ≡ None
+part_fits tree source target fits small =
+    ap (λ b. cond b (Some TooDeep) (cond (nat_lt 200000 (length tree + length (part tree source))) (Some FullTree) None)) fits ∙ ap (λ b. cond b (Some FullTree) None) (not_more _ small)
+
+pub part_too_deep : (tree : Content) (source target : List (List ℕ)) → is_too_deep tree source target ≡ true → part_size_fault tree source target ≡ Some TooDeep
+part_too_deep tree source target deep = ap (λ b. cond b (Some TooDeep) (cond (nat_lt 200000 (length tree + length (part tree source))) (Some FullTree) None)) deep
+
+pub part_too_many : (tree : Content) (source target : List (List ℕ)) → is_too_deep tree source target ≡ false → 200001 ≤ length tree + length (part tree source) → part_size_fault tree source target ≡ Some FullTree
+part_too_many tree source target fits large =
+    ap (λ b. cond b (Some TooDeep) (cond (nat_lt 200000 (length tree + length (part tree source))) (Some FullTree) None)) fits ∙ ap (λ b. cond b (Some FullTree) None) (more _ large)
+
+-- what is known of a part that fits
+pub record Fits (tree : Content) (source target : List (List ℕ)) : Type 0 where
+  pub shallow : is_too_deep tree source target ≡ false
+  pub small : length tree + length (part tree source) ≤ 200000
+
+pub fits_from : (tree : Content) (source target : List (List ℕ)) → part_size_fault tree source target ≡ None → Fits tree source target
+fits_from tree source target e =
+    let first = no_fault (is_too_deep tree source target) _ _ e in
+    let second = no_fault (nat_lt 200000 (length tree + length (part tree source))) _ _ first.1 in
+    let below : length tree + length (part tree source) < 200001 = leb-false 200001 (length tree + length (part tree source)) second.0 in
+    record { shallow = first.0; small = omega (arith, below) }
+
+pub copy_fault_is : (tree : Content) (source target : List (List ℕ)) → target_fault tree source target ≡ None → copy_fault tree source target ≡ part_size_fault tree source target
+copy_fault_is tree source target free = ap (λ f. first_fault f (part_size_fault tree source target)) free
+
 pub allowed : (tree : Content) (source target : List (List ℕ)) → target_fault tree source target ≡ None → is_too_deep tree source target ≡ false → length tree + length (part tree source) ≤ 200000 → copy_fault tree source target ≡ None
-allowed tree source target free fits small =
-    ap (λ f. first_fault f (part_size_fault tree source target)) free ∙ ap (λ b. cond b (Some TooDeep) (cond (nat_lt 200000 (length tree + length (part tree source))) (Some FullTree) None)) fits
-    ∙ ap (λ b. cond b (Some FullTree) None) (not_more _ small)
+allowed tree source target free fits small = copy_fault_is tree source target free ∙ part_fits tree source target fits small
 
 pub too_deep : (tree : Content) (source target : List (List ℕ)) → target_fault tree source target ≡ None → is_too_deep tree source target ≡ true → copy_fault tree source target ≡ Some TooDeep
-too_deep tree source target free deep =
-    ap (λ f. first_fault f (part_size_fault tree source target)) free ∙ ap (λ b. cond b (Some TooDeep) (cond (nat_lt 200000 (length tree + length (part tree source))) (Some FullTree) None)) deep
+too_deep tree source target free deep = copy_fault_is tree source target free ∙ part_too_deep tree source target deep
 
 pub too_many : (tree : Content) (source target : List (List ℕ)) → target_fault tree source target ≡ None → is_too_deep tree source target ≡ false → 200001 ≤ length tree + length (part tree source) → copy_fault tree source target ≡ Some FullTree
-too_many tree source target free fits large =
-    ap (λ f. first_fault f (part_size_fault tree source target)) free ∙ ap (λ b. cond b (Some TooDeep) (cond (nat_lt 200000 (length tree + length (part tree source))) (Some FullTree) None)) fits
-    ∙ ap (λ b. cond b (Some FullTree) None) (more _ large)
+too_many tree source target free fits large = copy_fault_is tree source target free ∙ part_too_many tree source target fits large
 
 pub sorted-change_at : (tree : Content) (path : List (List ℕ)) (change : Node → Node) → IsStrictlySortedBy by_path (keys_of tree) → IsStrictlySortedBy by_path (keys_of (change_at tree path change))
 sorted-change_at tree path change sorted =
@@ -129,10 +149,10 @@ module _ (tree : Content) (source target : List (List ℕ)) (good : IsGood tree)
       (λ beside. rw beside)
       (cases_Bool (is_under q target))
 
-  module _ (entries : PatchEntries) (once : IsDistinct (eq_by_cmp by_path) (keys_of entries)) (alike : (q : List (List ℕ)) → entry_at entries q ≡ entry_at (part_there tree source target) q) (kids : List (List ℕ)) (name : List ℕ) (kids_are : kids ≡ kids_at tree (parent_of target) ++ name ∷ []) (last : Some name ≡ slice_get target (length target - 1)) where
+  module _ (entries : PatchEntries) (once : IsDistinct (eq_by_cmp by_path) (keys_of entries)) (alike : (q : List (List ℕ)) → entry_at entries q ≡ entry_at (part_there tree source target) q) (kids : List (List ℕ)) (name : List ℕ) (kids_are : kids ≡ kids_at tree (parent_of target) ++ name ∷ []) (last : name ≡ name_of target) where
     kid_named : with_kids kids above ≡ with_kid (name_of target) above
     kid_named =
-        let segment : name_of target ≡ name = get_or_from_slice_get target (length target - 1) name [] (sym last) in
+        let segment : name_of target ≡ name = sym last in
         let its : kids_at tree (parent_of target) ≡ above.kids = ap (λ o. option_map_or (λ (n : Node). n.kids) o []) above_is in
         ap (λ ks. with_kids ks above) (kids_are ∙ ap (λ ks. ks ++ name ∷ []) its ∙ ap (λ (s : List ℕ). above.kids ++ s ∷ []) (sym segment))
 

@@ -1,6 +1,6 @@
 -- The content with a part of it at another path: by look-ups, and good.
-use Rattle.std.proofs.Common.{◌≡◌, ◌≢◌, ◌+◌, ◌-◌, ◌||◌, ◌&&◌, ◌==◌, ℕ, Bool, true, false, cond, not, List, [], ◌∷◌, map, length, refl, sym, ◌∙◌, ap, subst, Some, None, Option, ⊎_elim, ◌⊎◌, inl, inr, arith}
-use Rattle.std.specs.Prelude.{is_some, is_none, IsSome, IsTrue, option_map, unwrap_or, filter, nat_eq, slice_get}
+use Rattle.std.proofs.Common.{◌≡◌, ◌≢◌, ◌+◌, ◌||◌, ◌&&◌, ◌==◌, ℕ, Bool, true, false, cond, not, List, [], ◌∷◌, map, length, refl, sym, ◌∙◌, ap, subst, Some, None, Option, ⊎_elim, ◌⊎◌, inl, inr, arith}
+use Rattle.std.specs.Prelude.{is_some, is_none, IsSome, IsTrue, option_map, unwrap_or, filter, nat_eq}
 use Rattle.std.specs.Cmp.Lexicographic.{pointwise, same_text}
 use Rattle.std.specs.Option.{option_map_or}
 use Rattle.std.specs.List.{list_any}
@@ -11,7 +11,6 @@ use Rattle.std.proofs.lemmas.List.{length-map}
 use Rattle.std.proofs.lemmas.List.Filters.{length-filter_both}
 use Rattle.std.proofs.lemmas.List.Kept.{IsStrictlySortedBy-filter}
 use Rattle.std.proofs.lemmas.Map.{keys-set_value}
-use Rattle.std.proofs.lemmas.Option.{get_or_from_slice_get}
 use Rattle.sp_base.specs.PathExact.{exact_paths}
 use Rattle.sp_base.specs.Paths.{is_path, is_under}
 use Rattle.resource_tree.specs.declared.nodes.Node.{Node}
@@ -63,14 +62,6 @@ may_go tree source target e =
       not_below = beside.0;
       not_above = beside.1;
     }
-
--- the kids' names as the code changes them
-pub names : (tree old : Content) (source target old_parent parent : List (List ℕ)) (old_name name seg : List ℕ) → old ≡ tree → old_parent ≡ parent_of source → Some old_name ≡ slice_get source (length source - 1) → parent ≡ parent_of target
-    → name ≡ seg → Some seg ≡ slice_get target (length target - 1) → (q : List (List ℕ)) → renaming_at old old_parent old_name parent name q ≡ renaming_at tree (parent_of source) (name_of source) (parent_of target) (name_of target) q
-names tree old source target old_parent parent old_name name seg same up last up_too is last_too q =
-    let from : name_of source ≡ old_name = get_or_from_slice_get source (length source - 1) old_name [] (sym last) in
-    let to : name_of target ≡ seg = get_or_from_slice_get target (length target - 1) seg [] (sym last_too) in
-    rw (same, up, up_too, is, from, to)
 
 pub allowed : (tree : Content) (source target : List (List ℕ)) → ends_fault tree source target ≡ None → is_too_deep tree source target ≡ false → move_fault tree source target ≡ None
 allowed tree source target free fits = ap (λ f. first_fault f (cond (is_too_deep tree source target) (Some TooDeep) None)) free ∙ ap (λ b. cond b (Some TooDeep) None) fits

@@ -1,13 +1,12 @@
 -- A tree stays a tree where a node and all below it are removal.
-use Rattle.std.proofs.Common.{◌≡◌, ◌≢◌, ◌-◌, ◌≤◌, ℕ, Bool, not, true, false, cond, ◌&&◌, List, [], ◌∷◌, refl, sym, ◌∙◌, ap, subst, ⊎_elim, Some, None, Option, length, arith}
-use Rattle.std.specs.Prelude.{is_some, IsSome, unwrap_or, slice_get, nat_eq}
+use Rattle.std.proofs.Common.{◌≡◌, ◌≢◌, ◌≤◌, ℕ, Bool, not, true, false, cond, ◌&&◌, List, [], ◌∷◌, refl, sym, ◌∙◌, ap, subst, ⊎_elim, Some, None, Option, length, arith}
+use Rattle.std.specs.Prelude.{is_some, IsSome, unwrap_or, nat_eq}
 use Rattle.std.specs.Cmp.Lexicographic.{pointwise}
 use Rattle.std.specs.Option.{option_map_or}
 use Rattle.std.specs.List.Sorted.{IsStrictlySortedBy}
 use Rattle.std.specs.Map.{keys_of}
 use Rattle.std.proofs.lemmas.Bool.{cases_Bool, true≢false, false≢true, and_parts}
 use Rattle.std.proofs.lemmas.List.Filters.{length-filter_both}
-use Rattle.std.proofs.lemmas.Option.{get_or_from_slice_get}
 use Rattle.sp_base.specs.Paths.{is_under}
 use Rattle.resource_tree.specs.declared.nodes.Node.{Node}
 use Rattle.resource_tree.specs.Content.{by_path, kid, has_kid, IsNodeOf, IsTree, IsGood, node_at, Content, empty_node, parent_of, name_of}
@@ -146,10 +145,10 @@ module _ (tree : Content) (path : List (List ℕ)) (good : IsTree (node_at tree)
       omega (arith, both, same)
 
   -- the new content as the code makes it
-  pub removal_from : (old : Content) (parent : List (List ℕ)) (name : List ℕ) (kids others : List (List ℕ)) → old ≡ tree → parent ≡ parent_of path → Some name ≡ slice_get path (length path - 1) → kids ≡ kids_at old parent
+  pub removal_from : (old : Content) (parent : List (List ℕ)) (name : List ℕ) (kids others : List (List ℕ)) → old ≡ tree → parent ≡ parent_of path → name ≡ name_of path → kids ≡ kids_at old parent
       → others ≡ other_kids name kids → change_at old parent (with_kids others) ≡ change_at tree (parent_of path) (without_kid (name_of path))
   removal_from old parent name kids others same up last kids_is others_is =
-      let segment : name_of path ≡ name = get_or_from_slice_get path (length path - 1) name [] (sym last) in
+      let segment : name_of path ≡ name = sym last in
       let its_kids : kids ≡ above.kids =
       kids_is ∙ ap (λ (t : Content). kids_at t parent) same ∙ ap (λ p. kids_at tree p) up ∙ ap (λ o. option_map_or (λ (n : Node). n.kids) o []) above_is in
       let left : others ≡ other_kids (name_of path) above.kids = others_is ∙ ap (λ s. other_kids s kids) (sym segment) ∙ ap (λ ks. other_kids (name_of path) ks) its_kids in

@@ -41,10 +41,10 @@ change_at-same tree path node f g was same =
     ∙ sym (ap (λ o. option_map_or (λ n. set_value (same_path path) tree (g n)) o tree) was)
 
 -- the new content as the code makes it
-pub reordering_from : (old tree : Content) (path parent : List (List ℕ)) (place : Place) (name : List ℕ) (kids new_kids : List (List ℕ)) → IsTree (node_at tree) → CanMove tree path → old ≡ tree → parent ≡ parent_of path
-    → Some name ≡ slice_get path (length path - 1) → kids ≡ kids_at old parent → Some new_kids ≡ kids_in_order name place kids → change_at old parent (with_kids new_kids) ≡ reordering tree path place
-reordering_from old tree path parent place name kids new_kids good can same above last kids_is found_is =
-    let segment : name_of path ≡ name = get_or_from_slice_get path (length path - 1) name [] (sym last) in
+pub reordering_named : (old tree : Content) (path parent : List (List ℕ)) (place : Place) (name : List ℕ) (kids new_kids : List (List ℕ)) → IsTree (node_at tree) → CanMove tree path → old ≡ tree → parent ≡ parent_of path
+    → name ≡ name_of path → kids ≡ kids_at old parent → Some new_kids ≡ kids_in_order name place kids → change_at old parent (with_kids new_kids) ≡ reordering tree path place
+reordering_named old tree path parent place name kids new_kids good can same above last kids_is found_is =
+    let segment : name_of path ≡ name = sym last in
     let was = some_from (node_at tree (parent_of path)) empty_node (parent_there tree path good can) in
     let its_kids : kids ≡ (unwrap_or (node_at tree (parent_of path)) empty_node).kids =
     kids_is ∙ ap (λ (t : Content). kids_at t parent) same ∙ ap (λ p. kids_at tree p) above ∙ ap (λ o. option_map_or (λ (n : Node). n.kids) o []) was in
@@ -53,6 +53,12 @@ reordering_from old tree path parent place name kids new_kids good can same abov
     ∙ ap (λ p. change_at tree p (with_kids new_kids)) above
     ∙ change_at-same tree (parent_of path) (unwrap_or (node_at tree (parent_of path)) empty_node) (with_kids new_kids) (with_order (name_of path) place) was
     (ap (λ o. with_kids (unwrap_or o (unwrap_or (node_at tree (parent_of path)) empty_node).kids) (unwrap_or (node_at tree (parent_of path)) empty_node)) in_place)
+
+-- the same where the name is the path's last segment
+pub reordering_from : (old tree : Content) (path parent : List (List ℕ)) (place : Place) (name : List ℕ) (kids new_kids : List (List ℕ)) → IsTree (node_at tree) → CanMove tree path → old ≡ tree → parent ≡ parent_of path
+    → Some name ≡ slice_get path (length path - 1) → kids ≡ kids_at old parent → Some new_kids ≡ kids_in_order name place kids → change_at old parent (with_kids new_kids) ≡ reordering tree path place
+reordering_from old tree path parent place name kids new_kids good can same above last =
+    reordering_named old tree path parent place name kids new_kids good can same above (sym (get_or_from_slice_get path (length path - 1) name [] (sym last)))
 
 -- the content with the kid in its place is good
 pub IsGood-reordering : (new tree : Content) (path : List (List ℕ)) (place : Place) → IsGood tree → CanMove tree path → new ≡ reordering tree path place → IsStrictlySortedBy by_path (keys_of new) → IsGood new

@@ -6,12 +6,14 @@ ghost use Rattle.std.specs.Map.{keys_of};
 ghost use Rattle.std.specs.Ordering.{eq_by_cmp};
 ghost use Rattle.sp_base.specs.Paths.{is_path, is_under, path_or_none};
 ghost use Rattle.resource_tree.specs.declared.patch.PatchNode.{PatchNode};
-ghost use Rattle.resource_tree.specs.Content.{IsTree, by_path, node_at, same_path, parent_of, name_of};
+ghost use Rattle.resource_tree.specs.declared.nodes.Node.{Node};
+ghost use Rattle.resource_tree.specs.Content.{IsGood, by_path, node_at, same_path, parent_of};
 ghost use Rattle.resource_tree.specs.Changes.{change_at, with_kids};
 ghost use Rattle.resource_tree.specs.Patches.{entry_at, with_entry, patching};
-ghost use Rattle.resource_tree.specs.Moves.{copy, copy_at, copy_fault, part, part_there, path_there, target_fault};
+ghost use Rattle.resource_tree.specs.Moves.{copy, copy_at, copy_fault, part_size_fault, part_there, path_there, target_fault};
 
 use crate::create::{MOST_NODES, last_segment};
+use crate::faults::{name_taken, no_such, node_exists};
 use crate::order::{kids_at, set_kids};
 use crate::part::paths_under;
 use crate::room::put_all;
@@ -32,19 +34,7 @@ impl Tree {
     {
         let parent = target.parent(alloc)?;
         self.check_target(alloc, source, target, &parent)?;
-        let Some(name) = last_segment(target) else {
-            return Err(TreeFault::RootFixed);
-        };
-        let kids = kids_and(alloc, kids_at(&self.nodes, &parent), name)?;
-        let paths = paths_under(&self.nodes, alloc, source)?;
-        let part = part_there(&self.nodes, alloc, source, target, &paths)?;
-        if part.len() > MOST_NODES.saturating_sub(self.nodes.len()) {
-            return Err(TreeFault::FullTree);
-        }
-        self.nodes.make_room(part.len())?;
-        put_all(&mut self.nodes, part);
-        set_kids(&mut self.nodes, &parent, kids);
-        Ok(())
+        copy_under(&mut self.nodes, alloc, source, target, &parent)
     }
 
     // Whether a path is free for a copy.
@@ -60,25 +50,83 @@ impl Tree {
         ensures err { IfErr result (λ e. e ≢ TreeFault.NoMemory → target_fault self.now source.now target.now ≡ Some e) }
     {
         if !self.nodes.contains_key(source) {
-            return Err(TreeFault::NoSuch(source.duplicate(alloc)?));
+            return Err(no_such(alloc, source));
         }
         let Some(above) = self.nodes.get(parent) else {
-            return Err(TreeFault::NoSuch(parent.duplicate(alloc)?));
+            return Err(no_such(alloc, parent));
         };
-        let Some(name) = last_segment(target) else {
+        if target.depth() == 0 {
             return Err(TreeFault::RootFixed);
-        };
+        }
         if target.is_under(source) || source.is_under(target) {
             return Err(TreeFault::IntoItself);
         }
         if self.nodes.contains_key(target) {
-            return Err(TreeFault::Exists(target.duplicate(alloc)?));
+            return Err(node_exists(alloc, target));
         }
-        if above.props.get(name).is_some() {
-            return Err(TreeFault::Taken(target.duplicate(alloc)?));
+        if above.props.get(last_segment(target)).is_some() {
+            return Err(name_taken(alloc, target));
         }
         Ok(())
     }
+}
+
+// Copies a node and all below it to a path that is free for it, where they fit.
+fn copy_under(
+    nodes: &mut Nodes,
+    alloc: Global,
+    source: &Path,
+    target: &Path,
+    parent: &Path,
+) -> Result<(), TreeFault>
+    requires good { IsGood nodes.old.entries }
+    requires free { target_fault nodes.old.entries source.now target.now ≡ None }
+    requires parent { parent.now ≡ parent_of target.now }
+    ensures allowed { OnOk result (copy_fault nodes.old.entries source.now target.now ≡ None) }
+    ensures ok { OnOk result (nodes.new.entries ≡ copy nodes.old.entries source.now target.now) }
+    ensures good { IsGood nodes.new.entries }
+    ensures err { IfErr result (λ e. e ≢ TreeFault.NoMemory → copy_fault nodes.old.entries source.now target.now ≡ Some e) }
+    ensures unchanged { OnErr result (nodes.new.entries ≡ nodes.old.entries) }
+{
+    let kids = kids_and(alloc, kids_at(nodes, parent), last_segment(target))?;
+    let part = part_that_fits(nodes, alloc, source, target)?;
+    hang(nodes, part, parent, kids)?;
+    Ok(())
+}
+
+// Puts a part over the nodes, and gives the node at a path other kids.
+fn hang(nodes: &mut Nodes, part: Patch, parent: &Path, kids: TextList) -> Mem<()>
+    ensures once { IsDistinct (eq_by_cmp by_path) (keys_of part) }
+    ensures ok { OnOk result (nodes.new.entries ≡ change_at (patching nodes.old.entries part) parent.now (with_kids kids)) }
+    ensures err { OnErr result (nodes.new.entries ≡ nodes.old.entries) }
+    ensures ordered { OnOk result (IsStrictlySortedBy by_path (keys_of nodes.new.entries)) }
+{
+    nodes.make_room(part.len())?;
+    put_all(nodes, part);
+    set_kids(nodes, parent, kids);
+    Ok(())
+}
+
+// The nodes at the source and under it, at the target, where the tree has room for them.
+fn part_that_fits(
+    nodes: &Nodes,
+    alloc: Global,
+    source: &Path,
+    target: &Path,
+) -> Result<Patch, TreeFault>
+    requires valid { IsTrue (is_path target.now) }
+    requires good { IsGood nodes.now.entries }
+    requires there { is_some (node_at nodes.now.entries source.now) ≡ true }
+    ensures ok { IfOk result (λ part. (q : List (List ℕ)) → entry_at part q ≡ entry_at (part_there nodes.now.entries source.now target.now) q) }
+    ensures fits { OnOk result (part_size_fault nodes.now.entries source.now target.now ≡ None) }
+    ensures err { IfErr result (λ e. e ≢ TreeFault.NoMemory → part_size_fault nodes.now.entries source.now target.now ≡ Some e) }
+{
+    let paths = paths_under(nodes, alloc, source)?;
+    let part = part_there(nodes, alloc, source, target, &paths)?;
+    if part.len() > MOST_NODES.saturating_sub(nodes.len()) {
+        return Err(TreeFault::FullTree);
+    }
+    Ok(part)
 }
 
 // The kids, and one more after them.
@@ -132,13 +180,31 @@ fn part_there(
 {
     let mut part = Patch::new(alloc, *nodes.map.hasher());
     for path in paths {
-        let Some(there) = path_there(alloc, source, target, path)? else {
-            return Err(TreeFault::TooDeep);
-        };
-        let Some(node) = nodes.get(path) else {
-            continue;
-        };
-        part.put(there, PatchNode::Node(node.duplicate(alloc)?))?;
+        put_copy(&mut part, nodes, alloc, source, target, path)?;
     }
     Ok(part)
+}
+
+// Adds the node at a path, if there is one, at the target.
+fn put_copy(
+    part: &mut Patch,
+    nodes: &Nodes,
+    alloc: Global,
+    source: &Path,
+    target: &Path,
+    path: &Path,
+) -> Result<(), TreeFault>
+    requires { IsTrue (is_path target.now) }
+    ensures ok { OnOk result ((node : Node) → node_at nodes.now.entries path.now ≡ Some node → part.new ≡ with_entry part.old (path_there source.now target.now path.now) (PatchNode.Node node)) }
+    ensures fits { OnOk result (is_path (path_there source.now target.now path.now) ≡ true) }
+    ensures err { IfErr result (λ e. e ≢ TreeFault.NoMemory → (e ≡ TreeFault.TooDeep) × (is_path (path_there source.now target.now path.now) ≡ false)) }
+{
+    let Some(there) = path_there(alloc, source, target, path)? else {
+        return Err(TreeFault::TooDeep);
+    };
+    let Some(node) = nodes.get(path) else {
+        return Ok(());
+    };
+    part.put(there, PatchNode::Node(node.duplicate(alloc)?))?;
+    Ok(())
 }

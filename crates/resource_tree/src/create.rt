@@ -1,12 +1,13 @@
 // New nodes, and when they are refused.
-ghost use Rattle.std.specs.Prelude.{◌≡◌, ◌≢◌, ◌≤◌, ◌-◌, ℕ, List, None, Some, OnOk, OnErr, IfOk, IfErr, IsTrue, length, option_copied, slice_get};
+ghost use Rattle.std.specs.Prelude.{◌≡◌, ◌≢◌, ◌≤◌, ℕ, List, None, Some, OnOk, OnErr, IfErr, IsTrue};
 ghost use Rattle.std.specs.BTreeMap.{insert_entry};
 ghost use Rattle.std.specs.List.Sorted.{IsStrictlySortedBy};
 ghost use Rattle.std.specs.Map.{keys_of};
 ghost use Rattle.sp_base.specs.Paths.{is_path};
-ghost use Rattle.resource_tree.specs.Content.{by_path, node_at, parent_of, empty_node, leaf, HasSegmentNames};
+ghost use Rattle.resource_tree.specs.Content.{by_path, node_at, parent_of, name_of, empty_node, leaf, HasSegmentNames};
 ghost use Rattle.resource_tree.specs.Changes.{change_at, create_fault, creation, creation_at, with_kid};
 
+use crate::faults::{name_taken, no_such, node_exists};
 use crate::nodes::Node;
 use crate::table::Nodes;
 use crate::{Tree, TreeFault};
@@ -40,18 +41,7 @@ impl Tree {
     {
         let parent = path.parent(alloc)?;
         self.check_create(alloc, path, &parent)?;
-        let Some(name) = last_segment(path) else {
-            return Err(TreeFault::Exists(path.duplicate(alloc)?));
-        };
-        let name = TextBuf::of(alloc, name)?;
-        add_node(
-            &mut self.nodes,
-            alloc,
-            path,
-            Node::leaf(alloc, props),
-            &parent,
-            name,
-        )?;
+        add_leaf(&mut self.nodes, alloc, path, props, &parent)?;
         Ok(())
     }
 
@@ -62,16 +52,13 @@ impl Tree {
         ensures err { IfErr result (λ e. e ≢ TreeFault.NoMemory → create_fault self.now path.now ≡ Some e) }
     {
         let Some(above) = self.nodes.get(parent) else {
-            return Err(TreeFault::NoSuch(parent.duplicate(alloc)?));
+            return Err(no_such(alloc, parent));
         };
         if self.nodes.contains_key(path) {
-            return Err(TreeFault::Exists(path.duplicate(alloc)?));
+            return Err(node_exists(alloc, path));
         }
-        let Some(name) = last_segment(path) else {
-            return Err(TreeFault::Exists(path.duplicate(alloc)?));
-        };
-        if above.props.get(name).is_some() {
-            return Err(TreeFault::Taken(path.duplicate(alloc)?));
+        if above.props.get(last_segment(path)).is_some() {
+            return Err(name_taken(alloc, path));
         }
         if self.nodes.len() >= MOST_NODES {
             return Err(TreeFault::FullTree);
@@ -80,12 +67,34 @@ impl Tree {
     }
 }
 
-// The last segment of a path, which the root has not.
-pub(crate) fn last_segment(path: &Path) -> Option<&str>
+// The last segment of a path. The root has none, and an empty text stands for it.
+pub(crate) fn last_segment(path: &Path) -> &str
     ensures valid { IsTrue (is_path path.now) }
-    ensures segment { option_copied result ≡ slice_get path.now (length path.now - 1) }
+    ensures segment { result.now ≡ name_of path.now }
 {
-    path.seg(path.depth().saturating_sub(1))
+    match path.seg(path.depth().saturating_sub(1)) {
+        Some(segment) => segment,
+        None => "",
+    }
+}
+
+// Adds a node with these properties and no kids, and its name to its parent's kids.
+fn add_leaf(
+    nodes: &mut Nodes,
+    alloc: Global,
+    path: &Path,
+    props: PropList,
+    parent: &Path,
+) -> Mem<()>
+    requires free { node_at nodes.old.entries path.now ≡ None }
+    requires parent { parent.now ≡ parent_of path.now }
+    ensures valid { IsTrue (is_path path.now) }
+    ensures ok { OnOk result (nodes.new.entries ≡ creation nodes.old.entries path.now (leaf props)) }
+    ensures err { OnErr result (nodes.new.entries ≡ nodes.old.entries) }
+    ensures ordered { OnOk result (IsStrictlySortedBy by_path (keys_of nodes.new.entries)) }
+{
+    let name = TextBuf::of(alloc, last_segment(path))?;
+    add_node(nodes, alloc, path, Node::leaf(alloc, props), parent, name)
 }
 
 // Adds a node, and its name to its parent's kids.

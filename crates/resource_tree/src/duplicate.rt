@@ -1,10 +1,12 @@
 // A second tree like a first.
-ghost use Rattle.std.specs.Prelude.{◌≡◌, IfOk};
+ghost use Rattle.std.specs.Prelude.{◌≡◌, IfOk, OnOk};
+ghost use Rattle.std.specs.BTreeMap.{insert_entry};
+ghost use Rattle.resource_tree.specs.Content.{by_path};
 
 use crate::Tree;
 use crate::nodes::Node;
 use crate::table::Nodes;
-use sp_base::Mem;
+use sp_base::{Mem, Path};
 use std::alloc::Global;
 
 impl Node {
@@ -33,7 +35,13 @@ fn copied(alloc: Global, nodes: &Nodes) -> Mem<Nodes>
 {
     let mut copy = Nodes::new(alloc, *nodes.map.hasher());
     for (path, node) in &nodes.map {
-        copy.insert(path.duplicate(alloc)?, node.duplicate(alloc)?)?;
+        insert_copy(&mut copy, alloc, path, node)?;
     }
     Ok(copy)
+}
+
+fn insert_copy(nodes: &mut Nodes, alloc: Global, path: &Path, node: &Node) -> Mem<()>
+    ensures { OnOk result (nodes.new.entries ≡ insert_entry by_path nodes.old.entries path.now node.now) }
+{
+    nodes.insert(path.duplicate(alloc)?, node.duplicate(alloc)?)
 }

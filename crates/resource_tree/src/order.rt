@@ -3,10 +3,11 @@ ghost use Rattle.std.specs.Prelude.{◌≡◌, ◌≢◌, ◌≤◌, ◌-◌, �
 ghost use Rattle.std.specs.List.Sorted.{IsStrictlySortedBy};
 ghost use Rattle.std.specs.Map.{keys_of};
 ghost use Rattle.sp_base.specs.Paths.{is_path};
-ghost use Rattle.resource_tree.specs.Content.{by_path, node_at, parent_of};
+ghost use Rattle.resource_tree.specs.Content.{IsGood, by_path, node_at, parent_of};
 ghost use Rattle.resource_tree.specs.Changes.{change_at, fixed_fault, kids_at, order_fault, reordering, reordering_at, with_kids};
 
 use crate::create::last_segment;
+use crate::faults::no_such;
 use crate::kids::kids_in_order;
 use crate::table::Nodes;
 use crate::{Place, Tree, TreeFault};
@@ -24,14 +25,7 @@ impl Tree {
     {
         let parent = path.parent(alloc)?;
         self.check_fixed(alloc, path)?;
-        let Some(name) = last_segment(path) else {
-            return Err(TreeFault::RootFixed);
-        };
-        let Some(kids) = kids_in_order(alloc, kids_at(&self.nodes, &parent), name, place)? else {
-            return Err(TreeFault::NoSibling);
-        };
-        set_kids(&mut self.nodes, &parent, kids);
-        Ok(())
+        put_in_order(&mut self.nodes, alloc, path, &parent, place)
     }
 
     // Whether a node may be taken from its place.
@@ -40,13 +34,38 @@ impl Tree {
         ensures err { IfErr result (λ e. e ≢ TreeFault.NoMemory → fixed_fault self.now path.now ≡ Some e) }
     {
         if !self.nodes.contains_key(path) {
-            return Err(TreeFault::NoSuch(path.duplicate(alloc)?));
+            return Err(no_such(alloc, path));
         }
         if path.depth() == 0 {
             return Err(TreeFault::RootFixed);
         }
         Ok(())
     }
+}
+
+// Puts a node in another place among its parent's kids, where the place is one among them.
+fn put_in_order(
+    nodes: &mut Nodes,
+    alloc: Global,
+    path: &Path,
+    parent: &Path,
+    place: &Place,
+) -> Result<(), TreeFault>
+    requires good { IsGood nodes.old.entries }
+    requires fixed { fixed_fault nodes.old.entries path.now ≡ None }
+    requires parent { parent.now ≡ parent_of path.now }
+    ensures allowed { OnOk result (order_fault nodes.old.entries path.now place.now ≡ None) }
+    ensures ok { OnOk result (nodes.new.entries ≡ reordering nodes.old.entries path.now place.now) }
+    ensures err { IfErr result (λ e. e ≢ TreeFault.NoMemory → order_fault nodes.old.entries path.now place.now ≡ Some e) }
+    ensures unchanged { OnErr result (nodes.new.entries ≡ nodes.old.entries) }
+    ensures good { IsGood nodes.new.entries }
+{
+    let name = last_segment(path);
+    let Some(kids) = kids_in_order(alloc, kids_at(nodes, parent), name, place)? else {
+        return Err(TreeFault::NoSibling);
+    };
+    set_kids(nodes, parent, kids);
+    Ok(())
 }
 
 // The kids of the node at a path.

@@ -6,6 +6,7 @@ ghost use Rattle.sp_base.specs.Paths.{is_path, seg_ok};
 ghost use Rattle.resource_tree.specs.Content.{by_path, kid, node_at};
 ghost use Rattle.resource_tree.specs.Changes.{change_at, clearing, clearing_at, has_prop_at, set_fault, unset_fault, update, update_at, with_value, without_value};
 
+use crate::faults::no_such;
 use crate::table::Nodes;
 use crate::{Tree, TreeFault};
 use sp_base::{Mem, NoMemory, Path, PathFault, Value};
@@ -42,7 +43,7 @@ impl Tree {
         ensures unchanged { OnErr result (self.new ≡ self.old) }
     {
         if !self.nodes.contains_key(path) {
-            return Err(TreeFault::NoSuch(path.duplicate(alloc)?));
+            return Err(no_such(alloc, path));
         }
         Ok(clear_value(&mut self.nodes, path, name))
     }
@@ -54,7 +55,7 @@ impl Tree {
         ensures err { IfErr result (λ e. e ≢ TreeFault.NoMemory → set_fault self.now path.now name.now ≡ Some e) }
     {
         if !self.nodes.contains_key(path) {
-            return Err(TreeFault::NoSuch(path.duplicate(alloc)?));
+            return Err(no_such(alloc, path));
         }
         let Some(kid) = kid_path(alloc, path, name)? else {
             return Ok(());

@@ -4,12 +4,13 @@ ghost use Rattle.std.specs.List.{list_any};
 ghost use Rattle.std.specs.List.Sorted.{IsStrictlySortedBy};
 ghost use Rattle.std.specs.Map.{keys_of};
 ghost use Rattle.sp_base.specs.Paths.{is_path};
-ghost use Rattle.resource_tree.specs.Content.{by_path, node_at, parent_of};
+ghost use Rattle.resource_tree.specs.Content.{IsGood, by_path, name_of, node_at, parent_of};
 ghost use Rattle.resource_tree.specs.Moves.{ends_fault, move_fault, path_there, relocation, relocation_at};
 ghost use Rattle.resource_tree.specs.Parts.{both_paths, rekeying_once, rekeying, renaming_at};
 
 use crate::copy::path_there;
 use crate::create::{add_kid, last_segment};
+use crate::faults::no_such;
 use crate::kids::other_kids;
 use crate::order::{kids_at, set_kids};
 use crate::part::paths_under;
@@ -29,22 +30,9 @@ impl Tree {
         ensures err { IfErr result (λ e. e ≢ TreeFault.NoMemory → move_fault self.old source.now target.now ≡ Some e) }
         ensures unchanged { OnErr result (self.new ≡ self.old) }
     {
-        let old_parent = source.parent(alloc)?;
         let parent = target.parent(alloc)?;
         self.check_ends(alloc, source, target, &parent)?;
-        let Some(old_name) = last_segment(source) else {
-            return Err(TreeFault::RootFixed);
-        };
-        let Some(name) = last_segment(target) else {
-            return Err(TreeFault::RootFixed);
-        };
-        let name = TextBuf::of(alloc, name)?;
-        let paths = paths_under(&self.nodes, alloc, source)?;
-        let paths = with_targets(alloc, source, target, paths)?;
-        self.nodes.make_room(paths.len())?;
-        rename_kid(&mut self.nodes, alloc, &old_parent, old_name, &parent, name)?;
-        rekey_all(&mut self.nodes, paths);
-        Ok(())
+        move_under(&mut self.nodes, alloc, source, target, &parent)
     }
 
     // Whether a node may go to a path.
@@ -60,16 +48,42 @@ impl Tree {
         ensures err { IfErr result (λ e. e ≢ TreeFault.NoMemory → ends_fault self.now source.now target.now ≡ Some e) }
     {
         if !self.nodes.contains_key(source) {
-            return Err(TreeFault::NoSuch(source.duplicate(alloc)?));
+            return Err(no_such(alloc, source));
         }
         if !self.nodes.contains_key(parent) {
-            return Err(TreeFault::NoSuch(parent.duplicate(alloc)?));
+            return Err(no_such(alloc, parent));
         }
         if source.depth() == 0 {
             return Err(TreeFault::RootFixed);
         }
         self.check_target(alloc, source, target, parent)
     }
+}
+
+// Moves a node and all below it to a path where it may go, if they fit.
+fn move_under(
+    nodes: &mut Nodes,
+    alloc: Global,
+    source: &Path,
+    target: &Path,
+    parent: &Path,
+) -> Result<(), TreeFault>
+    requires good { IsGood nodes.old.entries }
+    requires free { ends_fault nodes.old.entries source.now target.now ≡ None }
+    requires parent { parent.now ≡ parent_of target.now }
+    ensures allowed { OnOk result (move_fault nodes.old.entries source.now target.now ≡ None) }
+    ensures ok { OnOk result (nodes.new.entries ≡ relocation nodes.old.entries source.now target.now) }
+    ensures good { IsGood nodes.new.entries }
+    ensures err { IfErr result (λ e. e ≢ TreeFault.NoMemory → move_fault nodes.old.entries source.now target.now ≡ Some e) }
+    ensures unchanged { OnErr result (nodes.new.entries ≡ nodes.old.entries) }
+{
+    let name = last_segment(target);
+    let paths = paths_under(nodes, alloc, source)?;
+    let paths = with_targets(alloc, source, target, paths)?;
+    nodes.make_room(paths.len())?;
+    rename_end(nodes, alloc, source, parent, name)?;
+    rekey_all(nodes, paths);
+    Ok(())
 }
 
 // Some paths at the source or under it, each with the one at the target.
@@ -92,6 +106,25 @@ fn with_targets(
         both.push((path, there))?;
     }
     Ok(both)
+}
+
+// Takes a path's name from its parent's kids, and adds another to the kids of the same or another node.
+fn rename_end(nodes: &mut Nodes, alloc: Global, source: &Path, parent: &Path, name: &str) -> Mem<()>
+    ensures ok { OnOk result ((q : List (List ℕ)) → node_at nodes.new.entries q ≡ renaming_at nodes.old.entries (parent_of source.now) (name_of source.now) parent.now name.now q) }
+    ensures err { OnErr result (nodes.new.entries ≡ nodes.old.entries) }
+    ensures ordered { OnOk result (IsStrictlySortedBy by_path (keys_of nodes.new.entries)) }
+    ensures room { nodes.old.room ≤ nodes.new.room }
+{
+    let old_parent = source.parent(alloc)?;
+    let name = TextBuf::of(alloc, name)?;
+    rename_kid(
+        nodes,
+        alloc,
+        &old_parent,
+        last_segment(source),
+        parent,
+        name,
+    )
 }
 
 // Takes a kid's name from one node, and adds another to the kids of the same or another node.

@@ -4,7 +4,7 @@ ghost use Rattle.std.specs.List.{list_any};
 ghost use Rattle.std.specs.List.Sorted.{IsStrictlySortedBy};
 ghost use Rattle.std.specs.Map.{keys_of};
 ghost use Rattle.sp_base.specs.Paths.{is_under};
-ghost use Rattle.resource_tree.specs.Content.{by_path, node_at, same_path};
+ghost use Rattle.resource_tree.specs.Content.{IsGood, by_path, node_at, parent_of, same_path};
 ghost use Rattle.resource_tree.specs.Changes.{fixed_fault, removal, removal_at, without_under};
 
 use crate::create::last_segment;
@@ -27,15 +27,25 @@ impl Tree {
     {
         let parent = path.parent(alloc)?;
         self.check_fixed(alloc, path)?;
-        let Some(name) = last_segment(path) else {
-            return Err(TreeFault::RootFixed);
-        };
-        let kids = other_kids(alloc, kids_at(&self.nodes, &parent), name)?;
-        let paths = paths_under(&self.nodes, alloc, path)?;
-        set_kids(&mut self.nodes, &parent, TextList::from(kids));
-        drop_nodes(&mut self.nodes, path, &paths);
+        cut(&mut self.nodes, alloc, path, &parent)?;
         Ok(())
     }
+}
+
+// Takes the nodes at a path and under it away, and its name from its parent's kids.
+fn cut(nodes: &mut Nodes, alloc: Global, path: &Path, parent: &Path) -> Mem<()>
+    requires good { IsGood nodes.old.entries }
+    requires fixed { fixed_fault nodes.old.entries path.now ≡ None }
+    requires parent { parent.now ≡ parent_of path.now }
+    ensures ok { OnOk result (nodes.new.entries ≡ removal nodes.old.entries path.now) }
+    ensures err { OnErr result (nodes.new.entries ≡ nodes.old.entries) }
+    ensures good { IsGood nodes.new.entries }
+{
+    let paths = paths_under(nodes, alloc, path)?;
+    let kids = other_kids(alloc, kids_at(nodes, parent), last_segment(path))?;
+    set_kids(nodes, parent, TextList::from(kids));
+    drop_nodes(nodes, path, &paths);
+    Ok(())
 }
 
 // Takes the nodes at a path and under it away, whose paths are given.

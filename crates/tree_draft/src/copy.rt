@@ -1,18 +1,21 @@
 // A node that is copied with all below it to another path.
-ghost use Rattle.std.specs.Prelude.{◌≡◌, ◌≢◌, ◌&&◌, ℕ, List, None, Some, OnOk, IfOk, IfErr, IsTrue, is_some, not, true, false};
+ghost use Rattle.std.specs.Prelude.{◌≡◌, ◌≢◌, ◌≤◌, ◌+◌, ◌&&◌, ℕ, List, None, Some, OnOk, IfOk, IfErr, IsTrue, is_some, length, not, true, false};
 ghost use Rattle.std.specs.List.{list_any, IsDistinct};
 ghost use Rattle.std.specs.List.Sorted.{IsStrictlySortedBy};
 ghost use Rattle.std.specs.Map.{keys_of};
 ghost use Rattle.std.specs.Ordering.{eq_by_cmp};
 ghost use Rattle.sp_base.specs.Paths.{is_path, is_under, path_or_none};
-ghost use Rattle.resource_tree.specs.Content.{by_path, name_of, node_at, same_path, parent_of};
+ghost use Rattle.resource_tree.specs.declared.nodes.Node.{Node};
+ghost use Rattle.resource_tree.specs.declared.patch.PatchNode.TheVariants as there;
+ghost use Rattle.resource_tree.specs.Content.{by_path, most_nodes, name_of, node_at, same_path, parent_of};
 ghost use Rattle.resource_tree.specs.Changes.{change_at, with_kid};
-ghost use Rattle.resource_tree.specs.Patches.{patching, entry_at};
-ghost use Rattle.resource_tree.specs.Moves.{copy, copy_fault, part_there, path_there, target_fault};
+ghost use Rattle.resource_tree.specs.Patches.{patching, entry_at, with_entry};
+ghost use Rattle.resource_tree.specs.Moves.{copy, copy_fault, is_too_deep, part, part_there, path_there, target_fault};
 ghost use Rattle.tree_draft.specs.Drafts.{DraftFollows, IsCounted, IsSound};
 
 use crate::Draft;
 use crate::create::last_segment;
+use crate::faults::{name_taken, no_such, node_exists};
 use crate::held::HeldEntry;
 use crate::part::paths_under;
 use indexmap::IndexMap;
@@ -36,11 +39,7 @@ impl<'a> Draft<'a> {
         self.check_target(alloc, source, target, &parent)?;
         // `depth` says that the target's segments are those of a path, as what is put below it asks.
         let _segments = target.depth();
-        let paths = paths_under(self, alloc, source)?;
-        let part = part_there(self, alloc, source, target, &paths)?;
-        if part.len() > MOST_NODES.saturating_sub(self.len()) {
-            return Err(TreeFault::FullTree);
-        }
+        let part = part_that_fits(self, alloc, source, target)?;
         self.hang(alloc, &parent, target, part)?;
         Ok(())
     }
@@ -77,10 +76,10 @@ impl<'a> Draft<'a> {
         ensures err { IfErr result (λ e. e ≢ TreeFault.NoMemory → target_fault self.now.content source.now target.now ≡ Some e) }
     {
         if self.node(source).is_none() {
-            return Err(TreeFault::NoSuch(source.duplicate(alloc)?));
+            return Err(no_such(alloc, source));
         }
         let Some(above) = self.node(parent) else {
-            return Err(TreeFault::NoSuch(parent.duplicate(alloc)?));
+            return Err(no_such(alloc, parent));
         };
         let Some(name) = last_segment(target) else {
             return Err(TreeFault::RootFixed);
@@ -89,10 +88,10 @@ impl<'a> Draft<'a> {
             return Err(TreeFault::IntoItself);
         }
         if self.node(target).is_some() {
-            return Err(TreeFault::Exists(target.duplicate(alloc)?));
+            return Err(node_exists(alloc, target));
         }
         if above.props().get(name).is_some() {
-            return Err(TreeFault::Taken(target.duplicate(alloc)?));
+            return Err(name_taken(alloc, target));
         }
         Ok(())
     }
@@ -130,6 +129,30 @@ fn path_there(alloc: Global, source: &Path, target: &Path, path: &Path) -> Mem<O
     Ok(Some(there))
 }
 
+// The nodes at the source and under it, at the target, where there is room for them.
+fn part_that_fits(
+    draft: &Draft,
+    alloc: Global,
+    source: &Path,
+    target: &Path,
+) -> Result<IndexMap<Path, HeldEntry, RandomState>, TreeFault>
+    requires sound { IsSound draft.now }
+    requires valid { IsTrue (is_path target.now) }
+    requires free { target_fault draft.now.content source.now target.now ≡ None }
+    ensures ok { IfOk result (λ part. (q : List (List ℕ)) → entry_at part.entries q ≡ entry_at (part_there draft.now.content source.now target.now) q) }
+    ensures once { IfOk result (λ part. IsDistinct (eq_by_cmp by_path) (keys_of part.entries)) }
+    ensures shallow { OnOk result (is_too_deep draft.now.content source.now target.now ≡ false) }
+    ensures small { OnOk result (length draft.now.content + length (part draft.now.content source.now) ≤ most_nodes) }
+    ensures err { IfErr result (λ e. e ≢ TreeFault.NoMemory → copy_fault draft.now.content source.now target.now ≡ Some e) }
+{
+    let paths = paths_under(draft, alloc, source)?;
+    let part = part_there(draft, alloc, source, target, &paths)?;
+    if part.len() > MOST_NODES.saturating_sub(draft.len()) {
+        return Err(TreeFault::FullTree);
+    }
+    Ok(part)
+}
+
 // The nodes at some paths, which are all those at the source and under it, at the target.
 pub(crate) fn part_there(
     draft: &Draft,
@@ -147,14 +170,33 @@ pub(crate) fn part_there(
 {
     let mut part = IndexMap::with_hasher(alloc, draft.tree.seeds());
     for path in paths {
-        let Some(there) = path_there(alloc, source, target, path)? else {
-            return Err(TreeFault::TooDeep);
-        };
-        let Some(node) = draft.node(path) else {
-            continue;
-        };
-        let node = node.duplicate(alloc)?;
-        part.insert(there, HeldEntry::of(alloc, draft.tree.seeds(), node))?;
+        put_copy(&mut part, draft, alloc, source, target, path)?;
     }
     Ok(part)
+}
+
+// Adds the node that is to stand at a path, if there is one, at the target.
+fn put_copy(
+    part: &mut IndexMap<Path, HeldEntry, RandomState>,
+    draft: &Draft,
+    alloc: Global,
+    source: &Path,
+    target: &Path,
+    path: &Path,
+) -> Result<(), TreeFault>
+    requires { IsTrue (is_path target.now) }
+    ensures ok { OnOk result ((node : Node) → node_at draft.now.content path.now ≡ Some node → part.new.entries ≡ with_entry part.old.entries (path_there source.now target.now path.now) (there.Node node)) }
+    ensures once { OnOk result (IsDistinct (eq_by_cmp by_path) (keys_of part.old.entries) → IsDistinct (eq_by_cmp by_path) (keys_of part.new.entries)) }
+    ensures fits { OnOk result (is_path (path_there source.now target.now path.now) ≡ true) }
+    ensures err { IfErr result (λ e. e ≢ TreeFault.NoMemory → (e ≡ TreeFault.TooDeep) × (is_path (path_there source.now target.now path.now) ≡ false)) }
+{
+    let Some(there) = path_there(alloc, source, target, path)? else {
+        return Err(TreeFault::TooDeep);
+    };
+    let Some(node) = draft.node(path) else {
+        return Ok(());
+    };
+    let node = node.duplicate(alloc)?;
+    part.insert(there, HeldEntry::of(alloc, draft.tree.seeds(), node))?;
+    Ok(())
 }

@@ -11,6 +11,7 @@ ghost use Rattle.tree_draft.specs.Drafts.{DraftFollows, IsCounted, IsSound};
 
 use crate::Draft;
 use crate::edit::Edit;
+use crate::faults::{name_taken, no_such, node_exists};
 use crate::held::HeldEntry;
 use resource_tree::{MOST_NODES, TreeFault};
 use sp_base::{Mem, NoMemory, Path, TextBuf};
@@ -77,16 +78,16 @@ impl<'a> Draft<'a> {
         ensures err { IfErr result (λ e. e ≢ TreeFault.NoMemory → create_fault self.now.content path.now ≡ Some e) }
     {
         let Some(above) = self.node(parent) else {
-            return Err(TreeFault::NoSuch(parent.duplicate(alloc)?));
+            return Err(no_such(alloc, parent));
         };
         if self.node(path).is_some() {
-            return Err(TreeFault::Exists(path.duplicate(alloc)?));
+            return Err(node_exists(alloc, path));
         }
         let Some(name) = last_segment(path) else {
-            return Err(TreeFault::Exists(path.duplicate(alloc)?));
+            return Err(node_exists(alloc, path));
         };
         if above.props().get(name).is_some() {
-            return Err(TreeFault::Taken(path.duplicate(alloc)?));
+            return Err(name_taken(alloc, path));
         }
         if self.len() >= MOST_NODES {
             return Err(TreeFault::FullTree);

@@ -8,6 +8,7 @@ mod create;
 mod draft;
 mod edit;
 mod falls;
+mod faults;
 mod held;
 mod kid_list;
 mod kids;

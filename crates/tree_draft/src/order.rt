@@ -6,6 +6,7 @@ ghost use Rattle.tree_draft.specs.Drafts.{DraftFollows, IsSound};
 
 use crate::Draft;
 use crate::create::last_segment;
+use crate::faults::no_such;
 use crate::kids::kids_in_order;
 use resource_tree::{Place, TreeFault};
 use sp_base::{Mem, Path, TextList};
@@ -39,7 +40,7 @@ impl<'a> Draft<'a> {
         ensures err { IfErr result (λ e. e ≢ TreeFault.NoMemory → fixed_fault self.now.content path.now ≡ Some e) }
     {
         if self.node(path).is_none() {
-            return Err(TreeFault::NoSuch(path.duplicate(alloc)?));
+            return Err(no_such(alloc, path));
         }
         if path.depth() == 0 {
             return Err(TreeFault::RootFixed);

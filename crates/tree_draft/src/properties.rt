@@ -7,6 +7,7 @@ ghost use Rattle.tree_draft.specs.Drafts.{DraftFollows, IsSound};
 
 use crate::Draft;
 use crate::edit::Edit;
+use crate::faults::no_such;
 use resource_tree::TreeFault;
 use sp_base::{Path, TextBuf, Value};
 use std::alloc::Global;
@@ -44,7 +45,7 @@ impl<'a> Draft<'a> {
         ensures follows { OnOk result (DraftFollows self.old self.new) }
     {
         if self.node(path).is_none() {
-            return Err(TreeFault::NoSuch(path.duplicate(alloc)?));
+            return Err(no_such(alloc, path));
         }
         let name = TextBuf::of(alloc, name)?;
         self.change(alloc, path, Edit::Unset(name))?;
@@ -59,7 +60,7 @@ impl<'a> Draft<'a> {
         ensures err { IfErr result (λ e. e ≢ TreeFault.NoMemory → set_fault self.now.content path.now name.now ≡ Some e) }
     {
         if self.node(path).is_none() {
-            return Err(TreeFault::NoSuch(path.duplicate(alloc)?));
+            return Err(no_such(alloc, path));
         }
         let Some(kid) = path.child_or_none(alloc, name)? else {
             return Ok(());

@@ -6,6 +6,7 @@ ghost use Rattle.tree_draft.specs.Drafts.{DraftFollows, IsSound};
 
 use crate::Draft;
 use crate::copy::part_there;
+use crate::faults::no_such;
 use crate::part::paths_under;
 use resource_tree::TreeFault;
 use sp_base::Path;
@@ -24,12 +25,32 @@ impl<'a> Draft<'a> {
     {
         let parent = target.parent(alloc)?;
         self.check_ends(alloc, source, target, &parent)?;
+        self.move_under(alloc, source, target, &parent)
+    }
+
+    // Moves a node and all below it to a path where it may go, if they fit.
+    fn move_under(
+        &mut self,
+        alloc: Global,
+        source: &Path,
+        target: &Path,
+        parent: &Path,
+    ) -> Result<(), TreeFault>
+        requires sound { IsSound self.old }
+        requires free { ends_fault self.old.content source.now target.now ≡ None }
+        requires parent { parent.now ≡ parent_of target.now }
+        ensures allowed { OnOk result (move_fault self.old.content source.now target.now ≡ None) }
+        ensures ok { OnOk result (self.new.content ≡ relocation self.old.content source.now target.now) }
+        ensures err { IfErr result (λ e. e ≢ TreeFault.NoMemory → move_fault self.old.content source.now target.now ≡ Some e) }
+        ensures unchanged { IfErr result (λ e. e ≢ TreeFault.NoMemory → self.new ≡ self.old) }
+        ensures follows { OnOk result (DraftFollows self.old self.new) }
+    {
         // `depth` says that the target's segments are those of a path, as what is put below it asks.
         let _segments = target.depth();
         let paths = paths_under(self, alloc, source)?;
         let part = part_there(self, alloc, source, target, &paths)?;
         self.cut(alloc, source, &paths)?;
-        self.hang(alloc, &parent, target, part)?;
+        self.hang(alloc, parent, target, part)?;
         Ok(())
     }
 
@@ -46,10 +67,10 @@ impl<'a> Draft<'a> {
         ensures err { IfErr result (λ e. e ≢ TreeFault.NoMemory → ends_fault self.now.content source.now target.now ≡ Some e) }
     {
         if self.node(source).is_none() {
-            return Err(TreeFault::NoSuch(source.duplicate(alloc)?));
+            return Err(no_such(alloc, source));
         }
         if self.node(parent).is_none() {
-            return Err(TreeFault::NoSuch(parent.duplicate(alloc)?));
+            return Err(no_such(alloc, parent));
         }
         if source.depth() == 0 {
             return Err(TreeFault::RootFixed);

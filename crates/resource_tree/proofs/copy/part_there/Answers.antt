@@ -1,33 +1,28 @@
-use Rattle.std.proofs.Common.{rules, ◌≡◌, ◌∙◌, not, sym, ap, take, map, cond, length, arith, Some, None}
-use Rattle.std.specs.Prelude.{is_some, option_map}
+use Rattle.std.proofs.Common.{rules, ◌≡◌, ◌≢◌, ◌∙◌, ℕ, Bool, List, true, not, sym, ap, refl, take, map, cond, length, arith, None}
+use Rattle.std.specs.Prelude.{option_map, unwrap_or}
 use Rattle.std.specs.List.{list_any}
 use Rattle.std.proofs.Math.Seq.{take-length}
-use Rattle.std.proofs.lemmas.Bool.{false≢true}
-use Rattle.sp_base.specs.Paths.{is_path, path_or_none}
+use Rattle.std.proofs.lemmas.List.Folds.{list_any_at}
+use Rattle.sp_base.specs.Paths.{is_path}
+use Rattle.resource_tree.specs.declared.faults.TreeFault.TheVariants.{NoMemory, TooDeep}
 use Rattle.resource_tree.specs.declared.patch.PatchNode.TheVariants as there
-use Rattle.resource_tree.specs.Content.{same_path, node_at}
-use Rattle.resource_tree.specs.Patches.{with_entry}
+use Rattle.resource_tree.specs.Content.{same_path, node_at, empty_node}
 use Rattle.resource_tree.specs.Moves.{path_there}
-use Rattle.resource_tree.proofs.PathThere.{path_is}
+use Rattle.resource_tree.proofs.Creation.{some_from}
 use Rattle.resource_tree.proofs.PartThere.{is_there, put_there, fits_too, all_there}
 use Rattle.resource_tree.proofs.copy.part_there.Goals as goal
 
-pub loop-path-preserved-in_default-get : goal.loop-path-preserved-in_default-get
-loop-path-preserved-in_default-get c =
-    let there_ = is_there c.args.nodes.now.entries c.args.source.now c.args.target.now c.args.paths.now c.requires.all c.loop-path.path-index c.path-item.result c.loop-path-test.true c.path-item.is in
-    let gone : node_at c.args.nodes.now.entries c.path-item.result ≡ None = search rules in
-    absurd (false≢true (sym (ap is_some gone) ∙ there_))
-
 pub loop-path-preserved : goal.loop-path-preserved
 loop-path-preserved c =
-    let whole : Some c.in-Some.there ≡ path_or_none (path_there c.args.source.now c.args.target.now c.path-item.result) = sym c.in-Some.is ∙ c.in_ok-there.ensures in
-    let was : node_at c.args.nodes.now.entries c.path-item.result ≡ Some c.in-Some-get.node.now = search rules in
-    let put : c.put.new.self ≡ with_entry c.loop-path.part c.in-Some.there (there.Node c.in-Some-get.node.now) = search rules in
-    let both = path_is (path_there c.args.source.now c.args.target.now c.path-item.result) c.in-Some.there whole in (
-      λ q. put_there c.args.nodes.now.entries c.args.source.now c.args.target.now c.args.paths.now c.requires.all c.loop-path.path-index c.path-item.result c.loop-path-test.true c.path-item.is c.loop-path.part c.put.new.self
-          c.in-Some.there c.in-Some-get.node.now q both.0 was (c.loop-path.invariant.0 q) put,
-      fits_too c.args.nodes.now.entries c.args.source.now c.args.target.now c.args.paths.now c.requires.all c.loop-path.path-index c.path-item.result c.loop-path-test.true c.path-item.is
-          (λ p. not (is_path (path_there c.args.source.now c.args.target.now p))) c.loop-path.invariant.1 (ap not both.1),
+    let entries = c.args.nodes.now.entries in
+    let path = c.path-item.result in
+    let there_ = is_there entries c.args.source.now c.args.target.now c.args.paths.now c.requires.all c.loop-path.path-index path c.loop-path-test.true c.path-item.is in
+    let was = some_from (node_at entries path) empty_node there_ in
+    let node = unwrap_or (node_at entries path) empty_node in (
+      λ q. put_there entries c.args.source.now c.args.target.now c.args.paths.now c.requires.all c.loop-path.path-index path c.loop-path-test.true c.path-item.is c.loop-path.part c.put_copy.new.part
+          (path_there c.args.source.now c.args.target.now path) node q refl was (c.loop-path.invariant.0 q) (c.in_ok-put_copy.ensures.ok node was),
+      fits_too entries c.args.source.now c.args.target.now c.args.paths.now c.requires.all c.loop-path.path-index path c.loop-path-test.true c.path-item.is
+          (λ p. not (is_path (path_there c.args.source.now c.args.target.now p))) c.loop-path.invariant.1 (ap not c.in_ok-put_copy.ensures.fits),
     )
 
 pub returns-clause-ok : goal.returns-clause-ok
@@ -37,3 +32,12 @@ returns-clause-ok c = λ q.
     c.loop-path.invariant.0 q
     ∙ ap (λ l. cond (list_any (same_path q) (map (path_there c.args.source.now c.args.target.now) l)) (option_map there.Node (node_at c.args.nodes.now.entries (path_there c.args.target.now c.args.source.now q))) None) all
     ∙ all_there c.args.nodes.now.entries c.args.source.now c.args.target.now q c.args.paths.now c.requires.all
+
+pub returns-in_err-put_copy-clause-err : goal.returns-in_err-put_copy-clause-err
+returns-in_err-put_copy-clause-err c =
+    let test : List (List ℕ) → Bool = λ p. not (is_path (path_there c.args.source.now c.args.target.now p)) in
+    let known : c.in_err-put_copy.field-0.0 ≢ NoMemory → (c.in_err-put_copy.field-0.0 ≡ TooDeep) × (list_any test c.args.paths.now ≡ true) =
+    λ other.
+    let both = c.in_err-put_copy.ensures.err other in
+    (both.0, list_any_at test c.args.paths.now c.loop-path.path-index c.path-item.result c.loop-path-test.true (ap test (sym c.path-item.is) ∙ ap not both.1)) in
+    search rules

@@ -12,15 +12,14 @@ loop-path-init c = c.new-copy.ensures.empty ∙ sym (nil_in_order by_path [] ref
 
 pub loop-path-preserved : goal.loop-path-preserved
 loop-path-preserved c =
-    copied_more c.nodes.inside.map.entries c.loop-path.path-iterator c.next.new.self c.loop-path.copy.entries c.insert.new.self.entries c.loop-path.yielded (c.in-Some.path, c.in-Some.node) c.in_ok-duplicate.field-0
-    c.in_ok-duplicate-2.field-0
+    copied_more c.nodes.inside.map.entries c.loop-path.path-iterator c.next.new.self c.loop-path.copy.entries c.insert_copy.new.nodes.entries c.loop-path.yielded (c.in-Some.path, c.in-Some.node) c.in-Some.path.now c.in-Some.node.now
     c.into_iter-path-iterator.ensures.into_iter_gives.4
     (sym c.into_iter-path-iterator.ensures.into_iter_gives.0 ∙ rest_so_far deref_pair c.loop-path.yielded _ _ c.loop-path.yielded_by)
     (rest_more deref_pair _ _ _ (c.in-Some.path, c.in-Some.node) c.in-Some.is c.next.ensures.steps)
     c.loop-path.invariant
-    c.in_ok-duplicate.ensures
-    c.in_ok-duplicate-2.ensures
-    c.in_ok-insert.ensures.entries
+    refl
+    refl
+    c.in_ok-insert_copy.ensures
 
 pub returns : goal.returns
 returns c =

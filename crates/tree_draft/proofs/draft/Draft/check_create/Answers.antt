@@ -1,6 +1,9 @@
-use Rattle.std.proofs.Common.{rules, ◌≡◌, ◌≤◌, ◌<◌, ◌∙◌, sym, arith, false, length}
+use Rattle.std.proofs.Common.{rules, ◌≡◌, ◌≤◌, ◌<◌, ◌∙◌, sym, ap, arith, false, length, Some}
 use Rattle.std.specs.Prelude.{is_some}
+use Rattle.resource_tree.specs.declared.faults.TreeFault.{TreeFault}
+use Rattle.resource_tree.specs.declared.faults.TreeFault.TheVariants.{NoSuch, Exists}
 use Rattle.resource_tree.specs.Content.{node_at, prop_at}
+use Rattle.resource_tree.specs.Changes.{create_fault}
 use Rattle.tree_draft.proofs.CreateLemmas.{fault_but_size, full, not_full}
 use Rattle.tree_draft.proofs.draft.Draft.check_create.Goals as goal
 
@@ -27,3 +30,13 @@ returns-clause-ok c =
     c.in-Some-last_segment.ensures.segment
     untaken
     ∙ not_full c.args.self.now.content small
+
+pub returns-in_default-clause-err : goal.returns-in_default-clause-err
+returns-in_default-clause-err c = λ other.
+    let fault : create_fault c.args.self.now.content c.args.path.now ≡ Some (NoSuch c.args.parent.now) = search rules in
+    fault ∙ ap (λ (f : TreeFault). Some f) (sym (c.no_such.ensures other))
+
+pub returns-then-is_some-clause-err : goal.returns-then-is_some-clause-err
+returns-then-is_some-clause-err c = λ other.
+    let fault : create_fault c.args.self.now.content c.args.path.now ≡ Some (Exists c.args.path.now) = search rules in
+    fault ∙ ap (λ (f : TreeFault). Some f) (sym (c.node_exists.ensures other))

@@ -9,15 +9,15 @@ use Rattle.resource_tree.specs.Moves.{move_fault}
 use Rattle.resource_tree.proofs.Relocated.{may_go, allowed, too_deep, IsGood-relocation}
 use Rattle.tree_draft.proofs.DraftLemmas.{IsOrdered}
 use Rattle.tree_draft.proofs.MoveLemmas.{deep_from, fixed_not, hung, parent_stays}
-use Rattle.tree_draft.proofs.draft.Draft.move_to.Goals as goal
+use Rattle.tree_draft.proofs.draft.Draft.move_under.Goals as goal
 
 pub cut-requires-clause-fixed : goal.cut-requires-clause-fixed
-cut-requires-clause-fixed c = fixed_not c.args.self.now.content c.args.source.now c.args.target.now c.in_ok-check_ends.ensures.ok
+cut-requires-clause-fixed c = fixed_not c.args.self.now.content c.args.source.now c.args.target.now c.requires.free
 
 pub hang-requires : goal.hang-requires
 hang-requires c =
-    ap (λ p. is_some (node_at c.cut.new.self.content p)) c.in_ok-parent.ensures
-    ∙ parent_stays c.args.self.now.content c.cut.new.self.content c.args.source.now c.args.target.now (may_go c.args.self.now.content c.args.source.now c.args.target.now c.in_ok-check_ends.ensures.ok) c.in_ok-cut.ensures.ok
+    ap (λ p. is_some (node_at c.cut.new.self.content p)) c.requires.parent
+    ∙ parent_stays c.args.self.now.content c.cut.new.self.content c.args.source.now c.args.target.now (may_go c.args.self.now.content c.args.source.now c.args.target.now c.requires.free) c.in_ok-cut.ensures.ok
 
 pub returns-in_err-part-clause-err : goal.returns-in_err-part-clause-err
 returns-in_err-part-clause-err c =
@@ -26,34 +26,34 @@ returns-in_err-part-clause-err c =
     λ other.
     let both = c.in_err-part.ensures.err other in
     let deep = deep_from tree c.args.source.now c.args.target.now c.in_ok-paths.paths.items c.deref.result.now true c.in_ok-paths.ensures c.deref.ensures.value both.1 in
-    too_deep tree c.args.source.now c.args.target.now c.in_ok-check_ends.ensures.ok deep ∙ ap (λ (f : TreeFault). Some f) (sym both.0) in
+    too_deep tree c.args.source.now c.args.target.now c.requires.free deep ∙ ap (λ (f : TreeFault). Some f) (sym both.0) in
     search rules
 
 pub returns-clause-ok : goal.returns-clause-ok
 returns-clause-ok c =
     let tree = c.args.self.now.content in
-    hung tree (removal tree c.args.source.now) c.hang.new.self.content c.args.source.now c.args.target.now c.in_ok-parent.parent c.in_ok-part.part.entries
-    c.requires.good.ordered
+    hung tree (removal tree c.args.source.now) c.hang.new.self.content c.args.source.now c.args.target.now c.args.parent.now c.in_ok-part.part.entries
+    c.requires.sound.good.ordered
     (subst (λ (t : Content). IsOrdered t) c.in_ok-cut.ensures.ok c.in_ok-cut.ensures.follows.sound.good.ordered)
     c.in_ok-part.ensures.once
     c.in_ok-part.ensures.ok
-    c.in_ok-parent.ensures
-    (c.in_ok-hang.ensures.content ∙ ap (λ (t : Content). patching (change_at t c.in_ok-parent.parent (with_kid (name_of c.args.target.now))) c.in_ok-part.part.entries) c.in_ok-cut.ensures.ok)
+    c.requires.parent
+    (c.in_ok-hang.ensures.content ∙ ap (λ (t : Content). patching (change_at t c.args.parent.now (with_kid (name_of c.args.target.now))) c.in_ok-part.part.entries) c.in_ok-cut.ensures.ok)
 
 pub returns-clause-allowed : goal.returns-clause-allowed
 returns-clause-allowed c =
     let tree = c.args.self.now.content in
     let fits = deep_from tree c.args.source.now c.args.target.now c.in_ok-paths.paths.items c.deref.result.now false c.in_ok-paths.ensures c.deref.ensures.value c.in_ok-part.ensures.fits in
-    allowed tree c.args.source.now c.args.target.now c.in_ok-check_ends.ensures.ok fits
+    allowed tree c.args.source.now c.args.target.now c.requires.free fits
 
 pub returns-clause-follows : goal.returns-clause-follows
 returns-clause-follows c =
     let tree = c.args.self.now.content in
-    let can = may_go tree c.args.source.now c.args.target.now c.in_ok-check_ends.ensures.ok in
+    let can = may_go tree c.args.source.now c.args.target.now c.requires.free in
     let fits = deep_from tree c.args.source.now c.args.target.now c.in_ok-paths.paths.items c.deref.result.now false c.in_ok-paths.ensures c.deref.ensures.value c.in_ok-part.ensures.fits in
     record {
       sound = record {
-        good = IsGood-relocation tree c.args.source.now c.args.target.now c.requires.good can fits c.hang.new.self.content (returns-clause-ok c);
+        good = IsGood-relocation tree c.args.source.now c.args.target.now c.requires.sound.good can fits c.hang.new.self.content (returns-clause-ok c);
         counted = c.in_ok-hang.ensures.counted c.in_ok-cut.ensures.follows.sound.counted;
       };
       tree = c.in_ok-hang.ensures.tree ∙ c.in_ok-cut.ensures.follows.tree;

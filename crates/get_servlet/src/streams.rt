@@ -3,7 +3,7 @@ ghost use Rattle.std.specs.Prelude.{◌≡◌, IfOk};
 ghost use Rattle.std.specs.Option.{option_copied};
 ghost use Rattle.get_servlet.specs.Streams.{is_printable_text, is_media_type, media_type_of, stream_of};
 
-use crate::kids::{kid_named, lists_kid};
+use crate::kids::{kid_of_name, lists_kid};
 use resource_tree::{Look, Res};
 use sp_base::{LONGEST_MEDIA_TYPE, Mem, TextBuf};
 use std::alloc::Global;
@@ -50,7 +50,7 @@ pub fn stream_of<L: Look>(alloc: Global, look: &L, res: &Res<'_>) -> Mem<Option<
     if !lists_kid(res, "jcr:content") {
         return Ok(None);
     }
-    let Some(content) = kid_named(alloc, look, res.path(), "jcr:content")? else {
+    let Some(content) = kid_of_name(alloc, look, res.path(), "jcr:content")? else {
         return Ok(None);
     };
     let props = content.res.props();

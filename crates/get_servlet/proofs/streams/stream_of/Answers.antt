@@ -1,7 +1,7 @@
 use Rattle.std.proofs.Common.{rules, ◌≡◌, true, Some, sym, ◌∙◌, ap}
 use Rattle.std.specs.Prelude.{codes, option_map}
 use Rattle.sp_base.specs.Properties.{text_in}
-use Rattle.get_servlet.specs.Rendering.{lists_kid, kid_named}
+use Rattle.get_servlet.specs.Rendering.{lists_kid, kid_of_name}
 use Rattle.get_servlet.specs.Streams.{make_stream, stream_in, kid_stream, media_type_of, stream_of}
 use Rattle.get_servlet.proofs.streams.stream_of.Goals as goal
 
@@ -19,5 +19,5 @@ returns g c =
     ∙ ap (λ b. Some (make_stream (text_in props (codes "jcr:mimeType")) b)) (c.in_ok-duplicate.ensures)
     ∙ ap (option_map (make_stream (text_in props (codes "jcr:mimeType")))) c.in-Some-text.ensures
     ∙ ap stream_in c.props-props.ensures ∙ ap kid_stream there
-    ∙ ap (λ path. kid_stream (kid_named seen path (codes "jcr:content"))) c.path.ensures in
+    ∙ ap (λ path. kid_stream (kid_of_name seen path (codes "jcr:content"))) c.path.ensures in
     rw named found

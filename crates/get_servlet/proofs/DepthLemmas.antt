@@ -15,7 +15,7 @@ use Rattle.sp_base.specs.declared.path.PathFault.TheVariants.{EmptySegment, DotS
 use Rattle.resource_tree.specs.Seen.{Resource, Seen}
 use Rattle.property_json.specs.PropertyJson.{members_before}
 use Rattle.get_servlet.specs.declared.kids.Kid.{Kid}
-use Rattle.get_servlet.specs.Rendering.{make_kid, kid_seen, kid_named, shown_kid, kid_before, members_of_kids, resource_json, json_text}
+use Rattle.get_servlet.specs.Rendering.{make_kid, kid_seen, kid_of_name, shown_kid, kid_before, members_of_kids, resource_json, json_text}
 
 -- ---- a path that was made has at most 64 segments
 
@@ -70,7 +70,7 @@ unless_property true kid k e = absurd (cc)
 unless_property false kid k e = e
 
 kid_below : (seen : Seen) (path : List (List ℕ)) (res : Resource) (name : List ℕ) (kid : Kid) → shown_kid seen path res name ≡ Some kid → IsBelow path kid.path
-unfolding shown_kid kid_named
+unfolding shown_kid kid_of_name
 kid_below seen path res name kid is =
     made_below seen path (child_of path name) (child_below path name) kid
     (unless_property (is_some (find by_name name res.props)) (kid_seen seen (child_of path name)) kid is)

@@ -18,7 +18,7 @@ use Rattle.resource_tree.specs.Seen.{Resource, Seen}
 use Rattle.property_json.specs.PropertyJson.{fits_i64, has_longs, items_of, json_of_long, json_of_value, members_before}
 use Rattle.get_servlet.specs.declared.kids.Kid.{Kid}
 use Rattle.get_servlet.specs.Objects.{HasLongs, HaveLongs}
-use Rattle.get_servlet.specs.Rendering.{make_kid, kid_seen, kid_named, shown_kid, kid_before, members_of_kids, resource_json, json_text}
+use Rattle.get_servlet.specs.Rendering.{make_kid, kid_seen, kid_of_name, shown_kid, kid_before, members_of_kids, resource_json, json_text}
 use Rattle.get_servlet.proofs.DepthLemmas.{same_at, unless_property}
 
 -- ---- the text is not too deep to be read
@@ -109,7 +109,7 @@ seen_longs seen all (Err fault) kid e = absurd (cc)
 seen_longs seen all (Ok path) kid e = all path kid.res (seen_kid (seen path) path kid e)
 
 kid_longs : (seen : Seen) → HaveLongs seen → (path : List (List ℕ)) (res : Resource) (name : List ℕ) (kid : Kid) → shown_kid seen path res name ≡ Some kid → HasLongs kid.res
-unfolding shown_kid kid_named
+unfolding shown_kid kid_of_name
 kid_longs seen all path res name kid e =
     seen_longs seen all (child_of path name) kid (unless_property (is_some (find by_name name res.props)) (kid_seen seen (child_of path name)) kid e)
 

@@ -27,12 +27,12 @@ abbrev pub lists_kid : Resource → List ℕ → Bool
 lists_kid res name = list_any (pointwise nat_eq name) res.kids
 
 -- the resource that is seen under a name, below a path
-unfoldable pub kid_named : Seen → List (List ℕ) → List ℕ → Option Kid
-kid_named seen path name = kid_seen seen (child_of path name)
+unfoldable pub kid_of_name : Seen → List (List ℕ) → List ℕ → Option Kid
+kid_of_name seen path name = kid_seen seen (child_of path name)
 
 -- the kid that a resource shows under a name: none where a property has the name
 unfoldable pub shown_kid : Seen → List (List ℕ) → Resource → List ℕ → Option Kid
-shown_kid seen path res name = if is_some (find by_name name res.props) then None else kid_named seen path name
+shown_kid seen path res name = if is_some (find by_name name res.props) then None else kid_of_name seen path name
 
 -- a kid as a member, before further members
 abbrev pub kid_before : List ℕ → (List (List ℕ) → Resource → Json) → Option Kid → Members → Members

@@ -8,7 +8,7 @@ use Rattle.sp_base.specs.declared.value.Value.{Value}
 use Rattle.resource_tree.specs.Seen.{Resource, Seen}
 use Rattle.get_servlet.specs.declared.kids.Kid.{Kid}
 use Rattle.get_servlet.specs.declared.streams.Stream.{Stream}
-use Rattle.get_servlet.specs.Rendering.{lists_kid, kid_named}
+use Rattle.get_servlet.specs.Rendering.{lists_kid, kid_of_name}
 
 -- each byte is a printable one of ASCII
 abbrev pub is_printable_text : List ℕ → Bool
@@ -39,4 +39,4 @@ kid_stream (Some kid) = stream_in kid.res.props
 
 -- the stream of the kid `jcr:content`, where the list of kids has it
 unfoldable pub stream_of : Seen → Resource → Option Stream
-stream_of seen res = if lists_kid res (codes "jcr:content") then kid_stream (kid_named seen res.path (codes "jcr:content")) else None
+stream_of seen res = if lists_kid res (codes "jcr:content") then kid_stream (kid_of_name seen res.path (codes "jcr:content")) else None

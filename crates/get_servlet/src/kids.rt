@@ -1,8 +1,8 @@
 // The resources below a resource.
 ghost use Rattle.std.specs.Prelude.{◌≡◌, ◌≢◌, IfOk, IfErr, Err};
 ghost use Rattle.sp_base.specs.declared.path.PathFault.TheVariants.{NoMemory as no_memory};
-ghost use Rattle.get_servlet.specs.Rendering.{kid_named, shown_kid, lists_kid};
-ghost use Rattle.get_servlet.specs.Steps.{path_made};
+ghost use Rattle.get_servlet.specs.Rendering.{kid_of_name, shown_kid, lists_kid};
+ghost use Rattle.get_servlet.specs.Steps.{path_or_none};
 
 use resource_tree::{Look, Res};
 use sp_base::{Mem, NoMemory, Path, PathFault};
@@ -23,8 +23,8 @@ pub(crate) fn lists_kid(res: &Res<'_>, name: &str) -> bool
 }
 
 // The path that was made, if there is one: a path that is too deep is none, and no lack of memory.
-fn path_made(made: Result<Path, PathFault>) -> Mem<Option<Path>>
-    ensures value { IfOk result (λ path. path ≡ path_made made) }
+fn path_or_none(made: Result<Path, PathFault>) -> Mem<Option<Path>>
+    ensures value { IfOk result (λ path. path ≡ path_or_none made) }
     ensures told { IfOk result (λ path. made ≢ Err no_memory) }
     ensures err { IfErr result (λ e. made ≡ Err no_memory) }
 {
@@ -36,15 +36,15 @@ fn path_made(made: Result<Path, PathFault>) -> Mem<Option<Path>>
 }
 
 /// What is seen under a name, below a path.
-pub(crate) fn kid_named<'a, L: Look>(
+pub(crate) fn kid_of_name<'a, L: Look>(
     alloc: Global,
     look: &'a L,
     path: &Path,
     name: &str,
 ) -> Mem<Option<Kid<'a>>>
-    ensures { IfOk result (λ kid. kid ≡ kid_named (L.seen look.now) path.now name.now) }
+    ensures { IfOk result (λ kid. kid ≡ kid_of_name (L.seen look.now) path.now name.now) }
 {
-    let Some(path) = path_made(path.child(alloc, name))? else {
+    let Some(path) = path_or_none(path.child(alloc, name))? else {
         return Ok(None);
     };
     match look.res(alloc, &path)? {
@@ -67,5 +67,5 @@ pub(crate) fn shown_kid<'a, L: Look>(
     if res.props().get(name).is_some() {
         return Ok(None);
     }
-    kid_named(alloc, look, path, name)
+    kid_of_name(alloc, look, path, name)
 }

@@ -1,11 +1,11 @@
 // The content of a resource that is a file.
 ghost use Rattle.std.specs.Prelude.{◌≡◌, IfOk};
 ghost use Rattle.std.specs.Option.{option_copied};
-ghost use Rattle.get_servlet.specs.Streams.{is_printable_text, is_media_type, media_type_of, stream_of};
+ghost use Rattle.get_servlet.specs.Streams.{is_printable_text, is_media_type, media_type_of, stream_in, stream_of};
 
-use crate::kids::{kid_named, lists_kid};
+use crate::kids::{kid_of_name, lists_kid};
 use resource_tree::{Look, Res};
-use sp_base::{LONGEST_MEDIA_TYPE, Mem, TextBuf};
+use sp_base::{LONGEST_MEDIA_TYPE, Mem, PropList, TextBuf};
 use std::alloc::Global;
 
 /// The content of a file, and its media type.
@@ -41,6 +41,19 @@ fn media_type_of(alloc: Global, text: Option<&TextBuf>) -> Mem<TextBuf>
     }
 }
 
+// The content that properties hold.
+fn stream_in(alloc: Global, props: &PropList) -> Mem<Option<Stream>>
+    ensures { IfOk result (λ stream. stream ≡ stream_in props.now) }
+{
+    let Some(body) = props.text("jcr:data") else {
+        return Ok(None);
+    };
+    Ok(Some(Stream {
+        kind: media_type_of(alloc, props.text("jcr:mimeType"))?,
+        body: body.duplicate(alloc)?,
+    }))
+}
+
 /// The content of a resource that is a file (JCR 2.0, nt:file): the text `jcr:data` of its kid `jcr:content`, with the kid's
 /// `jcr:mimeType` where that may be sent, else `application/octet-stream`.
 #[tactic(auto, unfolding(crate::specs::Streams::stream_of))]
@@ -50,15 +63,8 @@ pub fn stream_of<L: Look>(alloc: Global, look: &L, res: &Res<'_>) -> Mem<Option<
     if !lists_kid(res, "jcr:content") {
         return Ok(None);
     }
-    let Some(content) = kid_named(alloc, look, res.path(), "jcr:content")? else {
+    let Some(content) = kid_of_name(alloc, look, res.path(), "jcr:content")? else {
         return Ok(None);
     };
-    let props = content.res.props();
-    let Some(body) = props.text("jcr:data") else {
-        return Ok(None);
-    };
-    Ok(Some(Stream {
-        kind: media_type_of(alloc, props.text("jcr:mimeType"))?,
-        body: body.duplicate(alloc)?,
-    }))
+    stream_in(alloc, content.res.props())
 }

@@ -1,12 +1,12 @@
 // Writes a resource as JSON: its properties, and then its kids in their order. It stops where the text is seen to be too long.
-ghost use Rattle.std.specs.Prelude.{◌≡◌, IfOk};
+ghost use Rattle.std.specs.Prelude.{◌≡◌, IfOk, Some};
 ghost use Rattle.json.specs.Tree.{json_tokens};
 ghost use Rattle.get_servlet.specs.Answers.{text_within, ReadsAs};
 ghost use Rattle.get_servlet.specs.Rendering.{shown_kid, resource_json, json_text};
 ghost use Rattle.get_servlet.specs.Steps.{kid_member_tokens, below_tokens, Spends};
 
 use crate::answer::JsonAnswer;
-use crate::kids::shown_kid;
+use crate::kids::{Kid, shown_kid};
 use crate::lengths::properties_bytes;
 use json::Writer;
 use property_json::{properties_come_first, write_properties};
@@ -45,6 +45,26 @@ fn write_resource<L: Look>(
     Ok(Some(left))
 }
 
+// Writes a kid as a member, and `depth` levels below it.
+#[cycle(writing)]
+fn write_member<L: Look>(
+    alloc: Global,
+    look: &L,
+    writer: &mut Writer,
+    kid: &Kid<'_>,
+    name: &str,
+    depth: u32,
+    room: usize,
+) -> Mem<Option<usize>>
+    ensures { IfOk result (λ left. Spends room left writer.old writer.new (kid_member_tokens name.now (resource_json (L.seen look.now) depth) (Some kid.now))) }
+{
+    let Some(room) = room.checked_sub(name.len()) else {
+        return Ok(None);
+    };
+    writer.key(name)?;
+    write_resource(alloc, look, writer, &kid.path, &kid.res, depth, room)
+}
+
 // Writes the kid of a name as a member, if it is shown, and `depth` levels below it.
 #[cycle(writing)]
 fn write_kid<L: Look>(
@@ -59,14 +79,10 @@ fn write_kid<L: Look>(
 ) -> Mem<Option<usize>>
     ensures { IfOk result (λ left. Spends room left writer.old writer.new (kid_member_tokens name.now (resource_json (L.seen look.now) depth) (shown_kid (L.seen look.now) path.now res.now name.now))) }
 {
-    let Some(kid) = shown_kid(alloc, look, path, res, name)? else {
-        return Ok(Some(room));
-    };
-    let Some(room) = room.checked_sub(name.len()) else {
-        return Ok(None);
-    };
-    writer.key(name)?;
-    write_resource(alloc, look, writer, &kid.path, &kid.res, depth, room)
+    match shown_kid(alloc, look, path, res, name)? {
+        Some(kid) => write_member(alloc, look, writer, &kid, name, depth, room),
+        None => Ok(Some(room)),
+    }
 }
 
 // Writes the kids of a resource as members, `depth` levels of them.

@@ -1,4 +1,5 @@
 pub mod Fault
 pub mod Grammar
 pub mod Read
+pub mod Steps
 pub mod Tokens

@@ -1,8 +1,9 @@
 //! Accesses: `.name` and `["name"]`.
 
-ghost use Rattle.std.specs.Prelude.{◌≡◌, [], length, IfOk, Ok, true, false};
+ghost use Rattle.std.specs.Prelude.{◌≡◌, [], length, Ok, true, false};
 ghost use Rattle.sp_base.specs.Bytes.{begins_with_byte};
 ghost use Rattle.htl_syntax.specs.Read as spec;
+ghost use Rattle.htl_syntax.specs.Steps as steps;
 ghost use Rattle.htl_syntax.specs.Tokens as tokens;
 ghost use Rattle.htl_syntax.specs.Tokens.{Gives};
 
@@ -11,15 +12,21 @@ use crate::stop::ExprStop;
 use crate::tokens::{NameKind, begins_with_byte, expect, name, remainder, string};
 use sp_base::{TextBuf, TextList};
 use sqlite_items::Boxed;
-use std::alloc::{AllocError, Global};
+use std::alloc::Global;
 
-pub fn access_of(alloc: Global, e: ExprNode, fields: TextList) -> Result<ExprNode, AllocError>
-    ensures { IfOk result (λ r. r ≡ spec.access_of e fields) }
+fn access_of(
+    alloc: Global,
+    e: ExprNode,
+    fields: TextList,
+    rest: &str,
+) -> Result<(ExprNode, &str), ExprStop>
+    ensures { Gives (λ x. (x.0, x.1.now)) result (steps.followed_by (spec.access_of e fields) rest.now) }
 {
     if fields.len() == 0 {
-        return Ok(e);
+        return Ok((e, rest));
     }
-    Ok(ExprNode::Access(Boxed::new(alloc, e)?, fields))
+    let e = Boxed::new(alloc, e)?;
+    Ok((ExprNode::Access(e, fields), rest))
 }
 
 #[tactic(auto, unfolding(crate::specs::Read::access_at))]
@@ -67,7 +74,7 @@ pub fn first_access(alloc: Global, depth: u32, text: &str) -> Result<(TextBuf, &
 }
 
 #[tactic(auto, unfolding(crate::specs::Read::accesses))]
-pub fn accesses(alloc: Global, depth: u32, text: &str) -> Result<(TextList, &str), ExprStop>
+fn accesses(alloc: Global, depth: u32, text: &str) -> Result<(TextList, &str), ExprStop>
     ensures { Gives (λ x. (x.0, x.1.now)) result (spec.accesses depth (length text.now) [] text.now) }
 {
     let mut found = TextList::new(alloc);
@@ -81,4 +88,17 @@ pub fn accesses(alloc: Global, depth: u32, text: &str) -> Result<(TextList, &str
         rest = after;
     }
     Ok((found, rest))
+}
+
+/// A node with the accesses that follow it.
+pub fn accessed(
+    alloc: Global,
+    depth: u32,
+    e: ExprNode,
+    text: &str,
+) -> Result<(ExprNode, &str), ExprStop>
+    ensures { Gives (λ x. (x.0, x.1.now)) result (steps.accessed depth e text.now) }
+{
+    let (fields, rest) = accesses(alloc, depth, text)?;
+    access_of(alloc, e, fields, rest)
 }

@@ -1,14 +1,14 @@
 //! A whole expression.
 
-ghost use Rattle.std.specs.Prelude.{◌≡◌, ◌≢◌, ◌≤◌, IfOk, IfErr, Ok, Err, take, drop, length};
+ghost use Rattle.std.specs.Prelude.{◌≡◌, ◌≢◌, ◌≤◌, IfOk, IfErr, Ok, Err, take, drop, length, ◌++◌, string_bytes};
 ghost use Rattle.htl_syntax.specs.Tokens.{Gives};
 ghost use Rattle.htl_syntax.specs.Read as spec;
 ghost use Rattle.htl_syntax.specs.Grammar.{nesting_limit, Whole};
 ghost use Rattle.htl_syntax.specs.declared.expression.Expression.{Expression};
-ghost use Rattle.htl_syntax.specs.Fault.{takes_colon, fault_place, expression_of, IsReadAs, IsExpressionFault};
+ghost use Rattle.htl_syntax.specs.Fault.{colon_letter, takes_colon, fault_place, expression_of, IsReadAs, IsExpressionFault};
 
 use crate::node::ExprNode;
-use crate::options::{Options, read_options};
+use crate::options::{Options, last_options};
 use crate::reader::first;
 use crate::stop::ExprStop;
 use crate::tokens::skip;
@@ -16,7 +16,7 @@ use sp_base::{Mem, NoMemory, TextBuf, begins_with_byte};
 use std::alloc::Global;
 
 /// Why a text is no expression. A place is counted in bytes from 0.
-#[derive(Debug, Drop)]
+#[derive(Drop)]
 pub enum ExprFault {
     /// No expression goes on with the byte at this place, or the text ends here and is none.
     Unexpected(usize),
@@ -26,7 +26,7 @@ pub enum ExprFault {
 }
 
 /// How the printed text is escaped.
-#[derive(Debug, Clone, Copy, Drop)]
+#[derive(Clone, Copy, Drop)]
 pub enum Context {
     Text,
     Unsafe,
@@ -40,29 +40,38 @@ pub struct Expression {
     pub context: Option<Context>,
 }
 
+fn expression_of(node: Option<ExprNode>, options: Options) -> Expression
+    ensures { result ≡ spec.expr_of node (options.join, options.context) }
+{
+    Expression {
+        node,
+        join: options.join,
+        context: options.context,
+    }
+}
+
 #[tactic(auto, unfolding(crate::specs::Read::expression_read))]
 fn whole(alloc: Global, text: &str) -> Result<Expression, ExprStop>
     ensures { Gives (λ e. e) result (spec.expression_read nesting_limit text.now) }
 {
     let (node, rest) = first(alloc, skip(text))?;
-    let (Options { join, context }, rest) = read_options(alloc, rest)?;
-    if rest.is_empty() {
-        Ok(Expression {
-            node,
-            join,
-            context,
-        })
-    } else {
-        Err(ExprStop::Unexpected(rest.len()))
-    }
+    let options = last_options(alloc, rest)?;
+    Ok(expression_of(node, options))
+}
+
+fn with_colon(alloc: Global, leading: &str) -> Mem<String>
+    ensures { IfOk result (λ text. string_bytes text ≡ leading.now ++ colon_letter) }
+{
+    let mut text = String::from_str(alloc, leading)?;
+    text.push_str(":b")?;
+    Ok(text)
 }
 
 /// Whether a colon after a text may belong to a field's name: a letter after it is then read.
 fn takes_colon(alloc: Global, leading: &str) -> Mem<bool>
     ensures { IfOk result (λ takes. takes ≡ takes_colon nesting_limit leading.now) }
 {
-    let mut text = String::from_str(alloc, leading)?;
-    text.push_str(":b")?;
+    let text = with_colon(alloc, leading)?;
     match whole(alloc, text.as_str()) {
         Ok(_) => Ok(true),
         Err(ExprStop::Memory) => Err(NoMemory),

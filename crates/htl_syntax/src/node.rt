@@ -4,7 +4,7 @@ use sp_base::{TextBuf, TextList};
 use sqlite_items::{Boxed, Items};
 
 /// The six operators that compare two values.
-#[derive(Debug, Clone, Copy, Drop)]
+#[derive(Clone, Copy, Drop)]
 pub enum Comparison {
     Equal,
     NotEqual,

@@ -2,6 +2,7 @@
 
 ghost use Rattle.std.specs.Prelude.{◌≡◌, ◌<◌, Ok, Some, None, true, false, slice_index};
 ghost use Rattle.htl_syntax.specs.Read as spec;
+ghost use Rattle.htl_syntax.specs.Steps as steps;
 ghost use Rattle.htl_syntax.specs.Tokens as tokens;
 ghost use Rattle.htl_syntax.specs.Tokens.{Gives};
 
@@ -67,6 +68,26 @@ fn context_option(text: &str) -> Result<(Context, &str), ExprStop>
     context_string(rest)
 }
 
+fn with_join(
+    alloc: Global,
+    context: Option<Context>,
+    text: &str,
+) -> Result<(Options, &str), ExprStop>
+    ensures { Gives (λ x. ((x.0.join, x.0.context), x.1.now)) result (steps.with_join context text.now) }
+{
+    let (word, rest) = join_option(alloc, text)?;
+    let join = Some(word);
+    Ok((Options { join, context }, rest))
+}
+
+fn with_context(join: Option<TextBuf>, text: &str) -> Result<(Options, &str), ExprStop>
+    ensures { Gives (λ x. ((x.0.join, x.0.context), x.1.now)) result (steps.with_context join text.now) }
+{
+    let (word, rest) = context_option(text)?;
+    let context = Some(word);
+    Ok((Options { join, context }, rest))
+}
+
 /// An option that isn't given yet.
 #[tactic(auto, unfolding(crate::specs::Read::option))]
 fn read_option<'a>(
@@ -76,15 +97,10 @@ fn read_option<'a>(
 ) -> Result<(Options, &'a str), ExprStop>
     ensures { Gives (λ x. ((x.0.join, x.0.context), x.1.now)) result (spec.option (given.join, given.context) text.now) }
 {
-    let Options { join, context } = given;
-    if join.is_none() && begins_with_byte(b'j', text) {
-        let (word, rest) = join_option(alloc, text)?;
-        let join = Some(word);
-        Ok((Options { join, context }, rest))
-    } else if context.is_none() && begins_with_byte(b'c', text) {
-        let (word, rest) = context_option(text)?;
-        let context = Some(word);
-        Ok((Options { join, context }, rest))
+    if given.join.is_none() && begins_with_byte(b'j', text) {
+        with_join(alloc, given.context, text)
+    } else if given.context.is_none() && begins_with_byte(b'c', text) {
+        with_context(given.join, text)
     } else {
         Err(ExprStop::Unexpected(text.len()))
     }
@@ -92,7 +108,7 @@ fn read_option<'a>(
 
 /// Each option once at most.
 #[tactic(auto, unfolding(crate::specs::Read::options))]
-pub fn read_options(alloc: Global, text: &str) -> Result<(Options, &str), ExprStop>
+fn read_options(alloc: Global, text: &str) -> Result<(Options, &str), ExprStop>
     ensures { Gives (λ x. ((x.0.join, x.0.context), x.1.now)) result (spec.options text.now) }
 {
     let none = Options {
@@ -107,5 +123,17 @@ pub fn read_options(alloc: Global, text: &str) -> Result<(Options, &str), ExprSt
         read_option(alloc, given, remainder(b',', rest))
     } else {
         Ok((given, rest))
+    }
+}
+
+/// The options, after which nothing stands.
+pub fn last_options(alloc: Global, text: &str) -> Result<Options, ExprStop>
+    ensures { Gives (λ x. (x.join, x.context)) result (steps.last_options text.now) }
+{
+    let (options, rest) = read_options(alloc, text)?;
+    if rest.is_empty() {
+        Ok(options)
+    } else {
+        Err(ExprStop::Unexpected(rest.len()))
     }
 }

@@ -1,12 +1,14 @@
 //! The reader, line by line of the grammar.
 
-ghost use Rattle.std.specs.Prelude.{◌≡◌, ◌<◌, [], ◌∷◌, length, slice_index, IfOk, Ok, true, false};
+ghost use Rattle.std.specs.Prelude.{◌≡◌, ◌<◌, [], ◌∷◌, length, slice_index, Ok, true, false};
 ghost use Rattle.htl_syntax.specs.Tokens.{Gives};
 ghost use Rattle.htl_syntax.specs.Tokens as tokens;
 ghost use Rattle.htl_syntax.specs.Read as spec;
+ghost use Rattle.htl_syntax.specs.Steps as steps;
 ghost use Rattle.htl_syntax.specs.Grammar.{nesting_limit};
+ghost use Rattle.htl_syntax.specs.declared.node.ExprNode.TheVariants as n;
 
-use crate::access::{access_of, accesses, first_access};
+use crate::access::{accessed, first_access};
 use crate::node::{Comparison, ExprNode};
 use crate::numbers::number;
 use crate::stop::ExprStop;
@@ -16,32 +18,44 @@ use crate::tokens::{
 };
 use sp_base::TextBuf;
 use sqlite_items::{Boxed, Items as NodeList};
-use std::alloc::{AllocError, Global};
+use std::alloc::Global;
 
 /// What nests: a choice in brackets or after a `?`, the operand of a `!`, the items of a list.
-#[derive(Debug, Clone, Copy, Drop)]
+#[derive(Clone, Copy, Drop)]
 pub enum Nested {
     Choice,
     Operand,
     Items,
 }
 
-fn and_of(alloc: Global, e: ExprNode, more: NodeList<ExprNode>) -> Result<ExprNode, AllocError>
-    ensures { IfOk result (λ r. r ≡ spec.and_of e more) }
+fn and_of(
+    alloc: Global,
+    e: ExprNode,
+    more: NodeList<ExprNode>,
+    rest: &str,
+) -> Result<(ExprNode, &str), ExprStop>
+    ensures { Gives (λ x. (x.0, x.1.now)) result (steps.followed_by (spec.and_of e more) rest.now) }
 {
     if more.len() == 0 {
-        return Ok(e);
+        return Ok((e, rest));
     }
-    Ok(ExprNode::And(Boxed::new(alloc, e)?, more))
+    let e = Boxed::new(alloc, e)?;
+    Ok((ExprNode::And(e, more), rest))
 }
 
-fn or_of(alloc: Global, e: ExprNode, more: NodeList<ExprNode>) -> Result<ExprNode, AllocError>
-    ensures { IfOk result (λ r. r ≡ spec.or_of e more) }
+fn or_of(
+    alloc: Global,
+    e: ExprNode,
+    more: NodeList<ExprNode>,
+    rest: &str,
+) -> Result<(ExprNode, &str), ExprStop>
+    ensures { Gives (λ x. (x.0, x.1.now)) result (steps.followed_by (spec.or_of e more) rest.now) }
 {
     if more.len() == 0 {
-        return Ok(e);
+        return Ok((e, rest));
     }
-    Ok(ExprNode::Or(Boxed::new(alloc, e)?, more))
+    let e = Boxed::new(alloc, e)?;
+    Ok((ExprNode::Or(e, more), rest))
 }
 
 fn word_of(word: TextBuf) -> ExprNode
@@ -97,6 +111,20 @@ fn comparison(text: &str) -> Result<(Comparison, &str), ExprStop>
     }
 }
 
+fn property(alloc: Global, depth: u32, text: &str) -> Result<(ExprNode, &str), ExprStop>
+    ensures { Gives (λ x. (x.0, x.1.now)) result (steps.of_access depth n.Property text.now) }
+{
+    let (field, rest) = first_access(alloc, depth, text)?;
+    Ok((ExprNode::Property(field), rest))
+}
+
+fn resource(alloc: Global, depth: u32, text: &str) -> Result<(ExprNode, &str), ExprStop>
+    ensures { Gives (λ x. (x.0, x.1.now)) result (steps.of_access depth n.Resource text.now) }
+{
+    let (field, rest) = first_access(alloc, depth, text)?;
+    Ok((ExprNode::Resource(field), rest))
+}
+
 /// A literal or a variable; `properties` and `resource` with their first access.
 #[tactic(auto, unfolding(crate::specs::Read::name_or_object))]
 fn name_or_object(alloc: Global, depth: u32, text: &str) -> Result<(ExprNode, &str), ExprStop>
@@ -104,11 +132,9 @@ fn name_or_object(alloc: Global, depth: u32, text: &str) -> Result<(ExprNode, &s
 {
     let (word, rest) = name(alloc, NameKind::Name, text)?;
     if word.text() == "properties" {
-        let (field, rest) = first_access(alloc, depth, rest)?;
-        Ok((ExprNode::Property(field), rest))
+        property(alloc, depth, rest)
     } else if word.text() == "resource" {
-        let (field, rest) = first_access(alloc, depth, rest)?;
-        Ok((ExprNode::Resource(field), rest))
+        resource(alloc, depth, rest)
     } else {
         Ok((word_of(word), rest))
     }
@@ -152,19 +178,33 @@ fn nesting(
     }
 }
 
+/// What stands between two brackets.
+#[cycle(reader)]
+fn bracketed(
+    alloc: Global,
+    depth: u32,
+    inside: Nested,
+    closing: u8,
+    text: &str,
+) -> Result<(ExprNode, &str), ExprStop>
+    requires opening { slice_index text.now 0 < 128 }
+    requires closing { closing < 128 }
+    ensures { Gives (λ x. (x.0, x.1.now)) result (steps.bracketed depth inside closing text.now) }
+{
+    let (e, rest) = nesting(alloc, depth, inside, text)?;
+    let rest = expect(closing, rest)?;
+    Ok((e, rest))
+}
+
 #[cycle(reader)]
 #[tactic(auto, using(crate::proofs::Scan::prefix_ascii), unfolding(crate::specs::Read::start))]
 fn start(alloc: Global, depth: u32, text: &str) -> Result<(ExprNode, &str), ExprStop>
     ensures { Gives (λ x. (x.0, x.1.now)) result (spec.start depth (spec.nesting depth) text.now) }
 {
     if begins_with_byte(b'(', text) {
-        let (e, rest) = nesting(alloc, depth, Nested::Choice, text)?;
-        let rest = expect(b')', rest)?;
-        Ok((e, rest))
+        bracketed(alloc, depth, Nested::Choice, b')', text)
     } else if begins_with_byte(b'[', text) {
-        let (e, rest) = nesting(alloc, depth, Nested::Items, text)?;
-        let rest = expect(b']', rest)?;
-        Ok((e, rest))
+        bracketed(alloc, depth, Nested::Items, b']', text)
     } else {
         primary(alloc, depth, text)
     }
@@ -176,8 +216,7 @@ fn atom(alloc: Global, depth: u32, text: &str) -> Result<(ExprNode, &str), ExprS
     ensures { Gives (λ x. (x.0, x.1.now)) result (spec.atom depth (spec.nesting depth) text.now) }
 {
     let (e, rest) = start(alloc, depth, text)?;
-    let (fields, rest) = accesses(alloc, depth, rest)?;
-    Ok((access_of(alloc, e, fields)?, rest))
+    accessed(alloc, depth, e, rest)
 }
 
 #[cycle(reader)]
@@ -192,6 +231,22 @@ fn operand(alloc: Global, depth: u32, text: &str) -> Result<(ExprNode, &str), Ex
     atom(alloc, depth, text)
 }
 
+/// A comparison and the operand after it.
+#[cycle(reader)]
+fn compared_with(
+    alloc: Global,
+    depth: u32,
+    text: &str,
+) -> Result<(Comparison, Boxed<ExprNode>, &str), ExprStop>
+    requires { spec.compares text.now ≡ true }
+    ensures { Gives (λ x. ((x.0, x.1), x.2.now)) result (steps.compared_with depth text.now) }
+{
+    let (op, rest) = comparison(text)?;
+    let (b, rest) = operand(alloc, depth, rest)?;
+    let b = Boxed::new(alloc, b)?;
+    Ok((op, b, rest))
+}
+
 #[cycle(reader)]
 #[tactic(auto, unfolding(crate::specs::Read::compare))]
 fn compare(alloc: Global, depth: u32, text: &str) -> Result<(ExprNode, &str), ExprStop>
@@ -201,12 +256,9 @@ fn compare(alloc: Global, depth: u32, text: &str) -> Result<(ExprNode, &str), Ex
     if !compares(rest) {
         return Ok((a, rest));
     }
-    let (op, rest) = comparison(rest)?;
-    let (b, rest) = operand(alloc, depth, rest)?;
-    Ok((
-        ExprNode::Compare(op, Boxed::new(alloc, a)?, Boxed::new(alloc, b)?),
-        rest,
-    ))
+    let a = Boxed::new(alloc, a)?;
+    let (op, b, rest) = compared_with(alloc, depth, rest)?;
+    Ok((ExprNode::Compare(op, a, b), rest))
 }
 
 /// The operands after the first one and their `&&`.
@@ -240,7 +292,7 @@ fn both(alloc: Global, depth: u32, text: &str) -> Result<(ExprNode, &str), ExprS
 {
     let (e, rest) = compare(alloc, depth, text)?;
     let (more, rest) = more_compares(alloc, depth, rest)?;
-    Ok((and_of(alloc, e, more)?, rest))
+    and_of(alloc, e, more, rest)
 }
 
 /// The operands after the first one and their `||`.
@@ -270,7 +322,7 @@ fn either(alloc: Global, depth: u32, text: &str) -> Result<(ExprNode, &str), Exp
 {
     let (e, rest) = both(alloc, depth, text)?;
     let (more, rest) = more_boths(alloc, depth, rest)?;
-    Ok((or_of(alloc, e, more)?, rest))
+    or_of(alloc, e, more, rest)
 }
 
 #[cycle(reader)]
@@ -285,6 +337,23 @@ fn other_choice(alloc: Global, depth: u32, text: &str) -> Result<(ExprNode, &str
     }
 }
 
+/// What is chosen if the condition holds, and if not.
+#[cycle(reader)]
+fn choices(
+    alloc: Global,
+    depth: u32,
+    text: &str,
+) -> Result<(Boxed<ExprNode>, Boxed<ExprNode>, &str), ExprStop>
+    requires { slice_index text.now 0 < 128 }
+    ensures { Gives (λ x. ((x.0, x.1), x.2.now)) result (steps.choices depth text.now) }
+{
+    let (a, rest) = nesting(alloc, depth, Nested::Choice, text)?;
+    let a = Boxed::new(alloc, a)?;
+    let (b, rest) = other_choice(alloc, depth, rest)?;
+    let b = Boxed::new(alloc, b)?;
+    Ok((a, b, rest))
+}
+
 #[cycle(reader)]
 #[tactic(auto, using(crate::proofs::Scan::prefix_ascii), unfolding(crate::specs::Read::choice))]
 fn choice(alloc: Global, depth: u32, text: &str) -> Result<(ExprNode, &str), ExprStop>
@@ -294,16 +363,9 @@ fn choice(alloc: Global, depth: u32, text: &str) -> Result<(ExprNode, &str), Exp
     if !begins_with_byte(b'?', rest) {
         return Ok((c, rest));
     }
-    let (a, rest) = nesting(alloc, depth, Nested::Choice, rest)?;
-    let (b, rest) = other_choice(alloc, depth, rest)?;
-    Ok((
-        ExprNode::Choice(
-            Boxed::new(alloc, c)?,
-            Boxed::new(alloc, a)?,
-            Boxed::new(alloc, b)?,
-        ),
-        rest,
-    ))
+    let c = Boxed::new(alloc, c)?;
+    let (a, b, rest) = choices(alloc, depth, rest)?;
+    Ok((ExprNode::Choice(c, a, b), rest))
 }
 
 /// The items after the first one and their commas.

@@ -7,7 +7,7 @@ use sp_base::NoMemory;
 use std::alloc::{AllocError, AllocFailed};
 
 /// A place is given by how many bytes are left there.
-#[derive(Debug, Drop)]
+#[derive(Drop)]
 pub enum ExprStop {
     Memory,
     Unexpected(usize),

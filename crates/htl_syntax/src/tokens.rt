@@ -11,7 +11,7 @@ use sp_base::TextBuf;
 use std::alloc::Global;
 
 /// The two kinds of names.
-#[derive(Debug, Clone, Copy, Drop)]
+#[derive(Clone, Copy, Drop)]
 pub enum NameKind {
     Name,
     Field,

@@ -8,7 +8,7 @@ use sp_base::NoMemory;
 use std::alloc::{AllocError, AllocFailed};
 
 /// Why a text is no template. A place is that of the `$`, counted in bytes from 0.
-#[derive(Debug, Drop)]
+#[derive(Drop)]
 pub enum TextFault {
     /// No `}` outside quotes closes the expression.
     Unclosed(usize),
@@ -42,7 +42,7 @@ impl<T: Drop> From<AllocFailed<T>> for TextFault {
 }
 
 /// Why a template writes no text.
-#[derive(Debug, Drop)]
+#[derive(Drop)]
 pub enum RenderFault {
     /// The text would have more than 4,194,304 bytes.
     TooLong,

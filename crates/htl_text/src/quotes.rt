@@ -5,7 +5,7 @@ ghost use Rattle.htl_text.specs.Template as spec;
 ghost use Rattle.htl_text.specs.declared.quotes.Quotes.TheVariants as q;
 
 /// Where a byte of an expression stands.
-#[derive(Debug, Clone, Copy, Drop)]
+#[derive(Clone, Copy, Drop)]
 pub enum Quotes {
     Outside,
     /// Inside quotes of this mark.

@@ -1,4 +1,4 @@
-use Rattle.std.proofs.Common.{◌≡◌, ◌+◌, ◌-◌, ◌<◌, ◌≤◌, List, ℕ, Option, Some, length, take, subst, sym, ◌∙◌, ap, arith}
+use Rattle.std.proofs.Common.{◌≡◌, ◌+◌, ◌-◌, ◌≤◌, List, ℕ, Option, Some, IfOk, length, take, subst, sym, ◌∙◌, ap, arith}
 use Rattle.std.proofs.lemmas.List.{take_all}
 use Rattle.std.proofs.lemmas.Result.{IfOk-weaker}
 use Rattle.json.specs.Tree.{json_tokens}
@@ -8,24 +8,25 @@ use Rattle.property_json.specs.PropertyJson.{property_tokens}
 use Rattle.get_servlet.proofs.WritingLemmas.{no_room, no_room_below, object_written, kid_no_room, kid_written, below_none, below_some, kids_tokens-nil, nothing_written, name_more, kids_more, kids_taken, more_spent, none_spent}
 use Rattle.get_servlet.proofs.writing.+writing.Goals as goal
 
-pub write_kid-returns-in_default-checked_sub : goal.write_kid-returns-in_default-checked_sub
-write_kid-returns-in_default-checked_sub g t c =
+pub write_member-returns-in_default : goal.write_member-returns-in_default
+write_member-returns-in_default g t c =
     let json = resource_json (g.L.Look.seen c.args.look.now) c.args.depth in
-    let there = sym c.in-Some.is ∙ c.in_ok-kid.ensures in
-    subst (λ k. c.args.room < bytes_in (kid_member_tokens c.args.name.now json k)) there
-    (kid_no_room c.args.room c.args.name.now json c.in-Some.kid (omega (arith, c.in_default-checked_sub.ensures)))
+    kid_no_room c.args.room c.args.name.now json c.args.kid.now (omega (arith, c.in_default.ensures))
 
-pub write_kid-returns : goal.write_kid-returns
-write_kid-returns g t c =
+pub write_member-returns : goal.write_member-returns
+write_member-returns g t c =
     let json = resource_json (g.L.Look.seen c.args.look.now) c.args.depth in
-    let old = c.args.writer.now in
-    let new = c.write_resource.new.writer in
-    let there = sym c.in-Some.is ∙ c.in_ok-kid.ensures in
-    let is : c.in-Some-checked_sub.room + length c.args.name.now ≡ c.args.room = omega (arith, c.in-Some-checked_sub.ensures) in
+    let kid = c.args.kid.now in
+    let is : c.in-Some.room + length c.args.name.now ≡ c.args.room = omega (arith, c.in-Some.ensures) in
     IfOk-weaker c.write_resource.result _ _
-    (λ left s. subst (λ k. Spends c.args.room left old new (kid_member_tokens c.args.name.now json k)) there
-    (kid_written c.args.room c.in-Some-checked_sub.room left c.args.name.now (json_tokens (json c.in-Some.kid.path c.in-Some.kid.res)) old c.key.new.self new is c.in_ok-key.ensures.ok c.in_ok-key.ensures.room.0 s))
+    (λ left s. kid_written c.args.room c.in-Some.room left c.args.name.now (json_tokens (json kid.path kid.res)) c.args.writer.now c.key.new.self c.write_resource.new.writer is c.in_ok-key.ensures.ok c.in_ok-key.ensures.room.0 s)
     c.write_resource.ensures
+
+pub write_kid-returns-in-Some : goal.write_kid-returns-in-Some
+write_kid-returns-in-Some g t c =
+    let json = resource_json (g.L.Look.seen c.args.look.now) c.args.depth in
+    let there = sym c.in-Some.is ∙ c.in_ok-kid.ensures in
+    subst (λ k. IfOk c.write_member.result (λ left. Spends c.args.room left c.args.writer.now c.write_member.new.writer (kid_member_tokens c.args.name.now json k))) there c.write_member.ensures
 
 pub write_kids-returns-then-depth-eq0 : goal.write_kids-returns-then-depth-eq0
 write_kids-returns-then-depth-eq0 g t c =

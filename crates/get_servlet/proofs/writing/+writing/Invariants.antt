@@ -8,10 +8,13 @@ invariant-write_kids-loop-name g l = Spends l.room (Some l.left) l.fn.writer l.w
 
 -- the levels that are left fall with each kid
 abbrev pub decreases-write_kids : goal.decreases-write_kids
-decreases-write_kids g l = 3 * l.depth
+decreases-write_kids g l = 4 * l.depth
 
 abbrev pub decreases-write_resource : goal.decreases-write_resource
-decreases-write_resource g l = 3 * l.depth + 1
+decreases-write_resource g l = 4 * l.depth + 1
 
 abbrev pub decreases-write_kid : goal.decreases-write_kid
-decreases-write_kid g l = 3 * l.depth + 2
+decreases-write_kid g l = 4 * l.depth + 3
+
+abbrev pub decreases-write_member : goal.decreases-write_member
+decreases-write_member g l = 4 * l.depth + 2

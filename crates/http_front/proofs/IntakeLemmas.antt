@@ -1,5 +1,5 @@
 -- What is left to tell after each step of an intake.
-use Rattle.std.proofs.Common.{◌≡◌, ◌<◌, ◌≤◌, ◌⊎◌, inl, inr, ℕ, Bool, true, List, [], ◌∷◌, ◌++◌, length, take, drop, refl, sym, ◌∙◌, ap, subst, arith, append_assoc, length-append, ⊎_elim}
+use Rattle.std.proofs.Common.{◌≡◌, ◌<◌, ◌≤◌, ◌⊎◌, inl, inr, ℕ, Bool, true, false, List, [], ◌∷◌, ◌++◌, length, take, drop, refl, sym, ◌∙◌, ap, subst, arith, append_assoc, length-append, ⊎_elim}
 use Rattle.std.proofs.lemmas.List.{take-append-drop, length-take-le}
 use Rattle.httparse.specs.Grammar.{HasNoRequest, MayBecomeRequest}
 use Rattle.sp_base.specs.declared.answer.Req.{Req}
@@ -51,6 +51,13 @@ asked s more a r [] end b is f = (record { asked = a; rest = r ++ more; begins =
 asked s more a r (Continue ∷ turns) end b is f = absurd f
 asked s more a r (Whole request ∷ turns) end b is f = (f.0, request_begins s more a r true request f.0 b is f.1, f.2)
 
+-- any other head isn't
+not_asked : (s more : List ℕ) (a : AskedHead) (r : List ℕ) (turns : List Turn) (end : End) → BeginsAsking s a r → a.awaits_continue ≡ false → TurnsFollow a (r ++ more) turns end → SpellsTurns (s ++ more) turns end
+not_asked s more a r [] end b is f =
+    subst (Stops (s ++ more)) (sym f.1) (inr (record { asked = a; rest = r ++ more; begins = asking_stays s more a r b; unasked = is; short = f.0 }))
+not_asked s more a r (Continue ∷ turns) end b is f = absurd f
+not_asked s more a r (Whole request ∷ turns) end b is f = (f.0, request_begins s more a r false request f.0 b is f.1, f.2)
+
 -- ---- a body
 
 pub body_taken : (a : AskedHead) (rest more : List ℕ) (request : Req) (turns : List Turn) (end : End) → a.body_length ≤ length rest → request ≡ with_body a (take a.body_length rest)
@@ -90,6 +97,12 @@ pub leads_asked : (old : Intake) (rest : List ℕ) (a : AskedHead) (len : ℕ) �
 leads_asked old rest a len heading is begins waits = λ more turns end f.
     subst (λ p. Continues p (rest_of old ++ more) (Continue ∷ turns) end) (sym heading)
     (asked (rest_of old) more a (drop len (rest_of old)) turns end begins waits (subst (λ r. TurnsFollow a (r ++ more) turns end) is f))
+
+pub leads_unasked : (old : Intake) (rest : List ℕ) (a : AskedHead) (len : ℕ) → old.phase ≡ Heading → rest ≡ drop len (rest_of old) → BeginsAsking (rest_of old) a (drop len (rest_of old))
+    → a.awaits_continue ≡ false → (more : List ℕ) (turns : List Turn) (end : End) → Continues (Body a) (rest ++ more) turns end → RemainderSpells old more turns end
+leads_unasked old rest a len heading is begins waits = λ more turns end f.
+    subst (λ p. Continues p (rest_of old ++ more) turns end) (sym heading)
+    (not_asked (rest_of old) more a (drop len (rest_of old)) turns end begins waits (subst (λ r. TurnsFollow a (r ++ more) turns end) is f))
 
 pub leads_body : (old : Intake) (phase : Phase) (rest : List ℕ) (a : AskedHead) (request : Req) → old.phase ≡ Body a → phase ≡ Heading → rest ≡ drop a.body_length (rest_of old)
     → a.body_length ≤ length (rest_of old) → request ≡ with_body a (take a.body_length (rest_of old))

@@ -7,8 +7,8 @@ use Rattle.front.proofs.board.Board.open.Goals as goal
 
 pub returns-then-len-ge-MOST_LINES : goal.returns-then-len-ge-MOST_LINES
 returns-then-len-ge-MOST_LINES c =
-    ok-map-two c.one-then-len-ge-MOST_LINES.result c.one-then-len-ge-MOST_LINES.ensures.notes c.one-then-len-ge-MOST_LINES.ensures.dry (λ told notes calm farm peer w tied.
-    opened-full c.args.self.now w c.args.c peer told tied (is-none _ (sym c.contains_key.ensures ∙ c.if-contains_key.false)) (grind (arith, common_steps)) notes calm)
+    ok-map-two c.one-then-len-ge-MOST_LINES.result c.one-then-len-ge-MOST_LINES.ensures.notes c.one-then-len-ge-MOST_LINES.ensures.dry (λ told notes not_dry farm peer w tied.
+    opened-full c.args.self.now w c.args.c peer told tied (is-none _ (sym c.contains_key.ensures ∙ c.if-contains_key.false)) (grind (arith, common_steps)) notes not_dry)
 
 pub returns-in-Ok : goal.returns-in-Ok
 returns-in-Ok c = λ farm peer w tied.

@@ -3,7 +3,7 @@ use Rattle.front.proofs.FrontLemmas.{ok-map, ok-map-two, ok-then, render-event, 
 use Rattle.front.proofs.front.Front.render.Goals as goal
 
 pub returns-in_default : goal.returns-in_default
-returns-in_default g c = ok-map-two c.one.result c.one.ensures.notes c.one.ensures.dry (λ told notes calm. render-none _ _ _ c.args.self.now.board c.args.pick.now told (sym c.unrendered.ensures ∙ c.in_default.is) notes calm)
+returns-in_default g c = ok-map-two c.one.result c.one.ensures.notes c.one.ensures.dry (λ told notes not_dry. render-none _ _ _ c.args.self.now.board c.args.pick.now told (sym c.unrendered.ensures ∙ c.in_default.is) notes not_dry)
 
 pub returns : goal.returns
 returns g c = ok-map-two c.one-2.result c.one-2.ensures.notes c.one-2.ensures.dry (λ told notes dry.

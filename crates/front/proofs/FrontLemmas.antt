@@ -1,10 +1,11 @@
 -- Whole steps of a front.
-use Rattle.std.proofs.Common.{◌≡◌, ℕ, ◌||◌, ◌&&◌, ◌++◌, Bool, true, false, List, [], ◌∷◌, Some, None, Result, Ok, Err, map, refl, ap, sym, subst, ◌∙◌, ◌⊎◌, inl, inr}
+use Rattle.std.proofs.Common.{◌≡◌, ℕ, ◌||◌, ◌&&◌, ◌++◌, Bool, true, false, List, [], ◌∷◌, Some, None, Result, Ok, Err, get_or, map, refl, ap, sym, subst, ◌∙◌, ◌⊎◌, inl, inr}
 use Rattle.std.specs.Prelude.{◌==◌, ◌≢◌, IfOk, IsTrue, OnErr, OnOk, if◌then◌else◌, position, slice_get, slice_set}
 use Rattle.std.proofs.lemmas.Bool.{ne_eqb}
 use Rattle.std.specs.Ordering.{nat_cmp}
 use Rattle.std.specs.BTreeMap.{BTreeMap, get, WritesThrough}
 use Rattle.sp_base.specs.declared.answer.Answer.{Answer}
+use Rattle.sp_base.specs.declared.answer.Ask.{Ask}
 use Rattle.resource_tree.specs.Content.{Content}
 use Rattle.any_config.specs.declared.farm.Farm.{Farm}
 use Rattle.dispatch_rules.specs.Asking.{publisher_ask}
@@ -31,7 +32,7 @@ use Rattle.front.specs.declared.step.Step.TheVariants.{Direct, Render}
 use Rattle.front.specs.declared.told.Told.{Told}
 use Rattle.front.proofs.BoardLemmas.{at-other, dry-and-not-dry, some-there}
 use Rattle.front.proofs.MoveLemmas.{IsStillStep, afters-push, serves-push, shows-push, step-same}
-use Rattle.front.proofs.SkyLemmas.{found-none, found-some, get-within, place, rising-set}
+use Rattle.front.proofs.SkyLemmas.{found-none, found-some, get-within, got, place, rising-set}
 
 -- what follows from what an answer is
 pub ok-map : {A E : Type 0} {P Q : A → Type 0} (r : Result A E) → IfOk r P → ((a : A) → P a → Q a) → IfOk r Q
@@ -151,6 +152,19 @@ renders (Err e) given content later answer dry gives ok status moves stays =
 pub ok-then : {A E : Type 0} {P Q : Type 0} (r : Result A E) → OnOk r P → (P → Q) → OnOk r Q
 ok-then (Ok a) p f = f p
 ok-then (Err e) p f = tt
+
+-- what is asked for the flight at a place
+asked-at : (farm : Farm) (ask : Ask) (flights : List Flying) (at : ℕ) (found flying : Flying) → ask ≡ publisher_ask farm found.request → found ≡ get_or flights at found → slice_get flights at ≡ Some flying
+    → ask ≡ publisher_ask farm flying.request
+asked-at farm ask flights at found flying asks is here = asks ∙ ap (λ (f : Flying). publisher_ask farm f.request) (got flights at found flying is here)
+
+pub answer-at : (p : Publishing) (content : Content) (farm : Farm) (ask : Ask) (flights : List Flying) (at : ℕ) (found flying : Flying) (answer : Answer) → answer ≡ (p content ask).answer
+    → ask ≡ publisher_ask farm found.request → found ≡ get_or flights at found → slice_get flights at ≡ Some flying → answer ≡ (p content (publisher_ask farm flying.request)).answer
+answer-at p content farm ask flights at found flying answer gives asks is here = gives ∙ ap (λ (a : Ask). (p content a).answer) (asked-at farm ask flights at found flying asks is here)
+
+pub content-at : (p : Publishing) (content later : Content) (farm : Farm) (ask : Ask) (flights : List Flying) (at : ℕ) (found flying : Flying) → later ≡ (p content ask).content
+    → ask ≡ publisher_ask farm found.request → found ≡ get_or flights at found → slice_get flights at ≡ Some flying → later ≡ (p content (publisher_ask farm flying.request)).content
+content-at p content later farm ask flights at found flying gives asks is here = gives ∙ ap (λ (a : Ask). (p content a).content) (asked-at farm ask flights at found flying asks is here)
 
 pub render-event : (p : Publishing) (content later : Content) (farm other : Farm) (b mid h : Board) (pick : Pick) (at n : ℕ) (answer copy : Answer) (dry : Bool) (told : Told) → other ≡ farm → mid ≡ b
     → position (λ flying. is_picked pick flying && is_unrendered flying) b.sky.flights.items ≡ Some at

@@ -9,7 +9,7 @@ use Rattle.http_front.specs.declared.turn.Turn.{Turn}
 use Rattle.http_front.specs.declared.turn.Turn.TheVariants.{Continue, Whole}
 use Rattle.connections.specs.declared.sending.Sending.{Sending}
 use Rattle.connections.specs.Slots.{Slot, MayAnswer, is_answered, is_last, interim_slot}
-use Rattle.connections.specs.Connections.{Connection, Close, Nothing, Send, with_due_continue, after_turn, due, due_at_slot, due_at_turn, due_unsent, with_piece, slots_with_landing, fresh, next_turn, with_landing, with_sent, with_slot}
+use Rattle.connections.specs.Connections.{Connection, Close, Nothing, Send, with_due_continue, after_turn, due, due_at_slot, due_at_turn, due_without_sending, with_piece, slots_with_landing, fresh, next_turn, with_landing, with_sent, with_slot}
 use Rattle.connections.specs.Histories.{AnswersRun, Follows, IsDueSending, IsEndOr, Landing, Move, Piece, Sent, Shut, Treatment, after_all, sendings}
 use Rattle.connections.specs.Ties.{AllAnswered}
 use Rattle.connections.proofs.PlaceLemmas.{filled-past, length-filled}
@@ -82,7 +82,7 @@ record CanSend (c : Connection) (slot : Slot) : Type 0 where
 send-due : (c : Connection) (slot : Slot) → due c ≡ Send slot → CanSend c slot
 send-due c slot e = by_over c.over refl e
   where
-    by_test : (t : Bool) (y : Slot) → c.over ≡ false → slice_get c.slots c.sent ≡ Some y → is_answered y.response ≡ t → cond t (Send y) (due_unsent c) ≡ Send slot → CanSend c slot
+    by_test : (t : Bool) (y : Slot) → c.over ≡ false → slice_get c.slots c.sent ≡ Some y → is_answered y.response ≡ t → cond t (Send y) (due_without_sending c) ≡ Send slot → CanSend c slot
     by_test true y going at has e =
         let same : y ≡ slot = cc in
         record { going = going; at = at ∙ ap (λ s. Some s) same; has = ap (λ (s : Slot). is_answered s.response) (sym same) ∙ has }

@@ -11,7 +11,7 @@ use Rattle.connections.specs.declared.place.AnswerPlace.{AnswerPlace}
 use Rattle.connections.specs.declared.sending.Sending.{Sending}
 use Rattle.connections.specs.declared.place.Reply.{Reply}
 use Rattle.connections.specs.Slots.{IsInPlaceOf, Says, Slot, MayAnswer, is_answered, are_fixed_507}
-use Rattle.connections.specs.Connections.{Connection, Close, IsInPlaceOfDue, Send, due, due_at_slot, due_unsent, slots_with_landing, with_landing, with_sent, with_slot}
+use Rattle.connections.specs.Connections.{Connection, Close, IsInPlaceOfDue, Send, due, due_at_slot, due_without_sending, slots_with_landing, with_landing, with_sent, with_slot}
 use Rattle.connections.specs.Histories.{IsDueSending}
 use Rattle.connections.specs.Ties.{AllAnswered, AllTied, IsLeft, IsSendingOf, PlaceTied, ReplyTied, first_has_reply, has_reply, place_bytes}
 use Rattle.connections.proofs.PlaceLemmas.{answered-tied, filled-past, filled_places, length-filled, tied-filled, tied-head, tied-none, tied-push, written-bytes, written-tied}
@@ -71,8 +71,8 @@ spare-fixed sending place spare now_spare over fixed kept over_is going =
 
 -- the spare bytes are the place's own, or memory ran out
 own-or-dry : (t dry : Bool) (place : AnswerPlace) (slot : Slot) (sending : Sending) → are_fixed_507 (place_bytes place) ≡ t → sending.dry ≡ not t → sending.bytes ≡ fixed_507 → PlaceTied place slot → has_reply place.reply ≡ true → MayAnswer slot sending
-own-or-dry true dry place slot sending own calm bytes tied has = inl (written-tied place slot sending.bytes tied has (bytes ∙ sym (same_text _ _ (sym own))))
-own-or-dry false dry place slot sending other wanting bytes tied has = inr (wanting, bytes)
+own-or-dry true dry place slot sending own not_dry bytes tied has = inl (written-tied place slot sending.bytes tied has (bytes ∙ sym (same_text _ _ (sym own))))
+own-or-dry false dry place slot sending other is_dry bytes tied has = inr (is_dry, bytes)
 
 may-answer : (sending : Sending) (place : AnswerPlace) (slot : Slot) (spare : List ℕ) → spare ≡ fixed_507 → IsSendingOf place spare sending → PlaceTied place slot → has_reply place.reply ≡ true → MayAnswer slot sending
 may-answer sending place slot spare fixed is tied has =
@@ -113,7 +113,7 @@ not-false false e = refl
 
 -- the fixed 507 stands in place of another answer
 in-place : (place : AnswerPlace) (slot : Slot) (sending : Sending) (spare : List ℕ) → spare ≡ fixed_507 → IsSendingOf place spare sending → PlaceTied place slot → has_reply place.reply ≡ true → IsTrue sending.dry → IsInPlaceOf slot sending.bytes
-in-place place slot sending spare fixed (inl own) tied has dry = absurd (let calm : sending.dry ≡ false = own.0 in let no : ⊥ = cc in no)
+in-place place slot sending spare fixed (inl own) tied has dry = absurd (let not_dry : sending.dry ≡ false = own.0 in let no : ⊥ = cc in no)
 in-place place slot sending spare fixed (inr sent) tied has dry =
     let bytes : sending.bytes ≡ fixed_507 = sent.1 ∙ fixed in
     let other : are_fixed_507 (place_bytes place) ≡ false = not-false _ (sym sent.0 ∙ dry) in
@@ -129,20 +129,20 @@ in-place-due {places} c place rest sending left e going has is dry =
     subst (λ d. IsInPlaceOfDue d sending.bytes) (sym (due-answered c slot (sym left.over_is ∙ going) cut.0 answered)) (in-place place slot sending _ (left.spare_is going) is first.3 has dry)
 
 -- ---- nothing is sent
-pub over-waits : {places : List AnswerPlace} {closing over : Bool} {spare : List ℕ} (c : Connection) → IsLeft places closing over spare c → over ≡ true → due c ≡ due_unsent c
+pub over-waits : {places : List AnswerPlace} {closing over : Bool} {spare : List ℕ} (c : Connection) → IsLeft places closing over spare c → over ≡ true → due c ≡ due_without_sending c
 over-waits c left e = let ended : c.over ≡ true = sym left.over_is ∙ e in rw ended refl
 
-due-by : (c : Connection) (o : Option Slot) → slice_get c.slots c.sent ≡ o → due_at_slot o c ≡ due_unsent c → due c ≡ due_unsent c
+due-by : (c : Connection) (o : Option Slot) → slice_get c.slots c.sent ≡ o → due_at_slot o c ≡ due_without_sending c → due c ≡ due_without_sending c
 due-by c o at e = by_over c.over refl
   where
-    by_over : (b : Bool) → c.over ≡ b → due c ≡ due_unsent c
+    by_over : (b : Bool) → c.over ≡ b → due c ≡ due_without_sending c
     by_over true is = rw is refl
     by_over false is = let going : c.over ≡ false = is in ap (λ b. cond b Close (due_at_slot (slice_get c.slots c.sent) c)) going ∙ ap (λ x. due_at_slot x c) at ∙ e
 
-pub held-waits : {places : List AnswerPlace} {closing over : Bool} {spare : List ℕ} (c : Connection) → IsLeft places closing over spare c → first_has_reply places ≡ false → due c ≡ due_unsent c
+pub held-waits : {places : List AnswerPlace} {closing over : Bool} {spare : List ℕ} (c : Connection) → IsLeft places closing over spare c → first_has_reply places ≡ false → due c ≡ due_without_sending c
 held-waits {places} c left = by_places places left.unsent
   where
-    by_places : (ps : List AnswerPlace) → AllTied ps (drop c.sent c.slots) → first_has_reply ps ≡ false → due c ≡ due_unsent c
+    by_places : (ps : List AnswerPlace) → AllTied ps (drop c.sent c.slots) → first_has_reply ps ≡ false → due c ≡ due_without_sending c
     by_places [] tied e = due-by c None (drop-end c.sent c.slots (tied-none _ tied)).0 refl
     by_places (p ∷ ps) tied e =
         let first = tied-head p ps (drop c.sent c.slots) tied in

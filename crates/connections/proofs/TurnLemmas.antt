@@ -9,7 +9,7 @@ use Rattle.http_front.specs.declared.fault.InFault.{InFault}
 use Rattle.http_front.specs.declared.turn.Turn.{Turn}
 use Rattle.http_front.specs.declared.turn.Turn.TheVariants.{Continue, Whole}
 use Rattle.connections.specs.Slots.{Fixed, Says, Slot, interim_slot, is_answered, is_awaiting, local_response}
-use Rattle.connections.specs.Connections.{Close, Connection, Due, Nothing, Refuse, Send, Treat, with_due_continue, after_turn, due, due_at_slot, due_at_turn, due_unsent, with_piece, slots_with_landing, fresh, next_turn, with_answer, with_landing, with_sent, with_slot}
+use Rattle.connections.specs.Connections.{Close, Connection, Due, Nothing, Refuse, Send, Treat, with_due_continue, after_turn, due, due_at_slot, due_at_turn, due_without_sending, with_piece, slots_with_landing, fresh, next_turn, with_answer, with_landing, with_sent, with_slot}
 use Rattle.connections.specs.Histories.{AreOfTurns, Follows, IsEndOr, IsOfEnd, IsOfFault, IsOfTurn, IsSlotOf, Landing, Move, Piece, Sent, Shut, Treatment, after_all}
 
 -- the slots are those of turns, and none closes the connection
@@ -155,7 +155,7 @@ fault-of None (Breaks other) d e fault is = let same : other ≡ fault = cc in (
 fault-of (Some t) ends d e fault is = absurd (let no : ⊥ = cc in no)
 
 -- what is due is an answer, the end, nothing, or what is due of the turns
-unsent-turn : (c : Connection) (turn : Turn) → due_unsent c ≡ Treat turn → OfTurn c (Some turn)
+unsent-turn : (c : Connection) (turn : Turn) → due_without_sending c ≡ Treat turn → OfTurn c (Some turn)
 unsent-turn c turn e = by_over c.over c.closing refl e
   where
     by_over : (over closing : Bool) → c.closing ≡ closing → cond over Close (cond closing Nothing (due_at_turn (next_turn c) c.ends)) ≡ Treat turn → OfTurn c (Some turn)
@@ -168,7 +168,7 @@ record OfFault (c : Connection) (fault : InFault) : Type 0 where
   turn : OfTurn c None
   ends : c.ends ≡ Breaks fault
 
-unsent-fault : (c : Connection) (fault : InFault) → due_unsent c ≡ Refuse fault → OfFault c fault
+unsent-fault : (c : Connection) (fault : InFault) → due_without_sending c ≡ Refuse fault → OfFault c fault
 unsent-fault c fault e = by_over c.over c.closing refl e
   where
     by_over : (over closing : Bool) → c.closing ≡ closing → cond over Close (cond closing Nothing (due_at_turn (next_turn c) c.ends)) ≡ Refuse fault → OfFault c fault
@@ -176,19 +176,19 @@ unsent-fault c fault e = by_over c.over c.closing refl e
     by_over false true is e = absurd (let no : ⊥ = cc in no)
     by_over false false is e = let at = fault-of (next_turn c) c.ends _ refl fault e in record { turn = record { going = is; next = at.0 }; ends = at.1 }
 
-slot-turn : (c : Connection) (o : Option Slot) (turn : Turn) → due_at_slot o c ≡ Treat turn → due_unsent c ≡ Treat turn
+slot-turn : (c : Connection) (o : Option Slot) (turn : Turn) → due_at_slot o c ≡ Treat turn → due_without_sending c ≡ Treat turn
 slot-turn c None turn e = e
 slot-turn c (Some s) turn e = by_test (is_answered s.response) e
   where
-    by_test : (b : Bool) → cond b (Send s) (due_unsent c) ≡ Treat turn → due_unsent c ≡ Treat turn
+    by_test : (b : Bool) → cond b (Send s) (due_without_sending c) ≡ Treat turn → due_without_sending c ≡ Treat turn
     by_test true e = absurd (let no : ⊥ = cc in no)
     by_test false e = e
 
-slot-fault : (c : Connection) (o : Option Slot) (fault : InFault) → due_at_slot o c ≡ Refuse fault → due_unsent c ≡ Refuse fault
+slot-fault : (c : Connection) (o : Option Slot) (fault : InFault) → due_at_slot o c ≡ Refuse fault → due_without_sending c ≡ Refuse fault
 slot-fault c None fault e = e
 slot-fault c (Some s) fault e = by_test (is_answered s.response) e
   where
-    by_test : (b : Bool) → cond b (Send s) (due_unsent c) ≡ Refuse fault → due_unsent c ≡ Refuse fault
+    by_test : (b : Bool) → cond b (Send s) (due_without_sending c) ≡ Refuse fault → due_without_sending c ≡ Refuse fault
     by_test true e = absurd (let no : ⊥ = cc in no)
     by_test false e = e
 

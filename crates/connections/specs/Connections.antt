@@ -45,13 +45,13 @@ abbrev pub next_turn : Connection → Option Turn
 next_turn c = slice_get c.turns (length c.slots)
 
 -- what is due where no slot can be sent
-abbrev pub due_unsent : Connection → Due
-due_unsent c = if c.over then Close else (if c.closing then Nothing else due_at_turn (next_turn c) c.ends)
+abbrev pub due_without_sending : Connection → Due
+due_without_sending c = if c.over then Close else (if c.closing then Nothing else due_at_turn (next_turn c) c.ends)
 
 -- the next slot is due where it is answered
 abbrev pub due_at_slot : Option Slot → Connection → Due
-due_at_slot None c = due_unsent c
-due_at_slot (Some slot) c = if is_answered slot.response then Send slot else due_unsent c
+due_at_slot None c = due_without_sending c
+due_at_slot (Some slot) c = if is_answered slot.response then Send slot else due_without_sending c
 
 -- The end of a connection that is over comes first, then the next slot that is answered, then the next turn.
 abbrev pub due : Connection → Due

@@ -4,7 +4,7 @@ ghost use Rattle.std.specs.List.{count_by};
 ghost use Rattle.sp_base.specs.declared.answer.Answer as models;
 ghost use Rattle.connections.specs.Slots.{Says, Slot};
 ghost use Rattle.connections.specs.Connections as model;
-ghost use Rattle.connections.specs.Connections.{Connection, IsInPlaceOfDue, due, due_unsent, fresh, with_landing, with_sent, with_slot};
+ghost use Rattle.connections.specs.Connections.{Connection, IsInPlaceOfDue, due, due_without_sending, fresh, with_landing, with_sent, with_slot};
 ghost use Rattle.connections.specs.Histories.{IsDueSending};
 ghost use Rattle.connections.specs.Ties.{IsSendingOf, PlaceTied, ReplyTied, OutboxTied, awaits, is_final_reply, first_has_reply, unsent_count};
 
@@ -62,7 +62,7 @@ impl Outbox {
         ensures sends { IfSome result (λ sending. (c : Connection) → OutboxTied self.old c → IsDueSending c sending × OutboxTied self.new (with_sent sending.bytes c)) }
         ensures dry { IfSome result (λ sending. (c : Connection) → OutboxTied self.old c → IsTrue sending.dry → IsInPlaceOfDue (due c) sending.bytes) }
         ensures fewer { OnSome result (unsent_count self.new + 1 ≡ unsent_count self.old) }
-        ensures waits { IfNone result ((c : Connection) → OutboxTied self.old c → due c ≡ due_unsent c) }
+        ensures waits { IfNone result ((c : Connection) → OutboxTied self.old c → due c ≡ due_without_sending c) }
         ensures same { IfNone result (self.new ≡ self.old) }
     {
         if self.over || !self.is_ready() {

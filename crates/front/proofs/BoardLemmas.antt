@@ -90,8 +90,8 @@ lines-without old new w v c tied updates fewer none others count = record {
 }
 
 -- ---- an event in which memory doesn't run out
-pub calm-wanting : {P : Type 0} (dry : Bool) → dry ≡ false → IsTrue dry → P
-calm-wanting dry calm wanting = absurd (let no : ⊥ = cc in no)
+pub dry-and-not-dry : {P : Type 0} (dry : Bool) → dry ≡ false → IsTrue dry → P
+dry-and-not-dry dry not_dry is_dry = absurd (let no : ⊥ = cc in no)
 
 -- ---- a connection is given all that it is owed
 dry-frame : (dry : Bool) (w : RunState) (c : ℕ) (notes : List Note) (m : Connection) → ServesDry dry w c notes → (state_after_notes w notes).line c ≡ Some m → Frame c w (state_after_notes w notes)
@@ -110,7 +110,7 @@ pub settled-quiet : {farm : Farm} (b : Board) (w : RunState) (c : ℕ) (k j : Li
     → SettlesDry told.dry w c told.notes.items × BoardTied farm (record { lines = lines; sky = sky }) (state_after_notes w told.notes.items)
 settled-quiet {farm} b w c k j sky lines told over tied here serves stays writes =
     let all = subst (λ o. AllGiven told o farm w c j sky) stays (serves w (meets b w c k tied (sym here))) in (
-      (λ m allows. record { serves = all.given.serves m allows; idle = all.then_due }, all.given.wanting),
+      (λ m allows. record { serves = all.given.serves m allows; idle = all.then_due }, all.given.shows_lack),
       record { farm_is = all.given.meets.farm_is; lines = lines-given b w c k j sky lines told false tied here all writes; sky = all.given.meets.sky_is },
     )
 
@@ -153,7 +153,7 @@ settled-over {farm} b w c k j sky lines left told all over tied here serves ends
           serves = subst (Serves m w c) (sym notes) (serves-push m w c told.notes.items (Shut c) (given.given.serves m (λ is. allows (same_dry ∙ is))) (subst (λ d. GivesDue m v c d (Shut c)) (sym given.then_due) refl));
           idle = ap (λ u. due_of_connection u c) end ∙ rw (update_here v.line c None) refl;
         },
-        λ wanting. subst (SomeShowsLack w) (sym notes) (shows-push w told.notes.items (Shut c) (inl (given.given.wanting (sym same_dry ∙ wanting)))),
+        λ is_dry. subst (SomeShowsLack w) (sym notes) (shows-push w told.notes.items (Shut c) (inl (given.given.shows_lack (sym same_dry ∙ is_dry)))),
       ),
       subst (BoardTied farm (record { lines = left; sky = sky })) (sym end) (record {
         farm_is = given.given.meets.farm_is;

@@ -53,28 +53,28 @@ written-same slot Fixed a b x y = x ∙ sym y
 written-same slot (Awaits flight) a b x y = absurd x
 written-same slot (Says answer) a b x y = x ∙ sym y
 
-calm-written : (slot : Slot) (sending : Sending) → sending.dry ≡ false → MayAnswer slot sending → IsWritten slot slot.response sending.bytes
-calm-written slot sending calm (inl written) = written
-calm-written slot sending calm (inr dry) = absurd (let wants : sending.dry ≡ true = dry.0 in let no : ⊥ = cc in no)
+written-not-dry : (slot : Slot) (sending : Sending) → sending.dry ≡ false → MayAnswer slot sending → IsWritten slot slot.response sending.bytes
+written-not-dry slot sending not_dry (inl written) = written
+written-not-dry slot sending not_dry (inr dry) = absurd (let is_dry : sending.dry ≡ true = dry.0 in let no : ⊥ = cc in no)
 
 same-bytes : (x y : Slot) (s t : Sending) → x ≡ y → MayAnswer x s → MayAnswer y t → s.dry ≡ false → t.dry ≡ false → s.bytes ≡ t.bytes
-same-bytes x y s t same one two calm quiet =
-    written-same y y.response s.bytes t.bytes (subst (λ (z : Slot). IsWritten z z.response s.bytes) same (calm-written x s calm one)) (calm-written y t quiet two)
+same-bytes x y s t same one two not_dry other_not_dry =
+    written-same y y.response s.bytes t.bytes (subst (λ (z : Slot). IsWritten z z.response s.bytes) same (written-not-dry x s not_dry one)) (written-not-dry y t other_not_dry two)
 
 begins-bytes : (xs ys : List Slot) (sent other : List Sending) → AnswersRun xs sent → AnswersRun ys other → AreAnsweredAlike xs ys → HaveNoDrySending sent → HaveNoDrySending other → OneBegins (bytes_sent sent) (bytes_sent other)
-begins-bytes xs ys [] other one two same calm quiet = inl (bytes_sent other, refl)
-begins-bytes xs ys (s ∷ sent) [] one two same calm quiet = inr (bytes_sent (s ∷ sent), refl)
-begins-bytes [] ys (s ∷ sent) (t ∷ other) one two same calm quiet = absurd one
-begins-bytes (x ∷ xs) [] (s ∷ sent) (t ∷ other) one two same calm quiet = absurd two
-begins-bytes (x ∷ xs) (y ∷ ys) (s ∷ sent) (t ∷ other) one two same calm quiet =
-    begins-append s.bytes t.bytes (bytes_sent sent) (bytes_sent other) (same-bytes x y s t (same.0 one.2 two.2) one.0 two.0 calm.0 quiet.0)
+begins-bytes xs ys [] other one two same not_dry other_not_dry = inl (bytes_sent other, refl)
+begins-bytes xs ys (s ∷ sent) [] one two same not_dry other_not_dry = inr (bytes_sent (s ∷ sent), refl)
+begins-bytes [] ys (s ∷ sent) (t ∷ other) one two same not_dry other_not_dry = absurd one
+begins-bytes (x ∷ xs) [] (s ∷ sent) (t ∷ other) one two same not_dry other_not_dry = absurd two
+begins-bytes (x ∷ xs) (y ∷ ys) (s ∷ sent) (t ∷ other) one two same not_dry other_not_dry =
+    begins-append s.bytes t.bytes (bytes_sent sent) (bytes_sent other) (same-bytes x y s t (same.0 one.2 two.2) one.0 two.0 not_dry.0 other_not_dry.0)
     (by_last (is_last x s.bytes) (is_last y t.bytes) one.1 two.1 (begins-bytes xs ys sent other))
   where
     by_last : (p q : Bool) → IsEndOr p sent (AnswersRun xs sent) → IsEndOr q other (AnswersRun ys other)
         → (AnswersRun xs sent → AnswersRun ys other → AreAnsweredAlike xs ys → HaveNoDrySending sent → HaveNoDrySending other → OneBegins (bytes_sent sent) (bytes_sent other)) → OneBegins (bytes_sent sent) (bytes_sent other)
     by_last true q ended next rest = inl (bytes_sent other, ap (λ xs. bytes_sent xs ++ bytes_sent other) (sym ended))
     by_last false true next ended rest = inr (bytes_sent sent, ap (λ xs. bytes_sent xs ++ bytes_sent sent) (sym ended))
-    by_last false false first second rest = rest first second same.1 calm.1 quiet.1
+    by_last false false first second rest = rest first second same.1 not_dry.1 other_not_dry.1
 
 -- ---- the law
 -- the law of streams

@@ -25,9 +25,9 @@ use Rattle.front.proofs.PastLemmas.{fed-closed}
 use Rattle.front.proofs.StreamLemmas.{Beginnings, no-more}
 
 -- ---- a note
-calm-sent : (m : Mood) (slot : Slot) (bytes : List ℕ) → m.dry ≡ false → MaySend m slot bytes → IsWritten slot slot.response bytes
-calm-sent m slot bytes calm (inl written) = written
-calm-sent m slot bytes calm (inr dry) = absurd (let wants : m.dry ≡ true = dry.0 in let no : ⊥ = cc in no)
+sent-not-dry : (m : Mood) (slot : Slot) (bytes : List ℕ) → m.dry ≡ false → MaySend m slot bytes → IsWritten slot slot.response bytes
+sent-not-dry m slot bytes not_dry (inl written) = written
+sent-not-dry m slot bytes not_dry (inr dry) = absurd (let is_dry : m.dry ≡ true = dry.0 in let no : ⊥ = cc in no)
 
 first-one : (m n : Mood) (w : RunState) (c : ℕ) (request : Req) (x y : Note) → IsFirstPoint m w c request x points → IsFirstPoint n w c request y points → x ≡ y
 first-one m n w c request x y (inl a) (inl b) = a.1 ∙ sym b.1
@@ -44,45 +44,45 @@ first-one m n w c request x y (inr (_, inr (_, inr (_, inl a)))) (inr (_, inr (_
 first-one m n w c request x y (inr (_, inr (_, inr (_, inr (never, _))))) (inr (_, inr (_, inr b))) = absurd never
 
 treated-one : (m n : Mood) (w : RunState) (c : ℕ) (request : Req) (x y : Note) → m.dry ≡ false → n.dry ≡ false → GivesDue m w c (Treat (Whole request)) x → GivesDue n w c (Treat (Whole request)) y → x ≡ y
-treated-one m n w c request x y calm quiet (inl a) (inl b) = first-one m n w c request x y a b
-treated-one m n w c request x y calm quiet (inl a) (inr dry) = absurd (let wants : n.dry ≡ true = dry.0 in let no : ⊥ = cc in no)
-treated-one m n w c request x y calm quiet (inr dry) b = absurd (let wants : m.dry ≡ true = dry.0 in let no : ⊥ = cc in no)
+treated-one m n w c request x y not_dry other_not_dry (inl a) (inl b) = first-one m n w c request x y a b
+treated-one m n w c request x y not_dry other_not_dry (inl a) (inr dry) = absurd (let is_dry : n.dry ≡ true = dry.0 in let no : ⊥ = cc in no)
+treated-one m n w c request x y not_dry other_not_dry (inr dry) b = absurd (let is_dry : m.dry ≡ true = dry.0 in let no : ⊥ = cc in no)
 
 gives-one : (m n : Mood) (w : RunState) (c : ℕ) (owed : Due) (x y : Note) → m.dry ≡ false → n.dry ≡ false → GivesDue m w c owed x → GivesDue n w c owed y → x ≡ y
-gives-one m n w c (Send slot) x y calm quiet a b =
-    let same : a.0 ≡ b.0 = written-same slot slot.response a.0 b.0 (calm-sent m slot a.0 calm a.2) (calm-sent n slot b.0 quiet b.2) in
+gives-one m n w c (Send slot) x y not_dry other_not_dry a b =
+    let same : a.0 ≡ b.0 = written-same slot slot.response a.0 b.0 (sent-not-dry m slot a.0 not_dry a.2) (sent-not-dry n slot b.0 other_not_dry b.2) in
     a.1 ∙ ap (Sent c) same ∙ sym b.1
-gives-one m n w c (Treat Continue) x y calm quiet a b = absurd a
-gives-one m n w c (Treat (Whole request)) x y calm quiet a b = treated-one m n w c request x y calm quiet a b
-gives-one m n w c (Refuse fault) x y calm quiet a b = a ∙ sym b
-gives-one m n w c Close x y calm quiet a b = a ∙ sym b
-gives-one m n w c Nothing x y calm quiet a b = absurd a
+gives-one m n w c (Treat Continue) x y not_dry other_not_dry a b = absurd a
+gives-one m n w c (Treat (Whole request)) x y not_dry other_not_dry a b = treated-one m n w c request x y not_dry other_not_dry a b
+gives-one m n w c (Refuse fault) x y not_dry other_not_dry a b = a ∙ sym b
+gives-one m n w c Close x y not_dry other_not_dry a b = a ∙ sym b
+gives-one m n w c Nothing x y not_dry other_not_dry a b = absurd a
 
 -- ---- all that a connection is owed
 serves-one : (m n : Mood) (w : RunState) (c : ℕ) (xs ys : List Note) → m.dry ≡ false → n.dry ≡ false → Serves m w c xs → Serves n w c ys → due_of_connection (state_after_notes w xs) c ≡ Nothing → due_of_connection (state_after_notes w ys) c ≡ Nothing → xs ≡ ys
-serves-one m n w c [] [] calm quiet a b idle still = refl
-serves-one m n w c [] (y ∷ ys) calm quiet a b idle still = absurd (subst (λ owed. GivesDue n w c owed y) idle b.0)
-serves-one m n w c (x ∷ xs) [] calm quiet a b idle still = absurd (subst (λ owed. GivesDue m w c owed x) still a.0)
-serves-one m n w c (x ∷ xs) (y ∷ ys) calm quiet a b idle still =
-    let same : y ≡ x = gives-one n m w c (due_of_connection w c) y x quiet calm b.0 a.0 in
+serves-one m n w c [] [] not_dry other_not_dry a b idle still = refl
+serves-one m n w c [] (y ∷ ys) not_dry other_not_dry a b idle still = absurd (subst (λ owed. GivesDue n w c owed y) idle b.0)
+serves-one m n w c (x ∷ xs) [] not_dry other_not_dry a b idle still = absurd (subst (λ owed. GivesDue m w c owed x) still a.0)
+serves-one m n w c (x ∷ xs) (y ∷ ys) not_dry other_not_dry a b idle still =
+    let same : y ≡ x = gives-one n m w c (due_of_connection w c) y x other_not_dry not_dry b.0 a.0 in
     let serves : Serves n (state_after_note w x) c ys = subst (λ note. Serves n (state_after_note w note) c ys) same b.1 in
     let ends : due_of_connection (state_after_notes (state_after_note w x) ys) c ≡ Nothing = subst (λ note. due_of_connection (state_after_notes (state_after_note w note) ys) c ≡ Nothing) same still in
-    let rest = serves-one m n (state_after_note w x) c xs ys calm quiet a.1 serves idle ends in
+    let rest = serves-one m n (state_after_note w x) c xs ys not_dry other_not_dry a.1 serves idle ends in
     λ i. sym same i ∷ rest i
 
 settles-one : (m n : Mood) (w : RunState) (c : ℕ) (xs ys : List Note) → m.dry ≡ false → n.dry ≡ false → Settles m w c xs → Settles n w c ys → xs ≡ ys
-settles-one m n w c xs ys calm quiet a b = serves-one m n w c xs ys calm quiet a.serves b.serves a.idle b.idle
+settles-one m n w c xs ys not_dry other_not_dry a b = serves-one m n w c xs ys not_dry other_not_dry a.serves b.serves a.idle b.idle
 
 leads-one : (m n : Mood) (w : RunState) (first : Note) (c : ℕ) (xs ys : List Note) → m.dry ≡ false → n.dry ≡ false → LeadsNotes w m first c xs → LeadsNotes w n first c ys → xs ≡ ys
-leads-one m n w first c xs ys calm quiet a b =
-    let same : a.rest ≡ b.rest = settles-one m n (state_after_note w first) c a.rest b.rest calm quiet a.settles b.settles in
+leads-one m n w first c xs ys not_dry other_not_dry a b =
+    let same : a.rest ≡ b.rest = settles-one m n (state_after_note w first) c a.rest b.rest not_dry other_not_dry a.settles b.settles in
     a.begins ∙ ap (λ rest. first ∷ rest) same ∙ sym b.begins
 
 -- ---- an event
 wanted-one : (m n : Mood) (a b wanted : Answer) → m.dry ≡ false → n.dry ≡ false → IsOrFixed m a wanted → IsOrFixed n b wanted → a ≡ b
-wanted-one m n a b wanted calm quiet (inl x) (inl y) = x.0 ∙ sym y.0
-wanted-one m n a b wanted calm quiet (inl x) (inr dry) = absurd (let wants : n.dry ≡ true = dry.1 in let no : ⊥ = cc in no)
-wanted-one m n a b wanted calm quiet (inr dry) y = absurd (let wants : m.dry ≡ true = dry.1 in let no : ⊥ = cc in no)
+wanted-one m n a b wanted not_dry other_not_dry (inl x) (inl y) = x.0 ∙ sym y.0
+wanted-one m n a b wanted not_dry other_not_dry (inl x) (inr dry) = absurd (let is_dry : n.dry ≡ true = dry.1 in let no : ⊥ = cc in no)
+wanted-one m n a b wanted not_dry other_not_dry (inr dry) y = absurd (let is_dry : m.dry ≡ true = dry.1 in let no : ⊥ = cc in no)
 
 -- two events of one step have the same notes and leave the same state
 pub record IsOneEvent (w : RunState) (e f : Event) (s : Step) : Type 0 where
@@ -107,11 +107,11 @@ turns-one law stream turns a b end last one two =
 
 piece-one : Beginnings → (w : RunState) (e f : Event) (c : ℕ) (bytes : List ℕ) (at : Option Connection) → w.line c ≡ at → IsSameEndOf at e.ends f.ends → e.mood.dry ≡ false → f.mood.dry ≡ false → PieceTo w e c bytes at → PieceTo w f c bytes at
     → IsOneEvent w e f (step.Piece c bytes)
-piece-one law w e f c bytes None line ends calm quiet a b = record { body = a ∙ sym b; state = on-none w c (with_piece bytes e.turns e.ends) (with_piece bytes f.turns f.ends) line }
-piece-one law w e f c bytes (Some k) line ends calm quiet a b =
+piece-one law w e f c bytes None line ends not_dry other_not_dry a b = record { body = a ∙ sym b; state = on-none w c (with_piece bytes e.turns e.ends) (with_piece bytes f.turns f.ends) line }
+piece-one law w e f c bytes (Some k) line ends not_dry other_not_dry a b =
     let same = on-some w c (with_piece bytes e.turns e.ends) (with_piece bytes f.turns f.ends) k line (by_closing k.closing refl) in
     record {
-      body = settles-one e.mood f.mood (on_line w c (with_piece bytes e.turns e.ends)) c e.body f.body calm quiet a.settles (subst (λ v. Settles f.mood v c f.body) (sym same) b.settles);
+      body = settles-one e.mood f.mood (on_line w c (with_piece bytes e.turns e.ends)) c e.body f.body not_dry other_not_dry a.settles (subst (λ v. Settles f.mood v c f.body) (sym same) b.settles);
       state = same;
     }
   where
@@ -122,57 +122,57 @@ piece-one law w e f c bytes (Some k) line ends calm quiet a b =
         ap (λ ts. with_piece bytes ts e.ends k) turns ∙ ap (λ end. with_piece bytes f.turns end k) (ends is)
 
 render-one : (w : RunState) (e f : Event) (flying : Option Flying) → e.mood.dry ≡ false → f.mood.dry ≡ false → RenderTo w e flying → RenderTo w f flying → e.body ≡ f.body
-render-one w e f None calm quiet a b = a ∙ sym b
-render-one w e f (Some g) calm quiet a b = a.2 ∙ ap (λ answer. Rendered g.number answer ∷ []) (wanted-one e.mood f.mood a.0 b.0 _ calm quiet a.1 b.1) ∙ sym b.2
+render-one w e f None not_dry other_not_dry a b = a ∙ sym b
+render-one w e f (Some g) not_dry other_not_dry a b = a.2 ∙ ap (λ answer. Rendered g.number answer ∷ []) (wanted-one e.mood f.mood a.0 b.0 _ not_dry other_not_dry a.1 b.1) ∙ sym b.2
 
 deliver-one : (w : RunState) (e f : Event) (g : Flying) (answer : Option Answer) → e.mood.dry ≡ false → f.mood.dry ≡ false → DeliverAs w e g answer → DeliverAs w f g answer → e.body ≡ f.body
-deliver-one w e f g None calm quiet a b = a ∙ sym b
-deliver-one w e f g (Some answer) calm quiet a b =
+deliver-one w e f g None not_dry other_not_dry a b = a ∙ sym b
+deliver-one w e f g (Some answer) not_dry other_not_dry a b =
     let first : LeadsNotes w e.mood (Passed g.number) g.line e.body = subst (λ note. LeadsNotes w e.mood note g.line e.body) a.1 a.2 in
     let second : LeadsNotes w f.mood (Passed g.number) g.line f.body = subst (λ note. LeadsNotes w f.mood note g.line f.body) b.1 b.2 in
-    leads-one e.mood f.mood w (Passed g.number) g.line e.body f.body calm quiet first second
+    leads-one e.mood f.mood w (Passed g.number) g.line e.body f.body not_dry other_not_dry first second
 
 delivers-one : (w : RunState) (e f : Event) (flying : Option Flying) → e.mood.dry ≡ false → f.mood.dry ≡ false → DeliverTo w e flying → DeliverTo w f flying → e.body ≡ f.body
-delivers-one w e f None calm quiet a b = a ∙ sym b
-delivers-one w e f (Some g) calm quiet a b = deliver-one w e f g g.rendered calm quiet a b
+delivers-one w e f None not_dry other_not_dry a b = a ∙ sym b
+delivers-one w e f (Some g) not_dry other_not_dry a b = deliver-one w e f g g.rendered not_dry other_not_dry a b
 
 loses-one : (w : RunState) (e f : Event) (flying : Option Flying) → e.mood.dry ≡ false → f.mood.dry ≡ false → LoseTo w e flying → LoseTo w f flying → e.body ≡ f.body
-loses-one w e f None calm quiet a b = a ∙ sym b
-loses-one w e f (Some g) calm quiet a b = leads-one e.mood f.mood w (Lost g.number) g.line e.body f.body calm quiet a b
+loses-one w e f None not_dry other_not_dry a b = a ∙ sym b
+loses-one w e f (Some g) not_dry other_not_dry a b = leads-one e.mood f.mood w (Lost g.number) g.line e.body f.body not_dry other_not_dry a b
 
 step-one : Beginnings → (w : RunState) (e f : Event) (s : Step) → IsSameEnd w s e.ends f.ends → e.mood.dry ≡ false → f.mood.dry ≡ false → HappensBy w e s → HappensBy w f s → IsOneEvent w e f s
-step-one law w e f (step.Opened c peer) ends calm quiet a b = record { body = a ∙ sym b; state = refl }
-step-one law w e f (step.Piece c bytes) ends calm quiet a b = piece-one law w e f c bytes (w.line c) refl ends calm quiet a b
-step-one law w e f (step.Gone c) ends calm quiet a b = record { body = a ∙ sym b; state = refl }
-step-one law w e f (step.Direct target) ends calm quiet a b = record { body = a.2 ∙ ap (λ answer. answered answer ∷ []) (wanted-one e.mood f.mood a.0 b.0 _ calm quiet a.1 b.1) ∙ sym b.2; state = refl }
-step-one law w e f (step.Render pick) ends calm quiet a b = record { body = render-one w e f (picked_flight pick is_unrendered w.air) calm quiet a b; state = refl }
-step-one law w e f (step.Deliver pick) ends calm quiet a b = record { body = delivers-one w e f (picked_flight pick is_rendered w.air) calm quiet a b; state = refl }
-step-one law w e f (step.Lose pick) ends calm quiet a b = record { body = loses-one w e f (picked_flight pick is_any w.air) calm quiet a b; state = refl }
+step-one law w e f (step.Opened c peer) ends not_dry other_not_dry a b = record { body = a ∙ sym b; state = refl }
+step-one law w e f (step.Piece c bytes) ends not_dry other_not_dry a b = piece-one law w e f c bytes (w.line c) refl ends not_dry other_not_dry a b
+step-one law w e f (step.Gone c) ends not_dry other_not_dry a b = record { body = a ∙ sym b; state = refl }
+step-one law w e f (step.Direct target) ends not_dry other_not_dry a b = record { body = a.2 ∙ ap (λ answer. answered answer ∷ []) (wanted-one e.mood f.mood a.0 b.0 _ not_dry other_not_dry a.1 b.1) ∙ sym b.2; state = refl }
+step-one law w e f (step.Render pick) ends not_dry other_not_dry a b = record { body = render-one w e f (picked_flight pick is_unrendered w.air) not_dry other_not_dry a b; state = refl }
+step-one law w e f (step.Deliver pick) ends not_dry other_not_dry a b = record { body = delivers-one w e f (picked_flight pick is_rendered w.air) not_dry other_not_dry a b; state = refl }
+step-one law w e f (step.Lose pick) ends not_dry other_not_dry a b = record { body = loses-one w e f (picked_flight pick is_any w.air) not_dry other_not_dry a b; state = refl }
 
 -- ---- a run
-calm-notes : (e : Event) → e.mood.dry ≡ false → notes_of e ≡ e.body
-calm-notes e calm =
-    let none : mood_notes e.mood ≡ [] = rw calm refl in
+notes-not-dry : (e : Event) → e.mood.dry ≡ false → notes_of e ≡ e.body
+notes-not-dry e not_dry =
+    let none : mood_notes e.mood ≡ [] = rw not_dry refl in
     ap (λ notes. e.body ++ notes) none ∙ append-nil e.body
 
 state-one : (w : RunState) (e f : Event) → e.step ≡ f.step → IsOneEvent w e f e.step → after_event w e ≡ after_event w f
 state-one w e f same event = ap (λ v. state_after_notes v e.body) event.state ∙ ap (λ notes. state_after_notes (state_before_notes w f e.step) notes) event.body ∙ ap (λ s. state_after_notes (state_before_notes w f s) f.body) same
 
 run-one : Beginnings → (w : RunState) (a b : List Event) → Run w a → Run w b → event_steps a ≡ event_steps b → EndAlike w a b → HaveNoDryEvent a → HaveNoDryEvent b → event_notes a ≡ event_notes b
-run-one law w [] [] one two steps ends calm quiet = refl
-run-one law w [] (f ∷ b) one two steps ends calm quiet = absurd (let no : ⊥ = cc in no)
-run-one law w (e ∷ a) [] one two steps ends calm quiet = absurd (let no : ⊥ = cc in no)
-run-one law w (e ∷ a) (f ∷ b) one two steps ends calm quiet =
+run-one law w [] [] one two steps ends not_dry other_not_dry = refl
+run-one law w [] (f ∷ b) one two steps ends not_dry other_not_dry = absurd (let no : ⊥ = cc in no)
+run-one law w (e ∷ a) [] one two steps ends not_dry other_not_dry = absurd (let no : ⊥ = cc in no)
+run-one law w (e ∷ a) (f ∷ b) one two steps ends not_dry other_not_dry =
     let same : e.step ≡ f.step = cc in
     let more : event_steps a ≡ event_steps b = cc in
     let happens : HappensBy w f e.step = subst (HappensBy w f) (sym same) two.0.0 in
-    let event = step-one law w e f e.step ends.0 calm.0 quiet.0 one.0.0 happens in
-    let rest = run-one law (after_event w e) a b one.1 (subst (λ v. Run v b) (sym (state-one w e f same event)) two.1) more ends.1 calm.1 quiet.1 in
-    let notes : notes_of e ≡ notes_of f = calm-notes e calm.0 ∙ event.body ∙ sym (calm-notes f quiet.0) in
+    let event = step-one law w e f e.step ends.0 not_dry.0 other_not_dry.0 one.0.0 happens in
+    let rest = run-one law (after_event w e) a b one.1 (subst (λ v. Run v b) (sym (state-one w e f same event)) two.1) more ends.1 not_dry.1 other_not_dry.1 in
+    let notes : notes_of e ≡ notes_of f = notes-not-dry e not_dry.0 ∙ event.body ∙ sym (notes-not-dry f other_not_dry.0) in
     λ i. notes i ∷ rest i
 
-pub calm-runs : Beginnings → RunsWithoutDryEventsAreOne
-calm-runs law publishing farm content a b = run-one law (start_of publishing farm content) a b
+pub runs-without-dry-events : Beginnings → RunsWithoutDryEventsAreOne
+runs-without-dry-events law publishing farm content a b = run-one law (start_of publishing farm content) a b
 
 -- ---- where streams end alike
 abbrev pub OneEnd : Type 0
@@ -196,15 +196,15 @@ step-ends law one w e f (step.Deliver pick) closed a b = tt
 step-ends law one w e f (step.Lose pick) closed a b = tt
 
 run-ends : Beginnings → OneEnd → (w : RunState) (a b : List Event) → Run w a → Run w b → event_steps a ≡ event_steps b → HaveNoDryEvent a → HaveNoDryEvent b → LeaveNoEndOpen w a → EndAlike w a b
-run-ends law end w [] b one two steps calm quiet closed = tt
-run-ends law end w (e ∷ a) [] one two steps calm quiet closed = tt
-run-ends law end w (e ∷ a) (f ∷ b) one two steps calm quiet closed =
+run-ends law end w [] b one two steps not_dry other_not_dry closed = tt
+run-ends law end w (e ∷ a) [] one two steps not_dry other_not_dry closed = tt
+run-ends law end w (e ∷ a) (f ∷ b) one two steps not_dry other_not_dry closed =
     let same : e.step ≡ f.step = cc in
     let more : event_steps a ≡ event_steps b = cc in
     let happens : HappensBy w f e.step = subst (HappensBy w f) (sym same) two.0.0 in
     let alike = step-ends law end w e f e.step closed.0 one.0.0 happens in
-    let event = step-one law w e f e.step alike calm.0 quiet.0 one.0.0 happens in
-    (alike, run-ends law end (after_event w e) a b one.1 (subst (λ v. Run v b) (sym (state-one w e f same event)) two.1) more calm.1 quiet.1 closed.1)
+    let event = step-one law w e f e.step alike not_dry.0 other_not_dry.0 one.0.0 happens in
+    (alike, run-ends law end (after_event w e) a b one.1 (subst (λ v. Run v b) (sym (state-one w e f same event)) two.1) more not_dry.1 other_not_dry.1 closed.1)
 
-pub calm-ends : Beginnings → OneEnd → StreamsWithoutDryEventsEndAlike
-calm-ends law end publishing farm content a b = run-ends law end (start_of publishing farm content) a b
+pub ends-without-dry-events : Beginnings → OneEnd → StreamsWithoutDryEventsEndAlike
+ends-without-dry-events law end publishing farm content a b = run-ends law end (start_of publishing farm content) a b

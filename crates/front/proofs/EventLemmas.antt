@@ -14,7 +14,7 @@ use Rattle.error_answers.specs.Errors.{error_answer}
 use Rattle.http_front.specs.Turns.{Waits}
 use Rattle.connections.specs.Connections.{with_piece, fresh}
 use Rattle.front.specs.Boards.{BoardTied, FirstThen, IsToldEvent, Landing, ReadAt, SettlesDry, SkyTied, event_of}
-use Rattle.front.specs.Events.{DeliverAs, DeliverTo, Event, IsWanting, LeadsNotes, LoseTo, PieceTo, SomeShowsLack, after_event, state_after_going, going, is_any, is_picked, is_rendered, most_lines, state_after_opening, opening, picked_flight}
+use Rattle.front.specs.Events.{DeliverAs, DeliverTo, Event, ShowsLackIfDry, LeadsNotes, LoseTo, PieceTo, SomeShowsLack, after_event, state_after_going, going, is_any, is_picked, is_rendered, most_lines, state_after_opening, opening, picked_flight}
 use Rattle.front.specs.Lines.{LineHolds}
 use Rattle.connections.specs.Slots.{fixed_answer}
 use Rattle.front.specs.Moves.{state_after_note, state_after_notes, Settles, answer_in, flight_at, on_line, over_with, without}
@@ -28,7 +28,7 @@ use Rattle.front.specs.declared.sky.Sky.{Sky}
 use Rattle.front.specs.declared.step.Pick.{Pick}
 use Rattle.front.specs.declared.step.Step.TheVariants.{Deliver, Gone, Lose, Opened, Piece}
 use Rattle.front.specs.declared.told.Told.{Told}
-use Rattle.front.proofs.BoardLemmas.{at-other, calm-wanting, is-none, lines-after, lines-without, one-fewer, some-of, tied-none, tied-some}
+use Rattle.front.proofs.BoardLemmas.{at-other, dry-and-not-dry, is-none, lines-after, lines-without, one-fewer, some-of, tied-none, tied-some}
 use Rattle.front.proofs.MoveLemmas.{Frame}
 use Rattle.front.proofs.SkyLemmas.{found-none, found-passes, found-some, place, rising-remove}
 
@@ -50,15 +50,15 @@ free-opened : (w : RunState) (c : ℕ) (peer : List ℕ) → nat_le most_lines w
 free-opened w c peer free = rw free refl
 
 pub opened-full : {farm : Farm} (b : Board) (w : RunState) (c : ℕ) (peer : List ℕ) (told : Told) → BoardTied farm b w → get nat_cmp b.lines c ≡ None → most_lines ≤ btree_map_len b.lines → told.notes.items ≡ Refused c ∷ [] → told.dry ≡ false → IsToldEvent (BoardTied farm b) w (Opened c peer) told
-opened-full {farm} b w c peer told tied absent many notes calm =
+opened-full {farm} b w c peer told tied absent many notes not_dry =
     let none : w.line c ≡ None = tied-none _ _ (tied.lines.each c) absent in
     let full : nat_le most_lines w.lines ≡ true = grind (arith, many, tied.lines.count) in
     let state : state_after_notes (state_after_opening w c peer (w.line c)) told.notes.items ≡ w = ap (state_after_notes (state_after_opening w c peer (w.line c))) notes ∙ ap (state_after_opening w c peer) none ∙ full-opened w c peer full in
-    record { turns = []; ends = Waits; happens = notes ∙ sym (ap (opening c w.lines) none ∙ full-opening c w.lines full); wanting = calm-wanting told.dry calm; stands = subst (BoardTied farm b) (sym state) tied }
+    record { turns = []; ends = Waits; happens = notes ∙ sym (ap (opening c w.lines) none ∙ full-opening c w.lines full); shows_lack = dry-and-not-dry told.dry not_dry; stands = subst (BoardTied farm b) (sym state) tied }
 
 pub opened-new : {farm : Farm} (b : Board) (w : RunState) (c : ℕ) (peer : List ℕ) (k : Line) (lines : BTreeMap ℕ Line) (told : Told) → BoardTied farm b w → get nat_cmp b.lines c ≡ None → btree_map_len b.lines < most_lines
     → LineHolds k (fresh peer) → Updates nat_cmp b.lines lines c (Some k) → btree_map_len lines ≡ btree_map_len b.lines + 1 → told.notes.items ≡ [] → told.dry ≡ false → IsToldEvent (BoardTied farm (record { lines = lines; sky = b.sky })) w (Opened c peer) told
-opened-new {farm} b w c peer k lines told tied absent few holds updates more notes calm =
+opened-new {farm} b w c peer k lines told tied absent few holds updates more notes not_dry =
     let none : w.line c ≡ None = tied-none _ _ (tied.lines.each c) absent in
     let free : nat_le most_lines w.lines ≡ false = grind (arith, few, tied.lines.count) in
     let v : RunState = record w { line = update nat_eq w.line c (Some (fresh peer)); lines = w.lines + 1 } in
@@ -67,7 +67,7 @@ opened-new {farm} b w c peer k lines told tied absent few holds updates more not
       turns = [];
       ends = Waits;
       happens = notes ∙ sym (ap (opening c w.lines) none ∙ free-opening c w.lines free);
-      wanting = calm-wanting told.dry calm;
+      shows_lack = dry-and-not-dry told.dry not_dry;
       stands = subst (BoardTied farm (record { lines = lines; sky = b.sky })) (sym state) (record {
         farm_is = tied.farm_is;
         lines = record {
@@ -101,12 +101,12 @@ piece-there {farm} b g h w c bytes told tied read settled =
       turns = got.turns;
       ends = got.ends;
       happens = subst (PieceTo w e c bytes) (sym line.open_is) (record { spells = got.spells; settles = done.0.0 (record { dry = told.dry }) (λ is. is) });
-      wanting = done.0.1;
+      shows_lack = done.0.1;
       stands = done.1;
     }
 
 pub piece-none : {farm : Farm} (b : Board) (w : RunState) (c : ℕ) (bytes : List ℕ) (told : Told) → BoardTied farm b w → is_some (get nat_cmp b.lines c) ≡ false → told.notes.items ≡ Idle ∷ [] → told.dry ≡ false → IsToldEvent (BoardTied farm b) w (Piece c bytes) told
-piece-none {farm} b w c bytes told tied absent notes calm =
+piece-none {farm} b w c bytes told tied absent notes not_dry =
     let none : w.line c ≡ None = tied-none _ _ (tied.lines.each c) (is-none _ absent) in
     let e : Event = event_of (Piece c bytes) told [] Waits in
     let v = on_line w c (with_piece bytes [] Waits) in
@@ -119,7 +119,7 @@ piece-none {farm} b w c bytes told tied absent notes calm =
       turns = [];
       ends = Waits;
       happens = subst (PieceTo w e c bytes) (sym none) notes;
-      wanting = calm-wanting told.dry calm;
+      shows_lack = dry-and-not-dry told.dry not_dry;
       stands = subst (BoardTied farm b) (sym state) (record {
         farm_is = tied.farm_is;
         lines = record { each = λ q. rw (same q) (tied.lines.each q); count = tied.lines.count };
@@ -130,7 +130,7 @@ piece-none {farm} b w c bytes told tied absent notes calm =
 -- ---- a connection is gone
 pub gone-there : {farm : Farm} (b : Board) (w : RunState) (c : ℕ) (lines : BTreeMap ℕ Line) (o : Option Line) (told : Told) → BoardTied farm b w → is_some (get nat_cmp b.lines c) ≡ true → Updates nat_cmp b.lines lines c None
     → o ≡ get nat_cmp b.lines c → btree_map_len lines + (if is_some o then 1 else 0) ≡ btree_map_len b.lines → told.notes.items ≡ [] → told.dry ≡ false → IsToldEvent (BoardTied farm (record { lines = lines; sky = b.sky })) w (Gone c) told
-gone-there {farm} b w c lines o told tied there updates was len notes calm =
+gone-there {farm} b w c lines o told tied there updates was len notes not_dry =
     let some = some-of _ there in
     let fewer = one-fewer o some.0 _ _ (was ∙ some.1) len in
     let line = tied-some _ _ some.0 (tied.lines.each c) some.1 in
@@ -140,7 +140,7 @@ gone-there {farm} b w c lines o told tied there updates was len notes calm =
       turns = [];
       ends = Waits;
       happens = notes ∙ sym (ap going line.open_is);
-      wanting = calm-wanting told.dry calm;
+      shows_lack = dry-and-not-dry told.dry not_dry;
       stands = subst (BoardTied farm (record { lines = lines; sky = b.sky })) (sym state) (record {
         farm_is = tied.farm_is;
         lines = lines-without b.lines lines w v c tied.lines updates fewer (update_here w.line c None) (λ q other. update_apart w.line c None q other) (omega (arith, fewer, tied.lines.count));
@@ -149,14 +149,14 @@ gone-there {farm} b w c lines o told tied there updates was len notes calm =
     }
 
 pub gone-none : {farm : Farm} (b : Board) (w : RunState) (c : ℕ) (told : Told) → BoardTied farm b w → is_some (get nat_cmp b.lines c) ≡ false → told.notes.items ≡ Idle ∷ [] → told.dry ≡ false → IsToldEvent (BoardTied farm b) w (Gone c) told
-gone-none {farm} b w c told tied absent notes calm =
+gone-none {farm} b w c told tied absent notes not_dry =
     let none : w.line c ≡ None = tied-none _ _ (tied.lines.each c) (is-none _ absent) in
     let state : state_after_notes (state_after_going w c (w.line c)) told.notes.items ≡ w = ap (state_after_notes (state_after_going w c (w.line c))) notes ∙ ap (state_after_going w c) none in
     record {
       turns = [];
       ends = Waits;
       happens = notes ∙ sym (ap going none);
-      wanting = calm-wanting told.dry calm;
+      shows_lack = dry-and-not-dry told.dry not_dry;
       stands = subst (BoardTied farm b) (sym state) tied;
     }
 
@@ -184,34 +184,34 @@ picked-none sky w pick can tied none = ap (find (λ flying. is_picked pick flyin
 
 pub delivered-none : {farm : Farm} (b : Board) (w : RunState) (pick : Pick) (told : Told) → BoardTied farm b w → position (λ flying. is_picked pick flying && is_rendered flying) b.sky.flights.items ≡ None → told.notes.items ≡ Idle ∷ [] → told.dry ≡ false
     → IsToldEvent (BoardTied farm b) w (Deliver pick) told
-delivered-none {farm} b w pick told tied none notes calm =
+delivered-none {farm} b w pick told tied none notes not_dry =
     let e : Event = event_of (Deliver pick) told [] Waits in
     record {
       turns = [];
       ends = Waits;
       happens = subst (DeliverTo w e) (sym (picked-none b.sky w pick is_rendered tied.sky none)) notes;
-      wanting = calm-wanting told.dry calm;
+      shows_lack = dry-and-not-dry told.dry not_dry;
       stands = subst (BoardTied farm b) (sym (ap (state_after_notes w) notes)) tied;
     }
 
 pub lost-none : {farm : Farm} (b : Board) (w : RunState) (pick : Pick) (told : Told) → BoardTied farm b w → position (λ flying. is_picked pick flying && is_any flying) b.sky.flights.items ≡ None → told.notes.items ≡ Idle ∷ [] → told.dry ≡ false
     → IsToldEvent (BoardTied farm b) w (Lose pick) told
-lost-none {farm} b w pick told tied none notes calm =
+lost-none {farm} b w pick told tied none notes not_dry =
     let e : Event = event_of (Lose pick) told [] Waits in
     record {
       turns = [];
       ends = Waits;
       happens = subst (LoseTo w e) (sym (picked-none b.sky w pick is_any tied.sky none)) notes;
-      wanting = calm-wanting told.dry calm;
+      shows_lack = dry-and-not-dry told.dry not_dry;
       stands = subst (BoardTied farm b) (sym (ap (state_after_notes w) notes)) tied;
     }
 
 -- a first note, and then what the connection is owed
-leads : {farm : Farm} (w v : RunState) (first : Note) (c : ℕ) (told : Told) (h : Board) → state_after_note w first ≡ v → FirstThen first farm v c told h → LeadsNotes w (record { dry = told.dry }) first c told.notes.items × BoardTied farm h (state_after_notes w told.notes.items) × IsWanting w (record { dry = told.dry }) told.notes.items
+leads : {farm : Farm} (w v : RunState) (first : Note) (c : ℕ) (told : Told) (h : Board) → state_after_note w first ≡ v → FirstThen first farm v c told h → LeadsNotes w (record { dry = told.dry }) first c told.notes.items × BoardTied farm h (state_after_notes w told.notes.items) × ShowsLackIfDry w (record { dry = told.dry }) told.notes.items
 leads {farm} w v first c told h is led = (
   record { rest = led.rest; begins = led.begins; settles = subst (λ u. Settles (record { dry = told.dry }) u c led.rest) (sym is) (led.settles.0 (record { dry = told.dry }) (λ x. x)) },
   subst (BoardTied farm h) (sym (ap (state_after_notes w) led.begins ∙ ap (λ u. state_after_notes u led.rest) is)) led.board_is,
-  λ wanting. subst (SomeShowsLack w) (sym led.begins) (inr (subst (λ u. SomeShowsLack u led.rest) (sym is) (led.settles.1 wanting))),
+  λ is_dry. subst (SomeShowsLack w) (sym led.begins) (inr (subst (λ u. SomeShowsLack u led.rest) (sym is) (led.settles.1 is_dry))),
 )
 
 pub delivered : {farm : Farm} (b h : Board) (sky : Sky) (w : RunState) (pick : Pick) (at : ℕ) (f : Flying) (answer : Answer) (told : Told) → BoardTied farm b w
@@ -238,7 +238,7 @@ delivered {farm} b h sky w pick at f answer told tied found here rendered flight
       turns = [];
       ends = Waits;
       happens = subst (DeliverTo w e) (sym (picked-there b.sky w pick is_rendered at f tied.sky found here)) lands;
-      wanting = done.2;
+      shows_lack = done.2;
       stands = done.1;
     }
 
@@ -263,7 +263,7 @@ lost {farm} b h sky w pick at f told tied found here flights asked finished =
       turns = [];
       ends = Waits;
       happens = subst (LoseTo w e) (sym (picked-there b.sky w pick is_any at f tied.sky found here)) done.0;
-      wanting = done.2;
+      shows_lack = done.2;
       stands = done.1;
     }
 

@@ -1,10 +1,11 @@
 -- Whole steps of a front.
-use Rattle.std.proofs.Common.{◌≡◌, ℕ, ◌||◌, ◌&&◌, ◌++◌, Bool, true, false, List, [], ◌∷◌, Some, None, Result, Ok, Err, map, refl, ap, sym, subst, ◌∙◌, ◌⊎◌, inl, inr}
+use Rattle.std.proofs.Common.{◌≡◌, ℕ, ◌||◌, ◌&&◌, ◌++◌, Bool, true, false, List, [], ◌∷◌, Some, None, Result, Ok, Err, get_or, map, refl, ap, sym, subst, ◌∙◌, ◌⊎◌, inl, inr}
 use Rattle.std.specs.Prelude.{◌==◌, ◌≢◌, IfOk, IsTrue, OnErr, OnOk, if◌then◌else◌, position, slice_get, slice_set}
 use Rattle.std.proofs.lemmas.Bool.{ne_eqb}
 use Rattle.std.specs.Ordering.{nat_cmp}
 use Rattle.std.specs.BTreeMap.{BTreeMap, get, WritesThrough}
 use Rattle.sp_base.specs.declared.answer.Answer.{Answer}
+use Rattle.sp_base.specs.declared.answer.Ask.{Ask}
 use Rattle.resource_tree.specs.Content.{Content}
 use Rattle.any_config.specs.declared.farm.Farm.{Farm}
 use Rattle.dispatch_rules.specs.Asking.{publisher_ask}
@@ -29,9 +30,9 @@ use Rattle.front.specs.declared.step.Pick.{Pick}
 use Rattle.front.specs.declared.step.Step.{Step}
 use Rattle.front.specs.declared.step.Step.TheVariants.{Direct, Render}
 use Rattle.front.specs.declared.told.Told.{Told}
-use Rattle.front.proofs.BoardLemmas.{at-other, calm-wanting, some-there}
+use Rattle.front.proofs.BoardLemmas.{at-other, dry-and-not-dry, some-there}
 use Rattle.front.proofs.MoveLemmas.{IsStillStep, afters-push, serves-push, shows-push, step-same}
-use Rattle.front.proofs.SkyLemmas.{found-none, found-some, get-within, place, rising-set}
+use Rattle.front.proofs.SkyLemmas.{found-none, found-some, get-within, got, place, rising-set}
 
 -- what follows from what an answer is
 pub ok-map : {A E : Type 0} {P Q : A → Type 0} (r : Result A E) → IfOk r P → ((a : A) → P a → Q a) → IfOk r Q
@@ -68,7 +69,7 @@ or-either true b p q is = inl (p refl)
 or-either false b p q is = inr (q is)
 
 pub given-none : {farm : Farm} (told : Told) (w : RunState) (c : ℕ) (k : Line) (sky : Sky) → told.notes.items ≡ [] → told.dry ≡ false → Meets farm w c k sky → NotesGiven told.dry told.notes.items farm w c k sky
-given-none told w c k sky none calm meets = rw none (record { serves = λ m allows. tt; wanting = λ dry. absurd (let no : ⊥ = cc in no); meets = meets })
+given-none told w c k sky none not_dry meets = rw none (record { serves = λ m allows. tt; shows_lack = λ dry. absurd (let no : ⊥ = cc in no); meets = meets })
 
 pub given-more : {farm : Farm} (told next : Told) (w : RunState) (c : ℕ) (k j : Line) (sky new : Sky) (note : Note) (dry : Bool) → NotesGiven told.dry told.notes.items farm w c k sky
     → ((u : RunState) → Meets farm u c k sky → ServedAs (Said note dry) farm u c j new) → next.notes.items ≡ told.notes.items ++ note ∷ [] → next.dry ≡ (told.dry || dry) → NotesGiven next.dry next.notes.items farm w c j new
@@ -77,7 +78,7 @@ given-more {farm} told next w c k j sky new note dry given served notes dried =
     record {
       serves = λ m allows. subst (Serves m w c) (sym notes)
           (serves-push m w c told.notes.items note (given.serves m (λ is. allows (sym-true (or-left told.dry dry is)))) (one.0.0 m (λ is. allows (sym-true (or-right told.dry dry is)))));
-      wanting = λ is. subst (SomeShowsLack w) (sym notes) (shows-push w told.notes.items note (or-either told.dry dry given.wanting one.0.1 (sym dried ∙ is)));
+      shows_lack = λ is. subst (SomeShowsLack w) (sym notes) (shows-push w told.notes.items note (or-either told.dry dry given.shows_lack one.0.1 (sym dried ∙ is)));
       meets = subst (λ u. Meets farm u c j new) (sym (ap (state_after_notes w) notes ∙ afters-push w told.notes.items note)) one.1;
     }
   where
@@ -90,9 +91,9 @@ either (Ok a) answer wanted dry given ok = inl (given.0 ∙ ok, given.1)
 either (Err e) answer wanted dry given ok = inr given
 
 -- where memory runs out the answer is the fixed one
-fixed-wanting : (m : Mood) (answer wanted : Answer) → IsOrFixed m answer wanted → IsTrue m.dry → answer ≡ fixed_answer
-fixed-wanting m answer wanted (inl own) dry = absurd (let calm : m.dry ≡ false = own.1 in let no : ⊥ = cc in no)
-fixed-wanting m answer wanted (inr fixed) dry = fixed.0
+fixed-if-dry : (m : Mood) (answer wanted : Answer) → IsOrFixed m answer wanted → IsTrue m.dry → answer ≡ fixed_answer
+fixed-if-dry m answer wanted (inl own) dry = absurd (let not_dry : m.dry ≡ false = own.1 in let no : ⊥ = cc in no)
+fixed-if-dry m answer wanted (inr fixed) dry = fixed.0
 
 pub direct-event : (p : Publishing) (content later : Content) (farm other : Farm) (b h : Board) (target : List ℕ) (answer : Answer) (dry : Bool) (told : Told) → later ≡ content → other ≡ farm → h ≡ b
     → IsOrFixed (record { dry = dry }) answer (direct_answer p farm content target) → told.notes.items ≡ answered answer ∷ [] → told.dry ≡ dry → TellsStep (BoardStands p content farm b) (BoardStands p later other h) (Direct target) told
@@ -103,7 +104,7 @@ direct-event p content later farm other b h target answer dry told same_content 
       turns = [];
       ends = Waits;
       happens = (answer, or, notes);
-      wanting = λ dry. subst (SomeShowsLack w) (sym notes) (inl (fixed-wanting (record { dry = told.dry }) answer _ or dry));
+      shows_lack = λ dry. subst (SomeShowsLack w) (sym notes) (inl (fixed-if-dry (record { dry = told.dry }) answer _ or dry));
       stands = subst (BoardStands p later other h) (sym (ap (state_after_notes w) notes)) (record {
         publishing_is = stands.publishing_is;
         content_is = stands.content_is ∙ sym same_content;
@@ -114,14 +115,14 @@ direct-event p content later farm other b h target answer dry told same_content 
 -- ---- a flight is rendered
 pub render-none : (p : Publishing) (content : Content) (farm : Farm) (b : Board) (pick : Pick) (told : Told) → position (λ flying. is_picked pick flying && is_unrendered flying) b.sky.flights.items ≡ None → told.notes.items ≡ Idle ∷ [] → told.dry ≡ false
     → TellsStep (BoardStands p content farm b) (BoardStands p content farm b) (Render pick) told
-render-none p content farm b pick told none notes calm = λ w stands.
+render-none p content farm b pick told none notes not_dry = λ w stands.
     let e : Event = event_of (Render pick) told [] Waits in
     let no : picked_flight pick is_unrendered w.air ≡ None = ap (picked_flight pick is_unrendered) (sym stands.board_is.sky.air) ∙ found-none (λ flying. is_picked pick flying && is_unrendered flying) b.sky.flights.items none in
     record {
       turns = [];
       ends = Waits;
       happens = subst (RenderTo w e) (sym no) notes;
-      wanting = calm-wanting told.dry calm;
+      shows_lack = dry-and-not-dry told.dry not_dry;
       stands = subst (BoardStands p content farm b) (sym (ap (state_after_notes w) notes)) stands;
     }
 
@@ -152,6 +153,19 @@ pub ok-then : {A E : Type 0} {P Q : Type 0} (r : Result A E) → OnOk r P → (P
 ok-then (Ok a) p f = f p
 ok-then (Err e) p f = tt
 
+-- what is asked for the flight at a place
+asked-at : (farm : Farm) (ask : Ask) (flights : List Flying) (at : ℕ) (found flying : Flying) → ask ≡ publisher_ask farm found.request → found ≡ get_or flights at found → slice_get flights at ≡ Some flying
+    → ask ≡ publisher_ask farm flying.request
+asked-at farm ask flights at found flying asks is here = asks ∙ ap (λ (f : Flying). publisher_ask farm f.request) (got flights at found flying is here)
+
+pub answer-at : (p : Publishing) (content : Content) (farm : Farm) (ask : Ask) (flights : List Flying) (at : ℕ) (found flying : Flying) (answer : Answer) → answer ≡ (p content ask).answer
+    → ask ≡ publisher_ask farm found.request → found ≡ get_or flights at found → slice_get flights at ≡ Some flying → answer ≡ (p content (publisher_ask farm flying.request)).answer
+answer-at p content farm ask flights at found flying answer gives asks is here = gives ∙ ap (λ (a : Ask). (p content a).answer) (asked-at farm ask flights at found flying asks is here)
+
+pub content-at : (p : Publishing) (content later : Content) (farm : Farm) (ask : Ask) (flights : List Flying) (at : ℕ) (found flying : Flying) → later ≡ (p content ask).content
+    → ask ≡ publisher_ask farm found.request → found ≡ get_or flights at found → slice_get flights at ≡ Some flying → later ≡ (p content (publisher_ask farm flying.request)).content
+content-at p content later farm ask flights at found flying gives asks is here = gives ∙ ap (λ (a : Ask). (p content a).content) (asked-at farm ask flights at found flying asks is here)
+
 pub render-event : (p : Publishing) (content later : Content) (farm other : Farm) (b mid h : Board) (pick : Pick) (at n : ℕ) (answer copy : Answer) (dry : Bool) (told : Told) → other ≡ farm → mid ≡ b
     → position (λ flying. is_picked pick flying && is_unrendered flying) b.sky.flights.items ≡ Some at
     → ((f : Flying) → slice_get b.sky.flights.items at ≡ Some f → Renders (p content (publisher_ask farm f.request)) content later answer dry)
@@ -177,7 +191,7 @@ render-event p content later farm other b mid h pick at n answer copy dry told s
       turns = [];
       ends = Waits;
       happens = subst (RenderTo w e) (sym some) (answer, gives.answer_is, note);
-      wanting = λ dry. subst (SomeShowsLack w) (sym note) (inl (fixed-wanting (record { dry = told.dry }) answer _ gives.answer_is dry));
+      shows_lack = λ dry. subst (SomeShowsLack w) (sym note) (inl (fixed-if-dry (record { dry = told.dry }) answer _ gives.answer_is dry));
       stands = subst (BoardStands p later other h) (sym (ap (state_after_notes w) note)) (record {
         publishing_is = stands.publishing_is;
         content_is = ap (content_rendered w answer) number_is ∙ sym gives.content_is;
@@ -199,7 +213,7 @@ board-tells p content farm b h step told still tells = λ w stands.
       turns = done.turns;
       ends = done.ends;
       happens = done.happens;
-      wanting = done.wanting;
+      shows_lack = done.shows_lack;
       stands = record { publishing_is = stays.publishing ∙ stands.publishing_is; content_is = stays.content ∙ stands.content_is; board_is = done.stands };
     }
 
@@ -208,7 +222,7 @@ pub extends : (Before After : RunState → Type 0) (step : Step) (told : Told) (
 extends Before After step told notes tells is = record {
   extended = λ w before.
       let done = tells w before in
-      record { event = event_of step told done.turns done.ends; step_is = refl; notes_are = sym is; happens = (done.happens, done.wanting); stands = done.stands };
+      record { event = event_of step told done.turns done.ends; step_is = refl; notes_are = sym is; happens = (done.happens, done.shows_lack); stands = done.stands };
 }
 
 pub ok-map-two : {A E : Type 0} {P Q R : A → Type 0} (r : Result A E) → IfOk r P → IfOk r Q → ((a : A) → P a → Q a → R a) → IfOk r R

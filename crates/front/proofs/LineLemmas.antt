@@ -9,7 +9,7 @@ use Rattle.http_front.specs.declared.turn.Turn.{Turn}
 use Rattle.http_front.specs.declared.turn.Turn.TheVariants.{Continue, Whole}
 use Rattle.sp_base.specs.declared.answer.Answer.{Answer}
 use Rattle.connections.specs.Slots.{Slot, interim_slot, is_awaiting}
-use Rattle.connections.specs.Connections.{Close, Connection, Nothing, Treat, with_due_continue, after_turn, due, due_at_turn, due_unsent, slots_with_landing, fresh, next_turn, with_answer, with_landing, with_sent, with_slot, IsInPlaceOfDue}
+use Rattle.connections.specs.Connections.{Close, Connection, Nothing, Treat, with_due_continue, after_turn, due, due_at_turn, due_without_sending, slots_with_landing, fresh, next_turn, with_answer, with_landing, with_sent, with_slot, IsInPlaceOfDue}
 use Rattle.connections.specs.Histories.{IsDueSending}
 use Rattle.connections.specs.declared.sending.Sending.{Sending}
 use Rattle.connections.specs.Ties.{OutboxTied}
@@ -126,7 +126,7 @@ advance-closing k j c closes outbox keeps =
     })
 
 -- ---- a turn is taken
-due-open : (c : Connection) (turn : Option Turn) → c.over ≡ false → c.closing ≡ false → due c ≡ due_unsent c → next_turn c ≡ turn → due c ≡ due_at_turn turn c.ends
+due-open : (c : Connection) (turn : Option Turn) → c.over ≡ false → c.closing ≡ false → due c ≡ due_without_sending c → next_turn c ≡ turn → due c ≡ due_at_turn turn c.ends
 due-open c turn lasts stays unsent next =
     unsent ∙ ap (λ b. cond b Close (cond c.closing Nothing (due_at_turn (next_turn c) c.ends))) lasts
     ∙ ap (λ b. cond b Nothing (due_at_turn (next_turn c) c.ends)) stays ∙ ap (λ t. due_at_turn t c.ends) next
@@ -152,7 +152,7 @@ holds-as k j c intake turns fault outbox holds = record {
   ready = λ stays. rw turns (holds.ready stays);
 }
 
-pub take-request : (k j : Line) (c : Connection) (request : _) → c.over ≡ false → c.closing ≡ false → due c ≡ due_unsent c → k.turns.items ≡ Whole request ∷ j.turns.items → j.intake ≡ k.intake → j.fault ≡ k.fault → j.outbox ≡ k.outbox
+pub take-request : (k j : Line) (c : Connection) (request : _) → c.over ≡ false → c.closing ≡ false → due c ≡ due_without_sending c → k.turns.items ≡ Whole request ∷ j.turns.items → j.intake ≡ k.intake → j.fault ≡ k.fault → j.outbox ≡ k.outbox
     → LineHolds k c → (due c ≡ Treat (Whole request)) × Owes j c
 take-request k j c request lasts stays unsent first intake fault outbox holds =
     let reads = holds.keeps.reads stays in
@@ -168,7 +168,7 @@ take-request k j c request lasts stays unsent first intake fault outbox holds =
       },
     )
 
-pub take-none : (k : Line) (c : Connection) → c.over ≡ false → c.closing ≡ false → due c ≡ due_unsent c → k.turns.items ≡ [] → LineHolds k c → due c ≡ due_at_turn None (end_of k.fault)
+pub take-none : (k : Line) (c : Connection) → c.over ≡ false → c.closing ≡ false → due c ≡ due_without_sending c → k.turns.items ≡ [] → LineHolds k c → due c ≡ due_at_turn None (end_of k.fault)
 take-none k c lasts stays unsent none holds =
     let reads = holds.keeps.reads stays in
     let splits : Splits c.turns (length c.slots) [] = rw none at reads.splits in

@@ -12,7 +12,7 @@ use Rattle.http_front.specs.declared.fault.InFault.{InFault}
 use Rattle.http_front.specs.declared.turn.Turn.{Turn}
 use Rattle.http_front.specs.declared.turn.Turn.TheVariants.{Continue, Whole}
 use Rattle.connections.specs.Slots.{Awaits, Says, Slot, interim_slot, is_answered, is_awaiting, local_response, request_slot}
-use Rattle.connections.specs.Connections.{Close, Connection, Due, Nothing, Refuse, Send, Treat, with_due_continue, after_turn, due_at_slot, due_at_turn, due_unsent, with_piece, next_turn, with_landing, with_sent, with_slot}
+use Rattle.connections.specs.Connections.{Close, Connection, Due, Nothing, Refuse, Send, Treat, with_due_continue, after_turn, due_at_slot, due_at_turn, due_without_sending, with_piece, next_turn, with_landing, with_sent, with_slot}
 use Rattle.connections.specs.Connections as connection
 use Rattle.connections.specs.declared.sending.Sending.{Sending}
 use Rattle.front.specs.declared.flying.Flying.{Flying}
@@ -40,11 +40,11 @@ unsent-of true closing t x of e = absurd (subst IsOfStream (sym e) of)
 unsent-of false true t x of e = absurd (subst IsOfStream (sym e) of)
 unsent-of false false t x of e = (e, refl)
 
-slot-of : (o : Option Slot) (d : Connection) (x : Due) → IsOfStream x → due_at_slot o d ≡ x → due_unsent d ≡ x
+slot-of : (o : Option Slot) (d : Connection) (x : Due) → IsOfStream x → due_at_slot o d ≡ x → due_without_sending d ≡ x
 slot-of None d x of e = e
 slot-of (Some slot) d x of e = by_test (is_answered slot.response) e
   where
-    by_test : (b : Bool) → cond b (Send slot) (due_unsent d) ≡ x → due_unsent d ≡ x
+    by_test : (b : Bool) → cond b (Send slot) (due_without_sending d) ≡ x → due_without_sending d ≡ x
     by_test true e = absurd (subst IsOfStream (sym e) of)
     by_test false e = e
 

@@ -78,16 +78,16 @@ away-owed w c status request false true true dry crowd may room (inl is) m allow
 away-owed w c status request false true false dry crowd may room (inl is) m allows = absurd (let at : Here status dry ≡ InFlight = is in let no : ⊥ = cc in no)
 away-owed w c status request crowded admitted full dry crowd may room (inr is) m allows =
     let same : status ≡ 507 = cc in
-    let wanting : dry ≡ true = cc in
-    inr (allows wanting, ap (Local c) same)
+    let is_dry : dry ≡ true = cc in
+    inr (allows is_dry, ap (Local c) same)
 
 -- where there was no memory to find the point, that is the fixed 507
 away-fixed : (crowded admitted full dry : Bool) (status : ℕ) → IsAnswering crowded admitted full (Here status dry) → IsTrue dry → status ≡ 507
-away-fixed true admitted full dry status (inl is) wanting = absurd (let at : Here status dry ≡ Here 503 false = is in let no : ⊥ = cc in no)
-away-fixed false false full dry status (inl is) wanting = absurd (let at : Here status dry ≡ Here 404 false = is in let no : ⊥ = cc in no)
-away-fixed false true true dry status (inl is) wanting = absurd (let at : Here status dry ≡ Here 503 false = is in let no : ⊥ = cc in no)
-away-fixed false true false dry status (inl is) wanting = absurd (let at : Here status dry ≡ InFlight = is in let no : ⊥ = cc in no)
-away-fixed crowded admitted full dry status (inr is) wanting = let same : status ≡ 507 = cc in same
+away-fixed true admitted full dry status (inl is) is_dry = absurd (let at : Here status dry ≡ Here 503 false = is in let no : ⊥ = cc in no)
+away-fixed false false full dry status (inl is) is_dry = absurd (let at : Here status dry ≡ Here 404 false = is in let no : ⊥ = cc in no)
+away-fixed false true true dry status (inl is) is_dry = absurd (let at : Here status dry ≡ Here 503 false = is in let no : ⊥ = cc in no)
+away-fixed false true false dry status (inl is) is_dry = absurd (let at : Here status dry ≡ InFlight = is in let no : ⊥ = cc in no)
+away-fixed crowded admitted full dry status (inr is) is_dry = let same : status ≡ 507 = cc in same
 
 pub given-away : {farm : Farm} (w : RunState) (c status : ℕ) (k j : Line) (sky : Sky) (request : Req) (crowded dry : Bool) → (owes : OwesRequest farm w c k sky request) → crowded ≡ is_crowded owes.connection
     → IsAnswering crowded (admits farm request) (is_full_sky sky) (Here status dry) → ((m : Connection) → Owes k m → LineHolds j (with_turn_slot (request_slot request (crowded || status == 507) (local_response status)) m))
@@ -126,12 +126,12 @@ given-ask {farm} w c n k j sky new request crowded owes is_crowd answering numbe
     let passes = flight-owed crowded (admits farm request) (is_full_sky sky) answering in
     let owed : due_of_connection w c ≡ Treat (Whole request) = ap line_due owes.open_is ∙ owes.due_is in
     let some : request_of (due_of_connection w c) ≡ Some request = ap request_of owed in
-    let line_calm : is_crowded_line (w.line c) ≡ false = crowded-is w c m owes.open_is ∙ sym is_crowd ∙ passes.0 in
+    let not_crowded : is_crowded_line (w.line c) ≡ false = crowded-is w c m owes.open_is ∙ sym is_crowd ∙ passes.0 in
     let admitted : admits w.farm request ≡ true = ap (λ x. admits x request) owes.farm_is ∙ passes.1 in
     let free : is_front_full w ≡ false = full-is sky w owes.sky_is ∙ passes.2 in
     let next : asked n c None ≡ asked (flights_asked w.log.entries + 1) c None = ap (λ x. asked x c None) (number ∙ ap (λ x. x + 1) owes.sky_is.asked) in
     let is : state_after_note w (asked n c None) ≡ state_after_ask w n c None (Some request) = ap (state_after_ask w n c None) some in (
-      (λ mood allows. due-gives mood w c _ _ owed (inl (inr (λ crowd. let no : ⊥ = cc in no, inr (λ hidden. let no : ⊥ = cc in no, inr (λ full. let no : ⊥ = cc in no, inl (tt, next)))))), λ wanting. absurd (let no : ⊥ = cc in no)),
+      (λ mood allows. due-gives mood w c _ _ owed (inl (inr (λ crowd. let no : ⊥ = cc in no, inr (λ hidden. let no : ⊥ = cc in no, inr (λ full. let no : ⊥ = cc in no, inl (tt, next)))))), λ is_dry. absurd (let no : ⊥ = cc in no)),
       subst (λ v. Meets farm v c j new) (sym is) (record {
         connection = with_turn_slot (request_slot request false (Awaits n)) m;
         open_is = update_here w.line c _ ∙ ap (option_map (with_turn_slot (request_slot request false (Awaits n)))) owes.open_is;

@@ -1,5 +1,5 @@
 -- Where a flight stands among those in the air.
-use Rattle.std.proofs.Common.{◌≡◌, ℕ, ◌<◌, ◌≤◌, ◌++◌, zero, suc, Bool, true, false, List, [], ◌∷◌, length, map, Some, None, refl, ap, sym, subst, ◌∙◌, arith}
+use Rattle.std.proofs.Common.{◌≡◌, ℕ, ◌<◌, ◌≤◌, ◌++◌, zero, suc, Bool, true, false, List, [], ◌∷◌, get_or, length, map, Some, None, refl, ap, sym, subst, ◌∙◌, arith}
 use Rattle.std.specs.Prelude.{nat_eq, nat_lt, position, remove, slice_get, slice_set}
 use Rattle.std.specs.List.{find, position_or_len}
 use Rattle.std.proofs.lemmas.List.Folds.{find_at}
@@ -18,6 +18,14 @@ pub get-within : {A : Type 0} (xs : List A) (i : ℕ) → i < length xs → (x :
 get-within [] i l = absurd (omega (arith, l))
 get-within (x ∷ xs) zero l = (x, refl)
 get-within (x ∷ xs) (suc i) l = get-within xs i (omega (arith, l))
+
+pub got : {A : Type 0} (xs : List A) (i : ℕ) (x y : A) → x ≡ get_or xs i x → slice_get xs i ≡ Some y → x ≡ y
+got [] i x y is here = absurd (let none : None ≡ Some y = here in let no : ⊥ = cc in no)
+got (z ∷ xs) zero x y is here =
+    let same : Some z ≡ Some y = here in
+    let first : z ≡ y = cc in
+    is ∙ first
+got (z ∷ xs) (suc i) x y is here = got xs i x y is here
 
 pub found-none : {A : Type 0} (test : A → Bool) (xs : List A) → position test xs ≡ None → find test xs ≡ None
 found-none test xs e = by_test (nat_lt (position_or_len test xs) (length xs)) refl

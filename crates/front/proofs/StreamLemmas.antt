@@ -6,7 +6,7 @@ use Rattle.any_config.specs.declared.farm.Farm.{Farm}
 use Rattle.http_front.specs.Turns.{Breaks, End, SpellsTurns, Waits}
 use Rattle.http_front.specs.declared.turn.Turn.{Turn}
 use Rattle.connections.specs.Slots.{Slot, is_answered}
-use Rattle.connections.specs.Connections.{Close, Connection, Due, Nothing, Refuse, Send, Treat, due_at_end, due_at_slot, due_at_turn, due_unsent, fresh, next_turn}
+use Rattle.connections.specs.Connections.{Close, Connection, Due, Nothing, Refuse, Send, Treat, due_at_end, due_at_slot, due_at_turn, due_without_sending, fresh, next_turn}
 use Rattle.connections.specs.Connections as connection
 use Rattle.connections.specs.Histories.{AnswersRun, AreOfTurns, Follows, Move, after_all, sendings}
 use Rattle.connections.specs.declared.sending.Sending.{Sending}
@@ -64,7 +64,7 @@ idle-turn : (turn : Option Turn) (ends : End) → due_at_turn turn ends ≡ Noth
 idle-turn None ends e = (refl, idle-end ends e)
 idle-turn (Some turn) ends e = absurd (let no : ⊥ = cc in no)
 
-idle-unsent : (d : Connection) → d.closing ≡ false → due_unsent d ≡ Nothing → (next_turn d ≡ None) × (d.ends ≡ Waits)
+idle-unsent : (d : Connection) → d.closing ≡ false → due_without_sending d ≡ Nothing → (next_turn d ≡ None) × (d.ends ≡ Waits)
 idle-unsent d reads idle = by_over d.over idle
   where
     by_over : (over : Bool) → (if over then Close else (if d.closing then Nothing else due_at_turn (next_turn d) d.ends)) ≡ Nothing → (next_turn d ≡ None) × (d.ends ≡ Waits)
@@ -75,7 +75,7 @@ idle-slot : (slot : Option Slot) (d : Connection) → d.closing ≡ false → du
 idle-slot None d reads idle = idle-unsent d reads idle
 idle-slot (Some slot) d reads idle = by_answer (is_answered slot.response) idle
   where
-    by_answer : (answered : Bool) → (if answered then Send slot else due_unsent d) ≡ Nothing → (next_turn d ≡ None) × (d.ends ≡ Waits)
+    by_answer : (answered : Bool) → (if answered then Send slot else due_without_sending d) ≡ Nothing → (next_turn d ≡ None) × (d.ends ≡ Waits)
     by_answer true e = absurd (let no : ⊥ = cc in no)
     by_answer false e = idle-unsent d reads e
 

@@ -12,7 +12,7 @@ use Rattle.http_front.specs.Turns.{End}
 use Rattle.http_front.specs.declared.fault.InFault.{InFault}
 use Rattle.http_front.specs.declared.turn.Turn.{Turn}
 use Rattle.http_front.specs.declared.turn.Turn.TheVariants.{Whole}
-use Rattle.connections.specs.Connections.{Connection, Close, Nothing, Refuse, Treat, due_unsent, with_landing}
+use Rattle.connections.specs.Connections.{Connection, Close, Nothing, Refuse, Treat, due_without_sending, with_landing}
 use Rattle.connections.specs.Connections as model
 use Rattle.connections.specs.Ties.{OutboxTied}
 use Rattle.front.specs.declared.board.Board.{Board}
@@ -26,7 +26,7 @@ use Rattle.front.specs.declared.serve.Served.TheVariants.{Said, Quiet, Ended}
 use Rattle.front.specs.declared.sky.Sky.{Sky}
 use Rattle.front.specs.declared.step.Step.{Step}
 use Rattle.front.specs.declared.told.Told.{Told}
-use Rattle.front.specs.Events.{Event, HappensBy, IsWanting, ShowsLack, after_event, state_before_notes}
+use Rattle.front.specs.Events.{Event, HappensBy, ShowsLackIfDry, ShowsLack, after_event, state_before_notes}
 use Rattle.front.specs.Lines.{LineHolds, Owes, LineReads}
 use Rattle.front.specs.Moves.{Mood, GivesDue, Serves, Settles, state_after_note, state_after_notes, due_of_connection, most_flights, most_numbers}
 use Rattle.front.specs.States.{RunState, flights_asked}
@@ -85,7 +85,7 @@ pub record Meets (farm : Farm) (w : RunState) (c : ℕ) (k : Line) (sky : Sky) :
 -- the same where nothing of the connection can be sent
 pub record MeetsUnsent (farm : Farm) (w : RunState) (c : ℕ) (k : Line) (sky : Sky) : Type 0 where
   pub meets : Meets farm w c k sky
-  pub unsent : model.due meets.connection ≡ due_unsent meets.connection
+  pub unsent : model.due meets.connection ≡ due_without_sending meets.connection
 
 -- a slot is owed for a request that was taken
 pub record OwesRequest (farm : Farm) (w : RunState) (c : ℕ) (k : Line) (sky : Sky) (request : Req) : Type 0 where
@@ -115,7 +115,7 @@ ServesDry dry w c notes = (m : Mood) → Allows dry m → Serves m w c notes
 
 -- the notes give all that is owed in such an event, and where one needs that mood a note shows it
 abbrev pub SettlesDry : Bool → RunState → ℕ → List Note → Type 0
-SettlesDry dry w c notes = ((m : Mood) → Allows dry m → Settles m w c notes) × IsWanting w (record { dry = dry }) notes
+SettlesDry dry w c notes = ((m : Mood) → Allows dry m → Settles m w c notes) × ShowsLackIfDry w (record { dry = dry }) notes
 
 -- by its first point a request is answered so
 abbrev pub first_point : Bool → Bool → Bool → Answering
@@ -140,7 +140,7 @@ IsLess Ended left before = Unit {0}
 -- these notes were given
 pub record NotesGiven (dry : Bool) (notes : List Note) (farm : Farm) (w : RunState) (c : ℕ) (k : Line) (sky : Sky) : Type 0 where
   pub serves : ServesDry dry w c notes
-  pub wanting : IsWanting w (record { dry = dry }) notes
+  pub shows_lack : ShowsLackIfDry w (record { dry = dry }) notes
   pub meets : Meets farm (state_after_notes w notes) c k sky
 
 -- the end is owed, or nothing
@@ -163,7 +163,7 @@ pub record IsToldEvent (Stands : RunState → Type 0) (w : RunState) (step : Ste
   pub turns : List Turn
   pub ends : End
   pub happens : HappensBy w (event_of step told turns ends) step
-  pub wanting : IsWanting (state_before_notes w (event_of step told turns ends) step) (record { dry = told.dry }) told.notes.items
+  pub shows_lack : ShowsLackIfDry (state_before_notes w (event_of step told turns ends) step) (record { dry = told.dry }) told.notes.items
   pub stands : Stands (after_event w (event_of step told turns ends))
 
 -- what was told is an event of this step, of each state of which the board was what is left

@@ -180,12 +180,12 @@ SomeShowsLack w [] = ⊥
 SomeShowsLack w (note ∷ notes) = ShowsLack w note ⊎ SomeShowsLack (state_after_note w note) notes
 
 -- an event says that memory ran out only where one of its notes shows it
-abbrev pub IsWanting : RunState → Mood → List Note → Type 0
-IsWanting w m notes = IsTrue m.dry → SomeShowsLack w notes
+abbrev pub ShowsLackIfDry : RunState → Mood → List Note → Type 0
+ShowsLackIfDry w m notes = IsTrue m.dry → SomeShowsLack w notes
 
 -- the event happens in this state: by its step, and it says that memory ran out only where a note shows it
 abbrev pub Happens : RunState → Event → Type 0
-Happens w e = HappensBy w e e.step × IsWanting (state_before_notes w e e.step) e.mood e.body
+Happens w e = HappensBy w e e.step × ShowsLackIfDry (state_before_notes w e e.step) e.mood e.body
 
 -- a run: each event happens in the state that those before it left
 abbrev pub Run : RunState → List Event → Type 0

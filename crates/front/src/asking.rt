@@ -18,22 +18,22 @@ pub(crate) fn get_of(alloc: Global, farm: &Farm, target: Target) -> Mem<Ask>
         port: farm.ask_port,
         path: target.path,
         slash: target.slash,
-        kind: TextBuf::of(alloc, "")?,
-        body: ByteBuf::of(alloc, b"")?,
+        kind: TextBuf::from(String::new(alloc)),
+        body: ByteBuf::from(Vec::new(alloc)),
     })
 }
 
 /// The answer in place of one for which no memory was there (RFC 4918, section 11.5).
-pub(crate) fn fixed_answer(alloc: Global) -> Mem<Answer>
-    ensures { IfOk result (λ a. a ≡ fixed) }
+pub(crate) fn fixed_answer(alloc: Global) -> Answer
+    ensures { result ≡ fixed }
 {
-    Ok(Answer {
+    Answer {
         status: INSUFFICIENT_STORAGE,
-        kind: TextBuf::of(alloc, "")?,
-        location: TextBuf::of(alloc, "")?,
+        kind: TextBuf::from(String::new(alloc)),
+        location: TextBuf::from(String::new(alloc)),
         mark: Mark::Plain,
-        body: ByteBuf::of(alloc, b"")?,
-    })
+        body: ByteBuf::from(Vec::new(alloc)),
+    }
 }
 
 /// A copy of an answer.

@@ -21,7 +21,7 @@ use crate::step::Pick;
 use crate::told::Told;
 use any_config::Farm;
 use connections::Reply;
-use sp_base::{ByteBuf, Mem, NoMemory};
+use sp_base::{ByteBuf, Mem};
 use std::alloc::Global;
 use std::collections::BTreeMap;
 
@@ -71,10 +71,8 @@ impl Board {
         if self.lines.len() >= MOST_LINES {
             return Told::one(alloc, Note::Refused(c), false);
         }
-        match self.lines.insert(c, Line::new(alloc)?) {
-            Ok(_) => Ok(Told::nothing(alloc)),
-            Err(_) => Err(NoMemory),
-        }
+        self.lines.insert(c, Line::new(alloc)?)?;
+        Ok(Told::nothing(alloc))
     }
 
     // Bytes come on a connection, if it is there.

@@ -76,7 +76,7 @@ impl<R: Renderer + Drop> Front<R> {
         ensures { IfOk result (λ told. TellsStep (BoardStands R.publishing (R.content self.old.renderer) self.old.farm self.old.board) (BoardStands R.publishing (R.content self.new.renderer) self.new.farm self.new.board) (Direct target.now) told) }
     {
         let answer = self.direct_answer(alloc, target);
-        let OrFixed { answer, dry } = or_fixed(alloc, answer)?;
+        let OrFixed { answer, dry } = or_fixed(alloc, answer);
         Told::one(alloc, Note::Answer(answer), dry)
     }
 
@@ -87,7 +87,7 @@ impl<R: Renderer + Drop> Front<R> {
             return Told::one(alloc, Note::Idle, false);
         };
         let answer = self.rendered(alloc, at);
-        let OrFixed { answer, dry } = or_fixed(alloc, answer)?;
+        let OrFixed { answer, dry } = or_fixed(alloc, answer);
         let copy = copied(alloc, &answer)?;
         let number = self.board.sky.render(at, copy);
         Told::one(alloc, Note::Rendered(number, answer), dry)
@@ -124,14 +124,14 @@ impl<R: Renderer + Drop> Front<R> {
 }
 
 // The answer, or the fixed one where memory ran out.
-fn or_fixed(alloc: Global, answer: Mem<Answer>) -> Mem<OrFixed>
-    ensures { IfOk result (λ given. IsGiven answer given.answer given.dry) }
+fn or_fixed(alloc: Global, answer: Mem<Answer>) -> OrFixed
+    ensures { IsGiven answer result.answer result.dry }
 {
     match answer {
-        Ok(answer) => Ok(OrFixed { answer, dry: false }),
-        Err(_) => Ok(OrFixed {
-            answer: fixed_answer(alloc)?,
+        Ok(answer) => OrFixed { answer, dry: false },
+        Err(_) => OrFixed {
+            answer: fixed_answer(alloc),
             dry: true,
-        }),
+        },
     }
 }

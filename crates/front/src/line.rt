@@ -6,7 +6,7 @@ ghost use Rattle.http_front.specs.declared.turn.Turn.{Turn};
 ghost use Rattle.sp_base.specs.declared.answer.Answer as models;
 ghost use Rattle.connections.specs.Slots.{Says, Slot};
 ghost use Rattle.connections.specs.Connections as model;
-ghost use Rattle.connections.specs.Connections.{Connection, IsInPlaceOfDue, with_due_continue, due, due_unsent, fresh, with_landing, with_sent, with_slot};
+ghost use Rattle.connections.specs.Connections.{Connection, IsInPlaceOfDue, with_due_continue, due, due_without_sending, fresh, with_landing, with_sent, with_slot};
 ghost use Rattle.connections.specs.Histories.{IsDueSending};
 ghost use Rattle.connections.specs.Ties.{PlaceTied, ReplyTied, OutboxTied};
 ghost use Rattle.front.specs.Lines as lines;
@@ -86,7 +86,7 @@ impl Line {
     pub(crate) fn send(&mut self, alloc: Global) -> Option<Sending>
         ensures sends { IfSome result (λ sending. (c : Connection) → LineHolds self.old c → IsDueSending c sending × LineHolds self.new (with_sent sending.bytes c)) }
         ensures dry { IfSome result (λ sending. (c : Connection) → LineHolds self.old c → IsTrue sending.dry → IsInPlaceOfDue (due c) sending.bytes) }
-        ensures waits { IfNone result ((c : Connection) → LineHolds self.old c → due c ≡ due_unsent c) }
+        ensures waits { IfNone result ((c : Connection) → LineHolds self.old c → due c ≡ due_without_sending c) }
         ensures less { OnSome result (work_of self.new < work_of self.old) }
         ensures same { IfNone result (self.new ≡ self.old) }
     {
@@ -95,7 +95,7 @@ impl Line {
 
     /// Takes the next turn, where nothing can be sent. A slot is owed for it.
     pub(crate) fn take(&mut self) -> Taken
-        ensures taken { (c : Connection) → LineHolds self.old c → due c ≡ due_unsent c → TakenAs result c self.new }
+        ensures taken { (c : Connection) → LineHolds self.old c → due c ≡ due_without_sending c → TakenAs result c self.new }
         ensures less { work_of self.new + taken_work result ≤ work_of self.old }
     {
         if self.outbox.is_over() {

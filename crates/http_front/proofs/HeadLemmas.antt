@@ -1,10 +1,10 @@
 -- What decides about a head.
-use Rattle.std.proofs.Common.{◌≡◌, ◌≢◌, ◌<◌, ℕ, Bool, true, false, cond, List, [], ◌∷◌, Option, Some, None, Ok, Err, length, get_or, map, sym, ◌∙◌, ap, refl, arith, subst}
+use Rattle.std.proofs.Common.{◌≡◌, ◌≢◌, ◌<◌, ◌+◌, ◌++◌, ℕ, Bool, true, false, cond, List, [], ◌∷◌, Option, Some, None, Ok, Err, length, get_or, map, take, sym, ◌∙◌, ap, refl, arith, subst}
 use Rattle.std.specs.Prelude.{nat_lt, option_map, unwrap_or, All, codes}
 use Rattle.std.specs.List.{find}
 use Rattle.std.specs.Option.{is_none}
-use Rattle.std.specs.Str.{IsUtf8}
-use Rattle.std.proofs.lemmas.List.{get_or-map, length-map}
+use Rattle.std.specs.Str.{IsUtf8, str_to_ascii_lowercase}
+use Rattle.std.proofs.lemmas.List.{get_or-map, length-map, map-append, take_more}
 use Rattle.httparse.specs.declared.spans.HeaderSpan.{HeaderSpan}
 use Rattle.httparse.specs.Spans.{header_bytes, span_bytes}
 use Rattle.http_front.specs.declared.fault.InFault.{InFault}
@@ -12,7 +12,7 @@ use Rattle.http_front.specs.declared.fault.InFault.TheVariants.{BadHead, ManyHea
 use Rattle.http_front.specs.declared.target.Target.{Target}
 use Rattle.http_front.specs.declared.head.Asked.{Asked}
 use Rattle.sp_base.specs.declared.answer.Req.{Req}
-use Rattle.http_front.specs.Heads.{asked_host, body_length, has_transfer_coding, first_refusal, asked_of, asked_with, length_or_fault, HeadParts, heads, closes_connection, is_closing, request_line, request_with, awaits_continue, Asks, within_limit, longest_body, most_fields}
+use Rattle.http_front.specs.Heads.{lower_case_field, asked_host, body_length, has_transfer_coding, first_refusal, asked_of, asked_with, length_or_fault, HeadParts, heads, closes_connection, is_closing, request_line, request_with, awaits_continue, Asks, within_limit, longest_body, most_fields}
 use Rattle.std.specs.Prelude.{◌==◌, ◌||◌}
 use Rattle.std.proofs.lemmas.Bool.Decides.{nat_tests}
 use Rattle.http1.specs.declared.fields.KnownFields.{KnownFields}
@@ -25,6 +25,20 @@ pub name_at : (bytes : List ℕ) (fields : List HeaderSpan) (i : ℕ) (d : Heade
 name_at bytes fields i d all inside =
     subst (λ field. IsUtf8 field.0) (get_or-map (header_bytes bytes) fields i d (header_bytes bytes d) inside)
     (all i (header_bytes bytes d) (omega (arith, length-map fields (header_bytes bytes))))
+
+-- one field more
+pub one_more : (bytes : List ℕ) (fields : List HeaderSpan) (i : ℕ) (d : HeaderSpan) (heads next : List (List ℕ × List ℕ)) (name value : List ℕ)
+    → heads ≡ map lower_case_field (map (header_bytes bytes) (take i fields)) → next ≡ heads ++ (name, value) ∷ []
+    → name ≡ str_to_ascii_lowercase (span_bytes bytes (get_or fields i d).name) → value ≡ span_bytes bytes (get_or fields i d).value → i < length fields
+    → next ≡ map lower_case_field (map (header_bytes bytes) (take (i + 1) fields))
+one_more bytes fields i d heads next name value so_far pushed named valued inside =
+    let field = get_or fields i d in
+    let before = map (header_bytes bytes) (take i fields) in
+    let pair : (name, value) ≡ lower_case_field (header_bytes bytes field) = λ j. (named j, valued j) in
+    pushed ∙ ap (λ (hs : List (List ℕ × List ℕ)). hs ++ (name, value) ∷ []) so_far ∙ ap (λ (f : List ℕ × List ℕ). map lower_case_field before ++ f ∷ []) pair
+    ∙ sym (map-append lower_case_field before (header_bytes bytes field ∷ []))
+    ∙ ap (λ (fs : List (List ℕ × List ℕ)). map lower_case_field fs) (sym (map-append (header_bytes bytes) (take i fields) (field ∷ [])))
+    ∙ ap (λ (fs : List HeaderSpan). map lower_case_field (map (header_bytes bytes) fs)) (sym (take_more fields i d inside))
 
 pub bad_head : (minor : ℕ) (target : List ℕ) (fields : List (List ℕ × List ℕ)) → asked_host minor fields ≡ None → first_refusal minor target fields ≡ Some BadHead
 unfolding first_refusal

@@ -1,9 +1,11 @@
 -- What is left to tell after each step of an intake.
-use Rattle.std.proofs.Common.{◌≡◌, ◌<◌, ◌≤◌, ◌⊎◌, inl, inr, ℕ, Bool, true, List, [], ◌∷◌, ◌++◌, length, take, drop, refl, sym, ◌∙◌, ap, subst, arith, append_assoc, length-append, ⊎_elim}
+use Rattle.std.proofs.Common.{◌≡◌, ◌<◌, ◌≤◌, ◌⊎◌, inl, inr, ℕ, Bool, true, false, List, [], ◌∷◌, Option, Some, None, Result, Ok, Err, ◌++◌, length, take, drop, refl, sym, ◌∙◌, ap, subst, arith, append_assoc, length-append, ⊎_elim}
+use Rattle.std.specs.Prelude.{IfErr, IfNone, IfOk, IfSome, OnErr}
 use Rattle.std.proofs.lemmas.List.{take-append-drop, length-take-le}
 use Rattle.httparse.specs.Grammar.{HasNoRequest, MayBecomeRequest}
 use Rattle.sp_base.specs.declared.answer.Req.{Req}
 use Rattle.http_front.specs.declared.fault.InFault.{InFault}
+use Rattle.http_front.specs.declared.fault.InFault.TheVariants.{NoMemory}
 use Rattle.http_front.specs.declared.head.AskedHead.{AskedHead}
 use Rattle.http_front.specs.declared.intake.Intake.{Intake}
 use Rattle.http_front.specs.declared.intake.Phase.{Phase}
@@ -11,7 +13,7 @@ use Rattle.http_front.specs.declared.intake.Phase.TheVariants.{Heading, Body, Fa
 use Rattle.http_front.specs.declared.turn.Turn.{Turn}
 use Rattle.http_front.specs.declared.turn.Turn.TheVariants.{Continue, Whole}
 use Rattle.http_front.specs.Turns.{End, Waits, Breaks, longest_head, BeginsAsking, BeginsRefused, HasBody, with_body, AwaitsHead, HasNoHead, Stops, BeginsWithRequest, SpellsTurns}
-use Rattle.http_front.specs.Intakes.{TurnsFollow, Continues, RemainderSpells, Stands, rest_of}
+use Rattle.http_front.specs.Intakes.{TurnsFollow, Continues, Ends, IntakeLeads, Keeps, LeadsBy, RemainderSpells, Stands, Tells, rest_of}
 use Rattle.http_front.proofs.TurnLemmas.{begins_append, never_grows, window_full}
 
 append_nil : {A : Type 0} (xs : List A) → xs ++ [] ≡ xs
@@ -50,6 +52,13 @@ pub asked : (s more : List ℕ) (a : AskedHead) (r : List ℕ) (turns : List Tur
 asked s more a r [] end b is f = (record { asked = a; rest = r ++ more; begins = asking_stays s more a r b; asks = is; short = f.0 }, f.1)
 asked s more a r (Continue ∷ turns) end b is f = absurd f
 asked s more a r (Whole request ∷ turns) end b is f = (f.0, request_begins s more a r true request f.0 b is f.1, f.2)
+
+-- any other head isn't
+not_asked : (s more : List ℕ) (a : AskedHead) (r : List ℕ) (turns : List Turn) (end : End) → BeginsAsking s a r → a.awaits_continue ≡ false → TurnsFollow a (r ++ more) turns end → SpellsTurns (s ++ more) turns end
+not_asked s more a r [] end b is f =
+    subst (Stops (s ++ more)) (sym f.1) (inr (record { asked = a; rest = r ++ more; begins = asking_stays s more a r b; unasked = is; short = f.0 }))
+not_asked s more a r (Continue ∷ turns) end b is f = absurd f
+not_asked s more a r (Whole request ∷ turns) end b is f = (f.0, request_begins s more a r false request f.0 b is f.1, f.2)
 
 -- ---- a body
 
@@ -91,6 +100,12 @@ leads_asked old rest a len heading is begins waits = λ more turns end f.
     subst (λ p. Continues p (rest_of old ++ more) (Continue ∷ turns) end) (sym heading)
     (asked (rest_of old) more a (drop len (rest_of old)) turns end begins waits (subst (λ r. TurnsFollow a (r ++ more) turns end) is f))
 
+pub leads_unasked : (old : Intake) (rest : List ℕ) (a : AskedHead) (len : ℕ) → old.phase ≡ Heading → rest ≡ drop len (rest_of old) → BeginsAsking (rest_of old) a (drop len (rest_of old))
+    → a.awaits_continue ≡ false → (more : List ℕ) (turns : List Turn) (end : End) → Continues (Body a) (rest ++ more) turns end → RemainderSpells old more turns end
+leads_unasked old rest a len heading is begins waits = λ more turns end f.
+    subst (λ p. Continues p (rest_of old ++ more) turns end) (sym heading)
+    (not_asked (rest_of old) more a (drop len (rest_of old)) turns end begins waits (subst (λ r. TurnsFollow a (r ++ more) turns end) is f))
+
 pub leads_body : (old : Intake) (phase : Phase) (rest : List ℕ) (a : AskedHead) (request : Req) → old.phase ≡ Body a → phase ≡ Heading → rest ≡ drop a.body_length (rest_of old)
     → a.body_length ≤ length (rest_of old) → request ≡ with_body a (take a.body_length (rest_of old))
     → (more : List ℕ) (turns : List Turn) (end : End) → Continues phase (rest ++ more) turns end → RemainderSpells old more (Whole request ∷ turns) end
@@ -98,3 +113,36 @@ leads_body old phase rest a request body heading is fits made = λ more turns en
     let s : SpellsTurns (rest ++ more) turns end = subst (λ p. Continues p (rest ++ more) turns end) heading l in
     subst (λ p. Continues p (rest_of old ++ more) (Whole request ∷ turns) end) (sym body)
     (body_taken a (rest_of old) more request turns end fits made (subst (λ r. SpellsTurns (r ++ more) turns end) is s))
+
+-- ---- one call, from its steps
+
+pub ends : (i : Intake) (end : End) → Stands i end → Ends i end
+ends i end stands = λ stream told for.
+    subst (λ s. SpellsTurns s told end) (append_nil stream) (subst (λ ts. SpellsTurns (stream ++ []) ts end) (append_nil told) (for [] [] end stands))
+
+pub keeps : (old new : Intake) → IntakeLeads old new → Keeps old new
+keeps old new leads = λ stream told for more turns end l. for more turns end (leads more turns end l)
+
+pub tells : (old new : Intake) (turn : Turn) → LeadsBy old new turn → Tells old new turn
+tells old new turn leads = λ stream told for more turns end l.
+    subst (λ ts. SpellsTurns (stream ++ more) ts end) (sym (append_assoc told (turn ∷ []) turns)) (for more (turn ∷ turns) end (leads more turns end l))
+
+-- after a step that told nothing
+pub tells_after : (old mid new : Intake) (r : Result (Option Turn) InFault) → IntakeLeads old mid → IfOk r (λ o. IfSome o (LeadsBy mid new)) → IfOk r (λ o. IfSome o (Tells old new))
+tells_after old mid new (Ok (Some turn)) leads by = tells old new turn (λ more turns end l. leads more (turn ∷ turns) end (by more turns end l))
+tells_after old mid new (Ok None) leads by = tt
+tells_after old mid new (Err e) leads by = tt
+
+pub ends_after : (old mid new : Intake) (r : Result (Option Turn) InFault) → IntakeLeads old mid → IfOk r (λ o. IfNone o ((new ≡ mid) × Stands mid Waits)) → IfOk r (λ o. IfNone o (Ends old Waits))
+ends_after old mid new (Ok (Some turn)) leads waits = tt
+ends_after old mid new (Ok None) leads waits = ends old Waits (leads [] [] Waits waits.1)
+ends_after old mid new (Err e) leads waits = tt
+
+pub keeps_after : (old mid new : Intake) (r : Result (Option Turn) InFault) → IntakeLeads old mid → IfOk r (λ o. IfNone o ((new ≡ mid) × Stands mid Waits)) → IfOk r (λ o. IfNone o (Keeps old new))
+keeps_after old mid new (Ok (Some turn)) leads waits = tt
+keeps_after old mid new (Ok None) leads waits = keeps old new (subst (IntakeLeads old) (sym waits.0) leads)
+keeps_after old mid new (Err e) leads waits = tt
+
+pub keeps_failed : (old mid new : Intake) (r : Result (Option Turn) InFault) → IntakeLeads old mid → IfErr r (λ fault. (new ≡ mid) × (fault ≡ NoMemory)) → OnErr r (Keeps old new)
+keeps_failed old mid new (Ok o) leads failed = tt
+keeps_failed old mid new (Err e) leads failed = keeps old new (subst (IntakeLeads old) (sym failed.0) leads)

@@ -9,7 +9,7 @@ use std::alloc::{AllocError, AllocFailed};
 pub const INSUFFICIENT_STORAGE: u16 = 507;
 
 /// Why a stream is read no further. Of several that a head has the first counts.
-#[derive(Clone, Copy, PartialEq, Eq, Debug, Drop)]
+#[derive(Clone, Copy, Debug, Drop)]
 pub enum InFault {
     /// The bytes begin no head, or the Host fields name no host (RFC 9112, sections 2 to 5; RFC 9110, section 7.2).
     BadHead,

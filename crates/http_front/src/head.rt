@@ -112,7 +112,7 @@ fn request_with(
     ensures { IfOk result (λ request. request ≡ spec.request_with method.now line minor asked heads close) }
 {
     let method = TextBuf::of(alloc, method)?;
-    let body = ByteBuf::of(alloc, b"")?;
+    let body = ByteBuf::from(Vec::new(alloc));
     let Asked {
         host,
         port,

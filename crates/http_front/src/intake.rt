@@ -23,7 +23,7 @@ enum Phase {
 }
 
 // What comes of looking for a head.
-#[derive(Clone, Copy, PartialEq, Eq, Debug, Drop)]
+#[derive(Drop)]
 enum Advance {
     // A head was read whose sender waits for 100 Continue.
     Asked,

@@ -16,11 +16,11 @@ returns-in-Quiet c = λ w meets.
     let so_far = c.loop-told.invariant w meets in
     let served = rw c.in-Quiet.is at c.in_ok-note.ensures.served in
     let one = served (state_after_notes w c.loop-told.told.notes.items) so_far.meets in
-    record { given = record { serves = so_far.serves; wanting = so_far.wanting; meets = one.1 }; then_due = one.0 }
+    record { given = record { serves = so_far.serves; shows_lack = so_far.shows_lack; meets = one.1 }; then_due = one.0 }
 
 pub returns-in-Ended : goal.returns-in-Ended
 returns-in-Ended c = λ w meets.
     let so_far = c.loop-told.invariant w meets in
     let served = rw c.in-Ended.is at c.in_ok-note.ensures.served in
     let one = served (state_after_notes w c.loop-told.told.notes.items) so_far.meets in
-    record { given = record { serves = so_far.serves; wanting = so_far.wanting; meets = one.1 }; then_due = one.0 }
+    record { given = record { serves = so_far.serves; shows_lack = so_far.shows_lack; meets = one.1 }; then_due = one.0 }

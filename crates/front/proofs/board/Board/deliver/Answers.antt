@@ -5,7 +5,7 @@ use Rattle.front.proofs.FrontLemmas.{ok-map-two}
 use Rattle.front.proofs.board.Board.deliver.Goals as goal
 
 pub returns-in_default : goal.returns-in_default
-returns-in_default c = ok-map-two c.one.result c.one.ensures.notes c.one.ensures.dry (λ told notes calm w tied. delivered-none c.args.self.now w c.args.pick.now told tied (sym c.rendered.ensures ∙ c.in_default.is) notes calm)
+returns-in_default c = ok-map-two c.one.result c.one.ensures.notes c.one.ensures.dry (λ told notes not_dry w tied. delivered-none c.args.self.now w c.args.pick.now told tied (sym c.rendered.ensures ∙ c.in_default.is) notes not_dry)
 
 pub returns : goal.returns
 returns c = λ w tied. delivered c.args.self.now c.finish.new.self c.land-number.new.self w c.args.pick.now c.in-Some.at c.land-number.result c.in-Some-rendered.answer c.in_ok-told.told tied (sym c.rendered.ensures ∙ c.in-Some.is)

@@ -7,10 +7,10 @@ use Rattle.front.proofs.board.Board.open.Goals as goal
 
 pub returns-then-len-ge-MOST_LINES : goal.returns-then-len-ge-MOST_LINES
 returns-then-len-ge-MOST_LINES c =
-    ok-map-two c.one-then-len-ge-MOST_LINES.result c.one-then-len-ge-MOST_LINES.ensures.notes c.one-then-len-ge-MOST_LINES.ensures.dry (λ told notes calm farm peer w tied.
-    opened-full c.args.self.now w c.args.c peer told tied (is-none _ (sym c.contains_key.ensures ∙ c.if-contains_key.false)) (grind (arith, common_steps)) notes calm)
+    ok-map-two c.one-then-len-ge-MOST_LINES.result c.one-then-len-ge-MOST_LINES.ensures.notes c.one-then-len-ge-MOST_LINES.ensures.dry (λ told notes not_dry farm peer w tied.
+    opened-full c.args.self.now w c.args.c peer told tied (is-none _ (sym c.contains_key.ensures ∙ c.if-contains_key.false)) (grind (arith, common_steps)) notes not_dry)
 
-pub returns-in-Ok : goal.returns-in-Ok
-returns-in-Ok c = λ farm peer w tied.
+pub returns : goal.returns
+returns c = λ farm peer w tied.
     let absent = is-none _ (sym c.contains_key.ensures ∙ c.if-contains_key.false) in
-    opened-new c.args.self.now w c.args.c peer c.in_ok-new.field-0 c.insert.new.self c.nothing.result tied absent (grind (arith, common_steps)) (c.in_ok-new.ensures peer) c.in-Ok.ensures.updates (c.in-Ok.ensures.len ∙ none-one c.in-Ok.field-0 _ (c.in-Ok.ensures.old ∙ absent)) c.nothing.ensures.notes c.nothing.ensures.dry
+    opened-new c.args.self.now w c.args.c peer c.in_ok-new.field-0 c.insert.new.self c.nothing.result tied absent (grind (arith, common_steps)) (c.in_ok-new.ensures peer) c.in_ok-insert.ensures.updates (c.in_ok-insert.ensures.len ∙ none-one c.in_ok-insert.field-0 _ (c.in_ok-insert.ensures.old ∙ absent)) c.nothing.ensures.notes c.nothing.ensures.dry

@@ -4,8 +4,8 @@ use Rattle.front.proofs.FrontLemmas.{ok-map-two}
 use Rattle.front.proofs.board.Board.piece.Goals as goal
 
 pub returns-then-not-branch : goal.returns-then-not-branch
-returns-then-not-branch c = ok-map-two c.one.result c.one.ensures.notes c.one.ensures.dry (λ told notes calm w tied.
-    rw (c.in_ok-read.ensures.same c.if-not-branch.true) (piece-none c.args.self.now w c.args.c c.args.bytes.now told tied (sym c.in_ok-read.ensures.there ∙ c.if-not-branch.true) notes calm))
+returns-then-not-branch c = ok-map-two c.one.result c.one.ensures.notes c.one.ensures.dry (λ told notes not_dry w tied.
+    rw (c.in_ok-read.ensures.same c.if-not-branch.true) (piece-none c.args.self.now w c.args.c c.args.bytes.now told tied (sym c.in_ok-read.ensures.there ∙ c.if-not-branch.true) notes not_dry))
 
 pub returns : goal.returns
 returns c = λ w tied. piece-there c.args.self.now c.read.new.self c.settle.new.self w c.args.c c.args.bytes.now c.in_ok-told.told tied (rw c.bytes.ensures at (c.in_ok-read.ensures.reads c.if-not-branch.false)) c.in_ok-told.ensures

@@ -24,7 +24,7 @@ use Rattle.url_split.specs.Split.{at_greatest}
 use Rattle.overlay_merge.specs.declared.layers.Layer.{Layer}
 use Rattle.overlay_merge.specs.Roots.{is_merged_path, is_overlay, is_override}
 use Rattle.overlay_merge.specs.Layers.{base_at, base_of, descent, has_layer, layer_below, layer_by, has_node, layers_of, overlay_layers, override_layer, override_layers, path_at}
-use Rattle.overlay_merge.specs.Hiding.{layer_is_cut, resource_list, merged_from, uncut_of}
+use Rattle.overlay_merge.specs.Hiding.{layer_is_cut, resource_list, merged_from, shown_resources}
 use Rattle.overlay_merge.specs.Merged.{has_resource}
 use Rattle.overlay_merge.specs.Walk.{has_kid_node}
 use Rattle.overlay_merge.proofs.PathLemmas.{is_path-first}
@@ -248,12 +248,12 @@ cut_none true xs e = refl
 cut_none false xs e = e
 
 -- where no layer is a node nothing is merged
-pub no_node_merged : (tree : Content) (layers : List Layer) → has_node tree layers ≡ false → uncut_of tree layers ≡ []
-unfolding uncut_of
+pub no_node_merged : (tree : Content) (layers : List Layer) → has_node tree layers ≡ false → shown_resources tree layers ≡ []
+unfolding shown_resources
 no_node_merged tree [] none = refl
 no_node_merged tree (layer ∷ above) none =
     let both = or_none (is_some (node_at tree layer.path)) (has_node tree above) none in
-    ap (λ l. l ++ uncut_of tree above) (cut_none (layer_is_cut tree layer above) (resource_list (res_at tree layer.path)) (none_res tree layer.path (node_at tree layer.path) both.0))
+    ap (λ l. l ++ shown_resources tree above) (cut_none (layer_is_cut tree layer above) (resource_list (res_at tree layer.path)) (none_res tree layer.path (node_at tree layer.path) both.0))
     ∙ no_node_merged tree above both.1
 
 if_none : {A : Type 0} (valid : Bool) (xs : List A) → xs ≡ [] → cond valid xs [] ≡ []
@@ -265,7 +265,7 @@ unfolding merged_from
 merged_at_node tree path is there =
     ⊎_elim (λ (some : has_node tree (layers_of tree path) ≡ true). some)
     (λ (none : has_node tree (layers_of tree path) ≡ false).
-    let nothing : merged_from tree path ≡ [] = if_none (is_path path) (uncut_of tree (layers_of tree path)) (no_node_merged tree (layers_of tree path) none) in
+    let nothing : merged_from tree path ≡ [] = if_none (is_path path) (shown_resources tree (layers_of tree path)) (no_node_merged tree (layers_of tree path) none) in
     absurd (false≢true (sym (ap (λ (l : List Resource). not (length l == 0)) nothing) ∙ sym (has_merged tree path is) ∙ there)))
     (cases_Bool (has_node tree (layers_of tree path)))
 
@@ -273,4 +273,4 @@ pub none_merged : (tree : Content) (path : List (List ℕ)) (layers : List Layer
     → list ≡ merged_from tree path
 unfolding merged_from
 none_merged tree path layers list list_is is none =
-    list_is ∙ sym (if_none (is_path path) (uncut_of tree (layers_of tree path)) (no_node_merged tree (layers_of tree path) (ap (has_node tree) (sym is) ∙ none)))
+    list_is ∙ sym (if_none (is_path path) (shown_resources tree (layers_of tree path)) (no_node_merged tree (layers_of tree path) (ap (has_node tree) (sym is) ∙ none)))

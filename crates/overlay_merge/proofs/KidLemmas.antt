@@ -16,7 +16,7 @@ use Rattle.resource_tree.specs.Content.{Content, IsTree, kid, node_at}
 use Rattle.resource_tree.specs.Seen.{Resource, res_at, res_of}
 use Rattle.resource_tree.specs.declared.nodes.Node.{Node}
 use Rattle.overlay_merge.specs.declared.layers.Layer.{Layer}
-use Rattle.overlay_merge.specs.Hiding.{layer_is_cut, resource_list, merged_from, uncut, uncut_of}
+use Rattle.overlay_merge.specs.Hiding.{layer_is_cut, resource_list, merged_from, shown_resource, shown_resources}
 use Rattle.overlay_merge.specs.Kids.{all_kids, has_text, is_merged_there, with_kids_of}
 use Rattle.overlay_merge.specs.Layers.{layers_of}
 use Rattle.overlay_merge.specs.Walk.{AreNodesOf}
@@ -73,15 +73,15 @@ nodes_from tree path (Some node) is =
     All-cons (λ (res : Resource). res_at tree res.path ≡ Some res) (res_of path node) [] (ap (option_map (res_of path)) is) (All-nil (λ (res : Resource). res_at tree res.path ≡ Some res))
 nodes_from tree path None is = All-nil (λ (res : Resource). res_at tree res.path ≡ Some res)
 
-nodes_uncut : (tree : Content) (layer : Layer) (cut : Bool) → AreNodesOf tree (cond cut [] (resource_list (res_at tree layer.path)))
-nodes_uncut tree layer true = All-nil (λ (res : Resource). res_at tree res.path ≡ Some res)
-nodes_uncut tree layer false = nodes_from tree layer.path (node_at tree layer.path) refl
+nodes_shown : (tree : Content) (layer : Layer) (cut : Bool) → AreNodesOf tree (cond cut [] (resource_list (res_at tree layer.path)))
+nodes_shown tree layer true = All-nil (λ (res : Resource). res_at tree res.path ≡ Some res)
+nodes_shown tree layer false = nodes_from tree layer.path (node_at tree layer.path) refl
 
-pub are_nodes : (tree : Content) (layers : List Layer) → AreNodesOf tree (uncut_of tree layers)
-unfolding uncut_of
+pub are_nodes : (tree : Content) (layers : List Layer) → AreNodesOf tree (shown_resources tree layers)
+unfolding shown_resources
 are_nodes tree [] = All-nil (λ (res : Resource). res_at tree res.path ≡ Some res)
 are_nodes tree (layer ∷ above) =
-    All-append (λ (res : Resource). res_at tree res.path ≡ Some res) (uncut tree layer above) (uncut_of tree above) (nodes_uncut tree layer (layer_is_cut tree layer above)) (are_nodes tree above)
+    All-append (λ (res : Resource). res_at tree res.path ≡ Some res) (shown_resource tree layer above) (shown_resources tree above) (nodes_shown tree layer (layer_is_cut tree layer above)) (are_nodes tree above)
 
 -- ---- steps of a list
 
@@ -148,7 +148,7 @@ add_more before kids more names new name lower known more_is names_is known_is i
     ∙ ap (λ l. before ++ (filter p kids ++ l)) (unless_known known name ∙ ap (λ t. cond (not t) (name ∷ []) []) known_is)
     ∙ ap (λ l. before ++ l) (sym (filter_more p kids more name more_is))
 
-nodes_if : (tree : Content) (valid : Bool) (layers : List Layer) → AreNodesOf tree (cond valid (uncut_of tree layers) [])
+nodes_if : (tree : Content) (valid : Bool) (layers : List Layer) → AreNodesOf tree (cond valid (shown_resources tree layers) [])
 nodes_if tree true layers = are_nodes tree layers
 nodes_if tree false layers = All-nil (λ (res : Resource). res_at tree res.path ≡ Some res)
 

@@ -12,7 +12,7 @@ use Rattle.resource_tree.specs.Content.{Content, kid}
 use Rattle.resource_tree.specs.Seen.{Resource, res_at}
 use Rattle.overlay_merge.specs.declared.layers.Layer.{Layer}
 use Rattle.overlay_merge.specs.Roots.{is_merged_path, is_parent_of_roots}
-use Rattle.overlay_merge.specs.Hiding.{layer_is_cut, resource_list, merged_from, uncut_of}
+use Rattle.overlay_merge.specs.Hiding.{layer_is_cut, resource_list, merged_from, shown_resources}
 use Rattle.overlay_merge.specs.Kids.{all_kids, has_text, is_merged_there, layers_kids, kids_there, names_after_move, names_after_move_from, ordered_by, wish_at}
 use Rattle.overlay_merge.specs.Merged.{merge, merged_resource, unmerged_resource, without_roots}
 use Rattle.overlay_merge.proofs.KidLemmas.{has-all_kids}
@@ -22,9 +22,9 @@ unfolding merged_resource
 unmerged_is tree path plain other =
     ap (λ t. cond t (merge tree path (merged_from tree path)) (unmerged_resource tree path)) plain ∙ ap (λ t. cond t (option_map without_roots (res_at tree path)) (res_at tree path)) other
 
-pub cut_is : (tree : Content) (layer : Layer) (above : List Layer) → layer_is_cut tree layer above ≡ true → uncut_of tree (layer ∷ above) ≡ uncut_of tree above
-unfolding uncut_of
-cut_is tree layer above cut = ap (λ t. cond t [] (resource_list (res_at tree layer.path)) ++ uncut_of tree above) cut
+pub cut_is : (tree : Content) (layer : Layer) (above : List Layer) → layer_is_cut tree layer above ≡ true → shown_resources tree (layer ∷ above) ≡ shown_resources tree above
+unfolding shown_resources
+cut_is tree layer above cut = ap (λ t. cond t [] (resource_list (res_at tree layer.path)) ++ shown_resources tree above) cut
 
 -- ---- moves
 

@@ -11,7 +11,7 @@ use Rattle.resource_tree.specs.Content.{Content, IsTree, kid, name_of, node_at}
 use Rattle.resource_tree.specs.Seen.{Resource}
 use Rattle.overlay_merge.specs.Roots.{is_merged_path, is_overlay, is_override}
 use Rattle.overlay_merge.specs.Layers.{has_node, layers_of, overlay_layers, override_layers}
-use Rattle.overlay_merge.specs.Hiding.{merged_from, uncut_of}
+use Rattle.overlay_merge.specs.Hiding.{merged_from, shown_resources}
 use Rattle.overlay_merge.specs.Merged.{has_resource}
 use Rattle.overlay_merge.specs.Walk.{has_kid_node}
 use Rattle.overlay_merge.specs.declared.layers.Layer.{Layer}
@@ -86,15 +86,15 @@ no_layers tree path rest none true b = ap overlay_layers none
 no_layers tree path rest none false true = ap (override_layers tree) none
 no_layers tree path rest none false false = refl
 
-none_uncut : (tree : Content) (valid : Bool) → cond valid (uncut_of tree []) [] ≡ []
-unfolding uncut_of
-none_uncut tree true = refl
-none_uncut tree false = refl
+none_shown : (tree : Content) (valid : Bool) → cond valid (shown_resources tree []) [] ≡ []
+unfolding shown_resources
+none_shown tree true = refl
+none_shown tree false = refl
 
 root_none : (tree : Content) (path : List (List ℕ)) → length path ≤ 2 → merged_from tree path ≡ []
 unfolding merged_from layers_of
 root_none tree path small =
-    ap (λ l. cond (is_path path) (uncut_of tree l) []) (no_layers tree path (drop 2 path) (no_rest path small) (is_overlay path) (is_override path)) ∙ none_uncut tree (is_path path)
+    ap (λ l. cond (is_path path) (shown_resources tree l) []) (no_layers tree path (drop 2 path) (no_rest path small) (is_overlay path) (is_override path)) ∙ none_shown tree (is_path path)
 
 -- a merged resource is no root, and its parent's path is merged too
 merged_parent : (tree : Content) (other : List (List ℕ)) → is_merged_path other ≡ true → has_resource tree other ≡ true → is_merged_path (parent_of other) ≡ true

@@ -20,7 +20,7 @@ use Rattle.resource_tree.specs.declared.nodes.Node.{Node}
 use Rattle.overlay_merge.specs.declared.layers.Layer.{Layer}
 use Rattle.overlay_merge.specs.Roots.{is_merged_path}
 use Rattle.overlay_merge.specs.Layers.{has_node, layers_of}
-use Rattle.overlay_merge.specs.Hiding.{lists_name, layer_is_cut, resource_list, merged_from, uncut, uncut_of}
+use Rattle.overlay_merge.specs.Hiding.{lists_name, layer_is_cut, resource_list, merged_from, shown_resource, shown_resources}
 use Rattle.overlay_merge.specs.Properties.{is_steering, lower_properties_left, merged_props, put_all, with_layer, without_steering}
 use Rattle.overlay_merge.specs.Kids.{all_kids, has_text, is_merged_there, layers_kids, kids_there, names_after_move, ordered_by, wish_at, with_kids_of}
 use Rattle.overlay_merge.specs.Merged.{merge, merged_resource, unmerged_resource}
@@ -77,13 +77,13 @@ one_of : (tree : Content) (path : List (List ℕ)) (lower above : List Layer) (l
 one_of tree path lower above layer true o whole cut there = All-nil (IsOfLayer tree path)
 one_of tree path lower above layer false None whole cut there = All-nil (IsOfLayer tree path)
 one_of tree path lower above layer false (Some res) whole cut there =
-    All-cons (IsOfLayer tree path) res [] (record { lower = lower; layer = layer; upper = above; layers = whole; uncut = cut; there = there }) (All-nil (IsOfLayer tree path))
+    All-cons (IsOfLayer tree path) res [] (record { lower = lower; layer = layer; upper = above; layers = whole; not_cut = cut; there = there }) (All-nil (IsOfLayer tree path))
 
-of_layers : (tree : Content) (path : List (List ℕ)) (lower layers : List Layer) → layers_of tree path ≡ lower ++ layers → All (IsOfLayer tree path) (uncut_of tree layers)
-unfolding uncut_of
+of_layers : (tree : Content) (path : List (List ℕ)) (lower layers : List Layer) → layers_of tree path ≡ lower ++ layers → All (IsOfLayer tree path) (shown_resources tree layers)
+unfolding shown_resources
 of_layers tree path lower [] whole = All-nil (IsOfLayer tree path)
 of_layers tree path lower (layer ∷ above) whole =
-    All-append (IsOfLayer tree path) (uncut tree layer above) (uncut_of tree above) (one_of tree path lower above layer (layer_is_cut tree layer above) (res_at tree layer.path) whole refl refl)
+    All-append (IsOfLayer tree path) (shown_resource tree layer above) (shown_resources tree above) (one_of tree path lower above layer (layer_is_cut tree layer above) (res_at tree layer.path) whole refl refl)
     (of_layers tree path (lower ++ layer ∷ []) above (more_lower tree path (layers_of tree path) lower above layer whole))
 
 all_if : {X : Type 0} (P : X → Type 0) (valid : Bool) (xs : List X) → All P xs → All P (cond valid xs [])
@@ -92,7 +92,7 @@ all_if P false xs all = All-nil P
 
 pub all_of_layers : (tree : Content) (path : List (List ℕ)) → All (IsOfLayer tree path) (merged_from tree path)
 unfolding merged_from
-all_of_layers tree path = all_if (IsOfLayer tree path) (is_path path) (uncut_of tree (layers_of tree path)) (of_layers tree path [] (layers_of tree path) refl)
+all_of_layers tree path = all_if (IsOfLayer tree path) (is_path path) (shown_resources tree (layers_of tree path)) (of_layers tree path [] (layers_of tree path) refl)
 
 -- ---- what is merged
 
@@ -192,22 +192,22 @@ one_props : (res : Resource) → is_sorted by_name res.props ≡ true → merged
 unfolding merged_props with_layer
 one_props res sorted = ap without_steering (put_sorted [] res.props sorted)
 
-none_of : (tree : Content) (layers rest : List Layer) → has_node tree layers ≡ false → uncut_of tree (layers ++ rest) ≡ uncut_of tree rest
-unfolding uncut_of
+none_of : (tree : Content) (layers rest : List Layer) → has_node tree layers ≡ false → shown_resources tree (layers ++ rest) ≡ shown_resources tree rest
+unfolding shown_resources
 none_of tree [] rest none = refl
 none_of tree (layer ∷ layers) rest none =
     let both = or_none (is_some (node_at tree layer.path)) (has_node tree layers) none in
-    ap (λ l. l ++ uncut_of tree (layers ++ rest)) (no_res (layer_is_cut tree layer (layers ++ rest)) (option_map (res_of layer.path) (node_at tree layer.path)) (ap_none layer.path (node_at tree layer.path) both.0))
+    ap (λ l. l ++ shown_resources tree (layers ++ rest)) (no_res (layer_is_cut tree layer (layers ++ rest)) (option_map (res_of layer.path) (node_at tree layer.path)) (ap_none layer.path (node_at tree layer.path) both.0))
     ∙ none_of tree layers rest both.1
 
 pub only_layer : (tree : Content) (path : List (List ℕ)) (lower upper : List Layer) (layer : Layer) (res : Resource) → is_path path ≡ true → is_merged_path path ≡ true
     → layers_of tree path ≡ lower ++ layer ∷ upper → has_node tree lower ≡ false → has_node tree upper ≡ false → layer_is_cut tree layer upper ≡ false → res_at tree layer.path ≡ Some res → is_sorted by_name res.props ≡ true
     → merged_resource tree path ≡ Some (record { path = path; props = without_steering res.props; kids = layers_kids tree path (res ∷ []) })
-unfolding merged_from uncut_of
-only_layer tree path lower upper layer res valid is layers low up uncut_is there sorted =
+unfolding merged_from shown_resources
+only_layer tree path lower upper layer res valid is layers low up not_cut there sorted =
     let from : merged_from tree path ≡ res ∷ [] =
-    ap (λ t. cond t (uncut_of tree (layers_of tree path)) []) valid ∙ ap (uncut_of tree) layers ∙ none_of tree lower (layer ∷ upper) low
-    ∙ ap (λ t. cond t [] (resource_list (res_at tree layer.path)) ++ uncut_of tree upper) uncut_is ∙ ap (λ o. resource_list o ++ uncut_of tree upper) there
+    ap (λ t. cond t (shown_resources tree (layers_of tree path)) []) valid ∙ ap (shown_resources tree) layers ∙ none_of tree lower (layer ∷ upper) low
+    ∙ ap (λ t. cond t [] (resource_list (res_at tree layer.path)) ++ shown_resources tree upper) not_cut ∙ ap (λ o. resource_list o ++ shown_resources tree upper) there
     ∙ ap (λ l. res ∷ l) (no_node_merged tree upper up) in
     merged_is tree path is ∙ ap (merge tree path) from
     ∙ ap (λ props. Some (record { path = path; props = props; kids = layers_kids tree path (res ∷ []) })) (one_props res sorted)

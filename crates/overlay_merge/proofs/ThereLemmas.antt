@@ -14,7 +14,7 @@ use Rattle.type_chain.specs.Types.{place_of}
 use Rattle.overlay_merge.specs.declared.layers.Layer.{Layer}
 use Rattle.overlay_merge.specs.Roots.{is_overlay, is_override}
 use Rattle.overlay_merge.specs.Layers.{base_at, base_of, descent, has_layer, has_node, layer_below, layer_by, layers_of, overlay_layers, override_layer, override_layers, path_at}
-use Rattle.overlay_merge.specs.Hiding.{hides_kid_at, hides_kid_within, hides_resource_at, hides_resource_within, in_common, is_hidden_by, is_within, layer_is_cut, merged_from, resource_list, some_below, uncut, uncut_of}
+use Rattle.overlay_merge.specs.Hiding.{hides_kid_at, hides_kid_within, hides_resource_at, hides_resource_within, in_common, is_hidden_by, is_within, layer_is_cut, merged_from, resource_list, some_below, shown_resource, shown_resources}
 use Rattle.overlay_merge.specs.Cut.{HasRoomFor, HidesNothing, NoLayerIsCut}
 use Rattle.overlay_merge.specs.Kids.{has_text, is_merged_there}
 use Rattle.overlay_merge.specs.Walk.{has_kid_node}
@@ -154,13 +154,13 @@ one_res path None e = absurd (false≢true e)
 one_res path (Some node) e = refl
 
 some_left : (tree : Content) (layers : List Layer) → ((lower upper : List Layer) (layer : Layer) → layers ≡ lower ++ layer ∷ upper → layer_is_cut tree layer upper ≡ false)
-    → has_node tree layers ≡ true → 0 < length (uncut_of tree layers)
-unfolding uncut_of
+    → has_node tree layers ≡ true → 0 < length (shown_resources tree layers)
+unfolding shown_resources
 some_left tree [] left there = absurd (false≢true there)
 some_left tree (layer ∷ above) left there =
-    let size : length (uncut_of tree (layer ∷ above)) ≡ length (uncut tree layer above) + length (uncut_of tree above) = length-append (uncut tree layer above) (uncut_of tree above) in
+    let size : length (shown_resources tree (layer ∷ above)) ≡ length (shown_resource tree layer above) + length (shown_resources tree above) = length-append (shown_resource tree layer above) (shown_resources tree above) in
     ⊎_elim (λ (here : is_some (node_at tree layer.path) ≡ true).
-    let one : length (uncut tree layer above) ≡ 1 = ap (λ t. length (cond t [] (resource_list (res_at tree layer.path)))) (left [] above layer refl) ∙ one_res layer.path (node_at tree layer.path) here in
+    let one : length (shown_resource tree layer above) ≡ 1 = ap (λ t. length (cond t [] (resource_list (res_at tree layer.path)))) (left [] above layer refl) ∙ one_res layer.path (node_at tree layer.path) here in
     omega (arith, size, one))
     (λ (missing : is_some (node_at tree layer.path) ≡ false).
     let more = some_left tree above (λ lower upper l is. left (layer ∷ lower) upper l (ap (λ (ls : List Layer). layer ∷ ls) is)) (or_second (is_some (node_at tree layer.path)) (has_node tree above) missing there) in
@@ -171,8 +171,8 @@ kid_left : (tree : Content) (path : List (List ℕ)) (name : List ℕ) → IsTre
     → has_kid_node tree name (layers_of tree path) ≡ true → is_merged_there tree (kid path name) ≡ true
 unfolding merged_from
 kid_left tree path name good left room there =
-    ap (λ t. not (length (cond t (uncut_of tree (layers_of tree (kid path name))) []) == 0)) room.below_path
-    ∙ ap not (not_zero (length (uncut_of tree (layers_of tree (kid path name)))) (some_left tree (layers_of tree (kid path name)) left (has_kid tree path name good room.below_layers there)))
+    ap (λ t. not (length (cond t (shown_resources tree (layers_of tree (kid path name))) []) == 0)) room.below_path
+    ∙ ap not (not_zero (length (shown_resources tree (layers_of tree (kid path name)))) (some_left tree (layers_of tree (kid path name)) left (has_kid tree path name good room.below_layers there)))
 
 kid_of_one : (tree : Content) (name : List ℕ) (lower upper : List Layer) (layer : Layer) → is_some (node_at tree (kid layer.path name)) ≡ true → has_kid_node tree name (lower ++ layer ∷ upper) ≡ true
 kid_of_one tree name [] upper layer there = or_left (is_some (node_at tree (kid layer.path name))) (has_kid_node tree name upper) there

@@ -11,8 +11,8 @@ use Rattle.sp_base.specs.Paths.{is_path}
 use Rattle.overlay_merge.specs.Layers.{layers_of}
 use Rattle.overlay_merge.specs.declared.layers.Layer.{Layer}
 use Rattle.overlay_merge.specs.declared.hiding.HidingDepths.{HidingDepths}
-use Rattle.overlay_merge.specs.declared.uncut.ScreenedLayer.{ScreenedLayer}
-use Rattle.overlay_merge.specs.Hiding.{hides_kid, hides_kid_at, hides_kid_within, hides_resource, hides_resource_at, hides_resource_within, in_common, layer_is_cut, is_hidden_by, is_within, resource_list, merged_from, some_below, uncut, uncut_of}
+use Rattle.overlay_merge.specs.declared.merged_resources.ScreenedLayer.{ScreenedLayer}
+use Rattle.overlay_merge.specs.Hiding.{hides_kid, hides_kid_at, hides_kid_within, hides_resource, hides_resource_at, hides_resource_within, in_common, layer_is_cut, is_hidden_by, is_within, resource_list, merged_from, some_below, shown_resource, shown_resources}
 use Rattle.overlay_merge.specs.Walk.{hiding_depths, is_screened, kid_depth, last_below, reaches, resource_depth, screened_layer, screens, some_screens, unscreened_resources}
 use Rattle.overlay_merge.proofs.PathLemmas.{none_from}
 
@@ -102,12 +102,12 @@ is_screened-is tree layer above =
     ap (λ t. t || some_screens layer.common (map (screened_layer tree) above)) (resource_reaches tree layer.own layer.path)
     ∙ ap (λ t. hides_resource_within tree layer.own layer.path || t) (some_screens-is tree layer.common above)
 
-pub unscreened_of-is : (tree : Content) (layers : List Layer) → unscreened_resources tree (map (screened_layer tree) layers) ≡ uncut_of tree layers
-unfolding unscreened_resources uncut_of
+pub unscreened_of-is : (tree : Content) (layers : List Layer) → unscreened_resources tree (map (screened_layer tree) layers) ≡ shown_resources tree layers
+unfolding unscreened_resources shown_resources
 unscreened_of-is tree [] = refl
 unscreened_of-is tree (layer ∷ above) =
     ap (λ t. cond t [] (resource_list (res_at tree layer.path)) ++ unscreened_resources tree (map (screened_layer tree) above)) (is_screened-is tree layer above)
-    ∙ ap (λ more. uncut tree layer above ++ more) (unscreened_of-is tree above)
+    ∙ ap (λ more. shown_resource tree layer above ++ more) (unscreened_of-is tree above)
 
 -- ---- the notes of a walk
 
@@ -137,8 +137,8 @@ pub merged_from-is : (tree : Content) (path : List (List ℕ)) (layers : List La
     → layers ≡ layers_of tree path → list ≡ map (screened_layer tree) layers → res ≡ unscreened_resources tree list → res ≡ merged_from tree path
 unfolding merged_from
 merged_from-is tree path layers list res valid layers_is list_is is =
-    is ∙ ap (unscreened_resources tree) list_is ∙ unscreened_of-is tree layers ∙ ap (uncut_of tree) layers_is ∙ sym (ap (λ t. cond t (uncut_of tree (layers_of tree path)) []) valid)
+    is ∙ ap (unscreened_resources tree) list_is ∙ unscreened_of-is tree layers ∙ ap (shown_resources tree) layers_is ∙ sym (ap (λ t. cond t (shown_resources tree (layers_of tree path)) []) valid)
 
 pub not_merged : (tree : Content) (path : List (List ℕ)) → is_path path ≡ false → merged_from tree path ≡ []
 unfolding merged_from
-not_merged tree path invalid = ap (λ t. cond t (uncut_of tree (layers_of tree path)) []) invalid
+not_merged tree path invalid = ap (λ t. cond t (shown_resources tree (layers_of tree path)) []) invalid

@@ -36,7 +36,7 @@ pub record IsOfLayer (tree : Content) (path : List (List ℕ)) (res : Resource) 
   pub layer : Layer
   pub upper : List Layer
   pub layers : layers_of tree path ≡ lower ++ layer ∷ upper
-  pub uncut : layer_is_cut tree layer upper ≡ false
+  pub not_cut : layer_is_cut tree layer upper ≡ false
   pub there : res_at tree layer.path ≡ Some res
 
 -- no layer of a path is cut

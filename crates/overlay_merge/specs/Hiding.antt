@@ -100,14 +100,14 @@ resource_list None = []
 resource_list (Some res) = res ∷ []
 
 -- the resource that a layer adds, below these layers
-abbrev pub uncut : Content → Layer → List Layer → List Resource
-uncut tree layer above = if layer_is_cut tree layer above then [] else resource_list (res_at tree layer.path)
+abbrev pub shown_resource : Content → Layer → List Layer → List Resource
+shown_resource tree layer above = if layer_is_cut tree layer above then [] else resource_list (res_at tree layer.path)
 
 -- what is at the layers that aren't cut, the lowest first
-unfoldable pub uncut_of : Content → List Layer → List Resource
-uncut_of tree [] = []
-uncut_of tree (layer ∷ above) = uncut tree layer above ++ uncut_of tree above
+unfoldable pub shown_resources : Content → List Layer → List Resource
+shown_resources tree [] = []
+shown_resources tree (layer ∷ above) = shown_resource tree layer above ++ shown_resources tree above
 
 -- the resources that are merged at a path
 unfoldable pub merged_from : Content → List (List ℕ) → List Resource
-merged_from tree path = if is_path path then uncut_of tree (layers_of tree path) else []
+merged_from tree path = if is_path path then shown_resources tree (layers_of tree path) else []

@@ -7,7 +7,7 @@ use Rattle.resource_tree.specs.Content.{Content, kid, node_at}
 use Rattle.resource_tree.specs.Seen.{Resource, res_at}
 use Rattle.overlay_merge.specs.declared.layers.Layer.{Layer}
 use Rattle.overlay_merge.specs.declared.hiding.HidingDepths.{HidingDepths}
-use Rattle.overlay_merge.specs.declared.uncut.ScreenedLayer.{ScreenedLayer}
+use Rattle.overlay_merge.specs.declared.merged_resources.ScreenedLayer.{ScreenedLayer}
 use Rattle.overlay_merge.specs.Hiding.{hides_kid_at, hides_resource_at, resource_list}
 
 -- one more than the last number below n that has it, and 0 where none has

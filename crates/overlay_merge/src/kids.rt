@@ -5,8 +5,8 @@ ghost use Rattle.resource_tree.specs.Content.{kid, node_at};
 ghost use Rattle.overlay_merge.specs.Kids.{all_kids, has_text, is_merged_there, layers_kids, kids_there, with_kids_of};
 ghost use Rattle.overlay_merge.specs.Walk.{AreNodesOf};
 
+use crate::merged_resources::merged_from;
 use crate::order::{moves_of, ordered};
-use crate::uncut::merged_from;
 use resource_tree::{Res, Tree};
 use sp_base::{Mem, Path, TextBuf, TextList};
 use std::alloc::Global;

@@ -11,7 +11,7 @@ ghost use Rattle.resource_tree.specs.Seen.{Resource, res_at};
 ghost use Rattle.overlay_merge.specs.declared.layers.Layer.{Layer};
 ghost use Rattle.overlay_merge.specs.Roots.{is_merged_path, is_parent_of_roots};
 ghost use Rattle.overlay_merge.specs.Layers.{has_node, layers_of};
-ghost use Rattle.overlay_merge.specs.Hiding.{layer_is_cut, merged_from, uncut_of};
+ghost use Rattle.overlay_merge.specs.Hiding.{layer_is_cut, merged_from, shown_resources};
 ghost use Rattle.overlay_merge.specs.Cut.{HasRoomFor, HidesNothing, IsOfLayer, LayerIsCut, NoLayerIsCut};
 ghost use Rattle.overlay_merge.specs.Properties.{without_steering};
 ghost use Rattle.overlay_merge.specs.Kids.{all_kids, has_text, is_merged_there, layers_kids, kids_there, wish_at};
@@ -47,7 +47,7 @@ pub fn a_layer_is_cut_by_a_node()
 
 /// A layer that is cut adds nothing to what is merged, neither properties nor kids.
 pub fn a_cut_layer_is_left_out()
-    ensures { (tree : Content) (layer : Layer) (above : List Layer) → layer_is_cut tree layer above ≡ true → uncut_of tree (layer ∷ above) ≡ uncut_of tree above }
+    ensures { (tree : Content) (layer : Layer) (above : List Layer) → layer_is_cut tree layer above ≡ true → shown_resources tree (layer ∷ above) ≡ shown_resources tree above }
 {}
 
 /// What kids wish of their places changes the order of kids alone.

@@ -6,6 +6,7 @@ mod hiding;
 mod kids;
 mod laws;
 mod layers;
+mod merged_resources;
 mod merging;
 mod order;
 mod properties;
@@ -13,7 +14,6 @@ mod reach;
 mod rebase;
 mod roots;
 mod slots;
-mod uncut;
 mod view;
 
 pub use along::AlongView;

@@ -5,9 +5,9 @@ ghost use Rattle.overlay_merge.specs.Roots.{is_name_of_root};
 ghost use Rattle.overlay_merge.specs.Merged.{has_resource, kids_in, merge, merged_resource, merged_alone, unmerged_resource, without_kids};
 
 use crate::kids::kids_of;
+use crate::merged_resources::merged_from;
 use crate::properties::merged_props;
 use crate::roots::{is_merged_path, is_name_of_root, is_parent_of_roots};
-use crate::uncut::merged_from;
 use resource_tree::{Node, Res, Tree};
 use sp_base::{Mem, Path, TextBuf, TextList};
 use std::alloc::Global;

@@ -5,7 +5,7 @@ use Rattle.overlay_merge.proofs.DescentLemmas.{none_merged}
 use Rattle.overlay_merge.specs.Walk.{AreNodesOf, unscreened_resources}
 use Rattle.overlay_merge.proofs.WalkLemmas.{merged_from-is}
 use Rattle.overlay_merge.proofs.KidLemmas.{are_nodes_merged}
-use Rattle.overlay_merge.proofs.uncut.merged_from.Goals as goal
+use Rattle.overlay_merge.proofs.merged_resources.merged_from.Goals as goal
 
 pub returns-clause-layers : goal.returns-clause-layers
 returns-clause-layers c =

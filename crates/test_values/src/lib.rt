@@ -1,8 +1,6 @@
-//! What the crates of tests share: the failure of a test's own steps, and values as a test writes them.
+//! What the crates of tests share: an answer as a test writes it.
 #![tactic(auto)]
 
-mod failed;
-mod values;
+mod answers;
 
-pub use failed::Failed;
-pub use values::{answer_of, path_at, push_field, push_text};
+pub use answers::answer_of;

@@ -25,7 +25,7 @@ mod table;
 mod tree;
 
 pub use create::MOST_NODES;
-pub use faults::TreeFault;
+pub use faults::{TreeFault, name_taken, no_such, node_exists};
 pub use look::{Look, Res, Shown};
 pub use node_map::NodeMap;
 pub use nodes::Node;

@@ -15,11 +15,10 @@ ghost use Rattle.tree_draft.specs.Drafts.{DraftFollows, IsCounted, IsSound};
 
 use crate::Draft;
 use crate::create::last_segment;
-use crate::faults::{name_taken, no_such, node_exists};
 use crate::held::HeldEntry;
 use crate::part::paths_under;
 use indexmap::IndexMap;
-use resource_tree::{MOST_NODES, TreeFault};
+use resource_tree::{MOST_NODES, TreeFault, name_taken, no_such, node_exists};
 use sp_base::{Mem, Path};
 use std::alloc::Global;
 use std::hash::RandomState;

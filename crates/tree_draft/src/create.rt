@@ -11,9 +11,8 @@ ghost use Rattle.tree_draft.specs.Drafts.{DraftFollows, IsCounted, IsSound};
 
 use crate::Draft;
 use crate::edit::Edit;
-use crate::faults::{name_taken, no_such, node_exists};
 use crate::held::HeldEntry;
-use resource_tree::{MOST_NODES, TreeFault};
+use resource_tree::{MOST_NODES, TreeFault, name_taken, no_such, node_exists};
 use sp_base::{Mem, NoMemory, Path, TextBuf};
 use std::alloc::Global;
 

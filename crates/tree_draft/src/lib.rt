@@ -8,7 +8,6 @@ mod create;
 mod draft;
 mod edit;
 mod falls;
-mod faults;
 mod held;
 mod kid_list;
 mod kids;

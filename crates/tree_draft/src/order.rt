@@ -6,9 +6,8 @@ ghost use Rattle.tree_draft.specs.Drafts.{DraftFollows, IsSound};
 
 use crate::Draft;
 use crate::create::last_segment;
-use crate::faults::no_such;
 use crate::kids::kids_in_order;
-use resource_tree::{Place, TreeFault};
+use resource_tree::{Place, TreeFault, no_such};
 use sp_base::{Mem, Path, TextList};
 use std::alloc::Global;
 

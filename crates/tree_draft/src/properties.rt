@@ -7,8 +7,7 @@ ghost use Rattle.tree_draft.specs.Drafts.{DraftFollows, IsSound};
 
 use crate::Draft;
 use crate::edit::Edit;
-use crate::faults::no_such;
-use resource_tree::TreeFault;
+use resource_tree::{TreeFault, no_such};
 use sp_base::{Path, TextBuf, Value};
 use std::alloc::Global;
 

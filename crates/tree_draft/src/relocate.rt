@@ -6,9 +6,8 @@ ghost use Rattle.tree_draft.specs.Drafts.{DraftFollows, IsSound};
 
 use crate::Draft;
 use crate::copy::part_there;
-use crate::faults::no_such;
 use crate::part::paths_under;
-use resource_tree::TreeFault;
+use resource_tree::{TreeFault, no_such};
 use sp_base::Path;
 use std::alloc::Global;
 

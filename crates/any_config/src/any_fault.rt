@@ -6,7 +6,7 @@ use sp_base::NoMemory;
 use std::alloc::{AllocError, AllocFailed};
 
 /// Why bytes are no `dispatcher.any` file. Places are counted in bytes from 0.
-#[derive(Clone, Copy, PartialEq, Eq, Debug, Drop)]
+#[derive(Clone, Copy, PartialEq, Eq, Drop)]
 pub enum AnyFault {
     /// A name without a value begins here, or here stands a byte that begins no member, as a `}` that closes nothing.
     BadName(usize),

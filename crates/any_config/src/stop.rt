@@ -6,7 +6,7 @@ use sp_base::NoMemory;
 use std::alloc::{AllocError, AllocFailed};
 
 /// A place is told by how many bytes are left there.
-#[derive(Clone, Copy, Debug, Drop)]
+#[derive(Clone, Copy, Drop)]
 pub enum AnyStop {
     Memory,
     BadName(usize),

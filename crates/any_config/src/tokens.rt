@@ -10,7 +10,7 @@ use sp_base::{Mem, TextBuf, begins_with_byte};
 use std::alloc::Global;
 
 /// What the first bytes may belong to.
-#[derive(Clone, Copy, Debug, Drop)]
+#[derive(Clone, Copy, Drop)]
 pub enum ByteRun {
     Name,
     /// A word without quotes.

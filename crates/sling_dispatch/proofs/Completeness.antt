@@ -4,7 +4,7 @@ use Rattle.sp_base.specs.Limits.{greatest_u64}
 use Rattle.content_json.specs.ContentOf.{content as content_of}
 use Rattle.replay_text.specs.Languages.{IsRefusedWithin}
 use Rattle.replay_text.specs.Scenario.{SpellsScenario, IsScenario, ReadsScenario, longest_scenario}
-use Rattle.sling_dispatch.specs.Endings.{Told, RunCall, Means, IsDue, IsReplay, HasNotFailed, HasFailed, HasContent, HasFarm}
+use Rattle.sling_dispatch.specs.Endings.{StreamReport, RunCall, Means, IsDue, IsReplay, HasNotFailed, HasFailed, HasContent, HasFarm}
 use Rattle.sling_dispatch.specs.Farms.{farm_in, farm_text}
 use Rattle.replay_text.specs.declared.scenario.Scenario.{Scenario}
 use Rattle.sling_dispatch.specs.declared.ending.Ending.{Ending}
@@ -14,7 +14,7 @@ use Rattle.sling_dispatch.specs.declared.ending.Ending.TheVariants.{Done, Usage,
 abbrev IsOneReading : Type 0
 IsOneReading = (text : List ℕ) (s t : Scenario) → SpellsScenario text s → SpellsScenario text t → s ≡ t
 
-both_failed_and_not : (o : Told (List ℕ)) → o.faults_old < greatest_u64 → HasNotFailed o → HasFailed o → ⊥
+both_failed_and_not : (o : StreamReport (List ℕ)) → o.faults_old < greatest_u64 → HasNotFailed o → HasFailed o → ⊥
 both_failed_and_not o below not_failed failed = omega (arith, not_failed, failed)
 
 -- a text whose content has a reading isn't refused for its content
@@ -31,7 +31,7 @@ farm_reads one bytes s t reads has other refusal e =
     let ok = sym (ap (λ (x : Scenario). farm_in (farm_text x.farm)) same) ∙ has.1 in
     cc (ok, e)
 
-pub complete : IsOneReading → (c : RunCall) (sink : Told (List ℕ)) (bytes : List ℕ) (s : Scenario) (ending : Ending) → Means (IsDue c) ending sink
+pub complete : IsOneReading → (c : RunCall) (sink : StreamReport (List ℕ)) (bytes : List ℕ) (s : Scenario) (ending : Ending) → Means (IsDue c) ending sink
     → IsReplay c.words → c.source.old ≡ Some bytes → ReadsScenario bytes s → HasContent s → HasFarm s
     → c.source.faults_old < greatest_u64 → HasNotFailed c.source → sink.faults_old < greatest_u64 → HasNotFailed sink
     → (ending ≡ Done) ⊎ (ending ≡ NoMemory)

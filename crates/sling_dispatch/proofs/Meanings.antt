@@ -9,7 +9,7 @@ use Rattle.content_json.specs.declared.fault.ContentFault.TheVariants.{NoMemory 
 use Rattle.replay_text.specs.Languages.{IsRefusedWithin}
 use Rattle.sling_dispatch.specs.Streams.{IsReadOut}
 use Rattle.replay_text.specs.Scenario.{IsScenario, ReadsScenario, longest_scenario}
-use Rattle.sling_dispatch.specs.Endings.{Told, RunCall, IsRunOf, Writing, Nothing, UsageLine, SourceLine, RefusalLine, ContentLine, FarmLine, Events, output_of, HasWritten, Means, IsDue, HasContent, IsReplay, HasNotFailed, IsUntouched}
+use Rattle.sling_dispatch.specs.Endings.{StreamReport, RunCall, IsRunOf, Writing, Nothing, UsageLine, SourceLine, RefusalLine, ContentLine, FarmLine, Events, output_of, HasWritten, Means, IsDue, HasContent, IsReplay, HasNotFailed, IsUntouched}
 use Rattle.sling_dispatch.specs.InnerEndings.{IsDueIn, IsDueOf, IsContentOr, IsFarmOr, TellsText, IsDueAt}
 use Rattle.sling_dispatch.specs.Farms.{farm_in, farm_text, lacks_memory}
 use Rattle.sling_dispatch.specs.declared.farms.FarmRefusal.{FarmRefusal}
@@ -19,7 +19,7 @@ use Rattle.sling_dispatch.specs.declared.ending.Ending.{Ending}
 use Rattle.sling_dispatch.specs.declared.ending.Ending.TheVariants.{Done, Usage, SourceFailed, SinkFailed, Refused, ContentRefused, FarmRefused, NoMemory}
 
 -- what may be written here may be written there
-pub means_weaker : (D E : Writing → Type 0) → ((w : Writing) → D w → E w) → (ending : Ending) (sink : Told (List ℕ)) → Means D ending sink → Means E ending sink
+pub means_weaker : (D E : Writing → Type 0) → ((w : Writing) → D w → E w) → (ending : Ending) (sink : StreamReport (List ℕ)) → Means D ending sink → Means E ending sink
 means_weaker D E to Done sink m = (m.0, m.1, to (Events m.0 m.1) m.2, m.3, m.4)
 means_weaker D E to Usage sink m = (to UsageLine m.0, m.1)
 means_weaker D E to SourceFailed sink m = (to SourceLine m.0, m.1)
@@ -30,11 +30,11 @@ means_weaker D E to SinkFailed sink m = (m.0, to m.0 m.1, m.2, m.3)
 means_weaker D E to NoMemory sink m = (m.0, to m.0 m.1, m.2, m.3)
 
 -- Nothing was written, and memory ran out.
-pub out_of_memory : (D : Writing → Type 0) → D Nothing → (sink : Told (List ℕ)) → sink.new ≡ sink.old → HasNotFailed sink → Means D NoMemory sink
+pub out_of_memory : (D : Writing → Type 0) → D Nothing → (sink : StreamReport (List ℕ)) → sink.new ≡ sink.old → HasNotFailed sink → Means D NoMemory sink
 out_of_memory D due sink e not_failed = (Nothing, due, (0, e ∙ sym (added-nothing sink.old)), not_failed)
 
 -- What came of writing a text that is due, of which good was to be the ending.
-pub told_line : (D : Writing → Type 0) (w : Writing) (good ending : Ending) (text : List ℕ) (sink : Told (List ℕ)) → D w
+pub told_line : (D : Writing → Type 0) (w : Writing) (good ending : Ending) (text : List ℕ) (sink : StreamReport (List ℕ)) → D w
     → (HasWritten sink w → Means D good sink) → text ≡ output_of w → TellsText good text ending sink → Means D ending sink
 told_line D w good ending text sink due whole e (inl t) =
     subst (λ x. Means D x sink) (sym t.0) (whole (t.1 ∙ ap (held_after sink.old) e, t.2))
@@ -45,7 +45,7 @@ told_line D w good ending text sink due whole e (inr (inr t)) =
 
 -- The same of a text for which memory may have run out.
 pub told_made : {T E : Type 0} (items : T → List ℕ) (D : Writing → Type 0) (w : Writing) (good ending : Ending) (line : Result T E)
-    (sink : Told (List ℕ)) → D Nothing → D w → (HasWritten sink w → Means D good sink) → IfOk line (λ t. items t ≡ output_of w)
+    (sink : StreamReport (List ℕ)) → D Nothing → D w → (HasWritten sink w → Means D good sink) → IfOk line (λ t. items t ≡ output_of w)
     → IfOk line (λ t. TellsText good (items t) ending sink) → OnErr line ((ending ≡ NoMemory) × IsUntouched sink) → Means D ending sink
 told_made items D w good ending (Ok t) sink none due whole e told untold = told_line D w good ending (items t) sink due whole e told
 told_made items D w good ending (Err x) sink none due whole e told untold =
@@ -80,7 +80,7 @@ due_acts s (ContentLine fault) d = absurd d
 due_acts s (FarmLine refusal) d = absurd d
 due_acts s (Events t events) d = d
 
-pub content_told : (s : Scenario) (fault : ContentFault) (bytes : List ℕ) (ending : Ending) (sink : Told (List ℕ)) → bytes ≡ s.content
+pub content_told : (s : Scenario) (fault : ContentFault) (bytes : List ℕ) (ending : Ending) (sink : StreamReport (List ℕ)) → bytes ≡ s.content
     → (fault ≢ no_memory → content_of bytes ≡ Err fault) → Means (IsContentOr fault) ending sink → Means (IsDueIn s) ending sink
 content_told s fault bytes ending sink same e m =
     means_weaker (IsContentOr fault) (IsDueIn s) (due_content s fault (λ h. sym (ap content_of same) ∙ e h)) ending sink m

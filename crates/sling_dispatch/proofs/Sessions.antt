@@ -21,7 +21,7 @@ use Rattle.replay_text.specs.declared.event_line.EventLine.{EventLine}
 use Rattle.replay_text.specs.declared.scenario.Scenario.{Scenario}
 use Rattle.sling_dispatch.specs.Runs.{IsSession, asked_publisher_host, sling_publisher, step_of, told_of_events}
 use Rattle.sling_dispatch.specs.Fronts.{IsNext}
-use Rattle.sling_dispatch.specs.Endings.{Writing, Events, Told, told_of, HasWrittenPrefix}
+use Rattle.sling_dispatch.specs.Endings.{Writing, Events, StreamReport, report_of, HasWrittenPrefix}
 use Rattle.sling_dispatch.specs.InnerEndings.{AreActLines, IsDueOf, TellsText, ending_by, PlaysAll}
 use Rattle.sling_dispatch.specs.declared.ending.Ending.{Ending}
 use Rattle.sling_dispatch.specs.declared.ending.Ending.TheVariants.{Done, NoMemory}
@@ -160,7 +160,7 @@ session_of tree farm acts made left events s same reads farm_reads are steps run
 }
 
 -- only a prefix of what was gathered was written
-prefix_due : (tree : Content) (farm : Farm) (acts rest : List ℕ) (count k : ℕ) (Stands : RunState → Type 0) (mid : Option (List ℕ)) (gathered : List ℕ) (sink : Told (List ℕ))
+prefix_due : (tree : Content) (farm : Farm) (acts rest : List ℕ) (count k : ℕ) (Stands : RunState → Type 0) (mid : Option (List ℕ)) (gathered : List ℕ) (sink : StreamReport (List ℕ))
     → Played tree farm acts rest count Stands sink.old mid gathered → sink.new ≡ held_after mid (take k gathered) → (s : Scenario) → s.acts ≡ acts
     → content_of s.content ≡ Ok tree → farm_in (farm_text s.farm) ≡ Ok farm → (w : Writing) × IsDueOf s w × HasWrittenPrefix sink w
 prefix_due tree farm acts rest count k Stands mid gathered sink p e s same reads farm_reads =
@@ -176,7 +176,7 @@ prefix_due tree farm acts rest count k Stands mid gathered sink p e s same reads
 
 -- the sink failed, or lacked memory, while it was to take what was gathered
 pub broken_off : (tree : Content) (farm : Farm) (acts rest : List ℕ) (count k : ℕ) (Stands : RunState → Type 0) (mid : Option (List ℕ)) (gathered : List ℕ) (fault : SinkFault)
-    (sink : Told (List ℕ)) → Played tree farm acts rest count Stands sink.old mid gathered → sink.new ≡ held_after mid (take k gathered)
+    (sink : StreamReport (List ℕ)) → Played tree farm acts rest count Stands sink.old mid gathered → sink.new ≡ held_after mid (take k gathered)
     → HasSinkCause {T = Unit {0}} sink.faults_old sink.faults_new (Err fault) → PlaysAll tree farm acts (ending_by fault) sink
 broken_off tree farm acts rest count k Stands mid gathered sink_failed sink p e cause = λ s same reads farm_reads.
     let x = prefix_due tree farm acts rest count k Stands mid gathered sink p e s same reads farm_reads in (x.0, x.1, x.2, cause)
@@ -185,8 +185,8 @@ broken_off tree farm acts rest count k Stands mid gathered sink_memory sink p e 
 
 -- no more events are made, since memory ran out, and what was gathered is written
 pub played_stopped : (tree : Content) (farm : Farm) (acts rest : List ℕ) (count : ℕ) (Stands : RunState → Type 0) (mid : Option (List ℕ)) (gathered : List ℕ) (ending : Ending)
-    (sink : Told (List ℕ)) → Played tree farm acts rest count Stands sink.old mid gathered
-    → TellsText NoMemory gathered ending (told_of mid sink.new sink.faults_old sink.faults_new) → PlaysAll tree farm acts ending sink
+    (sink : StreamReport (List ℕ)) → Played tree farm acts rest count Stands sink.old mid gathered
+    → TellsText NoMemory gathered ending (report_of mid sink.new sink.faults_old sink.faults_new) → PlaysAll tree farm acts ending sink
 played_stopped tree farm acts rest count Stands mid gathered ending sink p (inl t) =
     subst (λ x. PlaysAll tree farm acts x sink) (sym t.0)
     (broken_off tree farm acts rest count (length gathered) Stands mid gathered sink_memory sink p
@@ -208,8 +208,8 @@ none_left rest (act ∷ left) are e =
 
 -- all acts were done, and what was gathered is written
 pub played_all : (tree : Content) (farm : Farm) (acts rest : List ℕ) (count : ℕ) (Stands : RunState → Type 0) (mid : Option (List ℕ)) (gathered : List ℕ) (ending : Ending)
-    (sink : Told (List ℕ)) → rest ≡ [] → Played tree farm acts rest count Stands sink.old mid gathered
-    → TellsText Done gathered ending (told_of mid sink.new sink.faults_old sink.faults_new) → PlaysAll tree farm acts ending sink
+    (sink : StreamReport (List ℕ)) → rest ≡ [] → Played tree farm acts rest count Stands sink.old mid gathered
+    → TellsText Done gathered ending (report_of mid sink.new sink.faults_old sink.faults_new) → PlaysAll tree farm acts ending sink
 played_all tree farm acts rest count Stands mid gathered ending sink whole p (inl t) =
     subst (λ x. PlaysAll tree farm acts x sink) (sym t.0) (λ s same reads farm_reads.
     let session = session_of tree farm acts p.made p.left p.events s same reads farm_reads p.acts_are p.steps p.run in (
@@ -225,9 +225,9 @@ played_all tree farm acts rest count Stands mid gathered ending sink whole p (in
     subst (λ x. PlaysAll tree farm acts x sink) (sym t.0) (broken_off tree farm acts rest count t.1.0 Stands mid gathered sink_memory sink p t.1.1 t.2)
 
 -- what a text tells of the sink, from the call's beginning on
-pub told_from : (good : Ending) (gathered text : List ℕ) (ending : Ending) (mid : Option (List ℕ)) (faults : ℕ) (sink : Told (List ℕ)) → text ≡ gathered
-    → faults ≡ sink.faults_old → TellsText good text ending (told_of mid sink.new faults sink.faults_new)
-    → TellsText good gathered ending (told_of mid sink.new sink.faults_old sink.faults_new)
+pub told_from : (good : Ending) (gathered text : List ℕ) (ending : Ending) (mid : Option (List ℕ)) (faults : ℕ) (sink : StreamReport (List ℕ)) → text ≡ gathered
+    → faults ≡ sink.faults_old → TellsText good text ending (report_of mid sink.new faults sink.faults_new)
+    → TellsText good gathered ending (report_of mid sink.new sink.faults_old sink.faults_new)
 told_from good gathered text ending mid faults sink same none t =
-    subst (λ (b : List ℕ). TellsText good b ending (told_of mid sink.new sink.faults_old sink.faults_new)) same
-    (subst (λ (n : ℕ). TellsText good text ending (told_of mid sink.new n sink.faults_new)) none t)
+    subst (λ (b : List ℕ). TellsText good b ending (report_of mid sink.new sink.faults_old sink.faults_new)) same
+    (subst (λ (n : ℕ). TellsText good text ending (report_of mid sink.new n sink.faults_new)) none t)

@@ -2,7 +2,7 @@
 use Rattle.std.proofs.Common.{◌≡◌, ◌+◌, ◌++◌, ◌∙◌, ℕ, List, [], ◌∷◌, Option, Some, None, IfSome, take, get_or, slice_get, sym, ap, refl}
 use Rattle.std.proofs.lemmas.List.{take_more}
 use Rattle.std.proofs.lemmas.Option.{slice_get_within, slice_get-get_or}
-use Rattle.sling_dispatch.specs.Endings.{Told, IsDue, Means, AreWordsOf, HasNotFailed, ending_status}
+use Rattle.sling_dispatch.specs.Endings.{StreamReport, IsDue, Means, AreWordsOf, HasNotFailed, ending_status}
 use Rattle.sling_dispatch.specs.declared.ending.Ending.{Ending}
 use Rattle.sling_dispatch.specs.declared.ending.Ending.TheVariants.{NoMemory}
 use Rattle.sling_dispatch.proofs.Meanings.{out_of_memory}
@@ -26,7 +26,7 @@ some_words None = ([], tt)
 some_words (Some all) = (all, refl)
 
 -- nothing was done, since memory ran out
-pub words_unread : (told : Option (List (List ℕ))) (source sink : Told (List ℕ)) (status : ℕ) → status ≡ ending_status NoMemory → sink.new ≡ sink.old
+pub words_unread : (told : Option (List (List ℕ))) (source sink : StreamReport (List ℕ)) (status : ℕ) → status ≡ ending_status NoMemory → sink.new ≡ sink.old
     → HasNotFailed sink → (words : List (List ℕ)) × AreWordsOf told words × (e : Ending) × (status ≡ ending_status e)
     × Means (IsDue (record { words = words; source = source })) e sink
 words_unread told source sink status is same not_failed =

@@ -22,26 +22,26 @@ use Rattle.sling_dispatch.specs.declared.ending.Ending.{Ending}
 use Rattle.sling_dispatch.specs.declared.ending.Ending.TheVariants.{Done, Usage, SourceFailed, SinkFailed, Refused, ContentRefused, FarmRefused, NoMemory}
 
 -- an object of the outside over one call: what it told before and after, and its count of faults before and after
-pub record Told (T : Type 0) : Type 0 where
+pub record StreamReport (T : Type 0) : Type 0 where
   pub old : Option T
   pub new : Option T
   pub faults_old : ℕ
   pub faults_new : ℕ
 
 -- what an object told before and after a call, with its counts of faults
-abbrev pub told_of : {T : Type 0} → Option T → Option T → ℕ → ℕ → Told T
-told_of old new faults_old faults_new = record { old = old; new = new; faults_old = faults_old; faults_new = faults_new }
+abbrev pub report_of : {T : Type 0} → Option T → Option T → ℕ → ℕ → StreamReport T
+report_of old new faults_old faults_new = record { old = old; new = new; faults_old = faults_old; faults_new = faults_new }
 
 -- no call of it failed
-abbrev pub HasNotFailed : {T : Type 0} → Told T → Type 0
+abbrev pub HasNotFailed : {T : Type 0} → StreamReport T → Type 0
 HasNotFailed o = o.faults_new ≡ o.faults_old
 
 -- a call of it failed
-abbrev pub HasFailed : {T : Type 0} → Told T → Type 0
+abbrev pub HasFailed : {T : Type 0} → StreamReport T → Type 0
 HasFailed o = Rose o.faults_old o.faults_new
 
 -- nothing was asked of it
-abbrev pub IsUntouched : {T : Type 0} → Told T → Type 0
+abbrev pub IsUntouched : {T : Type 0} → StreamReport T → Type 0
 IsUntouched o = (o.new ≡ o.old) × HasNotFailed o
 
 -- what a call may be writing: of a refusal how many newlines stand before its place, of a content its fault, of a farm why there is none
@@ -65,15 +65,15 @@ output_of (FarmLine refusal) = codes "farm refused: " ++ refusal_text refusal ++
 output_of (Events s events) = told_of_events events
 
 -- the whole text was written
-abbrev pub HasWritten : Told (List ℕ) → Writing → Type 0
+abbrev pub HasWritten : StreamReport (List ℕ) → Writing → Type 0
 HasWritten sink w = (sink.new ≡ held_after sink.old (output_of w)) × HasNotFailed sink
 
 -- a prefix of it was
-abbrev pub HasWrittenPrefix : Told (List ℕ) → Writing → Type 0
+abbrev pub HasWrittenPrefix : StreamReport (List ℕ) → Writing → Type 0
 HasWrittenPrefix sink w = (n : ℕ) × (sink.new ≡ held_after sink.old (take n (output_of w)))
 
 -- What each ending says of the sink, where IsDue says what may be written.
-abbrev pub Means : (Writing → Type 0) → Ending → Told (List ℕ) → Type 0
+abbrev pub Means : (Writing → Type 0) → Ending → StreamReport (List ℕ) → Type 0
 Means IsDue Done sink = (s : Scenario) × (events : List Event) × IsDue (Events s events) × IsSession s [] events
     × HasWritten sink (Events s events)
 Means IsDue Usage sink = IsDue UsageLine × HasWritten sink UsageLine
@@ -107,7 +107,7 @@ AreWordsOf told words = IfSome told (λ all. words ≡ all)
 -- what is told of one call of `run`, beside the sink
 pub record RunCall : Type 0 where
   pub words : List (List ℕ)
-  pub source : Told (List ℕ)
+  pub source : StreamReport (List ℕ)
 
 -- the call replays, no read failed, and of the source's bytes, where it tells them, this holds
 abbrev pub Replays : RunCall → (List ℕ → Type 0) → Type 0

@@ -10,7 +10,7 @@ use Rattle.content_json.specs.declared.fault.ContentFault.{ContentFault}
 use Rattle.content_json.specs.declared.fault.ContentFault.TheVariants.{NoMemory as no_memory}
 use Rattle.replay_text.specs.Languages.{IsRefusedWithin}
 use Rattle.replay_text.specs.Scenario.{IsActs, IsScenario, ReadsScenario, longest_scenario}
-use Rattle.sling_dispatch.specs.Endings.{Told, HasNotFailed, HasFailed, Writing, Nothing, UsageLine, SourceLine, RefusalLine, ContentLine, FarmLine, Events, Means, HasContent, IsRunOf}
+use Rattle.sling_dispatch.specs.Endings.{StreamReport, HasNotFailed, HasFailed, Writing, Nothing, UsageLine, SourceLine, RefusalLine, ContentLine, FarmLine, Events, Means, HasContent, IsRunOf}
 use Rattle.sling_dispatch.specs.Farms.{farm_in, farm_text, lacks_memory}
 use Rattle.any_config.specs.declared.farm.Farm.{Farm}
 use Rattle.sling_dispatch.specs.declared.farms.FarmRefusal.{FarmRefusal}
@@ -72,7 +72,7 @@ IsFarmOr refusal (FarmLine r) = (r ≡ refusal) × (lacks_memory refusal ≡ fal
 IsFarmOr refusal (Events s events) = ⊥
 
 -- What came of writing a text, of which good was to be the ending: that, or the sink failed, or memory did.
-abbrev pub TellsText : Ending → List ℕ → Ending → Told (List ℕ) → Type 0
+abbrev pub TellsText : Ending → List ℕ → Ending → StreamReport (List ℕ) → Type 0
 TellsText good text ending sink = ((ending ≡ good) × (sink.new ≡ held_after sink.old text) × HasNotFailed sink)
     ⊎ (((ending ≡ SinkFailed) × ((n : ℕ) × (sink.new ≡ held_after sink.old (take n text))) × HasFailed sink)
     ⊎ ((ending ≡ NoMemory) × ((n : ℕ) × (sink.new ≡ held_after sink.old (take n text))) × HasNotFailed sink))
@@ -87,12 +87,12 @@ abbrev pub AreActLines : List ℕ → Type 0
 AreActLines bytes = (acts : List EventLine) × IsActs bytes acts
 
 -- what is written where acts are played on a content by a farm, whichever scenario has them
-abbrev pub PlaysAll : Content → Farm → List ℕ → Ending → Told (List ℕ) → Type 0
+abbrev pub PlaysAll : Content → Farm → List ℕ → Ending → StreamReport (List ℕ) → Type 0
 PlaysAll tree farm acts ending sink =
     (s : Scenario) → s.acts ≡ acts → content_of s.content ≡ Ok tree → farm_in (farm_text s.farm) ≡ Ok farm → Means (IsDueOf s) ending sink
 
 -- the same before the farm is read
-abbrev pub PlaysOn : Content → Option (List ℕ) → List ℕ → Ending → Told (List ℕ) → Type 0
+abbrev pub PlaysOn : Content → Option (List ℕ) → List ℕ → Ending → StreamReport (List ℕ) → Type 0
 PlaysOn tree given acts ending sink =
     (s : Scenario) → s.acts ≡ acts → s.farm ≡ given → content_of s.content ≡ Ok tree → Means (IsDueIn s) ending sink
 

@@ -3,7 +3,7 @@ ghost use Rattle.std.specs.Prelude.{◌≡◌, ◌+◌, ℕ, List, map, IfOk, On
 ghost use Rattle.sling_dispatch.specs.declared.ending.Ending.{Ending};
 ghost use Rattle.replay_text.specs.Scenario.{longest_scenario};
 ghost use Rattle.sling_dispatch.specs.Streams.{HasTaken};
-ghost use Rattle.sling_dispatch.specs.Endings.{Means, IsDue, AreWordsOf, told_of, ending_status};
+ghost use Rattle.sling_dispatch.specs.Endings.{Means, IsDue, AreWordsOf, report_of, ending_status};
 
 use crate::ending::Ending;
 use crate::program::run;
@@ -24,9 +24,9 @@ pub fn command<W: Words, S: Source, K: Sink>(
     ensures ending { (words : List (List ℕ)) × AreWordsOf (W.told line.now) words × (e : Ending) × (result ≡ ending_status e) × Means
         (IsDue (record {
           words = words;
-          source = told_of (S.left source.old) (S.left source.new) (S.faults source.old) (S.faults source.new);
+          source = report_of (S.left source.old) (S.left source.new) (S.faults source.old) (S.faults source.new);
         }))
-        e (told_of (K.held sink.old) (K.held sink.new) (K.faults sink.old) (K.faults sink.new)) }
+        e (report_of (K.held sink.old) (K.held sink.new) (K.faults sink.old) (K.faults sink.new)) }
 {
     let Ok(words) = words_of(alloc, line) else {
         return Ending::NoMemory.status();

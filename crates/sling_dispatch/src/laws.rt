@@ -11,7 +11,7 @@ ghost use Rattle.front.specs.Publishers.{direct_answer};
 ghost use Rattle.front.specs.Events.{Event, notes_of};
 ghost use Rattle.replay_text.specs.Scenario.{ReadsScenario};
 ghost use Rattle.sling_dispatch.specs.SessionsWithoutDryEvents.{SessionsWithoutDryEventsAreOne};
-ghost use Rattle.sling_dispatch.specs.Endings.{Told, RunCall, Means, IsDue, IsReplay, HasNotFailed, HasContent, HasFarm};
+ghost use Rattle.sling_dispatch.specs.Endings.{StreamReport, RunCall, Means, IsDue, IsReplay, HasNotFailed, HasContent, HasFarm};
 ghost use Rattle.sling_dispatch.specs.declared.ending.Ending.{Ending};
 ghost use Rattle.sling_dispatch.specs.declared.ending.Ending.TheVariants.{Done, NoMemory};
 ghost use Rattle.sling_dispatch.specs.FilterParts.{SeesParts};
@@ -32,7 +32,7 @@ pub fn spellings_are_answered_alike()
 /// Where the words are right, the source's bytes are a scenario whose content and farm have a reading, and neither the source nor the
 /// sink failed, the run is done, unless it ran out of memory.
 pub fn complete()
-    ensures { (c : RunCall) (sink : Told (List ℕ)) (bytes : List ℕ) (s : Scenario) (ending : Ending) → Means (IsDue c) ending sink
+    ensures { (c : RunCall) (sink : StreamReport (List ℕ)) (bytes : List ℕ) (s : Scenario) (ending : Ending) → Means (IsDue c) ending sink
         → IsReplay c.words → c.source.old ≡ Some bytes → ReadsScenario bytes s → HasContent s → HasFarm s
         → c.source.faults_old < greatest_u64 → HasNotFailed c.source → sink.faults_old < greatest_u64 → HasNotFailed sink
         → (ending ≡ Done) ⊎ (ending ≡ NoMemory) }

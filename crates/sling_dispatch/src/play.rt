@@ -5,7 +5,7 @@ ghost use Rattle.sp_outside.specs.Causes.{HasSinkCause};
 ghost use Rattle.sling_dispatch.specs.Fronts.{IsNext};
 ghost use Rattle.sling_dispatch.specs.Runs.{sling_publisher};
 ghost use Rattle.front.specs.Fronts.{BoardStands};
-ghost use Rattle.sling_dispatch.specs.Endings.{told_of};
+ghost use Rattle.sling_dispatch.specs.Endings.{report_of};
 ghost use Rattle.sling_dispatch.specs.InnerEndings.{AreActLines, TellsText, ending_by, PlaysAll};
 
 use crate::ending::Ending;
@@ -26,7 +26,7 @@ const GATHERED_BYTES: usize = 65_536;
 
 // Writes a text, after which the run ends so.
 pub fn say<K: Sink>(sink: &mut K, text: &[u8], good: Ending) -> Ending
-    ensures { TellsText good text.now result (told_of (K.held sink.old) (K.held sink.new) (K.faults sink.old) (K.faults sink.new)) }
+    ensures { TellsText good text.now result (report_of (K.held sink.old) (K.held sink.new) (K.faults sink.old) (K.faults sink.new)) }
 {
     match write_all(sink, text) {
         Ok(()) => good,
@@ -53,7 +53,7 @@ pub fn play<K: Sink>(
     sink: &mut K,
 ) -> Ending
     requires { AreActLines acts.now }
-    ensures { PlaysAll publisher farm acts.now result (told_of (K.held sink.old) (K.held sink.new) (K.faults sink.old) (K.faults sink.new)) }
+    ensures { PlaysAll publisher farm acts.now result (report_of (K.held sink.old) (K.held sink.new) (K.faults sink.old) (K.faults sink.new)) }
 {
     events_extend();
     acts_are_told_by_their_lines();

@@ -4,7 +4,7 @@ ghost use Rattle.sling_dispatch.specs.declared.ending.Ending.{Ending};
 ghost use Rattle.replay_text.specs.Scenario.{ReadsScenario, IsScenario, longest_scenario};
 ghost use Rattle.replay_text.specs.Languages.{RefusesWithin};
 ghost use Rattle.sling_dispatch.specs.Streams.{HasTaken};
-ghost use Rattle.sling_dispatch.specs.Endings.{Means, IsDue, IsReplay, IsUntouched, told_of, ending_status};
+ghost use Rattle.sling_dispatch.specs.Endings.{Means, IsDue, IsReplay, IsUntouched, report_of, ending_status};
 ghost use Rattle.sling_dispatch.specs.InnerEndings.{AreActLines, IsDueAt, IsDueIn, IsContentOr, IsFarmOr, PlaysOn, TellsText};
 ghost use Rattle.sling_dispatch.specs.Farms as spec;
 
@@ -35,9 +35,9 @@ pub fn run<S: Source, K: Sink>(
     ensures ending { (e : Ending) × (result ≡ ending_status e) × Means
         (IsDue (record {
           words = map (λ w. w.now) words.now;
-          source = told_of (S.left source.old) (S.left source.new) (S.faults source.old) (S.faults source.new);
+          source = report_of (S.left source.old) (S.left source.new) (S.faults source.old) (S.faults source.new);
         }))
-        e (told_of (K.held sink.old) (K.held sink.new) (K.faults sink.old) (K.faults sink.new)) }
+        e (report_of (K.held sink.old) (K.held sink.new) (K.faults sink.old) (K.faults sink.new)) }
 {
     ending(alloc, seeds, words, source, sink).status()
 }
@@ -53,9 +53,9 @@ fn ending<S: Source, K: Sink>(
     ensures ending { Means
         (IsDue (record {
           words = map (λ w. w.now) words.now;
-          source = told_of (S.left source.old) (S.left source.new) (S.faults source.old) (S.faults source.new);
+          source = report_of (S.left source.old) (S.left source.new) (S.faults source.old) (S.faults source.new);
         }))
-        result (told_of (K.held sink.old) (K.held sink.new) (K.faults sink.old) (K.faults sink.new)) }
+        result (report_of (K.held sink.old) (K.held sink.new) (K.faults sink.old) (K.faults sink.new)) }
 {
     if !is_replay(words) {
         return say(sink, b"usage: replay\n", Ending::Usage);
@@ -84,8 +84,8 @@ fn is_replay(words: &[&[u8]]) -> bool
 
 // Writes a line, where memory was there to make it, after which the run ends so.
 fn say_line<K: Sink>(sink: &mut K, line: Mem<Vec<u8>>, good: Ending) -> Ending
-    ensures made { IfOk line (λ text. TellsText good text.items result (told_of (K.held sink.old) (K.held sink.new) (K.faults sink.old) (K.faults sink.new))) }
-    ensures not_made { OnErr line ((result ≡ Ending.NoMemory) × IsUntouched (told_of (K.held sink.old) (K.held sink.new) (K.faults sink.old) (K.faults sink.new))) }
+    ensures made { IfOk line (λ text. TellsText good text.items result (report_of (K.held sink.old) (K.held sink.new) (K.faults sink.old) (K.faults sink.new))) }
+    ensures not_made { OnErr line ((result ≡ Ending.NoMemory) × IsUntouched (report_of (K.held sink.old) (K.held sink.new) (K.faults sink.old) (K.faults sink.new))) }
 {
     match line {
         Ok(text) => say(sink, &text, good),
@@ -95,7 +95,7 @@ fn say_line<K: Sink>(sink: &mut K, line: Mem<Vec<u8>>, good: Ending) -> Ending
 
 // Runs the scenario that a text spells. The text is given up before the content is read.
 fn replay<K: Sink>(alloc: Global, seeds: RandomState, text: Vec<u8>, sink: &mut K) -> Ending
-    ensures { Means (IsDueAt text.items) result (told_of (K.held sink.old) (K.held sink.new) (K.faults sink.old) (K.faults sink.new)) }
+    ensures { Means (IsDueAt text.items) result (report_of (K.held sink.old) (K.held sink.new) (K.faults sink.old) (K.faults sink.new)) }
 {
     match scenario_of(alloc, text) {
         Ok(scenario) => session(alloc, seeds, scenario, sink),
@@ -117,7 +117,7 @@ fn scenario_of(alloc: Global, text: Vec<u8>) -> Result<Scenario, ScenarioFault>
 // Runs a scenario. The bytes of its content are given up before the run begins.
 fn session<K: Sink>(alloc: Global, seeds: RandomState, scenario: Scenario, sink: &mut K) -> Ending
     requires { AreActLines scenario.acts }
-    ensures { Means (IsDueIn scenario) result (told_of (K.held sink.old) (K.held sink.new) (K.faults sink.old) (K.faults sink.new)) }
+    ensures { Means (IsDueIn scenario) result (report_of (K.held sink.old) (K.held sink.new) (K.faults sink.old) (K.faults sink.new)) }
 {
     let Scenario {
         content,
@@ -155,7 +155,7 @@ fn run_on<K: Sink>(
     sink: &mut K,
 ) -> Ending
     requires { AreActLines acts.now }
-    ensures { PlaysOn publisher given acts.now result (told_of (K.held sink.old) (K.held sink.new) (K.faults sink.old) (K.faults sink.new)) }
+    ensures { PlaysOn publisher given acts.now result (report_of (K.held sink.old) (K.held sink.new) (K.faults sink.old) (K.faults sink.new)) }
 {
     match farm_given(alloc, given) {
         Ok(farm) => play(alloc, publisher, farm, acts, sink),
@@ -165,7 +165,7 @@ fn run_on<K: Sink>(
 
 // Says why the content is refused.
 fn refuse_content<K: Sink>(alloc: Global, fault: &ContentFault, sink: &mut K) -> Ending
-    ensures { Means (IsContentOr fault.now) result (told_of (K.held sink.old) (K.held sink.new) (K.faults sink.old) (K.faults sink.new)) }
+    ensures { Means (IsContentOr fault.now) result (report_of (K.held sink.old) (K.held sink.new) (K.faults sink.old) (K.faults sink.new)) }
 {
     if is_memory(fault) {
         return Ending::NoMemory;
@@ -175,7 +175,7 @@ fn refuse_content<K: Sink>(alloc: Global, fault: &ContentFault, sink: &mut K) ->
 
 // Says why the farm is refused.
 fn refuse_farm<K: Sink>(alloc: Global, refusal: &FarmRefusal, sink: &mut K) -> Ending
-    ensures { Means (IsFarmOr refusal.now) result (told_of (K.held sink.old) (K.held sink.new) (K.faults sink.old) (K.faults sink.new)) }
+    ensures { Means (IsFarmOr refusal.now) result (report_of (K.held sink.old) (K.held sink.new) (K.faults sink.old) (K.faults sink.new)) }
 {
     if lacks_memory(refusal) {
         return Ending::NoMemory;

@@ -17,7 +17,7 @@ use std::marker::Model;
 use std::ops::Bound;
 
 /// What a call that fails leaves of its change.
-#[derive(Clone, Copy, PartialEq, Eq, Debug, Drop)]
+#[derive(Clone, Copy, Drop)]
 pub enum Way {
     /// The files are as before.
     Old,
@@ -26,7 +26,7 @@ pub enum Way {
 }
 
 /// Which of the next calls fail, counted from 1. A count of 0 names no call.
-#[derive(Clone, Copy, PartialEq, Eq, Debug, Drop)]
+#[derive(Clone, Copy, Drop)]
 pub enum Plan {
     Never,
     /// This one alone.

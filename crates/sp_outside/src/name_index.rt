@@ -6,7 +6,7 @@ use std::collections::btree_map::Range;
 use std::ops::Bound;
 
 /// What is known of a name.
-#[derive(Clone, Copy, PartialEq, Eq, Debug, Drop)]
+#[derive(Clone, Copy, PartialEq, Eq, Drop)]
 pub(crate) enum Standing {
     /// Its file is there.
     Held,

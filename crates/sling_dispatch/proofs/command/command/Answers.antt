@@ -1,5 +1,5 @@
 use Rattle.std.proofs.Common.{◌∙◌, map, ap, sym, subst, refl}
-use Rattle.sling_dispatch.specs.Endings.{told_of, AreWordsOf}
+use Rattle.sling_dispatch.specs.Endings.{report_of, AreWordsOf}
 use Rattle.sling_dispatch.proofs.Words.{words_unread}
 use Rattle.sling_dispatch.proofs.command.command.Goals as goal
 
@@ -9,7 +9,7 @@ returns-in_default-clause-ending g c =
     let reads = g.S.Source.faults c.args.source.now in
     let held = g.K.Sink.held c.args.sink.now in
     let writes = g.K.Sink.faults c.args.sink.now in
-    words_unread (g.W.Words.told c.args.line.now) (told_of left left reads reads) (told_of held held writes writes) c.status.result c.status.ensures refl refl
+    words_unread (g.W.Words.told c.args.line.now) (report_of left left reads reads) (report_of held held writes writes) c.status.result c.status.ensures refl refl
 
 pub returns-in_default-slices_of-clause-ending : goal.returns-in_default-slices_of-clause-ending
 returns-in_default-slices_of-clause-ending g c =
@@ -17,7 +17,7 @@ returns-in_default-slices_of-clause-ending g c =
     let reads = g.S.Source.faults c.args.source.now in
     let held = g.K.Sink.held c.args.sink.now in
     let writes = g.K.Sink.faults c.args.sink.now in
-    words_unread (g.W.Words.told c.args.line.now) (told_of left left reads reads) (told_of held held writes writes) c.status-in_default-slices_of.result
+    words_unread (g.W.Words.told c.args.line.now) (report_of left left reads reads) (report_of held held writes writes) c.status-in_default-slices_of.result
     c.status-in_default-slices_of.ensures refl refl
 
 pub returns-clause-ending : goal.returns-clause-ending

@@ -2,7 +2,7 @@ use Rattle.std.proofs.Common.{rules, ◌≡◌, ◌∙◌, ◌++◌, ◌+◌, Er
 use Rattle.sp_outside.specs.Told.{held_after}
 use Rattle.sp_outside.specs.Causes.{HasSinkCause}
 use Rattle.front.specs.Fronts.{BoardStands}
-use Rattle.sling_dispatch.specs.Endings.{told_of, Nothing}
+use Rattle.sling_dispatch.specs.Endings.{report_of, Nothing}
 use Rattle.sling_dispatch.specs.InnerEndings.{PlaysAll}
 use Rattle.sling_dispatch.specs.declared.ending.Ending.TheVariants.{Done, NoMemory}
 use Rattle.sling_dispatch.proofs.Writing.{added-nothing}
@@ -52,7 +52,7 @@ returns-in_default g c = λ s same reads farm_reads. (Nothing, tt, (0, sym (adde
 
 pub returns-in_default-event_of : goal.returns-in_default-event_of
 returns-in_default-event_of g c =
-    let sink = told_of (g.K.Sink.held c.args.sink.now) (g.K.Sink.held c.say.new.sink) (g.K.Sink.faults c.args.sink.now) (g.K.Sink.faults c.say.new.sink) in
+    let sink = report_of (g.K.Sink.held c.args.sink.now) (g.K.Sink.held c.say.new.sink) (g.K.Sink.faults c.args.sink.now) (g.K.Sink.faults c.say.new.sink) in
     let l = c.loop-rest in
     let before = BoardStands sling_publisher l.front.renderer.publisher l.front.farm l.front.board in
     let text = c.deref-in_default-event_of in
@@ -70,7 +70,7 @@ returns-in-Err g c =
     let remainder = BoardStands sling_publisher c.event_of.new.front.renderer.publisher c.event_of.new.front.farm c.event_of.new.front.board in
     let text = c.in-Ok-event_of.text.items in
     let after = c.in-Ok-event_of.after.now in
-    let sink = told_of old (g.K.Sink.held c.gather.new.sink) (g.K.Sink.faults c.args.sink.now) (g.K.Sink.faults c.gather.new.sink) in
+    let sink = report_of old (g.K.Sink.held c.gather.new.sink) (g.K.Sink.faults c.args.sink.now) (g.K.Sink.faults c.gather.new.sink) in
     let made : IsNext before remainder (asked_publisher_host c.args.farm) l.rest.now after (l.event + 1) text
     = subst (λ host. IsNext before remainder host l.rest.now after (l.event + 1) text) (c.deref.ensures.value ∙ l.invariant.asked) c.in-Ok-event_of.ensures in
     let next = played_next c.events_extend.ensures.run c.events_extend.ensures.state c.acts_are_told_by_their_lines.ensures.first c.args.publisher c.args.farm acts l.rest.now after
@@ -83,7 +83,7 @@ returns-in-Err g c =
 
 pub returns : goal.returns
 returns g c =
-    let sink = told_of (g.K.Sink.held c.args.sink.now) (g.K.Sink.held c.say-2.new.sink) (g.K.Sink.faults c.args.sink.now) (g.K.Sink.faults c.say-2.new.sink) in
+    let sink = report_of (g.K.Sink.held c.args.sink.now) (g.K.Sink.held c.say-2.new.sink) (g.K.Sink.faults c.args.sink.now) (g.K.Sink.faults c.say-2.new.sink) in
     let l = c.loop-rest in
     let none : length c.loop-rest.rest.now ≡ 0 = search rules in
     let before = BoardStands sling_publisher l.front.renderer.publisher l.front.farm l.front.board in

@@ -26,8 +26,8 @@ acts-one law bytes (x ∷ a) b one two =
     let rest = acts-one law (text_of_lines (map line_of a)) a found.0 (record { are = one.are.1; bytes_are = refl }) found.2 in
     ap (λ acts. x ∷ acts) rest ∙ sym found.1
 
-pub calm-sessions : TellsFirst → RunsWithoutDryEventsAreOne → SessionsWithoutDryEventsAreOne
-calm-sessions first runs s a b one two ends calm quiet =
+pub sessions-without-dry-events : TellsFirst → RunsWithoutDryEventsAreOne → SessionsWithoutDryEventsAreOne
+sessions-without-dry-events first runs s a b one two ends not_dry other_not_dry =
     let trees : Ok one.tree ≡ Ok two.tree = sym one.reads ∙ two.reads in
     let tree : one.tree ≡ two.tree = cc in
     let farms : Ok one.farm ≡ Ok two.farm = sym one.farm_reads ∙ two.farm_reads in
@@ -36,4 +36,4 @@ calm-sessions first runs s a b one two ends calm quiet =
     let made : one.made ≡ two.made = sym (append-nil one.made) ∙ all ∙ append-nil two.made in
     let steps : event_steps a ≡ event_steps b = one.steps ∙ ap (λ acts. map (step_of (asked_publisher_host one.farm)) acts) made ∙ ap (λ f. map (step_of (asked_publisher_host f)) two.made) farm ∙ sym two.steps in
     let run : Run (start_of sling_publisher one.farm one.tree) b = subst (λ f. Run (start_of sling_publisher f one.tree) b) (sym farm) (subst (λ t. Run (start_of sling_publisher two.farm t) b) (sym tree) two.run) in
-    ap transcript (runs sling_publisher one.farm one.tree a b one.run run steps ends calm quiet)
+    ap transcript (runs sling_publisher one.farm one.tree a b one.run run steps ends not_dry other_not_dry)

@@ -33,14 +33,17 @@ impl MapIndex {
     {
         let mut aliases = Claims::new(alloc, tree.seeds());
         let mut vanity_paths = Claims::new(alloc, tree.seeds());
-        let all = tree.rows(alloc)?;
-        let rows = all.as_slice();
-        for row in rows {
-            note_node(&mut aliases, &mut vanity_paths, alloc, row.0, row.1)?;
+        {
+            let all = tree.rows(alloc)?;
+            let rows = all.as_slice();
+            for row in rows {
+                note_node(&mut aliases, &mut vanity_paths, alloc, row.0, row.1)?;
+            }
         }
+        let aliases = first_siblings(alloc, tree, aliases)?;
         let unchanged = Patch::new(alloc, tree.seeds());
         Ok(MapIndex {
-            aliases: first_siblings(alloc, tree, aliases)?,
+            aliases,
             vanity_paths: vanity_paths.led(alloc, tree, &unchanged)?,
         })
     }

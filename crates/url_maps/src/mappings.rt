@@ -27,22 +27,8 @@ pub(crate) fn host_node_of(alloc: Global, host: &str, port: u16) -> Mem<Option<P
     }
 }
 
-// The pair of a mapping of a host node, if there is a host node and the tree has one with this prefix.
-fn mapping_of(
-    alloc: Global,
-    tree: &Tree,
-    host_node: &Option<Path>,
-    prefix: &str,
-) -> Mem<Option<Pair>>
-    ensures { IfOk result (IsOf PairKind.Mapping tree.now host_node.now prefix.now) }
-{
-    match host_node {
-        Some(host_node) => mapping_below(alloc, tree, host_node, prefix),
-        None => Ok(None),
-    }
-}
-
-// The same where no mapping's prefix has more bytes than the reach.
+// The pair of a mapping of a host node, if there is a host node and the tree has one with this prefix, where no mapping's prefix has
+// more bytes than the reach.
 pub(crate) fn mapping_within(
     alloc: Global,
     tree: &Tree,
@@ -56,7 +42,10 @@ pub(crate) fn mapping_within(
     if prefix.len() > reach {
         return Ok(None);
     }
-    mapping_of(alloc, tree, host_node, prefix)
+    match host_node {
+        Some(host_node) => mapping_below(alloc, tree, host_node, prefix),
+        None => Ok(None),
+    }
 }
 
 fn mapping_below(alloc: Global, tree: &Tree, host_node: &Path, prefix: &str) -> Mem<Option<Pair>>

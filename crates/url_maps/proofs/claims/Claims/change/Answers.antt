@@ -1,7 +1,9 @@
 use Rattle.std.proofs.Common.{◌≡◌, ◌+◌, ◌∷◌, [], ◌++◌, length, length-append, map, sym, ◌∙◌, ap, arith}
 use Rattle.std.specs.Prelude.{option_to_list, string_bytes}
 use Rattle.url_maps.specs.Changes.{claimants_over}
+use Rattle.url_maps.proofs.AliasLemmas.{empty_from}
 use Rattle.url_maps.proofs.ChangeLemmas.{over_last}
+use Rattle.url_maps.proofs.LeaderLemmas.{none_left}
 use Rattle.url_maps.proofs.claims.Claims.change.Goals as goal
 
 pub loop-text-preserved : goal.loop-text-preserved
@@ -15,3 +17,8 @@ loop-text-preserved c =
           ∙ ap (λ es. claimants_over (map (λ e. (string_bytes e.0, e.1)) es) c.loop-text.self.rows t) (sym entries) ∙ c.loop-text.invariant.rows t;
       room = omega (arith, longer, c.put_in_room.ensures.room, c.loop-text.invariant.room);
     }
+
+pub returns : goal.returns
+returns c = λ t.
+    let none = empty_from c.loop-text.rows.entries (none_left c.pop.result (length c.loop-text.rows.entries) c.pop.ensures.found.1 c.in_default.is) in
+    sym (ap (λ es. claimants_over (map (λ e. (string_bytes e.0, e.1)) es) c.loop-text.self.rows t) none) ∙ c.loop-text.invariant.rows t

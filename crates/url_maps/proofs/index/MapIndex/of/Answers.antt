@@ -38,7 +38,7 @@ returns c =
     let leads : (t : List ℕ) → PutsLeaderFirst (node_at tree) (claimants c.loop-row.vanity_paths.rows t) (claimants c.in_ok-led.field-0.rows t) = λ t.
     subst (λ (rs : PatchEntries). PutsLeaderFirst (patching_at tree rs) (claimants c.loop-row.vanity_paths.rows t) (claimants c.in_ok-led.field-0.rows t)) c.new-unchanged.ensures (c.in_ok-led.ensures t) in
     record {
-      aliases = c.in_ok-first_siblings.ensures;
+      aliases = c.in_ok-aliases.ensures;
       vanity_paths = λ t q. (leads t).paths q ∙ old t q;
       leaders = λ t. (leads t).led;
     }

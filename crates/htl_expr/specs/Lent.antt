@@ -6,7 +6,9 @@ use Rattle.htl_expr.specs.declared.out.Out.TheVariants as out
 use Rattle.htl_expr.specs.declared.lent.Lent.{Lent, fold-Lent}
 use Rattle.htl_expr.specs.declared.lent.Lent.TheOpen.{Lent-F}
 use Rattle.htl_expr.specs.Print.{truth_text, plain}
-use Rattle.htl_expr.specs.Value.{item_texts, property}
+use Rattle.htl_expr.specs.Value.{is_same, item_texts, property}
+use Rattle.htl_expr.specs.declared.compare.SameBy.{SameBy}
+use Rattle.htl_expr.specs.declared.compare.SameBy.TheVariants as by
 use Rattle.htl_expr.specs.declared.lent.Operand.{Operand}
 use Rattle.htl_expr.specs.Bindings.{Bindings}
 use Rattle.htl_expr.specs.declared.pieces.ItemPiece.{ItemPiece}
@@ -45,6 +47,12 @@ is_list _ = false
 abbrev pub is_lent_text : Out → Bool
 is_lent_text (out.Text text) = true
 is_lent_text _ = false
+
+-- two lists are the same by their items, and two texts by their bytes
+abbrev pub IsToldBy : SameBy → Out → Out → Type 0
+IsToldBy by.Items a b = (is_list a ≡ true) × (is_list b ≡ true)
+IsToldBy by.Text a b = (is_lent_text a ≡ true) × (is_lent_text b ≡ true)
+IsToldBy (by.Value same) a b = same ≡ is_same a b
 
 -- the text of the property of this name as an item of a list literal
 abbrev pub property_item : Bindings → List ℕ → List ℕ

@@ -92,16 +92,36 @@ fn others_are_same<'a>(
     }
 }
 
-/// Whether two values are both lists.
-pub(crate) fn are_lists(a: &Lent, b: &Lent) -> bool
+fn are_lists(a: &Lent, b: &Lent) -> bool
     ensures { result ≡ (lent.is_list (out_of_lent a.now) && lent.is_list (out_of_lent b.now)) }
 {
     is_list(a) && is_list(b)
 }
 
-/// Whether two values, of which one at least is no list, have the same kind and the same content.
+/// What tells whether two values are the same.
+#[derive(Clone, Copy, Drop)]
+pub(crate) enum SameBy {
+    Items,
+    Text,
+    /// Whether they are is known.
+    Value(bool),
+}
+
+pub(crate) fn same_by(a: &Lent, b: &Lent) -> SameBy
+    ensures { lent.IsToldBy result (out_of_lent a.now) (out_of_lent b.now) }
+{
+    if are_lists(a, b) {
+        SameBy::Items
+    } else if is_text(a) && is_text(b) {
+        SameBy::Text
+    } else {
+        SameBy::Value(is_same(a, b))
+    }
+}
+
+// Whether two values, of which one at least is no list, have the same kind and the same content.
 #[tactic(auto, using(crate::proofs::SameItems::same_as_no_list))]
-pub(crate) fn is_same(a: &Lent, b: &Lent) -> bool
+fn is_same(a: &Lent, b: &Lent) -> bool
     requires { (lent.is_list (out_of_lent a.now) && lent.is_list (out_of_lent b.now)) ≡ false }
     ensures { result ≡ spec.is_same (out_of_lent a.now) (out_of_lent b.now) }
 {
@@ -117,8 +137,7 @@ pub(crate) fn is_same(a: &Lent, b: &Lent) -> bool
     }
 }
 
-/// Whether a value is a text.
-pub(crate) fn is_text(value: &Lent) -> bool
+fn is_text(value: &Lent) -> bool
     ensures { result ≡ lent.is_lent_text (out_of_lent value.now) }
 {
     matches!(value, Lent::Text(_))

@@ -2,13 +2,13 @@
 
 ghost use Rattle.std.specs.Prelude.{◌≡◌, ◌++◌, [], IfOk, IfSome, OnOk, nat_eq, length, string_bytes};
 ghost use Rattle.std.specs.Cmp.Lexicographic.{pointwise};
-ghost use Rattle.htl_expr.specs.Lent.{property_item};
+ghost use Rattle.htl_expr.specs.Lent.{property_item, IsToldBy};
 ghost use Rattle.htl_expr.specs.Remembered.{compared_by};
 ghost use Rattle.htl_expr.specs.Print.{plain};
 ghost use Rattle.htl_expr.specs.Value as spec;
 
 use crate::classes::Classes;
-use crate::compare::{are_lists, is_same, is_text};
+use crate::compare::{SameBy, same_by};
 use crate::kept::{is_item, item_len, push_item};
 use crate::numbered::{Aspect, has_one_number};
 use crate::scope::{Scope, property};
@@ -40,6 +40,12 @@ impl<'a> Model for Evaluation<'a> {
     ghost view = { λ e. e.scope };
 
     ghost invariant = { λ e. Knows e.scope aspect.List e.classes e.lists × (Knows e.scope aspect.Item e.classes e.items × (RemembersJoined e.scope e.joined × RemembersItemTexts e.scope e.item_texts)) };
+}
+
+fn properties_same_by(scope: &Scope, a: &TextBuf, b: &TextBuf) -> SameBy
+    ensures { IsToldBy result (spec.property scope.now a.now) (spec.property scope.now b.now) }
+{
+    same_by(&property(scope, a.text()), &property(scope, b.text()))
 }
 
 impl<'a> Evaluation<'a> {
@@ -142,15 +148,11 @@ impl<'a> Evaluation<'a> {
         ensures same { IfOk result (λ same. same ≡ spec.is_same (spec.property self.old a.now) (spec.property self.old b.now)) }
         ensures scope { self.new ≡ self.old }
     {
-        let first = property(&self.scope, a.text());
-        let second = property(&self.scope, b.text());
-        if are_lists(&first, &second) {
-            return self.has_same_list(alloc, a, b);
+        match properties_same_by(&self.scope, a, b) {
+            SameBy::Items => self.has_same_list(alloc, a, b),
+            SameBy::Text => self.has_same_item(alloc, a, b),
+            SameBy::Value(same) => Ok(same),
         }
-        if is_text(&first) && is_text(&second) {
-            return self.has_same_item(alloc, a, b);
-        }
-        Ok(is_same(&first, &second))
     }
 
     /// The items of a property with nothing between them, if they were put together before.

@@ -8,7 +8,7 @@ use sp_base::NoMemory;
 use std::alloc::AllocError;
 
 /// Why a text was not written.
-#[derive(Debug, Drop)]
+#[derive(Drop)]
 pub enum WriteFault {
     /// What stands there and the text would have more bytes than the limit.
     TooLong,

@@ -14,9 +14,9 @@ use Rattle.get_servlet.specs.Rendering.{most_resources, shown_kid, resource_json
 -- ---- kids
 
 -- the path that was made, where there is one
-abbrev pub path_or_none : Result (List (List ℕ)) PathFault → Option (List (List ℕ))
-path_or_none (Err fault) = None
-path_or_none (Ok path) = Some path
+abbrev pub path_of_result : Result (List (List ℕ)) PathFault → Option (List (List ℕ))
+path_of_result (Err fault) = None
+path_of_result (Ok path) = Some path
 
 -- ---- writing
 

@@ -2,7 +2,7 @@
 ghost use Rattle.std.specs.Prelude.{◌≡◌, ◌≢◌, IfOk, IfErr, Err};
 ghost use Rattle.sp_base.specs.declared.path.PathFault.TheVariants.{NoMemory as no_memory};
 ghost use Rattle.get_servlet.specs.Rendering.{kid_of_name, shown_kid, lists_kid};
-ghost use Rattle.get_servlet.specs.Steps.{path_or_none};
+ghost use Rattle.get_servlet.specs.Steps.{path_of_result};
 
 use resource_tree::{Look, Res};
 use sp_base::{Mem, NoMemory, Path, PathFault};
@@ -23,8 +23,8 @@ pub(crate) fn lists_kid(res: &Res<'_>, name: &str) -> bool
 }
 
 // The path that was made, if there is one: a path that is too deep is none, and no lack of memory.
-fn path_or_none(made: Result<Path, PathFault>) -> Mem<Option<Path>>
-    ensures value { IfOk result (λ path. path ≡ path_or_none made) }
+fn path_of_result(made: Result<Path, PathFault>) -> Mem<Option<Path>>
+    ensures value { IfOk result (λ path. path ≡ path_of_result made) }
     ensures told { IfOk result (λ path. made ≢ Err no_memory) }
     ensures err { IfErr result (λ e. made ≡ Err no_memory) }
 {
@@ -44,7 +44,7 @@ pub(crate) fn kid_of_name<'a, L: Look>(
 ) -> Mem<Option<Kid<'a>>>
     ensures { IfOk result (λ kid. kid ≡ kid_of_name (L.seen look.now) path.now name.now) }
 {
-    let Some(path) = path_or_none(path.child(alloc, name))? else {
+    let Some(path) = path_of_result(path.child(alloc, name))? else {
         return Ok(None);
     };
     match look.res(alloc, &path)? {

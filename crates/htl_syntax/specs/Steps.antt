@@ -31,8 +31,8 @@ abbrev pub compared_with : ℕ → List ℕ → Outcome (Comparison × ExprNode)
 compared_with depth t = comparison t >>= λ op. operand depth (nesting depth) op.1 >>= λ b. Ok ((op.0, b.0), b.1)
 
 -- what is chosen if a condition holds, and if not
-abbrev pub choices : ℕ → List ℕ → Outcome (ExprNode × ExprNode)
-choices depth t = nesting depth Choice t >>= λ a. other_choice depth (nesting depth) a.1 >>= λ b. Ok ((a.0, b.0), b.1)
+abbrev pub both_choices : ℕ → List ℕ → Outcome (ExprNode × ExprNode)
+both_choices depth t = nesting depth Choice t >>= λ a. other_choice depth (nesting depth) a.1 >>= λ b. Ok ((a.0, b.0), b.1)
 
 -- a join text, with the context that is given
 abbrev pub with_join : Option Context → List ℕ → Outcome Given

@@ -345,7 +345,7 @@ fn choices(
     text: &str,
 ) -> Result<(Boxed<ExprNode>, Boxed<ExprNode>, &str), ExprStop>
     requires { slice_index text.now 0 < 128 }
-    ensures { Gives (λ x. ((x.0, x.1), x.2.now)) result (steps.choices depth text.now) }
+    ensures { Gives (λ x. ((x.0, x.1), x.2.now)) result (steps.both_choices depth text.now) }
 {
     let (a, rest) = nesting(alloc, depth, Nested::Choice, text)?;
     let a = Boxed::new(alloc, a)?;

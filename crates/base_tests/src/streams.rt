@@ -1,4 +1,6 @@
 //! The objects in memory, and the real ones over fakes that take parts and fail.
+ghost use Rattle.std.specs.Prelude.{◌≤◌, length};
+
 use sp_base::{ByteBuf, CallList, Mem};
 use sp_outside::{MemSink, MemSource, RealSink, RealSource, Sink, SinkFault, Source, SourceFault};
 use std::alloc::Global;
@@ -113,7 +115,9 @@ struct Printer {
 }
 
 impl Printer {
-    fn take(&self, bytes: &[u8]) -> usize {
+    fn take(&self, bytes: &[u8]) -> usize
+        ensures { result ≤ length bytes.now }
+    {
         let mut taken = self.taken.get();
         let at = self.len.get().min(TAKEN_BYTES);
         let n = bytes.len().min(5).min(TAKEN_BYTES - at);

@@ -1,5 +1,6 @@
 use Rattle.std.proofs.Common.{IsUtf8, ◌∙◌, subst}
-use Rattle.docroot_format.proofs.TextKeys.{spelled_bytes, text_bytes}
+use Rattle.sp_base.proofs.TextBytes.{text_bytes}
+use Rattle.docroot_format.proofs.TextKeys.{spelled_bytes}
 use Rattle.docroot_format.proofs.laws.a_key_is_of_texts.Goals as goal
 
 pub returns : goal.returns

@@ -1,7 +1,7 @@
 //! What the program doesn't ask for: the value of an expression and its text by themselves, and what a text is after a write that was refused.
 //! Tables of what expressions print are stored runs of the program (examples/runs/expressions).
 use htl_expr::{Evaluation, Expr, Out, Scope, WriteFault};
-use sp_base::PropList;
+use sp_base::{PropList, Value};
 use std::alloc::Global;
 
 fn scope(props: &PropList) -> Scope<'_> {
@@ -49,11 +49,19 @@ fn is_not_written(alloc: Global, scope: &Scope<'_>, text: &str) -> bool {
 }
 
 // Expressions that print more than 2 bytes.
-const LONGER: [&str; 4] = ["'<b>'", "['a', 'b']", "[1, [2, 3]]", "1 == 1"];
+const LONGER: [&str; 6] = [
+    "'<b>'",
+    "['a', 'b']",
+    "[1, [2, 3]]",
+    "1 == 1",
+    "properties.n",
+    "[properties.n]",
+];
 
 #[test]
 fn a_refused_write_leaves_the_page(rt: HostRuntime) {
-    let props = PropList::new(rt.alloc());
+    let mut props = PropList::new(rt.alloc());
+    let _ = props.put(rt.alloc(), "n", Value::Long(123));
     for text in &LONGER {
         assert!(rt; is_not_written(rt.alloc(), &scope(&props), *text));
     }

@@ -23,15 +23,21 @@ fn is_named(planned: &Result<Op<'_>, PlanFault>, wanted: &str) -> bool {
     }
 }
 
-fn is_refused(alloc: Global, target: &Path, form: &Form, wanted: &str) -> bool {
+fn is_refused_at(alloc: Global, target: &Path, form: &Form, wanted: &str) -> bool {
     is_named(&plan(alloc, target, false, form), wanted)
 }
 
-// Whether these pairs are refused so at the root.
+fn is_refused(alloc: Global, form: &Form, wanted: &str) -> bool {
+    match Path::read(alloc, "/p") {
+        Ok(target) => is_refused_at(alloc, &target, form, wanted),
+        Err(_) => false,
+    }
+}
+
+// Whether these pairs are refused so at `/p`, from where `..` leads no further than to the root.
 fn are_refused(alloc: Global, pairs: &[(&str, &str)], wanted: &str) -> bool {
-    let target = Path::root(alloc);
     match form(alloc, pairs) {
-        Ok(form) => is_refused(alloc, &target, &form, wanted),
+        Ok(form) => is_refused(alloc, &form, wanted),
         Err(_) => false,
     }
 }

@@ -1,7 +1,7 @@
 //! What the program doesn't ask for: the value of an expression and its text by themselves, and what a text is after a write that was refused.
 //! Tables of what expressions print are stored runs of the program (examples/runs/expressions).
 use htl_expr::{Evaluation, Expr, Out, Scope, WriteFault};
-use sp_base::PropList;
+use sp_base::{PropList, Value};
 use std::alloc::Global;
 
 fn scope(props: &PropList) -> Scope<'_> {
@@ -29,7 +29,7 @@ fn a_value_has_a_kind(rt: HostRuntime) {
 }
 
 // Writes an expression for a resource of which nothing is found out yet, where there is room for 5 bytes.
-fn is_too_long(alloc: Global, scope: &Scope<'_>, page: &mut String, e: &Expr) -> bool {
+fn is_too_long<'x>(alloc: Global, scope: &'x Scope<'x>, page: &mut String, e: &Expr) -> bool {
     let mut evaluation = Evaluation::of(alloc, scope);
     matches!(
         e.write(alloc, page, &mut evaluation, 5),
@@ -37,23 +37,31 @@ fn is_too_long(alloc: Global, scope: &Scope<'_>, page: &mut String, e: &Expr) ->
     )
 }
 
-fn leaves_the_page(alloc: Global, scope: &Scope<'_>, e: &Expr) -> bool {
+fn leaves_the_page<'x>(alloc: Global, scope: &'x Scope<'x>, e: &Expr) -> bool {
     let mut page = String::new(alloc);
     page.push_str("<p>").is_ok()
         && is_too_long(alloc, scope, &mut page, e)
         && page.as_str() == "<p>"
 }
 
-fn is_not_written(alloc: Global, scope: &Scope<'_>, text: &str) -> bool {
+fn is_not_written<'x>(alloc: Global, scope: &'x Scope<'x>, text: &str) -> bool {
     matches!(Expr::read(alloc, text), Ok(e) if leaves_the_page(alloc, scope, &e))
 }
 
 // Expressions that print more than 2 bytes.
-const LONGER: [&str; 4] = ["'<b>'", "['a', 'b']", "[1, [2, 3]]", "1 == 1"];
+const LONGER: [&str; 6] = [
+    "'<b>'",
+    "['a', 'b']",
+    "[1, [2, 3]]",
+    "1 == 1",
+    "properties.n",
+    "[properties.n]",
+];
 
 #[test]
 fn a_refused_write_leaves_the_page(rt: HostRuntime) {
-    let props = PropList::new(rt.alloc());
+    let mut props = PropList::new(rt.alloc());
+    let _ = props.put(rt.alloc(), "n", Value::Long(123));
     for text in &LONGER {
         assert!(rt; is_not_written(rt.alloc(), &scope(&props), *text));
     }

@@ -2,7 +2,7 @@
 use cover_rules::{PageKey, page_key};
 use front::{Note, NoteList};
 use replay_text::{Scenario, read_scenario, write_notes, write_scenario};
-use sp_base::{Items, Mem, Path};
+use sp_base::{ByteBuf, Items, Mem, Path};
 use std::alloc::Global;
 
 const WITH_FARM: &str = "scenario 1
@@ -49,17 +49,23 @@ fn key(alloc: Global, path: &str) -> Mem<Option<PageKey>> {
     }
 }
 
-// A flight for a page of the cache, and that memory ran out.
+// A flight for a page of the cache, bytes that are no text, and that memory ran out.
 fn push_notes(alloc: Global, notes: &mut NoteList) -> Mem<()> {
     let page = key(alloc, "/content/site/en.html")?;
     notes.push(Note::Ask(u64::MAX, u32::MAX, page))?;
+    let sent = ByteBuf::of(alloc, b"\"\x00\xff\\")?;
+    notes.push(Note::Sent(3, sent))?;
     notes.push(Note::Dry)
 }
 
-const NOTES: &[u8] = b"@ 12\nask 18446744073709551615 4294967295 \"/content/site/en.html\"\ndry\n";
+const NOTES: &str = r#"@ 12
+ask 18446744073709551615 4294967295 "/content/site/en.html"
+sent 3 "\"\x00\xff\\"
+dry
+"#;
 
 fn are_written(alloc: Global, notes: &NoteList) -> bool {
-    matches!(write_notes(alloc, 12, notes.as_slice()), Ok(text) if text.as_slice() == NOTES)
+    matches!(write_notes(alloc, 12, notes.as_slice()), Ok(text) if text.as_slice() == NOTES.as_bytes())
 }
 
 fn notes_are_written(alloc: Global) -> bool {

@@ -1,21 +1,22 @@
-//! What a farm says of pages, answers and clients, which the program does not ask yet. Which requests are admitted, and what the publisher is asked,
-//! is asked for through the program (examples/runs/farm).
+//! What a farm says of pages, answers and clients, which the program does not ask yet, and that the publisher isn't handed what a GET brings.
+//! Which requests are admitted, and that a POST's form is handed on, is a stored run (examples/runs/farm).
 use any_config::{Farm, STANDARD_FARM, farm_of, read_any};
 use cover_rules::page_key;
-use dispatch_rules::{auto_of, key_of, may_flush, storable};
+use dispatch_rules::{ask_of, auto_of, key_of, may_flush, storable};
 use sp_base::{Answer, ByteBuf, HeadList, Mark, Mem, NoMemory, Path, PathFault, Req, TextBuf};
 use std::alloc::Global;
 
+// The members stand in another order than those of the standard farm.
 const SITE: &str = r#"/farms { /site {
-  /virtualhosts { "www.example.com" "localhost" }
-  /filter { }
   /cache {
-    /statfileslevel "3"
-    /rules { /0000 { /glob "*" /type "allow" } /0001 { /glob "*.json" /type "deny" } }
-    /invalidate { /0000 { /glob "*" /type "deny" } /0001 { /glob "*.html" /type "allow" } }
+    /ignoreUrlParams { /0001 { /glob "*" /type "deny" } /0002 { /glob "utm_[a-z]*" /type "allow" } }
     /allowedClients { /0000 { /glob "*" /type "deny" } /0001 { /glob "127.0.0.1" /type "allow" } }
-    /ignoreUrlParams { /0001 { /glob "utm" /type "allow" } }
+    /invalidate { /0000 { /glob "*" /type "deny" } /0001 { /glob "*.html" /type "allow" } }
+    /rules { /0000 { /glob "*" /type "allow" } /0001 { /glob "*.json" /type "deny" } /0002 { /glob "/a*" /type "allow" } }
+    /statfileslevel "3"
   }
+  /filter { }
+  /virtualhosts { "www.example.com" "localhost" }
 } }"#;
 
 fn farm(alloc: Global, text: &str) -> Mem<Farm> {
@@ -82,25 +83,28 @@ fn give_keys(alloc: Global, farm: &Farm, req: &mut Req, rows: &[Row]) -> bool {
 // A method, a path and a query, and the key of a request of these.
 type Row = (&'static str, &'static str, &'static str, &'static str);
 
-const KEYS_OF_SITE: [Row; 9] = [
+const KEYS_OF_SITE: [Row; 12] = [
     ("GET", "/content/en.html", "", "/content/en.html"),
     ("GET", "/a/jcr:content/x.html", "", "/a/_jcr_content/x.html"),
     ("GET", "/content/en.json", "", "-"),
+    ("GET", "/a/en.json", "", "/a/en.json"),
     ("GET", "/content/en", "", "-"),
     ("POST", "/content/en.html", "", "-"),
-    ("GET", "/content/en.html", "utm=1", "/content/en.html"),
+    ("GET", "/content/en.html", "utm_a=1", "/content/en.html"),
+    ("GET", "/content/en.html", "utm_1=a", "-"),
+    ("GET", "/content/en.html", "utm=1", "-"),
     ("GET", "/content/en.html", "q=1", "-"),
-    ("GET", "/content/en.html", "utm=1&q", "-"),
-    ("GET", "/content/en.html", "u%74m", "/content/en.html"),
+    ("GET", "/content/en.html", "utm_a=1&q", "-"),
+    ("GET", "/content/en.html", "u%74m_b", "/content/en.html"),
 ];
 
 const STANDARD_KEYS: [Row; 6] = [
-    ("GET", "/en.html", "", "/en.html"),
     ("GET", "/a.json", "utm=1", "/a.json"),
     ("GET", "/en.html", "utm_source=1", "-"),
     ("GET", "/en", "", "-"),
     ("HEAD", "/en.html", "", "-"),
     ("PUT", "/en.html", "", "-"),
+    ("GET", "/en.html", "", "/en.html"),
 ];
 
 fn keeps_none_that_is_authorized(alloc: Global, farm: &Farm, req: &mut Req) -> Mem<bool> {
@@ -135,9 +139,26 @@ fn flushes_for_this_host_alone(farm: &Farm) -> bool {
         && !may_flush(farm, "::1")
 }
 
+fn bring_form(alloc: Global, req: &mut Req) -> Mem<()> {
+    req.body = ByteBuf::of(alloc, b"a=b")?;
+    let kind = ByteBuf::of(alloc, b"text/plain")?;
+    req.heads.push((TextBuf::of(alloc, "content-type")?, kind))
+}
+
+fn asks_for_target_alone(alloc: Global, farm: &Farm, req: &Req) -> bool {
+    matches!(ask_of(alloc, farm, req), Ok(ask) if ask.kind.text() == "" && ask.body.bytes().len() == 0)
+}
+
+// Whether the publisher isn't handed the form that a GET brings.
+fn hands_on_no_form(alloc: Global, farm: &Farm, req: &mut Req) -> bool {
+    bring_form(alloc, req).is_ok() && asks_for_target_alone(alloc, farm, req)
+}
+
+// The last row is of a GET that has a key.
 fn decides(alloc: Global, farm: &Farm, req: &mut Req, rows: &[Row]) -> bool {
     give_keys(alloc, farm, req, rows)
         && matches!(keeps_none_that_is_authorized(alloc, farm, req), Ok(true))
+        && hands_on_no_form(alloc, farm, req)
         && outdates_html_alone(alloc, farm)
         && flushes_for_this_host_alone(farm)
 }

@@ -1,5 +1,6 @@
-//! Where a class of a glob isn't closed. What globs match is asked for through the program (examples/runs/globs).
-use glob_rules::{Glob, GlobFault};
+//! Where a class of a glob isn't closed, and that an empty list allows nothing. What globs match is asked for through the program (examples/runs/globs).
+use glob_rules::{Glob, GlobFault, allows};
+use sp_base::Items;
 use std::alloc::Global;
 
 fn is_open_at(alloc: Global, glob: &str, place: usize) -> bool {
@@ -20,4 +21,10 @@ fn open_classes(rt: HostRuntime) {
     for (glob, place) in &OPEN_CLASSES {
         assert!(rt; is_open_at(rt.alloc(), *glob, *place));
     }
+}
+
+#[test]
+fn an_empty_list_allows_nothing(rt: HostRuntime) {
+    let rules = Items::new(rt.alloc());
+    assert!(rt; !allows(&rules, "/a"));
 }

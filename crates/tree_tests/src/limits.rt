@@ -1,8 +1,8 @@
 //! Parts that would make a tree too deep or too large.
 use crate::nodes::{creates_all, path_at};
 use crate::refusals::is_told;
-use resource_tree::Tree;
-use sp_base::Path;
+use resource_tree::{Tree, TreeFault};
+use sp_base::{Path, Value};
 use std::alloc::Global;
 use std::hash::RandomState;
 use std::test::Fail;
@@ -33,12 +33,29 @@ fn is_too_deep(alloc: Global, tree: &mut Tree, source: &Path, deepest: &Path) ->
         && is_told(&tree.move_to(alloc, source, deepest), "TooDeep")
 }
 
+fn is_taken_at(answer: &Result<(), TreeFault>, path: &Path) -> bool {
+    matches!(answer, Err(TreeFault::Taken(taken)) if taken.as_text() == path.as_text())
+}
+
+// Whether the part is refused first for the property that is put in the deepest path's place.
+fn is_taken_first(alloc: Global, tree: &mut Tree, source: &Path, deepest: &Path) -> bool {
+    match deepest.parent(alloc) {
+        Ok(above) => {
+            tree.set(alloc, &above, "d", Value::Truth(true)).is_ok()
+                && is_taken_at(&tree.copy_to(alloc, source, deepest), deepest)
+                && is_taken_at(&tree.move_to(alloc, source, deepest), deepest)
+        }
+        Err(_) => false,
+    }
+}
+
 fn keeps_levels(alloc: Global, tree: &mut Tree) -> bool {
     match (path_at(alloc, "/a"), path_at(alloc, DEEPEST)) {
         (Some(source), Some(deepest)) => {
             creates_all(alloc, tree, &["/a", "/a/b"])
                 && creates_above(alloc, tree, &deepest)
                 && is_too_deep(alloc, tree, &source, &deepest)
+                && is_taken_first(alloc, tree, &source, &deepest)
         }
         _ => false,
     }

@@ -3,9 +3,9 @@ ghost use Rattle.std.specs.Prelude.{IfSome};
 ghost use Rattle.resource_tree.specs.Content.{IsGood};
 ghost use Rattle.resource_tree.specs.Patches.{patching};
 
-use crate::nodes::{Left, are_left, path_at, whole};
-use resource_tree::{Patch, PatchNode, Tree};
-use sp_base::Path;
+use crate::nodes::{BEFORE, Left, are_left, path_at, whole};
+use resource_tree::{Node, Patch, PatchNode, Tree};
+use sp_base::{Path, PropList, TextList};
 use std::alloc::Global;
 use std::hash::RandomState;
 use std::test::Fail;
@@ -22,14 +22,15 @@ fn removal(alloc: Global, tree: &Tree, path: &Path) -> Option<Patch>
     }
 }
 
-const WITHOUT_C: &[Left<'_>] = &[("/", Some("a")), ("/c", None), ("/c/k", None)];
+const WITHOUT_C: &[Left<'_>] = &[("/", Some("adm")), ("/c", None), ("/c/k", None)];
 
+// Out of memory, the tree comes back as it was.
 fn is_put(alloc: Global, tree: Tree, patch: Patch) -> bool
     requires { IsGood (patching tree patch) }
 {
     match tree.with_room(&patch) {
         Ok(roomy) => are_left(alloc, &roomy.take(patch), WITHOUT_C),
-        Err(_) => false,
+        Err(tree) => are_left(alloc, &tree, BEFORE),
     }
 }
 
@@ -44,30 +45,42 @@ fn takes_a_patch(alloc: Global, seeds: RandomState) -> bool {
     }
 }
 
-fn puts_gone(alloc: Global, patch: &mut Patch, path: &str) -> bool {
+fn gone_or_bare(alloc: Global, is_gone: bool) -> PatchNode {
+    if is_gone {
+        PatchNode::Gone
+    } else {
+        PatchNode::Node(Node {
+            props: PropList::new(alloc),
+            kids: TextList::new(alloc),
+        })
+    }
+}
+
+fn puts(alloc: Global, patch: &mut Patch, path: &str, is_gone: bool) -> bool {
     match path_at(alloc, path) {
-        Some(path) => patch.put(path, PatchNode::Gone).is_ok(),
+        Some(path) => patch.put(path, gone_or_bare(alloc, is_gone)).is_ok(),
         None => false,
     }
 }
 
-fn begins_with(patch: &Patch, path: &str) -> bool {
-    matches!(patch.at(0), Some((first, _)) if first.as_text() == path)
+fn begins_with_node(patch: &Patch, path: &str) -> bool {
+    matches!(patch.at(0), Some((first, PatchNode::Node(_))) if first.as_text() == path)
 }
 
-fn keeps_one_entry(alloc: Global, seeds: RandomState) -> bool {
+// Of the entries of one path the last stays, in the place of the first.
+fn keeps_last_entry(alloc: Global, seeds: RandomState) -> bool {
     let mut patch = Patch::new(alloc, seeds);
-    puts_gone(alloc, &mut patch, "/b")
-        && puts_gone(alloc, &mut patch, "/a")
-        && puts_gone(alloc, &mut patch, "/b")
+    puts(alloc, &mut patch, "/b", true)
+        && puts(alloc, &mut patch, "/a", true)
+        && puts(alloc, &mut patch, "/b", false)
         && patch.len() == 2
-        && begins_with(&patch, "/b")
+        && begins_with_node(&patch, "/b")
 }
 
 #[test]
 fn patches_are_put_over_trees(rt: HostRuntime) -> Result<(), Fail> {
     let seeds = RandomState::new(&rt)?;
     assert!(rt; takes_a_patch(rt.alloc(), seeds));
-    assert!(rt; keeps_one_entry(rt.alloc(), seeds));
+    assert!(rt; keeps_last_entry(rt.alloc(), seeds));
     Ok(())
 }

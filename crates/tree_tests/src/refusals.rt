@@ -1,6 +1,6 @@
 //! Changes that are refused, each with its cause.
 use crate::changes::change;
-use crate::nodes::{COUNT, path_at, whole};
+use crate::nodes::{BEFORE, COUNT, are_left, path_at, whole};
 use resource_tree::{Tree, TreeFault};
 use sp_base::Path;
 use std::alloc::Global;
@@ -84,7 +84,7 @@ fn is_refused(alloc: Global, tree: &mut Tree, row: &RefusalRow<'_>) -> bool {
 
 fn all_are_refused(alloc: Global, tree: &mut Tree) -> bool {
     for row in REFUSALS {
-        if !is_refused(alloc, tree, row) {
+        if !is_refused(alloc, tree, row) || !are_left(alloc, tree, BEFORE) {
             return false;
         }
     }

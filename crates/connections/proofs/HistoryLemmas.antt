@@ -69,10 +69,10 @@ turn-no-send None Waits slot e = let no : ⊥ = cc in no
 turn-no-send None (Breaks fault) slot e = let no : ⊥ = cc in no
 turn-no-send (Some turn) ends slot e = let no : ⊥ = cc in no
 
-unsent-no-send : (over closing : Bool) (o : Option Turn) (ends : End) (slot : Slot) → cond over Close (cond closing Nothing (due_at_turn o ends)) ≡ Send slot → ⊥
-unsent-no-send true closing o ends slot e = let no : ⊥ = cc in no
-unsent-no-send false true o ends slot e = let no : ⊥ = cc in no
-unsent-no-send false false o ends slot e = turn-no-send o ends slot e
+without_sending-no-send : (over closing : Bool) (o : Option Turn) (ends : End) (slot : Slot) → cond over Close (cond closing Nothing (due_at_turn o ends)) ≡ Send slot → ⊥
+without_sending-no-send true closing o ends slot e = let no : ⊥ = cc in no
+without_sending-no-send false true o ends slot e = let no : ⊥ = cc in no
+without_sending-no-send false false o ends slot e = turn-no-send o ends slot e
 
 record CanSend (c : Connection) (slot : Slot) : Type 0 where
   going : c.over ≡ false
@@ -86,10 +86,10 @@ send-due c slot e = by_over c.over refl e
     by_test true y going at has e =
         let same : y ≡ slot = cc in
         record { going = going; at = at ∙ ap (λ s. Some s) same; has = ap (λ (s : Slot). is_answered s.response) (sym same) ∙ has }
-    by_test false y going at has e = absurd (unsent-no-send c.over c.closing (next_turn c) c.ends slot e)
+    by_test false y going at has e = absurd (without_sending-no-send c.over c.closing (next_turn c) c.ends slot e)
 
     by_slot : (o : Option Slot) → c.over ≡ false → slice_get c.slots c.sent ≡ o → due_at_slot o c ≡ Send slot → CanSend c slot
-    by_slot None going at e = absurd (unsent-no-send c.over c.closing (next_turn c) c.ends slot e)
+    by_slot None going at e = absurd (without_sending-no-send c.over c.closing (next_turn c) c.ends slot e)
     by_slot (Some y) going at e = by_test (is_answered y.response) y going at refl e
 
     by_over : (b : Bool) → c.over ≡ b → cond b Close (due_at_slot (slice_get c.slots c.sent) c) ≡ Send slot → CanSend c slot

@@ -155,8 +155,8 @@ fault-of None (Breaks other) d e fault is = let same : other ≡ fault = cc in (
 fault-of (Some t) ends d e fault is = absurd (let no : ⊥ = cc in no)
 
 -- what is due is an answer, the end, nothing, or what is due of the turns
-unsent-turn : (c : Connection) (turn : Turn) → due_without_sending c ≡ Treat turn → OfTurn c (Some turn)
-unsent-turn c turn e = by_over c.over c.closing refl e
+turn_without_sending : (c : Connection) (turn : Turn) → due_without_sending c ≡ Treat turn → OfTurn c (Some turn)
+turn_without_sending c turn e = by_over c.over c.closing refl e
   where
     by_over : (over closing : Bool) → c.closing ≡ closing → cond over Close (cond closing Nothing (due_at_turn (next_turn c) c.ends)) ≡ Treat turn → OfTurn c (Some turn)
     by_over true closing is e = absurd (let no : ⊥ = cc in no)
@@ -168,8 +168,8 @@ record OfFault (c : Connection) (fault : InFault) : Type 0 where
   turn : OfTurn c None
   ends : c.ends ≡ Breaks fault
 
-unsent-fault : (c : Connection) (fault : InFault) → due_without_sending c ≡ Refuse fault → OfFault c fault
-unsent-fault c fault e = by_over c.over c.closing refl e
+fault_without_sending : (c : Connection) (fault : InFault) → due_without_sending c ≡ Refuse fault → OfFault c fault
+fault_without_sending c fault e = by_over c.over c.closing refl e
   where
     by_over : (over closing : Bool) → c.closing ≡ closing → cond over Close (cond closing Nothing (due_at_turn (next_turn c) c.ends)) ≡ Refuse fault → OfFault c fault
     by_over true closing is e = absurd (let no : ⊥ = cc in no)
@@ -197,14 +197,14 @@ due-turn c turn e = by_over c.over e
   where
     by_over : (b : Bool) → cond b Close (due_at_slot (slice_get c.slots c.sent) c) ≡ Treat turn → OfTurn c (Some turn)
     by_over true e = absurd (let no : ⊥ = cc in no)
-    by_over false e = unsent-turn c turn (slot-turn c (slice_get c.slots c.sent) turn e)
+    by_over false e = turn_without_sending c turn (slot-turn c (slice_get c.slots c.sent) turn e)
 
 due-fault : (c : Connection) (fault : InFault) → due c ≡ Refuse fault → OfFault c fault
 due-fault c fault e = by_over c.over e
   where
     by_over : (b : Bool) → cond b Close (due_at_slot (slice_get c.slots c.sent) c) ≡ Refuse fault → OfFault c fault
     by_over true e = absurd (let no : ⊥ = cc in no)
-    by_over false e = unsent-fault c fault (slot-fault c (slice_get c.slots c.sent) fault e)
+    by_over false e = fault_without_sending c fault (slot-fault c (slice_get c.slots c.sent) fault e)
 
 good-turn : (c : Connection) (t : Turn) (s : Slot) → Good c → OfTurn c (Some t) → IsOfTurn t s → Good (with_slot s c)
 good-turn c t s good of is =

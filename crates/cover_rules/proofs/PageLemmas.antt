@@ -1,28 +1,27 @@
 -- Which mangled paths are those of pages, and the text of a page's path.
-use Rattle.std.proofs.Common.{ℕ, Bool, true, false, cond, not, ◌&&◌, ◌||◌, ◌==◌, List, [], ◌∷◌, ◌++◌, ◌-◌, ◌<◌, Some, None, Ok, Err, ◌+◌, get_or, length, take, slice_get, unwrap_or, refl, sym, ◌∙◌, ap, ◌≡◌, arith}
+use Rattle.std.proofs.Common.{ℕ, Bool, true, false, cond, not, ◌&&◌, ◌||◌, ◌==◌, List, [], ◌∷◌, ◌++◌, ◌-◌, ◌<◌, Some, None, Ok, Err, ◌+◌, length, take, refl, sym, ◌∙◌, ap, ◌≡◌, arith}
 use Rattle.std.proofs.lemmas.Bool.Decides.{nat_tests}
 use Rattle.std.proofs.lemmas.List.Concat.{flat_map-append}
 use Rattle.std.proofs.lemmas.List.{take_more, take_all, append-nil}
 use Rattle.std.proofs.lemmas.List.Folds.{list_any-append, list_all-append}
-use Rattle.std.proofs.lemmas.Option.{slice_get-get_or}
 use Rattle.std.specs.List.{list_any, list_all}
 use Rattle.sp_base.specs.declared.path.PathFault.{PathFault}
-use Rattle.sp_base.specs.Paths.{has_slash, is_long, mangled_segs, mangled_of, parent_of, pieces, text_of}
+use Rattle.sp_base.specs.Paths.{has_slash, is_long, mangled_segs, mangled_of, name_of, parent_of, pieces, text_of}
 use Rattle.sp_base.specs.PathTexts.{lack_slashes, segs_in, spelling_of}
 use Rattle.cover_rules.specs.declared.page.PageKey.{PageKey}
 use Rattle.cover_rules.specs.Names.{has_file_name}
-use Rattle.cover_rules.specs.Pages.{has_dot, is_file, is_page, key_at, last_segment, page_key_of, page_path, page_text}
+use Rattle.cover_rules.specs.Pages.{has_dot, is_file, is_page, key_at, page_key_of, page_path, page_text}
 use Rattle.cover_rules.proofs.NameLemmas.{long_lacks}
 
 pub no_key : (segs : List (List ℕ)) → is_page segs ≡ false → key_at segs ≡ None
 unfolding key_at
-no_key segs h = ap (λ t. cond t (Some (record { folder = parent_of segs; file = last_segment segs })) None) h
+no_key segs h = ap (λ t. cond t (Some (record { folder = parent_of segs; file = name_of segs })) None) h
 
-pub a_key : (segs : List (List ℕ)) → is_page segs ≡ true → key_at segs ≡ Some (record { folder = parent_of segs; file = last_segment segs })
+pub a_key : (segs : List (List ℕ)) → is_page segs ≡ true → key_at segs ≡ Some (record { folder = parent_of segs; file = name_of segs })
 unfolding key_at
-a_key segs h = ap (λ t. cond t (Some (record { folder = parent_of segs; file = last_segment segs })) None) h
+a_key segs h = ap (λ t. cond t (Some (record { folder = parent_of segs; file = name_of segs })) None) h
 
-pub no_file : (segs : List (List ℕ)) → is_file (last_segment segs) ≡ false → is_page segs ≡ false
+pub no_file : (segs : List (List ℕ)) → is_file (name_of segs) ≡ false → is_page segs ≡ false
 no_file segs h = ap (λ t. t && (list_all (λ seg. not (has_dot seg)) (parent_of segs) && list_all has_file_name segs)) h
 
 third_false : (a b c : Bool) → c ≡ false → (a && (b && c)) ≡ false
@@ -39,7 +38,7 @@ all_true : (a b c : Bool) → a ≡ true → b ≡ true → c ≡ true → (a &&
 all_true a b c e f g = ap (λ t. t && (b && c)) e ∙ ap (λ t. t && c) f ∙ g
 
 pub no_names : (segs : List (List ℕ)) → list_all has_file_name segs ≡ false → is_page segs ≡ false
-no_names segs h = third_false (is_file (last_segment segs)) (list_all (λ seg. not (has_dot seg)) (parent_of segs)) (list_all has_file_name segs) h
+no_names segs h = third_false (is_file (name_of segs)) (list_all (λ seg. not (has_dot seg)) (parent_of segs)) (list_all has_file_name segs) h
 
 nots : (a b : Bool) (t : Bool) → t ≡ not b → (a || t) ≡ not (not a && b)
 nots true b t h = refl
@@ -72,12 +71,12 @@ not_false false h = sym h
 
 pub dotted_folder : (segs : List (List ℕ)) → has_dot (spelling_of (parent_of segs)) ≡ true → is_page segs ≡ false
 dotted_folder segs h =
-    second_false (is_file (last_segment segs)) (list_all (λ seg. not (has_dot seg)) (parent_of segs)) (list_all has_file_name segs)
+    second_false (is_file (name_of segs)) (list_all (λ seg. not (has_dot seg)) (parent_of segs)) (list_all has_file_name segs)
     (not_true (list_all (λ seg. not (has_dot seg)) (parent_of segs)) (sym (dots (parent_of segs)) ∙ h))
 
-pub a_page : (segs : List (List ℕ)) → is_file (last_segment segs) ≡ true → list_all has_file_name segs ≡ true → has_dot (spelling_of (parent_of segs)) ≡ false → is_page segs ≡ true
+pub a_page : (segs : List (List ℕ)) → is_file (name_of segs) ≡ true → list_all has_file_name segs ≡ true → has_dot (spelling_of (parent_of segs)) ≡ false → is_page segs ≡ true
 a_page segs f n d =
-    all_true (is_file (last_segment segs)) (list_all (λ seg. not (has_dot seg)) (parent_of segs)) (list_all has_file_name segs) f
+    all_true (is_file (name_of segs)) (list_all (λ seg. not (has_dot seg)) (parent_of segs)) (list_all has_file_name segs) f
     (not_false (list_all (λ seg. not (has_dot seg)) (parent_of segs)) (sym (dots (parent_of segs)) ∙ d)) n
 
 -- the text of a page's path
@@ -115,27 +114,26 @@ unmangled_lacks path e fits err =
     ] refl
 
 -- the key's own path
-prefix_and_last : (segs : List (List ℕ)) → 0 < length segs → parent_of segs ++ last_segment segs ∷ [] ≡ segs
+prefix_and_last : (segs : List (List ℕ)) → 0 < length segs → parent_of segs ++ name_of segs ∷ [] ≡ segs
 prefix_and_last segs h =
-    let at : slice_get segs (length segs - 1) ≡ Some (get_or segs (length segs - 1) []) = slice_get-get_or segs (length segs - 1) [] (omega arith) in
     let more = take_more segs (length segs - 1) [] (omega arith) in
     let all : length segs - 1 + 1 ≡ length segs = omega arith in
-    ap (λ o. parent_of segs ++ unwrap_or o [] ∷ []) at ∙ sym more ∙ ap (λ n. take n segs) all ∙ take_all (length segs) segs (omega arith)
+    sym more ∙ ap (λ n. take n segs) all ∙ take_all (length segs) segs (omega arith)
 
 one_piece : (seg : List ℕ) → segs_in (spelling_of (seg ∷ [])) ≡ seg ∷ [] → pieces seg ≡ seg ∷ []
 unfolding segs_in
 one_piece seg e = ap pieces (sym (append-nil seg)) ∙ e
 
-last_lacks : (segs : List (List ℕ)) → 0 < length segs → lack_slashes segs ≡ true → lack_slashes (last_segment segs ∷ []) ≡ true
+last_lacks : (segs : List (List ℕ)) → 0 < length segs → lack_slashes segs ≡ true → lack_slashes (name_of segs ∷ []) ≡ true
 last_lacks segs some h =
-    and_right (lack_slashes (parent_of segs)) _ (sym (list_all-append (λ seg. not (has_slash seg)) (parent_of segs) (last_segment segs ∷ [])) ∙ ap lack_slashes (prefix_and_last segs some) ∙ h)
+    and_right (lack_slashes (parent_of segs)) _ (sym (list_all-append (λ seg. not (has_slash seg)) (parent_of segs) (name_of segs ∷ [])) ∙ ap lack_slashes (prefix_and_last segs some) ∙ h)
 
-key_fields : (segs : List (List ℕ)) (key : PageKey) (b : Bool) → is_page segs ≡ b → cond b (Some (record { folder = parent_of segs; file = last_segment segs })) None ≡ Some key
-    → (is_page segs ≡ true) × (key.folder ≡ parent_of segs) × (key.file ≡ last_segment segs)
+key_fields : (segs : List (List ℕ)) (key : PageKey) (b : Bool) → is_page segs ≡ b → cond b (Some (record { folder = parent_of segs; file = name_of segs })) None ≡ Some key
+    → (is_page segs ≡ true) × (key.folder ≡ parent_of segs) × (key.file ≡ name_of segs)
 key_fields segs key true e h = (e, cc (h), cc (h))
 key_fields segs key false e h = absurd (cc (h))
 
-pub fields_of : (segs : List (List ℕ)) (key : PageKey) → key_at segs ≡ Some key → (is_page segs ≡ true) × (key.folder ≡ parent_of segs) × (key.file ≡ last_segment segs)
+pub fields_of : (segs : List (List ℕ)) (key : PageKey) → key_at segs ≡ Some key → (is_page segs ≡ true) × (key.folder ≡ parent_of segs) × (key.file ≡ name_of segs)
 unfolding key_at
 fields_of segs key h = key_fields segs key (is_page segs) refl h
 
@@ -148,6 +146,6 @@ pub own_path : (segs : List (List ℕ)) (key : PageKey) → lack_slashes segs �
 own_path segs key lacks back h =
     let f = fields_of segs key h in
     let some = some_segment segs f.0 in
-    let piece = one_piece (last_segment segs) (back (last_segment segs ∷ []) (last_lacks segs some lacks)) in
+    let piece = one_piece (name_of segs) (back (name_of segs ∷ []) (last_lacks segs some lacks)) in
     ap (λ (folder : List (List ℕ)). folder ++ pieces key.file) f.1 ∙ ap (λ (file : List ℕ). parent_of segs ++ pieces file) f.2
     ∙ ap (λ (more : List (List ℕ)). parent_of segs ++ more) piece ∙ prefix_and_last segs some

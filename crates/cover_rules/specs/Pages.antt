@@ -1,7 +1,7 @@
 -- Where a page of the cache stands, and which path is a page's (Adobe Dispatcher manual, "Specifying the Cache Directory").
-use Rattle.std.specs.Prelude.{◌==◌, ◌&&◌, ◌++◌, ◌-◌, ℕ, Bool, not, if◌then◌else◌, List, [], ◌∷◌, Option, Some, None, length, slice_get, slice_index, unwrap_or}
+use Rattle.std.specs.Prelude.{◌==◌, ◌&&◌, ◌++◌, ◌-◌, ℕ, Bool, not, if◌then◌else◌, List, Option, Some, None, length, slice_index}
 use Rattle.std.specs.List.{list_any, list_all}
-use Rattle.sp_base.specs.Paths.{mangled_segs, parent_of, pieces, text_of}
+use Rattle.sp_base.specs.Paths.{mangled_segs, name_of, parent_of, pieces, text_of}
 use Rattle.cover_rules.specs.declared.page.PageKey.{PageKey}
 use Rattle.cover_rules.specs.Names.{has_file_name}
 
@@ -9,21 +9,17 @@ use Rattle.cover_rules.specs.Names.{has_file_name}
 abbrev pub has_dot : List ℕ → Bool
 has_dot seg = list_any (λ b. b == 46) seg
 
--- the root has none
-abbrev pub last_segment : List (List ℕ) → List ℕ
-last_segment segs = unwrap_or (slice_get segs (length segs - 1)) []
-
 -- a segment with a dot that neither begins nor ends with one
 abbrev pub is_file : List ℕ → Bool
 is_file seg = has_dot seg && (not (slice_index seg 0 == 46) && not (slice_index seg (length seg - 1) == 46))
 
 -- a mangled path at which a page may be: a file in folders without a dot, each with a file name
 abbrev pub is_page : List (List ℕ) → Bool
-is_page segs = is_file (last_segment segs) && (list_all (λ seg. not (has_dot seg)) (parent_of segs) && list_all has_file_name segs)
+is_page segs = is_file (name_of segs) && (list_all (λ seg. not (has_dot seg)) (parent_of segs) && list_all has_file_name segs)
 
 -- the key of the page at a mangled path
 unfoldable pub key_at : List (List ℕ) → Option PageKey
-key_at segs = if is_page segs then Some (record { folder = parent_of segs; file = last_segment segs }) else None
+key_at segs = if is_page segs then Some (record { folder = parent_of segs; file = name_of segs }) else None
 
 -- the key of the page at a path, however its segments are spelled
 abbrev pub page_key_of : List (List ℕ) → Option PageKey

@@ -1,5 +1,5 @@
 //! Where a page stands in the cache.
-ghost use Rattle.std.specs.Prelude.{◌≡◌, ◌&&◌, ◌==◌, ◌-◌, IfOk, length, not, slice_index};
+ghost use Rattle.std.specs.Prelude.{◌≡◌, ◌&&◌, ◌==◌, ◌-◌, IfOk, length};
 ghost use Rattle.std.specs.List.{list_all};
 ghost use Rattle.cover_rules.specs.Names as name;
 ghost use Rattle.cover_rules.specs.Pages as spec;
@@ -65,7 +65,7 @@ pub fn page_key(alloc: Global, path: &Path) -> Mem<Option<PageKey>>
 fn key_at(alloc: Global, path: &Path) -> Mem<Option<PageKey>>
     ensures { IfOk result (λ key. key ≡ spec.key_at path.now) }
 {
-    let file = last_segment(path);
+    let file = path.name();
     if !is_file(file) {
         return Ok(None);
     }
@@ -78,16 +78,6 @@ fn key_at(alloc: Global, path: &Path) -> Mem<Option<PageKey>>
     }
     let file = TextBuf::of(alloc, file)?;
     Ok(Some(PageKey { folder, file }))
-}
-
-// The last segment; nothing of the root.
-fn last_segment(path: &Path) -> &str
-    ensures { result.now ≡ spec.last_segment path.now }
-{
-    match path.last() {
-        Some(file) => file,
-        None => "",
-    }
 }
 
 fn has_dot(text: &str) -> bool

@@ -5,12 +5,11 @@ use Rattle.std.specs.Cmp.Lexicographic.{pointwise, bytes_decides}
 use Rattle.std.proofs.lemmas.Bool.{true≢false}
 use Rattle.std.proofs.lemmas.Bool.Decides.{nat_tests}
 use Rattle.std.proofs.lemmas.List.{append-nil, length-append}
-use Rattle.std.proofs.lemmas.Option.{unwrap_or-slice_get}
 use Rattle.std.proofs.Math.Seq.{get_or-append_seam}
-use Rattle.sp_base.specs.Paths.{is_dots, is_empty, is_path, mangled_segs, pieces}
+use Rattle.sp_base.specs.Paths.{is_dots, is_empty, is_path, mangled_segs, name_of, pieces}
 use Rattle.cover_rules.specs.declared.page.PageKey.{PageKey}
 use Rattle.cover_rules.specs.Names.{file_name}
-use Rattle.cover_rules.specs.Pages.{last_segment, page_key_of}
+use Rattle.cover_rules.specs.Pages.{page_key_of}
 use Rattle.docroot_format.specs.Names.{beside_ending, body_name, epoch_name, folder_name, has_segments, head_name, is_inside, is_file_name_byte, is_page_file, is_segment, is_stat_file, stat_name}
 use Rattle.docroot_format.proofs.NameLemmas.{append_both}
 use Rattle.docroot_format.proofs.Inside.{body_inside, both, bytes_ok, first_of, head_inside, key_file, not_true, second_of, stat_inside}
@@ -18,15 +17,14 @@ use Rattle.docroot_format.proofs.Apart.{after_folder, after_segment, head_bytes,
 
 -- ---- the last piece of a name
 
-last_of : (xs : List (List ℕ)) (x : List ℕ) → last_segment (xs ++ x ∷ []) ≡ x
+last_of : (xs : List (List ℕ)) (x : List ℕ) → name_of (xs ++ x ∷ []) ≡ x
 last_of xs x =
     let place : length (xs ++ x ∷ []) - 1 ≡ length xs = omega (arith, length-append xs (x ∷ [])) in
-    unwrap_or-slice_get (xs ++ x ∷ []) (length (xs ++ x ∷ []) - 1) []
-    ∙ ap (λ n. get_or (xs ++ x ∷ []) n []) place
+    ap (λ n. get_or (xs ++ x ∷ []) n []) place
     ∙ get_or-append_seam xs x [] []
 
-last_piece : (folder : List (List ℕ)) (last : List ℕ) → list_all is_file_name_byte last ≡ true → last_segment (pieces (folder_name folder ++ last)) ≡ last
-last_piece folder last ok = ap last_segment (pieces_body folder last ok) ∙ last_of (map file_name folder) last
+last_piece : (folder : List (List ℕ)) (last : List ℕ) → list_all is_file_name_byte last ≡ true → name_of (pieces (folder_name folder ++ last)) ≡ last
+last_piece folder last ok = ap name_of (pieces_body folder last ok) ∙ last_of (map file_name folder) last
 
 piece_ok : (a b c : Bool) → a && (b && c) ≡ true → a && b ≡ true
 piece_ok true b c e = first_of b c e
@@ -78,7 +76,7 @@ stat_is_stat_file folder ok =
 
 pub page_no_stat : (name : List ℕ) → IsTrue (is_page_file name) → is_stat_file name ≡ false
 page_no_stat name page = not_true (is_stat_file name) (λ stat.
-    let last = (bytes_decides (last_segment (pieces name)) (codes ".stat")).0 (second_of _ _ stat) in
+    let last = (bytes_decides (name_of (pieces name)) (codes ".stat")).0 (second_of _ _ stat) in
     true≢false (sym (second_of _ _ page) ∙ ap (λ piece. not (nat_eq (get_or piece 0 0) 46)) last))
 
 -- ---- no name ends in `%t`

@@ -1,15 +1,14 @@
 -- The folders of keys and of invalidations are mangled paths whose segments have file names.
-use Rattle.std.proofs.Common.{◌≡◌, ◌≤◌, ◌<◌, ◌+◌, ◌-◌, ◌&&◌, ℕ, zero, suc, Bool, true, false, cond, List, [], ◌∷◌, Some, None, Contains, drop, length, take, map, get_or, refl, sym, ◌∙◌, ap, subst, arith}
+use Rattle.std.proofs.Common.{◌≡◌, ◌≤◌, ◌<◌, ◌+◌, ◌-◌, ℕ, zero, suc, Bool, true, false, cond, List, [], ◌∷◌, Some, None, Contains, drop, length, take, map, get_or, refl, sym, ◌∙◌, ap, subst, arith}
 use Rattle.std.proofs.lemmas.List.{length-map, take-map}
-use Rattle.std.proofs.lemmas.Option.{unwrap_or-slice_get}
 use Rattle.std.specs.List.{list_all, prefix_len, take_while}
-use Rattle.sp_base.specs.Paths.{mangled_segs, mangled_seg, parent_of}
+use Rattle.sp_base.specs.Paths.{mangled_segs, mangled_seg, parent_of, name_of}
 use Rattle.cover_rules.specs.declared.invalidation.Invalidation.{Invalidation}
 use Rattle.cover_rules.specs.declared.page.PageKey.{PageKey}
 use Rattle.cover_rules.specs.Names.{has_file_name}
-use Rattle.cover_rules.specs.Pages.{is_page, key_at, last_segment, page_key_of}
+use Rattle.cover_rules.specs.Pages.{is_page, key_at, page_key_of}
 use Rattle.cover_rules.specs.Coverage.{handle_of, lineage, stat_depth_of, stat_folder, touched_of}
-use Rattle.docroot_format.specs.Names.{IsFolder, have_names}
+use Rattle.docroot_format.specs.Names.{IsFolder}
 use Rattle.docroot_format.proofs.PagePlaces.{all_taken, both, page_has_folder}
 
 taken : (segs : List (List ℕ)) (n : ℕ) → mangled_segs segs ≡ segs → mangled_segs (take n segs) ≡ take n segs
@@ -18,12 +17,12 @@ taken segs n e = sym (take-map mangled_seg n segs) ∙ ap (take n) e
 folder_taken : (folder : List (List ℕ)) (n : ℕ) → IsFolder folder → IsFolder (take n folder)
 folder_taken folder n f = (taken folder n f.0, all_taken has_file_name folder n f.1)
 
-key_is : (segs : List (List ℕ)) (key : PageKey) (test : Bool) → cond test (Some (record { folder = parent_of segs; file = last_segment segs })) None ≡ Some key
-    → (key.folder ≡ parent_of segs) × (key.file ≡ last_segment segs)
-key_is segs key true e = let same : key ≡ record { folder = parent_of segs; file = last_segment segs } = cc (e) in (ap (λ (k : PageKey). k.folder) same, ap (λ (k : PageKey). k.file) same)
+key_is : (segs : List (List ℕ)) (key : PageKey) (test : Bool) → cond test (Some (record { folder = parent_of segs; file = name_of segs })) None ≡ Some key
+    → (key.folder ≡ parent_of segs) × (key.file ≡ name_of segs)
+key_is segs key true e = let same : key ≡ record { folder = parent_of segs; file = name_of segs } = cc (e) in (ap (λ (k : PageKey). k.folder) same, ap (λ (k : PageKey). k.file) same)
 key_is segs key false e = absurd cc
 
-page_is : (path : List (List ℕ)) (key : PageKey) → page_key_of path ≡ Some key → (key.folder ≡ parent_of (mangled_segs path)) × (key.file ≡ last_segment (mangled_segs path))
+page_is : (path : List (List ℕ)) (key : PageKey) → page_key_of path ≡ Some key → (key.folder ≡ parent_of (mangled_segs path)) × (key.file ≡ name_of (mangled_segs path))
 unfolding key_at
 page_is path key e = key_is (mangled_segs path) key (is_page (mangled_segs path)) e
 
@@ -41,8 +40,8 @@ segment_is [] n e = refl
 segment_is (seg ∷ segs) zero e = ap (λ (l : List (List ℕ)). get_or l 0 []) e
 segment_is (seg ∷ segs) (suc n) e = segment_is segs n (ap (λ (l : List (List ℕ)). drop 1 l) e)
 
-last_is : (segs : List (List ℕ)) → mangled_segs segs ≡ segs → mangled_segs (last_segment segs ∷ []) ≡ last_segment segs ∷ []
-last_is segs e = subst (λ (seg : List ℕ). mangled_segs (seg ∷ []) ≡ seg ∷ []) (sym (unwrap_or-slice_get segs (length segs - 1) [])) (ap (λ (seg : List ℕ). seg ∷ []) (segment_is segs (length segs - 1) e))
+last_is : (segs : List (List ℕ)) → mangled_segs segs ≡ segs → mangled_segs (name_of segs ∷ []) ≡ name_of segs ∷ []
+last_is segs e = ap (λ (seg : List ℕ). seg ∷ []) (segment_is segs (length segs - 1) e)
 
 pub page_file : (path : List (List ℕ)) (key : PageKey) → mangled_segs (mangled_segs path) ≡ mangled_segs path → page_key_of path ≡ Some key → mangled_segs (key.file ∷ []) ≡ key.file ∷ []
 page_file path key again e = subst (λ (f : List ℕ). mangled_segs (f ∷ []) ≡ f ∷ []) (sym (page_is path key e).1) (last_is (mangled_segs path) again)

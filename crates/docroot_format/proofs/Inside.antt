@@ -8,9 +8,9 @@ use Rattle.std.proofs.lemmas.Bool.Decides.{nat_tests}
 use Rattle.std.proofs.lemmas.List.Splits.{slice_split_at, slice_split_none}
 use Rattle.std.proofs.lemmas.List.Folds.{list_all-append}
 use Rattle.std.proofs.lemmas.List.{length-append}
-use Rattle.sp_base.specs.Paths.{has_slash, is_empty, is_dots, is_long, is_namespaced, is_path, mangled_segs, mangled_by, mangled_seg, parent_of, seg_ok}
+use Rattle.sp_base.specs.Paths.{has_slash, is_empty, is_dots, is_long, is_namespaced, is_path, mangled_segs, mangled_by, mangled_seg, parent_of, seg_ok, name_of}
 use Rattle.cover_rules.specs.declared.page.PageKey.{PageKey}
-use Rattle.cover_rules.specs.Pages.{is_file, is_page, key_at, last_segment, page_key_of}
+use Rattle.cover_rules.specs.Pages.{is_file, is_page, key_at, page_key_of}
 use Rattle.cover_rules.specs.Names.{is_plain_name_byte, file_byte, file_name}
 use Rattle.docroot_format.specs.Names.{body_name, epoch_name, folder_name, head_name, stat_name, is_file_name_byte, is_segment, is_inside}
 use Rattle.docroot_format.proofs.NameLemmas.{append_both}
@@ -192,7 +192,7 @@ abbrev is_there : Option PageKey → Bool
 is_there None = false
 is_there (Some key) = true
 
-from_key : (segs : List (List ℕ)) (key : PageKey) (test : Bool) → is_page segs ≡ test → cond test (Some (record { folder = parent_of segs; file = last_segment segs })) None ≡ Some key → is_file key.file ≡ true
+from_key : (segs : List (List ℕ)) (key : PageKey) (test : Bool) → is_page segs ≡ test → cond test (Some (record { folder = parent_of segs; file = name_of segs })) None ≡ Some key → is_file key.file ≡ true
 from_key segs key true page e = subst (λ (o : Option PageKey). file_in o ≡ true) e (first_of _ _ page)
 from_key segs key false page e = absurd (true≢false (sym (ap is_there e)))
 

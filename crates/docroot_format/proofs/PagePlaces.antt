@@ -4,11 +4,10 @@ use Rattle.std.specs.List.{list_all}
 use Rattle.std.specs.Prelude.{not}
 use Rattle.std.proofs.lemmas.Bool.{true≢false}
 use Rattle.std.proofs.lemmas.Bool.Decides.{nat_tests}
-use Rattle.std.proofs.lemmas.Option.{unwrap_or-slice_get}
-use Rattle.sp_base.specs.Paths.{mangled_segs, parent_of}
+use Rattle.sp_base.specs.Paths.{mangled_segs, name_of, parent_of}
 use Rattle.cover_rules.specs.declared.page.PageKey.{PageKey}
 use Rattle.cover_rules.specs.Names.{has_file_name}
-use Rattle.cover_rules.specs.Pages.{has_dot, is_file, is_page, key_at, last_segment, page_key_of}
+use Rattle.cover_rules.specs.Pages.{has_dot, is_file, is_page, key_at, page_key_of}
 use Rattle.docroot_format.specs.Names.{have_names, is_place}
 
 first_of : (a b : Bool) → a && b ≡ true → a ≡ true
@@ -38,18 +37,18 @@ some_bytes : (seg : List ℕ) → has_dot seg ≡ true → nat_lt 0 (length seg)
 some_bytes [] e = absurd (true≢false (sym e))
 some_bytes (b ∷ seg) e = grind (arith, nat_tests)
 
-some_segments : (segs : List (List ℕ)) → has_dot (last_segment segs) ≡ true → length segs - 1 < length segs
+some_segments : (segs : List (List ℕ)) → has_dot (name_of segs) ≡ true → length segs - 1 < length segs
 some_segments [] e = absurd (true≢false (sym e))
 some_segments (seg ∷ segs) e = omega arith
 
-place_of_page : (segs : List (List ℕ)) → is_page segs ≡ true → is_place (parent_of segs) (last_segment segs) ≡ true
+place_of_page : (segs : List (List ℕ)) → is_page segs ≡ true → is_place (parent_of segs) (name_of segs) ≡ true
 place_of_page segs e =
-    let file = first_of (is_file (last_segment segs)) _ e in
-    let dot = first_of (has_dot (last_segment segs)) _ file in
-    let all : list_all has_file_name segs ≡ true = second_of (list_all (λ seg. not (has_dot seg)) (parent_of segs)) (list_all has_file_name segs) (second_of (is_file (last_segment segs)) _ e) in
-    let last : has_file_name (last_segment segs) ≡ true =
-    ap has_file_name (unwrap_or-slice_get segs (length segs - 1) []) ∙ at_place has_file_name segs (length segs - 1) (some_segments segs dot) all in
-    both (have_names (parent_of segs)) _ (all_taken has_file_name segs (length segs - 1) all) (both (has_file_name (last_segment segs)) _ last (some_bytes (last_segment segs) dot))
+    let file = first_of (is_file (name_of segs)) _ e in
+    let dot = first_of (has_dot (name_of segs)) _ file in
+    let all : list_all has_file_name segs ≡ true = second_of (list_all (λ seg. not (has_dot seg)) (parent_of segs)) (list_all has_file_name segs) (second_of (is_file (name_of segs)) _ e) in
+    let last : has_file_name (name_of segs) ≡ true =
+    at_place has_file_name segs (length segs - 1) (some_segments segs dot) all in
+    both (have_names (parent_of segs)) _ (all_taken has_file_name segs (length segs - 1) all) (both (has_file_name (name_of segs)) _ last (some_bytes (name_of segs) dot))
 
 abbrev place_in : Option PageKey → Bool
 place_in None = true
@@ -59,7 +58,7 @@ abbrev is_there : Option PageKey → Bool
 is_there None = false
 is_there (Some key) = true
 
-from_key : (segs : List (List ℕ)) (key : PageKey) (test : Bool) → is_page segs ≡ test → cond test (Some (record { folder = parent_of segs; file = last_segment segs })) None ≡ Some key → is_place key.folder key.file ≡ true
+from_key : (segs : List (List ℕ)) (key : PageKey) (test : Bool) → is_page segs ≡ test → cond test (Some (record { folder = parent_of segs; file = name_of segs })) None ≡ Some key → is_place key.folder key.file ≡ true
 from_key segs key true page e = subst (λ (o : Option PageKey). place_in o ≡ true) e (place_of_page segs page)
 from_key segs key false page e = absurd (true≢false (sym (ap is_there e)))
 

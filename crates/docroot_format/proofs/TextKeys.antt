@@ -1,11 +1,10 @@
 -- A text's bytes are below 256, and so are those of what is made of one.
-use Rattle.std.proofs.Common.{◌≡◌, ◌+◌, ◌-◌, ℕ, zero, suc, Bool, true, false, cond, ◌++◌, List, [], ◌∷◌, IsUtf8, length, drop, take, get_or, codes, Some, None, sym, subst, arith}
-use Rattle.std.proofs.lemmas.Option.{unwrap_or-slice_get}
+use Rattle.std.proofs.Common.{◌≡◌, ◌+◌, ◌-◌, ℕ, zero, suc, Bool, true, false, cond, ◌++◌, List, [], ◌∷◌, IsUtf8, length, drop, take, get_or, codes, Some, None, subst, arith}
 use Rattle.std.specs.List.{AllByRecursion}
-use Rattle.sp_base.specs.Paths.{is_namespaced, mangled_segs, mangled_by, mangled_seg, parent_of}
+use Rattle.sp_base.specs.Paths.{is_namespaced, mangled_segs, mangled_by, mangled_seg, parent_of, name_of}
 use Rattle.sp_base.specs.PathTexts.{spelling_of}
 use Rattle.cover_rules.specs.declared.page.PageKey.{PageKey}
-use Rattle.cover_rules.specs.Pages.{is_page, key_at, last_segment, page_key_of}
+use Rattle.cover_rules.specs.Pages.{is_page, key_at, page_key_of}
 use Rattle.sp_base.specs.Bytes.{AreBytes}
 use Rattle.sp_base.proofs.TextBytes.{both_bytes, text_bytes}
 use Rattle.docroot_format.specs.Names.{IsTextKey}
@@ -72,10 +71,10 @@ one_of n [] p = tt
 one_of zero (seg ∷ segs) p = p.0
 one_of (suc n) (seg ∷ segs) p = one_of n segs p.1
 
-at_key : (segs : List (List ℕ)) (key : PageKey) (test : Bool) → AllByRecursion AreBytes segs → cond test (Some (record { folder = parent_of segs; file = last_segment segs })) None ≡ Some key → IsTextKey key
+at_key : (segs : List (List ℕ)) (key : PageKey) (test : Bool) → AllByRecursion AreBytes segs → cond test (Some (record { folder = parent_of segs; file = name_of segs })) None ≡ Some key → IsTextKey key
 at_key segs key true p e =
-    let same : record { folder = parent_of segs; file = last_segment segs } ≡ key = cc (e) in
-    subst IsTextKey same (all_taken (length segs - 1) segs p, subst AreBytes (sym (unwrap_or-slice_get segs (length segs - 1) [])) (one_of (length segs - 1) segs p))
+    let same : record { folder = parent_of segs; file = name_of segs } ≡ key = cc (e) in
+    subst IsTextKey same (all_taken (length segs - 1) segs p, one_of (length segs - 1) segs p)
 at_key segs key false p e = absurd cc
 
 pub key_bytes : (path : List (List ℕ)) (key : PageKey) → AllByRecursion AreBytes path → page_key_of path ≡ Some key → IsTextKey key

@@ -4,10 +4,9 @@ use Rattle.std.specs.Prelude.{◌≡◌, ◌==◌, ◌||◌, ◌&&◌, ◌++◌,
 use Rattle.std.specs.Cmp.Lexicographic.{pointwise}
 use Rattle.std.specs.List.{AllByRecursion, list_all}
 use Rattle.sp_base.specs.Bytes.{AreBytes}
-use Rattle.sp_base.specs.Paths.{is_dots, is_empty, mangled_segs, pieces}
+use Rattle.sp_base.specs.Paths.{is_dots, is_empty, mangled_segs, name_of, pieces}
 use Rattle.cover_rules.specs.declared.page.PageKey.{PageKey}
 use Rattle.cover_rules.specs.Names.{file_name, has_file_name, is_plain_name_byte}
-use Rattle.cover_rules.specs.Pages.{last_segment}
 
 -- The names of pages and stamps are of mangled segments, spelled as in URLs, so what lies below `jcr:content` stands below `_jcr_content`.
 -- The folder and the file of a key are mangled already; a folder that gets a stamp is mangled here.
@@ -70,11 +69,11 @@ has_segments name = list_all (λ piece. not (is_empty piece) && not (is_dots pie
 
 -- a page file, of a body or a head: a name of segments of which the last doesn't begin with a dot
 abbrev pub is_page_file : List ℕ → Bool
-is_page_file name = has_segments name && not (slice_index (last_segment (pieces name)) 0 == 46)
+is_page_file name = has_segments name && not (slice_index (name_of (pieces name)) 0 == 46)
 
 -- a .stat file: a name of segments of which the last is `.stat`
 abbrev pub is_stat_file : List ℕ → Bool
-is_stat_file name = has_segments name && pointwise nat_eq (last_segment (pieces name)) (codes ".stat")
+is_stat_file name = has_segments name && pointwise nat_eq (name_of (pieces name)) (codes ".stat")
 
 -- what the name of a file ends in that a disk writes beside another
 abbrev pub beside_ending : List ℕ

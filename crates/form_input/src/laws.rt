@@ -7,8 +7,8 @@ ghost use Rattle.form_input.specs.FormLaws.{FormsAreRefusedForCauses};
 ghost use Rattle.form_input.specs.Lines.{lines_text, lines};
 ghost use Rattle.form_input.specs.Multipart.{multipart_of};
 
-/// A body reads as pairs exactly where it is a preamble, parts that each stand after a boundary line and have such a pair, a closing
-/// boundary line and an epilogue.
+/// A body reads as pairs exactly where it is a preamble, at most 1,000 parts that each stand after a boundary line and have a pair, a closing
+/// boundary line and an epilogue. The lines of a body, each with its end, are the body.
 pub fn the_parts_are_the_body()
     ensures found { (boundary body : List ℕ) (pairs : List (List ℕ × List ℕ)) → multipart_of boundary body ≡ Ok pairs → HasPairs boundary body pairs }
     ensures only { (boundary body : List ℕ) (pairs : List (List ℕ × List ℕ)) → HasPairs boundary body pairs → multipart_of boundary body ≡ Ok pairs }
@@ -16,7 +16,7 @@ pub fn the_parts_are_the_body()
 {}
 
 /// A body is refused exactly for the first fault of its lines: after a preamble and parts that each have a pair comes a part without one, one
-/// that no boundary line ends, or the 1,001st with a pair; or there is no boundary line.
+/// that no boundary line ends, or the 1,001st with a pair, if a boundary line ends it; or there is no boundary line.
 pub fn bodies_are_refused_for_their_first_fault()
     ensures found { (boundary body : List ℕ) (fault : FormFault) → multipart_of boundary body ≡ Err fault → IsBodyFault boundary body fault }
     ensures only { (boundary body : List ℕ) (fault : FormFault) → IsBodyFault boundary body fault → multipart_of boundary body ≡ Err fault }

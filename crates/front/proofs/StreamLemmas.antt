@@ -64,20 +64,20 @@ idle-turn : (turn : Option Turn) (ends : End) → due_at_turn turn ends ≡ Noth
 idle-turn None ends e = (refl, idle-end ends e)
 idle-turn (Some turn) ends e = absurd (let no : ⊥ = cc in no)
 
-idle-unsent : (d : Connection) → d.closing ≡ false → due_without_sending d ≡ Nothing → (next_turn d ≡ None) × (d.ends ≡ Waits)
-idle-unsent d reads idle = by_over d.over idle
+idle-without_sending : (d : Connection) → d.closing ≡ false → due_without_sending d ≡ Nothing → (next_turn d ≡ None) × (d.ends ≡ Waits)
+idle-without_sending d reads idle = by_over d.over idle
   where
     by_over : (over : Bool) → (if over then Close else (if d.closing then Nothing else due_at_turn (next_turn d) d.ends)) ≡ Nothing → (next_turn d ≡ None) × (d.ends ≡ Waits)
     by_over true e = absurd (let no : ⊥ = cc in no)
     by_over false e = idle-turn (next_turn d) d.ends (sym (ap (λ b. if b then Nothing else due_at_turn (next_turn d) d.ends) reads) ∙ e)
 
 idle-slot : (slot : Option Slot) (d : Connection) → d.closing ≡ false → due_at_slot slot d ≡ Nothing → (next_turn d ≡ None) × (d.ends ≡ Waits)
-idle-slot None d reads idle = idle-unsent d reads idle
+idle-slot None d reads idle = idle-without_sending d reads idle
 idle-slot (Some slot) d reads idle = by_answer (is_answered slot.response) idle
   where
     by_answer : (answered : Bool) → (if answered then Send slot else due_without_sending d) ≡ Nothing → (next_turn d ≡ None) × (d.ends ≡ Waits)
     by_answer true e = absurd (let no : ⊥ = cc in no)
-    by_answer false e = idle-unsent d reads e
+    by_answer false e = idle-without_sending d reads e
 
 idle-due : (d : Connection) → d.closing ≡ false → connection.due d ≡ Nothing → (next_turn d ≡ None) × (d.ends ≡ Waits)
 idle-due d reads idle = by_over d.over idle

@@ -83,9 +83,9 @@ pub record Meets (farm : Farm) (w : RunState) (c : ℕ) (k : Line) (sky : Sky) :
   pub farm_is : w.farm ≡ farm
 
 -- the same where nothing of the connection can be sent
-pub record MeetsUnsent (farm : Farm) (w : RunState) (c : ℕ) (k : Line) (sky : Sky) : Type 0 where
+pub record MeetsWithoutSending (farm : Farm) (w : RunState) (c : ℕ) (k : Line) (sky : Sky) : Type 0 where
   pub meets : Meets farm w c k sky
-  pub unsent : model.due meets.connection ≡ due_without_sending meets.connection
+  pub without_sending : model.due meets.connection ≡ due_without_sending meets.connection
 
 -- a slot is owed for a request that was taken
 pub record OwesRequest (farm : Farm) (w : RunState) (c : ℕ) (k : Line) (sky : Sky) (request : Req) : Type 0 where

@@ -1,6 +1,6 @@
 //! What a connection is owed, given to it note by note.
 ghost use Rattle.std.specs.Prelude.{◌≤◌, ◌+◌, false, IfOk, OnOk};
-ghost use Rattle.front.specs.Boards.{AllGiven, GivesDry, IsLess, Meets, MeetsUnsent, OwesFault, ServedAs};
+ghost use Rattle.front.specs.Boards.{AllGiven, GivesDry, IsLess, Meets, MeetsWithoutSending, OwesFault, ServedAs};
 ghost use Rattle.front.specs.Lines.{work_of};
 ghost use Rattle.front.specs.Moves.{state_after_note};
 ghost use Rattle.front.specs.States.{RunState};
@@ -47,7 +47,7 @@ fn serve_one(alloc: Global, farm: &Farm, c: u32, line: &mut Line, sky: &mut Sky)
 
 // The same where nothing can be sent.
 fn serve_turn(alloc: Global, farm: &Farm, c: u32, line: &mut Line, sky: &mut Sky) -> Mem<Served>
-    ensures served { IfOk result (λ served. (w : RunState) → MeetsUnsent farm.now w c line.old sky.old → ServedAs served farm.now w c line.new sky.new) }
+    ensures served { IfOk result (λ served. (w : RunState) → MeetsWithoutSending farm.now w c line.old sky.old → ServedAs served farm.now w c line.new sky.new) }
     ensures less { IfOk result (λ served. IsLess served (work_of line.new) (work_of line.old)) }
 {
     match line.take() {

@@ -107,6 +107,7 @@ pub(crate) enum SameBy {
     Value(bool),
 }
 
+/// What tells whether these two are the same.
 pub(crate) fn same_by(a: &Lent, b: &Lent) -> SameBy
     ensures { lent.IsToldBy result (out_of_lent a.now) (out_of_lent b.now) }
 {

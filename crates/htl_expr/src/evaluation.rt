@@ -42,6 +42,7 @@ impl<'a> Model for Evaluation<'a> {
     ghost invariant = { λ e. Knows e.scope aspect.List e.classes e.lists × (Knows e.scope aspect.Item e.classes e.items × (RemembersJoined e.scope e.joined × RemembersItemTexts e.scope e.item_texts)) };
 }
 
+// What tells whether two properties of the resource are the same.
 fn properties_same_by(scope: &Scope, a: &TextBuf, b: &TextBuf) -> SameBy
     ensures { IsToldBy result (spec.property scope.now a.now) (spec.property scope.now b.now) }
 {

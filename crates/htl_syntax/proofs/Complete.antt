@@ -3,11 +3,11 @@ use Rattle.std.proofs.Common.{◌≡◌, ℕ, ℤ, zero, suc, ◌<◌, ◌≤◌
 use Rattle.std.proofs.lemmas.List.{append-nil}
 use Rattle.sp_base.specs.Bytes.{begins_with_byte, is_digit}
 use Rattle.htl_syntax.specs.declared.node.ExprNode.{ExprNode}
-use Rattle.htl_syntax.specs.declared.node.ExprNode.TheVariants as n
+use Rattle.htl_syntax.specs.declared.node.ExprNode.TheVariants as expr_node
 use Rattle.htl_syntax.specs.declared.node.Comparison.{Comparison}
 use Rattle.htl_syntax.specs.declared.tokens.NameKind.TheVariants.{Name, Field}
 use Rattle.htl_syntax.specs.declared.reader.Nested.{Nested}
-use Rattle.htl_syntax.specs.declared.reader.Nested.TheVariants as i
+use Rattle.htl_syntax.specs.declared.reader.Nested.TheVariants as nested
 use Rattle.htl_syntax.specs.Tokens.{Outcome, done, begins, is_first, is_quote}
 use Rattle.htl_syntax.specs.Read as spec
 use Rattle.htl_syntax.specs.Grammar.{Byte, NameToken, String, Number, Sign, Compares, Separator, And, Or, Comma, Separates, Part, part_of, Choice, Either, Both, Compare, Operand, Atom, Start, Items, Reads, More, Access, Accesses}
@@ -81,11 +81,11 @@ leaf_start : (depth : ℕ) (inner : Nested → List ℕ → Outcome ExprNode) (s
 unfolding spec.start
 leaf_start depth inner s a b = rw (a, b) refl
 
-string_leaf : (depth : ℕ) (s w r : List ℕ) → String s w r → spec.primary depth s ≡ Ok (n.Text w, r)
+string_leaf : (depth : ℕ) (s w r : List ℕ) → String s w r → spec.primary depth s ≡ Ok (expr_node.Text w, r)
 unfolding spec.primary
 string_leaf depth s w r x = rw (again.string_begins s w r x, again.string_again s w r x) refl
 
-number_leaf : (depth : ℕ) (s : List ℕ) (k : ℤ) (r : List ℕ) → Number s k r → spec.primary depth s ≡ Ok (n.Long k, r)
+number_leaf : (depth : ℕ) (s : List ℕ) (k : ℤ) (r : List ℕ) → Number s k r → spec.primary depth s ≡ Ok (expr_node.Long k, r)
 unfolding spec.primary
 number_leaf depth s k r x = rw (again.number_starts is_quote s k r refl again.digit_quote x, again.number_begins s k r x, again.number_again s k r x) refl
 
@@ -253,11 +253,11 @@ accesses_again depth (suc k) found s _ r (g.more a o) st le =
     (accesses_again depth k (found ++ _ ∷ []) _ _ r o st (omega (arith, access-short _ _ _ _ a)))
 
 module _ (depth : ℕ) (inner : Nested → List ℕ → Outcome ExprNode) where
-  inside_start : (s r1 r2 r : List ℕ) (e : ExprNode) → Byte 40 s r1 → inner i.Choice s ≡ Ok (e, r2) → Byte 41 r2 r → spec.start depth inner s ≡ Ok (e, r)
+  inside_start : (s r1 r2 r : List ℕ) (e : ExprNode) → Byte 40 s r1 → inner nested.Choice s ≡ Ok (e, r2) → Byte 41 r2 r → spec.start depth inner s ≡ Ok (e, r)
   unfolding spec.start
   inside_start s r1 r2 r e b x close = rw (again.at_here 40 s r1 b, x, again.expect_again 41 r2 r close) refl
 
-  list_start : (s r1 r2 r : List ℕ) (e : ExprNode) → Byte 91 s r1 → inner i.Items s ≡ Ok (e, r2) → Byte 93 r2 r → spec.start depth inner s ≡ Ok (e, r)
+  list_start : (s r1 r2 r : List ℕ) (e : ExprNode) → Byte 91 s r1 → inner nested.Items s ≡ Ok (e, r2) → Byte 93 r2 r → spec.start depth inner s ≡ Ok (e, r)
   unfolding spec.start
   list_start s r1 r2 r e b x close = rw (byte_not_at 91 40 s r1 refl b, again.at_here 91 s r1 b, x, again.expect_again 93 r2 r close) refl
 
@@ -265,7 +265,7 @@ module _ (depth : ℕ) (inner : Nested → List ℕ → Outcome ExprNode) where
   unfolding spec.atom
   atom_again s r1 r e fs x y = rw (x, y) refl
 
-  not_again : (s r1 r : List ℕ) (e : ExprNode) → Byte 33 s r1 → inner i.Operand s ≡ Ok (e, r) → spec.operand depth inner s ≡ Ok (n.Not e, r)
+  not_again : (s r1 r : List ℕ) (e : ExprNode) → Byte 33 s r1 → inner nested.Operand s ≡ Ok (e, r) → spec.operand depth inner s ≡ Ok (expr_node.Not e, r)
   unfolding spec.operand
   not_again s r1 r e b x = rw (again.at_here 33 s r1 b, x) refl
 
@@ -273,7 +273,7 @@ module _ (depth : ℕ) (inner : Nested → List ℕ → Outcome ExprNode) where
   unfolding spec.operand
   bare_again s r e at x = rw at x
 
-  compare_again : (s r1 r2 r : List ℕ) (a b : ExprNode) (op : Comparison) → spec.operand depth inner s ≡ Ok (a, r1) → Compares r1 op r2 → spec.operand depth inner r2 ≡ Ok (b, r) → spec.compare depth inner s ≡ Ok (n.Compare op a b, r)
+  compare_again : (s r1 r2 r : List ℕ) (a b : ExprNode) (op : Comparison) → spec.operand depth inner s ≡ Ok (a, r1) → Compares r1 op r2 → spec.operand depth inner r2 ≡ Ok (b, r) → spec.compare depth inner s ≡ Ok (expr_node.Compare op a b, r)
   unfolding spec.compare
   compare_again s r1 r2 r a b op x o y = rw (x, again.compares_again r1 op r2 o, again.comparison_again r1 op r2 o, y) refl
 
@@ -289,8 +289,8 @@ module _ (depth : ℕ) (inner : Nested → List ℕ → Outcome ExprNode) where
   unfolding spec.either
   either_again s r1 r e es x y = rw (x, y) refl
 
-  choice_again : (s r1 r2 r3 r4 r : List ℕ) (c a b : ExprNode) → spec.either depth inner s ≡ Ok (c, r1) → Byte 63 r1 r2 → inner i.Choice r1 ≡ Ok (a, r3) → Byte 58 r3 r4 → inner i.Choice r3 ≡ Ok (b, r)
-      → spec.choice depth inner s ≡ Ok (n.Choice c a b, r)
+  choice_again : (s r1 r2 r3 r4 r : List ℕ) (c a b : ExprNode) → spec.either depth inner s ≡ Ok (c, r1) → Byte 63 r1 r2 → inner nested.Choice r1 ≡ Ok (a, r3) → Byte 58 r3 r4 → inner nested.Choice r3 ≡ Ok (b, r)
+      → spec.choice depth inner s ≡ Ok (expr_node.Choice c a b, r)
   unfolding spec.choice spec.other_choice
   choice_again s r1 r2 r3 r4 r c a b x q y colon z = rw (x, again.at_here 63 r1 r2 q, y, again.at_here 58 r3 r4 colon, z) refl
 
@@ -298,12 +298,12 @@ module _ (depth : ℕ) (inner : Nested → List ℕ → Outcome ExprNode) where
   unfolding spec.choice
   only_again s r e x at = rw (x, at) refl
 
-  no_items_again : (s : List ℕ) → begins_with_byte 93 s ≡ true → spec.items depth inner s ≡ Ok (n.List [], s)
+  no_items_again : (s : List ℕ) → begins_with_byte 93 s ≡ true → spec.items depth inner s ≡ Ok (expr_node.List [], s)
   unfolding spec.items
   no_items_again s at = rw at refl
 
   items_again : (s r1 r : List ℕ) (e : ExprNode) (es : List ExprNode) → begins_with_byte 93 s ≡ false → spec.choice depth inner s ≡ Ok (e, r1) → spec.chain (spec.choice depth inner) 44 (length r1) (e ∷ []) r1 ≡ Ok ((e ∷ []) ++ es, r)
-      → spec.items depth inner s ≡ Ok (n.List (e ∷ es), r)
+      → spec.items depth inner s ≡ Ok (expr_node.List (e ∷ es), r)
   unfolding spec.items
   items_again s r1 r e es at x y = rw (at, x, y) refl
 
@@ -421,9 +421,9 @@ mutual
   complete _ depth s _ r (g.object w o a) st =
       leaf_start depth (spec.nesting depth) s (again.not_at is_first 40 s w.first refl) (again.not_at is_first 91 s w.first refl) ∙ named_leaf depth s _ _ w ∙ rw (o, first_again depth _ _ r a) refl
   complete _ _ s e r (g.inside {depth = d} b x c) st =
-      inside_start (suc d) (spec.nesting (suc d)) s _ _ r e b (nested_again d i.Choice 40 s _ _ e b (complete _ d _ e _ x (close_choice _ r c))) c
+      inside_start (suc d) (spec.nesting (suc d)) s _ _ r e b (nested_again d nested.Choice 40 s _ _ e b (complete _ d _ e _ x (close_choice _ r c))) c
   complete _ _ s e r (g.list {depth = d} b x c) st =
-      list_start (suc d) (spec.nesting (suc d)) s _ _ r e b (nested_again d i.Items 91 s _ _ e b (complete _ d _ e _ x (again.at_here 93 _ r c))) c
+      list_start (suc d) (spec.nesting (suc d)) s _ _ r e b (nested_again d nested.Items 91 s _ _ e b (complete _ d _ e _ x (again.at_here 93 _ r c))) c
   complete _ depth s _ _ g.no_items st = no_items_again depth (spec.nesting depth) s st
   complete _ depth s _ r (g.items x m) st =
       items_again depth (spec.nesting depth) s _ r _ _ (part_at 93 Choice depth s _ _ foreign_close x tt) (complete Choice depth s _ _ x (next_stops Comma depth _ _ r (end_choice r st, no_comma r st) m))
@@ -431,7 +431,7 @@ mutual
   complete _ depth s _ r (g.atom x fs) st =
       atom_again depth (spec.nesting depth) s _ r _ _ (complete _ depth s _ _ x tt) (accesses_again depth _ [] _ _ r fs st (omega arith))
   complete _ _ s _ r (g.not {depth = d} b x) st =
-      not_again (suc d) (spec.nesting (suc d)) s _ r _ b (nested_again d i.Operand 33 s _ r _ b (complete _ d _ _ r x st))
+      not_again (suc d) (spec.nesting (suc d)) s _ r _ b (nested_again d nested.Operand 33 s _ r _ b (complete _ d _ _ r x st))
   complete _ depth s e r (g.bare x) st = bare_again depth (spec.nesting depth) s r e (atom_at depth s e r x) (complete _ depth s e r x st)
   complete _ depth s _ r (g.compare x o y) st =
       compare_again depth (spec.nesting depth) s _ _ r _ _ _ (complete _ depth s _ _ x (compares_operand _ _ _ o)) o (complete _ depth _ _ r y st.0)
@@ -444,7 +444,7 @@ mutual
       (boths_again depth _ [] _ _ r m ((st.0, st.1, st.2), st.3) (omega arith))
   complete _ _ s _ r (g.choice {depth = d} x b y c z) st =
       choice_again (suc d) (spec.nesting (suc d)) s _ _ _ _ r _ _ _ (complete _ (suc d) s _ _ x (question_either _ _ b)) b
-      (nested_again d i.Choice 63 _ _ _ _ b (complete _ d _ _ _ y (colon_choice _ _ c))) c (nested_again d i.Choice 58 _ _ r _ c (complete _ d _ _ r z st))
+      (nested_again d nested.Choice 63 _ _ _ _ b (complete _ d _ _ _ y (colon_choice _ _ c))) c (nested_again d nested.Choice 58 _ _ r _ c (complete _ d _ _ r z st))
   complete _ depth s e r (g.only x) st = only_again depth (spec.nesting depth) s r e (complete _ depth s e r x (st.0, st.1, st.2, st.3)) st.4
 
   compares_again : (depth k : ℕ) (found : List ExprNode) (s : List ℕ) (es : List ExprNode) (r : List ℕ) → More And depth s es r → After And r → length s ≤ k

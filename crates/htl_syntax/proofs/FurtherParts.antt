@@ -5,7 +5,7 @@ use Rattle.sp_base.specs.Bytes.{begins_with_byte, is_digit}
 use Rattle.htl_syntax.specs.declared.stop.ExprStop.{ExprStop}
 use Rattle.htl_syntax.specs.declared.stop.ExprStop.TheVariants.{Memory, Unexpected, TooDeep}
 use Rattle.htl_syntax.specs.declared.node.ExprNode.{ExprNode}
-use Rattle.htl_syntax.specs.declared.node.ExprNode.TheVariants as n
+use Rattle.htl_syntax.specs.declared.node.ExprNode.TheVariants as expr_node
 use Rattle.htl_syntax.specs.declared.expression.Expression.{Expression}
 use Rattle.htl_syntax.specs.declared.tokens.NameKind.TheVariants.{Name, Field}
 use Rattle.htl_syntax.specs.declared.reader.Nested.{Nested}
@@ -75,8 +75,8 @@ name_goes depth t = goes_bind remainder remainder (length t) _ _ _ _ (name_keeps
 leaf_goes : (depth : ℕ) (t : List ℕ) → Goes remainder (length t) (spec.primary depth t) (spec.primary (suc depth) t)
 unfolding spec.primary
 leaf_goes depth t =
-    goes_if remainder (length t) (begins is_quote t) _ _ _ _ (λ e. goes_bind remainder remainder (length t) _ _ _ _ (string_keeps t) (λ x. pair_keeps (n.Text x.0) x.1))
-    (λ e. goes_if remainder (length t) (begins_with_byte 45 t || begins is_digit t) _ _ _ _ (λ h. goes_bind remainder remainder (length t) _ _ _ _ (number_keeps t) (λ x. pair_keeps (n.Long x.0) x.1)) (λ h. name_goes depth t))
+    goes_if remainder (length t) (begins is_quote t) _ _ _ _ (λ e. goes_bind remainder remainder (length t) _ _ _ _ (string_keeps t) (λ x. pair_keeps (expr_node.Text x.0) x.1))
+    (λ e. goes_if remainder (length t) (begins_with_byte 45 t || begins is_digit t) _ _ _ _ (λ h. goes_bind remainder remainder (length t) _ _ _ _ (number_keeps t) (λ x. pair_keeps (expr_node.Long x.0) x.1)) (λ h. name_goes depth t))
 
 -- ---- chains
 
@@ -110,14 +110,14 @@ module _ (depth : ℕ) (inner more : Nested → List ℕ → Outcome ExprNode) (
 
   operand_goes : (t : List ℕ) → Goes remainder (length t) (spec.operand depth inner t) (spec.operand (suc depth) more t)
   unfolding spec.operand
-  operand_goes t = goes_if remainder (length t) (begins_with_byte 33 t) _ _ _ _ (λ e. goes_bind remainder remainder (length t) _ _ _ _ (at_goes Operand 33 t e) (λ x. pair_keeps (n.Not x.0) x.1)) (λ e. atom_goes t)
+  operand_goes t = goes_if remainder (length t) (begins_with_byte 33 t) _ _ _ _ (λ e. goes_bind remainder remainder (length t) _ _ _ _ (at_goes Operand 33 t e) (λ x. pair_keeps (expr_node.Not x.0) x.1)) (λ e. atom_goes t)
 
   compare_goes : (t : List ℕ) → Goes remainder (length t) (spec.compare depth inner t) (spec.compare (suc depth) more t)
   unfolding spec.compare
   compare_goes t =
       goes_bind remainder remainder (length t) _ _ _ _ (operand_goes t)
       (λ a. goes_if remainder (length a.1) (spec.compares a.1) _ _ _ _
-      (λ e. goes_bind remainder remainder (length a.1) _ _ _ _ (comparison_keeps a.1) (λ op. goes_bind remainder remainder (length op.1) _ _ _ _ (operand_goes op.1) (λ b. pair_keeps (n.Compare op.0 a.0 b.0) b.1)))
+      (λ e. goes_bind remainder remainder (length a.1) _ _ _ _ (comparison_keeps a.1) (λ op. goes_bind remainder remainder (length op.1) _ _ _ _ (operand_goes op.1) (λ b. pair_keeps (expr_node.Compare op.0 a.0 b.0) b.1)))
       (λ e. goes_ok remainder (length a.1) a (omega arith)))
 
   both_goes : (t : List ℕ) → Goes remainder (length t) (spec.both depth inner t) (spec.both (suc depth) more t)
@@ -141,15 +141,15 @@ module _ (depth : ℕ) (inner more : Nested → List ℕ → Outcome ExprNode) (
   choice_goes t =
       goes_bind remainder remainder (length t) _ _ _ _ (either_goes t)
       (λ c. goes_if remainder (length c.1) (begins_with_byte 63 c.1) _ _ _ _
-      (λ e. goes_bind remainder remainder (length c.1) _ _ _ _ (at_goes Choice 63 c.1 e) (λ a. goes_bind remainder remainder (length a.1) _ _ _ _ (other_goes a.1) (λ b. pair_keeps (n.Choice c.0 a.0 b.0) b.1)))
+      (λ e. goes_bind remainder remainder (length c.1) _ _ _ _ (at_goes Choice 63 c.1 e) (λ a. goes_bind remainder remainder (length a.1) _ _ _ _ (other_goes a.1) (λ b. pair_keeps (expr_node.Choice c.0 a.0 b.0) b.1)))
       (λ e. goes_ok remainder (length c.1) c (omega arith)))
 
   items_goes : (t : List ℕ) → Goes remainder (length t) (spec.items depth inner t) (spec.items (suc depth) more t)
   unfolding spec.items
   items_goes t =
-      goes_if remainder (length t) (begins_with_byte 93 t) _ _ _ _ (λ e. pair_keeps (n.List []) t)
+      goes_if remainder (length t) (begins_with_byte 93 t) _ _ _ _ (λ e. pair_keeps (expr_node.List []) t)
       (λ e. goes_bind remainder remainder (length t) _ _ _ _ (choice_goes t)
-      (λ x. goes_bind remainder remainder (length x.1) _ _ _ _ (chain_goes (spec.choice depth inner) (spec.choice (suc depth) more) choice_goes 44 (length x.1) (x.0 ∷ []) x.1) (λ xs. pair_keeps (n.List xs.0) xs.1)))
+      (λ x. goes_bind remainder remainder (length x.1) _ _ _ _ (chain_goes (spec.choice depth inner) (spec.choice (suc depth) more) choice_goes 44 (length x.1) (x.0 ∷ []) x.1) (λ xs. pair_keeps (expr_node.List xs.0) xs.1)))
 
   level_goes : (which : Nested) (t : List ℕ) → Goes remainder (length t) (spec.level depth inner which t) (spec.level (suc depth) more which t)
   level_goes Choice t = choice_goes t

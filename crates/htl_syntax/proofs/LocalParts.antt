@@ -4,7 +4,7 @@ use Rattle.std.proofs.lemmas.List.{length-append}
 use Rattle.sp_base.specs.Bytes.{begins_with_byte, is_digit}
 use Rattle.htl_syntax.specs.declared.stop.ExprStop.{ExprStop}
 use Rattle.htl_syntax.specs.declared.node.ExprNode.{ExprNode}
-use Rattle.htl_syntax.specs.declared.node.ExprNode.TheVariants as n
+use Rattle.htl_syntax.specs.declared.node.ExprNode.TheVariants as expr_node
 use Rattle.htl_syntax.specs.declared.tokens.NameKind.TheVariants.{Name, Field}
 use Rattle.htl_syntax.specs.declared.reader.Nested.{Nested}
 use Rattle.htl_syntax.specs.declared.reader.Nested.TheVariants.{Choice, Operand, Items}
@@ -139,8 +139,8 @@ local_named depth = local_bind (read_name Name) (λ w t. spec.name_or_object_of 
 local_leaf : (depth : ℕ) → Local (spec.primary depth)
 unfolding spec.primary
 local_leaf depth =
-    local_if (begins is_quote) (λ t. string t >>= λ x. Ok (n.Text x.0, x.1)) _ (head_same is_quote) (local_bind string (λ w t. Ok (n.Text w, t)) local_string (λ w. local_pure (n.Text w)))
-    (local_if (λ t. begins_with_byte 45 t || begins is_digit t) (λ t. signed_number t >>= λ x. Ok (n.Long x.0, x.1)) (spec.name_or_object depth) number_same (local_bind signed_number (λ k t. Ok (n.Long k, t)) local_number (λ k. local_pure (n.Long k))) (local_named depth))
+    local_if (begins is_quote) (λ t. string t >>= λ x. Ok (expr_node.Text x.0, x.1)) _ (head_same is_quote) (local_bind string (λ w t. Ok (expr_node.Text w, t)) local_string (λ w. local_pure (expr_node.Text w)))
+    (local_if (λ t. begins_with_byte 45 t || begins is_digit t) (λ t. signed_number t >>= λ x. Ok (expr_node.Long x.0, x.1)) (spec.name_or_object depth) number_same (local_bind signed_number (λ k t. Ok (expr_node.Long k, t)) local_number (λ k. local_pure (expr_node.Long k))) (local_named depth))
 
 -- A choice is read at a colon only after one that was read, so never where no level is left.
 abbrev Other : (Nested → List ℕ → Outcome ExprNode) → Type 0
@@ -172,15 +172,15 @@ module _ (depth : ℕ) (inner : Nested → List ℕ → Outcome ExprNode) (local
 
   local_operand : Local (spec.operand depth inner)
   unfolding spec.operand
-  local_operand = local_guarded 33 (inner Operand) (λ e t. Ok (n.Not e, t)) (spec.atom depth inner) (local Operand 33 refl) (λ e. local_pure (n.Not e)) local_atom
+  local_operand = local_guarded 33 (inner Operand) (λ e t. Ok (expr_node.Not e, t)) (spec.atom depth inner) (local Operand 33 refl) (λ e. local_pure (expr_node.Not e)) local_atom
 
   compared : ExprNode → List ℕ → Outcome ExprNode
-  compared a t = spec.comparison t >>= λ op. spec.operand depth inner op.1 >>= λ b. Ok (n.Compare op.0 a b.0, b.1)
+  compared a t = spec.comparison t >>= λ op. spec.operand depth inner op.1 >>= λ b. Ok (expr_node.Compare op.0 a b.0, b.1)
 
   local_compared : (a : ExprNode) → Local (compared a)
   unfolding compared
-  local_compared a = local_bind spec.comparison (λ op t. spec.operand depth inner t >>= λ b. Ok (n.Compare op a b.0, b.1)) local_comparison
-      (λ op. local_bind (spec.operand depth inner) (λ b t. Ok (n.Compare op a b, t)) local_operand (λ b. local_pure (n.Compare op a b)))
+  local_compared a = local_bind spec.comparison (λ op t. spec.operand depth inner t >>= λ b. Ok (expr_node.Compare op a b.0, b.1)) local_comparison
+      (λ op. local_bind (spec.operand depth inner) (λ b t. Ok (expr_node.Compare op a b, t)) local_operand (λ b. local_pure (expr_node.Compare op a b)))
 
   local_compare : Local (spec.compare depth inner)
   unfolding spec.compare compared
@@ -197,11 +197,11 @@ module _ (depth : ℕ) (inner : Nested → List ℕ → Outcome ExprNode) (local
       (λ e. local_bind (λ t. spec.chain (spec.both depth inner) 124 (length t) [] t) (λ es t. Ok (spec.or_of e es, t)) (local_chain 124 (spec.both depth inner) local_both []) (λ es. local_pure (spec.or_of e es)))
 
   others : ExprNode → ExprNode → List ℕ → Outcome ExprNode
-  others c a t = spec.other_choice depth inner t >>= λ b. Ok (n.Choice c a b.0, b.1)
+  others c a t = spec.other_choice depth inner t >>= λ b. Ok (expr_node.Choice c a b.0, b.1)
 
   local_others : Local (guarded 58 (inner Choice)) → (c a : ExprNode) → Local (others c a)
   unfolding others spec.other_choice
-  local_others l c a = local_bind (guarded 58 (inner Choice)) (λ b t. Ok (n.Choice c a b, t)) l (λ b. local_pure (n.Choice c a b))
+  local_others l c a = local_bind (guarded 58 (inner Choice)) (λ b t. Ok (expr_node.Choice c a b, t)) l (λ b. local_pure (expr_node.Choice c a b))
 
   abbrev branches : ExprNode → List ℕ → Outcome ExprNode
   branches c t = cond (begins_with_byte 63 t) (inner Choice t >>= λ a. others c a.0 a.1) (Ok (c, t))
@@ -217,15 +217,15 @@ module _ (depth : ℕ) (inner : Nested → List ℕ → Outcome ExprNode) (local
   local_choice = local_bind (spec.either depth inner) branches local_either (local_branches other)
 
   more_items : ExprNode → List ℕ → Outcome ExprNode
-  more_items e t = spec.chain (spec.choice depth inner) 44 (length t) (e ∷ []) t >>= λ es. Ok (n.List es.0, es.1)
+  more_items e t = spec.chain (spec.choice depth inner) 44 (length t) (e ∷ []) t >>= λ es. Ok (expr_node.List es.0, es.1)
 
   local_more_items : (e : ExprNode) → Local (more_items e)
   unfolding more_items
-  local_more_items e = local_bind (λ t. spec.chain (spec.choice depth inner) 44 (length t) (e ∷ []) t) (λ es t. Ok (n.List es, t)) (local_chain 44 (spec.choice depth inner) local_choice (e ∷ [])) (λ es. local_pure (n.List es))
+  local_more_items e = local_bind (λ t. spec.chain (spec.choice depth inner) 44 (length t) (e ∷ []) t) (λ es t. Ok (expr_node.List es, t)) (local_chain 44 (spec.choice depth inner) local_choice (e ∷ [])) (λ es. local_pure (expr_node.List es))
 
   local_items : Local (spec.items depth inner)
   unfolding spec.items more_items
-  local_items = local_if (begins_with_byte 93) (got (n.List [])) (λ t. spec.choice depth inner t >>= λ x. more_items x.0 x.1) (at_same 93) (local_pure (n.List [])) (local_bind (spec.choice depth inner) more_items local_choice local_more_items)
+  local_items = local_if (begins_with_byte 93) (got (expr_node.List [])) (λ t. spec.choice depth inner t >>= λ x. more_items x.0 x.1) (at_same 93) (local_pure (expr_node.List [])) (local_bind (spec.choice depth inner) more_items local_choice local_more_items)
 
   local_level : (which : Nested) → Local (spec.level depth inner which)
   local_level Choice = local_choice

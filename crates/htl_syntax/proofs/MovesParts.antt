@@ -1,7 +1,7 @@
 -- Each part is read before other texts too, which makes each prefix that reading passed a prefix of a text of the grammar.
 use Rattle.std.proofs.Common.{ℕ, suc, List, [], ◌∷◌}
 use Rattle.htl_syntax.specs.declared.node.ExprNode.{ExprNode}
-use Rattle.htl_syntax.specs.declared.node.ExprNode.TheVariants as n
+use Rattle.htl_syntax.specs.declared.node.ExprNode.TheVariants as expr_node
 use Rattle.htl_syntax.specs.declared.tokens.NameKind.TheVariants.{Name, Field}
 use Rattle.htl_syntax.specs.Grammar.{Byte, Separator, And, Or, Comma, Separates, Part, part_of, Choice, Either, Both, Compare, Operand, Atom, Start, Items, Reads, More, Access, Accesses}
 use Rattle.htl_syntax.specs.Grammar as g
@@ -55,9 +55,9 @@ mutual
       moves_map _ (ReadsOf Start (suc d) e) s r (λ s' r' q. g.list q.1 q.2.1 q.2.2)
       (steps_then (Byte 91) (Then (ReadsOf Items d e) (Byte 93)) s r1 r (byte_steps 91 s r1 b)
       (moves_then (ReadsOf Items d e) (Byte 93) r1 r2 r (reads_moves Items d r1 e r2 x) (moves_of (Byte 93) (Byte 93) r2 r (λ s' r' q. q) (byte_steps 93 r2 r c))))
-  reads_moves _ depth s _ _ g.no_items = none_moves (ReadsOf Items depth (n.List [])) s (λ z. g.no_items)
+  reads_moves _ depth s _ _ g.no_items = none_moves (ReadsOf Items depth (expr_node.List [])) s (λ z. g.no_items)
   reads_moves _ depth s _ r (g.items {r1 = r1} {e = e} {es = es} x m) =
-      moves_map _ (ReadsOf Items depth (n.List (e ∷ es))) s r (λ s' r' q. g.items q.1 q.2) (moves_then (ReadsOf Choice depth e) (MoreOf Comma depth es) s r1 r (reads_moves Choice depth s e r1 x) (more_moves Comma depth r1 es r m))
+      moves_map _ (ReadsOf Items depth (expr_node.List (e ∷ es))) s r (λ s' r' q. g.items q.1 q.2) (moves_then (ReadsOf Choice depth e) (MoreOf Comma depth es) s r1 r (reads_moves Choice depth s e r1 x) (more_moves Comma depth r1 es r m))
   reads_moves _ depth s _ r (g.atom {r1 = r1} {e = e} {fs = fs} x o) =
       moves_map _ (ReadsOf Atom depth _) s r (λ s' r' q. g.atom q.1 q.2) (moves_then (ReadsOf Start depth e) (AccessesOf depth fs) s r1 r (reads_moves Start depth s e r1 x) (accesses_moves depth r1 fs r o))
   reads_moves _ _ s _ r (g.not {depth = d} {r1 = r1} {e = e} b x) =

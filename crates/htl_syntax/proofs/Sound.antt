@@ -3,10 +3,10 @@ use Rattle.std.proofs.Common.{◌≡◌, ℕ, zero, suc, true, cond, ◌||◌, e
 use Rattle.std.proofs.lemmas.List.{append-nil}
 use Rattle.sp_base.specs.Bytes.{begins_with_byte, is_digit}
 use Rattle.htl_syntax.specs.declared.node.ExprNode.{ExprNode}
-use Rattle.htl_syntax.specs.declared.node.ExprNode.TheVariants as n
+use Rattle.htl_syntax.specs.declared.node.ExprNode.TheVariants as expr_node
 use Rattle.htl_syntax.specs.declared.tokens.NameKind.TheVariants.{Name, Field}
 use Rattle.htl_syntax.specs.declared.reader.Nested.{Nested}
-use Rattle.htl_syntax.specs.declared.reader.Nested.TheVariants as i
+use Rattle.htl_syntax.specs.declared.reader.Nested.TheVariants as nested
 use Rattle.htl_syntax.specs.Tokens.{Outcome, ◌>>=◌, blanks_skipped, begins, expect, string, signed_number, read_name, is_quote}
 use Rattle.htl_syntax.specs.Read as spec
 use Rattle.htl_syntax.specs.Grammar.{Byte, Separator, And, Or, Comma, Separates, Part, part_of, Choice, Either, Both, Compare, Operand, Atom, Start, Items, Reads, More, Access, Accesses}
@@ -21,9 +21,9 @@ abbrev pub Sound : Part → ℕ → (List ℕ → Outcome ExprNode) → Type 0
 Sound part depth f = (s : List ℕ) (p : ExprNode × List ℕ) → f s ≡ Ok p → Gave part depth s p
 
 abbrev pub part_inside : Nested → Part
-part_inside i.Choice = Choice
-part_inside i.Operand = Operand
-part_inside i.Items = Items
+part_inside nested.Choice = Choice
+part_inside nested.Operand = Operand
+part_inside nested.Items = Items
 
 -- one level deeper, after the byte that nests it
 abbrev pub Deeper : Nested → ℕ → List ℕ → ExprNode × List ℕ → Type 0
@@ -35,20 +35,20 @@ Inner depth inner = (which : Nested) (s : List ℕ) (p : ExprNode × List ℕ) �
 
 -- ---- what is made of what stands deeper, by cases on the depth
 
-not_deeper : (depth : ℕ) (s : List ℕ) (p : ExprNode × List ℕ) → begins_with_byte 33 s ≡ true → Deeper i.Operand depth s p → Gave Operand depth s (n.Not p.0, p.1)
+not_deeper : (depth : ℕ) (s : List ℕ) (p : ExprNode × List ℕ) → begins_with_byte 33 s ≡ true → Deeper nested.Operand depth s p → Gave Operand depth s (expr_node.Not p.0, p.1)
 not_deeper zero s p at h = absurd h
 not_deeper (suc d) s p at h = g.not (byte 33 s at) h
 
-inside_deeper : (depth : ℕ) (s : List ℕ) (p : ExprNode × List ℕ) (r : List ℕ) → begins_with_byte 40 s ≡ true → Deeper i.Choice depth s p → Byte 41 p.1 r → Gave Start depth s (p.0, r)
+inside_deeper : (depth : ℕ) (s : List ℕ) (p : ExprNode × List ℕ) (r : List ℕ) → begins_with_byte 40 s ≡ true → Deeper nested.Choice depth s p → Byte 41 p.1 r → Gave Start depth s (p.0, r)
 inside_deeper zero s p r at h close = absurd h
 inside_deeper (suc d) s p r at h close = g.inside (byte 40 s at) h close
 
-list_deeper : (depth : ℕ) (s : List ℕ) (p : ExprNode × List ℕ) (r : List ℕ) → begins_with_byte 91 s ≡ true → Deeper i.Items depth s p → Byte 93 p.1 r → Gave Start depth s (p.0, r)
+list_deeper : (depth : ℕ) (s : List ℕ) (p : ExprNode × List ℕ) (r : List ℕ) → begins_with_byte 91 s ≡ true → Deeper nested.Items depth s p → Byte 93 p.1 r → Gave Start depth s (p.0, r)
 list_deeper zero s p r at h close = absurd h
 list_deeper (suc d) s p r at h close = g.list (byte 91 s at) h close
 
-choice_deeper : (depth : ℕ) (s : List ℕ) (c a b : ExprNode × List ℕ) → Gave Either depth s c → begins_with_byte 63 c.1 ≡ true → Deeper i.Choice depth c.1 a → begins_with_byte 58 a.1 ≡ true → Deeper i.Choice depth a.1 b
-    → Gave Choice depth s (n.Choice c.0 a.0 b.0, b.1)
+choice_deeper : (depth : ℕ) (s : List ℕ) (c a b : ExprNode × List ℕ) → Gave Either depth s c → begins_with_byte 63 c.1 ≡ true → Deeper nested.Choice depth c.1 a → begins_with_byte 58 a.1 ≡ true → Deeper nested.Choice depth a.1 b
+    → Gave Choice depth s (expr_node.Choice c.0 a.0 b.0, b.1)
 choice_deeper zero s c a b first at h at' h' = absurd h
 choice_deeper (suc d) s c a b first at h at' h' = g.choice first (byte 63 c.1 at) h (byte 58 a.1 at') h'
 
@@ -144,12 +144,12 @@ unfolding spec.primary
 leaf_sound depth s p e =
     elim (chosen (begins is_quote s) _ _ _ e) [
       | inl h ↦
-          let w = bind_ok (string s) (λ x. Ok (n.Text x.0, x.1)) p h.1 in
+          let w = bind_ok (string s) (λ x. Ok (expr_node.Text x.0, x.1)) p h.1 in
           subst (Gave Start depth s) (ok_is _ _ w.2) (g.string (string_sound s w.0 w.1))
       | inr h ↦
           elim (chosen (begins_with_byte 45 s || begins is_digit s) _ _ _ h.1) [
             | inl k ↦
-                let w = bind_ok (signed_number s) (λ x. Ok (n.Long x.0, x.1)) p k.1 in
+                let w = bind_ok (signed_number s) (λ x. Ok (expr_node.Long x.0, x.1)) p k.1 in
                 subst (Gave Start depth s) (ok_is _ _ w.2) (g.number (number_sound s w.0 w.1))
             | inr k ↦ named_sound depth s p k.1
           ]
@@ -163,17 +163,17 @@ module _ (depth : ℕ) (inner : Nested → List ℕ → Outcome ExprNode) (deepe
   start_sound s p e =
       elim (chosen (begins_with_byte 40 s) _ _ _ e) [
         | inl h ↦
-            let x = bind_ok (inner i.Choice s) (λ x. expect 41 x.1 >>= λ r. Ok (x.0, r)) p h.1 in
+            let x = bind_ok (inner nested.Choice s) (λ x. expect 41 x.1 >>= λ r. Ok (x.0, r)) p h.1 in
             let close = bind_ok (expect 41 x.0.1) (λ r. Ok (x.0.0, r)) p x.2 in
             subst (Gave Start depth s) (ok_is _ _ close.2)
-            (inside_deeper depth s x.0 close.0 h.0 (deeper i.Choice s x.0 x.1) (expect_sound 41 x.0.1 close.0 close.1))
+            (inside_deeper depth s x.0 close.0 h.0 (deeper nested.Choice s x.0 x.1) (expect_sound 41 x.0.1 close.0 close.1))
         | inr h ↦
             elim (chosen (begins_with_byte 91 s) _ _ _ h.1) [
               | inl k ↦
-                  let x = bind_ok (inner i.Items s) (λ x. expect 93 x.1 >>= λ r. Ok (x.0, r)) p k.1 in
+                  let x = bind_ok (inner nested.Items s) (λ x. expect 93 x.1 >>= λ r. Ok (x.0, r)) p k.1 in
                   let close = bind_ok (expect 93 x.0.1) (λ r. Ok (x.0.0, r)) p x.2 in
                   subst (Gave Start depth s) (ok_is _ _ close.2)
-                  (list_deeper depth s x.0 close.0 k.0 (deeper i.Items s x.0 x.1) (expect_sound 93 x.0.1 close.0 close.1))
+                  (list_deeper depth s x.0 close.0 k.0 (deeper nested.Items s x.0 x.1) (expect_sound 93 x.0.1 close.0 close.1))
               | inr k ↦ leaf_sound depth s p k.1
             ]
       ]
@@ -192,19 +192,19 @@ module _ (depth : ℕ) (inner : Nested → List ℕ → Outcome ExprNode) (deepe
   operand_sound s p e =
       elim (chosen (begins_with_byte 33 s) _ _ _ e) [
         | inl h ↦
-            let x = bind_ok (inner i.Operand s) (λ x. Ok (n.Not x.0, x.1)) p h.1 in
-            subst (Gave Operand depth s) (ok_is _ _ x.2) (not_deeper depth s x.0 h.0 (deeper i.Operand s x.0 x.1))
+            let x = bind_ok (inner nested.Operand s) (λ x. Ok (expr_node.Not x.0, x.1)) p h.1 in
+            subst (Gave Operand depth s) (ok_is _ _ x.2) (not_deeper depth s x.0 h.0 (deeper nested.Operand s x.0 x.1))
         | inr h ↦ g.bare (atom_sound s p h.1)
       ]
 
   pub compare_sound : Sound Compare depth (spec.compare depth inner)
   unfolding spec.compare
   compare_sound s p e =
-      let a = bind_ok (spec.operand depth inner s) (λ a. cond (spec.compares a.1) (spec.comparison a.1 >>= λ op. spec.operand depth inner op.1 >>= λ b. Ok (n.Compare op.0 a.0 b.0, b.1)) (Ok a)) p e in
+      let a = bind_ok (spec.operand depth inner s) (λ a. cond (spec.compares a.1) (spec.comparison a.1 >>= λ op. spec.operand depth inner op.1 >>= λ b. Ok (expr_node.Compare op.0 a.0 b.0, b.1)) (Ok a)) p e in
       elim (chosen (spec.compares a.0.1) _ _ _ a.2) [
         | inl h ↦
-            let op = bind_ok (spec.comparison a.0.1) (λ op. spec.operand depth inner op.1 >>= λ b. Ok (n.Compare op.0 a.0.0 b.0, b.1)) p h.1 in
-            let b = bind_ok (spec.operand depth inner op.0.1) (λ b. Ok (n.Compare op.0.0 a.0.0 b.0, b.1)) p op.2 in
+            let op = bind_ok (spec.comparison a.0.1) (λ op. spec.operand depth inner op.1 >>= λ b. Ok (expr_node.Compare op.0 a.0.0 b.0, b.1)) p h.1 in
+            let b = bind_ok (spec.operand depth inner op.0.1) (λ b. Ok (expr_node.Compare op.0.0 a.0.0 b.0, b.1)) p op.2 in
             subst (Gave Compare depth s) (ok_is _ _ b.2) (g.compare (operand_sound s a.0 a.1) (comparison_sound a.0.1 op.0 h.0 op.1) (operand_sound op.0.1 b.0 b.1))
         | inr h ↦ subst (Gave Compare depth s) (ok_is _ _ h.1) (g.single (operand_sound s a.0 a.1))
       ]
@@ -228,13 +228,13 @@ module _ (depth : ℕ) (inner : Nested → List ℕ → Outcome ExprNode) (deepe
   pub choice_sound : Sound Choice depth (spec.choice depth inner)
   unfolding spec.choice spec.other_choice
   choice_sound s p e =
-      let c = bind_ok (spec.either depth inner s) (λ c. cond (begins_with_byte 63 c.1) (inner i.Choice c.1 >>= λ a. spec.other_choice depth inner a.1 >>= λ b. Ok (n.Choice c.0 a.0 b.0, b.1)) (Ok c)) p e in
+      let c = bind_ok (spec.either depth inner s) (λ c. cond (begins_with_byte 63 c.1) (inner nested.Choice c.1 >>= λ a. spec.other_choice depth inner a.1 >>= λ b. Ok (expr_node.Choice c.0 a.0 b.0, b.1)) (Ok c)) p e in
       elim (chosen (begins_with_byte 63 c.0.1) _ _ _ c.2) [
         | inl h ↦
-            let a = bind_ok (inner i.Choice c.0.1) (λ a. spec.other_choice depth inner a.1 >>= λ b. Ok (n.Choice c.0.0 a.0 b.0, b.1)) p h.1 in
-            let b = bind_ok (spec.other_choice depth inner a.0.1) (λ b. Ok (n.Choice c.0.0 a.0.0 b.0, b.1)) p a.2 in
+            let a = bind_ok (inner nested.Choice c.0.1) (λ a. spec.other_choice depth inner a.1 >>= λ b. Ok (expr_node.Choice c.0.0 a.0 b.0, b.1)) p h.1 in
+            let b = bind_ok (spec.other_choice depth inner a.0.1) (λ b. Ok (expr_node.Choice c.0.0 a.0.0 b.0, b.1)) p a.2 in
             elim (chosen (begins_with_byte 58 a.0.1) _ _ _ b.1) [
-              | inl k ↦ subst (Gave Choice depth s) (ok_is _ _ b.2) (choice_deeper depth s c.0 a.0 b.0 (either_sound s c.0 c.1) h.0 (deeper i.Choice c.0.1 a.0 a.1) k.0 (deeper i.Choice a.0.1 b.0 k.1))
+              | inl k ↦ subst (Gave Choice depth s) (ok_is _ _ b.2) (choice_deeper depth s c.0 a.0 b.0 (either_sound s c.0 c.1) h.0 (deeper nested.Choice c.0.1 a.0 a.1) k.0 (deeper nested.Choice a.0.1 b.0 k.1))
               | inr k ↦ absurd cc
             ]
         | inr h ↦ subst (Gave Choice depth s) (ok_is _ _ h.1) (g.only (either_sound s c.0 c.1))
@@ -246,18 +246,18 @@ module _ (depth : ℕ) (inner : Nested → List ℕ → Outcome ExprNode) (deepe
       elim (chosen (begins_with_byte 93 s) _ _ _ e) [
         | inl h ↦ subst (Gave Items depth s) (ok_is _ _ h.1) g.no_items
         | inr h ↦
-            let x = bind_ok (spec.choice depth inner s) (λ x. spec.chain (spec.choice depth inner) 44 (length x.1) (x.0 ∷ []) x.1 >>= λ xs. Ok (n.List xs.0, xs.1)) p h.1 in
-            let xs = bind_ok (spec.chain (spec.choice depth inner) 44 (length x.0.1) (x.0.0 ∷ []) x.0.1) (λ xs. Ok (n.List xs.0, xs.1)) p x.2 in
+            let x = bind_ok (spec.choice depth inner s) (λ x. spec.chain (spec.choice depth inner) 44 (length x.1) (x.0 ∷ []) x.1 >>= λ xs. Ok (expr_node.List xs.0, xs.1)) p h.1 in
+            let xs = bind_ok (spec.chain (spec.choice depth inner) 44 (length x.0.1) (x.0.0 ∷ []) x.0.1) (λ xs. Ok (expr_node.List xs.0, xs.1)) p x.2 in
             let l = chain_sound Comma depth (spec.choice depth inner) (length x.0.1) (x.0.0 ∷ []) x.0.1 xs.0 choice_sound xs.1 in
-            subst (Gave Items depth s) (ap (λ (es : List ExprNode). (n.List es, xs.0.1)) (sym l.1) ∙ ok_is _ _ xs.2) (g.items (choice_sound s x.0 x.1) l.2)
+            subst (Gave Items depth s) (ap (λ (es : List ExprNode). (expr_node.List es, xs.0.1)) (sym l.1) ∙ ok_is _ _ xs.2) (g.items (choice_sound s x.0 x.1) l.2)
       ]
 
 pub nested_sound : (depth : ℕ) → Inner depth (spec.nesting depth)
 unfolding spec.nesting
 nested_sound zero which s p e = absurd cc
-nested_sound (suc d) i.Choice s p e = choice_sound d (spec.nesting d) (nested_sound d) (blanks_skipped (drop 1 s)) p e
-nested_sound (suc d) i.Operand s p e = operand_sound d (spec.nesting d) (nested_sound d) (blanks_skipped (drop 1 s)) p e
-nested_sound (suc d) i.Items s p e = items_sound d (spec.nesting d) (nested_sound d) (blanks_skipped (drop 1 s)) p e
+nested_sound (suc d) nested.Choice s p e = choice_sound d (spec.nesting d) (nested_sound d) (blanks_skipped (drop 1 s)) p e
+nested_sound (suc d) nested.Operand s p e = operand_sound d (spec.nesting d) (nested_sound d) (blanks_skipped (drop 1 s)) p e
+nested_sound (suc d) nested.Items s p e = items_sound d (spec.nesting d) (nested_sound d) (blanks_skipped (drop 1 s)) p e
 
 pub sound : (depth : ℕ) → Sound Choice depth (spec.choice depth (spec.nesting depth))
 sound depth = choice_sound depth (spec.nesting depth) (nested_sound depth)

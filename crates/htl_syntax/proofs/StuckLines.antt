@@ -3,9 +3,9 @@ use Rattle.std.proofs.Common.{◌≡◌, ℕ, zero, suc, true, cond, List, [], �
 use Rattle.sp_base.specs.Bytes.{begins_with_byte}
 use Rattle.htl_syntax.specs.declared.stop.ExprStop.{ExprStop}
 use Rattle.htl_syntax.specs.declared.node.ExprNode.{ExprNode}
-use Rattle.htl_syntax.specs.declared.node.ExprNode.TheVariants as n
+use Rattle.htl_syntax.specs.declared.node.ExprNode.TheVariants as expr_node
 use Rattle.htl_syntax.specs.declared.reader.Nested.{Nested}
-use Rattle.htl_syntax.specs.declared.reader.Nested.TheVariants as i
+use Rattle.htl_syntax.specs.declared.reader.Nested.TheVariants as nested
 use Rattle.htl_syntax.specs.Tokens.{Outcome, ◌>>=◌, blanks_skipped, begins, expect, goes_on}
 use Rattle.htl_syntax.specs.Read as spec
 use Rattle.htl_syntax.specs.Grammar.{Byte, And, Or, Comma, Part, Choice, Either, Both, Compare, Operand, Atom, Start, Items, Reads}
@@ -36,9 +36,9 @@ deep_late c s k R at q =
     let b = byte c s at in
     steps_late (Byte c) R s (blanks_skipped (drop 1 s)) k (byte_steps c s (blanks_skipped (drop 1 s)) b) (byte-short c s (blanks_skipped (drop 1 s)) b) q
 
-not_stuck : (depth : ℕ) (s : List ℕ) (k : ℕ) → begins_with_byte 33 s ≡ true → DeepStuck i.Operand depth s k → Stuck (SomePart Operand depth) s k
+not_stuck : (depth : ℕ) (s : List ℕ) (k : ℕ) → begins_with_byte 33 s ≡ true → DeepStuck nested.Operand depth s k → Stuck (SomePart Operand depth) s k
 not_stuck zero s k at q = stuck_map (SomePart Start 0) (SomePart Operand 0) s k (λ s' r' x. part.atom_operand 0 s' r' (part.start_atom 0 s' r' x)) (start_missing 0 s k q)
-not_stuck (suc d) s k at q = stuck_map (Then (Byte 33) (SomePart Operand d)) (SomePart Operand (suc d)) s k (λ s' r' x. (n.Not x.2.0, g.not x.1 x.2.1)) (deep_late 33 s k (SomePart Operand d) at q).stuck
+not_stuck (suc d) s k at q = stuck_map (Then (Byte 33) (SomePart Operand d)) (SomePart Operand (suc d)) s k (λ s' r' x. (expr_node.Not x.2.0, g.not x.1 x.2.1)) (deep_late 33 s k (SomePart Operand d) at q).stuck
 
 -- ---- brackets
 
@@ -60,19 +60,19 @@ round_of d s r x = (x.2.1.0, g.inside x.1 x.2.1.1 x.2.2)
 square_of : (d : ℕ) (s r : List ℕ) → Then (Byte 91) (Then (SomePart Items d) (Byte 93)) s r → SomePart Start (suc d) s r
 square_of d s r x = (x.2.1.0, g.list x.1 x.2.1.1 x.2.2)
 
-round_stuck : (depth : ℕ) (s : List ℕ) (k : ℕ) → begins_with_byte 40 s ≡ true → DeepStuck i.Choice depth s k → Stuck (SomePart Start depth) s k
+round_stuck : (depth : ℕ) (s : List ℕ) (k : ℕ) → begins_with_byte 40 s ≡ true → DeepStuck nested.Choice depth s k → Stuck (SomePart Start depth) s k
 round_stuck zero s k at q = start_missing 0 s k q
 round_stuck (suc d) s k at q = inside_stuck 40 41 Choice round_plain round_of d s k at q
 
-square_stuck : (depth : ℕ) (s : List ℕ) (k : ℕ) → begins_with_byte 91 s ≡ true → DeepStuck i.Items depth s k → Stuck (SomePart Start depth) s k
+square_stuck : (depth : ℕ) (s : List ℕ) (k : ℕ) → begins_with_byte 91 s ≡ true → DeepStuck nested.Items depth s k → Stuck (SomePart Start depth) s k
 square_stuck zero s k at q = start_missing 0 s k q
 square_stuck (suc d) s k at q = inside_stuck 91 93 Items square_plain square_of d s k at q
 
-round_close : (depth : ℕ) (s : List ℕ) (x : ExprNode × List ℕ) (stop : ExprStop) (k : ℕ) → begins_with_byte 40 s ≡ true → sound.Deeper i.Choice depth s x → expect 41 x.1 ≡ Err stop → At stop k → Stuck (SomePart Start depth) s k
+round_close : (depth : ℕ) (s : List ℕ) (x : ExprNode × List ℕ) (stop : ExprStop) (k : ℕ) → begins_with_byte 40 s ≡ true → sound.Deeper nested.Choice depth s x → expect 41 x.1 ≡ Err stop → At stop k → Stuck (SomePart Start depth) s k
 round_close zero s x stop k at q e a = absurd q
 round_close (suc d) s x stop k at q e a = close_stuck 40 41 Choice round_plain round_of d s x stop k at q e a
 
-square_close : (depth : ℕ) (s : List ℕ) (x : ExprNode × List ℕ) (stop : ExprStop) (k : ℕ) → begins_with_byte 91 s ≡ true → sound.Deeper i.Items depth s x → expect 93 x.1 ≡ Err stop → At stop k → Stuck (SomePart Start depth) s k
+square_close : (depth : ℕ) (s : List ℕ) (x : ExprNode × List ℕ) (stop : ExprStop) (k : ℕ) → begins_with_byte 91 s ≡ true → sound.Deeper nested.Items depth s x → expect 93 x.1 ≡ Err stop → At stop k → Stuck (SomePart Start depth) s k
 square_close zero s x stop k at q e a = absurd q
 square_close (suc d) s x stop k at q e a = close_stuck 91 93 Items square_plain square_of d s x stop k at q e a
 
@@ -93,10 +93,10 @@ one_colon d z p = (operand z, byte_of 58 (operand z) (operand_settled z), part.o
 
 with_condition : (d : ℕ) (s : List ℕ) (c : ExprNode × List ℕ) (k : ℕ) → Reads Either (suc d) s c.0 c.1 → begins_with_byte 63 c.1 ≡ true → Stuck (Branches d) (blanks_skipped (drop 1 c.1)) k → Stuck (SomePart Choice (suc d)) s k
 with_condition d s c k x at q =
-    stuck_map (Then (SomePart Either (suc d)) (Then (Byte 63) (Branches d))) (SomePart Choice (suc d)) s k (λ s' r' y. (n.Choice y.1.0 y.2.2.1.0 y.2.2.2.2.0, g.choice y.1.1 y.2.1 y.2.2.1.1 y.2.2.2.1 y.2.2.2.2.1))
+    stuck_map (Then (SomePart Either (suc d)) (Then (Byte 63) (Branches d))) (SomePart Choice (suc d)) s k (λ s' r' y. (expr_node.Choice y.1.0 y.2.2.1.0 y.2.2.2.2.0, g.choice y.1.1 y.2.1 y.2.2.1.1 y.2.2.2.1 y.2.2.2.2.1))
     (moves_stuck (SomePart Either (suc d)) (Then (Byte 63) (Branches d)) s c.1 k (moves_some Either (suc d) s c.0 c.1 x) (deep_late 63 c.1 k (Branches d) at q))
 
-first_stuck : (depth : ℕ) (s : List ℕ) (c : ExprNode × List ℕ) (k : ℕ) → Reads Either depth s c.0 c.1 → begins_with_byte 63 c.1 ≡ true → DeepStuck i.Choice depth c.1 k → Stuck (SomePart Choice depth) s k
+first_stuck : (depth : ℕ) (s : List ℕ) (c : ExprNode × List ℕ) (k : ℕ) → Reads Either depth s c.0 c.1 → begins_with_byte 63 c.1 ≡ true → DeepStuck nested.Choice depth c.1 k → Stuck (SomePart Choice depth) s k
 first_stuck zero s c k x at q = stuck_map (SomePart Either 0) (SomePart Choice 0) s k (part.either_choice 0) (moves_end (SomePart Either 0) s c.1 k (moves_some Either 0 s c.0 c.1 x) q)
 first_stuck (suc d) s c k x at q = with_condition d s c k x at (stuck_then (SomePart Choice d) (Colon d) (blanks_skipped (drop 1 c.1)) k (58 ∷ 39 ∷ 39 ∷ []) q (λ z p. colon_plain z) (one_colon d))
 
@@ -107,9 +107,9 @@ colon_missing d m k e = record {
 }
 
 abbrev OtherStuck : ℕ → List ℕ → ℕ → Type 0
-OtherStuck depth m k = (length m ≡ k) ⊎ ((begins_with_byte 58 m ≡ true) × DeepStuck i.Choice depth m k)
+OtherStuck depth m k = (length m ≡ k) ⊎ ((begins_with_byte 58 m ≡ true) × DeepStuck nested.Choice depth m k)
 
-second_stuck : (depth : ℕ) (s : List ℕ) (c a : ExprNode × List ℕ) (k : ℕ) → Reads Either depth s c.0 c.1 → begins_with_byte 63 c.1 ≡ true → sound.Deeper i.Choice depth c.1 a → OtherStuck depth a.1 k → Stuck (SomePart Choice depth) s k
+second_stuck : (depth : ℕ) (s : List ℕ) (c a : ExprNode × List ℕ) (k : ℕ) → Reads Either depth s c.0 c.1 → begins_with_byte 63 c.1 ≡ true → sound.Deeper nested.Choice depth c.1 a → OtherStuck depth a.1 k → Stuck (SomePart Choice depth) s k
 second_stuck zero s c a k x at y o = absurd y
 second_stuck (suc d) s c a k x at y (inl e) =
     with_condition d s c k x at (moves_stuck (SomePart Choice d) (Colon d) (blanks_skipped (drop 1 c.1)) a.1 k (moves_some Choice d (blanks_skipped (drop 1 c.1)) a.0 a.1 y) (colon_missing d a.1 k e))
@@ -123,22 +123,22 @@ module _ (depth : ℕ) (inner : Nested → List ℕ → Outcome ExprNode) (deepe
   unfolding spec.start
   start_stuck s d k e a = elim (chosen (begins_with_byte 40 s) _ _ _ e) [
     | inl h ↦
-        elim (bind_err (inner i.Choice s) (λ x. expect 41 x.1 >>= λ r. Ok (x.0, r)) d h.1) [
-          | inl at ↦ round_stuck depth s k h.0 (sticks i.Choice s d k at a)
+        elim (bind_err (inner nested.Choice s) (λ x. expect 41 x.1 >>= λ r. Ok (x.0, r)) d h.1) [
+          | inl at ↦ round_stuck depth s k h.0 (sticks nested.Choice s d k at a)
           | inr x ↦
               elim (bind_err (expect 41 x.0.1) (λ r. Ok (x.0.0, r)) d x.2) [
-                | inl close ↦ round_close depth s x.0 d k h.0 (deeper i.Choice s x.0 x.1) close a
+                | inl close ↦ round_close depth s x.0 d k h.0 (deeper nested.Choice s x.0 x.1) close a
                 | inr close ↦ absurd (let y = close.2 in cc)
               ]
         ]
     | inr h ↦
         elim (chosen (begins_with_byte 91 s) _ _ _ h.1) [
           | inl j ↦
-              elim (bind_err (inner i.Items s) (λ x. expect 93 x.1 >>= λ r. Ok (x.0, r)) d j.1) [
-                | inl at ↦ square_stuck depth s k j.0 (sticks i.Items s d k at a)
+              elim (bind_err (inner nested.Items s) (λ x. expect 93 x.1 >>= λ r. Ok (x.0, r)) d j.1) [
+                | inl at ↦ square_stuck depth s k j.0 (sticks nested.Items s d k at a)
                 | inr x ↦
                     elim (bind_err (expect 93 x.0.1) (λ r. Ok (x.0.0, r)) d x.2) [
-                      | inl close ↦ square_close depth s x.0 d k j.0 (deeper i.Items s x.0 x.1) close a
+                      | inl close ↦ square_close depth s x.0 d k j.0 (deeper nested.Items s x.0 x.1) close a
                       | inr close ↦ absurd (let y = close.2 in cc)
                     ]
               ]
@@ -163,8 +163,8 @@ module _ (depth : ℕ) (inner : Nested → List ℕ → Outcome ExprNode) (deepe
   unfolding spec.operand
   operand_stuck s d k e a = elim (chosen (begins_with_byte 33 s) _ _ _ e) [
     | inl h ↦
-        elim (bind_err (inner i.Operand s) (λ x. Ok (n.Not x.0, x.1)) d h.1) [
-          | inl at ↦ not_stuck depth s k h.0 (sticks i.Operand s d k at a)
+        elim (bind_err (inner nested.Operand s) (λ x. Ok (expr_node.Not x.0, x.1)) d h.1) [
+          | inl at ↦ not_stuck depth s k h.0 (sticks nested.Operand s d k at a)
           | inr at ↦ absurd (let y = at.2 in cc)
         ]
     | inr h ↦ stuck_map (SomePart Atom depth) (SomePart Operand depth) s k (part.atom_operand depth) (atom_stuck s d k h.1 a)
@@ -175,18 +175,18 @@ module _ (depth : ℕ) (inner : Nested → List ℕ → Outcome ExprNode) (deepe
 
   compare_stuck : Sticks Compare depth (spec.compare depth inner)
   unfolding spec.compare
-  compare_stuck s d k e a = elim (bind_err (spec.operand depth inner s) (λ x. cond (spec.compares x.1) (spec.comparison x.1 >>= λ op. spec.operand depth inner op.1 >>= λ y. Ok (n.Compare op.0 x.0 y.0, y.1)) (Ok x)) d e) [
+  compare_stuck s d k e a = elim (bind_err (spec.operand depth inner s) (λ x. cond (spec.compares x.1) (spec.comparison x.1 >>= λ op. spec.operand depth inner op.1 >>= λ y. Ok (expr_node.Compare op.0 x.0 y.0, y.1)) (Ok x)) d e) [
     | inl at ↦ stuck_map (SomePart Operand depth) (SomePart Compare depth) s k (part.operand_compare depth) (operand_stuck s d k at a)
     | inr x ↦
         let first = moves_some Operand depth s x.0.0 x.0.1 (sound.operand_sound depth inner deeper s x.0 x.1) in
         let whole : Late Second x.0.1 k → Stuck (SomePart Compare depth) s k = λ q.
-        stuck_map (Then (SomePart Operand depth) Second) (SomePart Compare depth) s k (λ s' r' y. (n.Compare y.2.1.0 y.1.0 y.2.2.0, g.compare y.1.1 y.2.1.1 y.2.2.1)) (moves_stuck (SomePart Operand depth) Second s x.0.1 k first q) in
+        stuck_map (Then (SomePart Operand depth) Second) (SomePart Compare depth) s k (λ s' r' y. (expr_node.Compare y.2.1.0 y.1.0 y.2.2.0, g.compare y.1.1 y.2.1.1 y.2.2.1)) (moves_stuck (SomePart Operand depth) Second s x.0.1 k first q) in
         elim (chosen (spec.compares x.0.1) _ _ _ x.2) [
           | inl h ↦
-              elim (bind_err (spec.comparison x.0.1) (λ op. spec.operand depth inner op.1 >>= λ y. Ok (n.Compare op.0 x.0.0 y.0, y.1)) d h.1) [
+              elim (bind_err (spec.comparison x.0.1) (λ op. spec.operand depth inner op.1 >>= λ y. Ok (expr_node.Compare op.0 x.0.0 y.0, y.1)) d h.1) [
                 | inl at ↦ whole (comparison_stuck (SomePart Operand depth) (part.one_operand depth) x.0.1 d k at a)
                 | inr op ↦
-                    elim (bind_err (spec.operand depth inner op.0.1) (λ y. Ok (n.Compare op.0.0 x.0.0 y.0, y.1)) d op.2) [
+                    elim (bind_err (spec.operand depth inner op.0.1) (λ y. Ok (expr_node.Compare op.0.0 x.0.0 y.0, y.1)) d op.2) [
                       | inl at ↦
                           let o = comparison_sound x.0.1 op.0 h.0 op.1 in
                           let step = steps_map (ComparesOf op.0.0) SomeCompares x.0.1 op.0.1 (λ s' r' y. (op.0.0, y)) (compares_steps x.0.1 op.0.0 op.0.1 o) in
@@ -231,23 +231,23 @@ module _ (depth : ℕ) (inner : Nested → List ℕ → Outcome ExprNode) (deepe
   other_stuck : (m : List ℕ) (d : ExprStop) (k : ℕ) → spec.other_choice depth inner m ≡ Err d → At d k → OtherStuck depth m k
   unfolding spec.other_choice
   other_stuck m d k e a = elim (chosen (begins_with_byte 58 m) _ _ _ e) [
-    | inl h ↦ inr (h.0, sticks i.Choice m d k h.1 a)
+    | inl h ↦ inr (h.0, sticks nested.Choice m d k h.1 a)
     | inr h ↦ inl (at_length (length m) d k h.1 a)
   ]
 
   choice_stuck : Sticks Choice depth (spec.choice depth inner)
   unfolding spec.choice
-  choice_stuck s d k e a = elim (bind_err (spec.either depth inner s) (λ c. cond (begins_with_byte 63 c.1) (inner i.Choice c.1 >>= λ x. spec.other_choice depth inner x.1 >>= λ y. Ok (n.Choice c.0 x.0 y.0, y.1)) (Ok c)) d e) [
+  choice_stuck s d k e a = elim (bind_err (spec.either depth inner s) (λ c. cond (begins_with_byte 63 c.1) (inner nested.Choice c.1 >>= λ x. spec.other_choice depth inner x.1 >>= λ y. Ok (expr_node.Choice c.0 x.0 y.0, y.1)) (Ok c)) d e) [
     | inl at ↦ stuck_map (SomePart Either depth) (SomePart Choice depth) s k (part.either_choice depth) (either_stuck s d k at a)
     | inr c ↦
         let first = sound.either_sound depth inner deeper s c.0 c.1 in
         elim (chosen (begins_with_byte 63 c.0.1) _ _ _ c.2) [
           | inl h ↦
-              elim (bind_err (inner i.Choice c.0.1) (λ x. spec.other_choice depth inner x.1 >>= λ y. Ok (n.Choice c.0.0 x.0 y.0, y.1)) d h.1) [
-                | inl at ↦ first_stuck depth s c.0 k first h.0 (sticks i.Choice c.0.1 d k at a)
+              elim (bind_err (inner nested.Choice c.0.1) (λ x. spec.other_choice depth inner x.1 >>= λ y. Ok (expr_node.Choice c.0.0 x.0 y.0, y.1)) d h.1) [
+                | inl at ↦ first_stuck depth s c.0 k first h.0 (sticks nested.Choice c.0.1 d k at a)
                 | inr x ↦
-                    elim (bind_err (spec.other_choice depth inner x.0.1) (λ y. Ok (n.Choice c.0.0 x.0.0 y.0, y.1)) d x.2) [
-                      | inl at ↦ second_stuck depth s c.0 x.0 k first h.0 (deeper i.Choice c.0.1 x.0 x.1) (other_stuck x.0.1 d k at a)
+                    elim (bind_err (spec.other_choice depth inner x.0.1) (λ y. Ok (expr_node.Choice c.0.0 x.0.0 y.0, y.1)) d x.2) [
+                      | inl at ↦ second_stuck depth s c.0 x.0 k first h.0 (deeper nested.Choice c.0.1 x.0 x.1) (other_stuck x.0.1 d k at a)
                       | inr at ↦ absurd (let y = at.2 in cc)
                     ]
               ]
@@ -260,13 +260,13 @@ module _ (depth : ℕ) (inner : Nested → List ℕ → Outcome ExprNode) (deepe
   items_stuck s d k e a = elim (chosen (begins_with_byte 93 s) _ _ _ e) [
     | inl h ↦ absurd (let y = h.1 in cc)
     | inr h ↦
-        elim (bind_err (spec.choice depth inner s) (λ x. spec.chain (spec.choice depth inner) 44 (length x.1) (x.0 ∷ []) x.1 >>= λ xs. Ok (n.List xs.0, xs.1)) d h.1) [
-          | inl at ↦ stuck_map (SomePart Choice depth) (SomePart Items depth) s k (λ s' r' x. (n.List (x.0 ∷ []), g.items x.1 g.end)) (choice_stuck s d k at a)
+        elim (bind_err (spec.choice depth inner s) (λ x. spec.chain (spec.choice depth inner) 44 (length x.1) (x.0 ∷ []) x.1 >>= λ xs. Ok (expr_node.List xs.0, xs.1)) d h.1) [
+          | inl at ↦ stuck_map (SomePart Choice depth) (SomePart Items depth) s k (λ s' r' x. (expr_node.List (x.0 ∷ []), g.items x.1 g.end)) (choice_stuck s d k at a)
           | inr x ↦
               let item = sound.choice_sound depth inner deeper in
-              elim (bind_err (spec.chain (spec.choice depth inner) 44 (length x.0.1) (x.0.0 ∷ []) x.0.1) (λ xs. Ok (n.List xs.0, xs.1)) d x.2) [
+              elim (bind_err (spec.chain (spec.choice depth inner) 44 (length x.0.1) (x.0.0 ∷ []) x.0.1) (λ xs. Ok (expr_node.List xs.0, xs.1)) d x.2) [
                 | inl at ↦
-                    stuck_map (Then (SomePart Choice depth) (SomeMore Comma depth)) (SomePart Items depth) s k (λ s' r' y. (n.List (y.1.0 ∷ y.2.0), g.items y.1.1 y.2.1))
+                    stuck_map (Then (SomePart Choice depth) (SomeMore Comma depth)) (SomePart Items depth) s k (λ s' r' y. (expr_node.List (y.1.0 ∷ y.2.0), g.items y.1.1 y.2.1))
                     (moves_stuck (SomePart Choice depth) (SomeMore Comma depth) s x.0.1 k (moves_some Choice depth s x.0.0 x.0.1 (item s x.0 x.1))
                     (chain_stuck Comma depth (spec.choice depth inner) (part.one_choice depth) item choice_stuck (length x.0.1) (x.0.0 ∷ []) x.0.1 d k at a))
                 | inr at ↦ absurd (let y = at.2 in cc)
@@ -275,9 +275,9 @@ module _ (depth : ℕ) (inner : Nested → List ℕ → Outcome ExprNode) (deepe
   ]
 
   pub level_stuck : (which : Nested) → Sticks (sound.part_inside which) depth (spec.level depth inner which)
-  level_stuck i.Choice s d k e a = choice_stuck s d k e a
-  level_stuck i.Operand s d k e a = operand_stuck s d k e a
-  level_stuck i.Items s d k e a = items_stuck s d k e a
+  level_stuck nested.Choice s d k e a = choice_stuck s d k e a
+  level_stuck nested.Operand s d k e a = operand_stuck s d k e a
+  level_stuck nested.Items s d k e a = items_stuck s d k e a
 
 nested_stuck : (depth : ℕ) → InnerSticks depth (spec.nesting depth)
 unfolding spec.nesting
@@ -286,4 +286,4 @@ nested_stuck (suc depth) which s d k e a = level_stuck depth (spec.nesting depth
 
 -- a choice in which reading stopped, for any reason but a lack of memory
 pub stuck : (depth : ℕ) → Sticks Choice depth (spec.choice depth (spec.nesting depth))
-stuck depth = level_stuck depth (spec.nesting depth) (sound.nested_sound depth) (nested_stuck depth) i.Choice
+stuck depth = level_stuck depth (spec.nesting depth) (sound.nested_sound depth) (nested_stuck depth) nested.Choice

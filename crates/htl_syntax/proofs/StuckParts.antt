@@ -3,7 +3,7 @@ use Rattle.std.proofs.Common.{◌≡◌, ℕ, zero, suc, true, ◌||◌, eqb, Li
 use Rattle.sp_base.specs.Bytes.{begins_with_byte, is_digit}
 use Rattle.htl_syntax.specs.declared.stop.ExprStop.{ExprStop}
 use Rattle.htl_syntax.specs.declared.node.ExprNode.{ExprNode}
-use Rattle.htl_syntax.specs.declared.node.ExprNode.TheVariants as n
+use Rattle.htl_syntax.specs.declared.node.ExprNode.TheVariants as expr_node
 use Rattle.htl_syntax.specs.declared.tokens.NameKind.TheVariants.{Name}
 use Rattle.htl_syntax.specs.Tokens.{Outcome, ◌>>=◌, blanks_skipped, begins, goes_on, is_quote, is_first, expect, read_name, signed_number, string}
 use Rattle.htl_syntax.specs.Read as spec
@@ -141,7 +141,7 @@ pub either_choice : (depth : ℕ) (s r : List ℕ) → SomePart Either depth s r
 either_choice depth s r x = (x.0, g.only x.1)
 
 one_start : (depth : ℕ) (z : List ℕ) → Plain z → SomePart Start depth (operand z) z
-one_start depth z p = (n.Text [], g.string (empty_string z p))
+one_start depth z p = (expr_node.Text [], g.string (empty_string z p))
 
 pub one_operand : (depth : ℕ) (z : List ℕ) → Plain z → SomePart Operand depth (operand z) z
 one_operand depth z p = atom_operand depth (operand z) z (start_atom depth (operand z) z (one_start depth z p))
@@ -182,15 +182,15 @@ pub leaf_stuck : (depth : ℕ) → Sticks Start depth (spec.primary depth)
 unfolding spec.primary
 leaf_stuck depth s d k e a = elim (chosen (begins is_quote s) _ _ _ e) [
   | inl h ↦
-      elim (bind_err (string s) (λ x. Ok (n.Text x.0, x.1)) d h.1) [
-        | inl at ↦ stuck_map SomeString (SomePart Start depth) s k (λ s' r' x. (n.Text x.0, g.string x.1)) (string_stuck s d k at a)
+      elim (bind_err (string s) (λ x. Ok (expr_node.Text x.0, x.1)) d h.1) [
+        | inl at ↦ stuck_map SomeString (SomePart Start depth) s k (λ s' r' x. (expr_node.Text x.0, g.string x.1)) (string_stuck s d k at a)
         | inr at ↦ absurd (let x = at.2 in cc)
       ]
   | inr h ↦
       elim (chosen (begins_with_byte 45 s || begins is_digit s) _ _ _ h.1) [
         | inl j ↦
-            elim (bind_err (signed_number s) (λ x. Ok (n.Long x.0, x.1)) d j.1) [
-              | inl at ↦ stuck_map SomeNumber (SomePart Start depth) s k (λ s' r' x. (n.Long x.0, g.number x.1)) (number_stuck s d k j.0 at a)
+            elim (bind_err (signed_number s) (λ x. Ok (expr_node.Long x.0, x.1)) d j.1) [
+              | inl at ↦ stuck_map SomeNumber (SomePart Start depth) s k (λ s' r' x. (expr_node.Long x.0, g.number x.1)) (number_stuck s d k j.0 at a)
               | inr at ↦ absurd (let x = at.2 in cc)
             ]
         | inr j ↦ named_stuck depth s d k j.1 a

@@ -2,7 +2,7 @@
 use Rattle.std.specs.Prelude.{◌≡◌, ◌+◌, ◌*◌, ◌-◌, ℕ, ℤ, suc, Bool, true, false, List, [], ◌∷◌, ◌++◌, Option, Some, None, ◌==◌, codes}
 use Rattle.sp_base.specs.Bytes.{begins_with_byte, is_digit}
 use Rattle.htl_syntax.specs.declared.node.ExprNode.{ExprNode}
-use Rattle.htl_syntax.specs.declared.node.ExprNode.TheVariants as n
+use Rattle.htl_syntax.specs.declared.node.ExprNode.TheVariants as expr_node
 use Rattle.htl_syntax.specs.declared.node.Comparison.{Comparison}
 use Rattle.htl_syntax.specs.declared.node.Comparison.TheVariants.{Equal, NotEqual, Below, Above, AtMost, AtLeast}
 use Rattle.htl_syntax.specs.declared.tokens.NameKind.{NameKind}
@@ -140,22 +140,22 @@ part_of Comma = Choice
 -- `depth` more levels may nest. `More` reads the items after the first, each with its separator before it.
 mutual
   pub data Reads : Part → ℕ → List ℕ → ExprNode → List ℕ → Type 0 where
-    string : {depth : ℕ} {s w r : List ℕ} → String s w r → Reads Start depth s (n.Text w) r
-    number : {depth : ℕ} {s : List ℕ} {k : ℤ} {r : List ℕ} → Number s k r → Reads Start depth s (n.Long k) r
+    string : {depth : ℕ} {s w r : List ℕ} → String s w r → Reads Start depth s (expr_node.Text w) r
+    number : {depth : ℕ} {s : List ℕ} {k : ℤ} {r : List ℕ} → Number s k r → Reads Start depth s (expr_node.Long k) r
     name : {depth : ℕ} {s w r : List ℕ} → NameToken Name s w r → object_of w ≡ None → Reads Start depth s (word_node w) r
     object : {depth : ℕ} {s w r1 f r : List ℕ} {make : List ℕ → ExprNode} → NameToken Name s w r1 → object_of w ≡ Some make → Access depth r1 f r → Reads Start depth s (make f) r
     inside : {depth : ℕ} {s r1 r2 r : List ℕ} {e : ExprNode} → Byte 40 s r1 → Reads Choice depth r1 e r2 → Byte 41 r2 r → Reads Start (suc depth) s e r
     list : {depth : ℕ} {s r1 r2 r : List ℕ} {e : ExprNode} → Byte 91 s r1 → Reads Items depth r1 e r2 → Byte 93 r2 r → Reads Start (suc depth) s e r
-    no_items : {depth : ℕ} {r : List ℕ} → Reads Items depth r (n.List []) r
-    items : {depth : ℕ} {s r1 r : List ℕ} {e : ExprNode} {es : List ExprNode} → Reads Choice depth s e r1 → More Comma depth r1 es r → Reads Items depth s (n.List (e ∷ es)) r
+    no_items : {depth : ℕ} {r : List ℕ} → Reads Items depth r (expr_node.List []) r
+    items : {depth : ℕ} {s r1 r : List ℕ} {e : ExprNode} {es : List ExprNode} → Reads Choice depth s e r1 → More Comma depth r1 es r → Reads Items depth s (expr_node.List (e ∷ es)) r
     atom : {depth : ℕ} {s r1 r : List ℕ} {e : ExprNode} {fs : List (List ℕ)} → Reads Start depth s e r1 → Accesses depth r1 fs r → Reads Atom depth s (access_of e fs) r
-    not : {depth : ℕ} {s r1 r : List ℕ} {e : ExprNode} → Byte 33 s r1 → Reads Operand depth r1 e r → Reads Operand (suc depth) s (n.Not e) r
+    not : {depth : ℕ} {s r1 r : List ℕ} {e : ExprNode} → Byte 33 s r1 → Reads Operand depth r1 e r → Reads Operand (suc depth) s (expr_node.Not e) r
     bare : {depth : ℕ} {s r : List ℕ} {e : ExprNode} → Reads Atom depth s e r → Reads Operand depth s e r
-    compare : {depth : ℕ} {s r1 r2 r : List ℕ} {a b : ExprNode} {op : Comparison} → Reads Operand depth s a r1 → Compares r1 op r2 → Reads Operand depth r2 b r → Reads Compare depth s (n.Compare op a b) r
+    compare : {depth : ℕ} {s r1 r2 r : List ℕ} {a b : ExprNode} {op : Comparison} → Reads Operand depth s a r1 → Compares r1 op r2 → Reads Operand depth r2 b r → Reads Compare depth s (expr_node.Compare op a b) r
     single : {depth : ℕ} {s r : List ℕ} {e : ExprNode} → Reads Operand depth s e r → Reads Compare depth s e r
     both : {depth : ℕ} {s r1 r : List ℕ} {e : ExprNode} {es : List ExprNode} → Reads Compare depth s e r1 → More And depth r1 es r → Reads Both depth s (and_of e es) r
     either : {depth : ℕ} {s r1 r : List ℕ} {e : ExprNode} {es : List ExprNode} → Reads Both depth s e r1 → More Or depth r1 es r → Reads Either depth s (or_of e es) r
-    choice : {depth : ℕ} {s r1 r2 r3 r4 r : List ℕ} {c a b : ExprNode} → Reads Either (suc depth) s c r1 → Byte 63 r1 r2 → Reads Choice depth r2 a r3 → Byte 58 r3 r4 → Reads Choice depth r4 b r → Reads Choice (suc depth) s (n.Choice c a b) r
+    choice : {depth : ℕ} {s r1 r2 r3 r4 r : List ℕ} {c a b : ExprNode} → Reads Either (suc depth) s c r1 → Byte 63 r1 r2 → Reads Choice depth r2 a r3 → Byte 58 r3 r4 → Reads Choice depth r4 b r → Reads Choice (suc depth) s (expr_node.Choice c a b) r
     only : {depth : ℕ} {s r : List ℕ} {e : ExprNode} → Reads Either depth s e r → Reads Choice depth s e r
 
   pub data More : Separator → ℕ → List ℕ → List ExprNode → List ℕ → Type 0 where

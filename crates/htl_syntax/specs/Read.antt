@@ -6,7 +6,7 @@ use Rattle.sp_base.specs.Bytes.{begins_with_byte, is_digit}
 use Rattle.htl_syntax.specs.declared.stop.ExprStop.{ExprStop}
 use Rattle.htl_syntax.specs.declared.stop.ExprStop.TheVariants.{Unexpected, TooDeep}
 use Rattle.htl_syntax.specs.declared.node.ExprNode.{ExprNode}
-use Rattle.htl_syntax.specs.declared.node.ExprNode.TheVariants as n
+use Rattle.htl_syntax.specs.declared.node.ExprNode.TheVariants as expr_node
 use Rattle.htl_syntax.specs.declared.node.Comparison.{Comparison}
 use Rattle.htl_syntax.specs.declared.node.Comparison.TheVariants.{Equal, NotEqual, Below, Above, AtMost, AtLeast}
 use Rattle.htl_syntax.specs.declared.expression.Context.{Context}
@@ -20,17 +20,17 @@ use Rattle.htl_syntax.specs.Tokens.{Outcome, ◌>>=◌, blanks_skipped, begins, 
 -- without accesses there is no node for them
 abbrev pub access_of : ExprNode → List (List ℕ) → ExprNode
 access_of e [] = e
-access_of e (f ∷ fs) = n.Access e (f ∷ fs)
+access_of e (f ∷ fs) = expr_node.Access e (f ∷ fs)
 
 -- one operand is itself
 abbrev pub and_of : ExprNode → List ExprNode → ExprNode
 and_of e [] = e
-and_of e (f ∷ fs) = n.And e (f ∷ fs)
+and_of e (f ∷ fs) = expr_node.And e (f ∷ fs)
 
 -- and so it is where `||` stands between them
 abbrev pub or_of : ExprNode → List ExprNode → ExprNode
 or_of e [] = e
-or_of e (f ∷ fs) = n.Or e (f ∷ fs)
+or_of e (f ∷ fs) = expr_node.Or e (f ∷ fs)
 
 -- the same text
 abbrev pub is_text : List ℕ → List ℕ → Bool
@@ -38,11 +38,11 @@ is_text w text = pointwise nat_eq w text
 
 -- the literals `true` and `false`, or a variable
 abbrev pub word_node : List ℕ → ExprNode
-word_node w = if is_text w (codes "true") then n.Truth true else (if is_text w (codes "false") then n.Truth false else n.Variable w)
+word_node w = if is_text w (codes "true") then expr_node.Truth true else (if is_text w (codes "false") then expr_node.Truth false else expr_node.Variable w)
 
 -- the names that must be followed by an access
 abbrev pub object_of : List ℕ → Option (List ℕ → ExprNode)
-object_of w = if is_text w (codes "properties") then Some n.Property else (if is_text w (codes "resource") then Some n.Resource else None)
+object_of w = if is_text w (codes "properties") then Some expr_node.Property else (if is_text w (codes "resource") then Some expr_node.Resource else None)
 
 -- ---- comparisons, of which the longest counts
 
@@ -108,8 +108,8 @@ module _ (depth : ℕ) where
 
   unfoldable pub primary : List ℕ → Outcome ExprNode
   primary t =
-      if begins is_quote t then (string t >>= λ x. Ok (n.Text x.0, x.1))
-      else if begins_with_byte 45 t || begins is_digit t then (signed_number t >>= λ x. Ok (n.Long x.0, x.1))
+      if begins is_quote t then (string t >>= λ x. Ok (expr_node.Text x.0, x.1))
+      else if begins_with_byte 45 t || begins is_digit t then (signed_number t >>= λ x. Ok (expr_node.Long x.0, x.1))
       else name_or_object t
 
   -- What nests is read; the text begins at the byte that nests it.
@@ -133,7 +133,7 @@ module _ (depth : ℕ) where
       Ok (access_of x.0 fs.0, fs.1)
 
     unfoldable pub operand : List ℕ → Outcome ExprNode
-    operand t = if begins_with_byte 33 t then (inner Operand t >>= λ x. Ok (n.Not x.0, x.1)) else atom t
+    operand t = if begins_with_byte 33 t then (inner Operand t >>= λ x. Ok (expr_node.Not x.0, x.1)) else atom t
 
     unfoldable pub compare : List ℕ → Outcome ExprNode
     compare t = do
@@ -141,7 +141,7 @@ module _ (depth : ℕ) where
       if compares a.1 then (do
         op ← comparison a.1
         b ← operand op.1
-        Ok (n.Compare op.0 a.0 b.0, b.1)) else Ok a
+        Ok (expr_node.Compare op.0 a.0 b.0, b.1)) else Ok a
 
     unfoldable pub both : List ℕ → Outcome ExprNode
     both t = do
@@ -164,14 +164,14 @@ module _ (depth : ℕ) where
       if begins_with_byte 63 c.1 then (do
         a ← inner Choice c.1
         b ← other_choice a.1
-        Ok (n.Choice c.0 a.0 b.0, b.1)) else Ok c
+        Ok (expr_node.Choice c.0 a.0 b.0, b.1)) else Ok c
 
     -- the items of a list, up to the bracket that closes it
     unfoldable pub items : List ℕ → Outcome ExprNode
-    items t = if begins_with_byte 93 t then Ok (n.List [], t) else (do
+    items t = if begins_with_byte 93 t then Ok (expr_node.List [], t) else (do
       x ← choice t
       xs ← chain choice 44 (length x.1) (x.0 ∷ []) x.1
-      Ok (n.List xs.0, xs.1))
+      Ok (expr_node.List xs.0, xs.1))
 
     abbrev pub level : Nested → List ℕ → Outcome ExprNode
     level Choice = choice

@@ -14,6 +14,7 @@ use sp_base::{TextBuf, TextList};
 use sqlite_items::Boxed;
 use std::alloc::Global;
 
+// A node with its accesses, if it has any, and what is left to read.
 fn access_of(
     alloc: Global,
     e: ExprNode,

@@ -40,6 +40,7 @@ pub struct Expression {
     pub context: Option<Context>,
 }
 
+// A node, if there is one, with its options.
 fn expression_of(node: Option<ExprNode>, options: Options) -> Expression
     ensures { result ≡ spec.expr_of node (options.join, options.context) }
 {
@@ -59,6 +60,7 @@ fn whole(alloc: Global, text: &str) -> Result<Expression, ExprStop>
     Ok(expression_of(node, options))
 }
 
+// The text with a colon and a letter after it.
 fn with_colon(alloc: Global, leading: &str) -> Mem<String>
     ensures { IfOk result (λ text. string_bytes text ≡ leading.now ++ colon_letter) }
 {

@@ -68,6 +68,7 @@ fn context_option(text: &str) -> Result<(Context, &str), ExprStop>
     context_string(rest)
 }
 
+// The join option, beside the context that was given before it, if one was.
 fn with_join(
     alloc: Global,
     context: Option<Context>,
@@ -80,6 +81,7 @@ fn with_join(
     Ok((Options { join, context }, rest))
 }
 
+// The context option, beside the join that was given before it, if one was.
 fn with_context(join: Option<TextBuf>, text: &str) -> Result<(Options, &str), ExprStop>
     ensures { Gives (λ x. ((x.0.join, x.0.context), x.1.now)) result (steps.with_context join text.now) }
 {

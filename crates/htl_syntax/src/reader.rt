@@ -6,7 +6,7 @@ ghost use Rattle.htl_syntax.specs.Tokens as tokens;
 ghost use Rattle.htl_syntax.specs.Read as spec;
 ghost use Rattle.htl_syntax.specs.Steps as steps;
 ghost use Rattle.htl_syntax.specs.Grammar.{nesting_limit};
-ghost use Rattle.htl_syntax.specs.declared.node.ExprNode.TheVariants as n;
+ghost use Rattle.htl_syntax.specs.declared.node.ExprNode.TheVariants as expr_node;
 
 use crate::access::{accessed, first_access};
 use crate::node::{Comparison, ExprNode};
@@ -28,6 +28,7 @@ pub enum Nested {
     Items,
 }
 
+// A node and what follows it after `&&`, if anything does; and what is left to read.
 fn and_of(
     alloc: Global,
     e: ExprNode,
@@ -43,6 +44,7 @@ fn and_of(
     Ok((ExprNode::And(e, more), rest))
 }
 
+// The same with `||`.
 fn or_of(
     alloc: Global,
     e: ExprNode,
@@ -111,15 +113,17 @@ fn comparison(text: &str) -> Result<(Comparison, &str), ExprStop>
     }
 }
 
+// The first access after `properties`.
 fn property(alloc: Global, depth: u32, text: &str) -> Result<(ExprNode, &str), ExprStop>
-    ensures { Gives (λ x. (x.0, x.1.now)) result (steps.of_access depth n.Property text.now) }
+    ensures { Gives (λ x. (x.0, x.1.now)) result (steps.of_access depth expr_node.Property text.now) }
 {
     let (field, rest) = first_access(alloc, depth, text)?;
     Ok((ExprNode::Property(field), rest))
 }
 
+// The first access after `resource`.
 fn resource(alloc: Global, depth: u32, text: &str) -> Result<(ExprNode, &str), ExprStop>
-    ensures { Gives (λ x. (x.0, x.1.now)) result (steps.of_access depth n.Resource text.now) }
+    ensures { Gives (λ x. (x.0, x.1.now)) result (steps.of_access depth expr_node.Resource text.now) }
 {
     let (field, rest) = first_access(alloc, depth, text)?;
     Ok((ExprNode::Resource(field), rest))

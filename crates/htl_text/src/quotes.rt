@@ -2,7 +2,7 @@
 
 ghost use Rattle.std.specs.Prelude.{◌≡◌};
 ghost use Rattle.htl_text.specs.Template as spec;
-ghost use Rattle.htl_text.specs.declared.quotes.Quotes.TheVariants as q;
+ghost use Rattle.htl_text.specs.declared.quotes.Quotes.TheVariants as state;
 
 /// Where a byte of an expression stands.
 #[derive(Clone, Copy, Drop)]
@@ -51,7 +51,7 @@ fn closes(quotes: Quotes, c: u8) -> bool
 /// How many bytes stand before the `}` that closes an expression.
 #[tactic(auto, unfolding(crate::specs::Template::closing))]
 pub fn closing(text: &[u8]) -> Option<usize>
-    ensures { result ≡ spec.closing q.Outside 0 text.now }
+    ensures { result ≡ spec.closing state.Outside 0 text.now }
 {
     let mut quotes = Quotes::Outside;
     let mut len = 0;

@@ -8,7 +8,7 @@ use Rattle.sp_base.specs.declared.answer.Answer.{Answer}
 use Rattle.sp_base.specs.declared.answer.Mark.{Mark}
 use Rattle.sp_base.specs.declared.answer.Mark.TheVariants.{Plain, NoCache, NoStore, MustRevalidate}
 
--- RFC 9112, section 4
+-- the status line: the version, the status code and its reason phrase (RFC 9112, section 4)
 unfoldable pub status_line : ℕ → List ℕ
 status_line status = codes "HTTP/1.1 " ++ decimal status ++ codes " " ++ phrase_of status ++ crlf_bytes
 
@@ -16,7 +16,7 @@ status_line status = codes "HTTP/1.1 " ++ decimal status ++ codes " " ++ phrase_
 abbrev pub Field : Type 0
 Field = List ℕ × List ℕ
 
--- RFC 9112, section 5
+-- a field as a line of a head (RFC 9112, section 5)
 unfoldable pub field_line : Field → List ℕ
 field_line field = field.0 ++ codes ": " ++ field.1 ++ crlf_bytes
 

@@ -17,6 +17,6 @@ IsVisible b = is_visible_ascii b ≡ true
 abbrev pub StaysInItsLine : Field → Type 0
 StaysInItsLine field = All IsPrintable field.1 × (field.0 ≡ codes "Location" → All IsVisible field.1)
 
--- whatever the answer says
+-- whatever the answer says, if its body has fewer than 2^64 bytes
 abbrev pub ValuesStayInTheirLines : Type 0
 ValuesStayInTheirLines = (head_only close : Bool) (a : Answer) → length a.body < 2 ^ 64 → All StaysInItsLine (fields_of head_only close a)

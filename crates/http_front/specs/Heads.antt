@@ -112,7 +112,7 @@ is_continue (Some value) = eq_ignore_case value (codes "100-continue")
 abbrev pub awaits_continue : ℕ → ℕ → List (List ℕ × List ℕ) → Bool
 awaits_continue minor n fields = (minor == 1) && (nat_lt 0 n && is_continue (field_of fields (codes "expect")))
 
--- RFC 9112, section 3
+-- the request line without its end (RFC 9112, section 3)
 abbrev pub request_line : List ℕ → List ℕ → ℕ → List ℕ
 request_line method target minor = method ++ 32 ∷ (target ++ codes " HTTP/1." ++ decimal minor)
 

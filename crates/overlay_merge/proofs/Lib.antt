@@ -1,5 +1,4 @@
 pub mod PathLemmas
-pub mod RebaseLemmas
 pub mod LayerLemmas
 pub mod WalkLemmas
 pub mod PropertyLemmas

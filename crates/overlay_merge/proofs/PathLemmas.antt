@@ -1,11 +1,10 @@
 -- Paths by their first segments.
 use Rattle.std.proofs.Common.{◌≡◌, ◌+◌, ◌-◌, ◌<◌, ◌≤◌, ℕ, true, false, cond, List, [], ◌∷◌, ◌++◌, drop, take, length, zero, suc, add-zero, refl, sym, ◌∙◌, ap, arith, ⊎_elim, Option, Some, None}
-use Rattle.std.specs.Prelude.{is_some, slice_get, slice_index_or}
+use Rattle.std.specs.Prelude.{is_some, slice_index_or}
 use Rattle.std.specs.List.{list_all}
 use Rattle.std.proofs.lemmas.Bool.{and_parts, and_from, false≢true, true≢false, leb-true, le-leb, cases_lt}
-use Rattle.std.proofs.lemmas.List.{append_assoc, drop_more, take_more, length-append, length-drop}
+use Rattle.std.proofs.lemmas.List.{take_more, length-append, length-drop}
 use Rattle.std.proofs.lemmas.List.Folds.{list_all-append}
-use Rattle.std.proofs.lemmas.Option.{get_or_from_slice_get}
 use Rattle.sp_base.specs.Paths.{is_path, path_or_none, seg_ok}
 use Rattle.resource_tree.specs.Content.{Content, IsTree, kid, node_at}
 use Rattle.resource_tree.specs.declared.nodes.Node.{Node}
@@ -21,15 +20,8 @@ is_path-first p r whole =
     let short : length p ≤ 64 = omega (arith, deep, size) in
     and_from _ _ segs (le-leb _ _ short)
 
-pub drop_from : (path : List (List ℕ)) (n : ℕ) (seg : List ℕ) → n < length path → Some seg ≡ slice_get path n → drop n path ≡ seg ∷ drop (n + 1) path
-drop_from path n seg within is = drop_more path n [] within ∙ ap (λ (s : List ℕ). s ∷ drop (n + 1) path) (get_or_from_slice_get path n seg [] (sym is))
-
 pub path_from : (p : List (List ℕ)) → is_path p ≡ true → Some p ≡ path_or_none p
 path_from p e = ap (λ t. cond t (Some p) None) (sym e)
-
-module _ (whole path now : List (List ℕ)) (n : ℕ) (seg : List ℕ) (so_far : now ++ drop n path ≡ whole) (within : n < length path) (is : Some seg ≡ slice_get path n) where
-  next : (now ++ seg ∷ []) ++ drop (n + 1) path ≡ whole
-  next = append_assoc now (seg ∷ []) (drop (n + 1) path) ∙ ap (λ r. now ++ r) (sym (drop_from path n seg within is)) ∙ so_far
 
 all-drop : (n : ℕ) (path : List (List ℕ)) → list_all seg_ok path ≡ true → list_all seg_ok (drop n path) ≡ true
 all-drop zero path all = all

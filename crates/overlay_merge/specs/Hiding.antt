@@ -99,7 +99,7 @@ abbrev pub resource_list : Option Resource → List Resource
 resource_list None = []
 resource_list (Some res) = res ∷ []
 
--- the resource that a layer adds, below these layers
+-- what a layer shows, below these layers: its resource, where there is one and the layer isn't cut
 abbrev pub shown_resource : Content → Layer → List Layer → List Resource
 shown_resource tree layer above = if layer_is_cut tree layer above then [] else resource_list (res_at tree layer.path)
 

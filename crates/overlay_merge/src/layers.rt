@@ -1,10 +1,9 @@
 // The layers of a merged path.
-ghost use Rattle.std.specs.Prelude.{◌≡◌, ◌∷◌, ◌++◌, ◌≤◌, [], Some, None, IfOk, IfSome, IsTrue, true, codes, drop, length, option_map};
+ghost use Rattle.std.specs.Prelude.{◌≡◌, [], Some, None, IfOk, true, drop, option_map};
 ghost use Rattle.std.specs.Option.{option_copied, option_or};
-ghost use Rattle.sp_base.specs.Paths.{is_path, path_or_none, seg_ok};
-ghost use Rattle.overlay_merge.specs.Layers.{base_at, base_of, descent, has_layer, has_node, layer_below, layer_by, layers_of, make_layer, most_layers, overlay_layer, overlay_layers, override_layer, override_layers, path_at};
+ghost use Rattle.sp_base.specs.Paths.{seg_ok};
+ghost use Rattle.overlay_merge.specs.Layers.{base_at, base_of, descent, has_layer, has_node, layer_below, layers_of, most_layers, overlay_layer, overlay_layers, override_layer, override_layers};
 
-use crate::rebase::path_at;
 use crate::roots::{is_overlay, is_override};
 use resource_tree::Tree;
 use sp_base::{Mem, NoMemory, Path, TextBuf};
@@ -67,7 +66,7 @@ fn layer_below(alloc: Global, tree: &Tree, path: &Path) -> Mem<Option<Layer>>
     let Some(place) = place_of(alloc, tree, text.text())? else {
         return Ok(None);
     };
-    match path_at(alloc, place, path, n)? {
+    match place.join_rest_or_none(alloc, path, n)? {
         Some(below) => Ok(Some(Layer {
             own: below.depth(),
             common: path.depth().saturating_sub(n),
@@ -114,7 +113,7 @@ fn overlay_layer(alloc: Global, path: &Path, top: &str) -> Mem<Layer>
         Ok(place) => place,
         Err(_) => return Err(NoMemory),
     };
-    let Some(path) = path_at(alloc, place, path, ROOT_DEPTH)? else {
+    let Some(path) = place.join_rest_or_none(alloc, path, ROOT_DEPTH)? else {
         unreachable!()
     };
     let below = path.depth() - 1;
@@ -145,7 +144,8 @@ fn override_layers(alloc: Global, tree: &Tree, path: &Path) -> Mem<Vec<Layer>>
     if path.depth() <= ROOT_DEPTH {
         return Ok(Vec::new(alloc));
     }
-    let Some(highest) = path_at(alloc, Path::root(alloc), path, ROOT_DEPTH)? else {
+    let root = Path::root(alloc);
+    let Some(highest) = root.join_rest_or_none(alloc, path, ROOT_DEPTH)? else {
         unreachable!()
     };
     let mut layers = descent(alloc, tree, highest)?;

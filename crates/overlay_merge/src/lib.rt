@@ -11,7 +11,6 @@ mod merging;
 mod order;
 mod properties;
 mod reach;
-mod rebase;
 mod roots;
 mod slots;
 mod view;

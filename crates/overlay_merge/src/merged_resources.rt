@@ -1,4 +1,4 @@
-// The layers that aren't cut.
+// The resources that are merged at a path: those of the layers that aren't cut.
 ghost use Rattle.std.specs.Prelude.{◌≡◌, ◌++◌, IfOk, OnOk, map, option_map};
 ghost use Rattle.overlay_merge.specs.Hiding.{resource_list, merged_from};
 ghost use Rattle.overlay_merge.specs.Walk.{AreNodesOf, is_screened, reaches, screened_layer, screens, some_screens, unscreened_resource, unscreened_resources};

@@ -27,7 +27,7 @@ segment_ok path n name valid at =
     (λ no. absurd (true≢false (sym (left (list_all seg_ok path) _ valid) ∙ list_all_at seg_ok path n [] (slice_get_within path n name there) (ap seg_ok (get_or_from_slice_get path n name [] there) ∙ no))))
     (cases_Bool (seg_ok name))
 
-pub name_is : (path : List (List ℕ)) (o : Option (List ℕ)) → o ≡ slice_get path (length path - 1) → unwrap_or o [] ≡ name_of path
+name_is : (path : List (List ℕ)) (o : Option (List ℕ)) → o ≡ slice_get path (length path - 1) → unwrap_or o [] ≡ name_of path
 name_is path o at = ap (λ p. unwrap_or p []) at ∙ unwrap_or-slice_get path (length path - 1) []
 
 -- a property is set under the last segment of its path, at the node above

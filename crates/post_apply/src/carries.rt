@@ -8,7 +8,7 @@ ghost use Rattle.post_apply.specs.Steps as step;
 use crate::removals::clear;
 use crate::spots::path_of_spot;
 use crate::steps::{copy, relocate, remove};
-use crate::values::{name_of, put_at};
+use crate::values::put_at;
 use crate::way::make_way;
 use crate::{ApplyFault, PostReport};
 use post_plan::{Carry, CarryOp};
@@ -128,7 +128,7 @@ fn property_at(alloc: Global, draft: &Draft, path: &Path) -> Mem<Option<Value>>
 {
     let parent = path.parent(alloc)?;
     match draft.node(&parent) {
-        Some(node) => match node.props().get(name_of(path)) {
+        Some(node) => match node.props().get(path.name()) {
             Some(value) => Ok(Some(value.duplicate(alloc)?)),
             None => Ok(None),
         },

@@ -3,7 +3,6 @@ ghost use Rattle.std.specs.Prelude.{◌≡◌, ◌≢◌, ◌-◌, IfOk, IfSome,
 ghost use Rattle.sp_base.specs.Paths.{seg_ok};
 ghost use Rattle.sp_base.specs.Typed.{single_of, typed_of};
 ghost use Rattle.tree_draft.specs.Drafts.{DraftFollows, IsSound};
-ghost use Rattle.resource_tree.specs.Content.{name_of};
 ghost use Rattle.post_apply.specs.Values as spec;
 ghost use Rattle.post_apply.specs.Steps as step;
 
@@ -107,17 +106,6 @@ pub fn put_on_way(
     put_at(alloc, draft, path, value)
 }
 
-/// The name of the property at a path; the root has none.
-#[tactic(auto, using(crate::proofs::PathLemmas::name_is))]
-pub fn name_of(path: &Path) -> &str
-    ensures { result.now ≡ name_of path.now }
-{
-    match path.last() {
-        Some(name) => name,
-        None => "",
-    }
-}
-
 // The last segment of a path, which is one that a path may have.
 #[tactic(auto, using(crate::proofs::PathLemmas::segment_ok))]
 fn last_segment(path: &Path) -> Option<&str>
@@ -134,7 +122,7 @@ fn set_at(alloc: Global, draft: &mut Draft, node: &Path, set: &PropSet) -> Resul
     ensures err { IfErr result (λ e. e ≢ ApplyFault.NoMemory → spec.set_at node.now draft.old.content set.now ≡ Err e) }
     ensures follows { OnOk result (DraftFollows draft.old draft.new) }
 {
-    let value = named_value(alloc, name_of(&set.spot.path), set.hint, &set.words)?;
+    let value = named_value(alloc, set.spot.path.name(), set.hint, &set.words)?;
     let path = path_of_spot(alloc, node, &set.spot)?;
     put_on_way(alloc, draft, &path, value)
 }

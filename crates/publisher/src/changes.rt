@@ -6,7 +6,6 @@ ghost use Rattle.url_maps.specs.Claims.{IsIndexOf};
 ghost use Rattle.publisher.specs.declared.templates.Reading.{Reading};
 ghost use Rattle.publisher.specs.Kept.{AreAmong, AreReadings, AreUnpatched, reading_at, text_path};
 
-use crate::scripts::name_of;
 use crate::templates::Templates;
 use resource_tree::{Patch, Tree};
 use sp_base::{Mem, Path};
@@ -55,7 +54,7 @@ fn forget_text(alloc: Global, templates: &mut Templates, path: &Path) -> Mem<()>
     ensures fewer { AreAmong templates.old templates.new }
     ensures forgotten { OnOk result ((script : List (List ℕ)) (reading : Reading) → reading_at templates.new script ≡ Some reading → same_path (text_path script) path.now ≡ false) }
 {
-    if name_of(path) != "jcr:content" {
+    if path.name() != "jcr:content" {
         return Ok(());
     }
     let script = path.parent(alloc)?;

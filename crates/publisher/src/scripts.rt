@@ -1,6 +1,5 @@
 // Rendering by a script.
 ghost use Rattle.std.specs.Prelude.{◌≡◌, IfOk};
-ghost use Rattle.resource_tree.specs.Content.{name_of};
 ghost use Rattle.htl_text.specs.Template.{template_output as written_by};
 ghost use Rattle.publisher.specs.Rendering.{html_kind, mark_of, representation_of, scope_of, script_representation};
 
@@ -11,21 +10,11 @@ use error_answers::error_answer;
 use htl_expr::Scope;
 use htl_text::{RenderFault, Template};
 use resource_tree::Res;
-use sp_base::{Answer, Mark, Mem, NoMemory, Path};
+use sp_base::{Answer, Mark, Mem, NoMemory};
 use std::alloc::Global;
 use type_chain::type_text;
 
 const HTML_KIND: &str = "text/html;charset=utf-8";
-
-/// The last segment of a path, empty for the root.
-pub(crate) fn name_of(path: &Path) -> &str
-    ensures { result.now ≡ name_of path.now }
-{
-    match path.last() {
-        Some(name) => name,
-        None => "",
-    }
-}
 
 // What a template writes, as a representation; an error where that is too long.
 fn written_representation(
@@ -50,7 +39,7 @@ fn template_representation(alloc: Global, template: &Template, res: &Res) -> Mem
     let scope = Scope {
         props: res.props(),
         path: res.path().as_text(),
-        name: name_of(res.path()),
+        name: res.path().name(),
         kind: type_text(res.props()),
     };
     written_representation(alloc, template, &scope, mark_of(res))

@@ -2,9 +2,9 @@
 use Rattle.std.proofs.Common.{◌≡◌, ◌++◌, ◌&&◌, ◌∙◌, ℕ, zero, suc, Bool, true, false, List, [], ◌∷◌, Some, None, sym, ap, refl, take, if◌then◌else◌}
 use Rattle.std.specs.Prelude.{IsTrue}
 use Rattle.std.specs.List.{list_all}
-use Rattle.sp_base.specs.Paths.{is_path, mangled_segs, parent_of, pieces, text_of}
+use Rattle.sp_base.specs.Paths.{is_path, mangled_segs, name_of, parent_of, pieces, text_of}
 use Rattle.sp_base.specs.PathTexts.{spelling_of, lack_slashes, segs_in}
-use Rattle.cover_rules.specs.Pages.{is_page, key_at, last_segment, page_key_of, page_path, page_text}
+use Rattle.cover_rules.specs.Pages.{is_page, key_at, page_key_of, page_path, page_text}
 use Rattle.cover_rules.specs.declared.page.PageKey.{PageKey}
 use Rattle.replay_text.specs.Transcript.{IsPage}
 use Rattle.replay_text.proofs.NumberLemmas.{both_true}
@@ -36,7 +36,7 @@ chosen false made key e = cc
 folder_is : (path : List (List ℕ)) (key : PageKey) → page_key_of path ≡ Some key → key.folder ≡ parent_of (mangled_segs path)
 unfolding key_at
 folder_is path key e =
-    let made : PageKey = record { folder = parent_of (mangled_segs path); file = last_segment (mangled_segs path) } in
+    let made : PageKey = record { folder = parent_of (mangled_segs path); file = name_of (mangled_segs path) } in
     ap (λ (k : PageKey). k.folder) (sym (chosen (is_page (mangled_segs path)) made key e))
 
 -- a path that isn't the root is spelled by its segments alone

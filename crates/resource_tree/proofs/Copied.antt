@@ -13,7 +13,7 @@ use Rattle.sp_base.specs.PathExact.{exact_paths}
 use Rattle.sp_base.specs.Paths.{is_path, is_under}
 use Rattle.resource_tree.specs.declared.nodes.Node.{Node}
 use Rattle.resource_tree.specs.declared.faults.TreeFault.TheVariants.{TooDeep, FullTree}
-use Rattle.resource_tree.specs.declared.patch.PatchNode.TheVariants as there
+use Rattle.resource_tree.specs.declared.patch.PatchNode.TheVariants as patch_node
 use Rattle.resource_tree.specs.Content.{Content, IsGood, by_path, same_path, node_at, kid, prop_at, parent_of, name_of, empty_node}
 use Rattle.resource_tree.specs.Changes.{change_at, with_kid, with_kids, kids_at, has_prop_at}
 use Rattle.resource_tree.specs.Patches.{PatchEntries, entry_at, patching, left_by}
@@ -25,7 +25,7 @@ use Rattle.resource_tree.proofs.Patching.{node_at-patching, sorted-patching}
 use Rattle.resource_tree.proofs.Creation.{no_fault, not_none, none_from, some_from, IsGood-from}
 use Rattle.resource_tree.proofs.Under.{under_own_kid}
 use Rattle.resource_tree.proofs.PartLemmas.{under_split, prefix}
-use Rattle.resource_tree.proofs.Copying.{Hangs, IsTree-hung, there-back}
+use Rattle.resource_tree.proofs.Copying.{PutsPart, IsTree-put_part, there-back}
 use Rattle.resource_tree.proofs.PartThere.{entry_at-part_there, under_there}
 use Rattle.resource_tree.proofs.CopyParts.{in_part, once_there, length-patching}
 
@@ -101,18 +101,18 @@ sorted-change_at tree path change sorted =
       | Some node ↦ subst (λ (ks : List (List (List ℕ))). IsStrictlySortedBy by_path ks) (sym (keys-set_value (same_path path) tree (change node))) sorted
     ]
 
-pub left_none : (o : Option Node) → left_by (option_map there.Node o) None ≡ o
+pub left_none : (o : Option Node) → left_by (option_map patch_node.Node o) None ≡ o
 left_none None = refl
 left_none (Some n) = refl
 
 at_parent : (u s : Bool) (a o : Option Node) (n : Node) (f g : Node → Node) → u ≡ false → s ≡ true → o ≡ Some n → f n ≡ g n
-    → cond s (option_map f (left_by (cond u (option_map there.Node a) None) o)) (left_by (cond u (option_map there.Node a) None) o) ≡ cond u a (cond s (option_map g o) o)
+    → cond s (option_map f (left_by (cond u (option_map patch_node.Node a) None) o)) (left_by (cond u (option_map patch_node.Node a) None) o) ≡ cond u a (cond s (option_map g o) o)
 at_parent true s a o n f g eu es was e = absurd (true≢false eu)
 at_parent false false a o n f g eu es was e = absurd (false≢true es)
 at_parent false true a o n f g eu es was e = ap (option_map f) was ∙ ap (λ (x : Node). Some x) e ∙ sym (ap (option_map g) was)
 
 elsewhere : (u s : Bool) (a o : Option Node) (f g : Node → Node) → u ≡ false → s ≡ false
-    → cond s (option_map f (left_by (cond u (option_map there.Node a) None) o)) (left_by (cond u (option_map there.Node a) None) o) ≡ cond u a (cond s (option_map g o) o)
+    → cond s (option_map f (left_by (cond u (option_map patch_node.Node a) None) o)) (left_by (cond u (option_map patch_node.Node a) None) o) ≡ cond u a (cond s (option_map g o) o)
 elsewhere true s a o f g eu es = absurd (true≢false eu)
 elsewhere false true a o f g eu es = absurd (true≢false es)
 elsewhere false false a o f g eu es = refl
@@ -143,7 +143,7 @@ module _ (tree : Content) (source target : List (List ℕ)) (good : IsGood tree)
   node_at-copy q =
       node_at-patching named (part_there tree source target) q (sorted-change_at tree (parent_of target) (with_kid (name_of target)) good.ordered) (once_there source target tree good.ordered)
       ∙ ap (λ r. left_by r (node_at named q)) (entry_at-part_there source target q tree)
-      ∙ ap (λ o. left_by (cond (is_under q target) (option_map there.Node (node_at tree (path_there target source q))) None) o) (node_at-change_at tree (parent_of target) (with_kid (name_of target)) q)
+      ∙ ap (λ o. left_by (cond (is_under q target) (option_map patch_node.Node (node_at tree (path_there target source q))) None) o) (node_at-change_at tree (parent_of target) (with_kid (name_of target)) q)
       ∙ ⊎_elim
       (λ under. let apart = parent_apart q under in let free = free_below q under in rw (under, apart, free) (left_none (node_at tree (path_there target source q))))
       (λ beside. rw beside)
@@ -158,7 +158,7 @@ module _ (tree : Content) (source target : List (List ℕ)) (good : IsGood tree)
 
     new_at : (q : List (List ℕ)) → node_at (change_at (patching tree entries) (parent_of target) (with_kids kids)) q ≡ copy_at tree source target q
     new_at q =
-        let patched : node_at (patching tree entries) q ≡ left_by (cond (is_under q target) (option_map there.Node (node_at tree (path_there target source q))) None) (node_at tree q) =
+        let patched : node_at (patching tree entries) q ≡ left_by (cond (is_under q target) (option_map patch_node.Node (node_at tree (path_there target source q))) None) (node_at tree q) =
         node_at-patching tree entries q good.ordered once ∙ ap (λ r. left_by r (node_at tree q)) (alike q ∙ entry_at-part_there source target q tree) in
         node_at-change_at (patching tree entries) (parent_of target) (with_kids kids) q
         ∙ ap (λ o. cond (same_path (parent_of target) q) (option_map (with_kids kids) o) o) patched
@@ -190,8 +190,8 @@ module _ (tree : Content) (source target : List (List ℕ)) (good : IsGood tree)
     beside : (q : List (List ℕ)) → is_under q target ≡ false → q ≢ parent_of target → node_at (copy tree source target) q ≡ node_at tree q
     beside q apart other = node_at-copy q ∙ (let elsewhere = same_path_apart (parent_of target) q (λ e. other (sym e)) in rw (apart, elsewhere))
 
-    hangs : Hangs (node_at tree) (node_at tree) (node_at (copy tree source target)) source (parent_of target) (name_of target) above
-    hangs = record {
+    puts : PutsPart (node_at tree) (node_at tree) (node_at (copy tree source target)) source (parent_of target) (name_of target) above
+    puts = record {
       part = can.source_there;
       fits = subst (λ (p : List (List ℕ)). (q : List (List ℕ)) → is_under q p ≡ true → IsSome (node_at tree (path_there p source q)) → IsTrue (is_path q)) (sym parts) is_a_path;
       was = above_is;
@@ -209,4 +209,4 @@ module _ (tree : Content) (source target : List (List ℕ)) (good : IsGood tree)
         let one = length-patching named (part_there tree source target) in
         let two = length-change_at tree (parent_of target) (with_kid (name_of target)) in
         let three : length (part_there tree source target) ≡ length (part tree source) = length-map (part tree source) _ in
-        IsGood-from new (copy tree source target) same sorted (omega (arith, one, two, three, small)) (IsTree-hung (node_at tree) (node_at tree) (node_at (copy tree source target)) source (parent_of target) (name_of target) above good.shape good.shape hangs)
+        IsGood-from new (copy tree source target) same sorted (omega (arith, one, two, three, small)) (IsTree-put_part (node_at tree) (node_at tree) (node_at (copy tree source target)) source (parent_of target) (name_of target) above good.shape good.shape puts)

@@ -17,7 +17,7 @@ use Rattle.sp_base.specs.PathExact.{exact_paths}
 use Rattle.sp_base.specs.Paths.{is_under}
 use Rattle.resource_tree.specs.declared.nodes.Node.{Node}
 use Rattle.resource_tree.specs.declared.patch.PatchNode.{PatchNode}
-use Rattle.resource_tree.specs.declared.patch.PatchNode.TheVariants as there
+use Rattle.resource_tree.specs.declared.patch.PatchNode.TheVariants as patch_node
 use Rattle.resource_tree.specs.Content.{Content, by_path, same_path, node_at}
 use Rattle.resource_tree.specs.Patches.{PatchEntries, entry_at, over, patching}
 use Rattle.resource_tree.specs.Moves.{path_there, part, part_there}
@@ -105,13 +105,13 @@ distinct_there source target (e ∷ tree) once =
     let laws = eq_by_cmp_equiv by_path_total in
     let rest = distinct_there source target tree (IsDistinct-tail (eq_by_cmp by_path) e.0 (keys_of tree) once) in
     let later : node_at tree e.0 ≡ None = lookup-none (same_path e.0) tree (none_past_head laws e.0 e tree once (laws.refl e.0)) in
-    elim (is_under e.0 source) as (λ b. is_under e.0 source ≡ b → IsDistinct (eq_by_cmp by_path) (keys_of (map (λ e. (path_there source target e.0, there.Node e.1)) (cond b (e ∷ part tree source) (part tree source))))) [
+    elim (is_under e.0 source) as (λ b. is_under e.0 source ≡ b → IsDistinct (eq_by_cmp by_path) (keys_of (map (λ e. (path_there source target e.0, patch_node.Node e.1)) (cond b (e ∷ part tree source) (part tree source))))) [
       | true ↦ λ under.
           let back = there-back target source e.0 under in
           let none : entry_at (part_there tree source target) (path_there source target e.0) ≡ None =
           entry_at-part_there source target (path_there source target e.0) tree
-          ∙ ap (λ b. cond b (option_map there.Node (node_at tree (path_there target source (path_there source target e.0)))) None) (under_there source target e.0)
-          ∙ ap (λ p. option_map there.Node (node_at tree p)) back ∙ ap (option_map there.Node) later in
+          ∙ ap (λ b. cond b (option_map patch_node.Node (node_at tree (path_there target source (path_there source target e.0)))) None) (under_there source target e.0)
+          ∙ ap (λ p. option_map patch_node.Node (node_at tree p)) back ∙ ap (option_map patch_node.Node) later in
           IsDistinct-cons (eq_by_cmp by_path) (path_there source target e.0) (keys_of (part_there tree source target)) (apart_from_none (part_there tree source target) (path_there source target e.0) none) rest
       | false ↦ λ apart. rest
     ] refl
@@ -145,8 +145,8 @@ taken path (e ∷ tree) =
     elim (same_path path e.0) as (λ b. length (cond b tree (e ∷ remove_entry (same_path path) tree)) ≤ length (e ∷ tree)) [ true ↦ omega arith | false ↦ omega (arith, rest) ]
 
 length-over : (tree : Content) (path : List (List ℕ)) (entry : PatchNode) → length (over tree path entry) ≤ length tree + 1
-length-over tree path (there.Node node) = inserted tree path node
-length-over tree path there.Gone = let less = taken path tree in omega (arith, less)
+length-over tree path (patch_node.Node node) = inserted tree path node
+length-over tree path patch_node.Gone = let less = taken path tree in omega (arith, less)
 
 pub length-patching : (tree : Content) (entries : PatchEntries) → length (patching tree entries) ≤ length tree + length entries
 length-patching tree [] = omega arith

@@ -1,4 +1,4 @@
--- A tree stays a tree where a good part hangs in it under a new path.
+-- A tree stays a tree where a good part is put in it under a new path.
 use Rattle.std.proofs.Common.{◌≡◌, ◌≢◌, ℕ, Bool, true, false, ◌||◌, List, [], ◌∷◌, ◌++◌, refl, sym, ◌∙◌, ap, subst, ⊎_elim, Some, None, Option}
 use Rattle.std.specs.Prelude.{is_some, IsSome, IsTrue, nat_eq}
 use Rattle.std.specs.Cmp.Lexicographic.{pointwise, nat_list_eq_equiv, same_text}
@@ -53,7 +53,7 @@ or_false true = refl
 or_false false = refl
 
 -- the map with a part of another under a kid of a node that names it last
-pub record Hangs (from at now : List (List ℕ) → Option Node) (source above : List (List ℕ)) (name : List ℕ) (node : Node) : Type 0 where
+pub record PutsPart (from at now : List (List ℕ) → Option Node) (source above : List (List ℕ)) (name : List ℕ) (node : Node) : Type 0 where
   pub part : IsSome (from source)
   pub fits : (q : List (List ℕ)) → is_under q (kid above name) ≡ true → IsSome (from (path_there (kid above name) source q)) → IsTrue (is_path q)
   pub was : at above ≡ Some node
@@ -63,7 +63,7 @@ pub record Hangs (from at now : List (List ℕ) → Option Node) (source above :
   pub below : (q : List (List ℕ)) → is_under q (kid above name) ≡ true → now q ≡ from (path_there (kid above name) source q)
   pub others : (q : List (List ℕ)) → is_under q (kid above name) ≡ false → q ≢ above → now q ≡ at q
 
-module _ (from at now : List (List ℕ) → Option Node) (source above : List (List ℕ)) (name : List ℕ) (node : Node) (first : IsTree from) (old : IsTree at) (hangs : Hangs from at now source above name node) where
+module _ (from at now : List (List ℕ) → Option Node) (source above : List (List ℕ)) (name : List ℕ) (node : Node) (first : IsTree from) (old : IsTree at) (puts : PutsPart from at now source above name node) where
   abbrev target : List (List ℕ)
   target = kid above name
 
@@ -72,22 +72,22 @@ module _ (from at now : List (List ℕ) → Option Node) (source above : List (L
 
   kept : (q : List (List ℕ)) → under q ≡ false → is_some (now q) ≡ is_some (at q)
   kept q apart =
-      ⊎_elim (λ e. ap is_some (ap now e ∙ hangs.there) ∙ sym (ap is_some (ap at e ∙ hangs.was))) (λ other. ap is_some (hangs.others q apart other)) (cases_path q above)
+      ⊎_elim (λ e. ap is_some (ap now e ∙ puts.there) ∙ sym (ap is_some (ap at e ∙ puts.was))) (λ other. ap is_some (puts.others q apart other)) (cases_path q above)
 
   root_apart : (p : List (List ℕ)) → is_under [] (kid p name) ≡ false
   root_apart [] = refl
   root_apart (s ∷ p) = refl
 
   there_above : IsSome (now above)
-  there_above = ap is_some hangs.there
+  there_above = ap is_some puts.there
 
   kid_below : (q : List (List ℕ)) (k : List ℕ) → under q ≡ true → now (kid q k) ≡ from (kid (path_there target source q) k)
-  kid_below q k is = hangs.below (kid q k) (under_kid target q k is) ∙ ap from (there-kid target source q k is)
+  kid_below q k is = puts.below (kid q k) (under_kid target q k is) ∙ ap from (there-kid target source q k is)
 
   parents_now : (q : List (List ℕ)) (k : List ℕ) → IsSome (now (kid q k)) → IsSome (now q)
   parents_now q k there =
       ⊎_elim
-      (λ is. ap is_some (hangs.below q is) ∙ first.parents (path_there target source q) k (sym (ap is_some (kid_below q k is)) ∙ there))
+      (λ is. ap is_some (puts.below q is) ∙ first.parents (path_there target source q) k (sym (ap is_some (kid_below q k is)) ∙ there))
       (λ apart. ⊎_elim
       (λ is. ap (λ p. is_some (now p)) (kid_parent q above k name (under_first target q k is apart)) ∙ there_above)
       (λ beside. kept q apart ∙ old.parents q k (sym (kept (kid q k) beside) ∙ there))
@@ -96,10 +96,10 @@ module _ (from at now : List (List ℕ) → Option Node) (source above : List (L
 
   part_node : (q : List (List ℕ)) (n : Node) → under q ≡ true → now q ≡ Some n → IsNodeOf now q n
   part_node q n is here =
-      let there = sym (hangs.below q is) ∙ here in
+      let there = sym (puts.below q is) ∙ here in
       let before = first.nodes (path_there target source q) n there in
       record {
-        is_a_path = hangs.fits q is (ap is_some there);
+        is_a_path = puts.fits q is (ap is_some there);
         kids = λ k. before.kids k ∙ sym (ap is_some (kid_below q k is));
         distinct = before.distinct;
         apart = before.apart;
@@ -122,7 +122,7 @@ module _ (from at now : List (List ℕ) → Option Node) (source above : List (L
       }
 
   there_target : IsSome (now target)
-  there_target = ap is_some (hangs.below target (under_self target) ∙ ap from (there-self source target)) ∙ hangs.part
+  there_target = ap is_some (puts.below target (under_self target) ∙ ap from (there-self source target)) ∙ puts.part
 
   kids_above : (k : List ℕ) → has_kid (with_kid name node) k ≡ is_some (now (kid above k))
   kids_above k =
@@ -130,17 +130,17 @@ module _ (from at now : List (List ℕ) → Option Node) (source above : List (L
       (λ e. has_kid-with_kid node name k ∙ or_right _ _ e ∙ sym (ap (λ s. is_some (now (kid above s))) (same_text k name (sym e)) ∙ there_target))
       (λ ne.
       let apart : under (kid above k) ≡ false = under_sibling above name k ∙ nat_list_eq_equiv.symm name k ∙ ne in
-      has_kid-with_kid node name k ∙ ap (λ b. has_kid node k || b) ne ∙ or_false (has_kid node k) ∙ (old.nodes above node hangs.was).kids k ∙ sym (kept (kid above k) apart))
+      has_kid-with_kid node name k ∙ ap (λ b. has_kid node k || b) ne ∙ or_false (has_kid node k) ∙ (old.nodes above node puts.was).kids k ∙ sym (kept (kid above k) apart))
       (cases_Bool (pointwise nat_eq k name))
 
   above_node : IsNodeOf now above (with_kid name node)
   above_node =
-      let before = old.nodes above node hangs.was in
+      let before = old.nodes above node puts.was in
       record {
         is_a_path = before.is_a_path;
         kids = kids_above;
-        distinct = IsDistinct-push nat_list_eq_equiv node.kids name before.distinct (before.kids name ∙ ap is_some hangs.free);
-        apart = λ k there. ⊎_elim (λ k_old. before.apart k k_old) (λ k_new. ap (prop_at node) (same_text k name (sym k_new)) ∙ hangs.untaken) (or_cases _ _ (sym (has_kid-with_kid node name k) ∙ there));
+        distinct = IsDistinct-push nat_list_eq_equiv node.kids name before.distinct (before.kids name ∙ ap is_some puts.free);
+        apart = λ k there. ⊎_elim (λ k_old. before.apart k k_old) (λ k_new. ap (prop_at node) (same_text k name (sym k_new)) ∙ puts.untaken) (or_cases _ _ (sym (has_kid-with_kid node name k) ∙ there));
         names = before.names;
       }
 
@@ -150,11 +150,11 @@ module _ (from at now : List (List ℕ) → Option Node) (source above : List (L
       (λ in_part. part_node q n in_part is)
       (λ apart. ⊎_elim
       (λ e.
-      let same : with_kid name node ≡ n = node_unique (with_kid name node) n _ _ hangs.there is (ap now (sym e)) in
+      let same : with_kid name node ≡ n = node_unique (with_kid name node) n _ _ puts.there is (ap now (sym e)) in
       subst (λ (x : Node). IsNodeOf now q x) same (subst (λ (r : List (List ℕ)). IsNodeOf now r (with_kid name node)) (sym e) above_node))
-      (λ other. other_node q n apart other (sym (hangs.others q apart other) ∙ is))
+      (λ other. other_node q n apart other (sym (puts.others q apart other) ∙ is))
       (cases_path q above))
       (cases_Bool (under q))
 
-  pub IsTree-hung : IsTree now
-  IsTree-hung = record { root = kept [] (root_apart above) ∙ old.root; parents = parents_now; nodes = nodes_now }
+  pub IsTree-put_part : IsTree now
+  IsTree-put_part = record { root = kept [] (root_apart above) ∙ old.root; parents = parents_now; nodes = nodes_now }

@@ -12,7 +12,7 @@ use Rattle.std.proofs.lemmas.Map.{lookup-set_value}
 use Rattle.sp_base.specs.Paths.{is_under}
 use Rattle.resource_tree.specs.declared.nodes.Node.{Node}
 use Rattle.resource_tree.specs.declared.patch.PatchNode.{PatchNode}
-use Rattle.resource_tree.specs.declared.patch.PatchNode.TheVariants as there
+use Rattle.resource_tree.specs.declared.patch.PatchNode.TheVariants as patch_node
 use Rattle.resource_tree.specs.Content.{Content, same_path, node_at}
 use Rattle.resource_tree.specs.Patches.{PatchEntries, entry_at, with_entry}
 use Rattle.resource_tree.specs.Moves.{path_there, part_there}
@@ -44,7 +44,7 @@ same_there source target p q under =
     true≢false (sym (ap (same_path q) e ∙ same_path_self q) ∙ other))))
     (cases_Bool (same_path q (path_there source target p)))
 
-one_entry : (u s : Bool) (node : Node) (o : Option Node) → cond (u && s) (Some (there.Node node)) (cond u (option_map there.Node o) None) ≡ cond u (option_map there.Node (cond s (Some node) o)) None
+one_entry : (u s : Bool) (node : Node) (o : Option Node) → cond (u && s) (Some (patch_node.Node node)) (cond u (option_map patch_node.Node o) None) ≡ cond u (option_map patch_node.Node (cond s (Some node) o)) None
 one_entry true true node o = refl
 one_entry true false node o = refl
 one_entry false s node o = refl
@@ -53,19 +53,19 @@ alike : (u : Bool) (o : Option PatchNode) → o ≡ cond u o o
 alike true o = refl
 alike false o = refl
 
-pub entry_at-part_there : (source target q : List (List ℕ)) (tree : Content) → entry_at (part_there tree source target) q ≡ cond (is_under q target) (option_map there.Node (node_at tree (path_there target source q))) None
+pub entry_at-part_there : (source target q : List (List ℕ)) (tree : Content) → entry_at (part_there tree source target) q ≡ cond (is_under q target) (option_map patch_node.Node (node_at tree (path_there target source q))) None
 entry_at-part_there source target q [] = alike (is_under q target) None
 entry_at-part_there source target q (e ∷ tree) =
     let rest = entry_at-part_there source target q tree in
-    elim (is_under e.0 source) as (λ b. is_under e.0 source ≡ b → entry_at (map (λ e. (path_there source target e.0, there.Node e.1)) (cond b (e ∷ filter (λ e. is_under e.0 source) tree) (filter (λ e. is_under e.0 source) tree))) q
-    ≡ cond (is_under q target) (option_map there.Node (cond (same_path (path_there target source q) e.0) (Some e.1) (node_at tree (path_there target source q)))) None) [
-      | true ↦ λ under. ap (λ b. cond b (Some (there.Node e.1)) (entry_at (part_there tree source target) q)) (same_there source target e.0 q under)
-          ∙ ap (cond (is_under q target && same_path (path_there target source q) e.0) (Some (there.Node e.1))) rest
+    elim (is_under e.0 source) as (λ b. is_under e.0 source ≡ b → entry_at (map (λ e. (path_there source target e.0, patch_node.Node e.1)) (cond b (e ∷ filter (λ e. is_under e.0 source) tree) (filter (λ e. is_under e.0 source) tree))) q
+    ≡ cond (is_under q target) (option_map patch_node.Node (cond (same_path (path_there target source q) e.0) (Some e.1) (node_at tree (path_there target source q)))) None) [
+      | true ↦ λ under. ap (λ b. cond b (Some (patch_node.Node e.1)) (entry_at (part_there tree source target) q)) (same_there source target e.0 q under)
+          ∙ ap (cond (is_under q target && same_path (path_there target source q) e.0) (Some (patch_node.Node e.1))) rest
           ∙ one_entry (is_under q target) (same_path (path_there target source q) e.0) e.1 _
       | false ↦ λ apart.
           let beside : same_path (path_there target source q) e.0 ≡ false =
           false_from_ne_true _ (λ is. true≢false (sym (under_there target source q) ∙ ap (λ r. is_under r source) (path_from_same _ e.0 is) ∙ apart)) in
-          rest ∙ sym (ap (λ b. cond (is_under q target) (option_map there.Node (cond b (Some e.1) (node_at tree (path_there target source q)))) None) beside)
+          rest ∙ sym (ap (λ b. cond (is_under q target) (option_map patch_node.Node (cond b (Some e.1) (node_at tree (path_there target source q)))) None) beside)
     ] refl
 
 any_there : (source target q : List (List ℕ)) (paths : List (List (List ℕ))) → ((p : List (List ℕ)) → list_any (same_path p) paths ≡ true → is_under p source ≡ true)
@@ -83,16 +83,16 @@ any_there source target q (p ∷ paths) h =
 
 -- the entries of all the paths are the part
 pub all_there : (tree : Content) (source target q : List (List ℕ)) (paths : List (List (List ℕ))) → ((p : List (List ℕ)) → list_any (same_path p) paths ≡ (is_some (node_at tree p) && is_under p source))
-    → cond (list_any (same_path q) (map (path_there source target) paths)) (option_map there.Node (node_at tree (path_there target source q))) None ≡ entry_at (part_there tree source target) q
+    → cond (list_any (same_path q) (map (path_there source target) paths)) (option_map patch_node.Node (node_at tree (path_there target source q))) None ≡ entry_at (part_there tree source target) q
 all_there tree source target q paths all =
     let back = path_there target source q in
     let any = any_there source target q paths (λ p is. (and_parts (is_some (node_at tree p)) (is_under p source) (sym (all p) ∙ is)).1) in
     let found = all back ∙ ap (λ b. is_some (node_at tree back) && b) (under_there target source q) in
-    ap (λ b. cond b (option_map there.Node (node_at tree back)) None) (any ∙ ap (λ b. is_under q target && b) found)
+    ap (λ b. cond b (option_map patch_node.Node (node_at tree back)) None) (any ∙ ap (λ b. is_under q target && b) found)
     ∙ gone (is_under q target) (node_at tree back)
     ∙ sym (entry_at-part_there source target q tree)
   where
-    gone : (u : Bool) (o : Option Node) → cond (u && (is_some o && true)) (option_map there.Node o) None ≡ cond u (option_map there.Node o) None
+    gone : (u : Bool) (o : Option Node) → cond (u && (is_some o && true)) (option_map patch_node.Node o) None ≡ cond u (option_map patch_node.Node o) None
     gone true None = refl
     gone true (Some n) = refl
     gone false o = refl
@@ -143,26 +143,26 @@ module _ (tree : Content) (source target : List (List ℕ)) (paths : List (List 
 
   -- a loop over the paths that puts the node of each at the target, after one more
   pub put_there : (entries new : PatchEntries) (at_target : List (List ℕ)) (node : Node) (q : List (List ℕ)) → at_target ≡ path_there source target path → node_at tree path ≡ Some node
-      → entry_at entries q ≡ cond (list_any (same_path q) (map (path_there source target) (take i paths))) (option_map there.Node (node_at tree (path_there target source q))) None → new ≡ with_entry entries at_target (there.Node node)
-      → entry_at new q ≡ cond (list_any (same_path q) (map (path_there source target) (take (i + 1) paths))) (option_map there.Node (node_at tree (path_there target source q))) None
+      → entry_at entries q ≡ cond (list_any (same_path q) (map (path_there source target) (take i paths))) (option_map patch_node.Node (node_at tree (path_there target source q))) None → new ≡ with_entry entries at_target (patch_node.Node node)
+      → entry_at new q ≡ cond (list_any (same_path q) (map (path_there source target) (take (i + 1) paths))) (option_map patch_node.Node (node_at tree (path_there target source q))) None
   put_there entries new at_target node q is_target was so_far is =
       let under = (and_parts (is_some (node_at tree path)) (is_under path source) reached).1 in
       let f = path_there source target in
-      let x : Option PatchNode = option_map there.Node (node_at tree (path_there target source q)) in
+      let x : Option PatchNode = option_map patch_node.Node (node_at tree (path_there target source q)) in
       let any : list_any (same_path q) (map f (take (i + 1) paths)) ≡ (list_any (same_path q) (map f (take i paths)) || (same_path q at_target || false)) =
       ap (λ l. list_any (same_path q) (map f l)) one_more ∙ ap (list_any (same_path q)) (map-append f (take i paths) (path ∷ [])) ∙ list_any-append (same_path q) (map f (take i paths)) (f path ∷ [])
       ∙ ap (λ r. list_any (same_path q) (map f (take i paths)) || (same_path q r || false)) (sym is_target) in
       let turn : same_path q at_target ≡ same_path at_target q = (eq_by_cmp_equiv by_path_total).symm q at_target in
-      let here : cond (same_path at_target q) (Some (there.Node node)) (entry_at entries q) ≡ cond (same_path at_target q) x (entry_at entries q) =
+      let here : cond (same_path at_target q) (Some (patch_node.Node node)) (entry_at entries q) ≡ cond (same_path at_target q) x (entry_at entries q) =
       ⊎_elim
       (λ same.
       let e : path_there target source q ≡ path = ap (path_there target source) (sym (path_from_same at_target q same) ∙ is_target) ∙ there-back target source path under in
-      let x_is : Some (there.Node node) ≡ x = sym (ap (λ r. option_map there.Node (node_at tree r)) e ∙ ap (option_map there.Node) was) in
+      let x_is : Some (patch_node.Node node) ≡ x = sym (ap (λ r. option_map patch_node.Node (node_at tree r)) e ∙ ap (option_map patch_node.Node) was) in
       ap (λ o. cond (same_path at_target q) o (entry_at entries q)) x_is)
-      (λ other. ap (λ b. cond b (Some (there.Node node)) (entry_at entries q)) other ∙ sym (ap (λ b. cond b x (entry_at entries q)) other))
+      (λ other. ap (λ b. cond b (Some (patch_node.Node node)) (entry_at entries q)) other ∙ sym (ap (λ b. cond b x (entry_at entries q)) other))
       (cases_Bool (same_path at_target q)) in
       ap (λ (r : PatchEntries). entry_at r q) is
-      ∙ entry_at-with_entry entries at_target q (there.Node node)
+      ∙ entry_at-with_entry entries at_target q (patch_node.Node node)
       ∙ here
       ∙ ap (cond (same_path at_target q) x) so_far
       ∙ ap (λ b. cond b x (cond (list_any (same_path q) (map f (take i paths))) x None)) (sym turn)

@@ -12,7 +12,7 @@ use Rattle.std.proofs.lemmas.Map.Keys.{IsDistinct-from_sorted, IsDistinct-tail}
 use Rattle.std.proofs.lemmas.Map.Entries.{none_past_head}
 use Rattle.indexmap.specs.IndexMap.{insert_entry}
 use Rattle.resource_tree.specs.declared.patch.PatchNode.{PatchNode}
-use Rattle.resource_tree.specs.declared.patch.PatchNode.TheVariants as there
+use Rattle.resource_tree.specs.declared.patch.PatchNode.TheVariants as patch_node
 use Rattle.resource_tree.specs.Content.{Content, by_path, same_path, node_at}
 use Rattle.resource_tree.specs.Patches.{PatchEntries, entry_at, with_entry, over, patching, patching_at, left_by}
 use Rattle.resource_tree.proofs.PathLemmas.{by_path_total, path_from_same}
@@ -33,13 +33,13 @@ with_entry-is (e ∷ entries) path node =
     ]
 
 sorted-over : (tree : Content) (path : List (List ℕ)) (entry : PatchNode) → IsStrictlySortedBy by_path (keys_of tree) → IsStrictlySortedBy by_path (keys_of (over tree path entry))
-sorted-over tree path (there.Node node) sorted = sorted-insert_entry by_path by_path_total tree path node sorted
-sorted-over tree path there.Gone sorted = sorted-remove_entry by_path (same_path path) tree sorted
+sorted-over tree path (patch_node.Node node) sorted = sorted-insert_entry by_path by_path_total tree path node sorted
+sorted-over tree path patch_node.Gone sorted = sorted-remove_entry by_path (same_path path) tree sorted
 
 node_at-over : (tree : Content) (path : List (List ℕ)) (entry : PatchNode) (q : List (List ℕ)) → IsStrictlySortedBy by_path (keys_of tree) → node_at (over tree path entry) q ≡ cond (same_path path q) (left_by (Some entry) (node_at tree q)) (node_at tree q)
-node_at-over tree path (there.Node node) q sorted =
+node_at-over tree path (patch_node.Node node) q sorted =
     lookup-insert_entry by_path by_path_total q path node tree ∙ ap (λ b. cond b (Some node) (node_at tree q)) ((eq_by_cmp_equiv by_path_total).symm q path)
-node_at-over tree path there.Gone q sorted =
+node_at-over tree path patch_node.Gone q sorted =
     let laws = eq_by_cmp_equiv by_path_total in
     lookup-remove_entry laws (same_path path) (laws.congr path) q tree (IsDistinct-from_sorted by_path _ sorted)
 

@@ -15,7 +15,7 @@ use Rattle.sp_base.specs.PathExact.{exact_paths}
 use Rattle.sp_base.specs.Paths.{is_path, is_under}
 use Rattle.resource_tree.specs.declared.nodes.Node.{Node}
 use Rattle.resource_tree.specs.declared.faults.TreeFault.TheVariants.{TooDeep}
-use Rattle.resource_tree.specs.declared.patch.PatchNode.TheVariants as there
+use Rattle.resource_tree.specs.declared.patch.PatchNode.TheVariants as patch_node
 use Rattle.resource_tree.specs.Content.{Content, IsGood, by_path, same_path, node_at, kid, prop_at, parent_of, name_of, empty_node}
 use Rattle.resource_tree.specs.Changes.{change_at, with_kid, without_kid, has_prop_at, removal, removal_at}
 use Rattle.resource_tree.specs.Patches.{left_by}
@@ -29,7 +29,7 @@ use Rattle.resource_tree.proofs.Creation.{no_fault, none_from, some_from, IsGood
 use Rattle.resource_tree.proofs.Removal.{node_at-removal, IsTree-removal}
 use Rattle.resource_tree.proofs.Under.{under_root, under_kid, under_own_kid, under_self}
 use Rattle.resource_tree.proofs.Without.{keys_of-filter}
-use Rattle.resource_tree.proofs.Copying.{Hangs, IsTree-hung}
+use Rattle.resource_tree.proofs.Copying.{PutsPart, IsTree-put_part}
 use Rattle.resource_tree.proofs.PartThere.{entry_at-part_there, under_there}
 use Rattle.resource_tree.proofs.CopyParts.{once_there, length-patching}
 use Rattle.resource_tree.proofs.Copied.{IsFree, is_free, sorted-change_at, left_none, parts, free_below, parent_apart, is_a_path}
@@ -148,7 +148,7 @@ module _ (tree : Content) (source target : List (List ℕ)) (good : IsGood tree)
   node_at-relocation q =
       node_at-patching named (part_there tree source target) q sorted-named (once_there source target tree good.ordered)
       ∙ ap (λ r. left_by r (node_at named q)) (entry_at-part_there source target q tree)
-      ∙ ap (λ o. left_by (cond (is_under q target) (option_map there.Node (node_at tree (path_there target source q))) None) o)
+      ∙ ap (λ o. left_by (cond (is_under q target) (option_map patch_node.Node (node_at tree (path_there target source q))) None) o)
       (node_at-change_at from (parent_of target) (with_kid (name_of target)) q ∙ ap (λ o. cond (same_path (parent_of target) q) (option_map (with_kid (name_of target)) o) o) (node_at-removal tree source q))
       ∙ ⊎_elim
       (λ under. let apart = parent_apart tree source target good can.free q under in let free = gone_below q under in rw (under, apart, free) (left_none (node_at tree (path_there target source q))))
@@ -238,8 +238,8 @@ module _ (tree : Content) (source target : List (List ℕ)) (good : IsGood tree)
   beside q outside other = node_at-relocation q ∙ (let elsewhere = same_path_apart (parent_of target) q (λ e. other (sym e)) in rw (outside, elsewhere)) ∙ sym (node_at-removal tree source q)
 
   module _ (fits : is_too_deep tree source target ≡ false) where
-    hangs : Hangs (node_at tree) (node_at from) (node_at (relocation tree source target)) source (parent_of target) (name_of target) above
-    hangs = record {
+    puts : PutsPart (node_at tree) (node_at from) (node_at (relocation tree source target)) source (parent_of target) (name_of target) above
+    puts = record {
       part = can.free.source_there;
       fits = subst (λ (p : List (List ℕ)). (q : List (List ℕ)) → is_under q p ≡ true → IsSome (node_at tree (path_there p source q)) → IsTrue (is_path q)) (sym target_parts) (is_a_path tree source target good can.free fits);
       was = above_is;
@@ -260,4 +260,4 @@ module _ (tree : Content) (source target : List (List ℕ)) (good : IsGood tree)
         let four = length-parts tree source in
         let most = good.size in
         IsGood-from new (relocation tree source target) same sorted (omega (arith, one, two, three, four, most))
-        (IsTree-hung (node_at tree) (node_at from) (node_at (relocation tree source target)) source (parent_of target) (name_of target) above good.shape (IsTree-removal tree source good.shape (record { there = can.free.source_there; not_root = can.source_not_root })) hangs)
+        (IsTree-put_part (node_at tree) (node_at from) (node_at (relocation tree source target)) source (parent_of target) (name_of target) above good.shape (IsTree-removal tree source good.shape (record { there = can.free.source_there; not_root = can.source_not_root })) puts)

@@ -1,11 +1,10 @@
 -- A tree stays a tree where a node is put in another place among its parent's kids.
 use Rattle.std.proofs.Common.{◌≡◌, ◌≢◌, ◌-◌, ℕ, List, [], sym, ◌∙◌, ap, Some, None, ◌==◌, length}
-use Rattle.std.specs.Prelude.{is_some, is_none, IsSome, unwrap_or, slice_get}
+use Rattle.std.specs.Prelude.{is_some, is_none, IsSome, unwrap_or}
 use Rattle.std.specs.Option.{option_map_or}
 use Rattle.std.specs.List.Sorted.{IsStrictlySortedBy}
 use Rattle.std.specs.Map.{keys_of, set_value}
 use Rattle.std.proofs.lemmas.Bool.{true≢false}
-use Rattle.std.proofs.lemmas.Option.{get_or_from_slice_get}
 use Rattle.resource_tree.specs.declared.nodes.Node.{Node}
 use Rattle.resource_tree.specs.declared.places.Place.{Place}
 use Rattle.resource_tree.specs.Content.{by_path, same_path, kid, IsTree, IsGood, node_at, Content, empty_node, parent_of, name_of}
@@ -53,12 +52,6 @@ reordering_named old tree path parent place name kids new_kids good can same abo
     ∙ ap (λ p. change_at tree p (with_kids new_kids)) above
     ∙ change_at-same tree (parent_of path) (unwrap_or (node_at tree (parent_of path)) empty_node) (with_kids new_kids) (with_order (name_of path) place) was
     (ap (λ o. with_kids (unwrap_or o (unwrap_or (node_at tree (parent_of path)) empty_node).kids) (unwrap_or (node_at tree (parent_of path)) empty_node)) in_place)
-
--- the same where the name is the path's last segment
-pub reordering_from : (old tree : Content) (path parent : List (List ℕ)) (place : Place) (name : List ℕ) (kids new_kids : List (List ℕ)) → IsTree (node_at tree) → CanMove tree path → old ≡ tree → parent ≡ parent_of path
-    → Some name ≡ slice_get path (length path - 1) → kids ≡ kids_at old parent → Some new_kids ≡ kids_in_order name place kids → change_at old parent (with_kids new_kids) ≡ reordering tree path place
-reordering_from old tree path parent place name kids new_kids good can same above last =
-    reordering_named old tree path parent place name kids new_kids good can same above (sym (get_or_from_slice_get path (length path - 1) name [] (sym last)))
 
 -- the content with the kid in its place is good
 pub IsGood-reordering : (new tree : Content) (path : List (List ℕ)) (place : Place) → IsGood tree → CanMove tree path → new ≡ reordering tree path place → IsStrictlySortedBy by_path (keys_of new) → IsGood new

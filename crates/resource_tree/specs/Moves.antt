@@ -5,7 +5,7 @@ use Rattle.sp_base.specs.Paths.{is_path, is_under}
 use Rattle.resource_tree.specs.declared.nodes.Node.{Node}
 use Rattle.resource_tree.specs.declared.faults.TreeFault.{TreeFault}
 use Rattle.resource_tree.specs.declared.faults.TreeFault.TheVariants.{NoSuch, RootFixed, IntoItself, Exists, Taken, TooDeep, FullTree}
-use Rattle.resource_tree.specs.declared.patch.PatchNode.TheVariants as there
+use Rattle.resource_tree.specs.declared.patch.PatchNode.TheVariants as patch_node
 use Rattle.resource_tree.specs.Content.{Content, most_nodes, same_path, node_at, parent_of, name_of}
 use Rattle.resource_tree.specs.Changes.{change_at, with_kid, has_prop_at, removal, removal_at}
 use Rattle.resource_tree.specs.Patches.{PatchEntries, patching}
@@ -20,7 +20,7 @@ part tree path = filter (λ e. is_under e.0 path) tree
 
 -- the same at the target
 abbrev pub part_there : Content → List (List ℕ) → List (List ℕ) → PatchEntries
-part_there tree source target = map (λ e. (path_there source target e.0, there.Node e.1)) (part tree source)
+part_there tree source target = map (λ e. (path_there source target e.0, patch_node.Node e.1)) (part tree source)
 
 -- the content with the nodes at the source and under it at the target too, which its parent names last
 abbrev pub copy : Content → List (List ℕ) → List (List ℕ) → Content

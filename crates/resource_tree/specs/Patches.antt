@@ -4,7 +4,7 @@ use Rattle.std.specs.BTreeMap.{insert_entry}
 use Rattle.std.specs.Map.{lookup, set_value, remove_entry}
 use Rattle.resource_tree.specs.declared.nodes.Node.{Node}
 use Rattle.resource_tree.specs.declared.patch.PatchNode.{PatchNode}
-use Rattle.resource_tree.specs.declared.patch.PatchNode.TheVariants as there
+use Rattle.resource_tree.specs.declared.patch.PatchNode.TheVariants as patch_node
 use Rattle.resource_tree.specs.Content.{Content, by_path, same_path, node_at}
 
 -- what is to stand at each path of a patch, each path once, in the order in which they were first put
@@ -21,8 +21,8 @@ with_entry entries path node = if is_some (entry_at entries path) then set_value
 
 -- the content with one entry over it
 abbrev pub over : Content → List (List ℕ) → PatchNode → Content
-over tree path (there.Node node) = insert_entry by_path tree path node
-over tree path there.Gone = remove_entry (same_path path) tree
+over tree path (patch_node.Node node) = insert_entry by_path tree path node
+over tree path patch_node.Gone = remove_entry (same_path path) tree
 
 -- the content with a patch over it
 abbrev pub patching : Content → PatchEntries → Content
@@ -32,8 +32,8 @@ patching tree (entry ∷ entries) = patching (over tree entry.0 entry.1) entries
 -- the node that an entry leaves at its path, where there is an entry
 abbrev pub left_by : Option PatchNode → Option Node → Option Node
 left_by None old = old
-left_by (Some (there.Node node)) old = Some node
-left_by (Some there.Gone) old = None
+left_by (Some (patch_node.Node node)) old = Some node
+left_by (Some patch_node.Gone) old = None
 
 -- the content with a patch over it by look-ups
 abbrev pub patching_at : Content → PatchEntries → List (List ℕ) → Option Node

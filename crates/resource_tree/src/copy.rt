@@ -1,10 +1,10 @@
 // A node that is copied with all below it to another path.
-ghost use Rattle.std.specs.Prelude.{◌≡◌, ◌≢◌, ◌≤◌, ◌+◌, ◌∷◌, [], ◌++◌, ◌&&◌, ℕ, Bool, List, None, Some, OnOk, OnErr, IfOk, IfErr, IsTrue, is_some, length, not, true, false};
-ghost use Rattle.std.specs.List.{list_any, list_all, IsDistinct};
+ghost use Rattle.std.specs.Prelude.{◌≡◌, ◌≢◌, ◌+◌, ◌∷◌, [], ◌++◌, ◌&&◌, ℕ, List, None, Some, OnOk, OnErr, IfOk, IfErr, is_some, not, true, false};
+ghost use Rattle.std.specs.List.{list_any, IsDistinct};
 ghost use Rattle.std.specs.List.Sorted.{IsStrictlySortedBy};
 ghost use Rattle.std.specs.Map.{keys_of};
 ghost use Rattle.std.specs.Ordering.{eq_by_cmp};
-ghost use Rattle.sp_base.specs.Paths.{is_path, is_under, path_or_none};
+ghost use Rattle.sp_base.specs.Paths.{is_path, is_under};
 ghost use Rattle.resource_tree.specs.declared.patch.PatchNode.{PatchNode};
 ghost use Rattle.resource_tree.specs.declared.nodes.Node.{Node};
 ghost use Rattle.resource_tree.specs.Content.{IsGood, by_path, node_at, same_path, parent_of};
@@ -12,7 +12,7 @@ ghost use Rattle.resource_tree.specs.Changes.{change_at, with_kids};
 ghost use Rattle.resource_tree.specs.Patches.{entry_at, with_entry, patching};
 ghost use Rattle.resource_tree.specs.Moves.{copy, copy_at, copy_fault, part_size_fault, part_there, path_there, target_fault};
 
-use crate::create::{MOST_NODES, last_segment};
+use crate::create::MOST_NODES;
 use crate::faults::{name_taken, no_such, node_exists};
 use crate::order::{kids_at, set_kids};
 use crate::part::paths_under;
@@ -34,7 +34,7 @@ impl Tree {
     {
         let parent = target.parent(alloc)?;
         self.check_target(alloc, source, target, &parent)?;
-        copy_under(&mut self.nodes, alloc, source, target, &parent)
+        copy_part(&mut self.nodes, alloc, source, target, &parent)
     }
 
     // Whether a path is free for a copy.
@@ -64,7 +64,7 @@ impl Tree {
         if self.nodes.contains_key(target) {
             return Err(node_exists(alloc, target));
         }
-        if above.props.get(last_segment(target)).is_some() {
+        if above.props.get(target.name()).is_some() {
             return Err(name_taken(alloc, target));
         }
         Ok(())
@@ -72,7 +72,7 @@ impl Tree {
 }
 
 // Copies a node and all below it to a path that is free for it, where they fit.
-fn copy_under(
+fn copy_part(
     nodes: &mut Nodes,
     alloc: Global,
     source: &Path,
@@ -88,14 +88,14 @@ fn copy_under(
     ensures err { IfErr result (λ e. e ≢ TreeFault.NoMemory → copy_fault nodes.old.entries source.now target.now ≡ Some e) }
     ensures unchanged { OnErr result (nodes.new.entries ≡ nodes.old.entries) }
 {
-    let kids = kids_and(alloc, kids_at(nodes, parent), last_segment(target))?;
+    let kids = kids_and(alloc, kids_at(nodes, parent), target.name())?;
     let part = part_that_fits(nodes, alloc, source, target)?;
-    hang(nodes, part, parent, kids)?;
+    put_part(nodes, part, parent, kids)?;
     Ok(())
 }
 
 // Puts a part over the nodes, and gives the node at a path other kids.
-fn hang(nodes: &mut Nodes, part: Patch, parent: &Path, kids: TextList) -> Mem<()>
+fn put_part(nodes: &mut Nodes, part: Patch, parent: &Path, kids: TextList) -> Mem<()>
     ensures once { IsDistinct (eq_by_cmp by_path) (keys_of part) }
     ensures ok { OnOk result (nodes.new.entries ≡ change_at (patching nodes.old.entries part) parent.now (with_kids kids)) }
     ensures err { OnErr result (nodes.new.entries ≡ nodes.old.entries) }
@@ -114,7 +114,6 @@ fn part_that_fits(
     source: &Path,
     target: &Path,
 ) -> Result<Patch, TreeFault>
-    requires valid { IsTrue (is_path target.now) }
     requires good { IsGood nodes.now.entries }
     requires there { is_some (node_at nodes.now.entries source.now) ≡ true }
     ensures ok { IfOk result (λ part. (q : List (List ℕ)) → entry_at part q ≡ entry_at (part_there nodes.now.entries source.now target.now) q) }
@@ -141,29 +140,6 @@ fn kids_and(alloc: Global, kids: &[TextBuf], name: &str) -> Mem<TextList>
     Ok(TextList::from(more))
 }
 
-// The path at the target of one at the source or under it, if it has at most `MOST_SEGMENTS` segments.
-pub(crate) fn path_there(
-    alloc: Global,
-    source: &Path,
-    target: &Path,
-    path: &Path,
-) -> Mem<Option<Path>>
-    requires { IsTrue (is_path target.now) }
-    ensures { IfOk result (λ o. o ≡ path_or_none (path_there source.now target.now path.now)) }
-{
-    let mut there = target.duplicate(alloc)?;
-    for n in source.depth()..path.depth() {
-        let Some(segment) = path.seg(n) else {
-            return Ok(None);
-        };
-        let Some(below) = there.child_or_none(alloc, segment)? else {
-            return Ok(None);
-        };
-        there = below;
-    }
-    Ok(Some(there))
-}
-
 // The nodes at some paths, which are all those at the source and under it, at the target.
 fn part_there(
     nodes: &Nodes,
@@ -172,7 +148,6 @@ fn part_there(
     target: &Path,
     paths: &[Path],
 ) -> Result<Patch, TreeFault>
-    requires target { IsTrue (is_path target.now) }
     requires all { (q : List (List ℕ)) → list_any (same_path q) paths.now ≡ (is_some (node_at nodes.now.entries q) && is_under q source.now) }
     ensures ok { IfOk result (λ part. (q : List (List ℕ)) → entry_at part q ≡ entry_at (part_there nodes.now.entries source.now target.now) q) }
     ensures fits { OnOk result (list_any (λ p. not (is_path (path_there source.now target.now p))) paths.now ≡ false) }
@@ -194,12 +169,11 @@ fn put_copy(
     target: &Path,
     path: &Path,
 ) -> Result<(), TreeFault>
-    requires { IsTrue (is_path target.now) }
     ensures ok { OnOk result ((node : Node) → node_at nodes.now.entries path.now ≡ Some node → part.new ≡ with_entry part.old (path_there source.now target.now path.now) (PatchNode.Node node)) }
     ensures fits { OnOk result (is_path (path_there source.now target.now path.now) ≡ true) }
     ensures err { IfErr result (λ e. e ≢ TreeFault.NoMemory → (e ≡ TreeFault.TooDeep) × (is_path (path_there source.now target.now path.now) ≡ false)) }
 {
-    let Some(there) = path_there(alloc, source, target, path)? else {
+    let Some(there) = target.join_rest_or_none(alloc, path, source.depth())? else {
         return Err(TreeFault::TooDeep);
     };
     let Some(node) = nodes.get(path) else {

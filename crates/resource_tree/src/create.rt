@@ -4,7 +4,7 @@ ghost use Rattle.std.specs.BTreeMap.{insert_entry};
 ghost use Rattle.std.specs.List.Sorted.{IsStrictlySortedBy};
 ghost use Rattle.std.specs.Map.{keys_of};
 ghost use Rattle.sp_base.specs.Paths.{is_path};
-ghost use Rattle.resource_tree.specs.Content.{by_path, node_at, parent_of, name_of, empty_node, leaf, HasSegmentNames};
+ghost use Rattle.resource_tree.specs.Content.{by_path, node_at, parent_of, empty_node, leaf, HasSegmentNames};
 ghost use Rattle.resource_tree.specs.Changes.{change_at, create_fault, creation, creation_at, with_kid};
 
 use crate::faults::{name_taken, no_such, node_exists};
@@ -57,24 +57,13 @@ impl Tree {
         if self.nodes.contains_key(path) {
             return Err(node_exists(alloc, path));
         }
-        if above.props.get(last_segment(path)).is_some() {
+        if above.props.get(path.name()).is_some() {
             return Err(name_taken(alloc, path));
         }
         if self.nodes.len() >= MOST_NODES {
             return Err(TreeFault::FullTree);
         }
         Ok(())
-    }
-}
-
-// The last segment of a path. The root has none, and an empty text stands for it.
-pub(crate) fn last_segment(path: &Path) -> &str
-    ensures valid { IsTrue (is_path path.now) }
-    ensures segment { result.now ≡ name_of path.now }
-{
-    match path.seg(path.depth().saturating_sub(1)) {
-        Some(segment) => segment,
-        None => "",
     }
 }
 
@@ -93,7 +82,7 @@ fn add_leaf(
     ensures err { OnErr result (nodes.new.entries ≡ nodes.old.entries) }
     ensures ordered { OnOk result (IsStrictlySortedBy by_path (keys_of nodes.new.entries)) }
 {
-    let name = TextBuf::of(alloc, last_segment(path))?;
+    let name = TextBuf::of(alloc, path.name())?;
     add_node(nodes, alloc, path, Node::leaf(alloc, props), parent, name)
 }
 

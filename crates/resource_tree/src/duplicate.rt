@@ -30,6 +30,7 @@ impl Tree {
     }
 }
 
+// A copy of the nodes.
 fn copied(alloc: Global, nodes: &Nodes) -> Mem<Nodes>
     ensures { IfOk result (λ copy. copy.entries ≡ nodes.now.entries) }
 {
@@ -40,6 +41,7 @@ fn copied(alloc: Global, nodes: &Nodes) -> Mem<Nodes>
     Ok(copy)
 }
 
+// Adds a copy of a node at a path.
 fn insert_copy(nodes: &mut Nodes, alloc: Global, path: &Path, node: &Node) -> Mem<()>
     ensures { OnOk result (nodes.new.entries ≡ insert_entry by_path nodes.old.entries path.now node.now) }
 {

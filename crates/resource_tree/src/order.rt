@@ -1,12 +1,10 @@
 // Kids in another place among their parent's.
-ghost use Rattle.std.specs.Prelude.{◌≡◌, ◌≢◌, ◌≤◌, ◌-◌, ℕ, List, None, Some, OnOk, OnErr, IfOk, IfErr, IsTrue, length, unwrap_or};
+ghost use Rattle.std.specs.Prelude.{◌≡◌, ◌≢◌, ◌≤◌, ◌-◌, ℕ, List, None, Some, OnOk, OnErr, IfErr};
 ghost use Rattle.std.specs.List.Sorted.{IsStrictlySortedBy};
 ghost use Rattle.std.specs.Map.{keys_of};
-ghost use Rattle.sp_base.specs.Paths.{is_path};
 ghost use Rattle.resource_tree.specs.Content.{IsGood, by_path, node_at, parent_of};
 ghost use Rattle.resource_tree.specs.Changes.{change_at, fixed_fault, kids_at, order_fault, reordering, reordering_at, with_kids};
 
-use crate::create::last_segment;
 use crate::faults::no_such;
 use crate::kids::kids_in_order;
 use crate::table::Nodes;
@@ -60,7 +58,7 @@ fn put_in_order(
     ensures unchanged { OnErr result (nodes.new.entries ≡ nodes.old.entries) }
     ensures good { IsGood nodes.new.entries }
 {
-    let name = last_segment(path);
+    let name = path.name();
     let Some(kids) = kids_in_order(alloc, kids_at(nodes, parent), name, place)? else {
         return Err(TreeFault::NoSibling);
     };

@@ -1,5 +1,5 @@
 // A node that is moved with all below it to another path.
-ghost use Rattle.std.specs.Prelude.{◌≡◌, ◌≢◌, ◌≤◌, ◌+◌, ◌<◌, ℕ, List, None, Some, OnOk, OnErr, IfOk, IfErr, IsTrue, length, map, not, true, false};
+ghost use Rattle.std.specs.Prelude.{◌≡◌, ◌≢◌, ◌≤◌, ◌+◌, ◌<◌, ℕ, List, None, Some, OnOk, OnErr, IfOk, IfErr, length, map, not, true, false};
 ghost use Rattle.std.specs.List.{list_any};
 ghost use Rattle.std.specs.List.Sorted.{IsStrictlySortedBy};
 ghost use Rattle.std.specs.Map.{keys_of};
@@ -8,8 +8,7 @@ ghost use Rattle.resource_tree.specs.Content.{IsGood, by_path, name_of, node_at,
 ghost use Rattle.resource_tree.specs.Moves.{ends_fault, move_fault, path_there, relocation, relocation_at};
 ghost use Rattle.resource_tree.specs.Parts.{both_paths, rekeying_once, rekeying, renaming_at};
 
-use crate::copy::path_there;
-use crate::create::{add_kid, last_segment};
+use crate::create::add_kid;
 use crate::faults::no_such;
 use crate::kids::other_kids;
 use crate::order::{kids_at, set_kids};
@@ -32,7 +31,7 @@ impl Tree {
     {
         let parent = target.parent(alloc)?;
         self.check_ends(alloc, source, target, &parent)?;
-        move_under(&mut self.nodes, alloc, source, target, &parent)
+        move_part(&mut self.nodes, alloc, source, target, &parent)
     }
 
     // Whether a node may go to a path.
@@ -61,7 +60,7 @@ impl Tree {
 }
 
 // Moves a node and all below it to a path where it may go, if they fit.
-fn move_under(
+fn move_part(
     nodes: &mut Nodes,
     alloc: Global,
     source: &Path,
@@ -77,11 +76,11 @@ fn move_under(
     ensures err { IfErr result (λ e. e ≢ TreeFault.NoMemory → move_fault nodes.old.entries source.now target.now ≡ Some e) }
     ensures unchanged { OnErr result (nodes.new.entries ≡ nodes.old.entries) }
 {
-    let name = last_segment(target);
+    let name = target.name();
     let paths = paths_under(nodes, alloc, source)?;
     let paths = with_targets(alloc, source, target, paths)?;
     nodes.make_room(paths.len())?;
-    rename_end(nodes, alloc, source, parent, name)?;
+    rename_node(nodes, alloc, source, parent, name)?;
     rekey_all(nodes, paths);
     Ok(())
 }
@@ -93,14 +92,13 @@ fn with_targets(
     target: &Path,
     paths: Vec<Path>,
 ) -> Result<Vec<(Path, Path)>, TreeFault>
-    requires { IsTrue (is_path target.now) }
     ensures ok { IfOk result (λ both. both.items ≡ map (both_paths source.now target.now) paths.items) }
     ensures fits { OnOk result (list_any (λ p. not (is_path (path_there source.now target.now p))) paths.items ≡ false) }
     ensures err { IfErr result (λ e. e ≢ TreeFault.NoMemory → (e ≡ TreeFault.TooDeep) × (list_any (λ p. not (is_path (path_there source.now target.now p))) paths.items ≡ true)) }
 {
     let mut both = Vec::new(alloc);
     for path in paths {
-        let Some(there) = path_there(alloc, source, target, &path)? else {
+        let Some(there) = target.join_rest_or_none(alloc, &path, source.depth())? else {
             return Err(TreeFault::TooDeep);
         };
         both.push((path, there))?;
@@ -109,7 +107,13 @@ fn with_targets(
 }
 
 // Takes a path's name from its parent's kids, and adds another to the kids of the same or another node.
-fn rename_end(nodes: &mut Nodes, alloc: Global, source: &Path, parent: &Path, name: &str) -> Mem<()>
+fn rename_node(
+    nodes: &mut Nodes,
+    alloc: Global,
+    source: &Path,
+    parent: &Path,
+    name: &str,
+) -> Mem<()>
     ensures ok { OnOk result ((q : List (List ℕ)) → node_at nodes.new.entries q ≡ renaming_at nodes.old.entries (parent_of source.now) (name_of source.now) parent.now name.now q) }
     ensures err { OnErr result (nodes.new.entries ≡ nodes.old.entries) }
     ensures ordered { OnOk result (IsStrictlySortedBy by_path (keys_of nodes.new.entries)) }
@@ -117,14 +121,7 @@ fn rename_end(nodes: &mut Nodes, alloc: Global, source: &Path, parent: &Path, na
 {
     let old_parent = source.parent(alloc)?;
     let name = TextBuf::of(alloc, name)?;
-    rename_kid(
-        nodes,
-        alloc,
-        &old_parent,
-        last_segment(source),
-        parent,
-        name,
-    )
+    rename_kid(nodes, alloc, &old_parent, source.name(), parent, name)
 }
 
 // Takes a kid's name from one node, and adds another to the kids of the same or another node.

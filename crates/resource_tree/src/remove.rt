@@ -7,7 +7,6 @@ ghost use Rattle.sp_base.specs.Paths.{is_under};
 ghost use Rattle.resource_tree.specs.Content.{IsGood, by_path, node_at, parent_of, same_path};
 ghost use Rattle.resource_tree.specs.Changes.{fixed_fault, removal, removal_at, without_under};
 
-use crate::create::last_segment;
 use crate::kids::other_kids;
 use crate::order::{kids_at, set_kids};
 use crate::part::paths_under;
@@ -27,13 +26,13 @@ impl Tree {
     {
         let parent = path.parent(alloc)?;
         self.check_fixed(alloc, path)?;
-        cut(&mut self.nodes, alloc, path, &parent)?;
+        remove_part(&mut self.nodes, alloc, path, &parent)?;
         Ok(())
     }
 }
 
 // Takes the nodes at a path and under it away, and its name from its parent's kids.
-fn cut(nodes: &mut Nodes, alloc: Global, path: &Path, parent: &Path) -> Mem<()>
+fn remove_part(nodes: &mut Nodes, alloc: Global, path: &Path, parent: &Path) -> Mem<()>
     requires good { IsGood nodes.old.entries }
     requires fixed { fixed_fault nodes.old.entries path.now ≡ None }
     requires parent { parent.now ≡ parent_of path.now }
@@ -42,7 +41,7 @@ fn cut(nodes: &mut Nodes, alloc: Global, path: &Path, parent: &Path) -> Mem<()>
     ensures good { IsGood nodes.new.entries }
 {
     let paths = paths_under(nodes, alloc, path)?;
-    let kids = other_kids(alloc, kids_at(nodes, parent), last_segment(path))?;
+    let kids = other_kids(alloc, kids_at(nodes, parent), path.name())?;
     set_kids(nodes, parent, TextList::from(kids));
     drop_nodes(nodes, path, &paths);
     Ok(())

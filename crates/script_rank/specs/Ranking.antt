@@ -1,4 +1,4 @@
--- The scripts that may answer a request, and which of them ranks first (Apache Sling, "Servlets and Scripts").
+-- The scripts that may answer a request, and which of them ranks first (Apache Sling, "Servlets and Scripts", "Script Naming Conventions").
 use Rattle.std.specs.Prelude.{◌≡◌, ◌<◌, ◌≤◌, ◌&&◌, ◌⊎◌, ◌++◌, ◌∷◌, [], ℕ, Bool, true, false, IsTrue, is_some, nat_eq, List, Option, Some, None, option_and_then, Result, Ok, Err, codes, flat_map, length, slice_get, take}
 use Rattle.std.specs.Cmp.Lexicographic.{pointwise}
 use Rattle.sp_base.specs.Paths.{child_of, path_of, text_of}
@@ -94,8 +94,8 @@ pub record Key : Type 0 where
   pub place : ℕ
   pub spelling : ℕ
 
--- A candidate for a request with an extension: a script whose path is spelled by a place of a type of the chain, a slash, a spelling and `.html`.
--- Each spelling begins with a slash.
+-- A candidate for a request with an extension: a script whose path is spelled by a place of a type of the chain, a spelling, which begins with
+-- a slash, and `.html`.
 pub record Candidate (tree : Content) (chain : List TypeName) (parts : Parts) (path : List (List ℕ)) (key : Key) : Type 0 where
   pub type : TypeName
   pub place : List (List ℕ)

@@ -6,5 +6,6 @@ pub mod PathOrder
 pub mod PathFaults
 pub mod PathParts
 pub mod PathPrefixes
+pub mod PathRest
 pub mod MangledLemmas
 pub mod TextBytes

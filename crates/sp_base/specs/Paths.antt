@@ -1,5 +1,5 @@
 -- What a path is, the text that spells it, and what is made of one.
-use Rattle.std.specs.Prelude.{◌==◌, ◌&&◌, ◌||◌, ◌++◌, ◌-◌, ℕ, Bool, not, nat_eq, nat_lt, nat_le, if◌then◌else◌, List, [], ◌∷◌, Option, Some, None, Result, Ok, Err, codes, drop, take, length, flat_map, map}
+use Rattle.std.specs.Prelude.{◌==◌, ◌&&◌, ◌||◌, ◌++◌, ◌-◌, ℕ, Bool, not, nat_eq, nat_lt, nat_le, if◌then◌else◌, List, [], ◌∷◌, Option, Some, None, Result, Ok, Err, codes, drop, take, length, flat_map, map, slice_index_or}
 use Rattle.std.specs.List.{list_any, list_all, position, slice_split, starts_with}
 use Rattle.std.specs.Cmp.Lexicographic.{pointwise, slice_cmp}
 use Rattle.std.specs.Ordering.{nat_cmp}
@@ -85,6 +85,10 @@ join_of segs rest = path_or_fault (segs ++ rest)
 -- the path without its last segment: the root's parent is the root
 abbrev pub parent_of : List (List ℕ) → List (List ℕ)
 parent_of segs = take (length segs - 1) segs
+
+-- the last segment, which names what is at the path; empty for the root
+abbrev pub name_of : List (List ℕ) → List ℕ
+name_of segs = slice_index_or segs (length segs - 1) []
 
 -- the text that spells a path
 abbrev pub text_of : List (List ℕ) → List ℕ

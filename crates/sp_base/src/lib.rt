@@ -11,6 +11,7 @@ mod memory;
 mod order;
 mod path;
 mod path_parts;
+mod path_rest;
 mod property_list;
 mod segments;
 mod text;

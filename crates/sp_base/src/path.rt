@@ -6,14 +6,14 @@ ghost use Rattle.std.specs.Ordering.{nat_cmp, eq_by_cmp};
 ghost use Rattle.std.proofs.lemmas.Cmp.{eq_by_cmp_equiv};
 ghost use Rattle.std.specs.Hash as fed;
 ghost use Rattle.sp_base.specs.PathExact.{fed_alike};
-ghost use Rattle.sp_base.specs.Paths.{most_segments, seg_ok, path_of, child_of, join_of, parent_of, text_of, unmangled_segs, mangled_of, is_under, is_path, fault_of, path_or_fault};
+ghost use Rattle.sp_base.specs.Paths.{most_segments, name_of, seg_ok, path_of, child_of, join_of, parent_of, text_of, unmangled_segs, mangled_of, is_under, is_path, fault_of, path_or_fault};
 ghost use Rattle.sp_base.specs.PathTexts.{segs_in, spelling_of};
 ghost use Rattle.sp_base.specs.declared.path.PathFault.TheVariants.{NoMemory as no_memory};
 
 use crate::order::text_order;
 use crate::segments::{
-    after_slash, fault_after, fault_in, first_pieces, glued, piece_at, pieces_mangled,
-    pieces_unmangled, size_fault, slashes, text_under,
+    after_slash, fault_after, fault_in, first_pieces, glued, last_segment, piece_at,
+    pieces_mangled, pieces_unmangled, size_fault, slashes, text_under,
 };
 use crate::{Mem, NoMemory, TextBuf};
 use std::alloc::{AllocError, AllocFailed, Global};
@@ -216,6 +216,17 @@ impl Path {
         ensures valid { IsTrue (is_path self.now) }
     {
         slashes(self.text.as_str())
+    }
+
+    /// The last segment, which names what is at the path; empty for the root.
+    pub fn name(&self) -> &str
+        ensures name { result.now ≡ name_of self.now }
+        ensures valid { IsTrue (is_path self.now) }
+    {
+        match last_segment(self.text.as_str()) {
+            Some(segment) => segment,
+            None => "",
+        }
     }
 
     /// Whether the path begins with all segments of the other.

@@ -22,7 +22,8 @@ impl Path {
         last_segment(self.spelling())
     }
 
-    /// The path with one segment more, where that is a path: where the name may be a segment and there are fewer than 64.
+    /// The path with one segment more, where that is a path: where the name may be a segment and there are fewer than
+    /// `MOST_SEGMENTS`.
     pub fn child_or_none(&self, alloc: Global, name: &str) -> Mem<Option<Path>>
         ensures { IfOk result (λ o. o ≡ path_or_none (self.now ++ name.now ∷ [])) }
     {

@@ -1,5 +1,5 @@
 //! The stamps of folders: a .stat file in a folder outdates the pages below it that are older (Adobe Dispatcher manual,
-//! "Invalidating files by folder level").
+//! "Invalidating Files by Folder Level").
 #![tactic(auto)]
 
 mod laws;

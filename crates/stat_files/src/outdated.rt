@@ -12,7 +12,7 @@ fn is_older(stamp: Stamp, other: Stamp) -> bool
 }
 
 /// Whether the stamp of a page's .stat file, where there is one, outdates the page: it isn't older than the page's own. The .stat file is
-/// that of the first `stat_depth` segments of the page's folder, and is asked only for a page that .stat files outdate.
+/// that of as many first segments of the page's folder as `stat_depth` of `cover_rules` says, and is asked only for a page that .stat files outdate.
 pub fn outdates_page(stat: Option<Stamp>, page: Stamp) -> bool
     ensures { result ≡ spec.outdates_page stat page }
 {

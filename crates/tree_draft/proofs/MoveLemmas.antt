@@ -37,10 +37,10 @@ deep_from tree source target paths listed deep all same is =
     sym (any_same source (λ p. not (is_path (path_there source target p))) tree paths all) ∙ ap (list_any (λ p. not (is_path (path_there source target p)))) (sym same) ∙ is
 
 -- the target's name among the kids of its parent, and the part over that, as the code makes them
-pub hung : (tree from new : Content) (source target parent : List (List ℕ)) (entries : PatchEntries) → IsOrdered tree → IsOrdered from → IsDistinct (eq_by_cmp by_path) (keys_of entries)
+pub part_put : (tree from new : Content) (source target parent : List (List ℕ)) (entries : PatchEntries) → IsOrdered tree → IsOrdered from → IsDistinct (eq_by_cmp by_path) (keys_of entries)
     → ((q : List (List ℕ)) → entry_at entries q ≡ entry_at (part_there tree source target) q) → parent ≡ parent_of target → new ≡ patching (change_at from parent (with_kid (name_of target))) entries
     → new ≡ patching (change_at from (parent_of target) (with_kid (name_of target))) (part_there tree source target)
-hung tree from new source target parent entries sorted sorted_from once alike above new_is =
+part_put tree from new source target parent entries sorted sorted_from once alike above new_is =
     new_is
     ∙ ap (λ p. patching (change_at from p (with_kid (name_of target))) entries) above
     ∙ patching-alike (change_at from (parent_of target) (with_kid (name_of target))) entries (part_there tree source target) (sorted-change_at from (parent_of target) (with_kid (name_of target)) sorted_from) once (once_there source target tree sorted) alike

@@ -2,7 +2,7 @@
 use Rattle.std.specs.Prelude.{ℕ, Bool, true, false}
 use Rattle.resource_tree.specs.declared.nodes.Node.{Node}
 use Rattle.resource_tree.specs.declared.patch.PatchNode.{PatchNode}
-use Rattle.resource_tree.specs.declared.patch.PatchNode.TheVariants as there
+use Rattle.resource_tree.specs.declared.patch.PatchNode.TheVariants as patch_node
 use Rattle.resource_tree.specs.Changes.{with_kid, without_kid, with_value, without_value}
 use Rattle.tree_draft.specs.declared.edit.Edit.{Edit}
 use Rattle.tree_draft.specs.declared.edit.Edit.TheVariants.{Kid, WithoutKid, Set, Unset}
@@ -21,5 +21,5 @@ one_if false = 0
 
 -- the entry leaves a node
 abbrev pub is_node : PatchNode → Bool
-is_node (there.Node node) = true
-is_node there.Gone = false
+is_node (patch_node.Node node) = true
+is_node patch_node.Gone = false

@@ -2,14 +2,14 @@
 use Rattle.std.specs.Prelude.{Option, Some, None}
 use Rattle.resource_tree.specs.declared.nodes.Node.{Node}
 use Rattle.resource_tree.specs.declared.patch.PatchNode.{PatchNode}
-use Rattle.resource_tree.specs.declared.patch.PatchNode.TheVariants as there
+use Rattle.resource_tree.specs.declared.patch.PatchNode.TheVariants as patch_node
 
 -- what is to stand at a path where a draft holds a node, or none
 abbrev pub patch_entry : Option Node → PatchNode
-patch_entry None = there.Gone
-patch_entry (Some node) = there.Node node
+patch_entry None = patch_node.Gone
+patch_entry (Some node) = patch_node.Node node
 
 -- the node of an entry
 abbrev pub entry_node : PatchNode → Option Node
-entry_node there.Gone = None
-entry_node (there.Node node) = Some node
+entry_node patch_node.Gone = None
+entry_node (patch_node.Node node) = Some node

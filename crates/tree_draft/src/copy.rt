@@ -1,12 +1,12 @@
 // A node that is copied with all below it to another path.
-ghost use Rattle.std.specs.Prelude.{◌≡◌, ◌≢◌, ◌≤◌, ◌+◌, ◌&&◌, ℕ, List, None, Some, OnOk, IfOk, IfErr, IsTrue, is_some, length, not, true, false};
+ghost use Rattle.std.specs.Prelude.{◌≡◌, ◌≢◌, ◌≤◌, ◌+◌, ◌&&◌, ℕ, List, None, Some, OnOk, IfOk, IfErr, is_some, length, not, true, false};
 ghost use Rattle.std.specs.List.{list_any, IsDistinct};
 ghost use Rattle.std.specs.List.Sorted.{IsStrictlySortedBy};
 ghost use Rattle.std.specs.Map.{keys_of};
 ghost use Rattle.std.specs.Ordering.{eq_by_cmp};
-ghost use Rattle.sp_base.specs.Paths.{is_path, is_under, path_or_none};
+ghost use Rattle.sp_base.specs.Paths.{is_path, is_under};
 ghost use Rattle.resource_tree.specs.declared.nodes.Node.{Node};
-ghost use Rattle.resource_tree.specs.declared.patch.PatchNode.TheVariants as there;
+ghost use Rattle.resource_tree.specs.declared.patch.PatchNode.TheVariants as patch_node;
 ghost use Rattle.resource_tree.specs.Content.{by_path, most_nodes, name_of, node_at, same_path, parent_of};
 ghost use Rattle.resource_tree.specs.Changes.{change_at, with_kid};
 ghost use Rattle.resource_tree.specs.Patches.{patching, entry_at, with_entry};
@@ -14,7 +14,6 @@ ghost use Rattle.resource_tree.specs.Moves.{copy, copy_fault, is_too_deep, part,
 ghost use Rattle.tree_draft.specs.Drafts.{DraftFollows, IsCounted, IsSound};
 
 use crate::Draft;
-use crate::create::last_segment;
 use crate::held::HeldEntry;
 use crate::part::paths_under;
 use indexmap::IndexMap;
@@ -36,15 +35,13 @@ impl<'a> Draft<'a> {
     {
         let parent = target.parent(alloc)?;
         self.check_target(alloc, source, target, &parent)?;
-        // `depth` says that the target's segments are those of a path, as what is put below it asks.
-        let _segments = target.depth();
         let part = part_that_fits(self, alloc, source, target)?;
-        self.hang(alloc, &parent, target, part)?;
+        self.put_part(alloc, &parent, target, part)?;
         Ok(())
     }
 
     // Puts a part at a target, and names the target last among the kids of its parent.
-    pub(crate) fn hang(
+    pub(crate) fn put_part(
         &mut self,
         alloc: Global,
         parent: &Path,
@@ -80,16 +77,16 @@ impl<'a> Draft<'a> {
         let Some(above) = self.node(parent) else {
             return Err(no_such(alloc, parent));
         };
-        let Some(name) = last_segment(target) else {
+        if target.depth() == 0 {
             return Err(TreeFault::RootFixed);
-        };
+        }
         if target.is_under(source) || source.is_under(target) {
             return Err(TreeFault::IntoItself);
         }
         if self.node(target).is_some() {
             return Err(node_exists(alloc, target));
         }
-        if above.props().get(name).is_some() {
+        if above.props().get(target.name()).is_some() {
             return Err(name_taken(alloc, target));
         }
         Ok(())
@@ -110,24 +107,6 @@ impl<'a> Draft<'a> {
     }
 }
 
-// The path at the target of one at the source or under it, if it has at most 64 segments.
-fn path_there(alloc: Global, source: &Path, target: &Path, path: &Path) -> Mem<Option<Path>>
-    requires { IsTrue (is_path target.now) }
-    ensures { IfOk result (λ o. o ≡ path_or_none (path_there source.now target.now path.now)) }
-{
-    let mut there = target.duplicate(alloc)?;
-    for n in source.depth()..path.depth() {
-        let Some(segment) = path.seg(n) else {
-            return Ok(None);
-        };
-        let Some(below) = there.child_or_none(alloc, segment)? else {
-            return Ok(None);
-        };
-        there = below;
-    }
-    Ok(Some(there))
-}
-
 // The nodes at the source and under it, at the target, where there is room for them.
 fn part_that_fits(
     draft: &Draft,
@@ -136,7 +115,6 @@ fn part_that_fits(
     target: &Path,
 ) -> Result<IndexMap<Path, HeldEntry, RandomState>, TreeFault>
     requires sound { IsSound draft.now }
-    requires valid { IsTrue (is_path target.now) }
     requires free { target_fault draft.now.content source.now target.now ≡ None }
     ensures ok { IfOk result (λ part. (q : List (List ℕ)) → entry_at part.entries q ≡ entry_at (part_there draft.now.content source.now target.now) q) }
     ensures once { IfOk result (λ part. IsDistinct (eq_by_cmp by_path) (keys_of part.entries)) }
@@ -160,7 +138,6 @@ pub(crate) fn part_there(
     target: &Path,
     paths: &[Path],
 ) -> Result<IndexMap<Path, HeldEntry, RandomState>, TreeFault>
-    requires target { IsTrue (is_path target.now) }
     requires all { (q : List (List ℕ)) → list_any (same_path q) paths.now ≡ (is_some (node_at draft.now.content q) && is_under q source.now) }
     ensures ok { IfOk result (λ part. (q : List (List ℕ)) → entry_at part.entries q ≡ entry_at (part_there draft.now.content source.now target.now) q) }
     ensures once { IfOk result (λ part. IsDistinct (eq_by_cmp by_path) (keys_of part.entries)) }
@@ -183,13 +160,12 @@ fn put_copy(
     target: &Path,
     path: &Path,
 ) -> Result<(), TreeFault>
-    requires { IsTrue (is_path target.now) }
-    ensures ok { OnOk result ((node : Node) → node_at draft.now.content path.now ≡ Some node → part.new.entries ≡ with_entry part.old.entries (path_there source.now target.now path.now) (there.Node node)) }
+    ensures ok { OnOk result ((node : Node) → node_at draft.now.content path.now ≡ Some node → part.new.entries ≡ with_entry part.old.entries (path_there source.now target.now path.now) (patch_node.Node node)) }
     ensures once { OnOk result (IsDistinct (eq_by_cmp by_path) (keys_of part.old.entries) → IsDistinct (eq_by_cmp by_path) (keys_of part.new.entries)) }
     ensures fits { OnOk result (is_path (path_there source.now target.now path.now) ≡ true) }
     ensures err { IfErr result (λ e. e ≢ TreeFault.NoMemory → (e ≡ TreeFault.TooDeep) × (is_path (path_there source.now target.now path.now) ≡ false)) }
 {
-    let Some(there) = path_there(alloc, source, target, path)? else {
+    let Some(there) = target.join_rest_or_none(alloc, path, source.depth())? else {
         return Err(TreeFault::TooDeep);
     };
     let Some(node) = draft.node(path) else {

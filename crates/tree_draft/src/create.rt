@@ -1,9 +1,9 @@
 // New nodes.
-ghost use Rattle.std.specs.Prelude.{◌≡◌, ◌≢◌, ◌≤◌, ◌-◌, Some, None, OnOk, IfErr, IfOk, IsTrue, is_some, true, option_copied, slice_get, length};
+ghost use Rattle.std.specs.Prelude.{◌≡◌, ◌≢◌, ◌-◌, Some, None, OnOk, IfErr, IsTrue, is_some, true};
 ghost use Rattle.std.specs.List.Sorted.{IsStrictlySortedBy};
 ghost use Rattle.std.specs.Map.{keys_of};
 ghost use Rattle.sp_base.specs.Paths.{is_path};
-ghost use Rattle.resource_tree.specs.declared.patch.PatchNode.TheVariants as there;
+ghost use Rattle.resource_tree.specs.declared.patch.PatchNode.TheVariants as patch_node;
 ghost use Rattle.resource_tree.specs.Content.{by_path, empty_node, name_of, node_at, parent_of};
 ghost use Rattle.resource_tree.specs.Changes.{change_at, create_fault, creation, with_kid};
 ghost use Rattle.resource_tree.specs.Patches.{over};
@@ -13,16 +13,8 @@ use crate::Draft;
 use crate::edit::Edit;
 use crate::held::HeldEntry;
 use resource_tree::{MOST_NODES, TreeFault, name_taken, no_such, node_exists};
-use sp_base::{Mem, NoMemory, Path, TextBuf};
+use sp_base::{Mem, Path, TextBuf};
 use std::alloc::Global;
-
-// The last segment of a path, which the root has not.
-pub(crate) fn last_segment(path: &Path) -> Option<&str>
-    ensures valid { IsTrue (is_path path.now) }
-    ensures segment { option_copied result ≡ slice_get path.now (length path.now - 1) }
-{
-    path.seg(path.depth().saturating_sub(1))
-}
 
 impl<'a> Draft<'a> {
     /// Makes a node without properties and kids. It stands last among the kids of its parent.
@@ -43,7 +35,7 @@ impl<'a> Draft<'a> {
 
     // Sets a node without properties and kids at a path.
     fn put_fresh(&mut self, alloc: Global, path: &Path) -> Mem<()>
-        ensures content { OnOk result (self.new.content ≡ over self.old.content path.now (there.Node empty_node)) }
+        ensures content { OnOk result (self.new.content ≡ over self.old.content path.now (patch_node.Node empty_node)) }
         ensures counted { OnOk result (IsCounted self.old → IsCounted self.new) }
         ensures tree { self.new.tree ≡ self.old.tree }
     {
@@ -61,11 +53,7 @@ impl<'a> Draft<'a> {
         ensures ordered { OnOk result (IsStrictlySortedBy by_path (keys_of self.new.content)) }
         ensures valid { OnOk result (IsTrue (is_path path.now)) }
     {
-        let Some(name) = last_segment(path) else {
-            // The root is no kid, so this is a lack of memory.
-            return Err(NoMemory);
-        };
-        let name = TextBuf::of(alloc, name)?;
+        let name = TextBuf::of(alloc, path.name())?;
         self.change(alloc, parent, Edit::Kid(name))
     }
 
@@ -82,10 +70,7 @@ impl<'a> Draft<'a> {
         if self.node(path).is_some() {
             return Err(node_exists(alloc, path));
         }
-        let Some(name) = last_segment(path) else {
-            return Err(node_exists(alloc, path));
-        };
-        if above.props().get(name).is_some() {
+        if above.props().get(path.name()).is_some() {
             return Err(name_taken(alloc, path));
         }
         if self.len() >= MOST_NODES {

@@ -6,7 +6,7 @@ ghost use Rattle.std.specs.Map.{keys_of};
 ghost use Rattle.std.specs.Ordering.{eq_by_cmp};
 ghost use Rattle.resource_tree.specs.Content.{IsGood, by_path, node_at, same_path};
 ghost use Rattle.resource_tree.specs.Changes.{change_at, with_kids};
-ghost use Rattle.resource_tree.specs.declared.patch.PatchNode.TheVariants as there;
+ghost use Rattle.resource_tree.specs.declared.patch.PatchNode.TheVariants as patch_node;
 ghost use Rattle.resource_tree.specs.Patches.{left_by, over, patching};
 ghost use Rattle.tree_draft.specs.Drafts.{IsCounted, IsSound};
 ghost use Rattle.tree_draft.specs.Edits.{one_if, is_node, edited_node};
@@ -112,7 +112,7 @@ impl<'a> Draft<'a> {
 
     // Takes the node at a path out, and changes it. Until it is put back nothing is said of that path.
     fn take_with_edit(&mut self, alloc: Global, path: &Path, edit: Edit) -> Mem<HeldEntry>
-        ensures value { IfOk result (λ r. Some r ≡ option_map (λ n. there.Node (edited_node edit n)) (node_at self.old.content path.now)) }
+        ensures value { IfOk result (λ r. Some r ≡ option_map (λ n. patch_node.Node (edited_node edit n)) (node_at self.old.content path.now)) }
         ensures others { (q : List (List ℕ)) → same_path path.now q ≡ false → node_at self.new.content q ≡ node_at self.old.content q }
         ensures count { self.new.count ≡ self.old.count }
         ensures tree { self.new.tree ≡ self.old.tree }
@@ -124,7 +124,7 @@ impl<'a> Draft<'a> {
 
     // Takes the node at a path out, and gives it other kids. Until it is put back nothing is said of that path.
     fn take_with_kids(&mut self, alloc: Global, path: &Path, kids: TextList) -> Mem<HeldEntry>
-        ensures value { IfOk result (λ r. Some r ≡ option_map (λ n. there.Node (with_kids kids n)) (node_at self.old.content path.now)) }
+        ensures value { IfOk result (λ r. Some r ≡ option_map (λ n. patch_node.Node (with_kids kids n)) (node_at self.old.content path.now)) }
         ensures others { (q : List (List ℕ)) → same_path path.now q ≡ false → node_at self.new.content q ≡ node_at self.old.content q }
         ensures count { self.new.count ≡ self.old.count }
         ensures tree { self.new.tree ≡ self.old.tree }
@@ -203,7 +203,7 @@ fn entry_with_edit(
     node: Option<&Node>,
     edit: Edit,
 ) -> Mem<HeldEntry>
-    ensures { IfOk result (λ r. Some r ≡ option_map (λ n. there.Node (edited_node edit n)) (left_by entry (option_copied node.entry))) }
+    ensures { IfOk result (λ r. Some r ≡ option_map (λ n. patch_node.Node (edited_node edit n)) (left_by entry (option_copied node.entry))) }
 {
     let node = or_copy(alloc, seeds, entry, node)?;
     entry_of_edited(alloc, node, edit)
@@ -211,7 +211,7 @@ fn entry_with_edit(
 
 // An entry with a node after a change.
 fn entry_of_edited(alloc: Global, node: HeldNode, edit: Edit) -> Mem<HeldEntry>
-    ensures { IfOk result (λ r. r ≡ there.Node (edited_node edit node)) }
+    ensures { IfOk result (λ r. r ≡ patch_node.Node (edited_node edit node)) }
 {
     let mut node = node;
     node.edit(alloc, edit)?;
@@ -226,7 +226,7 @@ fn entry_with_kids(
     node: Option<&Node>,
     kids: TextList,
 ) -> Mem<HeldEntry>
-    ensures { IfOk result (λ r. Some r ≡ option_map (λ n. there.Node (with_kids kids n)) (left_by entry (option_copied node.entry))) }
+    ensures { IfOk result (λ r. Some r ≡ option_map (λ n. patch_node.Node (with_kids kids n)) (left_by entry (option_copied node.entry))) }
 {
     let props = or_copied_props(alloc, entry, node)?;
     Ok(HeldEntry::of(alloc, seeds, Node { props, kids }))

@@ -2,7 +2,7 @@
 // Scaffolding, which no caller sees: what a draft shows of a node, held or not, is a `DraftNode` (seen.rt).
 ghost use Rattle.std.specs.Prelude.{◌≡◌, IfOk, option_copied, option_map};
 ghost use Rattle.resource_tree.specs.Content.{empty_node};
-ghost use Rattle.resource_tree.specs.declared.patch.PatchNode.TheVariants as there;
+ghost use Rattle.resource_tree.specs.declared.patch.PatchNode.TheVariants as patch_node;
 ghost use Rattle.tree_draft.specs.Edits as edits;
 ghost use Rattle.tree_draft.specs.Held as spec;
 
@@ -77,14 +77,14 @@ impl Model for HeldEntry {
 impl HeldEntry {
     /// A changed node.
     pub(crate) fn of_held(node: HeldNode) -> HeldEntry
-        ensures { result ≡ there.Node node }
+        ensures { result ≡ patch_node.Node node }
     {
         HeldEntry { held: Some(node) }
     }
 
     /// A node as it is.
     pub(crate) fn of(alloc: Global, seeds: RandomState, node: Node) -> HeldEntry
-        ensures { result ≡ there.Node node }
+        ensures { result ≡ patch_node.Node node }
     {
         HeldEntry {
             held: Some(HeldNode::of(alloc, seeds, node)),
@@ -93,7 +93,7 @@ impl HeldEntry {
 
     /// A node without properties and kids.
     pub(crate) fn fresh(alloc: Global, seeds: RandomState) -> HeldEntry
-        ensures { result ≡ there.Node empty_node }
+        ensures { result ≡ patch_node.Node empty_node }
     {
         let node = Node {
             props: PropList::new(alloc),
@@ -103,7 +103,7 @@ impl HeldEntry {
     }
 
     pub(crate) fn gone() -> HeldEntry
-        ensures { result ≡ there.Gone }
+        ensures { result ≡ patch_node.Gone }
     {
         HeldEntry { held: None }
     }

@@ -5,7 +5,6 @@ ghost use Rattle.resource_tree.specs.Kids.{kids_in_order};
 ghost use Rattle.tree_draft.specs.Drafts.{DraftFollows, IsSound};
 
 use crate::Draft;
-use crate::create::last_segment;
 use crate::kids::kids_in_order;
 use resource_tree::{Place, TreeFault, no_such};
 use sp_base::{Mem, Path, TextList};
@@ -23,10 +22,7 @@ impl<'a> Draft<'a> {
     {
         let parent = path.parent(alloc)?;
         self.check_fixed(alloc, path)?;
-        let Some(name) = last_segment(path) else {
-            return Err(TreeFault::RootFixed);
-        };
-        let Some(kids) = kids_with(self, alloc, &parent, name, place)? else {
+        let Some(kids) = kids_with(self, alloc, &parent, path.name(), place)? else {
             return Err(TreeFault::NoSibling);
         };
         self.put_kids(alloc, &parent, kids)?;

@@ -24,11 +24,11 @@ impl<'a> Draft<'a> {
     {
         let parent = target.parent(alloc)?;
         self.check_ends(alloc, source, target, &parent)?;
-        self.move_under(alloc, source, target, &parent)
+        self.move_part(alloc, source, target, &parent)
     }
 
     // Moves a node and all below it to a path where it may go, if they fit.
-    fn move_under(
+    fn move_part(
         &mut self,
         alloc: Global,
         source: &Path,
@@ -44,12 +44,10 @@ impl<'a> Draft<'a> {
         ensures unchanged { IfErr result (λ e. e ≢ TreeFault.NoMemory → self.new ≡ self.old) }
         ensures follows { OnOk result (DraftFollows self.old self.new) }
     {
-        // `depth` says that the target's segments are those of a path, as what is put below it asks.
-        let _segments = target.depth();
         let paths = paths_under(self, alloc, source)?;
         let part = part_there(self, alloc, source, target, &paths)?;
-        self.cut(alloc, source, &paths)?;
-        self.hang(alloc, parent, target, part)?;
+        self.remove_part(alloc, source, &paths)?;
+        self.put_part(alloc, parent, target, part)?;
         Ok(())
     }
 

@@ -1,5 +1,5 @@
 // A node that is removed with all below it.
-ghost use Rattle.std.specs.Prelude.{◌≡◌, ◌≢◌, ℕ, List, None, Some, OnOk, IfErr, IfOk, is_some, ◌&&◌};
+ghost use Rattle.std.specs.Prelude.{◌≡◌, ◌≢◌, ℕ, List, None, Some, OnOk, IfErr, is_some, ◌&&◌};
 ghost use Rattle.std.specs.List.{list_any};
 ghost use Rattle.std.specs.List.Sorted.{IsStrictlySortedBy};
 ghost use Rattle.std.specs.Map.{keys_of};
@@ -9,12 +9,11 @@ ghost use Rattle.resource_tree.specs.Changes.{fixed_fault, removal, without_unde
 ghost use Rattle.tree_draft.specs.Drafts.{DraftFollows, IsSound, IsCounted};
 
 use crate::Draft;
-use crate::create::last_segment;
 use crate::edit::Edit;
 use crate::held::HeldEntry;
 use crate::part::paths_under;
 use resource_tree::TreeFault;
-use sp_base::{Mem, NoMemory, Path, TextBuf};
+use sp_base::{Mem, Path, TextBuf};
 use std::alloc::Global;
 
 impl<'a> Draft<'a> {
@@ -29,12 +28,12 @@ impl<'a> Draft<'a> {
     {
         self.check_fixed(alloc, path)?;
         let paths = paths_under(self, alloc, path)?;
-        self.cut(alloc, path, &paths)?;
+        self.remove_part(alloc, path, &paths)?;
         Ok(())
     }
 
     // Takes the nodes at a path and under it away, whose paths are given, and the name from the parent's kids.
-    pub(crate) fn cut(&mut self, alloc: Global, path: &Path, paths: &[Path]) -> Mem<()>
+    pub(crate) fn remove_part(&mut self, alloc: Global, path: &Path, paths: &[Path]) -> Mem<()>
         requires sound { IsSound self.old }
         requires fixed { fixed_fault self.old.content path.now ≡ None }
         requires all { (q : List (List ℕ)) → list_any (same_path q) paths.now ≡ (is_some (node_at self.old.content q) && is_under q path.now) }
@@ -42,11 +41,7 @@ impl<'a> Draft<'a> {
         ensures follows { OnOk result (DraftFollows self.old self.new) }
     {
         let parent = path.parent(alloc)?;
-        let Some(name) = last_segment(path) else {
-            // The root is never taken away, so this is a lack of memory.
-            return Err(NoMemory);
-        };
-        let name = TextBuf::of(alloc, name)?;
+        let name = TextBuf::of(alloc, path.name())?;
         self.change(alloc, &parent, Edit::WithoutKid(name))?;
         self.drop_nodes(alloc, path, paths)?;
         Ok(())

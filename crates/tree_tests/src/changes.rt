@@ -42,7 +42,7 @@ pub(crate) fn change(
     path: &Path,
     other: &Path,
 ) -> Result<(), TreeFault> {
-    let name = other.last().unwrap_or("");
+    let name = other.name();
     match word {
         "create" => tree.create(alloc, path),
         "remove" => tree.remove(alloc, path),

@@ -41,10 +41,7 @@ impl TypeName {
         ensures label { result.now ≡ name_of self.now.segs }
         ensures valid { IsTrue (is_path self.now.segs) }
     {
-        match self.segs.seg(self.segs.depth().saturating_sub(1)) {
-            Some(label) => label,
-            None => "",
-        }
+        self.segs.name()
     }
 
     /// Whether both are one type.

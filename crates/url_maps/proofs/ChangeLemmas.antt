@@ -18,7 +18,7 @@ use Rattle.std.specs.Cmp.Lexicographic.{lists_total, nat_list_cmp_total}
 use Rattle.std.specs.Cmp.{IsTotalOrder}
 use Rattle.resource_tree.specs.declared.nodes.Node.{Node}
 use Rattle.resource_tree.specs.declared.patch.PatchNode.{PatchNode}
-use Rattle.resource_tree.specs.declared.patch.PatchNode.TheVariants as there
+use Rattle.resource_tree.specs.declared.patch.PatchNode.TheVariants as patch_node
 use Rattle.resource_tree.specs.Content.{Content, by_path, node_at, same_path}
 use Rattle.resource_tree.specs.Patches as patches
 use Rattle.url_maps.specs.Claims.{AreClaims, ClaimRows, claimants, claims_vanity_path, node_claims_vanity_path}
@@ -249,8 +249,8 @@ unfolding claims_vanity_path
 after_vanity_path tree patch q t =
     elim (patches.entry_at patch q) as (λ o. option_map_or (λ (n : Node). node_claims_vanity_path n t) (patches.left_by o (node_at tree q)) false ≡ option_map_or (λ row. left_vanity_path q row t) o (option_map_or (λ (n : Node). node_claims_vanity_path n t) (node_at tree q) false)) [
       | None ↦ refl
-      | Some (there.Node node) ↦ refl
-      | Some there.Gone ↦ refl
+      | Some (patch_node.Node node) ↦ refl
+      | Some patch_node.Gone ↦ refl
     ]
 
 -- ---- a change over an index

@@ -11,7 +11,7 @@ use Rattle.std.proofs.lemmas.Option.{slice_get_within}
 use Rattle.sp_base.specs.Paths.{is_path, parent_of, text_of}
 use Rattle.resource_tree.specs.declared.nodes.Node.{Node}
 use Rattle.resource_tree.specs.declared.patch.PatchNode.{PatchNode}
-use Rattle.resource_tree.specs.declared.patch.PatchNode.TheVariants as there
+use Rattle.resource_tree.specs.declared.patch.PatchNode.TheVariants as patch_node
 use Rattle.resource_tree.specs.Content.{Content, kid, node_at, same_path}
 use Rattle.resource_tree.specs.Patches as patches
 use Rattle.url_maps.specs.Claims.{ClaimRows, claims_by, kids_by, node_claims_alias, spells_alias}
@@ -69,8 +69,8 @@ settled_more tree patch i path row old new here so_far within one k q r below th
     (cases_lt k i)
 
 pub left_of : (row : PatchNode) (old : Option Node) → patches.left_by (Some row) old ≡ patches.left_by (Some row) None
-left_of (there.Node node) old = refl
-left_of there.Gone old = refl
+left_of (patch_node.Node node) old = refl
+left_of patch_node.Gone old = refl
 
 -- where each entry is settled, the other nodes keep what their kids claim
 pub keeps_others : (tree : Content) (patch : patches.PatchEntries) (n : ℕ) (parents : List (List (List ℕ))) → length patch ≤ n → AreSettled tree patch n parents → KeepsOthers tree patch parents

@@ -1,6 +1,6 @@
 -- Paths: when two are one, a path as its parent's kid, and the texts of siblings.
-use Rattle.std.proofs.Common.{◌≡◌, ◌<◌, ◌+◌, ◌-◌, ℕ, zero, suc, Bool, true, false, List, [], ◌∷◌, ◌++◌, Some, None, Ok, length, get_or, take, refl, sym, ◌∙◌, ap, arith, length-append, ⊎_elim}
-use Rattle.std.specs.Prelude.{◌&&◌, IsTrue, nat_eq, nat_le, slice_get, if◌then◌else◌}
+use Rattle.std.proofs.Common.{◌≡◌, ◌<◌, ◌+◌, ◌-◌, ℕ, Bool, true, false, List, [], ◌∷◌, ◌++◌, Some, None, Ok, length, get_or, take, refl, sym, ◌∙◌, ap, arith, length-append, ⊎_elim}
+use Rattle.std.specs.Prelude.{◌&&◌, IsTrue, nat_eq, nat_le, if◌then◌else◌}
 use Rattle.std.specs.Cmp.{IsTotalOrder, eq_by_cmp_equiv}
 use Rattle.std.specs.Cmp.Lexicographic.{lists_total, nat_list_cmp_total, nat_list_eq_equiv, pointwise, same_text}
 use Rattle.std.specs.List.{list_all}
@@ -147,13 +147,3 @@ vanity_unspelled whole text bad =
     false_from_ne_true _ (λ both.
     let parts = and_parts (is_ok_path (path_of text)) (pointwise nat_eq text whole) both in
     true≢false (sym parts.0 ∙ ap (λ t. is_ok_path (path_of t)) (same_text text whole (sym parts.1)) ∙ bad))
-
--- ---- the last segment
-
-get_none : {X : Type 0} (xs : List X) (i : ℕ) (d : X) → None ≡ slice_get xs i → get_or xs i d ≡ d
-get_none [] i d e = refl
-get_none (x ∷ xs) zero d e = cc
-get_none (x ∷ xs) (suc i) d e = get_none xs i d e
-
-pub no_name : (path : List (List ℕ)) → None ≡ slice_get path (length path - 1) → name_of path ≡ []
-no_name path e = get_none path (length path - 1) [] e

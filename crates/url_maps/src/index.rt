@@ -34,6 +34,7 @@ impl MapIndex {
         let mut aliases = Claims::new(alloc, tree.seeds());
         let mut vanity_paths = Claims::new(alloc, tree.seeds());
         {
+            // The rows are dropped before the first siblings are looked for, since that takes memory of its own.
             let all = tree.rows(alloc)?;
             let rows = all.as_slice();
             for row in rows {

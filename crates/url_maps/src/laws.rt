@@ -56,8 +56,8 @@ pub fn of_siblings_with_one_alias_the_first_is_named()
     ensures { (tree : Content) (text : List ℕ) (path : List (List ℕ)) → (named : IsAlias tree text path) → (place : ℕ) (other : List ℕ) → slice_get (kids_at tree named.parent) place ≡ Some other → has_alias tree (kid named.parent other) named.alias ≡ true → IsAtOrBefore (kids_at tree named.parent) named.name place }
 {}
 
-/// Of several nodes with one vanity path one with the greatest order is named, and of those with that order the one with the least
-/// path.
+/// Of several nodes with one vanity path one with the greatest order is named, and of those with that order the one whose
+/// path's text is least.
 pub fn of_nodes_with_one_vanity_path_the_greatest_order_is_named()
     ensures greatest { (tree : Content) (text : List ℕ) (path other : List (List ℕ)) → IsVanityPath tree text path → has_vanity_path tree other text ≡ true → int_cmp (vanity_order tree other) (vanity_order tree path) ≢ Greater }
     ensures least { (tree : Content) (text : List ℕ) (path other : List (List ℕ)) → IsVanityPath tree text path → has_vanity_path tree other text ≡ true → vanity_order tree other ≡ vanity_order tree path → (other ≡ path) ⊎ (by_name (text_of path) (text_of other) ≡ Less) }

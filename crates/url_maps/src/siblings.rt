@@ -48,10 +48,8 @@ pub(crate) fn siblings_change(alloc: Global, tree: &Tree, patch: &Patch) -> Mem<
     let changed = changed_parents(alloc, tree, patch)?;
     let parents = changed.as_slice();
     let mut change = ClaimsChange::new(alloc, tree.seeds());
-    {
-        let unchanged = Patch::new(alloc, tree.seeds());
-        put_families(&mut change, alloc, tree, &unchanged, parents, false)?;
-    }
+    let unchanged = Patch::new(alloc, tree.seeds());
+    put_families(&mut change, alloc, tree, &unchanged, parents, false)?;
     put_families(&mut change, alloc, tree, patch, parents, true)?;
     Ok(change)
 }

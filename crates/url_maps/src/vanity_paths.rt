@@ -55,8 +55,5 @@ fn page_of(alloc: Global, path: &Path) -> Mem<Path>
 fn is_content(path: &Path) -> bool
     ensures { result ≡ pointwise nat_eq (name_of path.now) (codes "jcr:content") }
 {
-    match path.last() {
-        Some(name) => name == "jcr:content",
-        None => false,
-    }
+    path.name() == "jcr:content"
 }

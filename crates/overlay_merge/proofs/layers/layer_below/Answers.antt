@@ -28,8 +28,8 @@ returns-in-Some-3 c =
     layer_made c.in-Some-3.below path n c.depth.result c.saturating_sub.result c.depth-in-Some-3.result c.depth.ensures.depth c.depth-in-Some-3.ensures.depth c.saturating_sub.ensures
     ∙ ap (option_map (override_layer (length path - n))) (sym below) ∙ sym (below_is tree path n c.in-Some.text.now c.in-Some-2.place base place)
 
-pub returns-in-None : goal.returns-in-None
-returns-in-None c =
+pub returns : goal.returns
+returns c =
     let tree = c.args.tree.now in
     let path = c.args.path.now in
     let n = c.in-Some.n in

@@ -5,7 +5,7 @@ use Rattle.std.proofs.Math.Seq.{take-length}
 use Rattle.std.proofs.lemmas.List.Folds.{list_any_at}
 use Rattle.sp_base.specs.Paths.{is_path}
 use Rattle.resource_tree.specs.declared.faults.TreeFault.TheVariants.{NoMemory, TooDeep}
-use Rattle.resource_tree.specs.declared.patch.PatchNode.TheVariants as there
+use Rattle.resource_tree.specs.declared.patch.PatchNode.TheVariants as patch_node
 use Rattle.resource_tree.specs.Content.{same_path, node_at, empty_node}
 use Rattle.resource_tree.specs.Moves.{path_there}
 use Rattle.resource_tree.proofs.Creation.{some_from}
@@ -30,7 +30,7 @@ returns-clause-ok c = λ q.
     let at_end : c.loop-path.path-index ≡ length c.args.paths.now = omega arith in
     let all : take c.loop-path.path-index c.args.paths.now ≡ c.args.paths.now = ap (λ i. take i c.args.paths.now) at_end ∙ take-length c.args.paths.now in
     c.loop-path.invariant.0 q
-    ∙ ap (λ l. cond (list_any (same_path q) (map (path_there c.args.source.now c.args.target.now) l)) (option_map there.Node (node_at c.args.nodes.now.entries (path_there c.args.target.now c.args.source.now q))) None) all
+    ∙ ap (λ l. cond (list_any (same_path q) (map (path_there c.args.source.now c.args.target.now) l)) (option_map patch_node.Node (node_at c.args.nodes.now.entries (path_there c.args.target.now c.args.source.now q))) None) all
     ∙ all_there c.args.nodes.now.entries c.args.source.now c.args.target.now q c.args.paths.now c.requires.all
 
 pub returns-in_err-put_copy-clause-err : goal.returns-in_err-put_copy-clause-err

@@ -11,5 +11,5 @@ returns-clause-ok c =
     on_ok_weaker
     c.add_node.result
     (λ added. added ∙ ap (λ n. change_at (insert_entry by_path c.args.nodes.now.entries c.args.path.now n) c.args.parent.now (with_kid c.in_ok-name.name)) c.leaf.ensures
-    ∙ creation_from _ _ c.args.path.now c.args.parent.now (leaf c.args.props) c.in_ok-name.name c.last_segment.result.now refl c.requires.parent c.in_ok-name.ensures c.last_segment.ensures.segment)
+    ∙ creation_from _ _ c.args.path.now c.args.parent.now (leaf c.args.props) c.in_ok-name.name c.name.result.now refl c.requires.parent c.in_ok-name.ensures c.name.ensures.name)
     c.add_node.ensures.ok

@@ -4,7 +4,7 @@ use Rattle.std.specs.List.{list_any, IsDistinct}
 use Rattle.std.specs.Map.{keys_of}
 use Rattle.std.specs.Ordering.{eq_by_cmp}
 use Rattle.sp_base.specs.Paths.{is_path}
-use Rattle.resource_tree.specs.declared.patch.PatchNode.TheVariants as there
+use Rattle.resource_tree.specs.declared.patch.PatchNode.TheVariants as patch_node
 use Rattle.resource_tree.specs.Content.{by_path, same_path, node_at}
 use Rattle.resource_tree.specs.Patches.{entry_at}
 use Rattle.resource_tree.specs.Moves.{path_there}
@@ -12,6 +12,6 @@ use Rattle.tree_draft.proofs.copy.part_there.Given as goal
 
 abbrev pub invariant-loop-path : goal.invariant-loop-path
 invariant-loop-path l =
-    ((q : List (List ℕ)) → entry_at l.part.entries q ≡ cond (list_any (same_path q) (map (path_there l.source l.target) (take l.path-index l.paths))) (option_map there.Node (node_at l.draft.content (path_there l.target l.source q))) None)
+    ((q : List (List ℕ)) → entry_at l.part.entries q ≡ cond (list_any (same_path q) (map (path_there l.source l.target) (take l.path-index l.paths))) (option_map patch_node.Node (node_at l.draft.content (path_there l.target l.source q))) None)
     × (list_any (λ p. not (is_path (path_there l.source l.target p))) (take l.path-index l.paths) ≡ false)
     × IsDistinct (eq_by_cmp by_path) (keys_of l.part.entries)

@@ -4,11 +4,11 @@ use Rattle.resource_tree.specs.Changes.{fixed_fault, removal}
 use Rattle.resource_tree.proofs.Removal.{node_at-removal}
 use Rattle.resource_tree.proofs.tree.Tree.remove.Goals as goal
 
-pub cut-requires-clause-fixed : goal.cut-requires-clause-fixed
-cut-requires-clause-fixed c = subst (λ (t : Content). fixed_fault t c.args.path.now ≡ None) (sym c.self.view_is) c.in_ok-check_fixed.ensures.ok
+pub remove_part-requires-clause-fixed : goal.remove_part-requires-clause-fixed
+remove_part-requires-clause-fixed c = subst (λ (t : Content). fixed_fault t c.args.path.now ≡ None) (sym c.self.view_is) c.in_ok-check_fixed.ensures.ok
 
-is_removed : (c : goal.After-drop-parent-inside-2) → c.cut.new.nodes.entries ≡ removal c.args.self.now c.args.path.now
-is_removed c = c.in_ok-cut.ensures.ok ∙ ap (λ (t : Content). removal t c.args.path.now) c.self.view_is
+is_removed : (c : goal.After-drop-parent-inside-2) → c.remove_part.new.nodes.entries ≡ removal c.args.self.now c.args.path.now
+is_removed c = c.in_ok-remove_part.ensures.ok ∙ ap (λ (t : Content). removal t c.args.path.now) c.self.view_is
 
 pub returns-clause-ok : goal.returns-clause-ok
 returns-clause-ok c = is_removed c

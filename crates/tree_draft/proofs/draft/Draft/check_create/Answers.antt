@@ -10,24 +10,24 @@ use Rattle.tree_draft.proofs.draft.Draft.check_create.Goals as goal
 pub returns-then-len-ge-MOST_NODES-clause-err : goal.returns-then-len-ge-MOST_NODES-clause-err
 returns-then-len-ge-MOST_NODES-clause-err c = λ _.
     let free : is_some (node_at c.args.self.now.content c.args.path.now) ≡ false = search rules in
-    let untaken : is_some (prop_at c.in-Some.above c.in-Some-last_segment.name.now) ≡ false = search rules in
+    let untaken : is_some (prop_at c.in-Some.above c.name.result.now) ≡ false = search rules in
     let test = c.if-len-ge-MOST_NODES.true in
     let size = c.len.ensures in
     let large : 200000 ≤ length c.args.self.now.content = omega (arith, test, size) in
-    fault_but_size c.args.self.now.content c.args.path.now c.args.parent.now c.in-Some.above c.in-Some-last_segment.name.now (sym c.node.ensures.value ∙ c.in-Some.is) c.requires.above free
-    c.in-Some-last_segment.ensures.segment
+    fault_but_size c.args.self.now.content c.args.path.now c.args.parent.now c.in-Some.above c.name.result.now (sym c.node.ensures.value ∙ c.in-Some.is) c.requires.above free
+    c.name.ensures.name
     untaken
     ∙ full c.args.self.now.content large
 
 pub returns-clause-ok : goal.returns-clause-ok
 returns-clause-ok c =
     let free : is_some (node_at c.args.self.now.content c.args.path.now) ≡ false = search rules in
-    let untaken : is_some (prop_at c.in-Some.above c.in-Some-last_segment.name.now) ≡ false = search rules in
+    let untaken : is_some (prop_at c.in-Some.above c.name.result.now) ≡ false = search rules in
     let test = c.if-len-ge-MOST_NODES.false in
     let size = c.len.ensures in
     let small : length c.args.self.now.content < 200000 = omega (arith, test, size) in
-    fault_but_size c.args.self.now.content c.args.path.now c.args.parent.now c.in-Some.above c.in-Some-last_segment.name.now (sym c.node.ensures.value ∙ c.in-Some.is) c.requires.above free
-    c.in-Some-last_segment.ensures.segment
+    fault_but_size c.args.self.now.content c.args.path.now c.args.parent.now c.in-Some.above c.name.result.now (sym c.node.ensures.value ∙ c.in-Some.is) c.requires.above free
+    c.name.ensures.name
     untaken
     ∙ not_full c.args.self.now.content small
 

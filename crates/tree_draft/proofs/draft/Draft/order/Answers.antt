@@ -2,7 +2,7 @@ use Rattle.std.proofs.Common.{◌∙◌, ap, sym, refl}
 use Rattle.std.specs.Prelude.{is_some}
 use Rattle.resource_tree.specs.Content.{node_at}
 use Rattle.resource_tree.specs.Changes.{kids_at}
-use Rattle.resource_tree.proofs.Reordering.{can_move, parent_there, reordering_from, IsGood-reordering}
+use Rattle.resource_tree.proofs.Reordering.{can_move, parent_there, reordering_named, IsGood-reordering}
 use Rattle.tree_draft.proofs.OrderLemmas.{order_allowed}
 use Rattle.tree_draft.proofs.draft.Draft.order.Goals as goal
 
@@ -14,20 +14,20 @@ put_kids-requires c =
 pub returns-clause-allowed : goal.returns-clause-allowed
 returns-clause-allowed c =
     let tree = c.args.self.now.content in
-    order_allowed tree c.args.path.now c.in_ok-parent.parent c.args.place.now c.in-Some.name.now (kids_at tree c.in_ok-parent.parent) c.in-Some-2.kids c.in_ok-check_fixed.ensures.ok c.in_ok-parent.ensures c.in-Some.ensures.segment refl
-    (sym c.in-Some-2.is ∙ c.in_ok-kids.ensures)
+    order_allowed tree c.args.path.now c.in_ok-parent.parent c.args.place.now c.name.result.now (kids_at tree c.in_ok-parent.parent) c.in-Some.kids c.in_ok-check_fixed.ensures.ok c.in_ok-parent.ensures c.name.ensures.name refl
+    (sym c.in-Some.is ∙ c.in_ok-kids.ensures)
 
 pub returns-clause-ok : goal.returns-clause-ok
 returns-clause-ok c =
     let tree = c.args.self.now.content in
     c.in_ok-put_kids.ensures.content
-    ∙ reordering_from tree tree c.args.path.now c.in_ok-parent.parent c.args.place.now c.in-Some.name.now (kids_at tree c.in_ok-parent.parent) c.in-Some-2.kids c.requires.good.shape
+    ∙ reordering_named tree tree c.args.path.now c.in_ok-parent.parent c.args.place.now c.name.result.now (kids_at tree c.in_ok-parent.parent) c.in-Some.kids c.requires.good.shape
     (can_move tree c.args.path.now c.in_ok-check_fixed.ensures.ok)
     refl
     c.in_ok-parent.ensures
-    c.in-Some.ensures.segment
+    c.name.ensures.name
     refl
-    (sym c.in-Some-2.is ∙ c.in_ok-kids.ensures)
+    (sym c.in-Some.is ∙ c.in_ok-kids.ensures)
 
 pub returns-clause-follows : goal.returns-clause-follows
 returns-clause-follows c = record {

@@ -1,8 +1,8 @@
 use Rattle.std.proofs.Common.{rules, ◌≡◌, ◌+◌, suc, drop, length, length-drop, lit<, arith, sym, ◌∙◌, ap, Some, None}
 use Rattle.std.proofs.lemmas.Str.Pattern.{find_char}
 use Rattle.sp_base.specs.Paths.{pieces}
-use Rattle.overlay_merge.proofs.RebaseLemmas.{none_left, one_piece, other_pieces, passed_one}
-use Rattle.overlay_merge.proofs.rebase.after_pieces.Goals as goal
+use Rattle.sp_base.proofs.PathRest.{none_left, one_piece, other_pieces, passed_one}
+use Rattle.sp_base.proofs.path_rest.after_pieces.Goals as goal
 
 pub returns-in_default-clause-none : goal.returns-in_default-clause-none
 returns-in_default-clause-none c =

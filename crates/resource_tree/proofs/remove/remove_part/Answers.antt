@@ -7,8 +7,8 @@ use Rattle.resource_tree.specs.Changes.{removal, without_under, with_kids}
 use Rattle.resource_tree.proofs.NodeLookups.{there-change_at}
 use Rattle.resource_tree.proofs.Reordering.{can_move}
 use Rattle.resource_tree.proofs.Removal.{removal_from, IsGood-removal}
-use Rattle.resource_tree.proofs.remove.cut.Goals as goal
-use Rattle.resource_tree.proofs.remove.cut.Goals.{After-drop-paths-2}
+use Rattle.resource_tree.proofs.remove.remove_part.Goals as goal
+use Rattle.resource_tree.proofs.remove.remove_part.Goals.{After-drop-paths-2}
 
 pub drop_nodes-requires-clause-all : goal.drop_nodes-requires-clause-all
 drop_nodes-requires-clause-all c = λ q.
@@ -23,8 +23,8 @@ is_removed c =
     c.drop_nodes.ensures.after
     ∙ ap (λ (t : Content). without_under t c.args.path.now)
     (c.set_kids.ensures.after
-    ∙ removal_from tree c.args.path.now c.requires.good.shape (can_move tree c.args.path.now c.requires.fixed) tree c.args.parent.now c.last_segment.result.now c.kids_at.result.now c.from.result refl c.requires.parent
-    c.last_segment.ensures.segment
+    ∙ removal_from tree c.args.path.now c.requires.good.shape (can_move tree c.args.path.now c.requires.fixed) tree c.args.parent.now c.name.result.now c.kids_at.result.now c.from.result refl c.requires.parent
+    c.name.ensures.name
     c.kids_at.ensures
     (c.from.ensures ∙ c.in_ok-kids.ensures))
 

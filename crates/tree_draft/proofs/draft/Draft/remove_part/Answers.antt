@@ -1,13 +1,12 @@
-use Rattle.std.proofs.Common.{◌≡◌, ◌-◌, ◌∙◌, ap, sym, length, []}
+use Rattle.std.proofs.Common.{◌∙◌, ap, sym}
 use Rattle.std.specs.Prelude.{is_some, ◌&&◌}
-use Rattle.std.proofs.lemmas.Option.{get_or_from_slice_get}
 use Rattle.sp_base.specs.Paths.{is_under}
-use Rattle.resource_tree.specs.Content.{Content, node_at, parent_of, name_of}
+use Rattle.resource_tree.specs.Content.{Content, node_at, parent_of}
 use Rattle.resource_tree.specs.Changes.{change_at, without_kid, without_under}
 use Rattle.resource_tree.proofs.NodeLookups.{there-change_at}
 use Rattle.resource_tree.proofs.Reordering.{can_move, parent_there}
 use Rattle.resource_tree.proofs.Removal.{IsGood-removal}
-use Rattle.tree_draft.proofs.draft.Draft.cut.Goals as goal
+use Rattle.tree_draft.proofs.draft.Draft.remove_part.Goals as goal
 
 pub change-requires : goal.change-requires
 change-requires c =
@@ -22,11 +21,10 @@ drop_nodes-requires-clause-all c = λ q.
 
 pub returns-clause-ok : goal.returns-clause-ok
 returns-clause-ok c =
-    let segment : name_of c.args.path.now ≡ c.in-Some.name.now = get_or_from_slice_get c.args.path.now (length c.args.path.now - 1) c.in-Some.name.now [] (sym c.in-Some.ensures.segment) in
     c.in_ok-drop_nodes.ensures.after
     ∙ ap (λ (t : Content). without_under t c.args.path.now)
     (c.in_ok-change.ensures.content ∙ ap (λ p. change_at c.args.self.now.content p (without_kid c.in_ok-name.name)) c.in_ok-parent.ensures
-    ∙ ap (λ n. change_at c.args.self.now.content (parent_of c.args.path.now) (without_kid n)) (c.in_ok-name.ensures ∙ sym segment))
+    ∙ ap (λ n. change_at c.args.self.now.content (parent_of c.args.path.now) (without_kid n)) (c.in_ok-name.ensures ∙ c.name.ensures.name))
 
 pub returns-clause-follows : goal.returns-clause-follows
 returns-clause-follows c = record {

@@ -1,12 +1,11 @@
 -- Pieces of a text after its first ones, and segments after another place.
-use Rattle.std.proofs.Common.{◌≡◌, ◌≢◌, ◌+◌, ◌<◌, ◌≤◌, ◌==◌, ◌++◌, ℕ, zero, suc, Bool, true, false, cond, List, [], ◌∷◌, Option, Some, None, Ok, Err, drop, get_or, length, length-append, append-nil, refl, sym, ◌∙◌, ap, arith}
+use Rattle.std.proofs.Common.{◌≡◌, ◌≢◌, ◌+◌, ◌<◌, ◌≤◌, ◌==◌, ◌++◌, ℕ, zero, suc, Bool, true, false, cond, List, [], ◌∷◌, Option, Some, None, Ok, Err, drop, get_or, length, length-append, refl, sym, ◌∙◌, ap, arith}
 use Rattle.std.specs.Prelude.{flat_map}
 use Rattle.std.specs.List.{onto_first}
 use Rattle.std.proofs.lemmas.Bool.Decides.{nat_tests}
 use Rattle.std.proofs.lemmas.List.Splits.{length-slice_split}
 use Rattle.sp_base.specs.Paths.{path_or_fault, child_of, fault_of, is_empty, is_path, path_of, path_or_none, pieces, text_of, unless_fault}
 use Rattle.sp_base.specs.declared.path.PathFault.{PathFault}
-use Rattle.overlay_merge.specs.Layers.{path_at}
 
 -- ---- the pieces after the first
 
@@ -77,14 +76,14 @@ some_piece : (text : List ℕ) → 0 < length (pieces text)
 some_piece text = omega (arith, length-slice_split (λ b. b == 47) text)
 
 module _ (place path : List (List ℕ)) (n : ℕ) where
-  pub rebased : (rest : List ℕ) (whole : List (List ℕ)) → pieces rest ≡ drop n path → child_of place rest ≡ Ok whole → is_path whole ≡ true → Some whole ≡ path_at place path n
-  rebased rest whole rest_is made valid =
+  pub rest_joined : (rest : List ℕ) (whole : List (List ℕ)) → pieces rest ≡ drop n path → child_of place rest ≡ Ok whole → is_path whole ≡ true → Some whole ≡ path_or_none (place ++ drop n path)
+  rest_joined rest whole rest_is made valid =
       let same : place ++ drop n path ≡ whole = ap (λ ps. place ++ ps) (sym rest_is) ∙ ok_of (fault_of (place ++ pieces rest)) (place ++ pieces rest) whole made in
       sym (ap path_or_none same ∙ ap (λ t. cond t (Some whole) None) valid)
 
-  pub not_rebased : (rest : List ℕ) (fault : PathFault) → ((p : List (List ℕ)) → is_path p ≡ true → path_of (text_of p) ≡ Ok p) → pieces rest ≡ drop n path
-      → child_of place rest ≡ Err fault → None ≡ path_at place path n
-  not_rebased rest fault law rest_is made =
+  pub not_joined : (rest : List ℕ) (fault : PathFault) → ((p : List (List ℕ)) → is_path p ≡ true → path_of (text_of p) ≡ Ok p) → pieces rest ≡ drop n path
+      → child_of place rest ≡ Err fault → None ≡ path_or_none (place ++ drop n path)
+  not_joined rest fault law rest_is made =
       let whole = place ++ drop n path in
       let refused : path_or_fault whole ≡ Err fault = ap (λ ps. path_or_fault (place ++ ps)) (sym rest_is) ∙ made in
       let size : length whole ≡ length place + length (drop n path) = length-append place (drop n path) in
@@ -93,8 +92,3 @@ module _ (place path : List (List ℕ)) (n : ℕ) where
         | true ↦ λ valid. let ok = checked_path whole (omega (arith, size, piece)) (law whole valid) in absurd (cc)
         | false ↦ λ e. refl
       ] refl
-
-  pub unmoved : drop n path ≡ [] → is_path place ≡ true → Some place ≡ path_at place path n
-  unmoved none valid =
-      let same : place ++ drop n path ≡ place = ap (λ ps. place ++ ps) none ∙ append-nil place in
-      sym (ap path_or_none same ∙ ap (λ t. cond t (Some place) None) valid)

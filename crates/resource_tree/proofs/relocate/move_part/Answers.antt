@@ -8,25 +8,25 @@ use Rattle.resource_tree.specs.Moves.{is_too_deep, move_fault, path_there, reloc
 use Rattle.resource_tree.specs.Parts.{rekeying, renaming_at}
 use Rattle.resource_tree.proofs.CopyParts.{any_same}
 use Rattle.resource_tree.proofs.Relocated.{may_go, allowed, too_deep, relocation_is, IsGood-relocation}
-use Rattle.resource_tree.proofs.relocate.move_under.Goals as goal
-use Rattle.resource_tree.proofs.relocate.move_under.Goals.{After-rekey_all}
+use Rattle.resource_tree.proofs.relocate.move_part.Goals as goal
+use Rattle.resource_tree.proofs.relocate.move_part.Goals.{After-rekey_all}
 
 fits : (c : After-rekey_all) → is_too_deep c.args.nodes.now.entries c.args.source.now c.args.target.now ≡ false
 fits c =
     sym (any_same c.args.source.now (λ p. not (is_path (path_there c.args.source.now c.args.target.now p))) c.args.nodes.now.entries c.in_ok-paths.paths.items c.in_ok-paths.ensures) ∙ c.in_ok-paths-2.ensures.fits
 
-is_moved : (c : After-rekey_all) → rekeying c.rename_end.new.nodes.entries c.in_ok-paths-2.paths.items ≡ relocation c.args.nodes.now.entries c.args.source.now c.args.target.now
+is_moved : (c : After-rekey_all) → rekeying c.rename_node.new.nodes.entries c.in_ok-paths-2.paths.items ≡ relocation c.args.nodes.now.entries c.args.source.now c.args.target.now
 is_moved c =
     let tree = c.args.nodes.now.entries in
     let source = c.args.source.now in
     let target = c.args.target.now in
-    relocation_is tree source target c.requires.good (may_go tree source target c.requires.free) c.rename_end.new.nodes.entries (rekeying c.rename_end.new.nodes.entries c.in_ok-paths-2.paths.items) c.in_ok-paths.paths.items c.in_ok-paths.ensures
-    (λ q. c.in_ok-rename_end.ensures.ok q
-    ∙ ap (λ (t : Content). renaming_at t (parent_of source) (name_of source) c.args.parent.now c.last_segment-name.result.now q) c.make_room.ensures.entries
-    ∙ ap (λ n. renaming_at tree (parent_of source) (name_of source) c.args.parent.now n q) c.last_segment-name.ensures.segment
+    relocation_is tree source target c.requires.good (may_go tree source target c.requires.free) c.rename_node.new.nodes.entries (rekeying c.rename_node.new.nodes.entries c.in_ok-paths-2.paths.items) c.in_ok-paths.paths.items c.in_ok-paths.ensures
+    (λ q. c.in_ok-rename_node.ensures.ok q
+    ∙ ap (λ (t : Content). renaming_at t (parent_of source) (name_of source) c.args.parent.now c.name-name.result.now q) c.make_room.ensures.entries
+    ∙ ap (λ n. renaming_at tree (parent_of source) (name_of source) c.args.parent.now n q) c.name-name.ensures.name
     ∙ ap (λ p. renaming_at tree (parent_of source) (name_of source) p (name_of target) q) c.requires.parent)
-    c.in_ok-rename_end.ensures.ordered
-    (ap (rekeying c.rename_end.new.nodes.entries) c.in_ok-paths-2.ensures.ok)
+    c.in_ok-rename_node.ensures.ordered
+    (ap (rekeying c.rename_node.new.nodes.entries) c.in_ok-paths-2.ensures.ok)
 
 pub returns-clause-allowed : goal.returns-clause-allowed
 returns-clause-allowed c = allowed c.args.nodes.now.entries c.args.source.now c.args.target.now c.requires.free (fits c)

@@ -4,17 +4,17 @@ use Rattle.resource_tree.specs.Changes.{change_at, with_kids, kids_at}
 use Rattle.resource_tree.specs.Patches.{patching}
 use Rattle.resource_tree.specs.Moves.{copy, copy_fault}
 use Rattle.resource_tree.proofs.Copied.{is_free, fits_from, copy_fault_is, copy_is, IsGood-copy}
-use Rattle.resource_tree.proofs.copy.copy_under.Goals as goal
+use Rattle.resource_tree.proofs.copy.copy_part.Goals as goal
 
-is_copied : (c : goal.In_ok-hang) → c.hang.new.nodes.entries ≡ copy c.args.nodes.now.entries c.args.source.now c.args.target.now
+is_copied : (c : goal.In_ok-put_part) → c.put_part.new.nodes.entries ≡ copy c.args.nodes.now.entries c.args.source.now c.args.target.now
 is_copied c =
     let tree = c.args.nodes.now.entries in
-    copy_is tree c.args.source.now c.args.target.now c.requires.good (is_free tree c.args.source.now c.args.target.now c.requires.free) c.in_ok-part.part c.in_ok-hang.ensures.once c.in_ok-part.ensures.ok c.in_ok-kids.kids c.last_segment.result.now
-    (c.in_ok-kids.ensures ∙ ap (λ (ks : List (List ℕ)). ks ++ c.last_segment.result.now ∷ []) (c.kids_at.ensures ∙ ap (kids_at tree) c.requires.parent))
-    c.last_segment.ensures.segment
-    c.hang.new.nodes.entries
-    (c.in_ok-hang.ensures.ok ∙ ap (λ p. change_at (patching tree c.in_ok-part.part) p (with_kids c.in_ok-kids.kids)) c.requires.parent)
-    c.in_ok-hang.ensures.ordered
+    copy_is tree c.args.source.now c.args.target.now c.requires.good (is_free tree c.args.source.now c.args.target.now c.requires.free) c.in_ok-part.part c.in_ok-put_part.ensures.once c.in_ok-part.ensures.ok c.in_ok-kids.kids c.name.result.now
+    (c.in_ok-kids.ensures ∙ ap (λ (ks : List (List ℕ)). ks ++ c.name.result.now ∷ []) (c.kids_at.ensures ∙ ap (kids_at tree) c.requires.parent))
+    c.name.ensures.name
+    c.put_part.new.nodes.entries
+    (c.in_ok-put_part.ensures.ok ∙ ap (λ p. change_at (patching tree c.in_ok-part.part) p (with_kids c.in_ok-kids.kids)) c.requires.parent)
+    c.in_ok-put_part.ensures.ordered
 
 pub returns-clause-allowed : goal.returns-clause-allowed
 returns-clause-allowed c = copy_fault_is c.args.nodes.now.entries c.args.source.now c.args.target.now c.requires.free ∙ c.in_ok-part.ensures.fits
@@ -26,7 +26,7 @@ pub returns-clause-good : goal.returns-clause-good
 returns-clause-good c =
     let tree = c.args.nodes.now.entries in
     let fits = fits_from tree c.args.source.now c.args.target.now c.in_ok-part.ensures.fits in
-    IsGood-copy tree c.args.source.now c.args.target.now c.requires.good (is_free tree c.args.source.now c.args.target.now c.requires.free) fits.shallow c.hang.new.nodes.entries (is_copied c) c.in_ok-hang.ensures.ordered fits.small
+    IsGood-copy tree c.args.source.now c.args.target.now c.requires.good (is_free tree c.args.source.now c.args.target.now c.requires.free) fits.shallow c.put_part.new.nodes.entries (is_copied c) c.in_ok-put_part.ensures.ordered fits.small
 
 pub returns-in_err-part-clause-err : goal.returns-in_err-part-clause-err
 returns-in_err-part-clause-err c =

@@ -8,16 +8,16 @@ use Rattle.resource_tree.specs.Patches.{patching}
 use Rattle.resource_tree.specs.Moves.{move_fault}
 use Rattle.resource_tree.proofs.Relocated.{may_go, allowed, too_deep, IsGood-relocation}
 use Rattle.tree_draft.proofs.DraftLemmas.{IsOrdered}
-use Rattle.tree_draft.proofs.MoveLemmas.{deep_from, fixed_not, hung, parent_stays}
-use Rattle.tree_draft.proofs.draft.Draft.move_under.Goals as goal
+use Rattle.tree_draft.proofs.MoveLemmas.{deep_from, fixed_not, part_put, parent_stays}
+use Rattle.tree_draft.proofs.draft.Draft.move_part.Goals as goal
 
-pub cut-requires-clause-fixed : goal.cut-requires-clause-fixed
-cut-requires-clause-fixed c = fixed_not c.args.self.now.content c.args.source.now c.args.target.now c.requires.free
+pub remove_part-requires-clause-fixed : goal.remove_part-requires-clause-fixed
+remove_part-requires-clause-fixed c = fixed_not c.args.self.now.content c.args.source.now c.args.target.now c.requires.free
 
-pub hang-requires : goal.hang-requires
-hang-requires c =
-    ap (λ p. is_some (node_at c.cut.new.self.content p)) c.requires.parent
-    ∙ parent_stays c.args.self.now.content c.cut.new.self.content c.args.source.now c.args.target.now (may_go c.args.self.now.content c.args.source.now c.args.target.now c.requires.free) c.in_ok-cut.ensures.ok
+pub put_part-requires : goal.put_part-requires
+put_part-requires c =
+    ap (λ p. is_some (node_at c.remove_part.new.self.content p)) c.requires.parent
+    ∙ parent_stays c.args.self.now.content c.remove_part.new.self.content c.args.source.now c.args.target.now (may_go c.args.self.now.content c.args.source.now c.args.target.now c.requires.free) c.in_ok-remove_part.ensures.ok
 
 pub returns-in_err-part-clause-err : goal.returns-in_err-part-clause-err
 returns-in_err-part-clause-err c =
@@ -32,13 +32,13 @@ returns-in_err-part-clause-err c =
 pub returns-clause-ok : goal.returns-clause-ok
 returns-clause-ok c =
     let tree = c.args.self.now.content in
-    hung tree (removal tree c.args.source.now) c.hang.new.self.content c.args.source.now c.args.target.now c.args.parent.now c.in_ok-part.part.entries
+    part_put tree (removal tree c.args.source.now) c.put_part.new.self.content c.args.source.now c.args.target.now c.args.parent.now c.in_ok-part.part.entries
     c.requires.sound.good.ordered
-    (subst (λ (t : Content). IsOrdered t) c.in_ok-cut.ensures.ok c.in_ok-cut.ensures.follows.sound.good.ordered)
+    (subst (λ (t : Content). IsOrdered t) c.in_ok-remove_part.ensures.ok c.in_ok-remove_part.ensures.follows.sound.good.ordered)
     c.in_ok-part.ensures.once
     c.in_ok-part.ensures.ok
     c.requires.parent
-    (c.in_ok-hang.ensures.content ∙ ap (λ (t : Content). patching (change_at t c.args.parent.now (with_kid (name_of c.args.target.now))) c.in_ok-part.part.entries) c.in_ok-cut.ensures.ok)
+    (c.in_ok-put_part.ensures.content ∙ ap (λ (t : Content). patching (change_at t c.args.parent.now (with_kid (name_of c.args.target.now))) c.in_ok-part.part.entries) c.in_ok-remove_part.ensures.ok)
 
 pub returns-clause-allowed : goal.returns-clause-allowed
 returns-clause-allowed c =
@@ -53,8 +53,8 @@ returns-clause-follows c =
     let fits = deep_from tree c.args.source.now c.args.target.now c.in_ok-paths.paths.items c.deref.result.now false c.in_ok-paths.ensures c.deref.ensures.value c.in_ok-part.ensures.fits in
     record {
       sound = record {
-        good = IsGood-relocation tree c.args.source.now c.args.target.now c.requires.sound.good can fits c.hang.new.self.content (returns-clause-ok c);
-        counted = c.in_ok-hang.ensures.counted c.in_ok-cut.ensures.follows.sound.counted;
+        good = IsGood-relocation tree c.args.source.now c.args.target.now c.requires.sound.good can fits c.put_part.new.self.content (returns-clause-ok c);
+        counted = c.in_ok-put_part.ensures.counted c.in_ok-remove_part.ensures.follows.sound.counted;
       };
-      tree = c.in_ok-hang.ensures.tree ∙ c.in_ok-cut.ensures.follows.tree;
+      tree = c.in_ok-put_part.ensures.tree ∙ c.in_ok-remove_part.ensures.follows.tree;
     }

@@ -32,7 +32,7 @@ use Rattle.content_json.proofs.Under.{both, by_path_total}
 use Rattle.content_json.proofs.KidLemmas.{and_true, all_at}
 use Rattle.content_json.proofs.MapLemmas.{is_map_of, length-keys}
 use Rattle.content_json.proofs.SizeLemmas.{length-nodes_in}
-use Rattle.content_json.proofs.WrittenLemmas.{kid_there, path_there, no_kids}
+use Rattle.content_json.proofs.WrittenLemmas.{kid_named, kid_there, no_kids}
 use Rattle.content_json.proofs.ReturnMembers.{members_of, members_are, members_read}
 use Rattle.content_json.proofs.ReturnFaults.{Returns, Node-is}
 use Rattle.content_json.proofs.ReturnPaths.{returns_node}
@@ -56,10 +56,6 @@ holds_at P (e ∷ tree) q node h at =
       | false ↦ λ is. holds_at P tree q node parts.1 is
     ] at
 
-last_holds : (p : List ℕ → Bool) (path : List (List ℕ)) (k : List ℕ) → list_all p (path ++ k ∷ []) ≡ true → p k ≡ true
-last_holds p [] k h = (both (p k) true h).0
-last_holds p (s ∷ path) k h = last_holds p path k (both (p s) (list_all p (path ++ k ∷ [])) h).1
-
 found : (o : Option Node) → is_some o ≡ true → (node : Node) × (o ≡ Some node)
 found None h = absurd (false≢true h)
 found (Some node) h = (node, refl)
@@ -79,7 +75,7 @@ module _ (tree : Content) (good : IsGood tree) (props : AreBelow tree []) (can :
         longs = here.longs;
         plain_props = returns.1;
         plain_kids = λ k h. and_true (seg_ok k) (has_no_colon k)
-            (last_holds seg_ok path k (both (list_all seg_ok (kid path k)) _ (path_there tree (kid path k) good (kid_there tree path node k good there h))).0)
+            (kid_named tree path node k good there h)
             (all_at has_no_colon k node.kids returns.0 h);
         distinct = is.distinct;
         apart = is.apart;

@@ -3,7 +3,7 @@ use Rattle.std.proofs.Common.{◌≡◌, ◌+◌, ◌-◌, ◌<◌, ◌≤◌, �
 use Rattle.std.specs.Prelude.{flat_map, nat_le}
 use Rattle.std.specs.List.{list_any, list_all}
 use Rattle.std.specs.Str.{bytes_eq}
-use Rattle.std.proofs.lemmas.Bool.{false≢true, leb-true}
+use Rattle.std.proofs.lemmas.Bool.{and_parts, false≢true, leb-true}
 use Rattle.std.proofs.lemmas.List.{take_more, append-nil}
 use Rattle.std.proofs.lemmas.List.Concat.{flat_map-append}
 use Rattle.json.specs.Json.{Members, no_members}
@@ -63,6 +63,17 @@ pub kid_short : (tree : Content) (path : List (List ℕ)) (node : Node) (name : 
 kid_short tree path node name good there h =
     let most = short (kid path name) (path_there tree (kid path name) good (kid_there tree path node name good there h)) in
     omega (arith, most, length-append path (name ∷ []))
+
+last_holds : (p : List ℕ → Bool) (path : List (List ℕ)) (k : List ℕ) → list_all p (path ++ k ∷ []) ≡ true → p k ≡ true
+last_holds p [] k h = (and_parts (p k) true h).0
+last_holds p (s ∷ path) k h = last_holds p path k (and_parts (p s) (list_all p (path ++ k ∷ [])) h).1
+
+-- a kid's name is one that a path may have
+pub kid_named : (tree : Content) (path : List (List ℕ)) (node : Node) (name : List ℕ) → IsGood tree → node_at tree path ≡ Some node → list_any (bytes_eq name) node.kids ≡ true
+    → seg_ok name ≡ true
+kid_named tree path node name good there h =
+    let valid = path_there tree (kid path name) good (kid_there tree path node name good there h) in
+    last_holds seg_ok path name (and_parts (list_all seg_ok (kid path name)) _ valid).0
 
 -- a node at the last level has no kids
 pub no_kids : (tree : Content) (path : List (List ℕ)) (node : Node) → IsGood tree → node_at tree path ≡ Some node → 64 ≤ length path → node.kids ≡ []

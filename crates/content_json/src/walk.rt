@@ -1,5 +1,5 @@
 // Takes an object apart into the nodes that it stands for.
-ghost use Rattle.std.specs.Prelude.{◌≡◌, ◌<◌, ◌-◌, ◌||◌, ◌&&◌, not, ℕ, List, [], None, IfOk, OnOk, false, true, length, if◌then◌else◌};
+ghost use Rattle.std.specs.Prelude.{◌≡◌, ◌<◌, ◌-◌, ◌||◌, ◌&&◌, not, ℕ, List, [], None, IfOk, IsTrue, OnOk, false, true, length, if◌then◌else◌};
 ghost use Rattle.std.specs.List.{filter_map, list_any};
 ghost use Rattle.std.specs.Option.{option_map_or};
 ghost use Rattle.std.specs.BTreeSet.{contains_by};
@@ -12,7 +12,7 @@ ghost use Rattle.serde_json.specs.Find.{as_str};
 ghost use Rattle.serde_json.specs.View.{view, items_view, members_view};
 ghost use Rattle.sp_base.specs.Names.{by_name};
 ghost use Rattle.resource_tree.specs.Content.{node_at, kid};
-ghost use Rattle.sp_base.specs.Paths.{most_segments};
+ghost use Rattle.sp_base.specs.Paths.{most_segments, seg_ok};
 ghost use Rattle.content_json.specs.Names.{has_bad_name, is_content_name, is_order, is_kid_member};
 ghost use Rattle.content_json.specs.Lists.{item_list, data_value};
 ghost use Rattle.content_json.specs.Faults.{fault_in, fault_below};
@@ -78,7 +78,7 @@ fn kids_of(alloc: Global, members: &Map<String, Value>) -> Mem<TextList>
 
 // The path of a kid. Its name and the depth were looked at before.
 pub(crate) fn kid_path(alloc: Global, path: &Path, name: &str) -> Mem<Path>
-    requires plain { is_content_name name.now ≡ true }
+    requires name { IsTrue (seg_ok name.now) }
     requires shallow { length path.now < most_segments }
     ensures { IfOk result (λ found. found ≡ kid path.now name.now) }
 {

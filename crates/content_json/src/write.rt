@@ -1,31 +1,19 @@
 // Writes a tree as JSON: of each node the properties, then `:order`, then the kids.
-ghost use Rattle.std.specs.Prelude.{◌≡◌, IfOk, OnOk, IsTrue, Some, Ok, true};
+ghost use Rattle.std.specs.Prelude.{◌≡◌, IfOk, OnOk, Some, Ok, true};
 ghost use Rattle.json.specs.Tree.{json_tokens};
-ghost use Rattle.sp_base.specs.Paths.{is_path};
-ghost use Rattle.resource_tree.specs.Content.{IsGood, kid, node_at};
+ghost use Rattle.resource_tree.specs.Content.{IsGood, node_at};
 ghost use Rattle.property_json.specs.PropertyJson.{Adds};
 ghost use Rattle.content_json.specs.ContentOf.{content};
 ghost use Rattle.content_json.specs.Written.{is_plain_tree, tree_text};
 ghost use Rattle.content_json.specs.Steps.{order_tokens, whole_at, kid_tokens, AreBelow, AreBelowKids};
 
 use crate::names::ORDER;
+use crate::walk::kid_path;
 use json::Writer;
 use property_json::{properties_come_first, write_properties, write_texts};
 use resource_tree::{Node, Tree};
-use sp_base::{ByteBuf, Mem, NoMemory, Path, PathFault, TextList};
+use sp_base::{ByteBuf, Mem, Path, TextList};
 use std::alloc::{AllocError, Global};
-
-// The path of a kid of the tree.
-fn path_of_kid(alloc: Global, path: &Path, name: &str) -> Mem<Path>
-    requires { IsTrue (is_path (kid path.now name.now)) }
-    ensures { IfOk result (λ found. found ≡ kid path.now name.now) }
-{
-    match path.child(alloc, name) {
-        Ok(kid) => Ok(kid),
-        Err(PathFault::NoMemory) => Err(NoMemory),
-        Err(_) => unreachable!(),
-    }
-}
 
 // Writes the names of all kids in their order, where there are some.
 fn write_order(writer: &mut Writer, kids: &TextList) -> Result<(), AllocError>
@@ -64,7 +52,7 @@ fn write_kids(alloc: Global, tree: &Tree, writer: &mut Writer, path: &Path, node
     ensures props { OnOk result (AreBelowKids tree.now path.now node.now.kids) }
 {
     for name in node.kids.as_slice() {
-        let kid = path_of_kid(alloc, path, name.text())?;
+        let kid = kid_path(alloc, path, name.text())?;
         if let Some(node) = tree.node(&kid) {
             writer.key(name.text())?;
             write_node(alloc, tree, writer, &kid, node)?;

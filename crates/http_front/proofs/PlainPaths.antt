@@ -3,7 +3,6 @@ use Rattle.std.proofs.Common.{◌≡◌, ◌∙◌, ℕ, Bool, true, false, cond
 use Rattle.std.specs.Prelude.{◌&&◌, nat_eq, nat_lt, codes, option_and_then}
 use Rattle.std.specs.List.{list_any}
 use Rattle.std.specs.Option.{option_map}
-use Rattle.std.specs.Result.{result_ok}
 use Rattle.std.specs.Str.{is_utf8, IsUtf8}
 use Rattle.std.specs.Cmp.Lexicographic.{pointwise}
 use Rattle.std.proofs.lemmas.Bool.{or_parts, eqb-false}
@@ -11,7 +10,7 @@ use Rattle.std.proofs.lemmas.Bool.Decides.{nat_tests}
 use Rattle.std.proofs.lemmas.List.Folds.{list_any-append}
 use Rattle.percent_encoding.specs.Percent.{percent_decode}
 use Rattle.percent_encoding.proofs.PercentLemmas.{percent_decode-nil, percent_decode_not_percent}
-use Rattle.sp_base.specs.Paths.{path_of, is_mangled, unmangled_by, unmangled_seg, unmangled_segs}
+use Rattle.sp_base.specs.Paths.{path_in, is_mangled, unmangled_by, unmangled_seg, unmangled_segs}
 use Rattle.sp_base.specs.PathTexts.{spelling_of}
 use Rattle.http_front.specs.declared.target.Target.{Target}
 use Rattle.http_front.specs.PathReading.{is_percent, is_underscore, path_and_slash}
@@ -67,8 +66,8 @@ same_parts : (o : Option (List (List ℕ))) (slash : Bool) (query : Option (List
 same_parts None slash query = refl
 same_parts (Some path) slash query = refl
 
-told : (b : Bool) (bytes : List ℕ) (query : Option (List ℕ)) → option_map (with_query query) (option_and_then path_and_slash (cond b (Some bytes) None)) ≡ option_map (λ path. with_query query (unmangled_segs path, ends_in_slash bytes)) (option_and_then (λ text. result_ok (path_of (without_slash text))) (cond b (Some bytes) None))
-told true bytes query = same_parts (result_ok (path_of (without_slash bytes))) (ends_in_slash bytes) query
+told : (b : Bool) (bytes : List ℕ) (query : Option (List ℕ)) → option_map (with_query query) (option_and_then path_and_slash (cond b (Some bytes) None)) ≡ option_map (λ path. with_query query (unmangled_segs path, ends_in_slash bytes)) (option_and_then (λ text. path_in (without_slash text)) (cond b (Some bytes) None))
+told true bytes query = same_parts (path_in (without_slash bytes)) (ends_in_slash bytes) query
 told false bytes query = refl
 
 -- a target that begins with a slash says the path that its bytes spell

@@ -2,10 +2,9 @@
 use Rattle.std.specs.Prelude.{◌+◌, ◌-◌, ◌==◌, ◌&&◌, ℕ, Bool, nat_lt, if◌then◌else◌, List, Option, Some, None, option_and_then, length, take, drop, position, slice_index}
 use Rattle.std.specs.List.{before_first}
 use Rattle.std.specs.Option.{option_map}
-use Rattle.std.specs.Result.{result_ok}
 use Rattle.std.specs.Str.{is_utf8}
 use Rattle.percent_encoding.specs.Percent.{percent_decode}
-use Rattle.sp_base.specs.Paths.{path_of, unmangled_segs}
+use Rattle.sp_base.specs.Paths.{path_in, unmangled_segs}
 use Rattle.http_front.specs.declared.target.Target.{Target}
 
 -- a `?` ends the path
@@ -35,7 +34,7 @@ utf8_text bytes = if is_utf8 bytes then Some bytes else None
 
 -- the path that decoded bytes spell, where they spell one
 abbrev pub path_of_bytes : List ℕ → Option (List (List ℕ))
-path_of_bytes bytes = option_and_then (λ text. result_ok (path_of (without_slash text))) (utf8_text bytes)
+path_of_bytes bytes = option_and_then (λ text. path_in (without_slash text)) (utf8_text bytes)
 
 -- a target with this path
 abbrev pub with_path : List ℕ → List (List ℕ) → Target

@@ -2,14 +2,13 @@
 ghost use Rattle.std.specs.Prelude.{◌≡◌, IfOk, option_copied, position};
 ghost use Rattle.std.specs.List.{before_first, list_any};
 ghost use Rattle.std.specs.Option.{option_map, option_and_then};
-ghost use Rattle.std.specs.Result.{result_ok};
 ghost use Rattle.percent_encoding.specs.Percent.{percent_decode as decoding};
-ghost use Rattle.sp_base.specs.Paths.{path_of, unmangled_segs};
+ghost use Rattle.sp_base.specs.Paths.{path_in, unmangled_segs};
 ghost use Rattle.http_front.specs.PathReading.{is_percent, is_underscore, path_and_slash};
 ghost use Rattle.http_front.specs.Targets.{is_question_mark, query_of, begins_with_slash, ends_in_slash, without_slash as trimmed, utf8_text, target_of};
 
 use percent_encoding::{DecodeError, percent_decode};
-use sp_base::{ByteBuf, Mem, NoMemory, Path, PathFault};
+use sp_base::{ByteBuf, Mem, NoMemory, Path};
 use std::alloc::Global;
 
 /// What a target says.
@@ -73,7 +72,7 @@ fn read_path(alloc: Global, path: &str) -> Mem<Option<(Path, bool)>>
     if has_percent(path) {
         escaped_path(alloc, path.as_bytes())
     } else {
-        path_in(alloc, path)
+        path_and_slash(alloc, path)
     }
 }
 
@@ -87,14 +86,14 @@ fn escaped_path(alloc: Global, path: &[u8]) -> Mem<Option<(Path, bool)>>
     ensures { IfOk result (λ o. o ≡ option_and_then path_and_slash (utf8_text (decoding path.now))) }
 {
     match percent_decode(path).decode_utf8(alloc) {
-        Ok(text) => path_in(alloc, &text),
+        Ok(text) => path_and_slash(alloc, &text),
         Err(DecodeError::Utf8(_)) => Ok(None),
         Err(DecodeError::OutOfMemory) => Err(NoMemory),
     }
 }
 
 // The path that a text spells, and whether a slash at its end was dropped.
-fn path_in(alloc: Global, text: &str) -> Mem<Option<(Path, bool)>>
+fn path_and_slash(alloc: Global, text: &str) -> Mem<Option<(Path, bool)>>
     ensures { IfOk result (λ o. o ≡ path_and_slash text.now) }
 {
     let (text, slash) = without_slash(text);
@@ -117,12 +116,11 @@ fn without_slash(text: &str) -> (&str, bool)
 
 // The path that a text spells, with its namespace prefixes as they stand in the repository.
 fn unmangled_path(alloc: Global, text: &str) -> Mem<Option<Path>>
-    ensures { IfOk result (λ o. o ≡ option_map unmangled_segs (result_ok (path_of text.now))) }
+    ensures { IfOk result (λ o. o ≡ option_map unmangled_segs (path_in text.now)) }
 {
-    match Path::read(alloc, text) {
-        Ok(path) => Ok(Some(unmangled(alloc, path)?)),
-        Err(PathFault::NoMemory) => Err(NoMemory),
-        Err(_) => Ok(None),
+    match Path::read_or_none(alloc, text)? {
+        Some(path) => Ok(Some(unmangled(alloc, path)?)),
+        None => Ok(None),
     }
 }
 

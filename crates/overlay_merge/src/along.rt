@@ -10,7 +10,7 @@ use crate::merging::has_resource;
 use crate::reach::reach;
 use crate::roots::is_merged_path;
 use resource_tree::Tree;
-use sp_base::{Mem, NoMemory, Path, PathFault};
+use sp_base::{Mem, Path};
 use std::alloc::Global;
 use std::marker::Model;
 use url_split::Known;
@@ -41,9 +41,8 @@ fn deepest_merged(alloc: Global, tree: &Tree, text: &str) -> Mem<Path> {
     if !text.starts_with("/mnt/") {
         return Ok(Path::root(alloc));
     }
-    match Path::read(alloc, text) {
-        Ok(path) if is_merged_path(&path) => path.first(alloc, reach(alloc, tree, &path)?),
-        Err(PathFault::NoMemory) => Err(NoMemory),
+    match Path::read_or_none(alloc, text)? {
+        Some(path) if is_merged_path(&path) => path.first(alloc, reach(alloc, tree, &path)?),
         _ => Ok(Path::root(alloc)),
     }
 }

@@ -1,11 +1,7 @@
--- The last segment of a path, and the property whose path it is.
-use Rattle.std.proofs.Common.{◌≡◌, ◌∙◌, ◌-◌, ap, sym, refl, arith, ne_eqb, ⊎_elim, ℕ, List, [], Option, Some, length, Bool, true, false}
-use Rattle.std.specs.Prelude.{◌&&◌, ◌==◌, IsTrue, slice_get, cond, unwrap_or, Err}
-use Rattle.std.specs.List.{list_all}
-use Rattle.std.proofs.lemmas.Bool.{cases_Bool, true≢false}
-use Rattle.std.proofs.lemmas.Option.{slice_get_within, get_or_from_slice_get, unwrap_or-slice_get}
-use Rattle.std.proofs.lemmas.List.Folds.{list_all_at}
-use Rattle.sp_base.specs.Paths.{is_path, seg_ok}
+-- The property that a path names: its last segment, at the node above.
+use Rattle.std.proofs.Common.{◌≡◌, ◌∙◌, ◌-◌, ap, sym, arith, ne_eqb, ℕ, List, [], Option, Some, length, false}
+use Rattle.std.specs.Prelude.{◌==◌, slice_get, cond, unwrap_or, Err}
+use Rattle.std.proofs.lemmas.Option.{slice_get_within, unwrap_or-slice_get}
 use Rattle.sp_base.specs.declared.value.Value.{Value}
 use Rattle.resource_tree.specs.declared.faults.TreeFault.TheVariants.{Taken}
 use Rattle.resource_tree.specs.Content.{Content, name_of, parent_of}
@@ -13,19 +9,6 @@ use Rattle.resource_tree.specs.Changes.{set_fault, update}
 use Rattle.post_apply.specs.declared.fault.ApplyFault.TheVariants.{Tree}
 use Rattle.post_apply.specs.Steps.{ApplyOutcome, changed_unless_fault}
 use Rattle.post_apply.specs.Values.{put_at}
-
-left : (a b : Bool) → (a && b) ≡ true → a ≡ true
-left true b e = refl
-left false b e = absurd (true≢false (sym e))
-
--- each segment of a path is one that a path may have
-pub segment_ok : (path : List (List ℕ)) (n : ℕ) (name : List ℕ) → IsTrue (is_path path) → Some name ≡ slice_get path n → IsTrue (seg_ok name)
-segment_ok path n name valid at =
-    let there = sym at in
-    ⊎_elim
-    (λ yes. yes)
-    (λ no. absurd (true≢false (sym (left (list_all seg_ok path) _ valid) ∙ list_all_at seg_ok path n [] (slice_get_within path n name there) (ap seg_ok (get_or_from_slice_get path n name [] there) ∙ no))))
-    (cases_Bool (seg_ok name))
 
 name_is : (path : List (List ℕ)) (o : Option (List ℕ)) → o ≡ slice_get path (length path - 1) → unwrap_or o [] ≡ name_of path
 name_is path o at = ap (λ p. unwrap_or p []) at ∙ unwrap_or-slice_get path (length path - 1) []

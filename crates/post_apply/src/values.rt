@@ -1,6 +1,5 @@
 //! Properties that are set.
-ghost use Rattle.std.specs.Prelude.{◌≡◌, ◌≢◌, ◌-◌, IfOk, IfSome, OnOk, IfErr, IsTrue, Ok, Err, length, option_copied, slice_get};
-ghost use Rattle.sp_base.specs.Paths.{seg_ok};
+ghost use Rattle.std.specs.Prelude.{◌≡◌, ◌≢◌, IfOk, OnOk, IfErr, Ok, Err};
 ghost use Rattle.sp_base.specs.Typed.{single_of, typed_of};
 ghost use Rattle.tree_draft.specs.Drafts.{DraftFollows, IsSound};
 ghost use Rattle.post_apply.specs.Values as spec;
@@ -83,7 +82,7 @@ pub fn put_at(alloc: Global, draft: &mut Draft, path: &Path, value: Value) -> Re
     ensures follows { OnOk result (DraftFollows draft.old draft.new) }
 {
     let parent = path.parent(alloc)?;
-    let Some(name) = last_segment(path) else {
+    let Some(name) = path.last() else {
         return Err(ApplyFault::Tree(TreeFault::Taken(path.duplicate(alloc)?)));
     };
     set(alloc, draft, &parent, name, value)
@@ -104,16 +103,6 @@ pub fn put_on_way(
     let parent = path.parent(alloc)?;
     make_way(alloc, draft, &parent)?;
     put_at(alloc, draft, path, value)
-}
-
-// The last segment of a path, which is one that a path may have.
-#[tactic(auto, using(crate::proofs::PathLemmas::segment_ok))]
-fn last_segment(path: &Path) -> Option<&str>
-    ensures value { option_copied result ≡ slice_get path.now (length path.now - 1) }
-    ensures segment { IfSome result (λ name. IsTrue (seg_ok name.now)) }
-{
-    let _valid = path.depth();
-    path.last()
 }
 
 fn set_at(alloc: Global, draft: &mut Draft, node: &Path, set: &PropSet) -> Result<(), ApplyFault>

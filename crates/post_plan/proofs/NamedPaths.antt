@@ -2,8 +2,9 @@
 use Rattle.std.proofs.Common.{◌≡◌, ◌∙◌, ap, sym, refl, ℕ, List, [], ◌∷◌, ◌++◌, Option, Some, None, length, map, Bool, true, false, cond}
 use Rattle.std.specs.Prelude.{◌&&◌, ◌==◌, ◌-◌, IfSome, Result, Ok, Err, filter, nat_le, not, option_and_then, take, unwrap_or}
 use Rattle.std.specs.List.{cons_option, filter_map, list_all}
+use Rattle.std.specs.Result.{result_ok}
 use Rattle.std.proofs.lemmas.Bool.{false≢true}
-use Rattle.sp_base.specs.Paths.{is_path, parent_of, path_of, path_or_none}
+use Rattle.sp_base.specs.Paths.{is_path, parent_of, path_in, path_of, path_or_none}
 use Rattle.sp_base.specs.declared.path.PathFault.{PathFault}
 use Rattle.sp_base.specs.declared.hint.Hint.{Hint}
 use Rattle.post_plan.specs.declared.fault.PlanFault.{PlanFault}
@@ -17,7 +18,7 @@ use Rattle.post_plan.specs.declared.verb.Verb.{Verb}
 use Rattle.post_plan.specs.declared.verb.Verb.TheVariants.{Modify, Delete, Copy, Move, Nop}
 use Rattle.post_plan.specs.Parameters.{any_marked, content_where, path_text, parameter_suffix}
 use Rattle.post_plan.specs.RelativePaths.{RelativePath, relative_path_of}
-use Rattle.post_plan.specs.Spots.{any_spot, full_path, goal_at, goal_base, goal_of, goes_under, ends_in_name, if_changeable, is_absolute, is_reserved, led_to, ok_path, own_name, relative_spot, spot_below, spot_of, spot_there, unless_reserved, word_without_slash}
+use Rattle.post_plan.specs.Spots.{any_spot, full_path, goal_at, goal_base, goal_of, goes_under, ends_in_name, if_changeable, is_absolute, is_reserved, led_to, own_name, relative_spot, spot_below, spot_of, spot_there, unless_reserved, word_without_slash}
 use Rattle.post_plan.specs.Entries.{Entry, carries, carry_by, carry_of as entry_carry, deleted_spots, distinct, entries, entry_by, parameter_entry, hint_at, same_spot, same_suffix, set_by, set_of, set_words, sets, with_suffix}
 use Rattle.post_plan.specs.Plan.{carry_operation, dest_word, faults, first_plan_fault, relative_node, operation_by, plan_of, operation_unless_fault, verb_of}
 use Rattle.post_plan.specs.OperationPaths.{AsksForPaths, carry_has_paths, ends_are_paths, names_paths, set_has_path, spot_has_path}
@@ -112,16 +113,16 @@ kept_is None is = tt
 kept_is (Some path) is = by_test (λ (p : List (List ℕ)). is_path p ≡ true) (is_reserved path) None (Some path) tt is
 
 module _ (valid : (text : List ℕ) (path : List (List ℕ)) → path_of text ≡ Ok path → is_path path ≡ true) where
-  read_is : (text : List ℕ) → IsPathIf (ok_path (path_of text))
+  read_is : (text : List ℕ) → IsPathIf (path_in text)
   read_is text = go (path_of text) refl
     where
-      go : (r : Result (List (List ℕ)) PathFault) → path_of text ≡ r → IsPathIf (ok_path r)
+      go : (r : Result (List (List ℕ)) PathFault) → path_of text ≡ r → IsPathIf (result_ok r)
       go (Ok path) is = valid text path is
       go (Err fault) is = tt
 
   any_has : (node : List (List ℕ)) (text : List ℕ) → HasPathIf (any_spot node text)
   any_has node text =
-      by_test (λ (s : Spot). spot_has_path s ≡ true) (is_absolute text) (spot_there (ok_path (path_of text))) (option_and_then (relative_spot node) (relative_path_of text)) (there_has (ok_path (path_of text)) (read_is text))
+      by_test (λ (s : Spot). spot_has_path s ≡ true) (is_absolute text) (spot_there (path_in text)) (option_and_then (relative_spot node) (relative_path_of text)) (there_has (path_in text) (read_is text))
       (then_some (λ (w : RelativePath). w ≡ w) (λ (s : Spot). spot_has_path s ≡ true) (relative_spot node) (relative_path_of text) (any_is (relative_path_of text)) (λ relative _. relative_has node relative))
 
   spot_has : (node : List (List ℕ)) (text : List ℕ) → HasPathIf (spot_of node text)
@@ -132,7 +133,7 @@ module _ (valid : (text : List ℕ) (path : List (List ℕ)) → path_of text �
 
   base_is : (parent : List (List ℕ)) (text : List ℕ) → IsPathIf (goal_base parent text)
   base_is parent text =
-      by_test (λ (p : List (List ℕ)). is_path p ≡ true) (is_absolute text) (ok_path (path_of text)) (cond (ends_in_name text) (option_and_then (led_to parent) (relative_path_of text)) None) (read_is text)
+      by_test (λ (p : List (List ℕ)). is_path p ≡ true) (is_absolute text) (path_in text) (cond (ends_in_name text) (option_and_then (led_to parent) (relative_path_of text)) None) (read_is text)
       (by_test (λ (p : List (List ℕ)). is_path p ≡ true) (ends_in_name text) (option_and_then (led_to parent) (relative_path_of text)) None
       (then_some (λ (w : RelativePath). w ≡ w) (λ (p : List (List ℕ)). is_path p ≡ true) (led_to parent) (relative_path_of text) (any_is (relative_path_of text)) (λ relative _. led_is parent relative))
       tt)

@@ -1,5 +1,5 @@
 -- The segments of what stands below a node.
-use Rattle.std.proofs.Common.{◌≡◌, ◌≢◌, ◌<◌, ◌≤◌, ◌-◌, ◌+◌, ℕ, zero, suc, Bool, true, false, not, cond, List, [], ◌∷◌, ◌++◌, Option, Some, None, take, length, slice_get, refl, ap, sym, ◌∙◌, arith, append_assoc, length-append}
+use Rattle.std.proofs.Common.{◌≡◌, ◌<◌, ◌≤◌, ◌-◌, ◌+◌, ℕ, zero, suc, Bool, true, false, not, cond, List, [], ◌∷◌, ◌++◌, Option, Some, None, take, length, slice_get, refl, ap, sym, ◌∙◌, arith, append_assoc, length-append}
 use Rattle.std.specs.Prelude.{nat_le, option_and_then}
 use Rattle.std.proofs.lemmas.Bool.Decides.{nat_tests}
 use Rattle.std.proofs.lemmas.List.{take-append-le, append-nil}
@@ -49,14 +49,6 @@ reserved_of path first second b e f s = rw (e, f, s) (reserved_by path)
 pub text_of_child : (parent : List (List ℕ)) (name : List ℕ) → text_of (parent ++ name ∷ []) ≡ spelling_of parent ++ 47 ∷ name
 text_of_child [] name = append-nil (47 ∷ name)
 text_of_child (p ∷ parent) name = flat_map-append (λ s. 47 ∷ s) (p ∷ parent) (name ∷ []) ∙ ap (λ (l : List ℕ). spelling_of (p ∷ parent) ++ l) (append-nil (47 ∷ name))
-
-pub lead_of : (parent : List (List ℕ)) → length parent ≢ 0 → text_of parent ≡ spelling_of parent
-lead_of [] h = absurd (h refl)
-lead_of (p ∷ parent) h = refl
-
-pub lead_root : (parent : List (List ℕ)) → length parent ≡ 0 → [] ≡ spelling_of parent
-lead_root [] h = refl
-lead_root (p ∷ parent) h = absurd (omega (arith, h))
 
 -- a relative path that leaves a new node upwards leads to the same path from its parent, with one step less
 pub led_under : (parent down : List (List ℕ)) (name : List ℕ) (up : ℕ) → 0 < up → led_to parent (record { up = up - 1; down = down }) ≡ led_to (parent ++ name ∷ []) (record { up = up; down = down })

@@ -1,9 +1,8 @@
 -- Paths in the names and words of parameters, relative to a node or absolute (Apache Sling, "SlingPostServlet"; RFC 3986, section 5.2.4).
--- `spelling_of` and `first_two` are needed by private functions and proofs alone.
-use Rattle.std.specs.Prelude.{◌==◌, ◌&&◌, ◌||◌, ◌-◌, ℕ, Bool, true, false, nat_eq, nat_le, nat_lt, if◌then◌else◌, List, [], ◌∷◌, ◌++◌, Option, Some, None, option_and_then, Result, Ok, Err, codes, length, take, drop, slice_index_or}
+-- `first_two` is needed by private functions and proofs alone.
+use Rattle.std.specs.Prelude.{◌==◌, ◌&&◌, ◌||◌, ◌-◌, ℕ, Bool, true, false, nat_eq, nat_le, nat_lt, if◌then◌else◌, List, [], ◌∷◌, ◌++◌, Option, Some, None, option_and_then, codes, length, take, drop, slice_index_or}
 use Rattle.std.specs.List.{starts_with, ends_with}
-use Rattle.sp_base.specs.Paths.{seg_ok, pieces, path_of, path_or_none, is_under, parent_of}
-use Rattle.sp_base.specs.declared.path.PathFault.{PathFault}
+use Rattle.sp_base.specs.Paths.{seg_ok, pieces, path_in, path_or_none, is_under, parent_of}
 use Rattle.post_plan.specs.declared.spot.Spot.{Spot}
 use Rattle.post_plan.specs.RelativePaths.{RelativePath, relative_path_of}
 
@@ -18,11 +17,6 @@ is_absolute text = starts_with nat_eq text (codes "/")
 -- the last piece of a path is a name
 abbrev pub ends_in_name : List ℕ → Bool
 ends_in_name text = seg_ok (slice_index_or (pieces text) (length (pieces text) - 1) [])
-
--- the path that was read, where there is no fault
-abbrev pub ok_path : Result (List (List ℕ)) PathFault → Option (List (List ℕ))
-ok_path (Ok path) = Some path
-ok_path (Err fault) = None
 
 -- the spot at a whole path
 abbrev pub spot_there : Option (List (List ℕ)) → Option Spot
@@ -52,7 +46,7 @@ if_changeable node spot = if is_reserved (full_path node spot) then None else So
 
 -- the place of a text that names one, absolute or seen from a node
 abbrev pub any_spot : List (List ℕ) → List ℕ → Option Spot
-any_spot node text = if is_absolute text then spot_there (ok_path (path_of text)) else option_and_then (relative_spot node) (relative_path_of text)
+any_spot node text = if is_absolute text then spot_there (path_in text) else option_and_then (relative_spot node) (relative_path_of text)
 
 -- the property or node that a text names, seen from a node
 abbrev pub spot_of : List (List ℕ) → List ℕ → Option Spot
@@ -68,7 +62,7 @@ word_without_slash word = if goes_under word then take (length word - 1) word el
 
 -- the path that a goal's text names, seen from the target's parent
 abbrev pub goal_base : List (List ℕ) → List ℕ → Option (List (List ℕ))
-goal_base parent text = if is_absolute text then ok_path (path_of text) else (if ends_in_name text then option_and_then (led_to parent) (relative_path_of text) else None)
+goal_base parent text = if is_absolute text then path_in text else (if ends_in_name text then option_and_then (led_to parent) (relative_path_of text) else None)
 
 -- a path, where it may be changed
 abbrev pub unless_reserved : Option (List (List ℕ)) → Option (List (List ℕ))

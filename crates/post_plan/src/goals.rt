@@ -5,7 +5,7 @@ ghost use Rattle.post_plan.specs.Spots as spec;
 
 use crate::node::is_reserved;
 use crate::relative::relative_path_of;
-use crate::spots::{ends_in_name, is_absolute, led_to, path_in};
+use crate::spots::{ends_in_name, is_absolute, led_to};
 use sp_base::{Mem, Path};
 use std::alloc::Global;
 
@@ -29,7 +29,7 @@ fn goal_base(alloc: Global, parent: &Path, text: &str) -> Mem<Option<Path>>
     ensures { IfOk result (λ o. o ≡ spec.goal_base parent.now text.now) }
 {
     if is_absolute(text) {
-        return path_in(alloc, text);
+        return Path::read_or_none(alloc, text);
     }
     if !ends_in_name(text) {
         return Ok(None);

@@ -1,6 +1,5 @@
 //! The node that names are relative to.
 ghost use Rattle.std.specs.Prelude.{◌≡◌, ◌++◌, IfOk, option_copied, option_map, slice_get};
-ghost use Rattle.sp_base.specs.PathTexts.{spelling_of};
 ghost use Rattle.sp_base.specs.Paths.{text_of};
 ghost use Rattle.post_plan.specs.NewNames.{wished_name};
 ghost use Rattle.post_plan.specs.Spots as spec;
@@ -98,18 +97,6 @@ pub fn node_of<'a>(target: &'a Path, wish: &'a Option<NameWish>) -> TargetNode<'
     }
 }
 
-// The text of a path before a further segment.
-#[tactic(auto, using(crate::proofs::NodeLemmas::lead_of, crate::proofs::NodeLemmas::lead_root))]
-fn parent_text(path: &Path) -> &str
-    ensures { result.now ≡ spelling_of path.now }
-{
-    if path.depth() == 0 {
-        ""
-    } else {
-        path.as_text()
-    }
-}
-
 /// The text of a node's segments.
 #[tactic(auto, using(crate::proofs::NodeLemmas::text_of_child))]
 pub fn node_text(alloc: Global, node: &TargetNode) -> Mem<TextBuf>
@@ -118,7 +105,7 @@ pub fn node_text(alloc: Global, node: &TargetNode) -> Mem<TextBuf>
     match node.name {
         None => node.parent.text(alloc),
         Some(name) => {
-            let parent = parent_text(node.parent);
+            let parent = node.parent.spelling();
             Ok(TextBuf::from(format!(in alloc; "{parent}/{name}")?))
         }
     }

@@ -1,12 +1,12 @@
 //! The places that texts name, seen from a node.
 ghost use Rattle.std.specs.Prelude.{◌≡◌, ◌<◌, ◌++◌, ◌-◌, IfOk, not, option_and_then, length, map, option_copied, slice_get};
-ghost use Rattle.sp_base.specs.Paths.{path_or_none, pieces, path_of};
+ghost use Rattle.sp_base.specs.Paths.{path_or_none, pieces};
 ghost use Rattle.post_plan.specs.Spots as spec;
 
 use crate::Spot;
 use crate::node::{TargetNode, is_reserved, is_reserved_below};
 use crate::relative::{RelativePath, relative_path_of};
-use sp_base::{Mem, NoMemory, Path, PathFault, seg_ok};
+use sp_base::{Mem, Path, seg_ok};
 use std::alloc::Global;
 
 fn count(text: &str) -> usize
@@ -53,19 +53,6 @@ fn extended(alloc: Global, base: Path, names: &[&str]) -> Mem<Option<Path>>
     // That the segments make a path is a clause of its depth.
     let _depth = path.depth();
     Ok(Some(path))
-}
-
-// The path that an absolute text spells.
-pub fn path_in(alloc: Global, text: &str) -> Mem<Option<Path>>
-    ensures { IfOk result (λ o. o ≡ spec.ok_path (path_of text.now)) }
-{
-    match Path::read(alloc, text) {
-        Ok(path) => Ok(Some(path)),
-        Err(fault) => match fault {
-            PathFault::NoMemory => Err(NoMemory),
-            _ => Ok(None),
-        },
-    }
 }
 
 // The path that a relative path leads to from a node.
@@ -133,7 +120,7 @@ fn any_spot(alloc: Global, node: &TargetNode, text: &str) -> Mem<Option<Spot>>
     ensures { IfOk result (λ o. o ≡ spec.any_spot node.now text.now) }
 {
     if is_absolute(text) {
-        return Ok(absolute_spot(path_in(alloc, text)?));
+        return Ok(absolute_spot(Path::read_or_none(alloc, text)?));
     }
     match relative_path_of(alloc, text)? {
         Some(relative) => relative_spot(alloc, node, relative),

@@ -8,7 +8,7 @@ use Rattle.std.proofs.lemmas.Bool.{false≢true}
 use Rattle.std.proofs.lemmas.Bool.Decides.{nat_tests}
 use Rattle.std.proofs.lemmas.List.{length-append, take-append-drop}
 use Rattle.std.proofs.lemmas.List.Folds.{list_all-append}
-use Rattle.sp_base.specs.Paths.{is_path, most_segments, parent_of, path_of, seg_ok}
+use Rattle.sp_base.specs.Paths.{is_path, most_segments, parent_of, path_in, path_of, seg_ok}
 use Rattle.sp_base.specs.declared.path.PathFault.{PathFault}
 use Rattle.sp_base.specs.declared.answer.Ask.{Ask}
 use Rattle.resource_tree.specs.Content.{Content, IsGood}
@@ -28,7 +28,7 @@ use Rattle.post_apply.specs.declared.fault.ApplyFault.{ApplyFault}
 use Rattle.publisher.specs.declared.refusal.Refusal.{Refusal}
 use Rattle.publisher.specs.declared.targets.PostTarget.{PostTarget}
 use Rattle.publisher.specs.Refusals.{of_form, of_operation, of_plan}
-use Rattle.publisher.specs.Posting.{PostOutcome, ◌>>=◌, ends_in_star, named_path, or_bad_request, or_refused, path_in, posting, posting_content, star_target, target_at, post_target}
+use Rattle.publisher.specs.Posting.{PostOutcome, ◌>>=◌, ends_in_star, named_path, or_bad_request, or_refused, posting, posting_content, star_target, target_at, post_target}
 use Rattle.publisher.specs.Rendering.{content_after_request, is_post, mapping, posted_content}
 use Rattle.publisher.specs.PostLaws.{RequestsKeepContentGood}
 

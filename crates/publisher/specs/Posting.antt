@@ -2,8 +2,7 @@
 use Rattle.std.specs.Prelude.{◌++◌, ℕ, Bool, true, nat_eq, if◌then◌else◌, List, [], ◌∷◌, Option, Some, None, option_map, Result, Ok, Err, codes, decimal}
 use Rattle.std.specs.List.{ends_with}
 use Rattle.std.specs.Option.{option_or}
-use Rattle.std.specs.Result.{result_ok}
-use Rattle.sp_base.specs.Paths.{parent_of, path_of, text_of}
+use Rattle.sp_base.specs.Paths.{parent_of, path_in, text_of}
 use Rattle.sp_base.specs.declared.answer.Answer.{Answer}
 use Rattle.sp_base.specs.declared.answer.Ask.{Ask}
 use Rattle.sp_base.specs.declared.answer.Mark.TheVariants.{Plain}
@@ -46,10 +45,6 @@ target_at star path = record { path = path; star = star }
 -- the last segment of a text is `*`
 abbrev pub ends_in_star : List ℕ → Bool
 ends_in_star text = ends_with nat_eq text (codes "/*")
-
--- the path that a text spells, if it does
-abbrev pub path_in : List ℕ → Option (List (List ℕ))
-path_in text = result_ok (path_of text)
 
 -- the path of the resource that a text names, else the path that the text spells
 abbrev pub named_path : Content → List ℕ → Option (List (List ℕ))

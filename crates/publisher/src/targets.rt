@@ -4,7 +4,7 @@ ghost use Rattle.publisher.specs.Posting as spec;
 
 use crate::parts::parts_of;
 use resource_tree::Tree;
-use sp_base::{Mem, NoMemory, Path, PathFault};
+use sp_base::{Mem, Path};
 use std::alloc::Global;
 
 /// The path that a POST acts at.
@@ -21,23 +21,13 @@ fn ends_in_star(text: &str) -> bool
     text.as_bytes().ends_with(b"/*")
 }
 
-fn path_in(alloc: Global, text: &str) -> Mem<Option<Path>>
-    ensures { IfOk result (λ o. o ≡ spec.path_in text.now) }
-{
-    match Path::read(alloc, text) {
-        Ok(path) => Ok(Some(path)),
-        Err(PathFault::NoMemory) => Err(NoMemory),
-        Err(_) => Ok(None),
-    }
-}
-
 // The path of the resource that a text names, else the path that it spells.
 fn named_path(alloc: Global, tree: &Tree, text: &str) -> Mem<Option<Path>>
     ensures { IfOk result (λ o. o ≡ spec.named_path tree.now text.now) }
 {
     match parts_of(alloc, tree, text)? {
         Some(parts) => Ok(Some(parts.path)),
-        None => path_in(alloc, text),
+        None => Path::read_or_none(alloc, text),
     }
 }
 
@@ -45,7 +35,7 @@ fn named_path(alloc: Global, tree: &Tree, text: &str) -> Mem<Option<Path>>
 fn starred(alloc: Global, text: &str) -> Mem<Option<PostTarget>>
     ensures { IfOk result (λ o. o ≡ spec.star_target text.now) }
 {
-    match path_in(alloc, text)? {
+    match Path::read_or_none(alloc, text)? {
         Some(path) => Ok(Some(PostTarget {
             path: path.parent(alloc)?,
             star: true,

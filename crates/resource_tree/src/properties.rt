@@ -1,15 +1,15 @@
 // Properties that are set or taken away.
-ghost use Rattle.std.specs.Prelude.{◌≡◌, ◌≢◌, ℕ, List, None, Some, OnOk, OnErr, IfOk, IfErr, IsTrue, MatchOption, false};
+ghost use Rattle.std.specs.Prelude.{◌≡◌, ◌≢◌, ℕ, List, None, Some, OnOk, OnErr, IfOk, IfErr, IsTrue};
 ghost use Rattle.std.specs.List.Sorted.{IsStrictlySortedBy};
 ghost use Rattle.std.specs.Map.{keys_of};
-ghost use Rattle.sp_base.specs.Paths.{is_path, seg_ok};
-ghost use Rattle.resource_tree.specs.Content.{by_path, kid, node_at};
+ghost use Rattle.sp_base.specs.Paths.{seg_ok};
+ghost use Rattle.resource_tree.specs.Content.{by_path, node_at};
 ghost use Rattle.resource_tree.specs.Changes.{change_at, clearing, clearing_at, has_prop_at, set_fault, unset_fault, update, update_at, with_value, without_value};
 
 use crate::faults::no_such;
 use crate::table::Nodes;
 use crate::{Tree, TreeFault};
-use sp_base::{Mem, NoMemory, Path, PathFault, Value};
+use sp_base::{Mem, Path, Value};
 use std::alloc::Global;
 
 impl Tree {
@@ -57,27 +57,13 @@ impl Tree {
         if !self.nodes.contains_key(path) {
             return Err(no_such(alloc, path));
         }
-        let Some(kid) = kid_path(alloc, path, name)? else {
+        let Some(kid) = path.child_or_none(alloc, name)? else {
             return Ok(());
         };
         if self.nodes.contains_key(&kid) {
             return Err(TreeFault::Taken(kid));
         }
         Ok(())
-    }
-}
-
-// The path of a kid of this name, where the name makes one.
-fn kid_path(alloc: Global, path: &Path, name: &str) -> Mem<Option<Path>>
-    requires { IsTrue (seg_ok name.now) }
-    ensures { IfOk result (λ kid_path. MatchOption kid_path (is_path (kid path.now name.now) ≡ false) (λ p. p ≡ kid path.now name.now)) }
-{
-    match path.child(alloc, name) {
-        Ok(kid) => Ok(Some(kid)),
-        Err(fault) => match fault {
-            PathFault::NoMemory => Err(NoMemory),
-            _ => Ok(None),
-        },
     }
 }
 

@@ -1,10 +1,13 @@
 -- The last segment of a path's text, and how a path and its text give each other.
-use Rattle.std.proofs.Common.{◌≡◌, ◌≢◌, ◌<◌, ◌-◌, ◌+◌, ◌==◌, ◌||◌, ◌++◌, ◌∷◌, [], List, ℕ, zero, suc, Bool, true, false, cond, T, Option, Some, None, Ok, Err, length, length-append, take, drop, get_or, slice_get, refl, sym, ◌∙◌, ap, arith, ◌&&◌}
+use Rattle.std.proofs.Common.{◌≡◌, ◌≢◌, ◌<◌, ◌-◌, ◌+◌, ◌==◌, ◌||◌, ◌++◌, ◌∷◌, [], List, ℕ, zero, suc, Bool, true, false, cond, T, Option, Some, None, Ok, Err, Bor, IfSome, length, length-append, take, drop, get_or, slice_get, option_copied, refl, sym, ⊎_elim, ◌∙◌, ap, arith, ◌&&◌}
 use Rattle.std.proofs.Math.Seq.{drop-cons, get_or-append_seam}
+use Rattle.std.proofs.lemmas.Bool.{cases_Bool, true≢false}
 use Rattle.std.proofs.lemmas.Bool.Decides.{nat_tests}
 use Rattle.std.proofs.lemmas.List.{take-append-drop, get_or-drop}
+use Rattle.std.proofs.lemmas.List.Folds.{list_all_at}
 use Rattle.std.proofs.lemmas.List.Splits.{length-slice_split}
-use Rattle.std.proofs.lemmas.Option.{slice_get-get_or}
+use Rattle.std.proofs.lemmas.Option.{get_or_from_slice_get, slice_get-get_or, slice_get_within}
+use Rattle.std.specs.Prelude.{IsTrue}
 use Rattle.std.specs.List.{list_all, onto_first}
 use Rattle.sp_base.specs.declared.path.PathFault.{PathFault}
 use Rattle.sp_base.specs.declared.path.PathFault.TheVariants.{NotAbsolute}
@@ -66,6 +69,23 @@ last_found text at within here after =
 pub last_lacking : (text : List ℕ) → ((i : ℕ) → i < length text → get_or text i 0 ≢ 47) → None ≡ slice_get (segs_in text) (length (segs_in text) - 1)
 unfolding segs_in
 last_lacking text none = ap (λ ps. slice_get (drop 1 ps) (length (drop 1 ps) - 1)) (sym (pieces_whole text (none_slash text none)))
+
+left : (a b : Bool) → (a && b) ≡ true → a ≡ true
+left true b e = refl
+left false b e = absurd (true≢false (sym e))
+
+-- each segment of a path is one that a path may have
+segment_ok : (path : List (List ℕ)) (n : ℕ) (name : List ℕ) → IsTrue (is_path path) → Some name ≡ slice_get path n → IsTrue (seg_ok name)
+segment_ok path n name valid at =
+    let there = sym at in
+    ⊎_elim
+    (λ yes. yes)
+    (λ no. absurd (true≢false (sym (left (list_all seg_ok path) _ valid) ∙ list_all_at seg_ok path n [] (slice_get_within path n name there) (ap seg_ok (get_or_from_slice_get path n name [] there) ∙ no))))
+    (cases_Bool (seg_ok name))
+
+pub last_ok : (o : Option (Bor (List ℕ))) (path : List (List ℕ)) (n : ℕ) → IsTrue (is_path path) → option_copied o ≡ slice_get path n → IfSome o (λ name. IsTrue (seg_ok name.now))
+last_ok None path n valid at = tt
+last_ok (Some name) path n valid at = segment_ok path n name.now valid at
 
 -- ---- paths and their texts
 

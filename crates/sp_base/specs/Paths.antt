@@ -1,6 +1,7 @@
 -- What a path is, the text that spells it, and what is made of one.
 use Rattle.std.specs.Prelude.{◌==◌, ◌&&◌, ◌||◌, ◌++◌, ◌-◌, ℕ, Bool, not, nat_eq, nat_lt, nat_le, if◌then◌else◌, List, [], ◌∷◌, Option, Some, None, Result, Ok, Err, codes, drop, take, length, flat_map, map, slice_index_or}
 use Rattle.std.specs.List.{list_any, list_all, position, slice_split, starts_with}
+use Rattle.std.specs.Result.{result_ok}
 use Rattle.std.specs.Cmp.Lexicographic.{pointwise, slice_cmp}
 use Rattle.std.specs.Ordering.{nat_cmp}
 use Rattle.std.specs.declared.cmp.Ordering.{Ordering}
@@ -73,6 +74,10 @@ pieces text = slice_split (λ b. b == 47) text
 abbrev pub path_of : List ℕ → Result (List (List ℕ)) PathFault
 path_of [] = Err NotAbsolute
 path_of (b ∷ text) = if b == 47 then (if is_empty text then Ok [] else path_or_fault (pieces text)) else Err NotAbsolute
+
+-- the path that a text spells, where it spells one
+abbrev pub path_in : List ℕ → Option (List (List ℕ))
+path_in text = result_ok (path_of text)
 
 -- the path with a name after it
 abbrev pub child_of : List (List ℕ) → List ℕ → Result (List (List ℕ)) PathFault

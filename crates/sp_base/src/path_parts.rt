@@ -1,6 +1,6 @@
-//! What is read off a path, and what is made of one: its last segment, a child, a path below another.
-ghost use Rattle.std.specs.Prelude.{◌≡◌, ◌-◌, ◌∷◌, ◌++◌, [], IfNone, IfOk, IfSome, length, option_copied, slice_get};
-ghost use Rattle.sp_base.specs.Paths.{path_or_none, pieces};
+//! What is read off a path, and paths where there is one: of a text, of a child, below another.
+ghost use Rattle.std.specs.Prelude.{◌≡◌, ◌-◌, ◌∷◌, ◌++◌, [], IfNone, IfOk, IfSome, IsTrue, length, option_copied, slice_get};
+ghost use Rattle.sp_base.specs.Paths.{path_in, path_or_none, pieces, seg_ok};
 
 use crate::segments::{after_slash, last_segment, seg_ok};
 use crate::{MOST_SEGMENTS, Mem, NoMemory, Path, PathFault};
@@ -17,9 +17,25 @@ impl Path {
 
     /// The last segment; the root has none.
     pub fn last(&self) -> Option<&str>
-        ensures { option_copied result ≡ slice_get self.now (length self.now - 1) }
+        ensures value { option_copied result ≡ slice_get self.now (length self.now - 1) }
+        ensures segment { IfSome result (λ name. IsTrue (seg_ok name.now)) }
     {
+        // `depth` says that the segments make a path.
+        let _ = self.depth();
         last_segment(self.spelling())
+    }
+
+    /// The path that a text spells, where it spells one.
+    pub fn read_or_none(alloc: Global, text: &str) -> Mem<Option<Path>>
+        ensures { IfOk result (λ o. o ≡ path_in text.now) }
+    {
+        match Path::read(alloc, text) {
+            Ok(path) => Ok(Some(path)),
+            Err(fault) => match fault {
+                PathFault::NoMemory => Err(NoMemory),
+                _ => Ok(None),
+            },
+        }
     }
 
     /// The path with one segment more, where that is a path: where the name may be a segment and there are fewer than

@@ -6,18 +6,23 @@ use Rattle.resource_tree.specs.Content.{kid}
 use Rattle.property_json.specs.PropertyJson.{Adds, property_tokens}
 use Rattle.content_json.specs.Steps.{order_tokens, whole_at, kid_tokens, AreBelow, AreBelowKids}
 use Rattle.content_json.proofs.BelowLemmas.{all_below, kid_below}
-use Rattle.content_json.proofs.WrittenLemmas.{among_items, kid_there, none_missing, path_there, node_tokens, token, more, kids_more}
+use Rattle.content_json.proofs.WrittenLemmas.{among_items, kid_named, kid_short, none_missing, node_tokens, token, more, kids_more}
 use Rattle.content_json.proofs.write.+writing.Goals as goal
 use Rattle.content_json.proofs.write.+writing.Goals.{write_kids-in-Some+in_ok-key+in_ok-write_node, write_kids-in_default}
 
-pub write_kids-path_of_kid-requires : goal.write_kids-path_of_kid-requires
-write_kids-path_of_kid-requires t c =
-    let tree = c.args.tree.now in
-    let path = c.args.path.now in
+pub write_kids-kid_path-requires-clause-name : goal.write_kids-kid_path-requires-clause-name
+write_kids-kid_path-requires-clause-name t c =
     let node = c.args.node.now in
     let name = c.name-item.result in
-    let named = among_items c.as_slice-name-items.result.now node.kids c.loop-name.name-index name c.as_slice-name-items.ensures (omega arith) c.name-item.is in
-    rw c.text.ensures (path_there tree (kid path name) c.requires.good (kid_there tree path node name c.requires.good c.requires.there named))
+    let listed = among_items c.as_slice-name-items.result.now node.kids c.loop-name.name-index name c.as_slice-name-items.ensures (omega arith) c.name-item.is in
+    rw c.text.ensures (kid_named c.args.tree.now c.args.path.now node name c.requires.good c.requires.there listed)
+
+pub write_kids-kid_path-requires-clause-shallow : goal.write_kids-kid_path-requires-clause-shallow
+write_kids-kid_path-requires-clause-shallow t c =
+    let node = c.args.node.now in
+    let name = c.name-item.result in
+    let listed = among_items c.as_slice-name-items.result.now node.kids c.loop-name.name-index name c.as_slice-name-items.ensures (omega arith) c.name-item.is in
+    kid_short c.args.tree.now c.args.path.now node name c.requires.good c.requires.there listed
 
 pub write_kids-loop-name-preserved : goal.write_kids-loop-name-preserved
 write_kids-loop-name-preserved t c =

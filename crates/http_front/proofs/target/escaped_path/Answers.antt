@@ -10,7 +10,7 @@ returns-in-Ok c =
     let bytes = percent_decode c.args.path.now in
     let same : c.deref.result.now ≡ bytes = c.deref.ensures.value ∙ c.in-Ok.ensures.value ∙ c.percent_decode.ensures.bytes in
     let text = subst IsUtf8 c.percent_decode.ensures.bytes c.in-Ok.ensures.ok_only_if_utf8 in
-    subst (λ o. IfOk c.path_in.result (λ p. p ≡ o)) (text_says c.deref.result.now bytes same text) c.path_in.ensures
+    subst (λ o. IfOk c.path_and_slash.result (λ p. p ≡ o)) (text_says c.deref.result.now bytes same text) c.path_and_slash.ensures
 
 pub returns-in-Err-Utf8 : goal.returns-in-Err-Utf8
 returns-in-Err-Utf8 c =

@@ -10,4 +10,4 @@ returns-else-has_percent c =
     let path = c.args.path.now in
     let plain = no_escape path (sym c.has_percent.ensures ∙ c.if-has_percent.false) in
     let said = text_says path path refl c.utf8.path ∙ ap (λ bytes. option_and_then path_and_slash (utf8_text bytes)) (sym plain) in
-    subst (λ o. IfOk c.path_in.result (λ p. p ≡ o)) said c.path_in.ensures
+    subst (λ o. IfOk c.path_and_slash.result (λ p. p ≡ o)) said c.path_and_slash.ensures

@@ -20,4 +20,4 @@ returns c e =
     let none = ap (has_kid_node tree name) (sym c.self.invariant ∙ sym c.deref.ensures.value) ∙ sym c.in_ok-has_kid_node.ensures ∙ no_kid c.in_ok-has_kid_node.field-0 e in
     ap (λ t. has_resource t path) (sym c.self.view_is)
     ∙ unknown_kid tree path deepest name c.len.ensures.good.shape (sym c.is_merged_path.ensures ∙ c.if-not-is_merged_path.false) deep size
-    (sym c.is_under.ensures ∙ c.if-not-is_under.false) c.in-Some.ensures none
+    (sym c.is_under.ensures ∙ c.if-not-is_under.false) c.in-Some.ensures.value none

@@ -1,5 +1,5 @@
 //! The entries of rules and of the filter.
-ghost use Rattle.std.specs.Prelude.{◌≡◌, codes, [], IfOk};
+ghost use Rattle.std.specs.Prelude.{codes};
 ghost use Rattle.any_config.specs.Farms as spec;
 ghost use Rattle.any_config.specs.Farms.{FarmGives};
 

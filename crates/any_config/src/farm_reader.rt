@@ -1,5 +1,5 @@
 //! The farm of a file.
-ghost use Rattle.std.specs.Prelude.{◌≡◌, ◌≢◌, codes, IfOk, IfErr, Ok, Err};
+ghost use Rattle.std.specs.Prelude.{◌≡◌, ◌≢◌, IfOk, IfErr, Ok, Err};
 ghost use Rattle.any_config.specs.Farms as spec;
 ghost use Rattle.any_config.specs.declared.node.AnyNode.{out-AnyNode};
 ghost use Rattle.any_config.specs.Farms.{FarmGives};

@@ -1,5 +1,5 @@
 //! The hosts of a farm.
-ghost use Rattle.std.specs.Prelude.{◌≡◌, codes, [], IfOk, MatchOption, Some, None};
+ghost use Rattle.std.specs.Prelude.{◌≡◌, MatchOption, Some, None};
 ghost use Rattle.std.specs.List.{list_all};
 ghost use Rattle.sp_base.specs.Limits.{greatest_port};
 ghost use Rattle.any_config.specs.Farms as spec;
@@ -13,7 +13,7 @@ use crate::members::{Member, word_of};
 use crate::node::AnyNode;
 use crate::numbers::decimal;
 use glob_rules::Glob;
-use sp_base::{GREATEST_PORT, HTTP_PORT, Mem, TextBuf};
+use sp_base::{GREATEST_PORT, HTTP_PORT, TextBuf};
 use std::alloc::Global;
 
 // The text before its last colon, and the text after it.

@@ -1,5 +1,5 @@
 //! Members of groups, and the shapes of their values.
-ghost use Rattle.std.specs.Prelude.{◌≡◌, IfOk, option_copied};
+ghost use Rattle.std.specs.Prelude.{◌≡◌, option_copied};
 ghost use Rattle.any_config.specs.Farms as spec;
 ghost use Rattle.any_config.specs.Farms.{FarmGives};
 

@@ -1,5 +1,5 @@
 //! The reader of a file.
-ghost use Rattle.std.specs.Prelude.{◌≡◌, ◌≢◌, [], length, IfOk, IfErr, Ok, Err};
+ghost use Rattle.std.specs.Prelude.{◌≡◌, ◌≢◌, IfOk, IfErr, Ok, Err};
 ghost use Rattle.any_config.specs.Tokens.{TokenGives};
 ghost use Rattle.any_config.specs.Read as spec;
 ghost use Rattle.any_config.specs.Read.{any_of};

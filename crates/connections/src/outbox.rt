@@ -1,5 +1,5 @@
 //! The answers that a connection still owes, in the order of its requests.
-ghost use Rattle.std.specs.Prelude.{◌≡◌, ◌+◌, ◌⊎◌, ◌∷◌, ℕ, List, [], Bool, false, IsTrue, IfNone, IfOk, IfSome, OnErr, OnOk, OnSome, position};
+ghost use Rattle.std.specs.Prelude.{◌≡◌, ◌+◌, ◌⊎◌, ℕ, List, false, IsTrue, IfNone, IfOk, IfSome, OnErr, OnOk, OnSome, position};
 ghost use Rattle.std.specs.List.{count_by};
 ghost use Rattle.sp_base.specs.declared.answer.Answer as models;
 ghost use Rattle.connections.specs.Slots.{Says, Slot};

@@ -1,6 +1,6 @@
 // Why content is refused.
 use sp_base::{NoMemory, Path};
-use std::alloc::{AllocError, AllocFailed};
+use std::alloc::AllocError;
 
 /// Why bytes are no content. A path of more than 64 segments is cut to its first 64.
 #[derive(Drop)]

@@ -1,17 +1,15 @@
 // Reads content straight from the tokens of its JSON into nodes, where it has no fault and replaces no kid.
-ghost use Rattle.std.specs.Prelude.{◌≡◌, ◌≤◌, ◌+◌, ◌∷◌, ℕ, List, [], Some, None, true, false, length, IfOk, IfSome, OnOk};
+ghost use Rattle.std.specs.Prelude.{◌≡◌, ◌≤◌, ◌+◌, ◌∷◌, [], Some, None, true, false, length, IfOk, IfSome, OnOk};
 ghost use Rattle.json.specs.Json as json;
-ghost use Rattle.serde_json.specs.Data.{Data, Members, no_members, object};
-ghost use Rattle.serde_json.specs.Read.{of_json, of_members, converted, read};
-ghost use Rattle.resource_tree.specs.Content.{node_at};
+ghost use Rattle.serde_json.specs.Data.{Members, no_members, object};
+ghost use Rattle.serde_json.specs.Read.{read};
 ghost use Rattle.json.specs.Token.{begin_object};
 ghost use Rattle.json.specs.Reads.{token_of};
 ghost use Rattle.sp_base.specs.Paths.{most_segments};
 ghost use Rattle.content_json.specs.Names.{is_content_name, order_name};
 ghost use Rattle.content_json.specs.ContentOf.{map_of};
-ghost use Rattle.content_json.specs.Faults.{fault_in};
-ghost use Rattle.content_json.specs.Nodes.{nodes_in, is_deeper_below};
-ghost use Rattle.content_json.specs.Steps.{is_sound, member_nodes, with_nodes_at};
+ghost use Rattle.content_json.specs.Nodes.{nodes_in};
+ghost use Rattle.content_json.specs.Steps.{is_sound};
 ghost use Rattle.content_json.specs.FromTokens.{HoldsMembers, AddsObject, AddsMembers, AddsMember, TakesIn};
 
 use crate::names::{is_order, is_plain};

@@ -1,7 +1,7 @@
 // What is against the items of an array.
-ghost use Rattle.std.specs.Prelude.{◌≡◌, IfOk, Some, option_map};
+ghost use Rattle.std.specs.Prelude.{◌≡◌, Some};
 ghost use Rattle.serde_json.specs.View.{view, items_view};
-ghost use Rattle.content_json.specs.Lists.{item_kind, is_of, item_cause, items_cause, array_cause, as_long};
+ghost use Rattle.content_json.specs.Lists.{item_kind, is_of, item_cause, items_cause, array_cause};
 
 use crate::fault::Cause;
 use serde_json::Value;

@@ -1,6 +1,6 @@
 // Which names of members may stand in content, and which members are kids.
 ghost use Rattle.std.specs.Prelude.{◌≡◌};
-ghost use Rattle.serde_json.specs.View.{view, members_view};
+ghost use Rattle.serde_json.specs.View.{members_view};
 ghost use Rattle.content_json.specs.Names.{is_order, is_content_name, has_bad_name, is_object, is_kid};
 
 use serde_json::{Map, Value};

@@ -1,6 +1,6 @@
 // The member `:order`, which names the kids that come first.
 ghost use Rattle.std.specs.Prelude.{◌≡◌, IfOk, [], true};
-ghost use Rattle.serde_json.specs.View.{view, items_view, members_view};
+ghost use Rattle.serde_json.specs.View.{items_view, members_view};
 ghost use Rattle.content_json.specs.Faults.{names_kids, has_good_order};
 
 use crate::names::{ORDER, is_kid};

@@ -1,20 +1,17 @@
 // Takes an object apart into the nodes that it stands for.
 ghost use Rattle.std.specs.Prelude.{◌≡◌, ◌<◌, ◌-◌, ◌||◌, ◌&&◌, not, ℕ, List, [], None, IfOk, IsTrue, OnOk, false, true, length, if◌then◌else◌};
 ghost use Rattle.std.specs.List.{filter_map, list_any};
-ghost use Rattle.std.specs.Option.{option_map_or};
 ghost use Rattle.std.specs.BTreeSet.{contains_by};
-ghost use Rattle.std.specs.FinMap.Entries.{put};
 ghost use Rattle.std.specs.Ordering.{nat_cmp};
 ghost use Rattle.std.specs.Cmp.Lexicographic.{slice_cmp};
 ghost use Rattle.std.specs.Str.{bytes_eq};
 ghost use Rattle.serde_json.specs.Data.{object};
 ghost use Rattle.serde_json.specs.Find.{as_str};
 ghost use Rattle.serde_json.specs.View.{view, items_view, members_view};
-ghost use Rattle.sp_base.specs.Names.{by_name};
 ghost use Rattle.resource_tree.specs.Content.{node_at, kid};
 ghost use Rattle.sp_base.specs.Paths.{most_segments, seg_ok};
 ghost use Rattle.content_json.specs.Names.{has_bad_name, is_content_name, is_order, is_kid_member};
-ghost use Rattle.content_json.specs.Lists.{item_list, data_value};
+ghost use Rattle.content_json.specs.Lists.{item_list};
 ghost use Rattle.content_json.specs.Faults.{fault_in, fault_below};
 ghost use Rattle.content_json.specs.Nodes.{order_items, kids_of, with_member, add_props, nodes_in, nodes_below, is_deeper, is_deeper_below};
 ghost use Rattle.content_json.specs.Steps.{member_fault, member_nodes, with_nodes_at};

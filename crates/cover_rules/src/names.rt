@@ -1,5 +1,5 @@
 //! How long a segment's file name is.
-ghost use Rattle.std.specs.Prelude.{◌≡◌, ◌++◌, ◌≤◌, length};
+ghost use Rattle.std.specs.Prelude.{◌≡◌, ◌≤◌, length};
 ghost use Rattle.cover_rules.specs.Names.{file_byte, file_name, is_plain_name_byte, longest_escaped_name, longest_page_name};
 ghost use Rattle.cover_rules.specs.Names as spec;
 ghost use Rattle.sp_base.specs.Paths.{mangled_seg};

@@ -1,5 +1,5 @@
 //! How far a page's path goes along a handle's, read off their texts.
-ghost use Rattle.std.specs.Prelude.{◌≡◌, ◌≢◌, ◌∷◌, ◌++◌, [], ℕ, List, IfNone, IfSome, false, take};
+ghost use Rattle.std.specs.Prelude.{◌≡◌, ◌≢◌, ◌∷◌, ◌++◌, ℕ, List, IfNone, IfSome, false, take};
 ghost use Rattle.sp_base.specs.Paths.{has_slash, mangled_segs, mangled_seg};
 ghost use Rattle.sp_base.specs.PathTexts.{spelling_of};
 ghost use Rattle.cover_rules.specs.Walk.{Lacks, Leaves, LeavesNext, left_text};

@@ -1,5 +1,5 @@
 //! What the publisher is asked.
-ghost use Rattle.std.specs.Prelude.{◌≡◌, [], IfOk, Some, codes};
+ghost use Rattle.std.specs.Prelude.{◌≡◌, IfOk, Some, codes};
 ghost use Rattle.sp_base.specs.Fields.{field_of};
 ghost use Rattle.dispatch_rules.specs.Asking as spec;
 

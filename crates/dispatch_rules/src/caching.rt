@@ -1,6 +1,5 @@
 //! Which answers may be kept, and under which key.
-ghost use Rattle.std.specs.Prelude.{◌≡◌, [], IfOk, codes, is_none, nat_eq, unwrap_or};
-ghost use Rattle.std.specs.Cmp.Lexicographic.{pointwise};
+ghost use Rattle.std.specs.Prelude.{◌≡◌, [], IfOk, is_none, unwrap_or};
 ghost use Rattle.glob_rules.specs.Rules as rules;
 ghost use Rattle.dispatch_rules.specs.Caching as spec;
 
@@ -8,9 +7,8 @@ use any_config::Farm;
 use cover_rules::{PageKey, page_key};
 use form_urlencoded::parse;
 use glob_rules::allows;
-use sp_base::{Answer, Mark, Mem, NoMemory, Req};
+use sp_base::{Answer, Mark, Mem, Req};
 use std::alloc::Global;
-use std::borrow::CowStr;
 
 /// The key under which the answer to a request may be kept. There is none exactly where the method isn't GET, the request has an
 /// Authorization header and the farm doesn't keep such answers, the farm doesn't ignore a parameter of the query, the path is no

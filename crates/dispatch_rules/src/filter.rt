@@ -1,6 +1,5 @@
 //! What a filter says of a request.
-ghost use Rattle.std.specs.Prelude.{◌≡◌, [], IfOk, drop, option_map, string_bytes, unwrap_or};
-ghost use Rattle.std.specs.Str.Lossy.{utf8_lossy};
+ghost use Rattle.std.specs.Prelude.{◌≡◌, IfOk, drop};
 ghost use Rattle.glob_rules.specs.Rules.{decision};
 ghost use Rattle.dispatch_rules.specs.Admission as spec;
 ghost use Rattle.dispatch_rules.specs.RequestParts.{applies_to};

@@ -1,5 +1,5 @@
 //! Heads of pages as they are read.
-ghost use Rattle.std.specs.Prelude.{◌≡◌, ◌&&◌, Some, None, nat_le, option_map, if◌then◌else◌};
+ghost use Rattle.std.specs.Prelude.{◌≡◌, ◌&&◌, Some, None, option_map, if◌then◌else◌};
 ghost use Rattle.std.specs.List.{list_all};
 ghost use Rattle.sp_base.specs.Bytes.{is_printable_ascii};
 ghost use Rattle.docroot_format.specs.Readings as spec;

@@ -1,6 +1,6 @@
 //! A part of a multipart body: its head, an empty line, and its body.
 ghost use Rattle.std.specs.Prelude.{◌≡◌, IfOk, option_copied};
-ghost use Rattle.form_input.specs.Lines.{lines, lines_left};
+ghost use Rattle.form_input.specs.Lines.{lines};
 ghost use Rattle.form_input.specs.Multipart as spec;
 
 use crate::lines::next_line;

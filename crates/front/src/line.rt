@@ -1,6 +1,5 @@
 //! One connection, as the front keeps it.
-ghost use Rattle.std.specs.Prelude.{◌≡◌, ◌≢◌, ◌+◌, ◌≤◌, ◌<◌, ◌++◌, ℕ, List, true, false, IsTrue, IfSome, IfNone, IfOk, OnOk, OnSome, length};
-ghost use Rattle.http_front.specs.Intakes.{StandsFor};
+ghost use Rattle.std.specs.Prelude.{◌≡◌, ◌≢◌, ◌+◌, ◌≤◌, ◌<◌, ℕ, List, true, false, IsTrue, IfSome, IfNone, IfOk, OnOk, OnSome};
 ghost use Rattle.http_front.specs.declared.fault.InFault.TheVariants as variant;
 ghost use Rattle.http_front.specs.declared.turn.Turn.{Turn};
 ghost use Rattle.sp_base.specs.declared.answer.Answer as models;

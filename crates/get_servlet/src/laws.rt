@@ -1,5 +1,5 @@
 //! Laws of the definitions, on functions that do nothing.
-ghost use Rattle.std.specs.Prelude.{◌≡◌, ◌≤◌, ◌↔◌, ℕ, List, Some};
+ghost use Rattle.std.specs.Prelude.{◌≡◌, ◌≤◌, ◌↔◌, ℕ, Some};
 ghost use Rattle.json.specs.Json.{document};
 ghost use Rattle.sp_base.specs.Paths.{most_segments};
 ghost use Rattle.resource_tree.specs.Seen.{Resource, Seen};

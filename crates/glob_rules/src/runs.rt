@@ -1,5 +1,5 @@
 //! Runs: parts of a glob without a star.
-ghost use Rattle.std.specs.Prelude.{◌≡◌, ◌≤◌, ◌<◌, ◌∷◌, ◌++◌, [], Some, None, MatchOption, OnSome, length};
+ghost use Rattle.std.specs.Prelude.{◌≡◌, ◌≤◌, ◌<◌, ◌∷◌, ◌++◌, Some, None, MatchOption, length};
 ghost use Rattle.std.specs.Str.{chars};
 ghost use Rattle.std.specs.List.{position, position_or_len};
 ghost use Rattle.glob_rules.specs.Globs.{is_match, is_star};

@@ -3,7 +3,7 @@
 ghost use Rattle.std.specs.Prelude.{◌≡◌, ◌<◌, ◌++◌, IfOk, [], nat_eq, length, get_or, codes};
 ghost use Rattle.std.specs.Cmp.Lexicographic.{pointwise};
 ghost use Rattle.htl_expr.specs.Lent.{out_of_lent, listed_texts, IsOperand};
-ghost use Rattle.htl_expr.specs.Pieces.{item_piece_text, piece_texts, with_commas, HavePieces};
+ghost use Rattle.htl_expr.specs.Pieces.{item_piece_text, piece_texts, with_commas};
 ghost use Rattle.htl_expr.specs.Value as spec;
 
 use crate::evaluation::Evaluation;

@@ -1,6 +1,6 @@
 //! Properties that are compared by numbers.
 
-ghost use Rattle.std.specs.Prelude.{◌≡◌, ◌∷◌, [], IfOk, Some, nat_eq};
+ghost use Rattle.std.specs.Prelude.{◌≡◌, IfOk, Some, nat_eq};
 ghost use Rattle.std.specs.Cmp.Lexicographic.{pointwise};
 ghost use Rattle.htl_expr.specs.ComparedValue.{number_in, KeepsNumbers};
 ghost use Rattle.htl_expr.specs.Remembered.{compared_by, Knows};

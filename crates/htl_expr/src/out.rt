@@ -1,6 +1,6 @@
 //! What an expression gives.
 
-ghost use Rattle.std.specs.Prelude.{◌≡◌, ◌≢◌, IfOk, map};
+ghost use Rattle.std.specs.Prelude.{◌≡◌, IfOk, map};
 ghost use Rattle.std.specs.Fmt.{signed_decimal};
 ghost use Rattle.htl_expr.specs.Print.{truth_text};
 ghost use Rattle.htl_expr.specs.Lent.{out_of_lent, plain_item};

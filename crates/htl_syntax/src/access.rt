@@ -1,6 +1,6 @@
 //! Accesses: `.name` and `["name"]`.
 
-ghost use Rattle.std.specs.Prelude.{◌≡◌, [], length, Ok, true, false};
+ghost use Rattle.std.specs.Prelude.{◌≡◌, [], length, Ok, true};
 ghost use Rattle.sp_base.specs.Bytes.{begins_with_byte};
 ghost use Rattle.htl_syntax.specs.Read as spec;
 ghost use Rattle.htl_syntax.specs.Steps as steps;

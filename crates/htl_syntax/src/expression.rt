@@ -1,6 +1,6 @@
 //! A whole expression.
 
-ghost use Rattle.std.specs.Prelude.{◌≡◌, ◌≢◌, ◌≤◌, IfOk, IfErr, Ok, Err, take, drop, length, ◌++◌, string_bytes};
+ghost use Rattle.std.specs.Prelude.{◌≡◌, ◌≢◌, ◌≤◌, IfOk, IfErr, Ok, Err, length, ◌++◌, string_bytes};
 ghost use Rattle.htl_syntax.specs.Tokens.{Gives};
 ghost use Rattle.htl_syntax.specs.Read as spec;
 ghost use Rattle.htl_syntax.specs.Grammar.{nesting_limit, Whole};

@@ -1,6 +1,6 @@
 //! Options: `@ join='..', context='..'`.
 
-ghost use Rattle.std.specs.Prelude.{◌≡◌, ◌<◌, Ok, Some, None, true, false, slice_index};
+ghost use Rattle.std.specs.Prelude.{◌<◌, Ok, Some, None};
 ghost use Rattle.htl_syntax.specs.Read as spec;
 ghost use Rattle.htl_syntax.specs.Steps as steps;
 ghost use Rattle.htl_syntax.specs.Tokens as tokens;

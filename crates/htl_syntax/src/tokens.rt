@@ -1,6 +1,6 @@
 //! Tokens, each read with the blanks after it.
 
-ghost use Rattle.std.specs.Prelude.{◌≡◌, ◌≤◌, ◌<◌, ◌++◌, ℕ, List, length, drop, take, slice_index, IfOk, Ok, true, false, MatchOption};
+ghost use Rattle.std.specs.Prelude.{◌≡◌, ◌<◌, drop, slice_index, IfOk, Ok, true, false};
 ghost use Rattle.std.specs.Str.{IsCharBoundary};
 ghost use Rattle.sp_base.specs.Bytes.{begins_with_byte, is_digit};
 ghost use Rattle.htl_syntax.specs.Tokens as spec;

@@ -2,7 +2,6 @@
 ghost use Rattle.std.specs.Prelude.{◌≡◌, ◌++◌, IfOk, OnOk, flat_map, string_bytes, if◌then◌else◌};
 ghost use Rattle.std.specs.Fmt.{decimal};
 ghost use Rattle.sp_base.specs.Bytes.{is_printable_ascii};
-ghost use Rattle.httparse.specs.Ascii.{crlf_bytes};
 ghost use Rattle.http_front.specs.Answers as spec;
 
 use error_answers::phrase_of;

@@ -3,7 +3,7 @@ ghost use Rattle.std.specs.Prelude.{◌≡◌};
 ghost use Rattle.http_front.specs.Faults.{fault_status};
 
 use sp_base::NoMemory as OutOfMemory;
-use std::alloc::{AllocError, AllocFailed};
+use std::alloc::AllocError;
 
 /// The status where no memory was there (RFC 4918, section 11.5).
 pub const INSUFFICIENT_STORAGE: u16 = 507;

@@ -2,8 +2,7 @@
 ghost use Rattle.std.specs.Prelude.{◌≡◌, ◌≢◌, ◌≤◌, ◌++◌, IfOk, IfErr, IfSome, OnOk, Some, None, All, IsUtf8, codes, length, map, option_copied, option_map};
 ghost use Rattle.std.specs.Fmt.{decimal};
 ghost use Rattle.std.specs.Str.{str_to_ascii_lowercase};
-ghost use Rattle.httparse.specs.Spans.{IsHeaderWithin, header_bytes, span_bytes};
-ghost use Rattle.sp_base.specs.Fields.{field_of};
+ghost use Rattle.httparse.specs.Spans.{IsHeaderWithin, header_bytes};
 ghost use Rattle.http_front.specs.declared.fault.InFault.TheVariants.{NoMemory};
 ghost use Rattle.http_front.specs.LentHosts.{lent_host};
 ghost use Rattle.http_front.specs.Heads as spec;

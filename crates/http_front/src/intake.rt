@@ -45,7 +45,7 @@ pub struct Intake {
 }
 
 impl Intake {
-    ghost use Rattle.std.specs.Prelude.{◌≢◌, ◌<◌, [], ◌++◌, IfOk, OnOk, OnErr, IfErr, IfSome, IfNone, OnSome, Some, Err};
+    ghost use Rattle.std.specs.Prelude.{◌≢◌, ◌<◌, [], IfOk, OnOk, OnErr, IfErr, IfSome, IfNone, OnSome, Some, Err};
     ghost use Rattle.http_front.specs.declared.fault.InFault.{InFault};
     ghost use Rattle.http_front.specs.declared.fault.InFault.TheVariants.{NoMemory};
     ghost use Rattle.http_front.specs.Turns.{Waits, Breaks};

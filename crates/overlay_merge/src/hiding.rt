@@ -1,9 +1,9 @@
 // What the nodes along a path hide.
-ghost use Rattle.std.specs.Prelude.{◌≡◌, ◌<◌, ◌≤◌, ◌+◌, ◌∷◌, ◌++◌, [], IfOk, codes, map, length, slice_index_or, if◌then◌else◌};
+ghost use Rattle.std.specs.Prelude.{◌≡◌, ◌<◌, ◌≤◌, ◌+◌, [], IfOk, length, slice_index_or, if◌then◌else◌};
 ghost use Rattle.overlay_merge.specs.Walk.{hiding_depths};
 ghost use Rattle.std.specs.Option.{option_copied};
 ghost use Rattle.sp_base.specs.Paths.{most_segments};
-ghost use Rattle.overlay_merge.specs.Hiding.{lists_name, hides_kid, hides_resource, is_value_true, text_stands_for, hiding_texts};
+ghost use Rattle.overlay_merge.specs.Hiding.{lists_name, hides_kid, hides_resource, text_stands_for};
 
 use resource_tree::Tree;
 use sp_base::{Mem, Path, PropList, Value};

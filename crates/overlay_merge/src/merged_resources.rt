@@ -1,6 +1,6 @@
 // The resources that are merged at a path: those of the layers that aren't cut.
-ghost use Rattle.std.specs.Prelude.{◌≡◌, ◌++◌, IfOk, OnOk, map, option_map};
-ghost use Rattle.overlay_merge.specs.Hiding.{resource_list, merged_from};
+ghost use Rattle.std.specs.Prelude.{◌≡◌, ◌++◌, IfOk, OnOk, map};
+ghost use Rattle.overlay_merge.specs.Hiding.{merged_from};
 ghost use Rattle.overlay_merge.specs.Walk.{AreNodesOf, is_screened, reaches, screened_layer, screens, some_screens, unscreened_resource, unscreened_resources};
 
 use crate::Layer;

@@ -1,12 +1,12 @@
 // The properties of a merged resource.
-ghost use Rattle.std.specs.Prelude.{◌≡◌, ◌∷◌, [], not, IfOk, OnOk};
+ghost use Rattle.std.specs.Prelude.{◌≡◌, [], not, IfOk, OnOk};
 ghost use Rattle.std.specs.List.{list_any};
 ghost use Rattle.std.specs.Option.{option_copied};
 ghost use Rattle.std.specs.FinMap.Entries.{where_key};
 ghost use Rattle.sp_base.specs.Names.{by_name};
 ghost use Rattle.overlay_merge.specs.Hiding.{text_stands_for, lists_name};
 ghost use Rattle.overlay_merge.specs.HidingTexts.{many_texts, one_text, text_list};
-ghost use Rattle.overlay_merge.specs.Properties.{lower_properties_left, merged_props, put_all, with_layer, without_steering};
+ghost use Rattle.overlay_merge.specs.Properties.{merged_props, put_all, with_layer, without_steering};
 
 use resource_tree::Res;
 use sp_base::{Mem, PropList, TextBuf, Value};

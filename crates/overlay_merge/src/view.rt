@@ -1,5 +1,4 @@
 //! A tree seen with its overlays and overrides merged.
-ghost use Rattle.std.specs.Prelude.{◌≡◌};
 
 use crate::merging::{has_resource, merged};
 use crate::reach::reach;

@@ -1,5 +1,5 @@
 //! The name that a new node gets.
-ghost use Rattle.std.specs.Prelude.{◌≡◌, IfOk, IfSome};
+ghost use Rattle.std.specs.Prelude.{◌≡◌, IfOk};
 ghost use Rattle.tree_draft.specs.Drafts.{IsSound};
 ghost use Rattle.post_apply.specs.Marks.{MarksTaken};
 ghost use Rattle.post_apply.specs.Names as spec;

@@ -8,7 +8,7 @@ ghost use Rattle.post_apply.specs.Steps as step;
 use crate::ApplyFault;
 use crate::spots::path_of_spot;
 use crate::steps::remove;
-use post_plan::{Spot, SpotList};
+use post_plan::Spot;
 use sp_base::Path;
 use std::alloc::Global;
 use tree_draft::Draft;

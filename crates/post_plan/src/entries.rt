@@ -1,6 +1,5 @@
 //! The content parameters of a form.
-ghost use Rattle.std.specs.Prelude.{◌≡◌, IfOk, filter, map};
-ghost use Rattle.std.specs.List.{filter_map};
+ghost use Rattle.std.specs.Prelude.{◌≡◌, IfOk};
 ghost use Rattle.post_plan.specs.Entries as spec;
 
 use crate::node::TargetNode;
@@ -8,7 +7,7 @@ use crate::parameters::{path_text, suffix_of};
 use crate::spots::spot_of;
 use crate::suffix::Suffix;
 use crate::words::{any_marked, is_content};
-use crate::{Carry, CarryList, Spot, SpotList};
+use crate::Spot;
 use sp_base::{Mem, TextBuf};
 use std::alloc::Global;
 use std::marker::Model;

@@ -1,6 +1,5 @@
 //! Why a form asks for no operation: the first fault in the order of their kinds.
-ghost use Rattle.std.specs.Prelude.{◌≡◌, ◌++◌, ◌∷◌, [], IfOk, is_none, is_some, not, option_copied, option_map};
-ghost use Rattle.sp_base.specs.Paths.{text_of};
+ghost use Rattle.std.specs.Prelude.{◌≡◌, IfOk, is_none, option_copied};
 ghost use Rattle.post_plan.specs.Hints as hint;
 ghost use Rattle.post_plan.specs.Spots as spot;
 ghost use Rattle.post_plan.specs.Plan as spec;

@@ -1,5 +1,5 @@
 //! The name that is made for a new node.
-ghost use Rattle.std.specs.Prelude.{◌≡◌, ◌++◌, ◌<◌, ◌≤◌, IfOk, OnOk, false, length, string_bytes, take};
+ghost use Rattle.std.specs.Prelude.{◌≡◌, ◌<◌, IfOk, false, string_bytes, take};
 ghost use Rattle.post_plan.specs.NewNames as spec;
 
 use sp_base::{Mem, TextBuf};

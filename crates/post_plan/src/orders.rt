@@ -4,7 +4,6 @@ ghost use Rattle.std.specs.Char.{is_ascii_digit};
 ghost use Rattle.std.specs.List.{list_all};
 ghost use Rattle.post_plan.specs.Plan as spec;
 
-use crate::words::first_word;
 use resource_tree::Place;
 use sp_base::{Mem, TextBuf, seg_ok};
 use std::alloc::Global;

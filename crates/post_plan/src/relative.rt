@@ -1,5 +1,5 @@
 //! Relative paths: how they go from a node.
-ghost use Rattle.std.specs.Prelude.{◌≡◌, ◌<◌, ◌≤◌, ◌+◌, ◌^◌, ◌∷◌, ◌++◌, [], ℕ, IfOk, IfSome, length, map, option_copied};
+ghost use Rattle.std.specs.Prelude.{◌≡◌, ◌<◌, ◌≤◌, ◌+◌, ◌^◌, ◌∷◌, ◌++◌, [], IfOk, IfSome, length, map, option_copied};
 ghost use Rattle.sp_base.specs.Paths.{pieces};
 ghost use Rattle.post_plan.specs.RelativePaths as spec;
 

@@ -1,5 +1,5 @@
 //! What the lines of events ask for.
-ghost use Rattle.std.specs.Prelude.{◌≡◌, ◌≢◌, ◌↔◌, ◌++◌, ◌∷◌, [], ℕ, List, IfOk, IfSome, IfNone, IsTrue, codes};
+ghost use Rattle.std.specs.Prelude.{◌≡◌, ◌≢◌, ◌↔◌, ◌++◌, ◌∷◌, [], ℕ, List, IfOk, IfSome, IfNone, IsTrue};
 ghost use Rattle.sp_base.specs.Bytes.{AreBytes};
 ghost use Rattle.replay_text.specs.EventLines.{is_target, line_of, IsEventLine};
 ghost use Rattle.replay_text.specs.Quoting.{connection_text, IsNoDirect, IsNoTargetOf, IsNoClose, IsNoBytes, IsNoPost, IsOfNoConnection, IsOfNoFlight};

@@ -1,9 +1,9 @@
 //! Reads the lines of events.
-ghost use Rattle.std.specs.Prelude.{◌≡◌, ◌≢◌, ◌<◌, ◌≤◌, ◌^◌, ◌++◌, ◌∷◌, [], ℕ, List, IfOk, IfSome, IfNone, IsTrue, codes};
+ghost use Rattle.std.specs.Prelude.{◌≡◌, ◌≢◌, ◌<◌, ◌^◌, ◌++◌, ◌∷◌, ℕ, List, IfOk, IfSome, IfNone, IsTrue};
 ghost use Rattle.std.specs.List.{list_all};
 ghost use Rattle.std.specs.Fmt.{decimal};
 ghost use Rattle.replay_text.specs.Transcript.{IsConnectionNumber};
-ghost use Rattle.replay_text.specs.EventLines.{flight_text, line_of, IsFlight, IsEventLine};
+ghost use Rattle.replay_text.specs.EventLines.{flight_text, IsFlight};
 ghost use Rattle.replay_text.specs.Quoting.{not_blank, connection_text};
 
 use crate::event_line::Flight;

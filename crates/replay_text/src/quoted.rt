@@ -1,5 +1,5 @@
 //! Reads quoted texts. A byte has one spelling.
-ghost use Rattle.std.specs.Prelude.{◌≡◌, ◌≢◌, ◌<◌, ◌++◌, ◌∷◌, [], ℕ, List, IfOk, IfSome, IfNone, get_or, length};
+ghost use Rattle.std.specs.Prelude.{◌≡◌, ◌≢◌, ◌<◌, ◌++◌, ℕ, List, IfOk, IfSome, IfNone, get_or, length};
 ghost use Rattle.sp_base.specs.Bytes.{AreBytes};
 ghost use Rattle.replay_text.specs.Quoting.{unhex, escaped_byte, spelled_byte, BeginsNoByte, IsNoQuotation};
 ghost use Rattle.replay_text.specs.Transcript.{quoted_byte, quotation};

@@ -1,12 +1,11 @@
 //! Reads a scenario by its grammar.
-ghost use Rattle.std.specs.Prelude.{[], ◌≡◌, ◌≢◌, ◌+◌, ◌≤◌, ◌<◌, ◌^◌, ◌++◌, ◌∷◌, ℕ, List, IfOk, IfErr, IfSome, IfNone, MatchResult, IsTrue, true, false, length, take, drop, codes};
-ghost use Rattle.replay_text.specs.Lines.{newlines, text_of_lines, AreLines};
+ghost use Rattle.std.specs.Prelude.{[], ◌≡◌, ◌≢◌, ◌+◌, ◌≤◌, ◌<◌, ◌^◌, IfOk, IfErr, MatchResult, true, false, length, take};
 ghost use Rattle.replay_text.specs.EventLines.{line_of, IsEventLine};
 ghost use Rattle.replay_text.specs.declared.event_line.EventLine as models;
-ghost use Rattle.replay_text.specs.Scenario.{AreActs, act_lines, SpellsScenario, IsScenario, ReadsScenario, longest_scenario};
+ghost use Rattle.replay_text.specs.Scenario.{SpellsScenario, IsScenario, ReadsScenario, longest_scenario};
 ghost use Rattle.replay_text.specs.Languages.{RefusesWithin};
 ghost use Rattle.replay_text.specs.Reading.{Refuses, SpellsActs, SpellsBody, SpellsTail, SpellsFarm, IsContentBody, IsTail, BlockThen, EndsBlock, EndsNoBlock, IfLine, fault_further, Acts};
-ghost use Rattle.replay_text.specs.declared.scenario.ScenarioFault.TheVariants.{Line, NoMemory as no_memory};
+ghost use Rattle.replay_text.specs.declared.scenario.ScenarioFault.TheVariants.{Line};
 
 use crate::event_lines::read_event_line;
 use crate::lines::{after_line, count_newlines, first_line, same};

@@ -1,5 +1,5 @@
 //! Writes the lines of events.
-ghost use Rattle.std.specs.Prelude.{◌≡◌, ◌++◌, ◌∷◌, [], ◌<◌, IfOk, OnOk, codes};
+ghost use Rattle.std.specs.Prelude.{◌≡◌, ◌++◌, [], ◌<◌, IfOk, OnOk, codes};
 ghost use Rattle.std.specs.Fmt.{decimal};
 ghost use Rattle.replay_text.specs.Transcript.{hex, quoted_byte, quotation, quotation_or_dash, mark_text, answer_text, key_text, note_line, note_text, event_text};
 

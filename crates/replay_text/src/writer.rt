@@ -1,5 +1,5 @@
 //! Writes scenarios.
-ghost use Rattle.std.specs.Prelude.{◌≡◌, ◌++◌, IfOk, OnOk, codes};
+ghost use Rattle.std.specs.Prelude.{◌≡◌, ◌++◌, IfOk, OnOk};
 ghost use Rattle.replay_text.specs.Scenario.{IsSpelled, SpellsScenario};
 ghost use Rattle.replay_text.specs.Written.{farm_part, scenario_text};
 

@@ -1,5 +1,5 @@
 //! How many look-ups a decomposition takes. Decompositions are asked for through the program (examples/runs/splits).
-ghost use Rattle.std.specs.Prelude.{◌≡◌, ◌==◌, length};
+ghost use Rattle.std.specs.Prelude.{◌==◌, length};
 
 use sp_base::{LONGEST_SEGMENT, MOST_SEGMENTS, Mem, Path};
 use std::alloc::{AllocError, Global};

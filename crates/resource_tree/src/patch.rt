@@ -9,7 +9,7 @@ ghost use Rattle.resource_tree.specs.Patches.{entry_at, with_entry};
 
 use crate::Node;
 use indexmap::IndexMap;
-use sp_base::{Mem, NoMemory, Path};
+use sp_base::{Mem, Path};
 use std::alloc::Global;
 use std::hash::RandomState;
 use std::marker::Model;

@@ -8,7 +8,7 @@ ghost use Rattle.resource_tree.specs.Content.{by_path, node_at, same_path};
 ghost use Rattle.resource_tree.specs.Rows.{AreRowsOf};
 
 use crate::nodes::Node;
-use sp_base::{Mem, NoMemory, Path};
+use sp_base::{Mem, Path};
 use std::alloc::Global;
 use std::collections::HashMap;
 use std::hash::RandomState;

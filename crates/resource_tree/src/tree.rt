@@ -4,7 +4,7 @@ ghost use Rattle.resource_tree.specs.Content.{node_at, IsGood, new_content};
 
 use crate::nodes::Node;
 use crate::table::Nodes;
-use sp_base::{Mem, Path, PropList, TextList};
+use sp_base::{Mem, Path};
 use std::alloc::Global;
 use std::hash::RandomState;
 use std::marker::Model;

@@ -1,5 +1,5 @@
 //! Scripts, and their texts.
-ghost use Rattle.std.specs.Prelude.{◌≡◌, ◌==◌, true, false, codes, drop, IfOk, IfSome, IfNone, option_copied, slice_index};
+ghost use Rattle.std.specs.Prelude.{◌≡◌, ◌==◌, true, false, drop, IfOk, IfSome, IfNone, option_copied, slice_index};
 ghost use Rattle.sp_base.specs.Paths.{child_of};
 ghost use Rattle.script_rank.specs.Ranking.{is_script, script_text};
 ghost use Rattle.script_rank.specs.Search.{script_in};

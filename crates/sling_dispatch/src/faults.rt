@@ -1,5 +1,5 @@
 //! How a refusal is written.
-ghost use Rattle.std.specs.Prelude.{◌≡◌, ◌+◌, ◌<◌, ◌^◌, ◌++◌, ◌↔◌, ◌∷◌, [], IfOk, OnOk, IsTrue, codes};
+ghost use Rattle.std.specs.Prelude.{◌≡◌, ◌+◌, ◌<◌, ◌^◌, ◌++◌, ◌↔◌, IfOk, OnOk, IsTrue};
 ghost use Rattle.sling_dispatch.specs.Faults.{fault_at_path, fault_at_byte, fault_text, file_fault_text, farm_fault_text, refusal_text};
 ghost use Rattle.sling_dispatch.specs.Endings.{output_of, RefusalLine, ContentLine, FarmLine};
 

@@ -1,5 +1,5 @@
 //! The run: what the words say is done, from the source to the sink.
-ghost use Rattle.std.specs.Prelude.{◌≡◌, ◌≢◌, ◌↔◌, ◌++◌, ◌∷◌, ◌+◌, [], ℕ, List, Ok, Err, false, map, codes, IsTrue, IfOk, IfErr, OnErr};
+ghost use Rattle.std.specs.Prelude.{◌≡◌, ◌↔◌, ◌+◌, Ok, Err, false, map, IsTrue, IfOk, IfErr, OnErr};
 ghost use Rattle.sling_dispatch.specs.declared.ending.Ending.{Ending};
 ghost use Rattle.replay_text.specs.Scenario.{ReadsScenario, IsScenario, longest_scenario};
 ghost use Rattle.replay_text.specs.Languages.{RefusesWithin};

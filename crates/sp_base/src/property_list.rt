@@ -1,5 +1,5 @@
 // Property lists: named values, each name once, in the order of the names' bytes.
-ghost use Rattle.std.specs.Prelude.{◌≡◌, ◌==◌, ◌<◌, ◌≤◌, [], ℕ, List, T, not, IfOk, IfErr, OnOk, OnErr, option_copied, option_map, is_some, slice_get, slice_get, length};
+ghost use Rattle.std.specs.Prelude.{◌≡◌, ◌==◌, ◌<◌, [], ℕ, List, T, not, IfOk, IfErr, OnOk, OnErr, option_copied, option_map, is_some, slice_get, length};
 ghost use Rattle.std.specs.FinMap.Entries.{put, find, is_sorted, where_key};
 ghost use Rattle.std.specs.Ordering.{eq_by_cmp};
 ghost use Rattle.sp_base.specs.Properties.{by_name, text_in};

@@ -1,5 +1,5 @@
 //! Sources and sinks in memory, which tell what they hold, and of which chosen calls fail.
-ghost use Rattle.std.specs.Prelude.{◌≡◌, ◌↔◌, ◌<◌, ◌≤◌, ◌+◌, ◌++◌, ℕ, List, [], Some, Err, IfOk, IfSome, OnErr, IsTrue, is_err, min, take, drop, length};
+ghost use Rattle.std.specs.Prelude.{◌≡◌, ◌↔◌, ◌<◌, ◌≤◌, ◌+◌, ◌++◌, [], Some, Err, IfOk, OnErr, is_err, min, take, drop, length};
 ghost use Rattle.sp_outside.specs.Told.{held_after, before_taking};
 ghost use Rattle.sp_outside.specs.Causes.{HasSourceCause, HasSinkCause};
 ghost use Rattle.sp_outside.specs.Memory.{fails_next, has_failed, source_after, sink_after};

@@ -1,7 +1,6 @@
 //! The disk of the real system: files below a folder. It tells nothing.
-ghost use Rattle.std.specs.Prelude.{◌≡◌, None, IfErr, IfOk, OnOk};
+ghost use Rattle.std.specs.Prelude.{◌≡◌, None, IfOk};
 ghost use Rattle.sp_outside.specs.Causes.{HasDiskCause, Rose};
-ghost use Rattle.sp_outside.specs.Files.{IsListing, IsName, IsOldOrNew};
 
 use crate::docroot::Docroot;
 use crate::{Disk, DiskFault};

@@ -1,10 +1,8 @@
 //! A tree with changes over it, which it doesn't know yet.
-ghost use Rattle.std.specs.Prelude.{◌≡◌, ◌+◌, ℕ, List, Some, None, OnOk, OnErr, IfOk, IsTrue, true, false, cond, length, is_some, option_copied, option_map};
-ghost use Rattle.std.specs.List.{IsDistinct};
+ghost use Rattle.std.specs.Prelude.{◌≡◌, ◌+◌, ℕ, List, Some, None, OnOk, IfOk, true, false, length, is_some, option_copied, option_map};
 ghost use Rattle.std.specs.List.Sorted.{IsStrictlySortedBy};
 ghost use Rattle.std.specs.Map.{keys_of};
-ghost use Rattle.std.specs.Ordering.{eq_by_cmp};
-ghost use Rattle.resource_tree.specs.Content.{IsGood, by_path, node_at, same_path};
+ghost use Rattle.resource_tree.specs.Content.{by_path, node_at, same_path};
 ghost use Rattle.resource_tree.specs.Changes.{change_at, with_kids};
 ghost use Rattle.resource_tree.specs.declared.patch.PatchNode.TheVariants as patch_node;
 ghost use Rattle.resource_tree.specs.Patches.{left_by, over, patching};

@@ -1,5 +1,5 @@
 // Lists of kids, without one of them, and with one in another place.
-ghost use Rattle.std.specs.Prelude.{◌≡◌, ◌≤◌, ℕ, List, IfOk, IfSome, ◌<◌, length, map, position, nat_eq};
+ghost use Rattle.std.specs.Prelude.{◌≡◌, ◌≤◌, IfOk, IfSome, ◌<◌, length, map, position, nat_eq};
 ghost use Rattle.std.specs.Cmp.Lexicographic.{pointwise};
 ghost use Rattle.resource_tree.specs.Kids.{other_kids, place_among, kids_in_order};
 

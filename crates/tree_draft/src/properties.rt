@@ -1,8 +1,8 @@
 // Properties that are set or taken away.
-ghost use Rattle.std.specs.Prelude.{◌≡◌, ◌≢◌, Some, None, OnOk, IfOk, IfErr, IsTrue};
+ghost use Rattle.std.specs.Prelude.{◌≡◌, ◌≢◌, Some, None, OnOk, IfErr, IsTrue};
 ghost use Rattle.sp_base.specs.Paths.{seg_ok};
-ghost use Rattle.resource_tree.specs.Content.{kid, node_at};
-ghost use Rattle.resource_tree.specs.Changes.{clearing, has_prop_at, set_fault, unset_fault, update};
+ghost use Rattle.resource_tree.specs.Content.{kid};
+ghost use Rattle.resource_tree.specs.Changes.{clearing, set_fault, unset_fault, update};
 ghost use Rattle.tree_draft.specs.Drafts.{DraftFollows, IsSound};
 
 use crate::Draft;

@@ -12,7 +12,7 @@ ghost use Rattle.url_maps.specs.Siblings.{HasParent, IsWithin};
 use crate::claims_change::ClaimsChange;
 use indexmap::IndexMap;
 use resource_tree::{Patch, Tree};
-use sp_base::{Mem, NoMemory, Path, PathList, TextBuf};
+use sp_base::{Mem, Path, PathList, TextBuf};
 use std::alloc::Global;
 use std::hash::RandomState;
 use std::marker::Model;

@@ -3,7 +3,7 @@ ghost use Rattle.std.specs.Prelude.{◌≡◌, ◌++◌, ◌||◌, [], ℕ, List
 ghost use Rattle.std.specs.List.{list_any};
 ghost use Rattle.std.specs.Map.{lookup};
 ghost use Rattle.std.specs.Str.{bytes_eq};
-ghost use Rattle.resource_tree.specs.Patches.{patching_at, entry_at};
+ghost use Rattle.resource_tree.specs.Patches.{patching_at};
 ghost use Rattle.url_maps.specs.Claims.{claimants};
 ghost use Rattle.url_maps.specs.Noting.{LeadsRows, Notes, NotesEntry, has_row, is_at_some, untouched_paths, claimants_so_far};
 ghost use Rattle.url_maps.specs.Siblings.{PutsRows, or_else};
@@ -12,7 +12,7 @@ use crate::claims::Claims;
 use crate::leaders::led;
 use indexmap::IndexMap;
 use resource_tree::{Patch, Tree};
-use sp_base::{Mem, NoMemory, Path, PathList, TextBuf, TextList};
+use sp_base::{Mem, Path, PathList, TextBuf, TextList};
 use std::alloc::Global;
 use std::hash::RandomState;
 use std::marker::Model;

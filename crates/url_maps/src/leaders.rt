@@ -9,7 +9,7 @@ ghost use Rattle.url_maps.specs.VanityPaths.{order_of};
 use crate::siblings::node_after;
 use crate::words::number;
 use resource_tree::{Node, Patch, Tree};
-use sp_base::{Mem, NoMemory, Path, PathList};
+use sp_base::{Mem, Path, PathList};
 use std::alloc::Global;
 use std::cmp::Ordering;
 

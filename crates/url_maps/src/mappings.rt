@@ -7,7 +7,7 @@ ghost use Rattle.url_maps.specs.Search.{IsBeyond, IsMappingPair, IsOf, mapped_pa
 use crate::pairs::{Pair, PairKind};
 use crate::words::{number, texts};
 use resource_tree::{Node, Tree};
-use sp_base::{Mem, NoMemory, Path, PathFault, TextBuf, a_path_and_its_text};
+use sp_base::{Mem, NoMemory, Path, PathFault, a_path_and_its_text};
 use std::alloc::Global;
 
 /// The status of a redirect whose mapping names none (RFC 9110, section 15.4.3).

@@ -1,6 +1,5 @@
 //! The turns in which a text is mapped.
-ghost use Rattle.std.specs.Prelude.{◌≡◌, ◌==◌, ◌≤◌, ◌<◌, ◌++◌, ℕ, true, IfOk, IfSome, IfNone, Some, None, option_copied, drop, length, take, slice_index};
-ghost use Rattle.resource_tree.specs.Content.{IsGood};
+ghost use Rattle.std.specs.Prelude.{◌≡◌, ◌==◌, ◌<◌, ◌++◌, true, IfOk, Some, None, option_copied, slice_index};
 ghost use Rattle.url_maps.specs.Answers.{map_answer};
 ghost use Rattle.url_maps.specs.Claims.{IsIndexOf};
 ghost use Rattle.url_maps.specs.Search.{IsBest, IsBeyond, IsLastSeparator, IsShorter, IsTurn, is_prefix_end, is_separator};
@@ -11,7 +10,7 @@ use crate::pairs::{Pair, PairKind};
 use crate::reach::reach_of;
 use crate::{MapAnswer, MapIndex, the_answer_is_mapped};
 use resource_tree::Tree;
-use sp_base::{Mem, NoMemory, Path, TextBuf};
+use sp_base::{Mem, Path, TextBuf};
 use std::alloc::Global;
 
 /// The most turns of a text.

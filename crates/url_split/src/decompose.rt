@@ -1,5 +1,5 @@
 //! The decomposition of a path text (Apache Sling, "URL decomposition").
-ghost use Rattle.std.specs.Prelude.{◌≡◌, ◌++◌, ◌∷◌, [], map, filter, not, ◌==◌, length, None, IsTrue, true, IfOk, IfSome, IfNone};
+ghost use Rattle.std.specs.Prelude.{◌≡◌, ◌++◌, map, filter, not, ◌==◌, length, None, IfOk, IfSome, IfNone};
 ghost use Rattle.std.specs.List.{slice_split, before_first};
 ghost use Rattle.sp_base.specs.Bytes.{is_dot, is_slash};
 ghost use Rattle.url_split.specs.Split.{IsSplit, IsLost, split_of, selectors_of, extension_of, suffix_of};

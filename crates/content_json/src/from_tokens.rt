@@ -12,7 +12,7 @@ ghost use Rattle.content_json.specs.Nodes.{nodes_in};
 ghost use Rattle.content_json.specs.Steps.{is_sound};
 ghost use Rattle.content_json.specs.FromTokens.{HoldsMembers, AddsObject, AddsMembers, AddsMember, TakesIn};
 
-use crate::names::{is_order, is_plain};
+use crate::names::{is_content_name, is_order};
 use crate::open_object::OpenObject;
 use crate::tokens::{listed_texts, property};
 use crate::walk::kid_path;
@@ -124,7 +124,7 @@ fn add_member<'a>(
     if is_order(name) {
         return add_order(alloc, reader, parent);
     }
-    if !is_plain(name) {
+    if !is_content_name(name) {
         return Ok(false);
     }
     match reader.next() {

@@ -4,7 +4,7 @@ ghost use Rattle.serde_json.specs.View.{view, members_view};
 ghost use Rattle.content_json.specs.Steps.{room_after, room_beside};
 
 use crate::kind::array_cause;
-use crate::names::{is_order, is_plain};
+use crate::names::{is_content_name, is_order};
 use crate::order::has_good_order;
 use serde_json::{Map, Value};
 use sp_base::Mem;
@@ -55,7 +55,7 @@ pub(crate) fn room_beside(
     let mut left = most;
     for (name, value) in members.iter() {
         if !is_order(name.as_str()) {
-            if !is_plain(name.as_str()) {
+            if !is_content_name(name.as_str()) {
                 return Ok(None);
             }
             let Some(room) = room_after(alloc, value, left, levels)? else {

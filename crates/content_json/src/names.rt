@@ -14,7 +14,7 @@ pub(crate) fn is_order(name: &str) -> bool
     name == ORDER
 }
 
-pub(crate) fn is_plain(name: &str) -> bool
+pub(crate) fn is_content_name(name: &str) -> bool
     ensures { result ≡ is_content_name name.now }
 {
     seg_ok(name) && !name.starts_with(':')
@@ -25,7 +25,7 @@ pub(crate) fn has_bad_name(members: &Map<String, Value>) -> bool
     ensures { result ≡ has_bad_name (members_view members.now.entries) }
 {
     for (name, _) in members.iter() {
-        if !is_order(name.as_str()) && !is_plain(name.as_str()) {
+        if !is_order(name.as_str()) && !is_content_name(name.as_str()) {
             return true;
         }
     }

@@ -79,7 +79,7 @@ abbrev pub is_crowded_line : Option Connection → Bool
 is_crowded_line None = false
 is_crowded_line (Some c) = is_crowded c
 
--- the most flights in the air, and the most that are asked
+-- the most flights in the air
 abbrev pub most_flights : ℕ
 most_flights = 256
 

@@ -1,22 +1,14 @@
 -- What the writer and the counter do step by step. Only private functions and proofs cite this.
-use Rattle.std.specs.Prelude.{◌≡◌, ◌+◌, ◌<◌, ◌≤◌, ◌||◌, ◌∷◌, ℕ, Bool, true, false, zero, suc, nat_le, if◌then◌else◌, List, [], Option, Some, None, Result, Ok, Err, flat_map, length, sum_by}
+use Rattle.std.specs.Prelude.{◌≡◌, ◌+◌, ◌<◌, ◌≤◌, ◌||◌, ◌∷◌, ℕ, Bool, true, false, zero, suc, nat_le, if◌then◌else◌, List, [], Option, Some, None, flat_map, length, sum_by}
 use Rattle.json.specs.Json.{Json}
 use Rattle.json.specs.Token.{Token}
 use Rattle.json.specs.Tree.{json_tokens}
 use Rattle.json.specs.Print.{token_text}
 use Rattle.json.specs.Written.{Written}
-use Rattle.sp_base.specs.declared.path.PathFault.{PathFault}
 use Rattle.resource_tree.specs.Seen.{Resource, Seen}
 use Rattle.property_json.specs.PropertyJson.{Adds}
 use Rattle.get_servlet.specs.declared.kids.Kid.{Kid}
 use Rattle.get_servlet.specs.Rendering.{most_resources, shown_kid, resource_json, shown_at, greatest_fitting}
-
--- ---- kids
-
--- the path that was made, where there is one
-abbrev pub path_of_result : Result (List (List ℕ)) PathFault → Option (List (List ℕ))
-path_of_result (Err fault) = None
-path_of_result (Ok path) = Some path
 
 -- ---- writing
 

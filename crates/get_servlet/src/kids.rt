@@ -1,8 +1,8 @@
 // The resources below a resource.
 ghost use Rattle.std.specs.Prelude.{◌≡◌, ◌≢◌, IfOk, IfErr, Err};
+ghost use Rattle.std.specs.Result.{result_ok};
 ghost use Rattle.sp_base.specs.declared.path.PathFault.TheVariants.{NoMemory as no_memory};
 ghost use Rattle.get_servlet.specs.Rendering.{kid_of_name, shown_kid, lists_kid};
-ghost use Rattle.get_servlet.specs.Steps.{path_of_result};
 
 use resource_tree::{Look, Res};
 use sp_base::{Mem, NoMemory, Path, PathFault};
@@ -24,7 +24,7 @@ pub(crate) fn lists_kid(res: &Res<'_>, name: &str) -> bool
 
 // The path that was made, if there is one: a path that is too deep is none, and no lack of memory.
 fn path_of_result(made: Result<Path, PathFault>) -> Mem<Option<Path>>
-    ensures value { IfOk result (λ path. path ≡ path_of_result made) }
+    ensures value { IfOk result (λ path. path ≡ result_ok made) }
     ensures told { IfOk result (λ path. made ≢ Err no_memory) }
     ensures err { IfErr result (λ e. made ≡ Err no_memory) }
 {

@@ -24,7 +24,8 @@ pub fn the_end_of_a_stream()
         → (end ≡ Breaks BadHead) ⊎ (((end ≡ Waits) × (length last < longest_head)) ⊎ ((end ≡ Breaks LongHead) × (longest_head ≤ length last))) }
 {}
 
-/// Whatever an answer says, no value of a field ends its line (RFC 9110, section 5.5), and each byte of a location is visible.
+/// Whatever an answer says whose body has fewer than 2^64 bytes, no value of a field ends its line (RFC 9110, section 5.5), and each byte
+/// of a location is visible.
 pub fn no_value_ends_its_line()
     ensures { ValuesStayInTheirLines }
 {}

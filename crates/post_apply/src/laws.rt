@@ -1,7 +1,8 @@
 //! What holds of every POST: laws of the definitions, on functions that do nothing.
 ghost use Rattle.post_apply.specs.Laws.{MadeNamesAreLeast, OperationsKeepContentGood, RefusalsHaveCauses};
 
-/// Whatever an operation does, the content after it is one that a tree has: with a node above each, no name twice and at most 200,000 nodes.
+/// Whatever an operation whose paths are paths does to a good content, the content after it is one that a tree has: with a node above
+/// each, no name twice and at most 200,000 nodes.
 pub fn operations_keep_content_good()
     ensures { OperationsKeepContentGood }
 {}

@@ -1,5 +1,5 @@
 //! Words that a form lends.
-ghost use Rattle.std.specs.Prelude.{◌≡◌, ◌==◌, ◌∷◌, ◌++◌, [], IfOk, OnOk, OnErr, length, map, option_copied, slice_get};
+ghost use Rattle.std.specs.Prelude.{◌≡◌, ◌==◌, ◌∷◌, ◌++◌, [], IfOk, OnOk, OnErr, length, map, option_copied};
 ghost use Rattle.post_plan.specs.Entries.{lone_word};
 
 use sp_base::{Mem, TextBuf, TextList};
@@ -39,15 +39,6 @@ impl<'a> LentWords<'a> {
         ensures { result ≡ (length self.now == 0) }
     {
         self.words.is_empty()
-    }
-
-    pub fn get(&self, place: usize) -> Option<&'a str>
-        ensures { option_copied result ≡ slice_get self.now place }
-    {
-        match self.words.get(place) {
-            Some(word) => Some(*word),
-            None => None,
-        }
     }
 
     pub fn as_slice(&self) -> &[&'a str]

@@ -10,17 +10,17 @@ ghost use Rattle.replay_text.specs.declared.scenario.Scenario.{Scenario};
 use cover_rules::a_page_has_one_key;
 use sp_base::segments_and_their_spelling;
 
-/// A text spells one scenario.
+/// A text spells at most one scenario.
 pub fn one_reading()
     ensures { (text : List ℕ) (s t : Scenario) → SpellsScenario text s → SpellsScenario text t → s ≡ t }
 {}
 
-/// A text is refused at one line.
+/// A text is refused at one line at most.
 pub fn one_refusal()
     ensures { (text : List ℕ) (n m : ℕ) → IsRefusedWithin longest_scenario IsScenario text n → IsRefusedWithin longest_scenario IsScenario text m → n ≡ m }
 {}
 
-/// A scenario has one text.
+/// A scenario has at most one text.
 pub fn a_scenario_has_one_text()
     ensures { (text : List ℕ) (s : Scenario) → SpellsScenario text s → text ≡ scenario_text s }
 {}

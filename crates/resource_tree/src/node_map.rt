@@ -1,9 +1,9 @@
 // Nodes that are gathered before they are a tree.
-ghost use Rattle.std.specs.Prelude.{◌≡◌, [], OnOk, OnErr, length, option_copied};
+ghost use Rattle.std.specs.Prelude.{◌≡◌, [], OnOk, OnErr, length};
 ghost use Rattle.std.specs.BTreeMap.{insert_entry};
 ghost use Rattle.std.specs.List.Sorted.{IsStrictlySortedBy};
 ghost use Rattle.std.specs.Map.{keys_of};
-ghost use Rattle.resource_tree.specs.Content.{by_path, node_at, IsGood};
+ghost use Rattle.resource_tree.specs.Content.{by_path, IsGood};
 
 use crate::Tree;
 use crate::nodes::Node;
@@ -55,12 +55,6 @@ impl NodeMap {
         ensures ordered { IsStrictlySortedBy by_path (keys_of self.now) }
     {
         self.nodes.len()
-    }
-
-    pub fn get(&self, path: &Path) -> Option<&Node>
-        ensures { option_copied result ≡ node_at self.now path.now }
-    {
-        self.nodes.get(path)
     }
 }
 

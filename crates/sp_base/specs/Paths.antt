@@ -48,12 +48,12 @@ is_path segs = list_all seg_ok segs && nat_le (length segs) most_segments
 abbrev pub path_or_none : List (List ℕ) → Option (List (List ℕ))
 path_or_none segs = if is_path segs then Some segs else None
 
--- why pieces are no path: an empty piece, else a dot piece, else the first long one, else their number
+-- why pieces that are neither empty nor dots are no path: the place of the first long one, else their number where there are too many
 abbrev pub size_fault : Option ℕ → ℕ → Option PathFault
 size_fault (Some place) n = Some (LongSegment place)
 size_fault None n = if nat_lt most_segments n then Some TooDeep else None
 
--- why segments are no path, where they are none
+-- why segments are no path, where they are none: an empty one, else one of dots, else the first long one, else their number
 abbrev pub fault_of : List (List ℕ) → Option PathFault
 fault_of segs = if list_any is_empty segs then Some EmptySegment else (if list_any is_dots segs then Some DotSegment else size_fault (position is_long segs) (length segs))
 

@@ -1,4 +1,4 @@
-//! What a request is answered, before it is written as HTTP.
+//! Requests as they were read, what the publisher is asked, and answers before they are written as HTTP.
 use crate::{ByteBuf, HeadList, Path, TextBuf};
 
 /// What a response says of caching, as the Cache-Control directive of its name (RFC 9111, section 5.2.2).

@@ -1,5 +1,5 @@
 -- What proofs and private functions need: the members of an object that is read token by token.
-use Rattle.std.specs.Prelude.{◌≡◌, ◌+◌, not, ◌&&◌, ◌||◌, ◌++◌, ℕ, suc, map, filter, length, List, Bool, true, false, Option, Some, None, option_and_then, unwrap_or, [], if◌then◌else◌}
+use Rattle.std.specs.Prelude.{◌≡◌, ◌+◌, not, ◌&&◌, ◌||◌, ◌++◌, ℕ, suc, map, filter, length, List, true, false, Some, None, option_and_then, unwrap_or, [], if◌then◌else◌}
 use Rattle.std.specs.Cmp.Lexicographic.{slice_cmp}
 use Rattle.std.specs.Ordering.{nat_cmp}
 use Rattle.std.specs.Borrow.{Bor}
@@ -68,10 +68,14 @@ pub record TakesIn (name : List ℕ) (before after : OpenObject) (ts rest : List
   pub no_kid : is_object told ≡ false
   pub gains : Gains before after name told
 
+-- how deep values may nest in a member beside the levels of nodes: 127 in all, without the top and 64 levels
+abbrev pub depth_beside_levels : ℕ
+depth_beside_levels = 62
+
 -- these tokens begin with the value of a member, before the rest; the object takes it in, and its nodes are added
 pub record AddsMember (levels : ℕ) (path : List (List ℕ)) (name : List ℕ) (before after : OpenObject) (old new : Content) (ts rest : List Token) : Type 0 where
   pub told : Data
-  pub read : converted of_json (json.value (levels + 62) ts) ≡ Some (told, rest)
+  pub read : converted of_json (json.value (levels + depth_beside_levels) ts) ≡ Some (told, rest)
   pub fit : IsFit levels name told
   pub gains : Gains before after name told
   pub nodes : (q : List (List ℕ)) → node_at new q ≡ with_nodes_at old (member_nodes path name told) q
@@ -79,7 +83,7 @@ pub record AddsMember (levels : ℕ) (path : List (List ℕ)) (name : List ℕ) 
 -- so it is with all members up to the closing brace
 pub record AddsMembers (levels : ℕ) (path : List (List ℕ)) (after : OpenObject) (old new : Content) (ts rest : List Token) : Type 0 where
   pub found : Members
-  pub read : converted (λ js. of_members js no_members) (json.members (json.value (levels + 62)) (length ts) ts) ≡ Some (found, rest)
+  pub read : converted (λ js. of_members js no_members) (json.members (json.value (levels + depth_beside_levels)) (length ts) ts) ≡ Some (found, rest)
   pub fit : AllMembers (IsFit levels) found
   pub holds : HoldsMembers after found
   pub nodes : (q : List (List ℕ)) → node_at new q ≡ with_nodes_at old (nodes_below path found) q
@@ -87,7 +91,7 @@ pub record AddsMembers (levels : ℕ) (path : List (List ℕ)) (after : OpenObje
 -- and with an object after its opening brace: it has no fault, and its nodes are added
 pub record AddsObject (levels : ℕ) (path : List (List ℕ)) (old new : Content) (ts rest : List Token) : Type 0 where
   pub found : Members
-  pub read : converted (λ js. of_members js no_members) (json.members (json.value (levels + 62)) (length ts) ts) ≡ Some (found, rest)
+  pub read : converted (λ js. of_members js no_members) (json.members (json.value (levels + depth_beside_levels)) (length ts) ts) ≡ Some (found, rest)
   pub faultless : fault_in (object found) ≡ None
   pub shallow : is_deeper_below levels found ≡ false
   pub nodes : (q : List (List ℕ)) → node_at new q ≡ with_nodes_at old (nodes_in path (object found)) q

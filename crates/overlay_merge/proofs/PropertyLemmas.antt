@@ -1,6 +1,6 @@
 -- Properties that are taken away, and put over others.
 use Rattle.std.proofs.Common.{◌≡◌, ◌+◌, ◌<◌, ◌≤◌, ◌++◌, ◌&&◌, ◌||◌, ℕ, zero, suc, Bool, true, false, not, cond, List, [], ◌∷◌, drop, length, refl, sym, ◌∙◌, ap, arith}
-use Rattle.std.specs.Prelude.{codes, filter, nat_eq, slice_get, Option, Some, None}
+use Rattle.std.specs.Prelude.{codes, filter, nat_eq, slice_get, Some}
 use Rattle.std.proofs.lemmas.List.{drop_more}
 use Rattle.std.proofs.lemmas.Option.{get_or_from_slice_get}
 use Rattle.std.specs.List.{list_any}
@@ -10,9 +10,7 @@ use Rattle.std.specs.FinMap.Entries.{put, where_key}
 use Rattle.std.proofs.lemmas.List.Folds.{list_any-append}
 use Rattle.sp_base.specs.Names.{by_name}
 use Rattle.sp_base.specs.declared.value.Value.{Value}
-use Rattle.sp_base.specs.declared.value.Value.TheVariants.{Text, Long, Truth, Texts, Longs, Truths}
-use Rattle.overlay_merge.specs.Hiding.{lists_name, text_stands_for, hiding_texts}
-use Rattle.overlay_merge.specs.HidingTexts.{many_texts, one_text, text_list}
+use Rattle.overlay_merge.specs.Hiding.{text_stands_for}
 use Rattle.overlay_merge.specs.Properties.{is_steering, put_all, without_steering}
 
 abbrev Props : Type 0
@@ -137,23 +135,3 @@ drop_all [] zero past = refl
 drop_all [] (suc n) past = refl
 drop_all (p ∷ props) zero past = absurd (omega (arith, past))
 drop_all (p ∷ props) (suc n) past = let less : length props ≤ n = omega (arith, past) in drop_all props n less
-
-texts_are : (value : Option Value) → text_list (one_text value) ++ many_texts value ≡ hiding_texts value
-texts_are None = refl
-texts_are (Some (Text t)) = refl
-texts_are (Some (Long n)) = refl
-texts_are (Some (Truth b)) = refl
-texts_are (Some (Texts ts)) = refl
-texts_are (Some (Longs ns)) = refl
-texts_are (Some (Truths bs)) = refl
-
--- one text, and then many
-pub hide_both : (value : Option Value) (props middle left : Props) → middle ≡ where_key by_name (λ name. not (list_any (text_stands_for name) (text_list (one_text value)))) props
-    → left ≡ where_key by_name (λ name. not (list_any (text_stands_for name) (many_texts value))) middle → left ≡ where_key by_name (λ name. not (lists_name value name)) props
-hide_both value props middle left first second =
-    let one = text_list (one_text value) in
-    let many = many_texts value in
-    second ∙ ap (where_key by_name (λ name. not (list_any (text_stands_for name) many))) first
-    ∙ keep_keep (λ name. not (list_any (text_stands_for name) one)) (λ name. not (list_any (text_stands_for name) many)) props
-    ∙ keep_same (λ name. not (list_any (text_stands_for name) one) && not (list_any (text_stands_for name) many)) (λ name. not (lists_name value name)) props
-    (λ name. sym (not_or (list_any (text_stands_for name) one) (list_any (text_stands_for name) many)) ∙ ap not (sym (list_any-append (text_stands_for name) one many)) ∙ ap (λ l. not (list_any (text_stands_for name) l)) (texts_are value))

@@ -6,6 +6,7 @@ use Rattle.std.specs.Cmp.Lexicographic.{pointwise}
 use Rattle.std.specs.FinMap.Entries.{find}
 use Rattle.sp_base.specs.Names.{by_name}
 use Rattle.sp_base.specs.Paths.{is_path}
+use Rattle.sp_base.specs.Properties.{value_texts}
 use Rattle.sp_base.specs.declared.value.Value.{Value}
 use Rattle.sp_base.specs.declared.value.Value.TheVariants.{Text, Long, Truth, Texts, Longs, Truths}
 use Rattle.resource_tree.specs.Content.{Content, node_at}
@@ -25,23 +26,13 @@ is_value_true (Some (Texts ts)) = false
 is_value_true (Some (Longs ns)) = false
 is_value_true (Some (Truths bs)) = false
 
--- the texts of a value that is a text or texts
-abbrev pub hiding_texts : Option Value → List (List ℕ)
-hiding_texts None = []
-hiding_texts (Some (Text t)) = t ∷ []
-hiding_texts (Some (Long n)) = []
-hiding_texts (Some (Truth b)) = []
-hiding_texts (Some (Texts ts)) = ts
-hiding_texts (Some (Longs ns)) = []
-hiding_texts (Some (Truths bs)) = []
-
 -- a text stands for a name where it is that name, and `*` stands for each name
 abbrev pub text_stands_for : List ℕ → List ℕ → Bool
 text_stands_for name text = pointwise nat_eq text (codes "*") || pointwise nat_eq text name
 
 -- a value lists a name
 abbrev pub lists_name : Option Value → List ℕ → Bool
-lists_name value name = list_any (text_stands_for name) (hiding_texts value)
+lists_name value name = list_any (text_stands_for name) (value_texts value)
 
 -- whether properties hide their resource
 abbrev pub hides_resource : List (List ℕ × Value) → Bool

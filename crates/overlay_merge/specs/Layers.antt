@@ -7,7 +7,7 @@ use Rattle.type_chain.specs.Types.{place_of}
 use Rattle.type_chain.specs.Chain.{super_at}
 use Rattle.url_split.specs.Split.{at_greatest}
 use Rattle.overlay_merge.specs.declared.layers.Layer.{Layer}
-use Rattle.overlay_merge.specs.Roots.{is_overlay, is_override}
+use Rattle.overlay_merge.specs.Roots.{is_overlay, is_override, root_depth}
 
 -- a layer, with how far up it may be hidden itself, and how many last segments it has in common with the layer above
 abbrev pub make_layer : List (List ℕ) → ℕ → ℕ → Layer
@@ -69,8 +69,8 @@ override_layers tree (seg ∷ segs) = reverse (descent tree most_layers [] (Some
 
 -- the layers of a merged path; the two roots have none
 unfoldable pub layers_of : Content → List (List ℕ) → List Layer
-layers_of tree path = if is_overlay path then overlay_layers (drop 2 path)
-    else (if is_override path then override_layers tree (drop 2 path) else [])
+layers_of tree path = if is_overlay path then overlay_layers (drop root_depth path)
+    else (if is_override path then override_layers tree (drop root_depth path) else [])
 
 -- whether a node is at one of the layers
 abbrev pub has_node : Content → List Layer → Bool

@@ -6,5 +6,4 @@ pub mod Properties
 pub mod Kids
 pub mod Merged
 pub mod Walk
-pub mod HidingTexts
 pub mod Slots

@@ -1,28 +1,12 @@
--- The paths below which resources are merged (Apache Sling, "Resource Merger": the overlay and the override root).
-use Rattle.std.specs.Prelude.{◌||◌, ℕ, Bool, List, [], ◌∷◌, codes}
+-- The two roots below which resources are merged, and their parent (Apache Sling, "Resource Merger").
+use Rattle.std.specs.Prelude.{◌||◌, ℕ, Bool, List, codes, nat_eq}
 use Rattle.std.specs.Cmp.Lexicographic.{pointwise}
-use Rattle.std.specs.Prelude.{nat_eq}
-use Rattle.sp_base.specs.Paths.{is_under, text_of}
+use Rattle.sp_base.specs.Paths.{text_of}
+pub use Rattle.resource_tree.specs.MergeRoots.{is_overlay, is_override, is_merged_path}
 
--- the root of overlays
-abbrev pub overlay_root : List (List ℕ)
-overlay_root = codes "mnt" ∷ codes "overlay" ∷ []
-
--- the root of overrides
-abbrev pub override_root : List (List ℕ)
-override_root = codes "mnt" ∷ codes "override" ∷ []
-
--- whether a path lies under the root of overlays
-abbrev pub is_overlay : List (List ℕ) → Bool
-is_overlay path = is_under path overlay_root
-
--- whether a path lies under the root of overrides
-abbrev pub is_override : List (List ℕ) → Bool
-is_override path = is_under path override_root
-
--- whether what is at a path is merged
-abbrev pub is_merged_path : List (List ℕ) → Bool
-is_merged_path path = is_overlay path || is_override path
+-- how many segments each of the two roots has
+abbrev pub root_depth : ℕ
+root_depth = 2
 
 -- the parent of both roots
 abbrev pub is_parent_of_roots : List (List ℕ) → Bool

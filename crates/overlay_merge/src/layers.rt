@@ -3,6 +3,7 @@ ghost use Rattle.std.specs.Prelude.{◌≡◌, [], Some, None, IfOk, true, drop,
 ghost use Rattle.std.specs.Option.{option_copied, option_or};
 ghost use Rattle.sp_base.specs.Paths.{seg_ok};
 ghost use Rattle.overlay_merge.specs.Layers.{base_at, base_of, descent, has_layer, has_node, layer_below, layers_of, most_layers, overlay_layer, overlay_layers, override_layer, override_layers};
+ghost use Rattle.overlay_merge.specs.Roots.{root_depth};
 
 use crate::roots::{is_overlay, is_override};
 use resource_tree::Tree;
@@ -105,7 +106,7 @@ fn descent(alloc: Global, tree: &Tree, path: Path) -> Mem<Vec<Layer>>
 // The layer of an overlay below a search path.
 fn overlay_layer(alloc: Global, path: &Path, top: &str) -> Mem<Layer>
     requires { seg_ok top.now ≡ true }
-    ensures { IfOk result (λ layer. layer ≡ overlay_layer (drop 2 path.now) top.now) }
+    ensures { IfOk result (λ layer. layer ≡ overlay_layer (drop root_depth path.now) top.now) }
 {
     // `depth` says that the path is one.
     let _ = path.depth();
@@ -126,7 +127,7 @@ fn overlay_layer(alloc: Global, path: &Path, top: &str) -> Mem<Layer>
 
 // The layers of an overlay.
 fn overlay_layers(alloc: Global, path: &Path) -> Mem<Vec<Layer>>
-    ensures { IfOk result (λ layers. layers.items ≡ overlay_layers (drop 2 path.now)) }
+    ensures { IfOk result (λ layers. layers.items ≡ overlay_layers (drop root_depth path.now)) }
 {
     let mut layers = Vec::new(alloc);
     if path.depth() <= ROOT_DEPTH {
@@ -139,7 +140,7 @@ fn overlay_layers(alloc: Global, path: &Path) -> Mem<Vec<Layer>>
 
 // The layers of an override.
 fn override_layers(alloc: Global, tree: &Tree, path: &Path) -> Mem<Vec<Layer>>
-    ensures { IfOk result (λ layers. layers.items ≡ override_layers tree.now (drop 2 path.now)) }
+    ensures { IfOk result (λ layers. layers.items ≡ override_layers tree.now (drop root_depth path.now)) }
 {
     if path.depth() <= ROOT_DEPTH {
         return Ok(Vec::new(alloc));

@@ -1,15 +1,14 @@
 // The properties of a merged resource.
-ghost use Rattle.std.specs.Prelude.{◌≡◌, [], not, IfOk, OnOk};
+ghost use Rattle.std.specs.Prelude.{◌≡◌, not, IfOk, OnOk};
 ghost use Rattle.std.specs.List.{list_any};
 ghost use Rattle.std.specs.Option.{option_copied};
 ghost use Rattle.std.specs.FinMap.Entries.{where_key};
 ghost use Rattle.sp_base.specs.Names.{by_name};
 ghost use Rattle.overlay_merge.specs.Hiding.{text_stands_for, lists_name};
-ghost use Rattle.overlay_merge.specs.HidingTexts.{many_texts, one_text, text_list};
 ghost use Rattle.overlay_merge.specs.Properties.{merged_props, put_all, with_layer, without_steering};
 
 use resource_tree::Res;
-use sp_base::{Mem, PropList, TextBuf, Value};
+use sp_base::{Mem, PropList, TextBuf, Value, value_texts};
 use std::alloc::Global;
 
 // Puts properties over others.
@@ -44,41 +43,11 @@ fn hide_by_all(alloc: Global, props: &mut PropList, texts: &[TextBuf])
     }
 }
 
-fn hide_by_one(alloc: Global, props: &mut PropList, text: Option<&TextBuf>)
-    ensures { props.new ≡ where_key by_name (λ name. not (list_any (text_stands_for name) (text_list (option_copied text.entry)))) props.old }
-{
-    match text {
-        Some(text) => hide_by(alloc, props, text.text()),
-        None => {}
-    }
-}
-
-// The text of a value that is one.
-fn one_text(value: Option<&Value>) -> Option<&TextBuf>
-    ensures { option_copied result ≡ one_text (option_copied value.entry) }
-{
-    match value {
-        Some(Value::Text(text)) => Some(text),
-        _ => None,
-    }
-}
-
-// The texts of a value that is a list of them.
-fn many_texts(value: Option<&Value>) -> &[TextBuf]
-    ensures { result.now ≡ many_texts (option_copied value.entry) }
-{
-    match value {
-        Some(Value::Texts(texts)) => texts.as_slice(),
-        _ => &[],
-    }
-}
-
 // Takes away the properties that a value names, which is a text or texts.
 fn hide(alloc: Global, props: &mut PropList, value: Option<&Value>)
     ensures { props.new ≡ where_key by_name (λ name. not (lists_name (option_copied value.entry) name)) props.old }
 {
-    hide_by_one(alloc, props, one_text(value));
-    hide_by_all(alloc, props, many_texts(value));
+    hide_by_all(alloc, props, value_texts(value));
 }
 
 #[tactic(auto, unfolding(crate::specs::Properties::with_layer))]

@@ -7,6 +7,7 @@ use Rattle.std.proofs.lemmas.Bool.{false≢true}
 use Rattle.sp_base.specs.Paths.{is_path, parent_of, path_in, path_of, path_or_none}
 use Rattle.sp_base.specs.declared.path.PathFault.{PathFault}
 use Rattle.sp_base.specs.declared.hint.Hint.{Hint}
+use Rattle.resource_tree.specs.MergeRoots.{is_merged_path}
 use Rattle.post_plan.specs.declared.fault.PlanFault.{PlanFault}
 use Rattle.post_plan.specs.declared.suffix.Suffix.{Suffix}
 use Rattle.post_plan.specs.declared.suffix.Suffix.TheVariants.{Delete as DeleteSuffix, MoveFrom, CopyFrom}
@@ -18,9 +19,9 @@ use Rattle.post_plan.specs.declared.verb.Verb.{Verb}
 use Rattle.post_plan.specs.declared.verb.Verb.TheVariants.{Modify, Delete, Copy, Move, Nop}
 use Rattle.post_plan.specs.Parameters.{any_marked, content_where, path_text, parameter_suffix}
 use Rattle.post_plan.specs.RelativePaths.{RelativePath, relative_path_of}
-use Rattle.post_plan.specs.Spots.{any_spot, full_path, goal_at, goal_base, goal_of, goes_under, ends_in_name, if_changeable, is_absolute, is_reserved, led_to, own_name, relative_spot, spot_below, spot_of, spot_there, unless_reserved, word_without_slash}
+use Rattle.post_plan.specs.Spots.{any_spot, full_path, goal_at, goal_base, goal_of, goes_under, ends_in_name, if_changeable, is_absolute, led_to, own_name, relative_spot, spot_below, spot_of, spot_there, unless_merged, word_without_slash}
 use Rattle.post_plan.specs.Entries.{Entry, carries, carry_by, carry_of as entry_carry, deleted_spots, distinct, entries, entry_by, parameter_entry, hint_at, same_spot, same_suffix, set_by, set_of, set_words, sets, with_suffix}
-use Rattle.post_plan.specs.Plan.{carry_operation, dest_word, faults, first_plan_fault, relative_node, operation_by, plan_of, operation_unless_fault, verb_of}
+use Rattle.post_plan.specs.Plan.{carry_operation, dest_word, faults, first_plan_fault, relative_node, operation_by, operation_unless_fault, verb_of}
 use Rattle.post_plan.specs.OperationPaths.{AsksForPaths, carry_has_paths, ends_are_paths, names_paths, set_has_path, spot_has_path}
 
 -- ---- lists of which all pass
@@ -106,11 +107,11 @@ relative_has node relative =
     by_test (λ (s : Spot). spot_has_path s ≡ true) (relative.up == 0) (spot_below (path_or_none relative.down)) (spot_there (led_to node relative)) (below_has (path_or_none relative.down) (checked_path relative.down)) (there_has (led_to node relative) (led_is node relative))
 
 kept_has : (node : List (List ℕ)) (spot : Spot) → spot_has_path spot ≡ true → HasPathIf (if_changeable node spot)
-kept_has node spot is = by_test (λ (s : Spot). spot_has_path s ≡ true) (is_reserved (full_path node spot)) None (Some spot) tt is
+kept_has node spot is = by_test (λ (s : Spot). spot_has_path s ≡ true) (is_merged_path (full_path node spot)) None (Some spot) tt is
 
-kept_is : (o : Option (List (List ℕ))) → IsPathIf o → IsPathIf (unless_reserved o)
+kept_is : (o : Option (List (List ℕ))) → IsPathIf o → IsPathIf (unless_merged o)
 kept_is None is = tt
-kept_is (Some path) is = by_test (λ (p : List (List ℕ)). is_path p ≡ true) (is_reserved path) None (Some path) tt is
+kept_is (Some path) is = by_test (λ (p : List (List ℕ)). is_path p ≡ true) (is_merged_path path) None (Some path) tt is
 
 module _ (valid : (text : List ℕ) (path : List (List ℕ)) → path_of text ≡ Ok path → is_path path ≡ true) where
   read_is : (text : List ℕ) → IsPathIf (path_in text)

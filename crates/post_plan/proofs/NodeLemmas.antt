@@ -6,8 +6,9 @@ use Rattle.std.proofs.lemmas.List.{take-append-le, append-nil}
 use Rattle.std.proofs.lemmas.List.Concat.{flat_map-append}
 use Rattle.sp_base.specs.PathTexts.{spelling_of}
 use Rattle.sp_base.specs.Paths.{text_of}
+use Rattle.resource_tree.specs.MergeRoots.{is_merged_path}
 use Rattle.post_plan.specs.declared.spot.Spot.{Spot}
-use Rattle.post_plan.specs.Spots.{under, first_two, is_reserved, led_to, full_path, if_changeable}
+use Rattle.post_plan.specs.Spots.{under, first_two, led_to, full_path, if_changeable}
 
 pub get_prefix : {A : Type 0} (xs ys : List A) (n : ℕ) → n < length xs → slice_get (xs ++ ys) n ≡ slice_get xs n
 get_prefix [] ys n lt = absurd (omega (arith, lt))
@@ -38,13 +39,13 @@ seg_past_name parent rest name n lt =
     sym (ap (λ (l : List (List ℕ)). slice_get l n) (append_assoc parent (name ∷ []) rest) ∙ get_back parent (name ∷ rest) n (omega (arith, lt)) ∙ ap (slice_get (name ∷ rest)) one)
 
 -- the first two segments tell
-pub reserved_by : (path : List (List ℕ)) → is_reserved (first_two (slice_get path 0) (slice_get path 1)) ≡ is_reserved path
-reserved_by [] = refl
-reserved_by (a ∷ []) = refl
-reserved_by (a ∷ b ∷ path) = refl
+pub merged_by : (path : List (List ℕ)) → is_merged_path (first_two (slice_get path 0) (slice_get path 1)) ≡ is_merged_path path
+merged_by [] = refl
+merged_by (a ∷ []) = refl
+merged_by (a ∷ b ∷ path) = refl
 
-pub reserved_of : (path : List (List ℕ)) (first second : Option (List ℕ)) (b : Bool) → b ≡ is_reserved (first_two first second) → first ≡ slice_get path 0 → second ≡ slice_get path 1 → b ≡ is_reserved path
-reserved_of path first second b e f s = rw (e, f, s) (reserved_by path)
+pub merged_of : (path : List (List ℕ)) (first second : Option (List ℕ)) (b : Bool) → b ≡ is_merged_path (first_two first second) → first ≡ slice_get path 0 → second ≡ slice_get path 1 → b ≡ is_merged_path path
+merged_of path first second b e f s = rw (e, f, s) (merged_by path)
 
 pub text_of_child : (parent : List (List ℕ)) (name : List ℕ) → text_of (parent ++ name ∷ []) ≡ spelling_of parent ++ 47 ∷ name
 text_of_child [] name = append-nil (47 ∷ name)
@@ -59,15 +60,15 @@ led_under parent down name up some =
     let prefix : take (length parent - (up - 1)) (parent ++ name ∷ []) ≡ take (length parent - (up - 1)) parent = take-append-le (length parent - (up - 1)) parent (name ∷ []) (omega arith) in
     rw (len, index, prefix, test) refl
 
-pub reserved_alone : (node rest : List (List ℕ)) (b : Bool) → b ≡ is_reserved (node ++ rest) → rest ≡ [] → b ≡ is_reserved node
-reserved_alone node rest b e none = e ∙ ap (λ (l : List (List ℕ)). is_reserved (node ++ l)) none ∙ ap is_reserved (append-nil node)
+pub merged_node : (node rest : List (List ℕ)) (b : Bool) → b ≡ is_merged_path (node ++ rest) → rest ≡ [] → b ≡ is_merged_path node
+merged_node node rest b e none = e ∙ ap (λ (l : List (List ℕ)). is_merged_path (node ++ l)) none ∙ ap is_merged_path (append-nil node)
 
 abbrev some : Spot → Option Spot
 some spot = Some spot
 
-pub changeable : (node : List (List ℕ)) (spot : Spot) (o : Option Spot) → o ≡ some spot → not (is_reserved (full_path node spot)) ≡ true → some spot ≡ option_and_then (if_changeable node) o
-changeable node spot o e h = go (is_reserved (full_path node spot)) h refl
+pub changeable : (node : List (List ℕ)) (spot : Spot) (o : Option Spot) → o ≡ some spot → not (is_merged_path (full_path node spot)) ≡ true → some spot ≡ option_and_then (if_changeable node) o
+changeable node spot o e h = go (is_merged_path (full_path node spot)) h refl
   where
-    go : (b : Bool) → not b ≡ true → is_reserved (full_path node spot) ≡ b → some spot ≡ option_and_then (if_changeable node) o
+    go : (b : Bool) → not b ≡ true → is_merged_path (full_path node spot) ≡ b → some spot ≡ option_and_then (if_changeable node) o
     go true h is = absurd cc
     go false h is = sym (ap (option_and_then (if_changeable node)) e ∙ ap (λ (b : Bool). cond b None (some spot)) is)

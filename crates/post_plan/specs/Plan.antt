@@ -7,6 +7,7 @@ use Rattle.form_input.specs.Multipart.{first_some}
 use Rattle.sp_base.specs.Paths.{seg_ok, text_of}
 use Rattle.resource_tree.specs.declared.places.Place.{Place}
 use Rattle.resource_tree.specs.declared.places.Place.TheVariants.{First, Last, Before, After, At}
+use Rattle.resource_tree.specs.MergeRoots.{is_merged_path}
 use Rattle.post_plan.specs.declared.fault.PlanFault.{PlanFault}
 use Rattle.post_plan.specs.declared.fault.PlanFault.TheVariants.{BadOperation, NoDest, BadOrder, BadPath}
 use Rattle.post_plan.specs.declared.verb.Verb.{Verb}
@@ -20,7 +21,7 @@ use Rattle.post_plan.specs.declared.operation.CarryOp.{CarryOp}
 use Rattle.post_plan.specs.declared.operation.NameWish.{NameWish}
 use Rattle.post_plan.specs.Parameters.{first_word, any_marked, is_content, path_text, parameter_suffix}
 use Rattle.post_plan.specs.Hints.{hint_fault}
-use Rattle.post_plan.specs.Spots.{spot_of, goal_of, is_reserved, under}
+use Rattle.post_plan.specs.Spots.{spot_of, goal_of, under}
 use Rattle.post_plan.specs.NewNames.{wish_of, wished_name}
 use Rattle.post_plan.specs.Entries.{Entry, entries, deleted_spots, carries, sets}
 
@@ -158,7 +159,7 @@ if_fault bad fault = if bad then Some fault else None
 
 -- the node itself stands first, then the parameters in their order
 abbrev pub path_fault : List (List ℕ) → Bool → List (List ℕ × List ℕ) → Option PlanFault
-path_fault target star pairs = if is_reserved (relative_node target star pairs) then Some (BadPath (text_of (relative_node target star pairs)))
+path_fault target star pairs = if is_merged_path (relative_node target star pairs) then Some (BadPath (text_of (relative_node target star pairs)))
     else option_map BadPath (first_bad (bad_text (relative_node target star pairs) (is_bad_dest target pairs) (is_bad_wish (fresh_wish star pairs)) (any_marked pairs)) pairs)
 
 -- the first fault that is there

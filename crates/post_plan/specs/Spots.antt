@@ -1,8 +1,9 @@
 -- Paths in the names and words of parameters, relative to a node or absolute (Apache Sling, "SlingPostServlet"; RFC 3986, section 5.2.4).
 -- `first_two` is needed by private functions and proofs alone.
-use Rattle.std.specs.Prelude.{◌==◌, ◌&&◌, ◌||◌, ◌-◌, ℕ, Bool, true, false, nat_eq, nat_le, nat_lt, if◌then◌else◌, List, [], ◌∷◌, ◌++◌, Option, Some, None, option_and_then, codes, length, take, drop, slice_index_or}
+use Rattle.std.specs.Prelude.{◌==◌, ◌&&◌, ◌-◌, ℕ, Bool, true, false, nat_eq, nat_le, nat_lt, if◌then◌else◌, List, [], ◌∷◌, ◌++◌, Option, Some, None, option_and_then, codes, length, take, drop, slice_index_or}
 use Rattle.std.specs.List.{starts_with, ends_with}
-use Rattle.sp_base.specs.Paths.{seg_ok, pieces, path_in, path_or_none, is_under, parent_of}
+use Rattle.sp_base.specs.Paths.{seg_ok, pieces, path_in, path_or_none, parent_of}
+use Rattle.resource_tree.specs.MergeRoots.{is_merged_path}
 use Rattle.post_plan.specs.declared.spot.Spot.{Spot}
 use Rattle.post_plan.specs.RelativePaths.{RelativePath, relative_path_of}
 
@@ -36,13 +37,9 @@ relative_spot node relative = if relative.up == 0 then spot_below (path_or_none 
 abbrev pub full_path : List (List ℕ) → Spot → List (List ℕ)
 full_path node spot = if spot.at_target then node ++ spot.path else spot.path
 
--- the paths of merged resources, which aren't changed
-abbrev pub is_reserved : List (List ℕ) → Bool
-is_reserved path = is_under path (codes "mnt" ∷ codes "overlay" ∷ []) || is_under path (codes "mnt" ∷ codes "override" ∷ [])
-
 -- a spot, where it may be changed
 abbrev pub if_changeable : List (List ℕ) → Spot → Option Spot
-if_changeable node spot = if is_reserved (full_path node spot) then None else Some spot
+if_changeable node spot = if is_merged_path (full_path node spot) then None else Some spot
 
 -- the place of a text that names one, absolute or seen from a node
 abbrev pub any_spot : List (List ℕ) → List ℕ → Option Spot
@@ -65,9 +62,9 @@ abbrev pub goal_base : List (List ℕ) → List ℕ → Option (List (List ℕ))
 goal_base parent text = if is_absolute text then path_in text else (if ends_in_name text then option_and_then (led_to parent) (relative_path_of text) else None)
 
 -- a path, where it may be changed
-abbrev pub unless_reserved : Option (List (List ℕ)) → Option (List (List ℕ))
-unless_reserved None = None
-unless_reserved (Some path) = if is_reserved path then None else Some path
+abbrev pub unless_merged : Option (List (List ℕ)) → Option (List (List ℕ))
+unless_merged None = None
+unless_merged (Some path) = if is_merged_path path then None else Some path
 
 -- the last segment of a path, where it has one
 abbrev pub own_name : List (List ℕ) → List (List ℕ)
@@ -75,7 +72,7 @@ own_name path = drop (length path - 1) path
 
 -- a goal under what a word names, or that itself
 abbrev pub goal_at : List (List ℕ) → List ℕ → List (List ℕ) → Option (List (List ℕ))
-goal_at target word base = unless_reserved (if goes_under word then path_or_none (base ++ own_name target) else Some base)
+goal_at target word base = unless_merged (if goes_under word then path_or_none (base ++ own_name target) else Some base)
 
 -- the goal that a word names for a target; a relative word is seen from the target's parent
 abbrev pub goal_of : List (List ℕ) → List ℕ → Option (List (List ℕ))

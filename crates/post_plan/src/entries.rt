@@ -2,12 +2,12 @@
 ghost use Rattle.std.specs.Prelude.{◌≡◌, IfOk};
 ghost use Rattle.post_plan.specs.Entries as spec;
 
+use crate::Spot;
 use crate::node::TargetNode;
 use crate::parameters::{path_text, suffix_of};
 use crate::spots::spot_of;
 use crate::suffix::Suffix;
 use crate::words::{any_marked, is_content};
-use crate::Spot;
 use sp_base::{Mem, TextBuf};
 use std::alloc::Global;
 use std::marker::Model;

@@ -6,7 +6,7 @@ ghost use Rattle.post_plan.specs.Plan as spec;
 
 use crate::goals::goal_of;
 use crate::hints::hint_of;
-use crate::node::{TargetNode, is_reserved_node, node_of, node_text};
+use crate::node::{TargetNode, is_merged_node, node_of, node_text};
 use crate::orders::place_named;
 use crate::parameters::{path_text, suffix_of};
 use crate::spots::spot_of;
@@ -171,7 +171,7 @@ fn path_fault(
 {
     let wish = fresh_wish(alloc, star, pairs)?;
     let node = node_of(target, &wish);
-    if is_reserved_node(alloc, &node) {
+    if is_merged_node(alloc, &node) {
         return Ok(Some(PlanFault::BadPath(node_text(alloc, &node)?)));
     }
     let verdict = Verdict {

@@ -3,7 +3,7 @@ ghost use Rattle.std.specs.Prelude.{◌≡◌, ◌++◌, IfOk};
 ghost use Rattle.sp_base.specs.Paths.{path_or_none};
 ghost use Rattle.post_plan.specs.Spots as spec;
 
-use crate::node::is_reserved;
+use crate::node::is_merged_path;
 use crate::relative::relative_path_of;
 use crate::spots::{ends_in_name, is_absolute, led_to};
 use sp_base::{Mem, Path};
@@ -41,10 +41,10 @@ fn goal_base(alloc: Global, parent: &Path, text: &str) -> Mem<Option<Path>>
 }
 
 fn goal_in(path: Option<Path>) -> Option<Path>
-    ensures { result ≡ spec.unless_reserved path }
+    ensures { result ≡ spec.unless_merged path }
 {
     match path {
-        Some(path) if !is_reserved(&path) => Some(path),
+        Some(path) if !is_merged_path(&path) => Some(path),
         _ => None,
     }
 }

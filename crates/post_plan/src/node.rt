@@ -1,6 +1,7 @@
 //! The node that names are relative to.
 ghost use Rattle.std.specs.Prelude.{◌≡◌, ◌++◌, IfOk, option_copied, option_map, slice_get};
 ghost use Rattle.sp_base.specs.Paths.{text_of};
+ghost use Rattle.resource_tree.specs.MergeRoots.{is_merged_path};
 ghost use Rattle.post_plan.specs.NewNames.{wished_name};
 ghost use Rattle.post_plan.specs.Spots as spec;
 
@@ -47,7 +48,7 @@ fn seg_below<'a>(node: &TargetNode<'a>, rest: &'a Path, n: usize) -> Option<&'a 
 }
 
 fn is_merge_root(first: Option<&str>, second: Option<&str>) -> bool
-    ensures { result ≡ spec.is_reserved (spec.first_two (option_copied first.entry) (option_copied second.entry)) }
+    ensures { result ≡ is_merged_path (spec.first_two (option_copied first.entry) (option_copied second.entry)) }
 {
     match first {
         None => false,
@@ -59,28 +60,28 @@ fn is_merge_root(first: Option<&str>, second: Option<&str>) -> bool
 }
 
 /// Whether a path is among those of merged resources.
-#[tactic(auto, using(crate::proofs::NodeLemmas::reserved_of))]
-pub fn is_reserved(path: &Path) -> bool
-    ensures { result ≡ spec.is_reserved path.now }
+#[tactic(auto, using(crate::proofs::NodeLemmas::merged_of))]
+pub fn is_merged_path(path: &Path) -> bool
+    ensures { result ≡ is_merged_path path.now }
 {
     is_merge_root(path.seg(0), path.seg(1))
 }
 
 /// The same of a path below a node.
-#[tactic(auto, using(crate::proofs::NodeLemmas::reserved_of))]
-pub fn is_reserved_below(node: &TargetNode, rest: &Path) -> bool
-    ensures { result ≡ spec.is_reserved (node.now ++ rest.now) }
+#[tactic(auto, using(crate::proofs::NodeLemmas::merged_of))]
+pub fn is_merged_below(node: &TargetNode, rest: &Path) -> bool
+    ensures { result ≡ is_merged_path (node.now ++ rest.now) }
 {
     is_merge_root(seg_below(node, rest, 0), seg_below(node, rest, 1))
 }
 
 /// The same of the node itself.
-#[tactic(auto, using(crate::proofs::NodeLemmas::reserved_alone))]
-pub fn is_reserved_node(alloc: Global, node: &TargetNode) -> bool
-    ensures { result ≡ spec.is_reserved node.now }
+#[tactic(auto, using(crate::proofs::NodeLemmas::merged_node))]
+pub fn is_merged_node(alloc: Global, node: &TargetNode) -> bool
+    ensures { result ≡ is_merged_path node.now }
 {
     let root = Path::root(alloc);
-    is_reserved_below(node, &root)
+    is_merged_below(node, &root)
 }
 
 /// The node that a form is about: the target, or the new node of this name below it.

@@ -1,10 +1,11 @@
 //! The places that texts name, seen from a node.
 ghost use Rattle.std.specs.Prelude.{◌≡◌, ◌<◌, ◌++◌, ◌-◌, IfOk, not, option_and_then, length, map, option_copied, slice_get};
 ghost use Rattle.sp_base.specs.Paths.{path_or_none, pieces};
+ghost use Rattle.resource_tree.specs.MergeRoots.{is_merged_path};
 ghost use Rattle.post_plan.specs.Spots as spec;
 
 use crate::Spot;
-use crate::node::{TargetNode, is_reserved, is_reserved_below};
+use crate::node::{TargetNode, is_merged_below, is_merged_path};
 use crate::relative::{RelativePath, relative_path_of};
 use sp_base::{Mem, Path, seg_ok};
 use std::alloc::Global;
@@ -129,12 +130,12 @@ fn any_spot(alloc: Global, node: &TargetNode, text: &str) -> Mem<Option<Spot>>
 }
 
 fn is_changeable(node: &TargetNode, spot: &Spot) -> bool
-    ensures { result ≡ not (spec.is_reserved (spec.full_path node.now spot.now)) }
+    ensures { result ≡ not (is_merged_path (spec.full_path node.now spot.now)) }
 {
     if spot.at_target {
-        !is_reserved_below(node, &spot.path)
+        !is_merged_below(node, &spot.path)
     } else {
-        !is_reserved(&spot.path)
+        !is_merged_path(&spot.path)
     }
 }
 

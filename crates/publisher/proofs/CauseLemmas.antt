@@ -11,7 +11,7 @@ use Rattle.form_input.specs.declared.fault.FormFault.{FormFault}
 use Rattle.form_input.specs.declared.fault.FormFault.TheVariants.{WrongKind, NoBoundary, BadPart, TooMany, NoMemory as NoMemoryOfForm}
 use Rattle.post_plan.specs.declared.operation.Op.{Op}
 use Rattle.post_plan.specs.Parameters.{first_word}
-use Rattle.post_plan.specs.Spots.{is_reserved}
+use Rattle.resource_tree.specs.MergeRoots.{is_merged_path}
 use Rattle.post_plan.specs.Hints.{bad_hint, hint_fault}
 use Rattle.post_plan.specs.Plan.{carries_node, dest_word, faults, first_plan_fault, if_fault, is_bad_order, operation_unless_fault, path_fault, plan_of, relative_node, verb_of}
 use Rattle.post_plan.specs.declared.fault.PlanFault.{PlanFault}
@@ -87,7 +87,7 @@ if_cause true fault is = is
 if_cause false fault is = tt
 
 path_cause : (target : List (List ℕ)) (star : Bool) (pairs : List (List ℕ × List ℕ)) → PlanCause (path_fault target star pairs)
-path_cause target star pairs = either_plan (is_reserved (relative_node target star pairs)) _ _ refl (of_path _)
+path_cause target star pairs = either_plan (is_merged_path (relative_node target star pairs)) _ _ refl (of_path _)
 
 faults_cause : (target : List (List ℕ)) (star : Bool) (pairs : List (List ℕ × List ℕ)) → PlanCause (first_plan_fault (faults target star pairs))
 faults_cause target star pairs =

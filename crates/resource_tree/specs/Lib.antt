@@ -3,6 +3,7 @@ pub mod InOrder
 pub mod Kids
 pub mod Changes
 pub mod Patches
+pub mod MergeRoots
 pub mod Moves
 pub mod Parts
 pub mod Rows

@@ -1,5 +1,5 @@
--- What a property list says of one name.
-use Rattle.std.specs.Prelude.{ℕ, List, Option, Some, None, option_and_then}
+-- What a property list says of one name, and the texts of a value.
+use Rattle.std.specs.Prelude.{ℕ, List, [], ◌∷◌, Option, Some, None, option_and_then}
 use Rattle.std.specs.FinMap.Entries.{find}
 use Rattle.sp_base.specs.declared.value.Value.{Value}
 use Rattle.sp_base.specs.declared.value.Value.TheVariants.{Text, Long, Truth, Texts, Longs, Truths}
@@ -13,6 +13,16 @@ as_text (Truth b) = None
 as_text (Texts ts) = None
 as_text (Longs ns) = None
 as_text (Truths bs) = None
+
+-- the texts of a value, which is one text or a list of them
+abbrev pub value_texts : Option Value → List (List ℕ)
+value_texts None = []
+value_texts (Some (Text t)) = t ∷ []
+value_texts (Some (Long n)) = []
+value_texts (Some (Truth b)) = []
+value_texts (Some (Texts ts)) = ts
+value_texts (Some (Longs ns)) = []
+value_texts (Some (Truths bs)) = []
 
 -- the text under a name, where the value there is one
 unfoldable pub text_in : List (List ℕ × Value) → List ℕ → Option (List ℕ)

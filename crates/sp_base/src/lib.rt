@@ -32,4 +32,4 @@ pub use path::{Path, PathFault};
 pub use property_list::PropList;
 pub use segments::{LONGEST_SEGMENT, MOST_SEGMENTS, mangled_parts, seg_ok, text_under};
 pub use text::TextBuf;
-pub use value::Value;
+pub use value::{Value, value_texts};

@@ -1,5 +1,6 @@
 //! Values of properties.
-ghost use Rattle.std.specs.Prelude.{◌≡◌, IfOk};
+ghost use Rattle.std.specs.Prelude.{◌≡◌, IfOk, option_copied};
+ghost use Rattle.sp_base.specs.Properties.{value_texts};
 
 use crate::items::{LongList, TextList, TruthList};
 use crate::{Mem, TextBuf};
@@ -28,5 +29,16 @@ impl Value {
             Value::Longs(numbers) => Value::Longs(numbers.duplicate(alloc)?),
             Value::Truths(truths) => Value::Truths(truths.duplicate(alloc)?),
         })
+    }
+}
+
+/// The texts of a value: one text alone, or those of a list. Of any other value, and of none, there are none.
+pub fn value_texts(value: Option<&Value>) -> &[TextBuf]
+    ensures { result.now ≡ value_texts (option_copied value.entry) }
+{
+    match value {
+        Some(Value::Text(text)) => std::slice::from_ref(text),
+        Some(Value::Texts(texts)) => texts.as_slice(),
+        _ => &[],
     }
 }

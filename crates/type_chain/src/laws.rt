@@ -52,7 +52,7 @@ pub fn no_type_repeats()
 /// A chain has the default type, and at most 32 before it.
 pub fn a_chain_is_short()
     ensures default { (tree : Content) (props : List (List ℕ × Value)) → IsTrue (has_type default_type (chain_of tree props)) }
-    ensures short { (tree : Content) (props : List (List ℕ × Value)) → length (chain_of tree props) ≤ 33 }
+    ensures short { (tree : Content) (props : List (List ℕ × Value)) → length (chain_of tree props) ≤ most_types + 1 }
 {}
 
 /// The chain is determined by its steps: the types before the default type are those, and those alone, of which the first is the

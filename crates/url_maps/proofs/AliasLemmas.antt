@@ -10,7 +10,7 @@ use Rattle.sp_base.specs.Paths.{is_path, parent_of, seg_ok, text_of}
 use Rattle.resource_tree.specs.declared.nodes.Node.{Node}
 use Rattle.resource_tree.specs.Content.{Content, IsTree, kid, node_at, prop_at}
 use Rattle.resource_tree.specs.Changes.{kids_at}
-use Rattle.url_maps.specs.Words.{mapping_texts}
+use Rattle.sp_base.specs.Properties.{value_texts}
 use Rattle.url_maps.specs.Aliases.{IsAlias, has_alias}
 use Rattle.url_maps.specs.Claims.{claims_alias, node_claims_alias, spells_alias}
 use Rattle.url_maps.proofs.PathLemmas.{IsReadBack, length_kid-is, parent_of-kid, spells_is, valid_sibling}
@@ -74,11 +74,11 @@ module _ (read : IsReadBack) (tree : Content) (good : IsTree (node_at tree)) whe
   unfolding claims_alias node_claims_alias has_alias
   claims_is p name alias segment =
       let text = text_of (kid p alias) in
-      elim (node_at tree (kid p name)) as (λ o. node_at tree (kid p name) ≡ o → option_map_or (λ (node : Node). node_claims_alias (kid p name) node text) o false ≡ option_map_or (λ (node : Node). list_any (pointwise nat_eq alias) (mapping_texts (prop_at node (codes "sling:alias")))) o false) [
+      elim (node_at tree (kid p name)) as (λ o. node_at tree (kid p name) ≡ o → option_map_or (λ (node : Node). node_claims_alias (kid p name) node text) o false ≡ option_map_or (λ (node : Node). list_any (pointwise nat_eq alias) (value_texts (prop_at node (codes "sling:alias")))) o false) [
         | None ↦ λ is. refl
         | Some node ↦ λ is.
             let valid = valid_sibling p name alias (there_valid (kid p name) node is) segment in
-            let words = mapping_texts (prop_at node (codes "sling:alias")) in
+            let words = value_texts (prop_at node (codes "sling:alias")) in
             let below : (length (kid p name) == 0) ≡ false = not_root (kid p name) (length_kid-is p name) in
             ap (λ b. not b && list_any (spells_alias (kid p name) text) words) below
             ∙ any_alike (spells_alias (kid p name) text) (pointwise nat_eq alias) (λ word. ap (λ r. seg_ok word && pointwise nat_eq text (text_of (kid r word))) (parent_of-kid p name) ∙ spells_is read p alias word valid segment) words
@@ -90,8 +90,8 @@ module _ (read : IsReadBack) (tree : Content) (good : IsTree (node_at tree)) whe
       elim (node_at tree q) as (λ o. node_at tree q ≡ o → option_map_or (λ (node : Node). node_claims_alias q node text) o false ≡ true → Claimant tree q text) [
         | None ↦ λ is fails. absurd (false≢true fails)
         | Some node ↦ λ is passes_it.
-            let parts = and_parts (not (length q == 0)) (list_any (spells_alias q text) (mapping_texts (prop_at node (codes "sling:alias")))) passes_it in
-            let found = find_any (spells_alias q text) (mapping_texts (prop_at node (codes "sling:alias"))) parts.1 in
+            let parts = and_parts (not (length q == 0)) (list_any (spells_alias q text) (value_texts (prop_at node (codes "sling:alias")))) passes_it in
+            let found = find_any (spells_alias q text) (value_texts (prop_at node (codes "sling:alias"))) parts.1 in
             let both = and_parts (seg_ok found.item) (pointwise nat_eq text (text_of (kid (parent_of q) found.item))) found.passes in
             record {
               node = node;

@@ -22,7 +22,7 @@ use Rattle.url_maps.specs.Pairs.{Applies, Decides, HasNoPair, IsPair, IsPairOf, 
 use Rattle.url_maps.specs.Search.{IsBest, IsFirstPath, IsMappingPair, IsOf, is_prefix_end, mapped_path}
 use Rattle.url_maps.specs.Turns.{IsMapped, Turns, leads, most_turns, text_after}
 use Rattle.url_maps.specs.VanityPaths.{has_vanity_path, vanity_page, vanity_cmp, with_slash}
-use Rattle.url_maps.specs.Words.{mapping_texts}
+use Rattle.sp_base.specs.Properties.{value_texts}
 use Rattle.url_maps.proofs.LawLemmas.{alias_path}
 use Rattle.url_maps.proofs.MappingLemmas.{IsSpelled, no_node_pair, no_path_pair, no_plain_pair, pair_at_node}
 use Rattle.url_maps.proofs.PairLemmas.{best_alias, best_last, best_mapping, goes_on_cut, none_best, none_of}
@@ -179,7 +179,7 @@ has_node : (tree : Content) (path : List (List ℕ)) (text : List ℕ) → has_v
 unfolding has_vanity_path
 has_node tree path text has =
     elim (node_at tree path) as (λ o. node_at tree path ≡ o → is_some o ≡ true) [
-      | None ↦ λ is. absurd (false≢true (sym (ap (λ o. option_map_or (λ (node : Node). list_any (λ word. pointwise nat_eq text (with_slash word)) (mapping_texts (prop_at node (codes "sling:vanityPath")))) o false) is) ∙ has))
+      | None ↦ λ is. absurd (false≢true (sym (ap (λ o. option_map_or (λ (node : Node). list_any (λ word. pointwise nat_eq text (with_slash word)) (value_texts (prop_at node (codes "sling:vanityPath")))) o false) is) ∙ has))
       | Some node ↦ λ is. refl
     ] refl
 

@@ -15,7 +15,7 @@ use Rattle.resource_tree.specs.Content.{Content, node_at, same_path}
 use Rattle.resource_tree.specs.Content.{prop_at}
 use Rattle.resource_tree.specs.Rows.{AreRowsOf}
 use Rattle.url_maps.specs.Claims.{AddsClaims, AreClaims, ClaimsAreWithin, ClaimRows, claimants, claims_alias, claims_vanity_path, node_claims_alias, node_claims_vanity_path, spells_alias, spells_vanity_path}
-use Rattle.url_maps.specs.Words.{mapping_texts}
+use Rattle.sp_base.specs.Properties.{value_texts}
 use Rattle.url_maps.proofs.PathLemmas.{path_from_same}
 
 -- a look-up through other names of the keys
@@ -181,15 +181,15 @@ not_zero n some = grind (arith, nat_tests)
 -- the root has no alias
 pub root_claims_none : (path : List (List ℕ)) (node : Node) → length path ≡ 0 → (text : List ℕ) → node_claims_alias path node text ≡ false
 unfolding node_claims_alias
-root_claims_none path node root text = ap (λ n. not (n == 0) && list_any (spells_alias path text) (mapping_texts (prop_at node (codes "sling:alias")))) root
+root_claims_none path node root text = ap (λ n. not (n == 0) && list_any (spells_alias path text) (value_texts (prop_at node (codes "sling:alias")))) root
 
 -- below the root a node claims what its words spell
-pub below_claims : (path : List (List ℕ)) (node : Node) (words : List (List ℕ)) → (length path ≡ 0 → ⊥) → words ≡ mapping_texts (prop_at node (codes "sling:alias")) → (text : List ℕ) → node_claims_alias path node text ≡ list_any (spells_alias path text) words
+pub below_claims : (path : List (List ℕ)) (node : Node) (words : List (List ℕ)) → (length path ≡ 0 → ⊥) → words ≡ value_texts (prop_at node (codes "sling:alias")) → (text : List ℕ) → node_claims_alias path node text ≡ list_any (spells_alias path text) words
 unfolding node_claims_alias
 below_claims path node words below are text =
-    ap (λ b. not b && list_any (spells_alias path text) (mapping_texts (prop_at node (codes "sling:alias")))) (not_zero (length path) below) ∙ ap (list_any (spells_alias path text)) (sym are)
+    ap (λ b. not b && list_any (spells_alias path text) (value_texts (prop_at node (codes "sling:alias")))) (not_zero (length path) below) ∙ ap (list_any (spells_alias path text)) (sym are)
 
-pub vanity_words : (node : Node) (words : List (List ℕ)) → words ≡ mapping_texts (prop_at node (codes "sling:vanityPath")) → (text : List ℕ) → node_claims_vanity_path node text ≡ list_any (spells_vanity_path text) words
+pub vanity_words : (node : Node) (words : List (List ℕ)) → words ≡ value_texts (prop_at node (codes "sling:vanityPath")) → (text : List ℕ) → node_claims_vanity_path node text ≡ list_any (spells_vanity_path text) words
 unfolding node_claims_vanity_path
 vanity_words node words are text = ap (list_any (spells_vanity_path text)) (sym are)
 

@@ -20,7 +20,7 @@ use Rattle.url_maps.specs.Claims.{NamesFirst, ClaimRows, claimants, claims_alias
 use Rattle.url_maps.specs.Noting.{has_row}
 use Rattle.url_maps.specs.Search.{IsOf, is_free, is_free_at}
 use Rattle.url_maps.specs.Siblings.{PutsFamilies, PutsKids, PutsRows, or_else, path_if}
-use Rattle.url_maps.specs.Words.{mapping_texts}
+use Rattle.sp_base.specs.Properties.{value_texts}
 use Rattle.url_maps.specs.declared.pairs.PairKind.TheVariants.{Alias}
 use Rattle.url_maps.proofs.AliasLemmas.{claims_is, find_alike, find_any}
 use Rattle.url_maps.proofs.AnswerLemmas.{alias_is}
@@ -217,7 +217,7 @@ record Spelled (q : List (List ℕ)) (text : List ℕ) : Type 0 where
 spelled_by : (q : List (List ℕ)) (node : Node) (text : List ℕ) → node_claims_alias q node text ≡ true → Spelled q text
 unfolding node_claims_alias
 spelled_by q node text claims =
-    let words = mapping_texts (prop_at node (codes "sling:alias")) in
+    let words = value_texts (prop_at node (codes "sling:alias")) in
     let parts = and_parts (not (length q == 0)) (list_any (spells_alias q text) words) claims in
     let found = find_any (spells_alias q text) words parts.1 in
     let both = and_parts (seg_ok found.item) (pointwise nat_eq text (text_of (kid (parent_of q) found.item))) found.passes in

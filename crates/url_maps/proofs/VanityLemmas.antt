@@ -16,7 +16,7 @@ use Rattle.sp_base.specs.Paths.{is_path, path_of, text_of}
 use Rattle.sp_base.specs.declared.path.PathFault.{PathFault}
 use Rattle.resource_tree.specs.declared.nodes.Node.{Node}
 use Rattle.resource_tree.specs.Content.{Content, IsTree, node_at, prop_at, same_path}
-use Rattle.url_maps.specs.Words.{mapping_texts}
+use Rattle.sp_base.specs.Properties.{value_texts}
 use Rattle.url_maps.specs.Claims.{AreClaims, ClaimRows, claimants, claims_vanity_path, is_ok_path, node_claims_vanity_path, spells_vanity_path}
 use Rattle.url_maps.specs.Search.{IsFirstPath, is_free, is_free_at}
 use Rattle.url_maps.specs.VanityPaths.{IsVanityPath, has_vanity_path, vanity_page, vanity_cmp, vanity_order, with_slash}
@@ -56,7 +56,7 @@ pub vanity_claims_is : (tree : Content) (q : List (List ℕ)) (text : List ℕ) 
 unfolding claims_vanity_path node_claims_vanity_path has_vanity_path
 vanity_claims_is tree q text ok =
     ap (λ (test : Node → Bool). option_map_or test (node_at tree q) false)
-    (λ i node. any_alike (spells_vanity_path text) (λ word. pointwise nat_eq text (with_slash word)) (λ word. ap (λ b. b && pointwise nat_eq text (with_slash word)) ok) (mapping_texts (prop_at node (codes "sling:vanityPath"))) i)
+    (λ i node. any_alike (spells_vanity_path text) (λ word. pointwise nat_eq text (with_slash word)) (λ word. ap (λ b. b && pointwise nat_eq text (with_slash word)) ok) (value_texts (prop_at node (codes "sling:vanityPath"))) i)
 
 ok_from_free : (tree : Content) (r : Result (List (List ℕ)) PathFault) → is_free_at tree r ≡ true → is_ok_path r ≡ true
 ok_from_free tree (Ok path) free = refl

@@ -13,7 +13,7 @@ use Rattle.sp_base.specs.Paths.{is_path, parent_of, path_of, seg_ok, text_of}
 use Rattle.sp_base.specs.declared.path.PathFault.{PathFault}
 use Rattle.resource_tree.specs.declared.nodes.Node.{Node}
 use Rattle.resource_tree.specs.Content.{Content, kid, node_at, prop_at, same_path}
-use Rattle.url_maps.specs.Words.{mapping_texts}
+use Rattle.sp_base.specs.Properties.{value_texts}
 use Rattle.url_maps.specs.VanityPaths.{order_of, with_slash}
 
 -- texts, and the paths that claim each
@@ -34,7 +34,7 @@ spells_alias path text alias = seg_ok alias && pointwise nat_eq text (text_of (k
 
 -- whether a node at a path, which isn't the root's, claims a text as its alias
 unfoldable pub node_claims_alias : List (List ℕ) → Node → List ℕ → Bool
-node_claims_alias path node text = not (length path == 0) && list_any (spells_alias path text) (mapping_texts (prop_at node (codes "sling:alias")))
+node_claims_alias path node text = not (length path == 0) && list_any (spells_alias path text) (value_texts (prop_at node (codes "sling:alias")))
 
 -- a path was read
 abbrev pub is_ok_path : Result (List (List ℕ)) PathFault → Bool
@@ -47,7 +47,7 @@ spells_vanity_path text word = is_ok_path (path_of text) && pointwise nat_eq tex
 
 -- whether a node claims a text as its vanity path
 unfoldable pub node_claims_vanity_path : Node → List ℕ → Bool
-node_claims_vanity_path node text = list_any (spells_vanity_path text) (mapping_texts (prop_at node (codes "sling:vanityPath")))
+node_claims_vanity_path node text = list_any (spells_vanity_path text) (value_texts (prop_at node (codes "sling:vanityPath")))
 
 -- the same of the node at a path of a tree, if there is one
 unfoldable pub claims_alias : Content → List (List ℕ) → List ℕ → Bool

@@ -8,7 +8,8 @@ use Rattle.sp_base.specs.PathTexts.{spelling_of}
 use Rattle.sp_base.specs.Properties.{text_in}
 use Rattle.resource_tree.specs.declared.nodes.Node.{Node}
 use Rattle.resource_tree.specs.Content.{Content, node_at, prop_at}
-use Rattle.url_maps.specs.Words.{mapping_texts, mapping_number}
+use Rattle.sp_base.specs.Properties.{value_texts}
+use Rattle.url_maps.specs.Words.{mapping_number}
 
 -- the name of the node with the mappings for a host and a port: the host in lower case, a dot and the port
 abbrev pub host_node_name : List ℕ → ℕ → List ℕ
@@ -35,10 +36,14 @@ abbrev pub redirect_status : ℤ → Option ℕ
 redirect_status (pos n) = if is_redirect n then Some n else None
 redirect_status n = None
 
--- the status of a node's redirect: its number `sling:status`, where that is one of a redirect, else 302
+-- the status of a redirect whose mapping names none (RFC 9110, section 15.4.3)
+abbrev pub found_status : ℕ
+found_status = 302
+
+-- the status of a node's redirect: its number `sling:status`, where that is one of a redirect, else Found
 abbrev pub status_in : Option ℤ → ℕ
-status_in None = 302
-status_in (Some n) = option_map_or (λ s. s) (redirect_status n) 302
+status_in None = found_status
+status_in (Some n) = option_map_or (λ s. s) (redirect_status n) found_status
 
 -- the status of the redirect of a mapping's node
 abbrev pub mapping_status : Node → ℕ
@@ -46,7 +51,7 @@ mapping_status node = status_in (mapping_number (prop_at node (codes "sling:stat
 
 -- the first text of `sling:internalRedirect`
 unfoldable pub internal_target : Node → Option (List ℕ)
-internal_target node = first_text (mapping_texts (prop_at node (codes "sling:internalRedirect")))
+internal_target node = first_text (value_texts (prop_at node (codes "sling:internalRedirect")))
 
 -- a target outside, and the status of the redirect to it: the text `sling:redirect`
 unfoldable pub redirect_target : Node → Option (List ℕ × Option ℕ)

@@ -9,7 +9,7 @@ use Rattle.resource_tree.specs.Content.{Content, kid, node_at, prop_at, same_pat
 use Rattle.resource_tree.specs.Patches as patches
 use Rattle.url_maps.specs.Claims.{ClaimRows, claimants, first_claimant}
 use Rattle.url_maps.specs.Noting.{has_row}
-use Rattle.url_maps.specs.Words.{mapping_texts}
+use Rattle.sp_base.specs.Properties.{value_texts}
 
 -- the paths of a list, or those of another where it has none
 abbrev pub or_else : List (List (List ℕ)) → List (List (List ℕ)) → List (List (List ℕ))
@@ -51,7 +51,7 @@ kids_if node = option_map_or (λ n. n.kids) node []
 
 -- the aliases of a node, if there is one
 abbrev pub alias_words : Option Node → List (List ℕ)
-alias_words node = option_map_or (λ n. mapping_texts (prop_at n (codes "sling:alias"))) node []
+alias_words node = option_map_or (λ n. value_texts (prop_at n (codes "sling:alias"))) node []
 
 -- whether a node has an alias
 abbrev pub is_aliased : Option Node → Bool

@@ -1,20 +1,11 @@
--- The texts of a property: one text, or a list of texts.
-use Rattle.std.specs.Prelude.{ℕ, ℤ, Bool, false, List, [], ◌∷◌, Option, Some, None}
+-- What the properties of a mapping, an alias or a vanity path say: numbers, and texts of which a test holds.
+use Rattle.std.specs.Prelude.{ℕ, ℤ, Bool, false, List, Option, Some, None}
 use Rattle.std.specs.List.{list_any}
 use Rattle.std.specs.Option.{option_map_or}
+use Rattle.sp_base.specs.Properties.{value_texts}
 use Rattle.sp_base.specs.declared.value.Value.{Value}
 use Rattle.sp_base.specs.declared.value.Value.TheVariants.{Text, Long, Truth, Texts, Longs, Truths}
 use Rattle.resource_tree.specs.Content.{Content, node_at, prop_at}
-
--- the texts of a value
-abbrev pub mapping_texts : Option Value → List (List ℕ)
-mapping_texts None = []
-mapping_texts (Some (Text t)) = t ∷ []
-mapping_texts (Some (Texts ts)) = ts
-mapping_texts (Some (Long n)) = []
-mapping_texts (Some (Truth b)) = []
-mapping_texts (Some (Longs ns)) = []
-mapping_texts (Some (Truths bs)) = []
 
 -- a value that is a number
 abbrev pub mapping_number : Option Value → Option ℤ
@@ -28,4 +19,4 @@ mapping_number (Some (Truths bs)) = None
 
 -- whether a test holds for one of the texts under a name of the node at a path
 abbrev pub any_text_at : Content → List (List ℕ) → List ℕ → (List ℕ → Bool) → Bool
-any_text_at tree path name test = option_map_or (λ node. list_any test (mapping_texts (prop_at node name))) (node_at tree path) false
+any_text_at tree path name test = option_map_or (λ node. list_any test (value_texts (prop_at node name))) (node_at tree path) false

@@ -7,9 +7,8 @@ ghost use Rattle.sp_base.specs.Paths.{path_of};
 ghost use Rattle.url_maps.specs.Claims.{is_ok_path, node_claims_alias, node_claims_vanity_path, spells_alias, spells_vanity_path};
 ghost use Rattle.url_maps.specs.VanityPaths.{with_slash};
 
-use crate::words::texts;
 use resource_tree::Node;
-use sp_base::{Mem, NoMemory, Path, PathFault, TextBuf, TextList};
+use sp_base::{Mem, NoMemory, Path, PathFault, TextBuf, TextList, value_texts};
 use std::alloc::Global;
 
 // The texts that a node at a path claims as its aliases, none where no node is.
@@ -30,7 +29,7 @@ pub(crate) fn aliases_of(alloc: Global, path: &Path, node: &Node) -> Mem<TextLis
     if path.depth() == 0 {
         return Ok(claimed);
     }
-    let words = texts(node.props.get("sling:alias"));
+    let words = value_texts(node.props.get("sling:alias"));
     for word in words {
         push_alias(&mut claimed, alloc, path, word.text())?;
     }
@@ -67,7 +66,7 @@ pub(crate) fn vanity_paths_of(alloc: Global, node: &Node) -> Mem<TextList>
     ensures { IfOk result (λ claimed. (t : List ℕ) → list_any (bytes_eq t) claimed ≡ node_claims_vanity_path node.now t) }
 {
     let mut claimed = TextList::new(alloc);
-    let words = texts(node.props.get("sling:vanityPath"));
+    let words = value_texts(node.props.get("sling:vanityPath"));
     for word in words {
         push_vanity_path(&mut claimed, alloc, word.text())?;
     }

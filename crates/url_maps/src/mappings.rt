@@ -5,9 +5,9 @@ ghost use Rattle.url_maps.specs.Mappings.{IsPlain, has_match, redirect_status, h
 ghost use Rattle.url_maps.specs.Search.{IsBeyond, IsMappingPair, IsOf, mapped_path};
 
 use crate::pairs::{Pair, PairKind};
-use crate::words::{number, texts};
+use crate::words::number;
 use resource_tree::{Node, Tree};
-use sp_base::{Mem, NoMemory, Path, PathFault, a_path_and_its_text};
+use sp_base::{Mem, NoMemory, Path, PathFault, a_path_and_its_text, value_texts};
 use std::alloc::Global;
 
 /// The status of a redirect whose mapping names none (RFC 9110, section 15.4.3).
@@ -113,7 +113,7 @@ pub(crate) fn has_match(tree: &Tree, path: &Path) -> bool
 fn pair_of(alloc: Global, node: &Node) -> Mem<Option<Pair>>
     ensures { IfOk result (λ o. IsMappingPair node.now o) }
 {
-    if let Some(target) = texts(node.props.get("sling:internalRedirect")).first() {
+    if let Some(target) = value_texts(node.props.get("sling:internalRedirect")).first() {
         return Ok(Some(Pair {
             kind: PairKind::Mapping,
             target: target.duplicate(alloc)?,

@@ -7,9 +7,8 @@ ghost use Rattle.url_maps.specs.Siblings.{IsSettled, IsWithin, KeepsOthers, alia
 
 use crate::claims_change::ClaimsChange;
 use crate::named_kids::named_stay;
-use crate::words::texts;
 use resource_tree::{Node, Patch, PatchNode, Tree};
-use sp_base::{Mem, Path, PathList, TextBuf, a_path_and_its_text};
+use sp_base::{Mem, Path, PathList, TextBuf, a_path_and_its_text, value_texts};
 use std::alloc::Global;
 
 // The nodes of whose kids with an alias a patch changes the list, and those of whose kids it changes an alias, each once.
@@ -75,7 +74,7 @@ fn alias_words(node: Option<&Node>) -> &[TextBuf]
     ensures { result.now ≡ alias_words (option_copied node.entry) }
 {
     match node {
-        Some(node) => texts(node.props.get("sling:alias")),
+        Some(node) => value_texts(node.props.get("sling:alias")),
         None => &[],
     }
 }

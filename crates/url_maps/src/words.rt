@@ -1,18 +1,8 @@
-// The texts of a property.
+// The number of a property.
 ghost use Rattle.std.specs.Prelude.{◌≡◌, option_copied};
-ghost use Rattle.url_maps.specs.Words.{mapping_number, mapping_texts};
+ghost use Rattle.url_maps.specs.Words.{mapping_number};
 
-use sp_base::{TextBuf, Value};
-
-pub(crate) fn texts(value: Option<&Value>) -> &[TextBuf]
-    ensures { result.now ≡ mapping_texts (option_copied value.entry) }
-{
-    match value {
-        Some(Value::Text(text)) => std::slice::from_ref(text),
-        Some(Value::Texts(list)) => list.as_slice(),
-        _ => &[],
-    }
-}
+use sp_base::Value;
 
 pub(crate) fn number(value: Option<&Value>) -> Option<i64>
     ensures { result ≡ mapping_number (option_copied value.entry) }

@@ -35,7 +35,7 @@ pub struct Farm {
     pub ask_host: TextBuf,
     /// The port of that host, 80 where it has none.
     pub ask_port: u16,
-    /// Which requests are served (`/filter`).
+    /// Which requests the filter allows (`/filter`).
     pub filter: FilterList,
     /// How deep .stat files lie (`/statfileslevel`), at most 32.
     pub level: usize,

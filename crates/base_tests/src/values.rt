@@ -36,9 +36,9 @@ fn is_mangled(alloc: Global, path: &Path, wanted: &str) -> bool {
 }
 
 fn mangles(alloc: Global, text: &str, wanted: &str) -> bool {
-    match Path::read(alloc, text) {
-        Ok(path) => is_mangled(alloc, &path, wanted),
-        Err(_) => false,
+    match Path::read_or_none(alloc, text) {
+        Ok(Some(path)) => is_mangled(alloc, &path, wanted),
+        _ => false,
     }
 }
 

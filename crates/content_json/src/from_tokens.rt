@@ -1,6 +1,5 @@
 // Reads content straight from the tokens of its JSON into nodes, where it has no fault and replaces no kid.
 ghost use Rattle.std.specs.Prelude.{◌≡◌, ◌≤◌, ◌+◌, ◌∷◌, [], Some, None, true, false, length, IfOk, IfSome, OnOk};
-ghost use Rattle.json.specs.Json as json;
 ghost use Rattle.serde_json.specs.Data.{Members, no_members, object};
 ghost use Rattle.serde_json.specs.Read.{read};
 ghost use Rattle.json.specs.Token.{begin_object};

@@ -1,4 +1,4 @@
-//! Which requests are served.
+//! Which requests are admitted.
 ghost use Rattle.std.specs.Prelude.{◌≡◌, ◌==◌, IfOk, if◌then◌else◌, Some};
 ghost use Rattle.std.specs.List.{list_any};
 ghost use Rattle.dispatch_rules.specs.Admission as spec;
@@ -8,7 +8,7 @@ use any_config::{Farm, Glob, HostList};
 use sp_base::{Mem, Req};
 use std::alloc::Global;
 
-/// Whether a request is served: its host is one of the farm's, and the filter allows it.
+/// Whether a request is admitted: its host is one of the farm's, and the filter allows it.
 pub fn admits(alloc: Global, farm: &Farm, req: &Req) -> Mem<bool>
     ensures { IfOk result (λ yes. yes ≡ spec.admits farm.now req.now) }
 {

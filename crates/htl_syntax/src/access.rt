@@ -4,7 +4,6 @@ ghost use Rattle.std.specs.Prelude.{◌≡◌, [], length, Ok, true};
 ghost use Rattle.sp_base.specs.Bytes.{begins_with_byte};
 ghost use Rattle.htl_syntax.specs.Read as spec;
 ghost use Rattle.htl_syntax.specs.Steps as steps;
-ghost use Rattle.htl_syntax.specs.Tokens as tokens;
 ghost use Rattle.htl_syntax.specs.Tokens.{Gives};
 
 use crate::node::ExprNode;

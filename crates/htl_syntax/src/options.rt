@@ -3,7 +3,6 @@
 ghost use Rattle.std.specs.Prelude.{◌<◌, Ok, Some, None};
 ghost use Rattle.htl_syntax.specs.Read as spec;
 ghost use Rattle.htl_syntax.specs.Steps as steps;
-ghost use Rattle.htl_syntax.specs.Tokens as tokens;
 ghost use Rattle.htl_syntax.specs.Tokens.{Gives};
 
 use crate::expression::Context;

@@ -55,8 +55,8 @@ pub fn wishes_only_reorder()
     ensures { (tree : Content) (path : List (List ℕ)) (layers : List Resource) → IsPermutation (kids_there tree path (all_kids layers)) (layers_kids tree path layers) }
 {}
 
-/// Each kid is one of a layer that isn't cut, and a merged resource is at its path. So it is of each kid that is given at any path: something
-/// is seen there.
+/// Each kid is a kid of one of the resources that are merged, and a merged resource is at its path. In a good tree something is seen at each
+/// kid that is given at any path.
 pub fn each_kid_is_there()
     ensures of_a_layer { (tree : Content) (path : List (List ℕ)) (layers : List Resource) (name : List ℕ) → has_text (layers_kids tree path layers) name ≡ true → list_any (λ (layer : Resource). has_text layer.kids name) layers ≡ true }
     ensures there { (tree : Content) (path : List (List ℕ)) (layers : List Resource) (name : List ℕ) → has_text (layers_kids tree path layers) name ≡ true → is_merged_there tree (kid path name) ≡ true }

@@ -1,7 +1,6 @@
 //! Why a form asks for no operation: the first fault in the order of their kinds.
 ghost use Rattle.std.specs.Prelude.{◌≡◌, IfOk, is_none, option_copied};
 ghost use Rattle.post_plan.specs.Hints as hint;
-ghost use Rattle.post_plan.specs.Spots as spot;
 ghost use Rattle.post_plan.specs.Plan as spec;
 
 use crate::goals::goal_of;

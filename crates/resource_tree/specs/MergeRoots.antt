@@ -1,4 +1,5 @@
--- The paths at which resources are merged, which a POST doesn't change (Apache Sling, "Resource Merger": the overlay and the override root).
+-- The paths at which resources are merged, which no target, name or word of a POST may name (Apache Sling, "Resource Merger": the overlay
+-- and the override root).
 use Rattle.std.specs.Prelude.{◌||◌, ℕ, Bool, List, [], ◌∷◌, codes}
 use Rattle.sp_base.specs.Paths.{is_under}
 

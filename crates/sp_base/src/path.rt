@@ -1,5 +1,5 @@
 //! Paths of the content tree, kept as one text.
-ghost use Rattle.std.specs.Prelude.{◌≡◌, ◌≢◌, ◌<◌, ◌∷◌, ◌++◌, [], List, ℕ, refl, IfOk, IfErr, IsTrue, Some, Ok, Err, length, take, option_copied, slice_get, string_bytes};
+ghost use Rattle.std.specs.Prelude.{◌≡◌, ◌≢◌, ◌<◌, ◌-◌, ◌∷◌, ◌++◌, [], List, ℕ, refl, IfOk, IfErr, IfSome, IsTrue, Some, Ok, Err, length, take, option_copied, slice_get, string_bytes};
 ghost use Rattle.std.specs.Cmp.{partial_equiv_from_equiv, partial_order_from_agreeing_total};
 ghost use Rattle.std.specs.Cmp.Lexicographic.{slice_cmp, lists_total, nat_list_cmp_total};
 ghost use Rattle.std.specs.Ordering.{nat_cmp, eq_by_cmp};
@@ -227,6 +227,14 @@ impl Path {
             Some(segment) => segment,
             None => "",
         }
+    }
+
+    /// The last segment; the root has none.
+    pub fn last(&self) -> Option<&str>
+        ensures value { option_copied result ≡ slice_get self.now (length self.now - 1) }
+        ensures segment { IfSome result (λ name. IsTrue (seg_ok name.now)) }
+    {
+        last_segment(self.text.as_str())
     }
 
     /// Whether the path begins with all segments of the other.

@@ -1,8 +1,8 @@
-//! What is read off a path, and paths where there is one: of a text, of a child, below another.
-ghost use Rattle.std.specs.Prelude.{◌≡◌, ◌-◌, ◌∷◌, ◌++◌, [], IfNone, IfOk, IfSome, IsTrue, length, option_copied, slice_get};
-ghost use Rattle.sp_base.specs.Paths.{path_in, path_or_none, pieces, seg_ok};
+//! A path's text without its first slash, and paths where there is one: of a text, of a child, below another.
+ghost use Rattle.std.specs.Prelude.{◌≡◌, ◌∷◌, ◌++◌, [], IfNone, IfOk, IfSome};
+ghost use Rattle.sp_base.specs.Paths.{path_in, path_or_none, pieces};
 
-use crate::segments::{after_slash, last_segment, seg_ok};
+use crate::segments::{after_slash, seg_ok};
 use crate::{MOST_SEGMENTS, Mem, NoMemory, Path, PathFault};
 use std::alloc::Global;
 
@@ -13,16 +13,6 @@ impl Path {
         ensures none { IfNone result (self.now ≡ []) }
     {
         after_slash(self.spelling())
-    }
-
-    /// The last segment; the root has none.
-    pub fn last(&self) -> Option<&str>
-        ensures value { option_copied result ≡ slice_get self.now (length self.now - 1) }
-        ensures segment { IfSome result (λ name. IsTrue (seg_ok name.now)) }
-    {
-        // `depth` says that the segments make a path.
-        let _ = self.depth();
-        last_segment(self.spelling())
     }
 
     /// The path that a text spells, where it spells one.

@@ -1,7 +1,7 @@
 -- Resource types, and the places of a type (Apache Sling, "Resource types", "Servlets and Scripts").
 use Rattle.std.specs.Prelude.{◌==◌, ◌&&◌, ℕ, Bool, true, false, not, is_some, if◌then◌else◌, List, [], ◌∷◌, ◌++◌, Option, Some, None, option_and_then, Result, Ok, Err, codes, find, map, slice_index}
 use Rattle.sp_base.specs.Bytes.{is_colon}
-use Rattle.sp_base.specs.Paths.{path_of, path_or_fault}
+use Rattle.sp_base.specs.Paths.{path_in, path_or_fault}
 use Rattle.sp_base.specs.declared.path.PathFault.{PathFault}
 use Rattle.resource_tree.specs.Content.{Content, node_at, same_path}
 use Rattle.type_chain.specs.declared.type_name.TypeName.{TypeName}
@@ -15,14 +15,14 @@ abbrev pub make_type : Bool → List (List ℕ) → TypeName
 make_type rooted segs = record { rooted = rooted; segs = segs }
 
 -- the type of a path: the root is none
-abbrev pub type_at_path : Bool → Result (List (List ℕ)) PathFault → Option TypeName
-type_at_path rooted (Ok []) = None
-type_at_path rooted (Ok (seg ∷ segs)) = Some (make_type rooted (seg ∷ segs))
-type_at_path rooted (Err e) = None
+abbrev pub type_at_path : Bool → Option (List (List ℕ)) → Option TypeName
+type_at_path rooted None = None
+type_at_path rooted (Some []) = None
+type_at_path rooted (Some (seg ∷ segs)) = Some (make_type rooted (seg ∷ segs))
 
 -- what a type's text spells: a type that begins with a slash is rooted, and of any other the first slash is left out
 abbrev pub type_in : List ℕ → Option TypeName
-type_in text = if slice_index text 0 == 47 then type_at_path true (path_of text) else type_at_path false (path_of (47 ∷ text))
+type_in text = if slice_index text 0 == 47 then type_at_path true (path_in text) else type_at_path false (path_in (47 ∷ text))
 
 -- the type that a text names, where it names one
 unfoldable pub type_of : List ℕ → Option TypeName

@@ -2,11 +2,11 @@
 ghost use Rattle.std.specs.Prelude.{◌≡◌, IfOk, IsTrue, map, string_bytes};
 ghost use Rattle.std.specs.List.{slice_split};
 ghost use Rattle.sp_base.specs.Bytes.{is_colon};
-ghost use Rattle.sp_base.specs.Paths.{is_path, path_of};
+ghost use Rattle.sp_base.specs.Paths.{is_path, path_in};
 ghost use Rattle.resource_tree.specs.Content.{name_of};
 ghost use Rattle.type_chain.specs.Types.{type_at_path, same_type, text_with_slashes, type_of};
 
-use sp_base::{Items, Mem, NoMemory, Path, PathFault};
+use sp_base::{Items, Mem, Path};
 use std::alloc::{AllocError, Global};
 
 /// A resource type.
@@ -67,11 +67,10 @@ fn pieces_of(alloc: Global, text: &str) -> Result<Vec<&str>, AllocError>
 
 // The type of the path that a text spells: none where it spells no path, or the root.
 fn type_at_path(alloc: Global, rooted: bool, text: &str) -> Mem<Option<TypeName>>
-    ensures { IfOk result (λ o. o ≡ type_at_path rooted (path_of text.now)) }
+    ensures { IfOk result (λ o. o ≡ type_at_path rooted (path_in text.now)) }
 {
-    match Path::read(alloc, text) {
-        Ok(segs) if segs.depth() > 0 => Ok(Some(TypeName { rooted, segs })),
-        Err(PathFault::NoMemory) => Err(NoMemory),
+    match Path::read_or_none(alloc, text)? {
+        Some(segs) if segs.depth() > 0 => Ok(Some(TypeName { rooted, segs })),
         _ => Ok(None),
     }
 }

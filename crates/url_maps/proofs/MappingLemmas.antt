@@ -7,6 +7,7 @@ use Rattle.std.proofs.lemmas.Bool.Decides.{nat_tests}
 use Rattle.std.proofs.lemmas.List.{append-nil}
 use Rattle.std.proofs.lemmas.List.Folds.{list_all-append}
 use Rattle.sp_base.specs.PathTexts.{spelling_of}
+use Rattle.std.specs.Result.{result_ok}
 use Rattle.sp_base.specs.Paths.{is_path, path_of, path_or_none, seg_ok, text_of}
 use Rattle.resource_tree.specs.declared.nodes.Node.{Node}
 use Rattle.resource_tree.specs.Content.{Content, IsTree, node_at}
@@ -42,7 +43,7 @@ pub mapped_from : IsSpelled → (host_node path : List (List ℕ)) (prefix : Lis
 mapped_from spelled host_node path [] e = let same : host_node ≡ path = cc in record { below = []; path_is = sym same ∙ sym (append-nil host_node); text_is = refl }
 mapped_from spelled host_node path (b ∷ []) e = cc
 mapped_from spelled host_node path (b ∷ c ∷ text) e =
-    elim (path_of (b ∷ c ∷ text)) as (λ r. path_of (b ∷ c ∷ text) ≡ r → below_host_node host_node r ≡ Some path → Mapped host_node (b ∷ c ∷ text) path) [
+    elim (path_of (b ∷ c ∷ text)) as (λ r. path_of (b ∷ c ∷ text) ≡ r → below_host_node host_node (result_ok r) ≡ Some path → Mapped host_node (b ∷ c ∷ text) path) [
       | Ok below ↦ λ is passes_it. record { below = below; path_is = some_path path (host_node ++ below) passes_it; text_is = below_text below b c text (spelled (b ∷ c ∷ text) below is) }
       | Err fault ↦ λ is fails. cc
     ] refl e
@@ -59,7 +60,7 @@ pub mapped_back : IsReadBack → (host_node below : List (List ℕ)) → is_path
 mapped_back read host_node [] valid = ap (λ p. Some p) (sym (append-nil host_node))
 mapped_back read host_node ([] ∷ below) valid = absurd (false≢true (and_parts false (list_all seg_ok below) (and_parts (list_all seg_ok ([] ∷ below)) (nat_le (length ([] ∷ below)) 64) (path_below host_node ([] ∷ below) valid)).0).0)
 mapped_back read host_node ((c ∷ s) ∷ below) valid =
-    ap (below_host_node host_node) (read ((c ∷ s) ∷ below) (path_below host_node ((c ∷ s) ∷ below) valid)) ∙ ap (λ b. if b then Some (host_node ++ (c ∷ s) ∷ below) else None) valid
+    ap (λ r. below_host_node host_node (result_ok r)) (read ((c ∷ s) ∷ below) (path_below host_node ((c ∷ s) ∷ below) valid)) ∙ ap (λ b. if b then Some (host_node ++ (c ∷ s) ∷ below) else None) valid
 
 -- ---- mappings
 

@@ -1,6 +1,6 @@
 -- Paths: when two are one, a path as its parent's kid, and the texts of siblings.
-use Rattle.std.proofs.Common.{◌≡◌, ◌<◌, ◌+◌, ◌-◌, ℕ, Bool, true, false, List, [], ◌∷◌, ◌++◌, Some, None, Ok, length, get_or, take, refl, sym, ◌∙◌, ap, arith, length-append, ⊎_elim}
-use Rattle.std.specs.Prelude.{◌&&◌, IsTrue, nat_eq, nat_le, if◌then◌else◌}
+use Rattle.std.proofs.Common.{◌≡◌, ◌<◌, ◌+◌, ◌-◌, ℕ, Bool, true, false, List, [], ◌∷◌, ◌++◌, Some, None, Ok, length, take, refl, sym, ◌∙◌, ap, arith, length-append, ⊎_elim}
+use Rattle.std.specs.Prelude.{◌&&◌, IsTrue, nat_eq, nat_le, if◌then◌else◌, is_some}
 use Rattle.std.specs.Cmp.{IsTotalOrder, eq_by_cmp_equiv}
 use Rattle.std.specs.Cmp.Lexicographic.{lists_total, nat_list_cmp_total, nat_list_eq_equiv, pointwise, same_text}
 use Rattle.std.specs.List.{list_all}
@@ -10,8 +10,8 @@ use Rattle.std.proofs.lemmas.List.Folds.{list_all-append}
 use Rattle.std.proofs.lemmas.Map.Views.{tells_apart}
 use Rattle.std.proofs.Math.Seq.{take-append_seam, get_or-append_seam, take-length}
 use Rattle.sp_base.specs.PathExact.{exact_paths}
-use Rattle.sp_base.specs.Paths.{is_path, parent_of, path_of, path_or_none, seg_ok, text_of}
-use Rattle.url_maps.specs.Claims.{is_ok_path, spells_alias}
+use Rattle.sp_base.specs.Paths.{is_path, parent_of, path_in, path_of, path_or_none, seg_ok, text_of}
+use Rattle.url_maps.specs.Claims.{spells_alias}
 use Rattle.resource_tree.specs.Content.{by_path, same_path, kid, name_of}
 
 by_path_total : IsTotalOrder by_path
@@ -134,16 +134,16 @@ alias_unspelled path alias text valid some is =
     cc))
 
 -- the text of a vanity path that reads as a path
-pub vanity_spelled : (whole text : List ℕ) → is_ok_path (path_of whole) ≡ true → (is_ok_path (path_of text) && pointwise nat_eq text whole) ≡ pointwise nat_eq text whole
+pub vanity_spelled : (whole text : List ℕ) → is_some (path_in whole) ≡ true → (is_some (path_in text) && pointwise nat_eq text whole) ≡ pointwise nat_eq text whole
 vanity_spelled whole text ok =
     ⊎_elim
-    (λ (same : pointwise nat_eq text whole ≡ true). ap (λ b. b && pointwise nat_eq text whole) (ap (λ t. is_ok_path (path_of t)) (same_text text whole (sym same)) ∙ ok))
-    (λ (other : pointwise nat_eq text whole ≡ false). ap (λ b. is_ok_path (path_of text) && b) other ∙ and_no (is_ok_path (path_of text)) ∙ sym other)
+    (λ (same : pointwise nat_eq text whole ≡ true). ap (λ b. b && pointwise nat_eq text whole) (ap (λ t. is_some (path_in t)) (same_text text whole (sym same)) ∙ ok))
+    (λ (other : pointwise nat_eq text whole ≡ false). ap (λ b. is_some (path_in text) && b) other ∙ and_no (is_some (path_in text)) ∙ sym other)
     (cases_Bool (pointwise nat_eq text whole))
 
 -- of one that doesn't
-pub vanity_unspelled : (whole text : List ℕ) → is_ok_path (path_of whole) ≡ false → (is_ok_path (path_of text) && pointwise nat_eq text whole) ≡ false
+pub vanity_unspelled : (whole text : List ℕ) → is_some (path_in whole) ≡ false → (is_some (path_in text) && pointwise nat_eq text whole) ≡ false
 vanity_unspelled whole text bad =
     false_from_ne_true _ (λ both.
-    let parts = and_parts (is_ok_path (path_of text)) (pointwise nat_eq text whole) both in
-    true≢false (sym parts.0 ∙ ap (λ t. is_ok_path (path_of t)) (same_text text whole (sym parts.1)) ∙ bad))
+    let parts = and_parts (is_some (path_in text)) (pointwise nat_eq text whole) both in
+    true≢false (sym parts.0 ∙ ap (λ t. is_some (path_in t)) (same_text text whole (sym parts.1)) ∙ bad))

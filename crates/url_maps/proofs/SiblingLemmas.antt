@@ -9,6 +9,7 @@ use Rattle.std.specs.Str.{bytes_eq}
 use Rattle.std.proofs.lemmas.Bool.{cases_Bool, true≢false, false≢true, false_from_ne_true, and_parts}
 use Rattle.std.proofs.lemmas.List.{take_more}
 use Rattle.std.proofs.lemmas.List.Folds.{list_any_more}
+use Rattle.std.specs.Result.{result_ok}
 use Rattle.sp_base.specs.Paths.{is_path, parent_of, path_of, path_or_none, seg_ok, text_of}
 use Rattle.resource_tree.specs.declared.nodes.Node.{Node}
 use Rattle.resource_tree.specs.Content.{Content, IsTree, kid, name_of, node_at, prop_at, same_path}
@@ -375,7 +376,7 @@ module _ (read : IsReadBack) (tree : Content) (good : IsTree (node_at tree)) whe
   pub alias_with_is : ((text : List ℕ) (path : List (List ℕ)) → path_of text ≡ Ok path → text_of path ≡ text) → ((text : List ℕ) (path : List (List ℕ)) → path_of text ≡ Ok path → is_path path ≡ true)
       → (rows : ClaimRows) (text : List ℕ) → NamesFirst (node_at tree) rows → alias_with tree text ≡ cond (is_free tree text) (option_map (pair_inside Alias) (slice_get (claimants rows text) 0)) None
   alias_with_is spelled valid rows text names =
-      elim (path_of text) as (λ r. path_of text ≡ r → alias_at tree r ≡ cond (is_free_at tree r) (option_map (pair_inside Alias) (slice_get (claimants rows text) 0)) None) [
+      elim (path_of text) as (λ r. path_of text ≡ r → alias_at tree r ≡ cond (is_free_at tree (result_ok r)) (option_map (pair_inside Alias) (slice_get (claimants rows text) 0)) None) [
         | Err e ↦ λ is. refl
         | Ok path ↦ λ is.
             ⊎_elim

@@ -1,6 +1,6 @@
 -- From the claimants of a text to the node that it names by a vanity path, and back.
 use Rattle.std.proofs.Common.{◌≡◌, ℕ, Bool, true, false, List, [], Option, Some, None, Result, Ok, Err, length, refl, sym, ◌∙◌, ap, subst, ◌⊎◌, inl, inr}
-use Rattle.std.specs.Prelude.{◌&&◌, is_none, nat_eq, codes}
+use Rattle.std.specs.Prelude.{◌&&◌, is_none, nat_eq, codes, is_some}
 use Rattle.std.specs.Cmp.{IsTotalOrder}
 use Rattle.std.specs.Cmp.Lexicographic.{pointwise, nat_list_cmp_total}
 use Rattle.std.specs.List.{list_any}
@@ -12,12 +12,13 @@ use Rattle.std.proofs.lemmas.Bool.{true≢false, false≢true}
 use Rattle.std.proofs.lemmas.Cmp.{back_total, int_cmp_total, on_total, then_total}
 use Rattle.std.proofs.lemmas.Map.Lookups.{exact_bytes}
 use Rattle.sp_base.specs.Names.{by_name}
-use Rattle.sp_base.specs.Paths.{is_path, path_of, text_of}
+use Rattle.std.specs.Result.{result_ok}
+use Rattle.sp_base.specs.Paths.{is_path, path_in, path_of, text_of}
 use Rattle.sp_base.specs.declared.path.PathFault.{PathFault}
 use Rattle.resource_tree.specs.declared.nodes.Node.{Node}
 use Rattle.resource_tree.specs.Content.{Content, IsTree, node_at, prop_at, same_path}
 use Rattle.sp_base.specs.Properties.{value_texts}
-use Rattle.url_maps.specs.Claims.{AreClaims, ClaimRows, claimants, claims_vanity_path, is_ok_path, node_claims_vanity_path, spells_vanity_path}
+use Rattle.url_maps.specs.Claims.{AreClaims, ClaimRows, claimants, claims_vanity_path, node_claims_vanity_path, spells_vanity_path}
 use Rattle.url_maps.specs.Search.{IsFirstPath, is_free, is_free_at}
 use Rattle.url_maps.specs.VanityPaths.{IsVanityPath, has_vanity_path, vanity_page, vanity_cmp, vanity_order, with_slash}
 use Rattle.url_maps.specs.declared.pairs.Pair.{Pair}
@@ -52,13 +53,13 @@ less_from Greater e = absurd (false≢true e)
 -- ---- claims and vanity paths
 
 -- a node's claims on a text that spells a path are its vanity paths
-pub vanity_claims_is : (tree : Content) (q : List (List ℕ)) (text : List ℕ) → is_ok_path (path_of text) ≡ true → claims_vanity_path tree q text ≡ has_vanity_path tree q text
+pub vanity_claims_is : (tree : Content) (q : List (List ℕ)) (text : List ℕ) → is_some (path_in text) ≡ true → claims_vanity_path tree q text ≡ has_vanity_path tree q text
 unfolding claims_vanity_path node_claims_vanity_path has_vanity_path
 vanity_claims_is tree q text ok =
     ap (λ (test : Node → Bool). option_map_or test (node_at tree q) false)
     (λ i node. any_alike (spells_vanity_path text) (λ word. pointwise nat_eq text (with_slash word)) (λ word. ap (λ b. b && pointwise nat_eq text (with_slash word)) ok) (value_texts (prop_at node (codes "sling:vanityPath"))) i)
 
-ok_from_free : (tree : Content) (r : Result (List (List ℕ)) PathFault) → is_free_at tree r ≡ true → is_ok_path r ≡ true
+ok_from_free : (tree : Content) (r : Result (List (List ℕ)) PathFault) → is_free_at tree (result_ok r) ≡ true → is_some (result_ok r) ≡ true
 ok_from_free tree (Ok path) free = refl
 ok_from_free tree (Err e) free = absurd (false≢true free)
 
@@ -71,7 +72,7 @@ pub vanity_from : (tree : Content) (rows : ClaimRows) (text : List ℕ) (path : 
 vanity_from tree rows text path claims free first =
     let ok = ok_from_free tree (path_of text) free in
     let is = λ (q : List (List ℕ)). claims text q ∙ vanity_claims_is tree q text ok in
-    elim (path_of text) as (λ r. path_of text ≡ r → is_free_at tree r ≡ true → IsVanityPath tree text path) [
+    elim (path_of text) as (λ r. path_of text ≡ r → is_free_at tree (result_ok r) ≡ true → IsVanityPath tree text path) [
       | Ok at ↦ λ reads free_at. record {
         at = at;
         reads = reads;
@@ -83,7 +84,7 @@ vanity_from tree rows text path claims free first =
     ] refl free
 
 pub vanity_claims : (tree : Content) (text : List ℕ) (path : List (List ℕ)) → IsVanityPath tree text path → claims_vanity_path tree path text ≡ true
-vanity_claims tree text path v = vanity_claims_is tree path text (ap is_ok_path v.reads) ∙ v.has
+vanity_claims tree text path v = vanity_claims_is tree path text (ap (λ r. is_some (result_ok r)) v.reads) ∙ v.has
 
 pub no_vanity_claimed : (tree : Content) (rows : ClaimRows) (text : List ℕ) (path : List (List ℕ)) → AreClaims (claims_vanity_path tree) rows → claimants rows text ≡ [] → IsVanityPath tree text path → ⊥
 no_vanity_claimed tree rows text path claims none v = false≢true (sym (ap (list_any (same_path path)) none) ∙ claims text path ∙ vanity_claims tree text path v)

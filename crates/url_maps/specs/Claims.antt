@@ -1,6 +1,6 @@
 -- The nodes that claim a text as their alias or their vanity path, by the text.
 -- `claims_alias`, `AddsClaims` and `ClaimsAreWithin` are needed by private functions, an invariant and proofs alone.
-use Rattle.std.specs.Prelude.{⊤, ◌≡◌, ◌<◌, ◌&&◌, ◌||◌, ◌==◌, [], ◌∷◌, ℕ, Bool, true, false, not, nat_eq, find, List, Option, Result, Ok, Err, codes, length, option_map, option_to_list}
+use Rattle.std.specs.Prelude.{⊤, ◌≡◌, ◌<◌, ◌&&◌, ◌||◌, ◌==◌, [], ◌∷◌, ℕ, Bool, true, false, not, nat_eq, find, List, Option, codes, length, option_map, option_to_list, is_some}
 use Rattle.std.specs.Cmp.Lexicographic.{pointwise}
 use Rattle.std.specs.List.{list_any}
 use Rattle.std.specs.Map.{lookup}
@@ -9,8 +9,7 @@ use Rattle.std.specs.Ordering.{int_cmp, is_lt, ordering_then}
 use Rattle.std.specs.Str.{bytes_eq}
 use Rattle.std.specs.declared.cmp.Ordering.{Ordering}
 use Rattle.sp_base.specs.Names.{by_name}
-use Rattle.sp_base.specs.Paths.{is_path, parent_of, path_of, seg_ok, text_of}
-use Rattle.sp_base.specs.declared.path.PathFault.{PathFault}
+use Rattle.sp_base.specs.Paths.{is_path, parent_of, path_in, seg_ok, text_of}
 use Rattle.resource_tree.specs.declared.nodes.Node.{Node}
 use Rattle.resource_tree.specs.Content.{Content, kid, node_at, prop_at, same_path}
 use Rattle.sp_base.specs.Properties.{value_texts}
@@ -36,14 +35,9 @@ spells_alias path text alias = seg_ok alias && pointwise nat_eq text (text_of (k
 unfoldable pub node_claims_alias : List (List ℕ) → Node → List ℕ → Bool
 node_claims_alias path node text = not (length path == 0) && list_any (spells_alias path text) (value_texts (prop_at node (codes "sling:alias")))
 
--- a path was read
-abbrev pub is_ok_path : Result (List (List ℕ)) PathFault → Bool
-is_ok_path (Ok path) = true
-is_ok_path (Err e) = false
-
 -- the text spells a vanity path, which reads as a path
 abbrev pub spells_vanity_path : List ℕ → List ℕ → Bool
-spells_vanity_path text word = is_ok_path (path_of text) && pointwise nat_eq text (with_slash word)
+spells_vanity_path text word = is_some (path_in text) && pointwise nat_eq text (with_slash word)
 
 -- whether a node claims a text as its vanity path
 unfoldable pub node_claims_vanity_path : Node → List ℕ → Bool

@@ -1,10 +1,9 @@
 -- What the functions of the search promise one another, and its words. A reader of the relation in Turns.antt needs none of it, and the
 -- answer in Answers.antt `is_prefix_end` and `mapped_path` alone.
-use Rattle.std.specs.Prelude.{◌≡◌, ◌≤◌, ◌<◌, ◌⊎◌, ◌&&◌, ◌||◌, ◌==◌, ◌++◌, ℕ, Bool, true, false, is_none, is_some, not, List, [], ◌∷◌, Option, Some, None, Result, Ok, Err, length, slice_index, take}
+use Rattle.std.specs.Prelude.{◌≡◌, ◌≤◌, ◌<◌, ◌⊎◌, ◌&&◌, ◌||◌, ◌==◌, ◌++◌, ℕ, Bool, true, false, is_none, is_some, not, List, [], ◌∷◌, Option, Some, None, length, slice_index, take}
 use Rattle.std.specs.List.{list_any}
 use Rattle.std.specs.declared.cmp.Ordering.TheVariants.{Less}
-use Rattle.sp_base.specs.Paths.{path_of, path_or_none}
-use Rattle.sp_base.specs.declared.path.PathFault.{PathFault}
+use Rattle.sp_base.specs.Paths.{path_in, path_or_none}
 use Rattle.resource_tree.specs.Content.{Content, node_at, same_path}
 use Rattle.url_maps.specs.declared.pairs.Pair.{Pair}
 use Rattle.url_maps.specs.declared.pairs.PairKind.{PairKind}
@@ -22,13 +21,13 @@ IsOf kind tree host_node prefix (Some pair) = (pair.kind ≡ kind) × IsPair tre
 IsOf kind tree host_node prefix None = (pair : Pair) → pair.kind ≡ kind → IsPair tree host_node prefix pair → ⊥
 
 -- whether no node is at a path
-abbrev pub is_free_at : Content → Result (List (List ℕ)) PathFault → Bool
-is_free_at tree (Ok path) = is_none (node_at tree path)
-is_free_at tree (Err e) = false
+abbrev pub is_free_at : Content → Option (List (List ℕ)) → Bool
+is_free_at tree None = false
+is_free_at tree (Some path) = is_none (node_at tree path)
 
 -- whether a text spells a path at which no node is
 abbrev pub is_free : Content → List ℕ → Bool
-is_free tree text = is_free_at tree (path_of text)
+is_free tree text = is_free_at tree (path_in text)
 
 -- a path is among others, and before each of them in the order of nodes with one vanity path
 pub record IsFirstPath (tree : Content) (paths : List (List (List ℕ))) (path : List (List ℕ)) : Type 0 where
@@ -90,15 +89,15 @@ IsTurn tree host_node text (Some step) = IsStep tree host_node text step
 IsTurn tree host_node text None = HasNoPair tree host_node text
 
 -- the path below a host node that a prefix names, where there is one
-abbrev pub below_host_node : List (List ℕ) → Result (List (List ℕ)) PathFault → Option (List (List ℕ))
-below_host_node host_node (Ok below) = path_or_none (host_node ++ below)
-below_host_node host_node (Err e) = None
+abbrev pub below_host_node : List (List ℕ) → Option (List (List ℕ)) → Option (List (List ℕ))
+below_host_node host_node None = None
+below_host_node host_node (Some below) = path_or_none (host_node ++ below)
 
 -- the path of the node at which a prefix has its mapping: the host node, or one below it
 abbrev pub mapped_path : List (List ℕ) → List ℕ → Option (List (List ℕ))
 mapped_path host_node [] = Some host_node
 mapped_path host_node (b ∷ []) = None
-mapped_path host_node (b ∷ c ∷ text) = below_host_node host_node (path_of (b ∷ c ∷ text))
+mapped_path host_node (b ∷ c ∷ text) = below_host_node host_node (path_in (b ∷ c ∷ text))
 
 -- the pair of a mapping's node, or that it leads nowhere
 abbrev pub IsMappingPair : Node → Option Pair → Type 0

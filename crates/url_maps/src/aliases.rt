@@ -6,7 +6,7 @@ ghost use Rattle.url_maps.specs.Search.{IsOf, is_free};
 use crate::MapIndex;
 use crate::pairs::{Pair, PairKind};
 use resource_tree::Tree;
-use sp_base::{Mem, NoMemory, Path, PathFault, a_path_and_its_text};
+use sp_base::{Mem, Path, a_path_and_its_text};
 use std::alloc::Global;
 
 impl MapIndex {
@@ -35,9 +35,8 @@ impl MapIndex {
 pub(crate) fn is_free(alloc: Global, tree: &Tree, text: &str) -> Mem<bool>
     ensures { IfOk result (λ is. is ≡ is_free tree.now text.now) }
 {
-    match Path::read(alloc, text) {
-        Ok(path) => Ok(tree.node(&path).is_none()),
-        Err(PathFault::NoMemory) => Err(NoMemory),
-        Err(_) => Ok(false),
+    match Path::read_or_none(alloc, text)? {
+        Some(path) => Ok(tree.node(&path).is_none()),
+        None => Ok(false),
     }
 }

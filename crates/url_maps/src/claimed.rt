@@ -1,14 +1,14 @@
 // The texts that a node claims.
-ghost use Rattle.std.specs.Prelude.{◌≡◌, ◌<◌, ◌||◌, ℕ, List, IfOk, OnOk, length, false, option_copied};
+ghost use Rattle.std.specs.Prelude.{◌≡◌, ◌<◌, ◌||◌, ℕ, List, IfOk, OnOk, length, false, is_some, option_copied};
 ghost use Rattle.std.specs.List.{list_any};
 ghost use Rattle.std.specs.Option.{option_map_or};
 ghost use Rattle.std.specs.Str.{bytes_eq};
-ghost use Rattle.sp_base.specs.Paths.{path_of};
-ghost use Rattle.url_maps.specs.Claims.{is_ok_path, node_claims_alias, node_claims_vanity_path, spells_alias, spells_vanity_path};
+ghost use Rattle.sp_base.specs.Paths.{path_in};
+ghost use Rattle.url_maps.specs.Claims.{node_claims_alias, node_claims_vanity_path, spells_alias, spells_vanity_path};
 ghost use Rattle.url_maps.specs.VanityPaths.{with_slash};
 
 use resource_tree::Node;
-use sp_base::{Mem, NoMemory, Path, PathFault, TextBuf, TextList, value_texts};
+use sp_base::{Mem, Path, TextBuf, TextList, value_texts};
 use std::alloc::Global;
 
 // The texts that a node at a path claims as its aliases, none where no node is.
@@ -100,11 +100,7 @@ fn with_slash(alloc: Global, text: &str) -> Mem<TextBuf>
 
 // Whether a text spells a path.
 fn reads(alloc: Global, text: &str) -> Mem<bool>
-    ensures { IfOk result (λ is. is ≡ is_ok_path (path_of text.now)) }
+    ensures { IfOk result (λ is. is ≡ is_some (path_in text.now)) }
 {
-    match Path::read(alloc, text) {
-        Ok(_) => Ok(true),
-        Err(PathFault::NoMemory) => Err(NoMemory),
-        Err(_) => Ok(false),
-    }
+    Ok(Path::read_or_none(alloc, text)?.is_some())
 }

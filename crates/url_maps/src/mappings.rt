@@ -78,10 +78,9 @@ fn mapped_path(alloc: Global, host_node: &Path, prefix: &str) -> Mem<Option<Path
     if prefix == "/" {
         return Ok(None);
     }
-    match Path::read(alloc, prefix) {
-        Ok(below) => host_node.join_or_none(alloc, &below),
-        Err(PathFault::NoMemory) => Err(NoMemory),
-        Err(_) => Ok(None),
+    match Path::read_or_none(alloc, prefix)? {
+        Some(below) => host_node.join_or_none(alloc, &below),
+        None => Ok(None),
     }
 }
 

@@ -3,7 +3,7 @@ ghost use Rattle.std.specs.Prelude.{◌≡◌, ◌++◌, IfOk, Some};
 ghost use Rattle.url_maps.specs.Search.{HasNoMappingBeyond, IsBarredAt, is_passable};
 
 use resource_tree::Tree;
-use sp_base::{Mem, NoMemory, Path, PathFault, a_path_and_its_text, the_prefixes_of_a_path};
+use sp_base::{Mem, Path, a_path_and_its_text, the_prefixes_of_a_path};
 use std::alloc::Global;
 
 // The most bytes of the prefix of a mapping in a text: no mapping is below the first of the host node and the text's segments that has no
@@ -32,14 +32,12 @@ fn reach_below(alloc: Global, tree: &Tree, host_node: &Path, text: &str) -> Mem<
     if !is_plain_node(tree, host_node) {
         return Ok(0);
     }
-    match Path::read(alloc, text) {
-        Ok(path) => {
-            let depth = barred_at(alloc, tree, host_node, &path)?;
-            Ok(path.first(alloc, depth)?.as_text().len())
-        }
-        Err(PathFault::NoMemory) => Err(NoMemory),
-        Err(_) => Ok(text.len()),
-    }
+    let Some(path) = Path::read_or_none(alloc, text)? else {
+        return Ok(text.len());
+    };
+    let depth = barred_at(alloc, tree, host_node, &path)?;
+    let reached = path.first(alloc, depth)?;
+    Ok(reached.as_text().len())
 }
 
 // How many first segments of a path lead to no node below a host node, or to one with a pattern, while fewer lead on: all, where all do.

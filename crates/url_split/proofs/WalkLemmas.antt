@@ -1,12 +1,25 @@
 -- How far back a text is walked, and what has been passed.
-use Rattle.std.proofs.Common.{◌≡◌, ◌≢◌, ◌<◌, ◌≤◌, ⊎_elim, ℕ, Bool, List, Some, None, Ok, length, drop, inl, [], take, get_or, refl, sym, ◌∙◌, ap, arith}
+use Rattle.std.proofs.Common.{◌≡◌, ◌≢◌, ◌<◌, ◌≤◌, ⊎_elim, ℕ, Bool, List, Some, None, Result, Ok, Err, length, drop, inl, [], take, get_or, refl, sym, ◌∙◌, ap, arith}
 use Rattle.std.proofs.lemmas.Bool.{cases_lt, cases_eq}
 use Rattle.std.proofs.lemmas.List.{length-take, get_or-take, take_all}
-use Rattle.sp_base.specs.Paths.{path_of}
+use Rattle.std.specs.Result.{result_ok}
+use Rattle.sp_base.specs.Paths.{path_in, path_of}
+use Rattle.sp_base.specs.declared.path.PathFault.{PathFault}
 use Rattle.url_split.specs.Split.{IsCut, Leads, IsSplit, selectors_of, extension_of, suffix_of}
 use Rattle.url_split.specs.Walk.{IsReading}
 use Rattle.url_split.specs.declared.decompose.Parts.{Parts}
 use Rattle.url_split.proofs.SplitLemmas.{no_more}
+
+spelled_by : (r : Result (List (List ℕ)) PathFault) (path : List (List ℕ)) → Some path ≡ result_ok r → r ≡ Ok path
+spelled_by (Ok p) path e = cc
+spelled_by (Err fault) path e = absurd (cc)
+
+-- what a text spells it reads as
+pub spelled : (text : List ℕ) (path : List (List ℕ)) → Some path ≡ path_in text → path_of text ≡ Ok path
+spelled text path e = spelled_by (path_of text) path e
+
+pub unspelled : (text : List ℕ) (path : List (List ℕ)) → None ≡ path_in text → path_of text ≡ Ok path → ⊥
+unspelled text path none read = let some : None ≡ Some path = none ∙ ap result_ok read in cc
 
 pub within_text : (text prefix : List ℕ) → prefix ≡ take (length prefix) text → length prefix ≤ length text
 within_text text prefix is = omega (arith, ap length is, length-take (length prefix) text)

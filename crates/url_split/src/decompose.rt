@@ -7,7 +7,7 @@ ghost use Rattle.url_split.specs.Walk.{IsReading, IsAfterPath, IsReached};
 
 use crate::Known;
 use crate::start::reached;
-use sp_base::{Mem, NoMemory, Path, PathFault, TextBuf, TextList};
+use sp_base::{Mem, Path, TextBuf, TextList};
 use std::alloc::{AllocError, Global};
 
 /// What a URL's path says of the resource and of how it is asked for.
@@ -58,19 +58,17 @@ fn split_before<K: Known>(alloc: Global, known: &K, text: &str, start: &str) -> 
 }
 
 // The path that a text spells, where it is known.
+#[tactic(auto, using(crate::proofs::WalkLemmas::spelled, crate::proofs::WalkLemmas::unspelled))]
 fn known_path<K: Known>(alloc: Global, known: &K, text: &str) -> Mem<Option<Path>>
     ensures { IfOk result (λ o. IsReading (K.known known.now) text.now o) }
 {
-    match Path::read(alloc, text) {
-        Ok(path) => {
-            if known.has(alloc, &path)? {
-                Ok(Some(path))
-            } else {
-                Ok(None)
-            }
-        }
-        Err(PathFault::NoMemory) => Err(NoMemory),
-        Err(_) => Ok(None),
+    let Some(path) = Path::read_or_none(alloc, text)? else {
+        return Ok(None);
+    };
+    if known.has(alloc, &path)? {
+        Ok(Some(path))
+    } else {
+        Ok(None)
     }
 }
 

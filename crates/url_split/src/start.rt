@@ -28,10 +28,9 @@ fn with_parents(alloc: Global, text: &str) -> Mem<Path>
 {
     a_path_and_its_text();
     the_prefixes_of_a_path();
-    match Path::read(alloc, text) {
-        Ok(path) => Ok(path),
-        Err(PathFault::NoMemory) => Err(NoMemory),
-        Err(_) => first_pieces(alloc, text),
+    match Path::read_or_none(alloc, text)? {
+        Some(path) => Ok(path),
+        None => first_pieces(alloc, text),
     }
 }
 
@@ -49,11 +48,11 @@ fn first_pieces(alloc: Global, text: &str) -> Mem<Path>
     if end == 0 {
         return Ok(Path::root(alloc));
     }
-    Ok(path_in(alloc, &text[..end])?)
+    Ok(spelled_path(alloc, &text[..end])?)
 }
 
 // The path of a text that spells one.
-fn path_in(alloc: Global, text: &str) -> Mem<Path>
+fn spelled_path(alloc: Global, text: &str) -> Mem<Path>
     requires { (path : List (List ℕ)) × (path_of text.now ≡ Ok path) }
     ensures { IfOk result (λ path. path_of text.now ≡ Ok path) }
 {

@@ -31,8 +31,8 @@ range-requires-clause-end_boundary c =
       λ less high. absurd (omega (arith, high, prefix_slash text rest end is spells law.slash fit some less)),
     )
 
-pub path_in-requires : goal.path_in-requires
-path_in-requires c =
+pub spelled_path-requires : goal.spelled_path-requires
+spelled_path-requires c =
     let text = c.args.text.now in
     let rest = c.in-Some.rest.now in
     let end = c.fit_end-end.result in
@@ -56,5 +56,5 @@ returns c =
     let leading : c.range.result.now ≡ take end text = c.range.ensures.value ∙ ap (λ n. take n text) zero_off in
     let whole = prefix_is text rest end is (c.segments_and_their_spelling.ensures.spelled rest) c.the_prefixes_of_a_path.ensures.first fit some in
     let reads = ap path_of (leading ∙ whole) ∙ c.a_path_and_its_text.ensures.read (take fit.many (pieces rest)) fit.fit in
-    let path = c.in_ok-path_in.field-0 in
-    parents_of_pieces text rest path end is fit (one_path path (take fit.many (pieces rest)) (path_of c.range.result.now) c.in_ok-path_in.ensures reads) c.a_path_and_its_text.ensures.valid
+    let path = c.in_ok-spelled_path.field-0 in
+    parents_of_pieces text rest path end is fit (one_path path (take fit.many (pieces rest)) (path_of c.range.result.now) c.in_ok-spelled_path.ensures reads) c.a_path_and_its_text.ensures.valid

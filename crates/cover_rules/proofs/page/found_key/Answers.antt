@@ -1,6 +1,6 @@
 use Rattle.std.proofs.Common.{◌∙◌, sym}
 use Rattle.cover_rules.proofs.PageLemmas.{root_lacks, unmangled_lacks}
-use Rattle.cover_rules.proofs.page.page_key.Goals as goal
+use Rattle.cover_rules.proofs.page.found_key.Goals as goal
 
 pub returns-then-depth-eq0 : goal.returns-then-depth-eq0
 returns-then-depth-eq0 c = sym (root_lacks c.args.path.now (sym c.depth.ensures.depth ∙ c.if-depth-eq0.true))

@@ -9,6 +9,7 @@ use Rattle.glob_rules.specs.declared.rule.Rule.{Rule}
 use Rattle.glob_rules.specs.declared.fault.GlobFault.{GlobFault}
 use Rattle.glob_rules.specs.Reading.{glob_of}
 use Rattle.any_config.specs.declared.farm.Farm.{Farm}
+use Rattle.any_config.specs.declared.farm.VirtualHost.{VirtualHost}
 use Rattle.any_config.specs.declared.farm.Filter.{Filter}
 use Rattle.any_config.specs.declared.farm_fault.FarmFault.{FarmFault}
 use Rattle.any_config.specs.declared.farm_fault.FarmFault.TheVariants.{Missing, BadKind, NotSupported, NoMemory}
@@ -194,19 +195,19 @@ at_last_colon [] = None
 at_last_colon (c ∷ t) = cut_again c t (at_last_colon t)
 
 -- the glob of the whole text, or where it has a colon that of the part before its last one and the port
-abbrev pub host_cut : List ℕ → List ℕ → Option (List ℕ × List ℕ) → FarmOutcome (List GlobPiece × Option ℕ)
-host_cut name text None = glob name text >>= λ g. Ok (g, None)
+abbrev pub host_cut : List ℕ → List ℕ → Option (List ℕ × List ℕ) → FarmOutcome VirtualHost
+host_cut name text None = glob name text >>= λ g. Ok (record { name = g; port = None })
 host_cut name text (Some cut) = do
   g ← glob name cut.0
   port ← or_bad name (decimal greatest_port cut.1)
-  Ok (g, Some port)
+  Ok (record { name = g; port = Some port })
 
 -- a glob, and a port after the last colon
-unfoldable pub host : List ℕ → List ℕ → FarmOutcome (List GlobPiece × Option ℕ)
+unfoldable pub host : List ℕ → List ℕ → FarmOutcome VirtualHost
 host name text = host_cut name text (at_last_colon text)
 
 -- a served host has no name
-unfoldable pub served_host : List ℕ × AnyNode → FarmOutcome (List GlobPiece × Option ℕ)
+unfoldable pub served_host : List ℕ × AnyNode → FarmOutcome VirtualHost
 served_host m = if length m.0 == 0 then (member_word (codes "virtualhosts") m.1 >>= λ text. host (codes "virtualhosts") text) else Err (BadKind m.0)
 
 -- letters, digits, `-`, `_` and `.`
@@ -273,7 +274,7 @@ abbrev pub deepest_level : ℕ
 deepest_level = 32
 
 -- what a farm keeps, and who may invalidate it
-unfoldable pub with_cache : List (List GlobPiece × Option ℕ) → List ℕ × ℕ → List Filter → Members → FarmOutcome Farm
+unfoldable pub with_cache : List VirtualHost → List ℕ × ℕ → List Filter → Members → FarmOutcome Farm
 with_cache hosts ask filter cache = do
   rules ← needed_rules (codes "rules") cache
   level ← member_number (codes "statfileslevel") deepest_level cache

@@ -2,8 +2,16 @@
 use glob_rules::{Glob, RuleList};
 use sp_base::{Items, TextBuf};
 
-/// The hosts of a farm: each a glob for the host in lower case, and a port where the host has one.
-pub type HostList = Items<(Glob, Option<u16>)>;
+/// A host that is served (RFC 9110, section 4.2.1).
+#[derive(Drop)]
+pub struct VirtualHost {
+    /// The glob for the host in lower case, without its port.
+    pub name: Glob,
+    /// The port, any where there is none.
+    pub port: Option<u16>,
+}
+
+pub type HostList = Items<VirtualHost>;
 
 /// An entry of the filter. It applies to a request where each glob that it has matches its part of the request.
 #[derive(Drop)]

@@ -7,12 +7,11 @@ ghost use Rattle.any_config.specs.Tokens.{is_letter_or_digit};
 ghost use Rattle.any_config.specs.Farms.{FarmGives};
 
 use crate::entries::glob;
-use crate::farm::HostList;
+use crate::farm::{HostList, VirtualHost};
 use crate::farm_fault::FarmFault;
 use crate::members::{Member, word_of};
 use crate::node::AnyNode;
 use crate::numbers::decimal;
-use glob_rules::Glob;
 use sp_base::{GREATEST_PORT, HTTP_PORT, TextBuf};
 use std::alloc::Global;
 
@@ -36,21 +35,25 @@ fn port(text: &str) -> Option<u16>
 }
 
 #[tactic(auto, unfolding(crate::specs::Farms::host))]
-fn host(alloc: Global, name: &str, text: &str) -> Result<(Glob, Option<u16>), FarmFault>
+fn host(alloc: Global, name: &str, text: &str) -> Result<VirtualHost, FarmFault>
     ensures { FarmGives (λ h. h) result (spec.host name.now text.now) }
 {
     let Some((prefix, back)) = at_last_colon(text) else {
-        return Ok((glob(alloc, name, text)?, None));
+        let name = glob(alloc, name, text)?;
+        return Ok(VirtualHost { name, port: None });
     };
-    let glob = glob(alloc, name, prefix)?;
+    let host = glob(alloc, name, prefix)?;
     match port(back) {
-        Some(n) => Ok((glob, Some(n))),
+        Some(n) => Ok(VirtualHost {
+            name: host,
+            port: Some(n),
+        }),
         None => Err(FarmFault::BadKind(TextBuf::of(alloc, name)?)),
     }
 }
 
 #[tactic(auto, unfolding(crate::specs::Farms::served_host))]
-fn host_of(alloc: Global, member: &Member) -> Result<(Glob, Option<u16>), FarmFault>
+fn host_of(alloc: Global, member: &Member) -> Result<VirtualHost, FarmFault>
     ensures { FarmGives (λ h. h) result (spec.served_host member.now) }
 {
     let name = member.0.text();

@@ -17,7 +17,7 @@ mod stop;
 mod tokens;
 
 pub use any_fault::AnyFault;
-pub use farm::{Farm, Filter, FilterList, HostList};
+pub use farm::{Farm, Filter, FilterList, HostList, VirtualHost};
 pub use farm_fault::FarmFault;
 pub use farm_reader::farm_of;
 pub use glob_rules::{Glob, GlobFault, Rule, RuleList};

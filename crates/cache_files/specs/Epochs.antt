@@ -3,7 +3,7 @@ use Rattle.std.specs.Prelude.{◌==◌, ◌+◌, ◌≡◌, ◌⊎◌, ◌∷◌
 use Rattle.sp_base.specs.Limits.{greatest_u64}
 use Rattle.sp_outside.specs.Causes.{Rose}
 use Rattle.sp_outside.specs.Calls.{Call, Get, Put, told_calls}
-use Rattle.sp_outside.specs.Files.{Files, file_at, told_with}
+use Rattle.sp_outside.specs.Files.{Files, file_at, told_with, with_file}
 use Rattle.sp_outside.specs.declared.disk.DiskFault.{DiskFault}
 use Rattle.sp_outside.specs.declared.disk.DiskFault.TheVariants.{Failed, NoMemory as no_room}
 use Rattle.docroot_format.specs.Names.{epoch_name}
@@ -39,6 +39,14 @@ next_epoch files = epoch_after (file_at files epoch_name)
 abbrev pub epoch_held : Files → ℕ
 epoch_held files = unwrap_or (option_and_then epoch_of (file_at files epoch_name)) 0
 
+-- the files with the number of a session
+abbrev pub files_with_epoch : Files → ℕ → Files
+files_with_epoch files epoch = with_file files epoch_name (epoch_text epoch)
+
+-- the same, where the disk tells its files
+abbrev pub told_with_epoch : Option Files → ℕ → Option Files
+told_with_epoch told epoch = told_with told epoch_name (epoch_text epoch)
+
 -- the calls of the disk: the file is read, then written with the number of the new session
 abbrev pub open_calls : ℕ → List Call
 open_calls epoch = Get epoch_name true ∷ Put epoch_name (epoch_text epoch) true ∷ []
@@ -49,7 +57,15 @@ IsOpenLeft asked made old new fault =
     ((made ≡ told_calls asked (Get epoch_name false ∷ [])) × (new ≡ old))
     ⊎ (((made ≡ told_calls asked (Get epoch_name true ∷ [])) × (new ≡ old))
     ⊎ ((epoch : ℕ) × (IfSome old (λ files. next_epoch files ≡ Ok epoch) × ((made ≡ told_calls asked (Get epoch_name true ∷ Put epoch_name (epoch_text epoch) false ∷ []))
-    × ((new ≡ old) ⊎ ((fault ≡ Disk) × (new ≡ told_with old epoch_name (epoch_text epoch))))))))
+    × ((new ≡ old) ⊎ ((fault ≡ Disk) × (new ≡ told_with_epoch old epoch)))))))
+
+-- a session was begun in the files: they have its number, the one after that of the last
+abbrev pub IsOpened : Files → Files → Type 0
+IsOpened old new = (epoch : ℕ) × ((next_epoch old ≡ Ok epoch) × (new ≡ files_with_epoch old epoch))
+
+-- an opening that failed leaves these files, whatever it asked
+abbrev pub LeftByOpening : Files → Files → OpenFault → Type 0
+LeftByOpening old new fault = (asked : Option (List Call)) × ((made : Option (List Call)) × IsOpenLeft asked made (Some old) (Some new) fault)
 
 -- Disk comes only where the disk's count of faults rose, and any other answer leaves that count.
 abbrev pub HasOpenCause : {T : Type 0} → ℕ → ℕ → Result T OpenFault → Type 0

@@ -1,23 +1,26 @@
 -- The stamps that the files of the docroot hold, beside the number of the session.
-use Rattle.std.specs.Prelude.{◌≡◌, ◌⊎◌, ◌≤◌, ℕ, List, Some, option_and_then}
+use Rattle.std.specs.Prelude.{◌≡◌, ◌⊎◌, ◌≤◌, ◌<◌, ◌^◌, Some, option_and_then}
 use Rattle.std.specs.List.{AllByRecursion}
 use Rattle.sp_base.specs.Bytes.{AreBytes}
+use Rattle.sp_base.specs.Texts.{Segments}
+use Rattle.sp_base.specs.declared.answer.Answer.{Answer}
 use Rattle.sp_outside.specs.Files.{Files, file_at}
+use Rattle.cover_rules.specs.Pages.{IsPageKey}
 use Rattle.cover_rules.specs.declared.page.PageKey.{PageKey}
 use Rattle.cover_rules.specs.declared.stamp.Stamp.{Stamp}
-use Rattle.docroot_format.specs.Names.{IsTextKey, stat_name}
+use Rattle.docroot_format.specs.Names.{stat_name}
 use Rattle.docroot_format.specs.Readings.{stat_of}
 use Rattle.cache_files.specs.declared.head_note.HeadNote.{HeadNote}
 use Rattle.cache_files.specs.Epochs.{epoch_held}
-use Rattle.cache_files.specs.Pages.{IsKey, head_at}
+use Rattle.cache_files.specs.Pages.{IsPagePut, head_at}
 
 -- the head of a page has this stamp
 abbrev pub IsPageStamp : Files → Stamp → Type 0
-IsPageStamp files stamp = (key : PageKey) × (IsKey key × (IsTextKey key × ((head : HeadNote) × ((head_at files key ≡ Some head) × (head.stamp ≡ stamp)))))
+IsPageStamp files stamp = (key : PageKey) × (IsPageKey key × ((head : HeadNote) × ((head_at files key ≡ Some head) × (head.stamp ≡ stamp))))
 
 -- the .stat file of a folder is of the form, and has this stamp
 abbrev pub IsFolderStamp : Files → Stamp → Type 0
-IsFolderStamp files stamp = (folder : List (List ℕ)) × (AllByRecursion AreBytes folder × (option_and_then stat_of (file_at files (stat_name folder)) ≡ Some (stamp.epoch, stamp.count)))
+IsFolderStamp files stamp = (folder : Segments) × (AllByRecursion AreBytes folder × (option_and_then stat_of (file_at files (stat_name folder)) ≡ Some (stamp.epoch, stamp.count)))
 
 -- the files hold a stamp
 abbrev pub HoldsStamp : Files → Stamp → Type 0
@@ -26,3 +29,20 @@ HoldsStamp files stamp = IsPageStamp files stamp ⊎ IsFolderStamp files stamp
 -- no stamp in the files is of a session after the one whose number they hold
 abbrev pub HasNoLaterStamp : Files → Type 0
 HasNoLaterStamp files = (stamp : Stamp) → HoldsStamp files stamp → stamp.epoch ≤ epoch_held files
+
+-- Stamps stay in order: where the files held none later than their session, the new ones hold none.
+abbrev pub KeepsOrder : Files → Files → Type 0
+KeepsOrder old new = HasNoLaterStamp old → HasNoLaterStamp new
+
+-- a put whose stamp is of the session whose number the files hold, or of an earlier one
+pub record IsSessionPut (files : Files) (key : PageKey) (stamp : Stamp) (answer : Answer) : Type 0 where
+  pub page : IsPageKey key
+  pub put : IsPagePut stamp answer
+  pub session : stamp.epoch ≤ epoch_held files
+
+-- a touch whose stamp is of that session, or of an earlier one
+pub record IsSessionTouch (files : Files) (folder : Segments) (stamp : Stamp) : Type 0 where
+  pub bytes : AllByRecursion AreBytes folder
+  pub epoch : stamp.epoch < 2 ^ 64
+  pub count : stamp.count < 2 ^ 64
+  pub session : stamp.epoch ≤ epoch_held files

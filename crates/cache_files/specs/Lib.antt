@@ -1,3 +1,4 @@
 pub mod Epochs
 pub mod Pages
 pub mod HeldStamps
+pub mod Changes

@@ -1,10 +1,7 @@
 //! The number of a session, by which stamps of different sessions are told apart.
 ghost use Rattle.std.specs.Prelude.{◌≡◌, ◌≢◌, Ok, Err, IfOk, IfErr, IfSome};
 ghost use Rattle.sp_outside.specs.Calls.{told_calls};
-ghost use Rattle.sp_outside.specs.Files.{told_with};
-ghost use Rattle.docroot_format.specs.Names.{epoch_name};
-ghost use Rattle.docroot_format.specs.Texts.{epoch_text};
-ghost use Rattle.cache_files.specs.Epochs.{epoch_after, next_epoch, open_calls, open_fault, HasOpenCause, IsOpenLeft};
+ghost use Rattle.cache_files.specs.Epochs.{epoch_after, next_epoch, open_calls, open_fault, told_with_epoch, HasOpenCause, IsOpenLeft};
 ghost use Rattle.cache_files.specs.declared.epoch.OpenFault.TheVariants.{NoMemory as no_memory};
 
 use docroot_format::{EPOCH_NAME, epoch_in, epoch_text};
@@ -65,7 +62,7 @@ pub fn open_epoch<D: Disk>(alloc: Global, disk: &mut D) -> Result<u64, OpenFault
 
     // The calls of the disk are these alone, and the files change only by the number that an Ok answers.
     ensures made { IfOk result (λ epoch. D.calls disk.new ≡ told_calls (D.calls disk.old) (open_calls epoch)) }
-    ensures after { IfOk result (λ epoch. D.files disk.new ≡ told_with (D.files disk.old) epoch_name (epoch_text epoch)) }
+    ensures after { IfOk result (λ epoch. D.files disk.new ≡ told_with_epoch (D.files disk.old) epoch) }
     ensures left { IfErr result (IsOpenLeft (D.calls disk.old) (D.calls disk.new) (D.files disk.old) (D.files disk.new)) }
     ensures cause { HasOpenCause (D.faults disk.old) (D.faults disk.new) result }
 {

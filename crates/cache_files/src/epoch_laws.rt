@@ -1,50 +1,53 @@
 //! The number of a session is above each stamp of an earlier one: laws, on functions that do nothing.
-ghost use Rattle.std.specs.Prelude.{◌≡◌, ◌≢◌, ◌⊎◌, ◌<◌, ◌≤◌, ◌^◌, ℕ, List, Option, Some, Ok, length};
+ghost use Rattle.std.specs.Prelude.{◌≡◌, ◌≢◌, ◌⊎◌, ◌<◌, ◌≤◌, ◌^◌, ℕ, List, Option, Some, None, Ok};
+ghost use Rattle.std.specs.FinMap.{empty};
 ghost use Rattle.std.specs.List.{AllByRecursion};
 ghost use Rattle.sp_base.specs.Bytes.{AreBytes};
+ghost use Rattle.sp_base.specs.Texts.{Segments, Text};
 ghost use Rattle.sp_base.specs.declared.answer.Answer.{Answer};
 ghost use Rattle.sp_outside.specs.Calls.{Call};
-ghost use Rattle.sp_outside.specs.Files.{Files, file_at, with_file};
-ghost use Rattle.docroot_format.specs.declared.fault.FileFault.{FileFault};
-ghost use Rattle.docroot_format.specs.Names.{IsTextKey, body_name, epoch_name, head_name, stat_name};
-ghost use Rattle.docroot_format.specs.Texts.{epoch_text, head_text, stat_text};
+ghost use Rattle.sp_outside.specs.Files.{Files, file_at, with_file, without_file};
+ghost use Rattle.docroot_format.specs.Names.{epoch_name, stat_name};
+ghost use Rattle.docroot_format.specs.Texts.{epoch_text, stat_text};
+ghost use Rattle.cover_rules.specs.Pages.{IsPageKey};
 ghost use Rattle.cover_rules.specs.declared.page.PageKey.{PageKey};
 ghost use Rattle.cover_rules.specs.declared.stamp.Stamp.{Stamp};
-ghost use Rattle.cache_files.specs.Epochs.{epoch_held, next_epoch, IsOpenLeft};
+ghost use Rattle.cache_files.specs.Changes.{HasNoPage, LeftByDrop, LeftByPut};
+ghost use Rattle.cache_files.specs.Epochs.{IsOpened, LeftByOpening, epoch_held, files_with_epoch, next_epoch};
 ghost use Rattle.cache_files.specs.declared.epoch.OpenFault.{OpenFault};
 ghost use Rattle.cache_files.specs.declared.epoch.OpenFault.TheVariants.{Disk as open_disk};
-ghost use Rattle.cache_files.specs.HeldStamps.{HasNoLaterStamp, HoldsStamp};
-ghost use Rattle.cache_files.specs.Pages.{IsDropLeft, IsKey, IsPutLeft, IsStorable, files_with_page, files_without_page};
+ghost use Rattle.cache_files.specs.declared.page.Page.{Page};
+ghost use Rattle.cache_files.specs.HeldStamps.{HasNoLaterStamp, HoldsStamp, IsPageStamp, IsSessionPut, IsSessionTouch, KeepsOrder};
+ghost use Rattle.cache_files.specs.Pages.{IsPagePut, files_with_page, files_without_page, page_at};
 
 use docroot_format::{names_are_apart, texts_are_read_back, what_reads_is_its_text};
 use sp_outside::files_have_names;
 
 /// A session that is opened has a number above each stamp in the files, and these then hold no stamp later than that, if they held none
-/// later than their own number before (`HasNoLaterStamp`).
+/// later than their own number before (`HasNoLaterStamp`). An opening that failed leaves none either.
 pub fn a_session_is_after_every_stamp()
     ensures above { (files : Files) (epoch : ℕ) (stamp : Stamp) → HasNoLaterStamp files → next_epoch files ≡ Ok epoch → HoldsStamp files stamp → stamp.epoch < epoch }
-    ensures opened { (files : Files) (epoch : ℕ) → epoch < 2 ^ 64 → HasNoLaterStamp files → next_epoch files ≡ Ok epoch → HasNoLaterStamp (with_file files epoch_name (epoch_text epoch)) }
+    ensures opened { (files : Files) (epoch : ℕ) → next_epoch files ≡ Ok epoch → KeepsOrder files (files_with_epoch files epoch) }
+    ensures failed { (files new : Files) (fault : OpenFault) → LeftByOpening files new fault → KeepsOrder files new }
 {
     files_have_names();
     names_are_apart();
     texts_are_read_back();
+    what_reads_is_its_text();
+    a_failed_opening_leaves_the_old_number_or_the_next();
 }
 
-/// A page or a stamp of the session, or of an earlier one, is no later stamp, and neither does a page that goes leave one.
+/// A page or a stamp of the session, or of an earlier one, is no later stamp, and neither does a file that goes leave one.
 pub fn no_stamp_is_later_than_the_session()
-    ensures put { (files : Files) (key : PageKey) (stamp : Stamp) (answer : Answer) → IsKey key → IsTextKey key → IsStorable answer → stamp.epoch < 2 ^ 64 → stamp.count < 2 ^ 64 → length answer.body < 2 ^ 64
-        → stamp.epoch ≤ epoch_held files → HasNoLaterStamp files → HasNoLaterStamp (files_with_page files key stamp answer) }
-    ensures dropped { (files : Files) (key : PageKey) → IsKey key → IsTextKey key → HasNoLaterStamp files → HasNoLaterStamp (files_without_page files key) }
-    ensures touched { (files : Files) (folder : List (List ℕ)) (stamp : Stamp) → AllByRecursion AreBytes folder → stamp.epoch < 2 ^ 64 → stamp.count < 2 ^ 64
-        → stamp.epoch ≤ epoch_held files → HasNoLaterStamp files → HasNoLaterStamp (with_file files (stat_name folder) (stat_text stamp.epoch stamp.count)) }
+    ensures put { (files : Files) (key : PageKey) (stamp : Stamp) (answer : Answer) → IsSessionPut files key stamp answer → KeepsOrder files (files_with_page files key stamp answer) }
+    ensures dropped { (files : Files) (key : PageKey) → IsPageKey key → KeepsOrder files (files_without_page files key) }
+    ensures touched { (files : Files) (folder : Segments) (stamp : Stamp) → IsSessionTouch files folder stamp
+        → KeepsOrder files (with_file files (stat_name folder) (stat_text stamp.epoch stamp.count)) }
+    ensures removed { (files : Files) (name : Text) → name ≢ epoch_name → KeepsOrder files (without_file files name) }
 
     // The same of what a put or a drop leaves that failed.
-    ensures put_failed { (asked made : Option (List Call)) (files new : Files) (key : PageKey) (stamp : Stamp) (answer : Answer) (fault : FileFault) → IsKey key → IsTextKey key → IsStorable answer
-        → stamp.epoch < 2 ^ 64 → stamp.count < 2 ^ 64 → length answer.body < 2 ^ 64 → stamp.epoch ≤ epoch_held files → HasNoLaterStamp files
-        → IsPutLeft asked made (Some files) (Some new) (head_name key.folder key.file) (body_name key.folder key.file) answer.body (head_text stamp.epoch stamp.count (length answer.body) answer.kind) fault
-        → HasNoLaterStamp new }
-    ensures drop_failed { (asked made : Option (List Call)) (files new : Files) (key : PageKey) (fault : FileFault) → IsKey key → IsTextKey key → HasNoLaterStamp files
-        → IsDropLeft asked made (Some files) (Some new) (head_name key.folder key.file) (body_name key.folder key.file) fault → HasNoLaterStamp new }
+    ensures put_failed { (files new : Files) (key : PageKey) (stamp : Stamp) (answer : Answer) → IsSessionPut files key stamp answer → LeftByPut files new key stamp answer → KeepsOrder files new }
+    ensures drop_failed { (files new : Files) (key : PageKey) → IsPageKey key → LeftByDrop files new key → KeepsOrder files new }
 {
     files_have_names();
     names_are_apart();
@@ -53,14 +56,24 @@ pub fn no_stamp_is_later_than_the_session()
 
 /// An opening that failed leaves the old number or, where the disk failed as it was written, the next; each other file is as it was.
 pub fn a_failed_opening_leaves_the_old_number_or_the_next()
-    ensures whole { (asked made : Option (List Call)) (files new : Files) (fault : OpenFault) → IsOpenLeft asked made (Some files) (Some new) fault
-        → (new ≡ files) ⊎ ((fault ≡ open_disk) × ((epoch : ℕ) × ((next_epoch files ≡ Ok epoch) × (new ≡ with_file files epoch_name (epoch_text epoch))))) }
-    ensures number { (asked made : Option (List Call)) (files new : Files) (fault : OpenFault) → IsOpenLeft asked made (Some files) (Some new) fault
-        → (epoch_held new ≡ epoch_held files) ⊎ (next_epoch files ≡ Ok (epoch_held new)) }
-    ensures beside { (asked made : Option (List Call)) (files new : Files) (fault : OpenFault) (name : List ℕ) → IsOpenLeft asked made (Some files) (Some new) fault
-        → name ≢ epoch_name → file_at new name ≡ file_at files name }
+    ensures whole { (files new : Files) (fault : OpenFault) → LeftByOpening files new fault → (new ≡ files) ⊎ ((fault ≡ open_disk) × IsOpened files new) }
+    ensures number { (files new : Files) (fault : OpenFault) → LeftByOpening files new fault → (epoch_held new ≡ epoch_held files) ⊎ (next_epoch files ≡ Ok (epoch_held new)) }
+    ensures beside { (files new : Files) (fault : OpenFault) (name : Text) → LeftByOpening files new fault → name ≢ epoch_name → file_at new name ≡ file_at files name }
 {
     files_have_names();
     texts_are_read_back();
     what_reads_is_its_text();
 }
+
+/// The stamp of a page is one that the files hold, so it is of no session after the one that they hold where no stamp is.
+pub fn a_page_has_a_held_stamp()
+    ensures { (files : Files) (key : PageKey) (page : Page) → IsPageKey key → page_at files key ≡ Some page → IsPageStamp files page.stamp }
+{}
+
+/// No files hold no page, no head and no stamp of a later session, and the session after them is the first.
+pub fn empty_files_hold_no_page()
+    ensures page { (key : PageKey) → HasNoPage empty key }
+    ensures later { HasNoLaterStamp empty }
+    ensures epoch { epoch_held empty ≡ 0 }
+    ensures next { next_epoch empty ≡ Ok 1 }
+{}

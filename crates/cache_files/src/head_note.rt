@@ -3,9 +3,9 @@
 ghost use Rattle.std.specs.Prelude.{◌≡◌, IfOk, IfErr, IfSome, true, option_map};
 ghost use Rattle.sp_outside.specs.Calls.{Get, told_call};
 ghost use Rattle.docroot_format.specs.Faults.{HasFileCause};
-ghost use Rattle.docroot_format.specs.Names as name;
 ghost use Rattle.docroot_format.specs.Readings.{head_of};
-ghost use Rattle.cache_files.specs.Pages.{IsKey, IsCallLeft, head_at, known_at, note_of, page_under};
+ghost use Rattle.cover_rules.specs.Pages.{IsPageKey};
+ghost use Rattle.cache_files.specs.Pages.{IsCallLeft, head_at, known_at, note_of, page_body_name, page_head_name, page_under};
 
 use crate::page::Page;
 use cover_rules::{PageKey, Stamp};
@@ -59,11 +59,11 @@ pub fn get_head<D: Disk>(
     disk: &mut D,
     key: &PageKey,
 ) -> Result<Option<HeadNote>, FileFault>
-    requires { IsKey key.now }
+    requires { IsPageKey key.now }
     ensures value { IfOk result (λ head. IfSome (D.files disk.old) (λ files. head ≡ head_at files key.now)) }
     ensures same { D.files disk.new ≡ D.files disk.old }
-    ensures made { IfOk result (λ _. D.calls disk.new ≡ told_call (D.calls disk.old) (Get (name.head_name key.now.folder key.now.file) true)) }
-    ensures left { IfErr result (IsCallLeft (D.calls disk.old) (D.calls disk.new) (Get (name.head_name key.now.folder key.now.file))) }
+    ensures made { IfOk result (λ _. D.calls disk.new ≡ told_call (D.calls disk.old) (Get (page_head_name key.now) true)) }
+    ensures left { IfErr result (IsCallLeft (D.calls disk.old) (D.calls disk.new) (Get (page_head_name key.now))) }
     ensures cause { HasFileCause (D.faults disk.old) (D.faults disk.new) result }
 {
     a_page_has_files();
@@ -81,11 +81,11 @@ pub fn get_known<D: Disk>(
     key: &PageKey,
     head: &HeadNote,
 ) -> Result<Option<Page>, FileFault>
-    requires { IsKey key.now }
+    requires { IsPageKey key.now }
     ensures value { IfOk result (λ page. IfSome (D.files disk.old) (λ files. page ≡ known_at files key.now head.now)) }
     ensures same { D.files disk.new ≡ D.files disk.old }
-    ensures made { IfOk result (λ _. D.calls disk.new ≡ told_call (D.calls disk.old) (Get (name.body_name key.now.folder key.now.file) true)) }
-    ensures left { IfErr result (IsCallLeft (D.calls disk.old) (D.calls disk.new) (Get (name.body_name key.now.folder key.now.file))) }
+    ensures made { IfOk result (λ _. D.calls disk.new ≡ told_call (D.calls disk.old) (Get (page_body_name key.now) true)) }
+    ensures left { IfErr result (IsCallLeft (D.calls disk.old) (D.calls disk.new) (Get (page_body_name key.now))) }
     ensures cause { HasFileCause (D.faults disk.old) (D.faults disk.new) result }
 {
     let head = head.duplicate(alloc)?;
@@ -99,11 +99,11 @@ pub(crate) fn get_under<D: Disk>(
     key: &PageKey,
     head: HeadNote,
 ) -> Result<Option<Page>, FileFault>
-    requires { IsKey key.now }
+    requires { IsPageKey key.now }
     ensures value { IfOk result (λ page. IfSome (D.files disk.old) (λ files. page ≡ known_at files key.now head)) }
     ensures same { D.files disk.new ≡ D.files disk.old }
-    ensures made { IfOk result (λ _. D.calls disk.new ≡ told_call (D.calls disk.old) (Get (name.body_name key.now.folder key.now.file) true)) }
-    ensures left { IfErr result (IsCallLeft (D.calls disk.old) (D.calls disk.new) (Get (name.body_name key.now.folder key.now.file))) }
+    ensures made { IfOk result (λ _. D.calls disk.new ≡ told_call (D.calls disk.old) (Get (page_body_name key.now) true)) }
+    ensures left { IfErr result (IsCallLeft (D.calls disk.old) (D.calls disk.new) (Get (page_body_name key.now))) }
     ensures cause { HasFileCause (D.faults disk.old) (D.faults disk.new) result }
 {
     a_page_has_files();

@@ -1,25 +1,25 @@
 //! What follows from the definitions of pages and epochs: laws, on functions that do nothing.
-ghost use Rattle.std.specs.Prelude.{◌≡◌, ◌≢◌, ◌⊎◌, ◌<◌, ◌≤◌, ◌+◌, ◌^◌, ℕ, List, [], Option, Some, None, Ok, length, option_and_then};
+ghost use Rattle.std.specs.Prelude.{◌≡◌, ◌≢◌, ◌⊎◌, ◌<◌, ◌≤◌, ◌+◌, ℕ, None, Ok, option_and_then};
+ghost use Rattle.std.specs.List.{AllByRecursion};
+ghost use Rattle.sp_base.specs.Bytes.{AreBytes};
+ghost use Rattle.sp_base.specs.Texts.{Segments, Text};
 ghost use Rattle.sp_base.specs.declared.answer.Answer.{Answer};
-ghost use Rattle.sp_base.specs.declared.answer.Mark.TheVariants.{Plain};
-ghost use Rattle.sp_outside.specs.Calls.{Call};
-ghost use Rattle.sp_outside.specs.Files.{Files, file_at, with_file, without_file};
-ghost use Rattle.docroot_format.specs.declared.fault.FileFault.{FileFault};
-ghost use Rattle.docroot_format.specs.declared.fault.FileFault.TheVariants.{NoMemory as no_memory};
-ghost use Rattle.docroot_format.specs.Names.{IsTextKey, body_name, epoch_name, head_name};
-ghost use Rattle.docroot_format.specs.Texts.{epoch_text, head_text};
+ghost use Rattle.sp_outside.specs.Files.{Files, with_file, without_file};
+ghost use Rattle.docroot_format.specs.Names.{epoch_name, stat_name};
+ghost use Rattle.docroot_format.specs.Texts.{epoch_text};
+ghost use Rattle.cover_rules.specs.Pages.{IsPageKey};
 ghost use Rattle.cover_rules.specs.declared.page.PageKey.{PageKey};
 ghost use Rattle.cover_rules.specs.declared.stamp.Stamp.{Stamp};
+ghost use Rattle.cache_files.specs.Changes.{HasNoPage, HasPage, HasSamePage, IsOldNoneOrNew, IsOldOrNone, KeepsFiles, KeepsOtherPages, KeepsPages, KeepsStamps, LeftByDrop, LeftByDryPut, LeftByPut};
 ghost use Rattle.cache_files.specs.Epochs.{epoch_held, last_epoch, next_epoch};
-ghost use Rattle.cache_files.specs.Pages.{IsDropLeft, IsPutLeft, IsStorable, files_with_page, files_without_page, head_at, known_at, page_at};
+ghost use Rattle.cache_files.specs.Pages.{IsPagePut, files_with_page, files_without_page, head_at, known_at, page_at, page_body_name, page_head_name};
 
 use docroot_format::{names_are_apart, texts_are_read_back};
 use sp_outside::files_have_names;
 
-/// A page that was put is the page of its key, with an empty location.
+/// A page that was put is the page of its key, with an empty location, and its head says so.
 pub fn a_page_is_read_back()
-    ensures { (files : Files) (key : PageKey) (stamp : Stamp) (answer : Answer) → IsStorable answer → stamp.epoch < 2 ^ 64 → stamp.count < 2 ^ 64 → length answer.body < 2 ^ 64
-        → page_at (files_with_page files key stamp answer) key ≡ Some (record { stamp = stamp; answer = record { status = 200; kind = answer.kind; location = []; mark = Plain; body = answer.body } }) }
+    ensures { (files : Files) (key : PageKey) (stamp : Stamp) (answer : Answer) → IsPagePut stamp answer → HasPage (files_with_page files key stamp answer) key stamp answer }
 {
     files_have_names();
     texts_are_read_back();
@@ -30,13 +30,27 @@ pub fn a_page_is_its_head_and_its_body()
     ensures { (files : Files) (key : PageKey) → page_at files key ≡ option_and_then (known_at files key) (head_at files key) }
 {}
 
-/// A page is there as it was while another is put, and while another is dropped, and one that was dropped isn't there.
+/// A page is there as it was while another is put, and while another is dropped, and one that was dropped isn't there. The same is true
+/// of the heads of pages.
 pub fn pages_have_files_of_their_own()
-    ensures put { (files : Files) (key other : PageKey) (stamp : Stamp) (answer : Answer) → IsTextKey key → IsTextKey other → other ≢ key
-        → page_at (files_with_page files key stamp answer) other ≡ page_at files other }
-    ensures dropped { (files : Files) (key : PageKey) → page_at (files_without_page files key) key ≡ None }
-    ensures beside { (files : Files) (key other : PageKey) → IsTextKey key → IsTextKey other → other ≢ key
-        → page_at (files_without_page files key) other ≡ page_at files other }
+    ensures put { (files : Files) (key : PageKey) (stamp : Stamp) (answer : Answer) → IsPageKey key → KeepsOtherPages files (files_with_page files key stamp answer) key }
+    ensures dropped { (files : Files) (key : PageKey) → HasNoPage (files_without_page files key) key }
+    ensures beside { (files : Files) (key : PageKey) → IsPageKey key → KeepsOtherPages files (files_without_page files key) key }
+{
+    files_have_names();
+    names_are_apart();
+}
+
+/// Pages, stamps of folders and the number of the session stand apart. A put and a drop of a page change no stamp and not the number.
+/// Bytes that are written as a folder's stamp or as the number change no page, and such a stamp not the number. Neither does a removal
+/// of another file than that of the number.
+pub fn pages_stand_apart()
+    ensures put { (files : Files) (key : PageKey) (stamp : Stamp) (answer : Answer) → IsPageKey key → KeepsStamps files (files_with_page files key stamp answer) }
+    ensures dropped { (files : Files) (key : PageKey) → IsPageKey key → KeepsStamps files (files_without_page files key) }
+    ensures touched { (files : Files) (folder : Segments) (bytes : Text) → AllByRecursion AreBytes folder → KeepsPages files (with_file files (stat_name folder) bytes) }
+    ensures numbered { (files : Files) (bytes : Text) → KeepsPages files (with_file files epoch_name bytes) }
+    ensures epoch { (files : Files) (folder : Segments) (bytes : Text) → AllByRecursion AreBytes folder → epoch_held (with_file files (stat_name folder) bytes) ≡ epoch_held files }
+    ensures removed { (files : Files) (name : Text) → name ≢ epoch_name → epoch_held (without_file files name) ≡ epoch_held files }
 {
     files_have_names();
     names_are_apart();
@@ -45,53 +59,57 @@ pub fn pages_have_files_of_their_own()
 /// A put that stops leaves the old page, no page, or the new one: once the old head is taken away there is no page until the new head
 /// is written.
 pub fn a_stopped_put_leaves_no_page()
-    ensures headless { (files : Files) (key : PageKey) → page_at (without_file files (head_name key.folder key.file)) key ≡ None }
-    ensures written { (files : Files) (key : PageKey) (bytes : List ℕ) → page_at (with_file (without_file files (head_name key.folder key.file)) (body_name key.folder key.file) bytes) key ≡ None }
+    ensures headless { (files : Files) (key : PageKey) → HasNoPage (without_file files (page_head_name key)) key }
+    ensures written { (files : Files) (key : PageKey) (bytes : Text) → HasNoPage (with_file (without_file files (page_head_name key)) (page_body_name key) bytes) key }
 {
     files_have_names();
 }
 
-/// A put that failed leaves the old page, no page, or the new one, and each other page, and each other file, as it was.
+/// A file that is taken away, whichever it is, leaves each page as it was, or takes it away. It takes a page away where it is its head or
+/// its body; without its body its head stays as it was.
+pub fn a_removal_leaves_pages_or_none()
+    ensures page { (files : Files) (key : PageKey) (name : Text) → (page_at (without_file files name) key ≡ page_at files key) ⊎ (page_at (without_file files name) key ≡ None) }
+    ensures head { (files : Files) (key : PageKey) (name : Text) → (head_at (without_file files name) key ≡ head_at files key) ⊎ (head_at (without_file files name) key ≡ None) }
+    ensures beside { (files : Files) (key : PageKey) (name : Text) → name ≢ page_head_name key → name ≢ page_body_name key → HasSamePage files (without_file files name) key }
+    ensures headless { (files : Files) (key : PageKey) → HasNoPage (without_file files (page_head_name key)) key }
+    ensures bodiless { (files : Files) (key : PageKey) → page_at (without_file files (page_body_name key)) key ≡ None }
+    ensures its_head { (files : Files) (key : PageKey) (name : Text) → name ≢ page_head_name key → head_at (without_file files name) key ≡ head_at files key }
+{
+    files_have_names();
+    a_stopped_put_leaves_no_page();
+}
+
+/// A put that failed leaves the old page, no page, or the new one, and each other page, each stamp, the number of the session and each
+/// other file as it was.
 pub fn a_failed_put_leaves_whole_pages()
-    ensures page { (asked made : Option (List Call)) (files new : Files) (key : PageKey) (stamp : Stamp) (answer : Answer) (fault : FileFault)
-        → IsPutLeft asked made (Some files) (Some new) (head_name key.folder key.file) (body_name key.folder key.file) answer.body (head_text stamp.epoch stamp.count (length answer.body) answer.kind) fault
-        → (page_at new key ≡ page_at files key) ⊎ ((page_at new key ≡ None) ⊎ (page_at new key ≡ page_at (files_with_page files key stamp answer) key)) }
-    ensures others { (asked made : Option (List Call)) (files new : Files) (key other : PageKey) (stamp : Stamp) (answer : Answer) (fault : FileFault) → IsTextKey key → IsTextKey other → other ≢ key
-        → IsPutLeft asked made (Some files) (Some new) (head_name key.folder key.file) (body_name key.folder key.file) answer.body (head_text stamp.epoch stamp.count (length answer.body) answer.kind) fault
-        → page_at new other ≡ page_at files other }
-    ensures files { (asked made : Option (List Call)) (files new : Files) (key : PageKey) (stamp : Stamp) (answer : Answer) (fault : FileFault) (name : List ℕ)
-        → IsPutLeft asked made (Some files) (Some new) (head_name key.folder key.file) (body_name key.folder key.file) answer.body (head_text stamp.epoch stamp.count (length answer.body) answer.kind) fault
-        → name ≢ head_name key.folder key.file → name ≢ body_name key.folder key.file → file_at new name ≡ file_at files name }
+    ensures page { (files new : Files) (key : PageKey) (stamp : Stamp) (answer : Answer) → LeftByPut files new key stamp answer → IsOldNoneOrNew files new key stamp answer }
+    ensures others { (files new : Files) (key : PageKey) (stamp : Stamp) (answer : Answer) → IsPageKey key → LeftByPut files new key stamp answer → KeepsOtherPages files new key }
+    ensures stamps { (files new : Files) (key : PageKey) (stamp : Stamp) (answer : Answer) → IsPageKey key → LeftByPut files new key stamp answer → KeepsStamps files new }
+    ensures files { (files new : Files) (key : PageKey) (stamp : Stamp) (answer : Answer) → LeftByPut files new key stamp answer → KeepsFiles files new key }
 {
     files_have_names();
     names_are_apart();
     a_stopped_put_leaves_no_page();
-    pages_have_files_of_their_own();
 }
 
 /// A put that found no memory on its way leaves the old page or no page.
 pub fn a_put_out_of_memory_leaves_the_old_page_or_none()
-    ensures { (asked made : Option (List Call)) (files new : Files) (key : PageKey) (stamp : Stamp) (answer : Answer)
-        → IsPutLeft asked made (Some files) (Some new) (head_name key.folder key.file) (body_name key.folder key.file) answer.body (head_text stamp.epoch stamp.count (length answer.body) answer.kind) no_memory
-        → (page_at new key ≡ page_at files key) ⊎ (page_at new key ≡ None) }
+    ensures { (files new : Files) (key : PageKey) (stamp : Stamp) (answer : Answer) → LeftByDryPut files new key stamp answer → IsOldOrNone files new key }
 {
     a_stopped_put_leaves_no_page();
 }
 
-/// A drop that failed leaves the old page or none, and each other page, and each other file, as it was.
+/// A drop that failed leaves the old page or none, and each other page, each stamp, the number of the session and each other file as it
+/// was.
 pub fn a_failed_drop_leaves_whole_pages()
-    ensures page { (asked made : Option (List Call)) (files new : Files) (key : PageKey) (fault : FileFault) → IsDropLeft asked made (Some files) (Some new) (head_name key.folder key.file) (body_name key.folder key.file) fault
-        → (page_at new key ≡ page_at files key) ⊎ (page_at new key ≡ None) }
-    ensures others { (asked made : Option (List Call)) (files new : Files) (key other : PageKey) (fault : FileFault) → IsTextKey key → IsTextKey other → other ≢ key
-        → IsDropLeft asked made (Some files) (Some new) (head_name key.folder key.file) (body_name key.folder key.file) fault
-        → page_at new other ≡ page_at files other }
-    ensures files { (asked made : Option (List Call)) (files new : Files) (key : PageKey) (fault : FileFault) (name : List ℕ) → IsDropLeft asked made (Some files) (Some new) (head_name key.folder key.file) (body_name key.folder key.file) fault
-        → name ≢ head_name key.folder key.file → name ≢ body_name key.folder key.file → file_at new name ≡ file_at files name }
+    ensures page { (files new : Files) (key : PageKey) → LeftByDrop files new key → IsOldOrNone files new key }
+    ensures others { (files new : Files) (key : PageKey) → IsPageKey key → LeftByDrop files new key → KeepsOtherPages files new key }
+    ensures stamps { (files new : Files) (key : PageKey) → IsPageKey key → LeftByDrop files new key → KeepsStamps files new }
+    ensures files { (files new : Files) (key : PageKey) → LeftByDrop files new key → KeepsFiles files new key }
 {
     files_have_names();
     names_are_apart();
     a_stopped_put_leaves_no_page();
-    pages_have_files_of_their_own();
 }
 
 /// Each session has a number above that of the last one, and so above every number up to it.

@@ -6,13 +6,10 @@ use Rattle.std.specs.List.{list_any}
 use Rattle.std.specs.Fmt.{digits}
 use Rattle.std.specs.Cmp.Lexicographic.{same_text}
 use Rattle.std.specs.Str.{all_ascii_digits}
-use Rattle.std.specs.Str.Parse.{digits_value}
 use Rattle.std.proofs.lemmas.Bool.{false≢true}
 use Rattle.std.proofs.Math.Dec.{eqb-suc-zero}
-use Rattle.std.proofs.lemmas.Fmt.{digits_decimal, decimal_injective}
 use Rattle.std.proofs.lemmas.List.{append_assoc, append_cancel_left}
 use Rattle.std.proofs.lemmas.List.Folds.{list_any-append}
-use Rattle.std.proofs.lemmas.Str.Parse.{IsNumeralModel, numerals_by_value, tells_all_ascii_digits}
 use Rattle.location_field.specs.Location.{location_of}
 use Rattle.sp_base.specs.Bytes.{is_visible_ascii}
 use Rattle.error_answers.specs.Errors.{error_answer, phrase_of}
@@ -22,12 +19,10 @@ use Rattle.sp_base.specs.declared.answer.Mark.{Mark}
 use Rattle.sp_base.specs.declared.answer.Mark.TheVariants.{Plain, NoCache, NoStore, MustRevalidate}
 use Rattle.http_front.specs.Answers.{Field, allowed_methods, answer_bytes, answer_content, connection, content_length, directive_of, field_line, fields_of, fixed_507, is_without_content, plain_value, status_line, unless_empty}
 use Rattle.connections.specs.Slots.{fixed_answer, are_fixed_507}
-use Rattle.connections.proofs.OutboxLemmas.{are_fixed_507-fixed}
+use Rattle.connections.proofs.DigitLemmas.{decimal-all, written-0, written-507}
+use Rattle.connections.proofs.QueueLemmas.{are_fixed_507-fixed}
 
 -- ---- a number ends where another byte comes
-own : IsNumeralModel (λ ds. all_ascii_digits ds ≡ true) (digits_value 10)
-own = numerals_by_value (λ ds. all_ascii_digits ds ≡ true) tells_all_ascii_digits
-
 both_true : (a b : Bool) → (a && b) ≡ true → (a ≡ true) × (b ≡ true)
 both_true true b e = (refl, e)
 both_true false b e = cc
@@ -52,10 +47,8 @@ unfolding digits
 nought = refl
 
 -- a number, and the byte that ends it
-one_number : (end m n : ℕ) (r s : List ℕ) → is_ascii_digit end ≡ false → m < 2 ^ 64 → n < 2 ^ 64 → decimal m ++ end ∷ r ≡ decimal n ++ end ∷ s → (m ≡ n) × (r ≡ s)
-one_number end m n r s none p q e =
-    let x = one_run end (decimal m) (decimal n) r s none (digits_decimal own m p) (digits_decimal own n q) e in
-    (decimal_injective m n p q x.0, x.1)
+one_number : (end m n : ℕ) (r s : List ℕ) → is_ascii_digit end ≡ false → decimal m ++ end ∷ r ≡ decimal n ++ end ∷ s → (decimal m ≡ decimal n) × (r ≡ s)
+one_number end m n r s none e = one_run end (decimal m) (decimal n) r s none (decimal-all m) (decimal-all n) e
 
 -- ---- the status comes first
 abbrev line_end : List ℕ
@@ -78,11 +71,11 @@ fixed_spread : fixed_507 ≡ codes "HTTP/1.1 " ++ (decimal 507 ++ 32 ∷ (phrase
 unfolding phrase_of digits
 fixed_spread = refl
 
-one_status : (status : ℕ) (rest : List ℕ) → status < 2 ^ 64 → status_line status ++ rest ≡ fixed_507 → (status ≡ 507) × (rest ≡ fixed_rest)
-one_status status rest p e =
-    let at = one_number 32 status 507 _ _ refl p (omega arith) (ap (drop 9) (sym (status_spread status rest) ∙ e ∙ fixed_spread)) in
-    let phrases : phrase_of 507 ++ (line_end ++ rest) ≡ phrase_of 507 ++ (line_end ++ fixed_rest) = subst (λ s. phrase_of s ++ (line_end ++ rest) ≡ phrase_of 507 ++ (line_end ++ fixed_rest)) at.0 at.1 in
-    (at.0, ap (drop 2) (append_cancel_left (phrase_of 507) _ _ phrases))
+one_status : (status : ℕ) (rest : List ℕ) → status_line status ++ rest ≡ fixed_507 → (status ≡ 507) × (rest ≡ fixed_rest)
+one_status status rest e =
+    let at = one_number 32 status 507 _ _ refl (ap (drop 9) (sym (status_spread status rest) ∙ e ∙ fixed_spread)) in
+    let phrases : phrase_of 507 ++ (line_end ++ rest) ≡ phrase_of 507 ++ (line_end ++ fixed_rest) = subst (λ s. phrase_of s ++ (line_end ++ rest) ≡ phrase_of 507 ++ (line_end ++ fixed_rest)) (written-507 status at.0) at.1 in
+    (written-507 status at.0, ap (drop 2) (append_cancel_left (phrase_of 507) _ _ phrases))
 
 -- ---- then the fields
 -- the fields, the line that ends them, and the content
@@ -146,13 +139,13 @@ line_spread v rest =
     append_assoc (n ++ v) line_end rest ∙ append_assoc n v (line_end ++ rest)
 
 -- the length is nought, and the connection closes
-one_size : (n : ℕ) (c : Bool) (tail : List ℕ) → n < 2 ^ 64 → fields_text ((codes "Content-Length", decimal n) ∷ unless_empty (codes "Connection") (connection c)) tail ≡ fixed_rest → (n ≡ 0) × (c ≡ true)
-one_size n c tail p e =
+one_size : (n : ℕ) (c : Bool) (tail : List ℕ) → fields_text ((codes "Content-Length", decimal n) ∷ unless_empty (codes "Connection") (connection c)) tail ≡ fixed_rest → (n ≡ 0) × (c ≡ true)
+one_size n c tail e =
     let line = append_assoc (field_line (codes "Content-Length", decimal n)) (flat_map field_line (unless_empty (codes "Connection") (connection c))) (line_end ++ tail) in
     let end : List ℕ = 13 ∷ (10 ∷ codes "Connection: close\r\n\r\n") in
     let spread = ap (drop 16) (sym (line_spread (decimal n) _) ∙ sym line ∙ e) in
-    let at = one_number 13 n 0 _ (10 ∷ codes "Connection: close\r\n\r\n") refl p (omega arith) (spread ∙ ap (λ d. d ++ end) (sym nought)) in
-    (at.0, closes c (ap (drop 1) at.1))
+    let at = one_number 13 n 0 _ (10 ∷ codes "Connection: close\r\n\r\n") refl (spread ∙ ap (λ d. d ++ end) (sym nought)) in
+    (written-0 n at.0, closes c (ap (drop 1) at.1))
   where
     closes : (d : Bool) → fields_text (unless_empty (codes "Connection") (connection d)) tail ≡ codes "Connection: close\r\n\r\n" → d ≡ true
     closes true is = refl
@@ -166,10 +159,10 @@ answer_spread h c a =
     let f = flat_map field_line (fields_of h c a) in
     append_assoc (s ++ f) line_end (answer_content h a) ∙ append_assoc s f (line_end ++ answer_content h a)
 
-fixed_fields : (h c : Bool) (a : Answer) → a.status < 2 ^ 64 → answer_bytes h c a ≡ fixed_507
+fixed_fields : (h c : Bool) (a : Answer) → answer_bytes h c a ≡ fixed_507
     → (a.status ≡ 507) × (fields_text (field_values (plain_value a.kind) (location_of a.location) (allowed_methods a.status) (directive_of a.mark) (content_length h a) (connection c)) (answer_content h a) ≡ fixed_rest)
-fixed_fields h c a p e =
-    let at = one_status a.status (fields_text (fields_of h c a) (answer_content h a)) p (sym (answer_spread h c a) ∙ e) in
+fixed_fields h c a e =
+    let at = one_status a.status (fields_text (fields_of h c a) (answer_content h a)) (sym (answer_spread h c a) ∙ e) in
     (at.0, ap (λ fields. fields_text fields (answer_content h a)) (sym (fields_spread h c a)) ∙ at.1)
 
 plain_none : (v : List ℕ) → plain_value v ≡ [] → v ≡ []
@@ -202,14 +195,14 @@ without_head true h e = absurd (let no : ⊥ = cc in no)
 without_head false true e = absurd (let no : ⊥ = cc in no)
 without_head false false e = refl
 
-sizes_fixed : (without h c : Bool) (n : ℕ) (tail : List ℕ) → n < 2 ^ 64
+sizes_fixed : (without h c : Bool) (n : ℕ) (tail : List ℕ)
     → fields_text (unless_empty (codes "Content-Length") (if without || (h && (n == 0)) then [] else decimal n) ++ unless_empty (codes "Connection") (connection c)) tail ≡ fixed_rest → (h ≡ false) × (c ≡ true) × (n ≡ 0)
-sizes_fixed without h c n tail p e = by_test (without || (h && (n == 0))) refl e
+sizes_fixed without h c n tail e = by_test (without || (h && (n == 0))) refl e
   where
     by_test : (t : Bool) → (without || (h && (n == 0))) ≡ t → fields_text (unless_empty (codes "Content-Length") (if t then [] else decimal n) ++ unless_empty (codes "Connection") (connection c)) tail ≡ fixed_rest → (h ≡ false) × (c ≡ true) × (n ≡ 0)
     by_test true is told = absurd (some_size c tail told)
     by_test false is told =
-        let sizes = one_size n c tail p (size_there (decimal n) c tail told) in
+        let sizes = one_size n c tail (size_there (decimal n) c tail told) in
         (without_head without h (subst (λ m. (without || (h && (m == 0))) ≡ false) sizes.0 is), sizes.1, sizes.0)
 
 no_bytes : (body : List ℕ) → length body ≡ 0 → body ≡ []
@@ -219,15 +212,15 @@ no_bytes (b ∷ body) e = absurd (omega (arith, e))
 fixed_by : (a : Answer) → a.status ≡ 507 → a.kind ≡ [] → a.location ≡ [] → a.mark ≡ Plain → length a.body ≡ 0 → a ≡ fixed_answer
 fixed_by a status kind location mark body = λ i. record { status = status i; kind = kind i; location = location i; mark = mark i; body = no_bytes a.body body i }
 
-pub fixed_is : (h c : Bool) (a : Answer) → a.status < 2 ^ 64 → length a.body < 2 ^ 64 → answer_bytes h c a ≡ fixed_507 → (h ≡ false) × (c ≡ true) × (a ≡ fixed_answer)
-fixed_is h c a p q e =
+pub fixed_is : (h c : Bool) (a : Answer) → answer_bytes h c a ≡ fixed_507 → (h ≡ false) × (c ≡ true) × (a ≡ fixed_answer)
+fixed_is h c a e =
     let tail = answer_content h a in
-    let first = fixed_fields h c a p e in
+    let first = fixed_fields h c a e in
     let second = after_kind (plain_value a.kind) _ tail first.1 in
     let third = after_location (location_of a.location) _ tail second.1 in
     let fourth = after_methods (allowed_methods a.status) _ tail third.1 in
     let fifth = after_directive (directive_of a.mark) _ tail fourth.1 in
-    let sizes = sizes_fixed (is_without_content a.status) h c (length a.body) tail q fifth.1 in
+    let sizes = sizes_fixed (is_without_content a.status) h c (length a.body) tail fifth.1 in
     (sizes.0, sizes.1, fixed_by a first.0 (plain_none a.kind second.0) (location_none a.location third.0) (directive_none a.mark fifth.0) sizes.2)
   where
     after_kind : (v : List ℕ) (later : List Field) (tail : List ℕ) → fields_text (unless_empty (codes "Content-Type") v ++ later) tail ≡ fixed_rest → (v ≡ []) × (fields_text later tail ≡ fixed_rest)
@@ -249,26 +242,26 @@ answer_fixed = refl
 
 -- An answer is sent as the fixed 507 where it is the fixed answer, is sent whole and closes its connection. That it is the fixed answer
 -- is what a test tells.
-pub closed-fixed : (h c : Bool) (a : Answer) (is : Bool) → (IsTrue is → a ≡ fixed_answer) → (a ≡ fixed_answer → IsTrue is) → (a.status < 2 ^ 64) × (length a.body < 2 ^ 64) → (h ≡ false) × (c ≡ true) → is ≡ are_fixed_507 (answer_bytes h c a)
-closed-fixed h c a is told tells short whole = by_test (are_fixed_507 (answer_bytes h c a)) refl is refl
+pub closed-fixed : (h c : Bool) (a : Answer) (is : Bool) → (IsTrue is → a ≡ fixed_answer) → (a ≡ fixed_answer → IsTrue is) → (h ≡ false) × (c ≡ true) → is ≡ are_fixed_507 (answer_bytes h c a)
+closed-fixed h c a is told tells whole = by_test (are_fixed_507 (answer_bytes h c a)) refl is refl
   where
     by_test : (t : Bool) → are_fixed_507 (answer_bytes h c a) ≡ t → (u : Bool) → is ≡ u → u ≡ t
     by_test true sent true test = refl
-    by_test true sent false test = absurd (false≢true (sym test ∙ tells (fixed_is h c a short.0 short.1 (same_text _ _ (sym sent))).2))
+    by_test true sent false test = absurd (false≢true (sym test ∙ tells (fixed_is h c a (same_text _ _ (sym sent))).2))
     by_test false sent true test =
         let bytes : answer_bytes h c a ≡ fixed_507 = ap (answer_bytes h c) (told test) ∙ rw (whole.0, whole.1) answer_fixed in
         absurd (false≢true (sym sent ∙ are_fixed_507-fixed _ bytes))
     by_test false sent false test = refl
 
-pub other-fixed : (h c : Bool) (a : Answer) → (a.status < 2 ^ 64) × (length a.body < 2 ^ 64) → (h ≡ true) ⊎ ((h ≡ false) × (c ≡ false)) → false ≡ are_fixed_507 (answer_bytes h c a)
-other-fixed h c a short way = by_test (are_fixed_507 (answer_bytes h c a)) refl
+pub other-fixed : (h c : Bool) (a : Answer) → (h ≡ true) ⊎ ((h ≡ false) × (c ≡ false)) → false ≡ are_fixed_507 (answer_bytes h c a)
+other-fixed h c a way = by_test (are_fixed_507 (answer_bytes h c a)) refl
   where
     never : (h ≡ true) ⊎ ((h ≡ false) × (c ≡ false)) → (h ≡ false) × (c ≡ true) → ⊥
     never (inl head) whole = false≢true (sym whole.0 ∙ head)
     never (inr stays) whole = false≢true (sym stays.1 ∙ whole.1)
 
     by_test : (t : Bool) → are_fixed_507 (answer_bytes h c a) ≡ t → false ≡ t
-    by_test true sent = let told = fixed_is h c a short.0 short.1 (same_text _ _ (sym sent)) in absurd (never way (told.0, told.1))
+    by_test true sent = let told = fixed_is h c a (same_text _ _ (sym sent)) in absurd (never way (told.0, told.1))
     by_test false sent = refl
 
 -- ---- no answer of an error is

@@ -11,18 +11,18 @@ use Rattle.connections.specs.declared.sending.Sending.{Sending}
 use Rattle.connections.specs.Slots.{Slot, MayAnswer, is_answered, is_last, interim_slot}
 use Rattle.connections.specs.Connections.{Connection, Close, Nothing, Send, with_due_continue, after_turn, due, due_at_slot, due_at_turn, due_without_sending, with_piece, slots_with_landing, fresh, next_turn, with_landing, with_sent, with_slot}
 use Rattle.connections.specs.Histories.{AnswersRun, Follows, IsDueSending, IsEndOr, Landing, Move, Piece, Sent, Shut, Treatment, after_all, sendings}
-use Rattle.connections.specs.Ties.{AllAnswered}
+use Rattle.connections.specs.AnswerQueues.{AllAnswered}
 use Rattle.connections.proofs.PlaceLemmas.{filled-past, length-filled}
 use Rattle.connections.proofs.TurnLemmas.{LastCloses, last-of}
-use Rattle.connections.proofs.OutboxLemmas.{drop-head, due-answered, take-exact}
+use Rattle.connections.proofs.QueueLemmas.{drop-head, due-answered, take-exact}
 
 -- ---- slots that were sent
-abbrev PastRest : Bool → List Slot → List Sending → Bool → Type 0 → Type 0
+abbrev pub PastRest : Bool → List Slot → List Sending → Bool → Type 0 → Type 0
 PastRest true slots sent over Rest = (slots ≡ []) × (sent ≡ []) × (over ≡ true)
 PastRest false slots sent over Rest = Rest
 
 -- each of the slots was sent, and then the connection was over or not
-abbrev Past : List Slot → List Sending → Bool → Type 0
+abbrev pub Past : List Slot → List Sending → Bool → Type 0
 Past [] [] over = over ≡ false
 Past [] (x ∷ sent) over = ⊥
 Past (s ∷ slots) [] over = ⊥
@@ -98,9 +98,9 @@ send-due c slot e = by_over c.over refl e
 
 -- ---- one move
 -- this was sent on the connection
-record Told (c : Connection) (sent : List Sending) : Type 0 where
-  within : c.sent ≤ length c.slots
-  past : Past (take c.sent c.slots) sent c.over
+pub record Told (c : Connection) (sent : List Sending) : Type 0 where
+  pub within : c.sent ≤ length c.slots
+  pub past : Past (take c.sent c.slots) sent c.over
 
 take-at : {A : Type 0} (xs : List A) (i : ℕ) (y : A) → slice_get xs i ≡ Some y → (i + 1 ≤ length xs) × (take (i + 1) xs ≡ take i xs ++ y ∷ [])
 take-at [] i y e = absurd (let no : ⊥ = cc in no)
@@ -160,6 +160,9 @@ told-all c (Shut ∷ moves) sent told follows = told-all c moves sent told follo
 fresh-told : (peer : List ℕ) → Told (fresh peer) []
 fresh-told peer = record { within = grind arith; past = refl }
 
+pub told-of : (peer : List ℕ) (moves : List Move) → Follows (fresh peer) moves → Told (after_all (fresh peer) moves) (sendings moves)
+told-of peer moves follows = told-all (fresh peer) moves [] (fresh-told peer) follows
+
 held : (c : Connection) → ((slot : Slot) → due c ≢ Send slot) → c.over ≡ false → AnswersRun (drop c.sent c.slots) []
 held c none going = by_slots (drop c.sent c.slots) refl
   where
@@ -174,7 +177,7 @@ held c none going = by_slots (drop c.sent c.slots) refl
 pub in-order : (peer : List ℕ) (moves : List Move) → Follows (fresh peer) moves → ((slot : Slot) → due (after_all (fresh peer) moves) ≢ Send slot) → AnswersRun (after_all (fresh peer) moves).slots (sendings moves)
 in-order peer moves follows none =
     let c = after_all (fresh peer) moves in
-    let told = told-all (fresh peer) moves [] (fresh-told peer) follows in
+    let told = told-of peer moves follows in
     let within = told.within in
     let whole : take c.sent c.slots ++ drop c.sent c.slots ≡ c.slots = grind (arith, common_steps) in
     rw (sym whole) (past-run (take c.sent c.slots) (drop c.sent c.slots) (sendings moves) c.over told.past (held c none))
@@ -207,7 +210,7 @@ pub at-end : (peer : List ℕ) (moves : List Move) → Follows (fresh peer) move
     → due (after_all (fresh peer) moves) ≡ Close
 at-end peer moves follows closing none =
     let c = after_all (fresh peer) moves in
-    let told = told-all (fresh peer) moves [] (fresh-told peer) follows in
+    let told = told-of peer moves follows in
     let past : Past c.slots (sendings moves) c.over = rw (take-none c.slots c.sent none) at told.past in
     let over : c.over ≡ true = past-last c.slots (sendings moves) c.over past (last-of peer moves follows closing) in
     rw over refl

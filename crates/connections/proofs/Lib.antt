@@ -1,5 +1,7 @@
 pub mod PlaceLemmas
-pub mod OutboxLemmas
+pub mod QueueLemmas
 pub mod HistoryLemmas
 pub mod TurnLemmas
+pub mod DigitLemmas
 pub mod FixedLemmas
+pub mod RestLemmas

@@ -11,10 +11,10 @@ use Rattle.connections.specs.declared.place.Reply.TheVariants.{Interim, Fixed, O
 use Rattle.connections.specs.Slots.{Slot, Response, IsWritten, is_answered, is_awaiting, is_final}
 use Rattle.connections.specs.Slots as model
 use Rattle.connections.specs.Connections.{slots_with_landing}
-use Rattle.connections.specs.Ties.{ReplyTied, PlaceTied, AllTied, AllAnswered, has_reply, awaits, is_final_reply, reply_bytes, place_bytes}
+use Rattle.connections.specs.AnswerQueues.{ReplyStandsFor, PlaceStandsFor, PlacesStandFor, AllAnswered, has_reply, awaits, is_final_reply, reply_bytes, place_bytes}
 
 -- ---- a reply and a response
-pub answered-tied : (r : Reply) (t : Response) → ReplyTied r t → is_answered t ≡ has_reply r
+pub answered-tied : (r : Reply) (t : Response) → ReplyStandsFor r t → is_answered t ≡ has_reply r
 answered-tied Interim model.Interim tied = refl
 answered-tied Fixed model.Fixed tied = refl
 answered-tied (Own status) (model.Says b) tied = refl
@@ -22,7 +22,7 @@ answered-tied (Awaits m) (model.Awaits n) tied = refl
 answered-tied (Says a) (model.Says b) tied = refl
 answered-tied r t tied = absurd tied
 
-pub awaiting-tied : (n : ℕ) (r : Reply) (t : Response) → ReplyTied r t → is_awaiting n t ≡ awaits n r
+pub awaiting-tied : (n : ℕ) (r : Reply) (t : Response) → ReplyStandsFor r t → is_awaiting n t ≡ awaits n r
 awaiting-tied n Interim model.Interim tied = refl
 awaiting-tied n Fixed model.Fixed tied = refl
 awaiting-tied n (Own status) (model.Says b) tied = refl
@@ -30,7 +30,7 @@ awaiting-tied n (Awaits m) (model.Awaits k) tied = ap (λ x. nat_eq x n) (sym ti
 awaiting-tied n (Says a) (model.Says b) tied = refl
 awaiting-tied n r t tied = absurd tied
 
-pub final-tied : (r : Reply) (t : Response) → ReplyTied r t → is_final t ≡ is_final_reply r
+pub final-tied : (r : Reply) (t : Response) → ReplyStandsFor r t → is_final t ≡ is_final_reply r
 final-tied Interim model.Interim tied = refl
 final-tied Fixed model.Fixed tied = refl
 final-tied (Own status) (model.Says b) tied = refl
@@ -38,7 +38,7 @@ final-tied (Awaits m) (model.Awaits n) tied = refl
 final-tied (Says a) (model.Says b) tied = refl
 final-tied r t tied = absurd tied
 
-written-by : (head_only closes : Bool) (r : Reply) (slot : Slot) (t : Response) (bytes : List ℕ) → head_only ≡ slot.head_only → closes ≡ slot.closes → ReplyTied r t → has_reply r ≡ true → bytes ≡ reply_bytes head_only closes r
+written-by : (head_only closes : Bool) (r : Reply) (slot : Slot) (t : Response) (bytes : List ℕ) → head_only ≡ slot.head_only → closes ≡ slot.closes → ReplyStandsFor r t → has_reply r ≡ true → bytes ≡ reply_bytes head_only closes r
     → IsWritten slot t bytes
 written-by h c Interim slot model.Interim bytes eh ec tied has is = is
 written-by h c Fixed slot model.Fixed bytes eh ec tied has is = is
@@ -48,11 +48,11 @@ written-by h c (Says a) slot (model.Says b) bytes eh ec tied has is = rw (is, eh
 written-by h c r slot t bytes eh ec tied has is = absurd tied
 
 -- the bytes of a place that has its reply are those of its slot
-pub written-tied : (place : AnswerPlace) (slot : Slot) (bytes : List ℕ) → PlaceTied place slot → has_reply place.reply ≡ true → bytes ≡ place_bytes place → IsWritten slot slot.response bytes
+pub written-tied : (place : AnswerPlace) (slot : Slot) (bytes : List ℕ) → PlaceStandsFor place slot → has_reply place.reply ≡ true → bytes ≡ place_bytes place → IsWritten slot slot.response bytes
 written-tied place slot bytes tied has is = written-by place.head_only place.closes place.reply slot slot.response bytes tied.head_only_is tied.closes_is tied.replies has is
 
 -- what is written for a slot is the bytes of its place
-bytes-by : (head_only closes : Bool) (r : Reply) (slot : Slot) (t : Response) (bytes : List ℕ) → head_only ≡ slot.head_only → closes ≡ slot.closes → ReplyTied r t → has_reply r ≡ true → IsWritten slot t bytes → bytes ≡ reply_bytes head_only closes r
+bytes-by : (head_only closes : Bool) (r : Reply) (slot : Slot) (t : Response) (bytes : List ℕ) → head_only ≡ slot.head_only → closes ≡ slot.closes → ReplyStandsFor r t → has_reply r ≡ true → IsWritten slot t bytes → bytes ≡ reply_bytes head_only closes r
 bytes-by h c Interim slot model.Interim bytes eh ec tied has is = is
 bytes-by h c Fixed slot model.Fixed bytes eh ec tied has is = is
 bytes-by h c (Own status) slot (model.Says b) bytes eh ec tied has is = rw (is, eh, ec, tied) refl
@@ -60,26 +60,26 @@ bytes-by h c (Awaits m) slot (model.Awaits n) bytes eh ec tied has is = absurd i
 bytes-by h c (Says a) slot (model.Says b) bytes eh ec tied has is = rw (is, eh, ec, tied) refl
 bytes-by h c r slot t bytes eh ec tied has is = absurd tied
 
-pub written-bytes : (place : AnswerPlace) (slot : Slot) (bytes : List ℕ) → PlaceTied place slot → has_reply place.reply ≡ true → IsWritten slot slot.response bytes → bytes ≡ place_bytes place
+pub written-bytes : (place : AnswerPlace) (slot : Slot) (bytes : List ℕ) → PlaceStandsFor place slot → has_reply place.reply ≡ true → IsWritten slot slot.response bytes → bytes ≡ place_bytes place
 written-bytes place slot bytes tied has is = bytes-by place.head_only place.closes place.reply slot slot.response bytes tied.head_only_is tied.closes_is tied.replies has is
 
 -- ---- places and slots
-pub tied-push : (xs : List AnswerPlace) (ys : List Slot) (x : AnswerPlace) (y : Slot) → AllTied xs ys → PlaceTied x y → AllTied (xs ++ x ∷ []) (ys ++ y ∷ [])
+pub tied-push : (xs : List AnswerPlace) (ys : List Slot) (x : AnswerPlace) (y : Slot) → PlacesStandFor xs ys → PlaceStandsFor x y → PlacesStandFor (xs ++ x ∷ []) (ys ++ y ∷ [])
 tied-push [] [] x y all here = (here, tt)
 tied-push [] (z ∷ ys) x y all here = absurd all
 tied-push (z ∷ xs) [] x y all here = absurd all
 tied-push (z ∷ xs) (u ∷ ys) x y all here = (all.0, tied-push xs ys x y all.1 here)
 
 -- the first place is that of the first slot
-pub tied-head : (x : AnswerPlace) (xs : List AnswerPlace) (ys : List Slot) → AllTied (x ∷ xs) ys → (y : Slot) × (zs : List Slot) × (ys ≡ y ∷ zs) × PlaceTied x y × AllTied xs zs
+pub tied-head : (x : AnswerPlace) (xs : List AnswerPlace) (ys : List Slot) → PlacesStandFor (x ∷ xs) ys → (y : Slot) × (zs : List Slot) × (ys ≡ y ∷ zs) × PlaceStandsFor x y × PlacesStandFor xs zs
 tied-head x xs [] all = absurd all
 tied-head x xs (y ∷ zs) all = (y, zs, refl, all.0, all.1)
 
-pub tied-none : (ys : List Slot) → AllTied [] ys → ys ≡ []
+pub tied-none : (ys : List Slot) → PlacesStandFor [] ys → ys ≡ []
 tied-none [] all = refl
 tied-none (y ∷ ys) all = absurd all
 
-pub count-tied : (xs : List AnswerPlace) (ys : List Slot) → AllTied xs ys → count_by (λ place. is_final_reply place.reply) xs ≡ count_by (λ slot. is_final slot.response) ys
+pub count-tied : (xs : List AnswerPlace) (ys : List Slot) → PlacesStandFor xs ys → count_by (λ place. is_final_reply place.reply) xs ≡ count_by (λ slot. is_final slot.response) ys
 count-tied [] [] all = refl
 count-tied [] (y ∷ ys) all = absurd all
 count-tied (x ∷ xs) [] all = absurd all
@@ -94,13 +94,13 @@ abbrev pub filled_places : ℕ → Reply → List AnswerPlace → List AnswerPla
 filled_places n r [] = []
 filled_places n r (x ∷ xs) = cond (awaits n x.reply) (record x { reply = r } ∷ xs) (x ∷ filled_places n r xs)
 
-pub tied-filled : (n : ℕ) (r : Reply) (a : Answer) (xs : List AnswerPlace) (ys : List Slot) → ReplyTied r (model.Says a) → AllTied xs ys → AllTied (filled_places n r xs) (slots_with_landing n a ys)
+pub tied-filled : (n : ℕ) (r : Reply) (a : Answer) (xs : List AnswerPlace) (ys : List Slot) → ReplyStandsFor r (model.Says a) → PlacesStandFor xs ys → PlacesStandFor (filled_places n r xs) (slots_with_landing n a ys)
 tied-filled n r a [] [] says all = tt
 tied-filled n r a [] (y ∷ ys) says all = absurd all
 tied-filled n r a (x ∷ xs) [] says all = absurd all
 tied-filled n r a (x ∷ xs) (y ∷ ys) says all = by_test (awaits n x.reply) refl (tied-filled n r a xs ys says all.1)
   where
-    by_test : (t : Bool) → awaits n x.reply ≡ t → AllTied (filled_places n r xs) (slots_with_landing n a ys) → AllTied (filled_places n r (x ∷ xs)) (slots_with_landing n a (y ∷ ys))
+    by_test : (t : Bool) → awaits n x.reply ≡ t → PlacesStandFor (filled_places n r xs) (slots_with_landing n a ys) → PlacesStandFor (filled_places n r (x ∷ xs)) (slots_with_landing n a (y ∷ ys))
     by_test true e rest =
         let there : is_awaiting n y.response ≡ true = awaiting-tied n x.reply y.response all.0.replies ∙ e in
         rw (e, there) (record { head_only_is = all.0.head_only_is; closes_is = all.0.closes_is; replies = says }, all.1)

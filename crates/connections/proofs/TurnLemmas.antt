@@ -13,7 +13,7 @@ use Rattle.connections.specs.Connections.{Close, Connection, Due, Nothing, Refus
 use Rattle.connections.specs.Histories.{AreOfTurns, Follows, IsEndOr, IsOfEnd, IsOfFault, IsOfTurn, IsSlotOf, Landing, Move, Piece, Sent, Shut, Treatment, after_all}
 
 -- the slots are those of turns, and none closes the connection
-abbrev Open : List Turn → List Slot → Type 0
+abbrev pub Open : List Turn → List Slot → Type 0
 Open turns [] = Unit {0}
 Open [] (slot ∷ slots) = ⊥
 Open (turn ∷ turns) (slot ∷ slots) = IsOfTurn turn slot × (slot.closes ≡ false) × Open turns slots
@@ -62,7 +62,7 @@ open-more (t ∷ turns) more (s ∷ slots) open_ = (open_.0, open_.1, open-more 
 -- ---- a flight has landed
 of-turn-filled : (n : ℕ) (a : Answer) (t : Turn) (s : Slot) → is_awaiting n s.response ≡ true → IsOfTurn t s → IsOfTurn t (with_answer a s)
 of-turn-filled n a Continue s awaits is = absurd (let no : false ≡ true = ap (λ (r : Slot). is_awaiting n r.response) (sym is) ∙ awaits in let none : ⊥ = cc in none)
-of-turn-filled n a (Whole request) s awaits is = (is.0, Says a, ap (with_answer a) is.2)
+of-turn-filled n a (Whole request) s awaits is = (is.0, Says a, ap (with_answer a) is.2, λ fixed. absurd (let no : ⊥ = cc in no))
 
 -- the slot of a fault awaits no flight
 local-waits : (n status : ℕ) → is_awaiting n (local_response status) ≡ false
@@ -134,10 +134,10 @@ last-filled n a (s ∷ t ∷ slots) last = by_test (is_awaiting n s.response) (l
     by_test false rest = last-cons s (slots_with_landing n a (t ∷ slots)) rest
 
 -- ---- one move
-record Good (c : Connection) : Type 0 where
-  are : AreOfTurns c.turns c.ends c.slots
-  open_ : c.closing ≡ false → Open c.turns c.slots
-  last : c.closing ≡ true → LastCloses c.slots
+pub record Good (c : Connection) : Type 0 where
+  pub are : AreOfTurns c.turns c.ends c.slots
+  pub open_ : c.closing ≡ false → Open c.turns c.slots
+  pub last : c.closing ≡ true → LastCloses c.slots
 
 -- what is due of the turns
 record OfTurn (c : Connection) (o : Option Turn) : Type 0 where
@@ -273,8 +273,11 @@ good-all c (Shut ∷ moves) good follows = good-all c moves good follows.1
 fresh-good : (peer : List ℕ) → Good (fresh peer)
 fresh-good peer = record { are = tt; open_ = λ e. tt; last = λ e. absurd (let no : ⊥ = cc in no) }
 
+pub good-of : (peer : List ℕ) (moves : List Move) → Follows (fresh peer) moves → Good (after_all (fresh peer) moves)
+good-of peer moves follows = good-all (fresh peer) moves (fresh-good peer) follows
+
 pub of-turns : (peer : List ℕ) (moves : List Move) → Follows (fresh peer) moves → AreOfTurns (after_all (fresh peer) moves).turns (after_all (fresh peer) moves).ends (after_all (fresh peer) moves).slots
-of-turns peer moves follows = (good-all (fresh peer) moves (fresh-good peer) follows).are
+of-turns peer moves follows = (good-of peer moves follows).are
 
 pub last-of : (peer : List ℕ) (moves : List Move) → Follows (fresh peer) moves → (after_all (fresh peer) moves).closing ≡ true → LastCloses (after_all (fresh peer) moves).slots
-last-of peer moves follows e = (good-all (fresh peer) moves (fresh-good peer) follows).last e
+last-of peer moves follows e = (good-of peer moves follows).last e

@@ -6,6 +6,7 @@ use Rattle.http_front.specs.Turns.{End, Waits, Breaks}
 use Rattle.http_front.specs.declared.fault.InFault.{InFault}
 use Rattle.http_front.specs.declared.turn.Turn.{Turn}
 use Rattle.http_front.specs.declared.turn.Turn.TheVariants.{Continue, Whole}
+use Rattle.connections.specs.Ids.{FlightId}
 use Rattle.connections.specs.Slots.{IsInPlaceOf, Slot, Says, is_answered, is_awaiting, is_final, is_last, interim_slot}
 
 -- An open connection: its peer; its stream, as far as it was read; the turns that the stream spells, and how they end; a slot for
@@ -60,10 +61,7 @@ due c = if c.over then Close else due_at_slot (slice_get c.slots c.sent) c
 -- the bytes stand in place of what is due to be sent
 abbrev pub IsInPlaceOfDue : Due → List ℕ → Type 0
 IsInPlaceOfDue (Send slot) bytes = IsInPlaceOf slot bytes
-IsInPlaceOfDue (Treat turn) bytes = ⊥
-IsInPlaceOfDue (Refuse fault) bytes = ⊥
-IsInPlaceOfDue Close bytes = ⊥
-IsInPlaceOfDue Nothing bytes = ⊥
+IsInPlaceOfDue _ bytes = ⊥
 
 -- the number of requests with unsent answers from which a connection's next request is refused
 abbrev pub most_unsent : ℕ
@@ -85,9 +83,8 @@ with_slot slot c = record c { slots = c.slots ++ slot ∷ []; closing = c.closin
 
 -- a connection whose next turn is this one: a Continue has its slot at once
 abbrev pub after_turn : Option Turn → Connection → Connection
-after_turn None c = c
 after_turn (Some Continue) c = with_slot interim_slot c
-after_turn (Some (Whole request)) c = c
+after_turn _ c = c
 
 -- a sender that waits for 100 Continue gets it without being asked, unless the connection closes before
 abbrev pub with_due_continue : Connection → Connection
@@ -102,12 +99,12 @@ abbrev pub with_answer : Answer → Slot → Slot
 with_answer answer slot = record slot { response = Says answer }
 
 -- the first slot that awaits the flight has its answer
-abbrev pub slots_with_landing : ℕ → Answer → List Slot → List Slot
+abbrev pub slots_with_landing : FlightId → Answer → List Slot → List Slot
 slots_with_landing flight answer [] = []
 slots_with_landing flight answer (slot ∷ slots) = if is_awaiting flight slot.response then with_answer answer slot ∷ slots else slot ∷ slots_with_landing flight answer slots
 
 -- a flight has landed
-abbrev pub with_landing : ℕ → Answer → Connection → Connection
+abbrev pub with_landing : FlightId → Answer → Connection → Connection
 with_landing flight answer c = record c { slots = slots_with_landing flight answer c.slots }
 
 -- the connection closes after these bytes of the slot, if there is one

@@ -1,5 +1,6 @@
 -- What may happen to a connection, one thing after another, and what is then sent on it.
-use Rattle.std.specs.Prelude.{◌≡◌, ℕ, Bool, true, false, List, [], ◌∷◌}
+use Rattle.std.specs.Prelude.{◌≡◌, ℕ, Bool, true, false, List, [], ◌∷◌, length}
+use Rattle.std.specs.List.{list_any}
 use Rattle.sp_base.specs.declared.answer.Answer.{Answer}
 use Rattle.http_front.specs.Faults.{fault_status}
 use Rattle.http_front.specs.Turns.{End, Waits, Breaks}
@@ -7,7 +8,8 @@ use Rattle.http_front.specs.declared.fault.InFault.{InFault}
 use Rattle.http_front.specs.declared.turn.Turn.{Turn}
 use Rattle.http_front.specs.declared.turn.Turn.TheVariants.{Continue, Whole}
 use Rattle.connections.specs.declared.sending.Sending.{Sending}
-use Rattle.connections.specs.Slots.{Slot, Response, MayAnswer, is_answered, is_last, local_response, request_slot, fault_slot, interim_slot}
+use Rattle.connections.specs.Ids.{FlightId}
+use Rattle.connections.specs.Slots.{Slot, Response, Fixed, MayAnswer, is_answered, is_last, local_response, request_slot, fault_slot, interim_slot}
 use Rattle.connections.specs.Connections.{Connection, Due, Send, Treat, Refuse, Close, Nothing, due, with_piece, with_slot, with_due_continue, with_landing, with_sent}
 
 -- What happens to a connection: bytes come, with the turns that they add; a turn or a fault gets its slot; a flight lands; a slot is
@@ -15,7 +17,7 @@ use Rattle.connections.specs.Connections.{Connection, Due, Send, Treat, Refuse, 
 pub data Move : Type 0 where
   Piece : (bytes : List ℕ) (turns : List Turn) (ends : End) → Move
   Treatment : (slot : Slot) → Move
-  Landing : (flight : ℕ) (answer : Answer) → Move
+  Landing : (flight : FlightId) (answer : Answer) → Move
   Sent : (sending : Sending) → Move
   Shut : Move
 
@@ -27,10 +29,11 @@ connection_after_move c (Landing flight answer) = with_landing flight answer c
 connection_after_move c (Sent sending) = with_sent sending.bytes c
 connection_after_move c Shut = c
 
--- the slot is that of the turn: a 100 Continue of a sender that waits for it, or a request's own
+-- The slot is that of the turn: a 100 Continue of a sender that waits for it, or a request's own. After the fixed 507 the connection
+-- closes.
 abbrev pub IsOfTurn : Turn → Slot → Type 0
 IsOfTurn Continue slot = slot ≡ interim_slot
-IsOfTurn (Whole request) slot = (closes : Bool) × (response : Response) × (slot ≡ request_slot request closes response)
+IsOfTurn (Whole request) slot = (closes : Bool) × (response : Response) × (slot ≡ request_slot request closes response) × (response ≡ Fixed → slot.closes ≡ true)
 
 -- the slot is that of a stream's fault, which is answered by its status
 abbrev pub IsOfFault : InFault → Slot → Type 0
@@ -43,12 +46,9 @@ IsOfEnd (Breaks fault) slot = IsOfFault fault slot
 
 -- The slot is one of what is due. (A Continue has its slot without being asked for.)
 abbrev pub IsSlotOf : Due → Slot → Type 0
-IsSlotOf (Send sending) slot = ⊥
-IsSlotOf (Treat Continue) slot = ⊥
 IsSlotOf (Treat (Whole request)) slot = IsOfTurn (Whole request) slot
 IsSlotOf (Refuse fault) slot = IsOfFault fault slot
-IsSlotOf Close slot = ⊥
-IsSlotOf Nothing slot = ⊥
+IsSlotOf _ slot = ⊥
 
 -- the slot is due to be sent, and this may be sent for it
 pub record IsDueSending (c : Connection) (sending : Sending) : Type 0 where
@@ -58,11 +58,10 @@ pub record IsDueSending (c : Connection) (sending : Sending) : Type 0 where
 
 -- the move may come: bytes and landings at any time, the others where they are due
 abbrev pub IsMove : Connection → Move → Type 0
-IsMove c (Piece bytes turns ends) = Unit {0}
 IsMove c (Treatment slot) = IsSlotOf (due c) slot
-IsMove c (Landing flight answer) = Unit {0}
 IsMove c (Sent sending) = IsDueSending c sending
 IsMove c Shut = due c ≡ Close
+IsMove c _ = Unit {0}
 
 -- each of these may happen to the connection in the state that those before it left
 abbrev pub Follows : Connection → List Move → Type 0
@@ -78,10 +77,7 @@ after_all c (move ∷ moves) = after_all (connection_after_move c move) moves
 abbrev pub sendings : List Move → List Sending
 sendings [] = []
 sendings (Sent sending ∷ moves) = sending ∷ sendings moves
-sendings (Piece bytes turns ends ∷ moves) = sendings moves
-sendings (Treatment slot ∷ moves) = sendings moves
-sendings (Landing flight answer ∷ moves) = sendings moves
-sendings (Shut ∷ moves) = sendings moves
+sendings (_ ∷ moves) = sendings moves
 
 -- nothing comes after the last, and after another the rest
 abbrev pub IsEndOr : {A : Type 0} → Bool → List A → Type 0 → Type 0
@@ -102,3 +98,23 @@ abbrev pub AreOfTurns : List Turn → End → List Slot → Type 0
 AreOfTurns turns ends [] = Unit {0}
 AreOfTurns [] ends (slot ∷ slots) = IsOfEnd ends slot × (slots ≡ [])
 AreOfTurns (turn ∷ turns) ends (slot ∷ slots) = IsOfTurn turn slot × IsEndOr slot.closes slots (AreOfTurns turns ends slots)
+
+-- a slot after which the connection closes is among them
+abbrev pub some_closes : List Slot → Bool
+some_closes slots = list_any (λ (slot : Slot). slot.closes) slots
+
+-- memory ran out as none of these was sent
+abbrev pub HaveNoSendingOutOfMemory : List Sending → Type 0
+HaveNoSendingOutOfMemory [] = Unit {0}
+HaveNoSendingOutOfMemory (sending ∷ sent) = (sending.out_of_memory ≡ false) × HaveNoSendingOutOfMemory sent
+
+-- nothing is due but the end
+abbrev pub IsAtRest : Due → Type 0
+IsAtRest Close = Unit {0}
+IsAtRest Nothing = Unit {0}
+IsAtRest _ = ⊥
+
+-- each turn has its slot, and no fault that ends the turns is left without one
+pub record AreAllTreated (turns : List Turn) (ends : End) (slots : List Slot) : Type 0 where
+  pub each : length slots ≡ length turns
+  pub no_fault : ends ≡ Waits

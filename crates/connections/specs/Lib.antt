@@ -1,4 +1,5 @@
+pub mod Ids
 pub mod Slots
 pub mod Connections
 pub mod Histories
-pub mod Ties
+pub mod AnswerQueues

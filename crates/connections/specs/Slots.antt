@@ -3,11 +3,12 @@ use Rattle.std.specs.Prelude.{◌≡◌, ◌==◌, ◌||◌, ◌⊎◌, ℕ, Boo
 use Rattle.std.specs.Cmp.Lexicographic.{pointwise}
 use Rattle.sp_base.specs.declared.answer.Answer.{Answer}
 use Rattle.sp_base.specs.declared.answer.Mark.TheVariants.{Plain}
-use Rattle.sp_base.specs.declared.answer.Req.{Req}
+use Rattle.sp_base.specs.Requests.{Request}
 use Rattle.error_answers.specs.Errors.{error_answer}
 use Rattle.http_front.specs.Answers.{answer_bytes, fixed_507, interim_100}
 use Rattle.http_front.specs.Faults.{insufficient_storage}
 use Rattle.connections.specs.declared.sending.Sending.{Sending}
+use Rattle.connections.specs.Ids.{FlightId}
 
 -- the answer in place of one for which no memory was there (RFC 4918, section 11.5): its status alone
 abbrev pub fixed_answer : Answer
@@ -17,7 +18,7 @@ fixed_answer = record { status = insufficient_storage; kind = []; location = [];
 pub data Response : Type 0 where
   Interim : Response
   Fixed : Response
-  Awaits : (flight : ℕ) → Response
+  Awaits : (flight : FlightId) → Response
   Says : (answer : Answer) → Response
 
 -- The place of a response: whether it is sent without its body, whether the connection closes after it, and what answers it. The
@@ -33,24 +34,18 @@ local_response status = if status == insufficient_storage then Fixed else Says (
 
 -- it doesn't wait for a flight
 abbrev pub is_answered : Response → Bool
-is_answered Interim = true
-is_answered Fixed = true
 is_answered (Awaits flight) = false
-is_answered (Says answer) = true
+is_answered _ = true
 
 -- it awaits this flight
-abbrev pub is_awaiting : ℕ → Response → Bool
-is_awaiting flight Interim = false
-is_awaiting flight Fixed = false
+abbrev pub is_awaiting : FlightId → Response → Bool
 is_awaiting flight (Awaits other) = nat_eq other flight
-is_awaiting flight (Says answer) = false
+is_awaiting flight _ = false
 
 -- it answers a request, and isn't an interim response before the request's own
 abbrev pub is_final : Response → Bool
 is_final Interim = false
-is_final Fixed = true
-is_final (Awaits flight) = true
-is_final (Says answer) = true
+is_final _ = true
 
 -- the bytes of a response in this slot
 abbrev pub IsWritten : Slot → Response → List ℕ → Type 0
@@ -61,7 +56,7 @@ IsWritten slot (Says answer) bytes = bytes ≡ answer_bytes slot.head_only slot.
 
 -- What may be sent for a slot: its own bytes; or the fixed 507, where memory ran out.
 abbrev pub MayAnswer : Slot → Sending → Type 0
-MayAnswer slot sending = IsWritten slot slot.response sending.bytes ⊎ (IsTrue sending.dry × (sending.bytes ≡ fixed_507))
+MayAnswer slot sending = IsWritten slot slot.response sending.bytes ⊎ (IsTrue sending.out_of_memory × (sending.bytes ≡ fixed_507))
 
 -- The bytes stand in place of the slot's own: they are the fixed 507, and the slot's own aren't.
 abbrev pub IsInPlaceOf : Slot → List ℕ → Type 0
@@ -76,11 +71,11 @@ abbrev pub is_last : Slot → List ℕ → Bool
 is_last slot bytes = slot.closes || are_fixed_507 bytes
 
 -- HEAD is answered without a body (RFC 9110, section 9.3.2)
-abbrev pub is_head : Req → Bool
+abbrev pub is_head : Request → Bool
 is_head request = pointwise nat_eq request.method (codes "HEAD")
 
 -- The slot of a request, after which the connection closes where the request asks for it, or for another reason (`closes`).
-abbrev pub request_slot : Req → Bool → Response → Slot
+abbrev pub request_slot : Request → Bool → Response → Slot
 request_slot request closes response = record { head_only = is_head request; closes = closes || request.close; response = response }
 
 -- the slot of a stream's fault

@@ -1,10 +1,10 @@
 //! What follows from the definitions for a whole connection, on functions that do nothing.
-ghost use Rattle.std.specs.Prelude.{◌≡◌, ◌≢◌, ◌<◌, ◌^◌, ℕ, Bool, List, None, false, length, slice_get, true};
+ghost use Rattle.std.specs.Prelude.{◌≡◌, ◌≢◌, ℕ, Bool, List, None, false, slice_get, true};
 ghost use Rattle.sp_base.specs.declared.answer.Answer as model;
 ghost use Rattle.http_front.specs.Answers.{answer_bytes, fixed_507};
 ghost use Rattle.connections.specs.Slots.{Slot, fixed_answer};
 ghost use Rattle.connections.specs.Connections.{Close, Send, due, fresh};
-ghost use Rattle.connections.specs.Histories.{AnswersRun, AreOfTurns, Follows, Move, after_all, sendings};
+ghost use Rattle.connections.specs.Histories.{AnswersRun, AreAllTreated, AreOfTurns, Follows, HaveNoSendingOutOfMemory, IsAtRest, Move, after_all, sendings, some_closes};
 
 /// Whatever happens to a connection: once nothing more can be sent, what was sent on it answers its slots in their order, each once,
 /// up to the first that waits for a flight, and nothing after one that closes the connection.
@@ -23,10 +23,16 @@ pub fn a_closing_connection_ends()
     ensures { (peer : List ℕ) (moves : List Move) → Follows (fresh peer) moves → (after_all (fresh peer) moves).closing ≡ true → slice_get (after_all (fresh peer) moves).slots (after_all (fresh peer) moves).sent ≡ None → due (after_all (fresh peer) moves) ≡ Close }
 {}
 
+/// Whatever happens to a connection: where nothing is due but its end, each turn that its stream spells has its slot, and so has the
+/// fault that ends them, unless a slot closes the connection, or memory ran out as something was sent.
+pub fn each_turn_is_treated()
+    ensures { (peer : List ℕ) (moves : List Move) → Follows (fresh peer) moves → IsAtRest (due (after_all (fresh peer) moves)) → some_closes (after_all (fresh peer) moves).slots ≡ false → HaveNoSendingOutOfMemory (sendings moves)
+        → AreAllTreated (after_all (fresh peer) moves).turns (after_all (fresh peer) moves).ends (after_all (fresh peer) moves).slots }
+{}
+
 /// The fixed answer, sent whole where the connection closes after it, is the fixed 507 (`bytes`); no other answer is, nor is it in another
 /// way (`only`).
 pub fn the_fixed_answer_is_its_bytes()
     ensures bytes { answer_bytes false true fixed_answer ≡ fixed_507 }
-    ensures only { (head_only closes : Bool) (answer : model.Answer) → answer.status < 2 ^ 64 → length answer.body < 2 ^ 64 → answer_bytes head_only closes answer ≡ fixed_507
-        → (head_only ≡ false) × (closes ≡ true) × (answer ≡ fixed_answer) }
+    ensures only { (head_only closes : Bool) (answer : model.Answer) → answer_bytes head_only closes answer ≡ fixed_507 → (head_only ≡ false) × (closes ≡ true) × (answer ≡ fixed_answer) }
 {}

@@ -2,14 +2,17 @@
 //! closes (RFC 9112, section 9).
 #![tactic(auto)]
 
+mod answer_queue;
+mod ids;
 mod laws;
-mod outbox;
 mod place;
 mod sending;
 
+pub use answer_queue::AnswerQueue;
+pub use ids::{ConnectionId, FlightId};
 pub use laws::{
-    a_closing_connection_ends, answers_in_order, slots_of_turns, the_fixed_answer_is_its_bytes,
+    a_closing_connection_ends, answers_in_order, each_turn_is_treated, slots_of_turns,
+    the_fixed_answer_is_its_bytes,
 };
-pub use outbox::Outbox;
 pub use place::{AnswerPlace, Reply};
 pub use sending::Sending;

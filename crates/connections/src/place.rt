@@ -1,9 +1,10 @@
 //! The place of an answer among those that a connection owes.
-ghost use Rattle.std.specs.Prelude.{◌≡◌, ◌<◌, ◌^◌, ◌||◌, IfOk, IsTrue, length};
+ghost use Rattle.std.specs.Prelude.{◌≡◌, ◌||◌, IfOk, IsTrue};
 ghost use Rattle.http_front.specs.Answers.{answer_bytes as bytes_of};
 ghost use Rattle.connections.specs.Slots as model;
-ghost use Rattle.connections.specs.Ties.{PlaceTied, ReplyTied, awaits as awaiting, is_final_reply, has_reply as answered, place_bytes};
+ghost use Rattle.connections.specs.AnswerQueues.{PlaceStandsFor, ReplyStandsFor, awaits as awaiting, is_final_reply, has_reply as answered, place_bytes};
 
+use crate::ids::FlightId;
 use error_answers::error_answer;
 use http_front::{INSUFFICIENT_STORAGE, answer_bytes, fixed_507, interim_100};
 use sp_base::{Answer, ByteBuf, Mark, Mem, Req};
@@ -19,7 +20,7 @@ pub enum Reply {
     /// The answer of an error with this status. It is made when it is sent.
     Own(u16),
     /// What this flight will bring.
-    Awaits(u64),
+    Awaits(FlightId),
     /// An answer.
     Says(Answer),
 }
@@ -45,7 +46,7 @@ impl Reply {
         }
     }
 
-    pub(crate) fn awaits(&self, flight: u64) -> bool
+    pub(crate) fn awaits(&self, flight: FlightId) -> bool
         ensures { result ≡ awaiting flight self.now }
     {
         match self {
@@ -68,18 +69,18 @@ impl Reply {
 impl AnswerPlace {
     /// The place of a request's answer, after which the connection closes where the request asks for it, or for another reason (`closes`).
     pub fn of_request(request: &Req, closes: bool, reply: Reply) -> AnswerPlace
-        ensures { (response : model.Response) → ReplyTied reply response → PlaceTied result (model.request_slot request.now closes response) }
+        ensures { (response : model.Response) → ReplyStandsFor reply response → PlaceStandsFor result (model.request_slot request.now closes response) }
     {
         AnswerPlace {
-            head_only: request.method.text() == "HEAD",
-            closes: closes || request.close,
+            head_only: request.method() == "HEAD",
+            closes: closes || request.close(),
             reply,
         }
     }
 
     /// The place of the answer to a stream's fault, the last of its connection.
     pub fn of_fault(reply: Reply) -> AnswerPlace
-        ensures { (response : model.Response) → ReplyTied reply response → PlaceTied result (model.fault_slot response) }
+        ensures { (response : model.Response) → ReplyStandsFor reply response → PlaceStandsFor result (model.fault_slot response) }
     {
         AnswerPlace {
             head_only: false,
@@ -90,7 +91,7 @@ impl AnswerPlace {
 
     /// The place of 100 Continue.
     pub fn interim() -> AnswerPlace
-        ensures { PlaceTied result model.interim_slot }
+        ensures { PlaceStandsFor result model.interim_slot }
     {
         AnswerPlace {
             head_only: false,
@@ -147,11 +148,10 @@ fn is_sent_as_fixed_507(head_only: bool, closes: bool, answer: &Answer) -> bool
     fixed
 }
 
-// Whether it is the fixed answer. That its numbers are short is said since its bytes tell them.
+// Whether it is the fixed answer.
 fn is_fixed_answer(answer: &Answer) -> bool
     ensures is { IsTrue result → answer.now ≡ model.fixed_answer }
     ensures tells { answer.now ≡ model.fixed_answer → IsTrue result }
-    ensures short { (answer.now.status < 2 ^ 64) × (length answer.now.body < 2 ^ 64) }
 {
     let status = answer.status;
     let size = answer.body.bytes().len();

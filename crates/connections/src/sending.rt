@@ -6,5 +6,5 @@ use sp_base::ByteBuf;
 pub struct Sending {
     pub bytes: ByteBuf,
     /// Whether memory ran out, so that the fixed 507 stands in place of another answer.
-    pub dry: bool,
+    pub out_of_memory: bool,
 }

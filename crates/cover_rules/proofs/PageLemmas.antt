@@ -1,16 +1,18 @@
 -- Which mangled paths are those of pages, and the text of a page's path.
-use Rattle.std.proofs.Common.{ℕ, Bool, true, false, cond, not, ◌&&◌, ◌||◌, ◌==◌, List, [], ◌∷◌, ◌++◌, ◌-◌, ◌<◌, Some, None, Ok, Err, ◌+◌, length, take, refl, sym, ◌∙◌, ap, ◌≡◌, arith}
+use Rattle.std.proofs.Common.{ℕ, zero, suc, Bool, true, false, cond, not, ◌&&◌, ◌||◌, ◌==◌, List, [], ◌∷◌, ◌++◌, ◌-◌, ◌<◌, Some, None, Ok, Err, ◌+◌, length, take, get_or, refl, sym, subst, ◌∙◌, ap, ◌≡◌, arith}
 use Rattle.std.proofs.lemmas.Bool.Decides.{nat_tests}
 use Rattle.std.proofs.lemmas.List.Concat.{flat_map-append}
 use Rattle.std.proofs.lemmas.List.{take_more, take_all, append-nil}
 use Rattle.std.proofs.lemmas.List.Folds.{list_any-append, list_all-append}
-use Rattle.std.specs.List.{list_any, list_all}
+use Rattle.std.specs.List.{AllByRecursion, list_any, list_all}
+use Rattle.sp_base.specs.Bytes.{AreBytes}
+use Rattle.sp_base.proofs.PathLemmas.{first_path}
 use Rattle.sp_base.specs.declared.path.PathFault.{PathFault}
-use Rattle.sp_base.specs.Paths.{has_slash, is_long, mangled_segs, mangled_of, name_of, parent_of, pieces, text_of}
+use Rattle.sp_base.specs.Paths.{has_slash, is_long, is_path, mangled_segs, mangled_of, name_of, parent_of, pieces, text_of}
 use Rattle.sp_base.specs.PathTexts.{lack_slashes, segs_in, spelling_of}
 use Rattle.cover_rules.specs.declared.page.PageKey.{PageKey}
 use Rattle.cover_rules.specs.Names.{has_file_name}
-use Rattle.cover_rules.specs.Pages.{has_dot, is_file, is_page, key_at, page_key_of, page_path, page_text}
+use Rattle.cover_rules.specs.Pages.{IsPageKey, has_dot, is_file, is_folder_segment, is_page, key_at, page_key_of, page_path, page_text}
 use Rattle.cover_rules.proofs.NameLemmas.{long_lacks}
 
 pub no_key : (segs : List (List ℕ)) → is_page segs ≡ false → key_at segs ≡ None
@@ -149,3 +151,67 @@ own_path segs key lacks back h =
     let piece = one_piece (name_of segs) (back (name_of segs ∷ []) (last_lacks segs some lacks)) in
     ap (λ (folder : List (List ℕ)). folder ++ pieces key.file) f.1 ∙ ap (λ (file : List ℕ). parent_of segs ++ pieces file) f.2
     ∙ ap (λ (more : List (List ℕ)). parent_of segs ++ more) piece ∙ prefix_and_last segs some
+
+-- ---- the folder of a page
+
+and_left : (a b : Bool) → (a && b) ≡ true → a ≡ true
+and_left true b h = refl
+and_left false b h = h
+
+all_first : (segs : List (List ℕ)) (n : ℕ) → list_all has_file_name segs ≡ true → list_all has_file_name (take n segs) ≡ true
+all_first [] zero h = refl
+all_first [] (suc n) h = refl
+all_first (seg ∷ segs) zero h = refl
+all_first (seg ∷ segs) (suc n) h = ap (λ t. t && list_all has_file_name (take n segs)) (and_left _ _ h) ∙ all_first segs n (and_right _ _ h)
+
+both : (a b : Bool) → a ≡ true → b ≡ true → (a && b) ≡ true
+both a b e f = ap (λ t. t && b) e ∙ f
+
+folder_segments : (segs : List (List ℕ)) → list_all has_file_name segs ≡ true → list_all (λ seg. not (has_dot seg)) segs ≡ true → list_all is_folder_segment segs ≡ true
+folder_segments [] n d = refl
+folder_segments (seg ∷ segs) n d =
+    both (is_folder_segment seg) (list_all is_folder_segment segs) (both (has_file_name seg) (not (has_dot seg)) (and_left _ _ n) (and_left _ _ d))
+    (folder_segments segs (and_right _ _ n) (and_right _ _ d))
+
+folder_of_path : (segs : List (List ℕ)) → is_page segs ≡ true → list_all is_folder_segment (parent_of segs) ≡ true
+folder_of_path segs h =
+    let more = and_right (is_file (name_of segs)) _ h in
+    folder_segments (parent_of segs) (all_first segs (length segs - 1) (and_right _ _ more)) (and_left _ _ more)
+
+pub folder_of_page : (key : PageKey) → page_key_of (page_path key) ≡ Some key → list_all is_folder_segment key.folder ≡ true
+folder_of_page key h =
+    let f = fields_of (mangled_segs (page_path key)) key h in
+    ap (list_all is_folder_segment) f.1 ∙ folder_of_path (mangled_segs (page_path key)) f.0
+
+-- ---- the key of a path is a page's
+
+all_taken : (n : ℕ) (segs : List (List ℕ)) → AllByRecursion AreBytes segs → AllByRecursion AreBytes (take n segs)
+all_taken zero segs p = tt
+all_taken (suc n) [] p = tt
+all_taken (suc n) (seg ∷ segs) p = (p.0, all_taken n segs p.1)
+
+one_of : (n : ℕ) (segs : List (List ℕ)) → AllByRecursion AreBytes segs → AreBytes (get_or segs n [])
+one_of n [] p = tt
+one_of zero (seg ∷ segs) p = p.0
+one_of (suc n) (seg ∷ segs) p = one_of n segs p.1
+
+none_long : (segs : List (List ℕ)) → list_all has_file_name segs ≡ true → list_any is_long segs ≡ false
+none_long segs h = elim (list_any is_long segs) as (λ t. list_any is_long segs ≡ t → t ≡ false) [
+  | true ↦ λ e. absurd (cc (h, any_long segs e))
+  | false ↦ λ e. refl
+] refl
+
+names_of_page : (segs : List (List ℕ)) → is_page segs ≡ true → list_all has_file_name segs ≡ true
+names_of_page segs h = and_right (list_all (λ seg. not (has_dot seg)) (parent_of segs)) _ (and_right (is_file (name_of segs)) _ h)
+
+pub key_of_path : (path : List (List ℕ)) (key : PageKey) → (list_any is_long (mangled_segs path) ≡ false → is_path (mangled_segs path) ≡ true) → AllByRecursion AreBytes (mangled_segs path)
+    → page_key_of (page_path key) ≡ Some key → page_key_of path ≡ Some key → IsPageKey key
+key_of_path path key valid bytes own h =
+    let segs = mangled_segs path in
+    let f = fields_of segs key h in
+    record {
+      own = own;
+      folder = ap is_path f.1 ∙ first_path segs (length segs - 1) (valid (none_long segs (names_of_page segs f.0)));
+      folder_bytes = subst (AllByRecursion AreBytes) (sym f.1) (all_taken (length segs - 1) segs bytes);
+      file_bytes = subst AreBytes (sym f.2) (one_of (length segs - 1) segs bytes);
+    }

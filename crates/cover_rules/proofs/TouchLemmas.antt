@@ -9,6 +9,7 @@ use Rattle.sp_base.specs.Paths.{is_long, is_under, mangled_segs, mangled_seg, pa
 use Rattle.cover_rules.specs.declared.page.PageKey.{PageKey}
 use Rattle.cover_rules.specs.declared.invalidation.Invalidation.{Invalidation}
 use Rattle.cover_rules.specs.Names.{has_file_name}
+use Rattle.cover_rules.specs.Pages.{is_folder_segment}
 use Rattle.cover_rules.specs.Coverage.{handle_of, lineage, outdates, stat_depth_of, stat_folder, touched_of}
 use Rattle.cover_rules.proofs.CoverageLemmas.{lists_equal, take_first}
 use Rattle.cover_rules.proofs.NameLemmas.{long_lacks}
@@ -47,10 +48,10 @@ lineage_whole path =
     ap (λ p. take (length path) (lineage path) ++ p ∷ []) (sym (take_all (length path) path (omega arith))) ∙ sym (lineage_more path (length path) (omega arith))
     ∙ take_all (length path + 1) (lineage path) (omega (arith, length-lineage path))
 
--- names of mangled segments
-pub prefix_mangled : (segs : List (List ℕ)) → prefix_len (λ seg. has_file_name (mangled_seg seg)) segs ≡ prefix_len has_file_name (mangled_segs segs)
+-- which mangled segments a folder of pages may have
+pub prefix_mangled : (segs : List (List ℕ)) → prefix_len (λ seg. is_folder_segment (mangled_seg seg)) segs ≡ prefix_len is_folder_segment (mangled_segs segs)
 prefix_mangled [] = refl
-prefix_mangled (seg ∷ segs) = ap (λ n. cond (has_file_name (mangled_seg seg)) (1 + n) 0) (prefix_mangled segs)
+prefix_mangled (seg ∷ segs) = ap (λ n. cond (is_folder_segment (mangled_seg seg)) (1 + n) 0) (prefix_mangled segs)
 
 long_is : (seg : List ℕ) → is_long seg ≡ true → 200 < length seg
 long_is seg h = grind (arith, nat_tests)
@@ -61,21 +62,21 @@ short_named seg h = elim (is_long seg) as (λ t. is_long seg ≡ t → t ≡ fal
   | false ↦ λ e. refl
 ] refl
 
-none_long : (segs : List (List ℕ)) → list_any is_long (take_while has_file_name segs) ≡ false
+none_long : (segs : List (List ℕ)) → list_any is_long (take_while is_folder_segment segs) ≡ false
 none_long [] = refl
-none_long (seg ∷ segs) = elim (has_file_name seg) as (λ t. has_file_name seg ≡ t → list_any is_long (take (cond t (1 + prefix_len has_file_name segs) 0) (seg ∷ segs)) ≡ false) [
-  | true ↦ λ e. let next : 1 + prefix_len has_file_name segs ≡ suc (prefix_len has_file_name segs) = omega arith in
-      ap (λ n. list_any is_long (take n (seg ∷ segs))) next ∙ ap (λ b. b || list_any is_long (take_while has_file_name segs)) (short_named seg e) ∙ none_long segs
+none_long (seg ∷ segs) = elim (is_folder_segment seg) as (λ t. is_folder_segment seg ≡ t → list_any is_long (take (cond t (1 + prefix_len is_folder_segment segs) 0) (seg ∷ segs)) ≡ false) [
+  | true ↦ λ e. let next : 1 + prefix_len is_folder_segment segs ≡ suc (prefix_len is_folder_segment segs) = omega arith in
+      ap (λ n. list_any is_long (take n (seg ∷ segs))) next ∙ ap (λ b. b || list_any is_long (take_while is_folder_segment segs)) (short_named seg (and_left _ _ e)) ∙ none_long segs
   | false ↦ λ e. refl
 ] refl
 
 -- the first segments of a path that have names
-pub first_named : (path : List (List ℕ)) (most n : ℕ) → n ≡ prefix_len has_file_name (take most (mangled_segs path)) → mangled_segs (take n path) ≡ take_while has_file_name (take most (mangled_segs path))
+pub first_named : (path : List (List ℕ)) (most n : ℕ) → n ≡ prefix_len is_folder_segment (take most (mangled_segs path)) → mangled_segs (take n path) ≡ take_while is_folder_segment (take most (mangled_segs path))
 first_named path most n e =
-    let fewer = prefix_len-le-length has_file_name (take most (mangled_segs path)) in
+    let fewer = prefix_len-le-length is_folder_segment (take most (mangled_segs path)) in
     sym (take-map mangled_seg n path) ∙ sym (take_first (mangled_segs path) n most (omega (arith, fewer, length-take most (mangled_segs path)))) ∙ ap (λ k. take k (take most (mangled_segs path))) e
 
-pub first_fits : (path : List (List ℕ)) (most n : ℕ) → n ≡ prefix_len has_file_name (take most (mangled_segs path)) → list_any is_long (mangled_segs (take n path)) ≡ false
+pub first_fits : (path : List (List ℕ)) (most n : ℕ) → n ≡ prefix_len is_folder_segment (take most (mangled_segs path)) → list_any is_long (mangled_segs (take n path)) ≡ false
 first_fits path most n e = ap (list_any is_long) (first_named path most n e) ∙ none_long (take most (mangled_segs path))
 
 -- what a folder begins with
@@ -97,27 +98,27 @@ take_within (x ∷ xs) zero m = (0, refl)
 take_within (x ∷ xs) (suc n) zero = (0, refl)
 take_within (x ∷ xs) (suc n) (suc m) = let more = take_within xs n m in (suc more.0, ap (λ (ys : List (List ℕ)). x ∷ ys) more.1)
 
-all_named : (segs : List (List ℕ)) (n : ℕ) → list_all has_file_name segs ≡ true → list_all has_file_name (take n segs) ≡ true
+all_named : (segs : List (List ℕ)) (n : ℕ) → list_all is_folder_segment segs ≡ true → list_all is_folder_segment (take n segs) ≡ true
 all_named [] zero h = refl
 all_named [] (suc n) h = refl
 all_named (seg ∷ segs) zero h = refl
-all_named (seg ∷ segs) (suc n) h = ap (λ t. t && list_all has_file_name (take n segs)) (and_left _ _ h) ∙ all_named segs n (and_right _ _ h)
+all_named (seg ∷ segs) (suc n) h = ap (λ t. t && list_all is_folder_segment (take n segs)) (and_left _ _ h) ∙ all_named segs n (and_right _ _ h)
 
 -- a prefix whose segments all have names is one of the named prefix
-named_prefix : (segs : List (List ℕ)) (n : ℕ) → n ≤ length segs → list_all has_file_name (take n segs) ≡ true → n ≤ prefix_len has_file_name segs
+named_prefix : (segs : List (List ℕ)) (n : ℕ) → n ≤ length segs → list_all is_folder_segment (take n segs) ≡ true → n ≤ prefix_len is_folder_segment segs
 named_prefix segs zero h all = omega arith
 named_prefix [] (suc n) h all = absurd (omega arith)
 named_prefix (seg ∷ segs) (suc n) h all =
     let more = named_prefix segs n (omega arith) (and_right _ _ all) in
-    subst (λ t. suc n ≤ cond t (1 + prefix_len has_file_name segs) 0) (sym (and_left (has_file_name seg) _ all)) (omega arith)
+    subst (λ t. suc n ≤ cond t (1 + prefix_len is_folder_segment segs) 0) (sym (and_left (is_folder_segment seg) _ all)) (omega arith)
 
 -- a page is outdated where its .stat folder is touched
 not_only : (b : Bool) → not b ≡ true → b ≡ false
 not_only true h = sym h
 not_only false h = refl
 
-in_lineage : (above : List (List ℕ)) (level : ℕ) (first : List (List ℕ)) → is_under above first ≡ true → length first ≤ level → list_all has_file_name first ≡ true
-    → Contains (lineage (take_while has_file_name (take level above))) first
+in_lineage : (above : List (List ℕ)) (level : ℕ) (first : List (List ℕ)) → is_under above first ≡ true → length first ≤ level → list_all is_folder_segment first ≡ true
+    → Contains (lineage (take_while is_folder_segment (take level above))) first
 in_lineage above level first under short names =
     let d = length first in
     let all = take level above in
@@ -125,30 +126,30 @@ in_lineage above level first under short names =
     let within : d ≤ length above = omega (arith, ap length is, length-take d above) in
     let same : take d all ≡ take d above = take_first above d level short in
     let most : d ≤ length all = omega (arith, length-take level above) in
-    let named : d ≤ prefix_len has_file_name all = named_prefix all d most (ap (list_all has_file_name) (same ∙ sym is) ∙ names) in
-    let size : d ≤ length (take_while has_file_name all) = omega (arith, length-take (prefix_len has_file_name all) all) in (
+    let named : d ≤ prefix_len is_folder_segment all = named_prefix all d most (ap (list_all is_folder_segment) (same ∙ sym is) ∙ names) in
+    let size : d ≤ length (take_while is_folder_segment all) = omega (arith, length-take (prefix_len is_folder_segment all) all) in (
       d,
-      omega (arith, length-lineage (take_while has_file_name all)),
-      lineage_at (take_while has_file_name all) d first size ∙ take_first all d (prefix_len has_file_name all) named ∙ same ∙ sym is,
+      omega (arith, length-lineage (take_while is_folder_segment all)),
+      lineage_at (take_while is_folder_segment all) d first size ∙ take_first all d (prefix_len is_folder_segment all) named ∙ same ∙ sym is,
     )
 
-pub touched_where : (level : ℕ) (inv : Invalidation) (key : PageKey) → list_all has_file_name key.folder ≡ true → outdates level true inv key ≡ true → Contains (touched_of level inv) (stat_folder level key)
+pub touched_where : (level : ℕ) (inv : Invalidation) (key : PageKey) → list_all is_folder_segment key.folder ≡ true → outdates level true inv key ≡ true → Contains (touched_of level inv) (stat_folder level key)
 touched_where level inv key names h =
     let only = not_only inv.only (and_left (not inv.only) _ h) in
     let size : length (stat_folder level key) ≤ level = omega (arith, length-take (stat_depth_of level key) key.folder) in
-    subst (λ b. Contains (cond b [] (lineage (take_while has_file_name (take level (parent_of (handle_of inv)))))) (stat_folder level key)) (sym only)
+    subst (λ b. Contains (cond b [] (lineage (take_while is_folder_segment (take level (parent_of (handle_of inv)))))) (stat_folder level key)) (sym only)
     (in_lineage (parent_of (handle_of inv)) level (stat_folder level key) (and_right (not inv.only) _ h) size (all_named key.folder (stat_depth_of level key) names))
 
-of_lineage : (above : List (List ℕ)) (level : ℕ) (first : List (List ℕ)) → Contains (lineage (take_while has_file_name (take level above))) first → is_under above first ≡ true
+of_lineage : (above : List (List ℕ)) (level : ℕ) (first : List (List ℕ)) → Contains (lineage (take_while is_folder_segment (take level above))) first → is_under above first ≡ true
 of_lineage above level first has =
     let all = take level above in
-    let named = take_while has_file_name all in
+    let named = take_while is_folder_segment all in
     let is : first ≡ take has.0 named = sym has.2 ∙ lineage_at named has.0 first (omega (arith, has.1, length-lineage named)) in
-    let one = take_within all has.0 (prefix_len has_file_name all) in
+    let one = take_within all has.0 (prefix_len is_folder_segment all) in
     let two = take_within above one.0 level in
     ap (is_under above) (is ∙ one.1 ∙ two.1) ∙ begins_with_first above two.0
 
-by_scope : (only : Bool) (above : List (List ℕ)) (level : ℕ) (first : List (List ℕ)) → Contains (cond only [] (lineage (take_while has_file_name (take level above)))) first → (not only && is_under above first) ≡ true
+by_scope : (only : Bool) (above : List (List ℕ)) (level : ℕ) (first : List (List ℕ)) → Contains (cond only [] (lineage (take_while is_folder_segment (take level above)))) first → (not only && is_under above first) ≡ true
 by_scope true above level first has = absurd (omega (arith, has.1))
 by_scope false above level first has = of_lineage above level first has
 

@@ -7,8 +7,7 @@ use Rattle.cover_rules.specs.declared.page.PageKey.{PageKey}
 use Rattle.cover_rules.specs.declared.invalidation.Action.{Action}
 use Rattle.cover_rules.specs.declared.invalidation.Action.TheVariants.{Activate, Deactivate, Delete}
 use Rattle.cover_rules.specs.declared.invalidation.Invalidation.{Invalidation}
-use Rattle.cover_rules.specs.Names.{has_file_name}
-use Rattle.cover_rules.specs.Pages.{page_path, page_text}
+use Rattle.cover_rules.specs.Pages.{is_folder_segment, page_path, page_text}
 
 -- the handle as URLs spell it
 abbrev pub handle_of : Invalidation → List (List ℕ)
@@ -57,7 +56,7 @@ abbrev pub lineage : List (List ℕ) → List (List (List ℕ))
 lineage [] = [] ∷ []
 lineage (seg ∷ segs) = [] ∷ map (λ path. seg ∷ path) (lineage segs)
 
--- The folders whose .stat files are touched: those above the handle, from the document root down to the level, as far as they have
--- file names. Below one without a name no page can lie.
+-- The folders whose .stat files are touched: those above the handle, from the document root down to the level, as far as pages can lie
+-- in them: below a segment with a dot, or without a file name, there is none. (Where it has a dot a page may stand in its place.)
 abbrev pub touched_of : ℕ → Invalidation → List (List (List ℕ))
-touched_of level inv = if inv.only then [] else lineage (take_while has_file_name (take level (parent_of (handle_of inv))))
+touched_of level inv = if inv.only then [] else lineage (take_while is_folder_segment (take level (parent_of (handle_of inv))))

@@ -1,7 +1,8 @@
 -- Where a page of the cache stands, and which path is a page's (Adobe Dispatcher manual, "Specifying the Cache Directory").
-use Rattle.std.specs.Prelude.{◌==◌, ◌&&◌, ◌++◌, ◌-◌, ℕ, Bool, not, if◌then◌else◌, List, Option, Some, None, length, slice_index}
-use Rattle.std.specs.List.{list_any, list_all}
-use Rattle.sp_base.specs.Paths.{mangled_segs, name_of, parent_of, pieces, text_of}
+use Rattle.std.specs.Prelude.{◌≡◌, ◌==◌, ◌&&◌, ◌++◌, ◌-◌, ℕ, Bool, IsTrue, not, if◌then◌else◌, List, Option, Some, None, length, slice_index}
+use Rattle.std.specs.List.{AllByRecursion, list_any, list_all}
+use Rattle.sp_base.specs.Bytes.{AreBytes}
+use Rattle.sp_base.specs.Paths.{is_path, mangled_segs, name_of, parent_of, pieces, text_of}
 use Rattle.cover_rules.specs.declared.page.PageKey.{PageKey}
 use Rattle.cover_rules.specs.Names.{has_file_name}
 
@@ -12,6 +13,10 @@ has_dot seg = list_any (λ b. b == 46) seg
 -- a segment with a dot that neither begins nor ends with one
 abbrev pub is_file : List ℕ → Bool
 is_file seg = has_dot seg && (not (slice_index seg 0 == 46) && not (slice_index seg (length seg - 1) == 46))
+
+-- a segment that the folder of a page may have: one with a file name and without a dot
+abbrev pub is_folder_segment : List ℕ → Bool
+is_folder_segment seg = has_file_name seg && not (has_dot seg)
 
 -- a mangled path at which a page may be: a file in folders without a dot, each with a file name
 abbrev pub is_page : List (List ℕ) → Bool
@@ -32,3 +37,10 @@ page_path key = key.folder ++ pieces key.file
 -- the text of a page's path
 abbrev pub page_text : PageKey → List ℕ
 page_text key = text_of (page_path key)
+
+-- The key of a page, as each answer of `page_key` is: the one of its own path, whose folder is a path, and whose segments have bytes.
+pub record IsPageKey (key : PageKey) : Type 0 where
+  pub own : page_key_of (page_path key) ≡ Some key
+  pub folder : IsTrue (is_path key.folder)
+  pub folder_bytes : AllByRecursion AreBytes key.folder
+  pub file_bytes : AreBytes key.file

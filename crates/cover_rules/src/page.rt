@@ -1,12 +1,16 @@
 //! Where a page stands in the cache.
-ghost use Rattle.std.specs.Prelude.{◌≡◌, ◌&&◌, ◌==◌, ◌-◌, IfOk, length};
+ghost use Rattle.std.specs.Prelude.{◌≡◌, ◌&&◌, ◌==◌, ◌-◌, IfOk, IfSome, length};
 ghost use Rattle.std.specs.List.{list_all};
+ghost use Rattle.sp_base.specs.Paths.{mangled_seg};
 ghost use Rattle.cover_rules.specs.Names as name;
 ghost use Rattle.cover_rules.specs.Pages as spec;
 
 use crate::has_name;
+use crate::laws::the_key_of_a_path_is_a_page_key;
+use crate::names::has_mangled_name;
 use sp_base::{
-    Mem, NoMemory, Path, PathFault, TextBuf, mangling_and_unmangling, segments_and_their_spelling,
+    Mem, NoMemory, Path, PathFault, TextBuf, a_path_has_bytes, mangled_parts,
+    mangling_and_unmangling, segments_and_their_spelling,
 };
 use std::alloc::Global;
 
@@ -46,6 +50,16 @@ impl PageKey {
 /// The key of the page at a path. There is none exactly where the path is the root, the last segment has no dot, or begins or ends
 /// with one, another segment has a dot, or the file name of a segment is too long.
 pub fn page_key(alloc: Global, path: &Path) -> Mem<Option<PageKey>>
+    ensures key { IfOk result (λ key. key ≡ spec.page_key_of path.now) }
+    ensures page { IfOk result (λ found. IfSome found spec.IsPageKey) }
+{
+    the_key_of_a_path_is_a_page_key();
+    a_path_has_bytes(path);
+    let _depth = path.depth();
+    found_key(alloc, path)
+}
+
+fn found_key(alloc: Global, path: &Path) -> Mem<Option<PageKey>>
     ensures { IfOk result (λ key. key ≡ spec.page_key_of path.now) }
 {
     mangling_and_unmangling();
@@ -84,6 +98,14 @@ fn has_dot(text: &str) -> bool
     ensures { result ≡ spec.has_dot text.now }
 {
     text.as_bytes().iter().any(|b| *b == b'.')
+}
+
+// Whether the folder of a page may have a segment, which isn't mangled yet.
+pub(crate) fn is_folder_segment(seg: &str) -> bool
+    ensures { result ≡ spec.is_folder_segment (mangled_seg seg.now) }
+{
+    let (mark, rest) = mangled_parts(seg);
+    has_mangled_name(seg) && !(has_dot(mark) || has_dot(rest))
 }
 
 fn is_file(seg: &str) -> bool

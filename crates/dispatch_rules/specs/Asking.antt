@@ -2,7 +2,7 @@
 use Rattle.std.specs.Prelude.{ℕ, Bool, nat_eq, if◌then◌else◌, List, [], Option, Some, None, codes}
 use Rattle.std.specs.Cmp.Lexicographic.{pointwise}
 use Rattle.std.specs.Str.{is_utf8}
-use Rattle.sp_base.specs.declared.answer.Req.{Req}
+use Rattle.sp_base.specs.Requests.{Request}
 use Rattle.sp_base.specs.declared.answer.Ask.{Ask}
 use Rattle.sp_base.specs.Fields.{field_of}
 use Rattle.any_config.specs.declared.farm.Farm.{Farm}
@@ -13,11 +13,11 @@ text_or_none None = []
 text_or_none (Some value) = if is_utf8 value then value else []
 
 -- the method is POST (RFC 9110, section 9.3.3)
-abbrev pub is_post_request : Req → Bool
+abbrev pub is_post_request : Request → Bool
 is_post_request req = pointwise nat_eq req.method (codes "POST")
 
 -- the method, the path and its slash, at the farm's host, and for POST the body and its media type
-abbrev pub publisher_ask : Farm → Req → Ask
+abbrev pub publisher_ask : Farm → Request → Ask
 publisher_ask farm req = record {
   method = req.method;
   host = farm.ask_host;

@@ -3,7 +3,7 @@ use Rattle.std.specs.Prelude.{◌==◌, ◌&&◌, ◌||◌, ℕ, Bool, true, fal
 use Rattle.std.specs.List.{list_all}
 use Rattle.std.specs.Cmp.Lexicographic.{pointwise}
 use Rattle.std.specs.Str.Lossy.{utf8_lossy}
-use Rattle.sp_base.specs.declared.answer.Req.{Req}
+use Rattle.sp_base.specs.Requests.{Request}
 use Rattle.sp_base.specs.declared.answer.Answer.{Answer}
 use Rattle.sp_base.specs.declared.answer.Mark.{Mark}
 use Rattle.sp_base.specs.declared.answer.Mark.TheVariants.{Plain, NoCache, NoStore, MustRevalidate}
@@ -19,11 +19,11 @@ abbrev pub ignores : Farm → List ℕ → Bool
 ignores farm query = list_all (λ pair. allows farm.ignored (utf8_lossy (decode pair.0))) (raw_pairs query)
 
 -- the answer isn't for one client alone, or the farm keeps such answers
-abbrev pub is_shared : Farm → Req → Bool
+abbrev pub is_shared : Farm → Request → Bool
 is_shared farm req = farm.authorized || is_none (field_of req.heads (codes "authorization"))
 
 -- the method is GET, the answer may be shared, and it depends on no parameter of the query
-abbrev pub may_keep : Farm → Req → Bool
+abbrev pub may_keep : Farm → Request → Bool
 may_keep farm req = pointwise nat_eq req.method (codes "GET") && (is_shared farm req && ignores farm (unwrap_or req.query []))
 
 -- the rules allow the text of the page's path, as it is mangled
@@ -31,7 +31,7 @@ abbrev pub allowed_key : Farm → PageKey → Option PageKey
 allowed_key farm key = if allows farm.rules (page_text key) then Some key else None
 
 -- the key under which the answer to a request may be kept
-abbrev pub cache_key : Farm → Req → Option PageKey
+abbrev pub cache_key : Farm → Request → Option PageKey
 cache_key farm req = if may_keep farm req then option_and_then (allowed_key farm) (page_key_of req.path) else None
 
 -- .stat files outdate the page

@@ -4,7 +4,7 @@ ghost use Rattle.std.specs.List.{list_any};
 ghost use Rattle.dispatch_rules.specs.Admission as spec;
 
 use crate::filter::filter_allows;
-use any_config::{Farm, Glob, HostList};
+use any_config::{Farm, HostList, VirtualHost};
 use sp_base::{Mem, Req};
 use std::alloc::Global;
 
@@ -22,13 +22,13 @@ pub fn admits(alloc: Global, farm: &Farm, req: &Req) -> Mem<bool>
 fn is_served(alloc: Global, farm: &Farm, req: &Req) -> Mem<bool>
     ensures { IfOk result (λ yes. yes ≡ spec.is_served farm.now req.now) }
 {
-    let named = !req.host.text().is_empty();
+    let named = !req.host().is_empty();
     let host = if named {
-        req.host.text()
+        req.host()
     } else {
         farm.ask_host.text()
     };
-    let port = if named { req.port } else { farm.ask_port };
+    let port = if named { req.port() } else { farm.ask_port };
     let host = host.to_ascii_lowercase(alloc)?;
     Ok(serves_any(&farm.hosts, host.as_str(), port))
 }
@@ -39,13 +39,13 @@ fn serves_any(hosts: &HostList, host: &str, port: u16) -> bool
     hosts
         .as_slice()
         .iter()
-        .any(|entry| serves(&entry.0, entry.1, host, port))
+        .any(|served| serves(served, host, port))
 }
 
-fn serves(glob: &Glob, own: Option<u16>, host: &str, port: u16) -> bool
-    ensures { result ≡ spec.serves host.now port (glob.now, own) }
+fn serves(served: &VirtualHost, host: &str, port: u16) -> bool
+    ensures { result ≡ spec.serves host.now port served.now }
 {
-    glob.matches(host) && has_port(own, port)
+    served.name.matches(host) && has_port(served.port, port)
 }
 
 fn has_port(own: Option<u16>, port: u16) -> bool

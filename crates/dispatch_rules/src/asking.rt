@@ -4,6 +4,7 @@ ghost use Rattle.sp_base.specs.Fields.{field_of};
 ghost use Rattle.dispatch_rules.specs.Asking as spec;
 
 use any_config::Farm;
+use http_header::CONTENT_TYPE;
 use sp_base::{Ask, ByteBuf, Mem, Req, TextBuf};
 use std::alloc::Global;
 use std::str::from_utf8;
@@ -12,15 +13,15 @@ use std::str::from_utf8;
 pub fn ask_of(alloc: Global, farm: &Farm, req: &Req) -> Mem<Ask>
     ensures { IfOk result (λ ask. ask ≡ spec.publisher_ask farm.now req.now) }
 {
-    let post = req.method.text() == "POST";
+    let post = req.method() == "POST";
     let kind = if post { media_type(req) } else { "" };
-    let body: &[u8] = if post { req.body.bytes() } else { b"" };
+    let body: &[u8] = if post { req.body() } else { b"" };
     Ok(Ask {
-        method: req.method.duplicate(alloc)?,
+        method: TextBuf::of(alloc, req.method())?,
         host: farm.ask_host.duplicate(alloc)?,
         port: farm.ask_port,
-        path: req.path.duplicate(alloc)?,
-        slash: req.slash,
+        path: req.path().duplicate(alloc)?,
+        slash: req.slash(),
         kind: TextBuf::of(alloc, kind)?,
         body: ByteBuf::of(alloc, body)?,
     })
@@ -30,7 +31,7 @@ pub fn ask_of(alloc: Global, farm: &Farm, req: &Req) -> Mem<Ask>
 fn media_type(req: &Req) -> &str
     ensures { result.now ≡ spec.text_or_none (field_of req.now.heads (codes "content-type")) }
 {
-    match req.heads.field("content-type") {
+    match req.field(&CONTENT_TYPE) {
         Some(value) => text_or_none(value),
         None => "",
     }

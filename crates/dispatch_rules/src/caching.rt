@@ -1,5 +1,6 @@
 //! Which answers may be kept, and under which key.
-ghost use Rattle.std.specs.Prelude.{◌≡◌, [], IfOk, is_none, unwrap_or};
+ghost use Rattle.std.specs.Prelude.{◌≡◌, [], IfOk, IfSome, is_none, unwrap_or};
+ghost use Rattle.cover_rules.specs.Pages.{IsPageKey};
 ghost use Rattle.glob_rules.specs.Rules as rules;
 ghost use Rattle.dispatch_rules.specs.Caching as spec;
 
@@ -7,6 +8,7 @@ use any_config::Farm;
 use cover_rules::{PageKey, page_key};
 use form_urlencoded::parse;
 use glob_rules::allows;
+use http_header::AUTHORIZATION;
 use sp_base::{Answer, Mark, Mem, Req};
 use std::alloc::Global;
 
@@ -14,12 +16,13 @@ use std::alloc::Global;
 /// Authorization header and the farm doesn't keep such answers, the farm doesn't ignore a parameter of the query, the path is no
 /// page's, or the rules deny the text of the page's path.
 pub fn key_of(alloc: Global, farm: &Farm, req: &Req) -> Mem<Option<PageKey>>
-    ensures { IfOk result (λ key. key ≡ spec.cache_key farm.now req.now) }
+    ensures key { IfOk result (λ key. key ≡ spec.cache_key farm.now req.now) }
+    ensures page { IfOk result (λ found. IfSome found IsPageKey) }
 {
     if !may_keep(alloc, farm, req)? {
         return Ok(None);
     }
-    let Some(key) = page_key(alloc, &req.path)? else {
+    let Some(key) = page_key(alloc, req.path())? else {
         return Ok(None);
     };
     if allows(&farm.rules, key.text(alloc)?.text()) {
@@ -32,7 +35,7 @@ pub fn key_of(alloc: Global, farm: &Farm, req: &Req) -> Mem<Option<PageKey>>
 fn may_keep(alloc: Global, farm: &Farm, req: &Req) -> Mem<bool>
     ensures { IfOk result (λ yes. yes ≡ spec.may_keep farm.now req.now) }
 {
-    if req.method.text() != "GET" {
+    if req.method() != "GET" {
         return Ok(false);
     }
     if !is_shared(farm, req) {
@@ -45,8 +48,8 @@ fn may_keep(alloc: Global, farm: &Farm, req: &Req) -> Mem<bool>
 pub fn query_bytes(req: &Req) -> &[u8]
     ensures { result.now ≡ unwrap_or req.now.query [] }
 {
-    match &req.query {
-        Some(query) => query.bytes(),
+    match req.query() {
+        Some(query) => query,
         None => b"",
     }
 }
@@ -54,7 +57,7 @@ pub fn query_bytes(req: &Req) -> &[u8]
 fn is_shared(farm: &Farm, req: &Req) -> bool
     ensures { result ≡ spec.is_shared farm.now req.now }
 {
-    farm.authorized || req.heads.field("authorization").is_none()
+    farm.authorized || req.field(&AUTHORIZATION).is_none()
 }
 
 fn ignores(alloc: Global, farm: &Farm, query: &[u8]) -> Mem<bool>

@@ -28,12 +28,12 @@ pub struct RequestParts<'a> {
 pub fn filter_allows(alloc: Global, filter: &FilterList, req: &Req) -> Mem<bool>
     ensures { IfOk result (λ yes. yes ≡ decision (spec.applies req.now) (λ entry. entry.allow) filter.now) }
 {
-    let url = req.path.as_text();
+    let url = req.path().as_text();
     let selectors = dotted_selectors(alloc, url)?;
     let query = String::from_utf8_lossy(alloc, query_bytes(req))?;
     let seen = RequestParts {
-        line: req.line.text(),
-        method: req.method.text(),
+        line: req.line(),
+        method: req.method(),
         url,
         path: stem(url),
         selectors: without_dot(selectors.as_str()),

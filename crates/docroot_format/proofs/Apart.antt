@@ -14,11 +14,11 @@ use Rattle.cover_rules.specs.Pages.{is_file}
 use Rattle.docroot_format.specs.Names.{body_name, folder_name, head_name, stat_name, epoch_name, is_file_name_byte}
 use Rattle.docroot_format.proofs.NameLemmas.{append_both}
 use Rattle.docroot_format.proofs.Inside.{both, bytes_ok, file_first, first_byte, no_slash}
-use Rattle.docroot_format.proofs.TextKeys.{all_mangled}
+use Rattle.sp_base.proofs.PathBytes.{all_mangled}
 
 -- ---- a byte is read off what it is in a name
 
-abbrev written : Bool → ℕ → List ℕ
+abbrev pub written : Bool → ℕ → List ℕ
 written plain b = cond plain (b ∷ []) (37 ∷ digit_glyph true (b / 16 % 16) ∷ digit_glyph true (b % 16) ∷ [])
 
 glyph : (c d : ℕ) → c < 16 → d < 16 → digit_glyph true c ≡ digit_glyph true d → c ≡ d
@@ -30,21 +30,22 @@ halves b c small_b small_c high low = omega (arith, small_b, small_c, high, low)
 head_of_two : (x y : ℕ) (xs ys : List ℕ) → x ∷ xs ≡ y ∷ ys → (x ≡ y) × (xs ≡ ys)
 head_of_two x y xs ys e = (cc, cc)
 
-never_percent : (b : ℕ) → is_plain_name_byte b ≡ true → b ≡ 37 → ⊥
-never_percent b plain e = true≢false (sym plain ∙ ap is_plain_name_byte e)
+-- a byte that stands as it is isn't `%`, by whichever test it does
+pub never_percent : (stays : ℕ → Bool) → stays 37 ≡ false → (b : ℕ) → stays b ≡ true → b ≡ 37 → ⊥
+never_percent stays none b plain e = true≢false (sym plain ∙ ap stays e ∙ none)
 
-same_byte : (b c : ℕ) (xs ys : List ℕ) (p q : Bool) → is_plain_name_byte b ≡ p → is_plain_name_byte c ≡ q → b < 256 → c < 256
+pub same_byte : (stays : ℕ → Bool) → stays 37 ≡ false → (b c : ℕ) (xs ys : List ℕ) (p q : Bool) → stays b ≡ p → stays c ≡ q → b < 256 → c < 256
     → written p b ++ xs ≡ written q c ++ ys → (b ≡ c) × (xs ≡ ys)
-same_byte b c xs ys true true pb pc small_b small_c e = head_of_two b c xs ys e
-same_byte b c xs ys true false pb pc small_b small_c e = absurd (never_percent b pb (head_of_two b 37 xs _ e).0)
-same_byte b c xs ys false true pb pc small_b small_c e = absurd (never_percent c pc (sym (head_of_two 37 c _ ys e).0))
-same_byte b c xs ys false false pb pc small_b small_c e =
+same_byte stays none b c xs ys true true pb pc small_b small_c e = head_of_two b c xs ys e
+same_byte stays none b c xs ys true false pb pc small_b small_c e = absurd (never_percent stays none b pb (head_of_two b 37 xs _ e).0)
+same_byte stays none b c xs ys false true pb pc small_b small_c e = absurd (never_percent stays none c pc (sym (head_of_two 37 c _ ys e).0))
+same_byte stays none b c xs ys false false pb pc small_b small_c e =
     let one = head_of_two 37 37 (digit_glyph true (b / 16 % 16) ∷ digit_glyph true (b % 16) ∷ xs) (digit_glyph true (c / 16 % 16) ∷ digit_glyph true (c % 16) ∷ ys) e in
     let two = head_of_two _ _ (digit_glyph true (b % 16) ∷ xs) (digit_glyph true (c % 16) ∷ ys) one.1 in
     let three = head_of_two _ _ xs ys two.1 in
     (halves b c small_b small_c (glyph (b / 16 % 16) (c / 16 % 16) (omega arith) (omega arith) two.0) (glyph (b % 16) (c % 16) (omega arith) (omega arith) three.0), three.1)
 
-some_written : (b : ℕ) (p : Bool) (xs : List ℕ) → written p b ++ xs ≡ [] → ⊥
+pub some_written : (b : ℕ) (p : Bool) (xs : List ℕ) → written p b ++ xs ≡ [] → ⊥
 some_written b true xs e = absurd cc
 some_written b false xs e = absurd cc
 
@@ -54,7 +55,7 @@ same_name [] [] small_s small_t e = refl
 same_name [] (c ∷ t) small_s small_t e = absurd (some_written c (is_plain_name_byte c) (file_name t) (sym e))
 same_name (b ∷ s) [] small_s small_t e = absurd (some_written b (is_plain_name_byte b) (file_name s) e)
 same_name (b ∷ s) (c ∷ t) small_s small_t e =
-    let one = same_byte b c (file_name s) (file_name t) (is_plain_name_byte b) (is_plain_name_byte c) refl refl small_s.0 small_t.0 e in
+    let one = same_byte is_plain_name_byte refl b c (file_name s) (file_name t) (is_plain_name_byte b) (is_plain_name_byte c) refl refl small_s.0 small_t.0 e in
     ap (λ x. x ∷ s) one.0 ∙ ap (λ r. c ∷ r) (same_name s t small_s.1 small_t.1 one.1)
 
 -- ---- a name's pieces are its segments' names
@@ -105,7 +106,7 @@ low_glyph d small e = grind (arith, nat_tests)
 
 -- without its first byte a text ends as before
 peel : (mark b : ℕ) (p : Bool) (xs t : List ℕ) → is_plain_name_byte b ≡ p → written p b ++ xs ≡ t ++ 37 ∷ mark ∷ [] → (rest : List ℕ) × (xs ≡ rest ++ 37 ∷ mark ∷ [])
-peel mark b true xs [] plain e = absurd (never_percent b plain (head_of_two b 37 xs (mark ∷ []) e).0)
+peel mark b true xs [] plain e = absurd (never_percent is_plain_name_byte refl b plain (head_of_two b 37 xs (mark ∷ []) e).0)
 peel mark b true xs (c ∷ t) plain e = (t, (head_of_two b c xs (t ++ 37 ∷ mark ∷ []) e).1)
 peel mark b false xs [] plain e = absurd cc
 peel mark b false xs (c ∷ []) plain e =

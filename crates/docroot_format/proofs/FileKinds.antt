@@ -10,9 +10,10 @@ use Rattle.sp_base.specs.Paths.{is_dots, is_empty, is_path, mangled_segs, name_o
 use Rattle.cover_rules.specs.declared.page.PageKey.{PageKey}
 use Rattle.cover_rules.specs.Names.{file_name}
 use Rattle.cover_rules.specs.Pages.{page_key_of}
-use Rattle.docroot_format.specs.Names.{beside_ending, body_name, epoch_name, folder_name, has_segments, head_name, is_inside, is_file_name_byte, is_page_file, is_segment, is_stat_file, stat_name}
+use Rattle.sp_outside.specs.FileNames.{beside_ending, has_segments}
+use Rattle.docroot_format.specs.Names.{body_name, epoch_name, folder_name, head_name, is_file_name_byte, is_page_file, is_stat_file, stat_name}
 use Rattle.docroot_format.proofs.NameLemmas.{append_both}
-use Rattle.docroot_format.proofs.Inside.{body_inside, both, bytes_ok, first_of, head_inside, key_file, not_true, second_of, stat_inside}
+use Rattle.docroot_format.proofs.Inside.{body_inside, both, bytes_ok, first_of, head_inside, is_segment, is_whole, key_file, not_true, second_of, stat_inside}
 use Rattle.docroot_format.proofs.Apart.{after_folder, after_segment, head_bytes, no_dot, no_ending, pieces_body}
 
 -- ---- the last piece of a name
@@ -37,7 +38,7 @@ are_segments (x ∷ xs) ok =
     (piece_ok (not (is_empty x)) (not (is_dots x)) (list_all is_file_name_byte x) (first_of (is_segment x) (list_all is_segment xs) ok))
     (are_segments xs (second_of (is_segment x) (list_all is_segment xs) ok))
 
-inside_segments : (name : List ℕ) → is_inside name ≡ true → has_segments name ≡ true
+pub inside_segments : (name : List ℕ) → is_whole name ≡ true → has_segments name ≡ true
 inside_segments name ok = are_segments (pieces name) ok
 
 -- ---- pages, .stat files and the number of the session
@@ -50,7 +51,7 @@ undotted [] none = refl
 undotted (b ∷ xs) none = ap not (not_true (nat_eq b 46) (λ e. none xs (ap (λ c. c ∷ xs) (dot b e))))
 
 page_file : (folder : List (List ℕ)) (last : List ℕ) → list_all is_file_name_byte last ≡ true → ((rest : List ℕ) → last ≡ 46 ∷ rest → ⊥)
-    → is_inside (folder_name folder ++ last) ≡ true → is_page_file (folder_name folder ++ last) ≡ true
+    → is_whole (folder_name folder ++ last) ≡ true → is_page_file (folder_name folder ++ last) ≡ true
 page_file folder last ok none inside =
     both _ _ (inside_segments (folder_name folder ++ last) inside)
     (ap (λ piece. not (nat_eq (get_or piece 0 0) 46)) (last_piece folder last ok) ∙ undotted last none)
@@ -67,7 +68,7 @@ head_is_page_file path key folder own =
     ap is_page_file (sym parts)
     ∙ page_file key.folder (file_name key.file ++ codes "%h") (head_bytes key.file)
     (λ rest e. no_dot key.file (codes "%h") rest (key_file path key own) e)
-    (ap is_inside parts ∙ head_inside path key folder own)
+    (ap is_whole parts ∙ head_inside path key folder own)
 
 pub stat_is_stat_file : (folder : List (List ℕ)) → IsTrue (is_path folder) → IsTrue (is_stat_file (stat_name folder))
 stat_is_stat_file folder ok =

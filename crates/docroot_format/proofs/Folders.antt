@@ -1,12 +1,12 @@
 -- The folders of keys and of invalidations are mangled paths whose segments have file names.
-use Rattle.std.proofs.Common.{◌≡◌, ◌≤◌, ◌<◌, ◌+◌, ◌-◌, ℕ, zero, suc, Bool, true, false, cond, List, [], ◌∷◌, Some, None, Contains, drop, length, take, map, get_or, refl, sym, ◌∙◌, ap, subst, arith}
+use Rattle.std.proofs.Common.{◌≡◌, ◌≤◌, ◌<◌, ◌+◌, ◌-◌, ℕ, zero, suc, Bool, true, false, cond, ◌&&◌, List, [], ◌∷◌, Some, None, Contains, drop, length, take, map, get_or, refl, sym, ◌∙◌, ap, subst, arith}
 use Rattle.std.proofs.lemmas.List.{length-map, take-map}
 use Rattle.std.specs.List.{list_all, prefix_len, take_while}
 use Rattle.sp_base.specs.Paths.{mangled_segs, mangled_seg, parent_of, name_of}
 use Rattle.cover_rules.specs.declared.invalidation.Invalidation.{Invalidation}
 use Rattle.cover_rules.specs.declared.page.PageKey.{PageKey}
 use Rattle.cover_rules.specs.Names.{has_file_name}
-use Rattle.cover_rules.specs.Pages.{is_page, key_at, page_key_of}
+use Rattle.cover_rules.specs.Pages.{is_folder_segment, is_page, key_at, page_key_of}
 use Rattle.cover_rules.specs.Coverage.{handle_of, lineage, stat_depth_of, stat_folder, touched_of}
 use Rattle.docroot_format.specs.Names.{IsFolder}
 use Rattle.docroot_format.proofs.PagePlaces.{all_taken, both, page_has_folder}
@@ -22,7 +22,7 @@ key_is : (segs : List (List ℕ)) (key : PageKey) (test : Bool) → cond test (S
 key_is segs key true e = let same : key ≡ record { folder = parent_of segs; file = name_of segs } = cc (e) in (ap (λ (k : PageKey). k.folder) same, ap (λ (k : PageKey). k.file) same)
 key_is segs key false e = absurd cc
 
-page_is : (path : List (List ℕ)) (key : PageKey) → page_key_of path ≡ Some key → (key.folder ≡ parent_of (mangled_segs path)) × (key.file ≡ name_of (mangled_segs path))
+pub page_is : (path : List (List ℕ)) (key : PageKey) → page_key_of path ≡ Some key → (key.folder ≡ parent_of (mangled_segs path)) × (key.file ≡ name_of (mangled_segs path))
 unfolding key_at
 page_is path key e = key_is (mangled_segs path) key (is_page (mangled_segs path)) e
 
@@ -64,27 +64,43 @@ lineage_at (seg ∷ path) zero d h = refl
 lineage_at (seg ∷ path) (suc n) d h =
     get_map seg (lineage path) n d d (omega (arith, length-lineage path)) ∙ ap (λ p. seg ∷ p) (lineage_at path n d (omega arith))
 
-named : (segs : List (List ℕ)) → list_all has_file_name (take_while has_file_name segs) ≡ true
+first_true : (a b : Bool) → (a && b) ≡ true → a ≡ true
+first_true true b h = refl
+first_true false b h = h
+
+named : (segs : List (List ℕ)) → list_all has_file_name (take_while is_folder_segment segs) ≡ true
 named [] = refl
-named (seg ∷ segs) = elim (has_file_name seg) as (λ t. has_file_name seg ≡ t → list_all has_file_name (take (cond t (1 + prefix_len has_file_name segs) 0) (seg ∷ segs)) ≡ true) [
-  | true ↦ λ e. let next : 1 + prefix_len has_file_name segs ≡ suc (prefix_len has_file_name segs) = omega arith in
-      ap (λ n. list_all has_file_name (take n (seg ∷ segs))) next ∙ both (has_file_name seg) (list_all has_file_name (take_while has_file_name segs)) e (named segs)
+named (seg ∷ segs) = elim (is_folder_segment seg) as (λ t. is_folder_segment seg ≡ t → list_all has_file_name (take (cond t (1 + prefix_len is_folder_segment segs) 0) (seg ∷ segs)) ≡ true) [
+  | true ↦ λ e. let next : 1 + prefix_len is_folder_segment segs ≡ suc (prefix_len is_folder_segment segs) = omega arith in
+      ap (λ n. list_all has_file_name (take n (seg ∷ segs))) next ∙ both (has_file_name seg) (list_all has_file_name (take_while is_folder_segment segs)) (first_true _ _ e) (named segs)
   | false ↦ λ e. refl
 ] refl
 
-of_lineage : (path folder : List (List ℕ)) → IsFolder path → Contains (lineage path) folder → IsFolder folder
-of_lineage path folder f has =
-    let is : folder ≡ take has.0 path = sym has.2 ∙ lineage_at path has.0 folder (omega (arith, has.1, length-lineage path)) in
-    subst IsFolder (sym is) (folder_taken path has.0 f)
+-- what the first segments of a path keep of it
+abbrev pub IsKeptByFirst : (List (List ℕ) → Type 0) → Type 0
+IsKeptByFirst Holds = (n : ℕ) (segs : List (List ℕ)) → Holds segs → Holds (take n segs)
 
-by_scope : (only : Bool) (path folder : List (List ℕ)) → IsFolder path → Contains (cond only [] (lineage path)) folder → IsFolder folder
-by_scope true path folder f has = absurd (omega (arith, has.1))
-by_scope false path folder f has = of_lineage path folder f has
+of_lineage : (Holds : List (List ℕ) → Type 0) → IsKeptByFirst Holds → (path folder : List (List ℕ)) → Holds path → Contains (lineage path) folder → Holds folder
+of_lineage Holds kept path folder f has =
+    let is : folder ≡ take has.0 path = sym has.2 ∙ lineage_at path has.0 folder (omega (arith, has.1, length-lineage path)) in
+    subst Holds (sym is) (kept has.0 path f)
+
+by_scope : (Holds : List (List ℕ) → Type 0) → IsKeptByFirst Holds → (only : Bool) (path folder : List (List ℕ)) → Holds path → Contains (cond only [] (lineage path)) folder → Holds folder
+by_scope Holds kept true path folder f has = absurd (omega (arith, has.1))
+by_scope Holds kept false path folder f has = of_lineage Holds kept path folder f has
+
+-- what holds of a handle and of its first segments holds of each folder that is touched
+pub touched_keeps : (Holds : List (List ℕ) → Type 0) → IsKeptByFirst Holds → (level : ℕ) (inv : Invalidation) (folder : List (List ℕ)) → Holds (handle_of inv) → Contains (touched_of level inv) folder → Holds folder
+touched_keeps Holds kept level inv folder f has =
+    let above = parent_of (handle_of inv) in
+    let first = take level above in
+    by_scope Holds kept inv.only (take_while is_folder_segment first) folder
+    (kept (prefix_len is_folder_segment first) first (kept level above (kept (length (handle_of inv) - 1) (handle_of inv) f))) has
 
 pub touched_folder : (level : ℕ) (inv : Invalidation) (folder : List (List ℕ)) → mangled_segs (handle_of inv) ≡ handle_of inv → Contains (touched_of level inv) folder → IsFolder folder
 touched_folder level inv folder again has =
     let above = parent_of (handle_of inv) in
     let first = take level above in
-    let path = take_while has_file_name first in
-    let kept : mangled_segs path ≡ path = taken first (prefix_len has_file_name first) (taken above level (taken (handle_of inv) (length (handle_of inv) - 1) again)) in
-    by_scope inv.only path folder (kept, named first) has
+    let path = take_while is_folder_segment first in
+    let kept : mangled_segs path ≡ path = taken first (prefix_len is_folder_segment first) (taken above level (taken (handle_of inv) (length (handle_of inv) - 1) again)) in
+    by_scope IsFolder (λ n segs. folder_taken segs n) inv.only path folder (kept, named first) has

@@ -8,13 +8,21 @@ use Rattle.std.proofs.lemmas.Bool.Decides.{nat_tests}
 use Rattle.std.proofs.lemmas.List.Splits.{slice_split_at, slice_split_none}
 use Rattle.std.proofs.lemmas.List.Folds.{list_all-append}
 use Rattle.std.proofs.lemmas.List.{length-append}
-use Rattle.sp_base.specs.Paths.{has_slash, is_empty, is_dots, is_long, is_namespaced, is_path, mangled_segs, mangled_by, mangled_seg, parent_of, seg_ok, name_of}
+use Rattle.sp_base.specs.Paths.{has_slash, is_empty, is_dots, is_long, is_namespaced, is_path, mangled_segs, mangled_by, mangled_seg, parent_of, pieces, seg_ok, name_of}
 use Rattle.cover_rules.specs.declared.page.PageKey.{PageKey}
 use Rattle.cover_rules.specs.Pages.{is_file, is_page, key_at, page_key_of}
 use Rattle.cover_rules.specs.Names.{is_plain_name_byte, file_byte, file_name}
-use Rattle.docroot_format.specs.Names.{body_name, epoch_name, folder_name, head_name, stat_name, is_file_name_byte, is_segment, is_inside}
+use Rattle.docroot_format.specs.Names.{body_name, epoch_name, folder_name, head_name, stat_name, is_file_name_byte}
 use Rattle.docroot_format.proofs.NameLemmas.{append_both}
 use Rattle.docroot_format.proofs.NameSizes.{file_some}
+
+-- a piece of a name that leads into a folder, of bytes that file names have
+abbrev pub is_segment : List ℕ → Bool
+is_segment piece = not (is_empty piece) && (not (is_dots piece) && list_all is_file_name_byte piece)
+
+-- a name of such pieces
+abbrev pub is_whole : List ℕ → Bool
+is_whole name = list_all is_segment (pieces name)
 
 pub first_of : (a b : Bool) → a && b ≡ true → a ≡ true
 first_of true b e = refl
@@ -116,16 +124,16 @@ no_slash (x ∷ xs) e (suc k) d lt = no_slash xs (second_of _ _ e) k d (omega (a
 segment_bytes : (piece : List ℕ) → is_segment piece ≡ true → list_all is_file_name_byte piece ≡ true
 segment_bytes piece ok = second_of _ _ (second_of _ _ ok)
 
-inside_piece : (piece rest : List ℕ) → is_segment piece ≡ true → is_inside rest ≡ true → is_inside (piece ++ 47 ∷ rest) ≡ true
+inside_piece : (piece rest : List ℕ) → is_segment piece ≡ true → is_whole rest ≡ true → is_whole (piece ++ 47 ∷ rest) ≡ true
 inside_piece piece rest ok e =
     ap (list_all is_segment) (slice_split_at (λ b. nat_eq b 47) piece 47 rest (no_slash piece (segment_bytes piece ok)) refl) ∙ both _ _ ok e
 
-inside_last : (piece : List ℕ) → is_segment piece ≡ true → is_inside piece ≡ true
+inside_last : (piece : List ℕ) → is_segment piece ≡ true → is_whole piece ≡ true
 inside_last piece ok =
     ap (list_all is_segment) (slice_split_none (λ b. nat_eq b 47) piece (no_slash piece (segment_bytes piece ok))) ∙ both _ _ ok refl
 
 -- what a segment of a path is, however long it is and also where it is mangled
-abbrev is_named : List ℕ → Bool
+abbrev pub is_named : List ℕ → Bool
 is_named seg = not (is_empty seg) && not (is_dots seg)
 
 named_of : (e d rest : Bool) → not e && (not d && rest) ≡ true → not e && not d ≡ true
@@ -133,7 +141,7 @@ named_of true d rest ok = ok
 named_of false true rest ok = ok
 named_of false false rest ok = refl
 
-segs_named : (segs : List (List ℕ)) → list_all seg_ok segs ≡ true → list_all is_named segs ≡ true
+pub segs_named : (segs : List (List ℕ)) → list_all seg_ok segs ≡ true → list_all is_named segs ≡ true
 segs_named [] ok = refl
 segs_named (seg ∷ segs) ok =
     let first = first_of (seg_ok seg) (list_all seg_ok segs) ok in
@@ -154,7 +162,7 @@ mangled_named seg ok =
     (chosen_named (is_namespaced (codes "nt:") seg) (mangled_by (codes "nt:") (codes "_nt_") seg) _ (marked_named (drop 1 (mangled_by (codes "nt:") (codes "_nt_") seg)))
     (chosen_named (is_namespaced (codes "cq:") seg) (mangled_by (codes "cq:") (codes "_cq_") seg) _ (marked_named (drop 1 (mangled_by (codes "cq:") (codes "_cq_") seg))) ok)))
 
-all_named : (segs : List (List ℕ)) → list_all is_named segs ≡ true → list_all is_named (mangled_segs segs) ≡ true
+pub all_named : (segs : List (List ℕ)) → list_all is_named segs ≡ true → list_all is_named (mangled_segs segs) ≡ true
 all_named [] ok = refl
 all_named (seg ∷ segs) ok =
     both (is_named (mangled_seg seg)) (list_all is_named (mangled_segs segs)) (mangled_named seg (first_of (is_named seg) (list_all is_named segs) ok))
@@ -163,10 +171,10 @@ all_named (seg ∷ segs) ok =
 ok_name : (seg : List ℕ) → is_named seg ≡ true → is_segment (file_name seg) ≡ true
 ok_name seg ok = segment_name seg (not_false (is_empty seg) (first_of (not (is_empty seg)) (not (is_dots seg)) ok)) (not_false (is_dots seg) (second_of (not (is_empty seg)) (not (is_dots seg)) ok))
 
-folder_inside : (folder : List (List ℕ)) (last : List ℕ) → list_all is_named folder ≡ true → is_inside last ≡ true → is_inside (folder_name folder ++ last) ≡ true
+folder_inside : (folder : List (List ℕ)) (last : List ℕ) → list_all is_named folder ≡ true → is_whole last ≡ true → is_whole (folder_name folder ++ last) ≡ true
 folder_inside [] last ok e = e
 folder_inside (seg ∷ folder) last ok e =
-    ap is_inside (sym (append_both (file_name seg ++ 47 ∷ []) (folder_name folder) last) ∙ sym (append_both (file_name seg) (47 ∷ []) (folder_name folder ++ last)))
+    ap is_whole (sym (append_both (file_name seg ++ 47 ∷ []) (folder_name folder) last) ∙ sym (append_both (file_name seg) (47 ∷ []) (folder_name folder ++ last)))
     ∙ inside_piece (file_name seg) (folder_name folder ++ last) (ok_name seg (first_of _ _ ok)) (folder_inside folder last (second_of _ _ ok) e)
 
 -- ---- the names
@@ -203,7 +211,7 @@ key_file path key e = from_key (mangled_segs path) key (is_page (mangled_segs pa
 page_segment : (file : List ℕ) → is_file file ≡ true → is_segment (file_name file) ≡ true
 page_segment file e = segment_name file (file_some_bytes file e) (file_no_dots file e)
 
-pub body_inside : (path : List (List ℕ)) (key : PageKey) → IsTrue (is_path key.folder) → page_key_of path ≡ Some key → IsTrue (is_inside (body_name key.folder key.file))
+pub body_inside : (path : List (List ℕ)) (key : PageKey) → IsTrue (is_path key.folder) → page_key_of path ≡ Some key → IsTrue (is_whole (body_name key.folder key.file))
 body_inside path key folder e = folder_inside key.folder (file_name key.file) (segs_named key.folder (first_of _ _ folder)) (inside_last (file_name key.file) (page_segment key.file (key_file path key e)))
 
 head_segment : (file : List ℕ) → is_file file ≡ true → is_segment (file_name file ++ codes "%h") ≡ true
@@ -214,13 +222,10 @@ head_segment file e =
     (both _ _ (ap not (long_no_dots (file_name file ++ codes "%h") (omega (arith, long, some))))
     (list_all-append is_file_name_byte (file_name file) (codes "%h") ∙ both _ _ (bytes_ok file) refl))
 
-pub head_inside : (path : List (List ℕ)) (key : PageKey) → IsTrue (is_path key.folder) → page_key_of path ≡ Some key → IsTrue (is_inside (head_name key.folder key.file))
+pub head_inside : (path : List (List ℕ)) (key : PageKey) → IsTrue (is_path key.folder) → page_key_of path ≡ Some key → IsTrue (is_whole (head_name key.folder key.file))
 head_inside path key folder e =
-    ap is_inside (sym (append_both (folder_name key.folder) (file_name key.file) (codes "%h")))
+    ap is_whole (sym (append_both (folder_name key.folder) (file_name key.file) (codes "%h")))
     ∙ folder_inside key.folder (file_name key.file ++ codes "%h") (segs_named key.folder (first_of _ _ folder)) (inside_last (file_name key.file ++ codes "%h") (head_segment key.file (key_file path key e)))
 
-pub stat_inside : (folder : List (List ℕ)) → IsTrue (is_path folder) → IsTrue (is_inside (stat_name folder))
+pub stat_inside : (folder : List (List ℕ)) → IsTrue (is_path folder) → IsTrue (is_whole (stat_name folder))
 stat_inside folder ok = folder_inside (mangled_segs folder) (codes ".stat") (all_named folder (segs_named folder (first_of _ _ ok))) refl
-
-pub epoch_inside : IsTrue (is_inside epoch_name)
-epoch_inside = refl

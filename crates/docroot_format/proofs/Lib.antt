@@ -8,7 +8,11 @@ pub mod ReadBack
 pub mod Inside
 pub mod Apart
 pub mod FileKinds
+pub mod InDocroot
+pub mod LastPieces
 pub mod Spelled
 pub mod Folders
 pub mod TextKeys
-mod Yielded
+pub mod NameCode
+pub mod DeletedNames
+pub mod StampFolders

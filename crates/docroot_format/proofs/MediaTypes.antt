@@ -7,7 +7,7 @@ use Rattle.std.proofs.lemmas.Bool.Decides.{nat_tests}
 use Rattle.std.proofs.lemmas.Str.{IsUtf8-from_ascii}
 use Rattle.sp_base.specs.Bytes.{is_printable_ascii}
 use Rattle.sp_base.specs.Limits.{longest_media_type}
-use Rattle.docroot_format.specs.Readings.{is_kind}
+use Rattle.sp_base.specs.MediaTypes.{is_kind}
 
 second_true : (a b : Bool) → a && b ≡ true → b ≡ true
 second_true true b e = e

@@ -2,10 +2,11 @@
 use Rattle.std.proofs.Common.{◌≡◌, ◌<◌, ◌≤◌, ◌+◌, ◌*◌, ◌&&◌, ◌++◌, ◌∷◌, ℕ, Bool, true, false, List, [], IsTrue, length, flat_map, codes, sym, refl, arith, nat_le, nat_lt}
 use Rattle.std.proofs.lemmas.Bool.{true≢false}
 use Rattle.std.proofs.lemmas.Bool.Decides.{nat_tests}
-use Rattle.std.proofs.lemmas.List.{length-append}
+use Rattle.std.proofs.lemmas.List.{length-append, length-map}
+use Rattle.sp_base.specs.Paths.{mangled_seg, mangled_segs}
 use Rattle.sp_outside.specs.Files.{IsName}
 use Rattle.cover_rules.specs.Names.{file_byte, file_name, has_file_name}
-use Rattle.docroot_format.specs.Names.{folder_name, body_name, head_name, have_names, is_place}
+use Rattle.docroot_format.specs.Names.{folder_name, body_name, head_name, have_names, is_place, stat_name}
 
 pub first_true : (a b : Bool) → a && b ≡ true → a ≡ true
 first_true true b e = refl
@@ -63,3 +64,9 @@ head_fits folder file deep e =
     let long : length (body_name folder file) ≡ length (folder_name folder) + length (file_name file) = length-append (folder_name folder) (file_name file) in
     let more : length (head_name folder file) ≡ length (body_name folder file) + 2 = length-append (body_name folder file) (codes "%h") in
     (omega (arith, more), omega (arith, deep, long, more, s.folder_short, s.file_short))
+
+pub stat_fits : (folder : List (List ℕ)) → length folder ≤ 64 → IsTrue (have_names (mangled_segs folder)) → IsName (stat_name folder)
+stat_fits folder deep e =
+    let few = folder_len (mangled_segs folder) e in
+    let long : length (stat_name folder) ≡ length (folder_name (mangled_segs folder)) + 5 = length-append (folder_name (mangled_segs folder)) (codes ".stat") in
+    (omega (arith, long), omega (arith, deep, long, few, length-map folder mangled_seg))

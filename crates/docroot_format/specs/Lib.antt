@@ -2,3 +2,4 @@ pub mod Names
 pub mod Texts
 pub mod Readings
 pub mod Faults
+pub mod Deletions

@@ -1,11 +1,10 @@
 -- The names of the files of the docroot.
--- `longest_folder_name` and `longest_stat_name` are needed by private functions alone.
 use Rattle.std.specs.Prelude.{◌≡◌, ◌==◌, ◌||◌, ◌&&◌, ◌++◌, ◌∷◌, [], ℕ, Bool, IsTrue, not, List, codes, flat_map, length, nat_eq, nat_lt, slice_index}
 use Rattle.std.specs.Cmp.Lexicographic.{pointwise}
-use Rattle.std.specs.List.{AllByRecursion, list_all}
-use Rattle.sp_base.specs.Bytes.{AreBytes}
-use Rattle.sp_base.specs.Paths.{is_dots, is_empty, mangled_segs, name_of, pieces}
-use Rattle.cover_rules.specs.declared.page.PageKey.{PageKey}
+use Rattle.std.specs.List.{list_all}
+use Rattle.sp_base.specs.Paths.{mangled_segs, name_of, pieces}
+use Rattle.sp_base.specs.Texts.{Text}
+use Rattle.sp_outside.specs.FileNames.{has_segments, is_inside}
 use Rattle.cover_rules.specs.Names.{file_name, has_file_name, is_plain_name_byte}
 
 -- The names of pages and stamps are of mangled segments, spelled as in URLs, so what lies below `jcr:content` stands below `_jcr_content`.
@@ -14,14 +13,6 @@ use Rattle.cover_rules.specs.Names.{file_name, has_file_name, is_plain_name_byte
 -- the file names of mangled segments, a slash after each
 abbrev pub folder_name : List (List ℕ) → List ℕ
 folder_name segs = flat_map (λ seg. file_name seg ++ 47 ∷ []) segs
-
--- the most bytes of a folder's name: 64 segments of at most 200 bytes, a slash after each
-abbrev pub longest_folder_name : ℕ
-longest_folder_name = 12864
-
--- the most bytes of the name of a .stat file
-abbrev pub longest_stat_name : ℕ
-longest_stat_name = 12869
 
 -- where a page's body stands
 abbrev pub body_name : List (List ℕ) → List ℕ → List ℕ
@@ -55,17 +46,13 @@ epoch_name = codes ".epoch"
 abbrev pub is_file_name_byte : ℕ → Bool
 is_file_name_byte b = is_plain_name_byte b || b == 37
 
--- a piece of a name between slashes that leads into a folder, and not out of it
-abbrev pub is_segment : List ℕ → Bool
-is_segment piece = not (is_empty piece) && (not (is_dots piece) && list_all is_file_name_byte piece)
+-- a byte of a name: one of a file's name, or the slash between two
+abbrev pub is_name_byte : ℕ → Bool
+is_name_byte b = is_file_name_byte b || b == 47
 
--- A name that lies in the docroot: no piece of it is empty, so it neither begins nor ends with a slash, and none is `.` or `..`.
-abbrev pub is_inside : List ℕ → Bool
-is_inside name = list_all is_segment (pieces name)
-
--- A name whose pieces are segments: none of them is empty, `.` or `..`.
-abbrev pub has_segments : List ℕ → Bool
-has_segments name = list_all (λ piece. not (is_empty piece) && not (is_dots piece)) (pieces name)
+-- A name that lies in the docroot: one that leads nowhere out of a disk's folder, of these bytes alone.
+abbrev pub is_docroot_name : Text → Bool
+is_docroot_name name = is_inside name && list_all is_name_byte name
 
 -- a page file, of a body or a head: a name of segments of which the last doesn't begin with a dot
 abbrev pub is_page_file : List ℕ → Bool
@@ -74,11 +61,3 @@ is_page_file name = has_segments name && not (slice_index (name_of (pieces name)
 -- a .stat file: a name of segments of which the last is `.stat`
 abbrev pub is_stat_file : List ℕ → Bool
 is_stat_file name = has_segments name && pointwise nat_eq (name_of (pieces name)) (codes ".stat")
-
--- what the name of a file ends in that a disk writes beside another
-abbrev pub beside_ending : List ℕ
-beside_ending = codes "%t"
-
--- the key of a page whose segments have bytes
-abbrev pub IsTextKey : PageKey → Type 0
-IsTextKey key = AllByRecursion AreBytes key.folder × AreBytes key.file

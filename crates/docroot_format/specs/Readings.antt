@@ -1,10 +1,11 @@
 -- What bytes read as: a page's head, a folder's stamp, an epoch. A number is decimal digits without a leading zero, below 2^64.
 -- `next_of` is needed by private functions and proofs alone.
 use Rattle.std.specs.Prelude.{◌==◌, ◌&&◌, ◌+◌, ◌*◌, ◌-◌, ℕ, Bool, false, not, nat_eq, nat_le, nat_lt, if◌then◌else◌, List, [], ◌∷◌, Option, Some, None, option_and_then, option_map, codes, drop, take, length, slice_index}
-use Rattle.std.specs.List.{list_all, starts_with}
+use Rattle.std.specs.List.{starts_with}
 use Rattle.std.specs.Cmp.Lexicographic.{pointwise}
-use Rattle.sp_base.specs.Bytes.{is_printable_ascii, is_digit}
-use Rattle.sp_base.specs.Limits.{greatest_u64, longest_media_type}
+use Rattle.sp_base.specs.Bytes.{is_digit}
+use Rattle.sp_base.specs.Limits.{greatest_u64}
+use Rattle.sp_base.specs.MediaTypes.{is_kind}
 
 -- the text begins with a digit that fits after a number
 unfoldable pub digit_fits : ℕ → List ℕ → Bool
@@ -47,10 +48,6 @@ stat_of text = option_and_then (λ s. if is_end s.1 then Some s.0 else None) (op
 -- the epoch that a file holds, from 1 on
 unfoldable pub epoch_of : List ℕ → Option ℕ
 epoch_of text = option_and_then (λ e. if is_end e.1 && nat_lt 0 e.0 then Some e.0 else None) (option_and_then leading_number (after_word (codes "epoch 1 ") text))
-
--- a media type: printable bytes of ASCII
-abbrev pub is_kind : List ℕ → Bool
-is_kind kind = nat_le (length kind) longest_media_type && list_all is_printable_ascii kind
 
 -- a media type up to the end of the line
 unfoldable pub stored_kind : List ℕ → Option (List ℕ)

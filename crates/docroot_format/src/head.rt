@@ -1,11 +1,10 @@
 //! Heads of pages as they are read.
-ghost use Rattle.std.specs.Prelude.{◌≡◌, ◌&&◌, Some, None, option_map, if◌then◌else◌};
-ghost use Rattle.std.specs.List.{list_all};
-ghost use Rattle.sp_base.specs.Bytes.{is_printable_ascii};
+ghost use Rattle.std.specs.Prelude.{◌≡◌, Some, None, option_map, if◌then◌else◌};
+ghost use Rattle.sp_base.specs.MediaTypes as kinds;
 ghost use Rattle.docroot_format.specs.Readings as spec;
 
 use crate::readings::{after_word, is_end, number, stamp};
-use sp_base::LONGEST_MEDIA_TYPE;
+use sp_base::is_kind;
 
 /// What the head of a page says.
 #[derive(Clone, Copy, Drop)]
@@ -18,22 +17,9 @@ pub struct PageHead<'a> {
     pub kind: &'a str,
 }
 
-fn is_printable(kind: &[u8]) -> bool
-    ensures { result ≡ list_all is_printable_ascii kind.now }
-{
-    kind.iter().all(|b| *b >= b' ' && *b <= b'~')
-}
-
-// A media type: printable bytes of ASCII.
-fn is_kind(kind: &[u8]) -> bool
-    ensures { result ≡ spec.is_kind kind.now }
-{
-    kind.len() <= LONGEST_MEDIA_TYPE && is_printable(kind)
-}
-
 #[tactic(auto, using(crate::proofs::MediaTypes::kind_is_utf8))]
 fn text_of(kind: &[u8]) -> Option<&str>
-    ensures { option_map (λ k. k.now) result ≡ (if spec.is_kind kind.now then Some kind.now else None) }
+    ensures { option_map (λ k. k.now) result ≡ (if kinds.is_kind kind.now then Some kind.now else None) }
 {
     if !is_kind(kind) {
         return None;

@@ -1,18 +1,20 @@
 //! What follows from the definitions of names and texts: laws, on functions that do nothing.
-ghost use Rattle.std.specs.Prelude.{◌≡◌, ◌≢◌, ◌<◌, ◌^◌, ◌++◌, ◌∷◌, [], ℕ, List, Contains, IsTrue, Some, false};
+ghost use Rattle.std.specs.Prelude.{◌≡◌, ◌≢◌, ◌↔◌, ◌<◌, ◌^◌, ◌++◌, ◌∷◌, [], ℕ, List, Contains, IsTrue, Some, false, true};
 ghost use Rattle.sp_base.specs.Bytes.{AreBytes};
 ghost use Rattle.cover_rules.specs.declared.page.PageKey.{PageKey};
 ghost use Rattle.cover_rules.specs.declared.invalidation.Invalidation.{Invalidation};
-ghost use Rattle.cover_rules.specs.Coverage.{stat_folder, touched_of};
-ghost use Rattle.cover_rules.specs.Pages.{page_key_of, page_path};
+ghost use Rattle.cover_rules.specs.Coverage.{deletes, stat_folder, touched_of};
+ghost use Rattle.cover_rules.specs.Pages.{IsPageKey, page_key_of};
 ghost use Rattle.sp_base.specs.Paths.{is_path, mangled_segs};
 ghost use Rattle.std.specs.List.{AllByRecursion};
-ghost use Rattle.docroot_format.specs.Names.{beside_ending, body_name, epoch_name, have_names, head_name, is_inside, is_page_file, is_place, is_stat_file, stat_name, IsFolder, IsTextKey};
-ghost use Rattle.docroot_format.specs.Readings.{HeadLine, epoch_of, head_of, is_kind, stat_of};
+ghost use Rattle.sp_outside.specs.FileNames.{beside_ending};
+ghost use Rattle.docroot_format.specs.Names.{body_name, epoch_name, have_names, head_name, is_docroot_name, is_page_file, is_place, is_stat_file, stat_name, IsFolder};
+ghost use Rattle.sp_base.specs.MediaTypes.{is_kind};
+ghost use Rattle.docroot_format.specs.Readings.{HeadLine, epoch_of, head_of, stat_of};
+ghost use Rattle.docroot_format.specs.Deletions.{IsDeletedByName};
 ghost use Rattle.docroot_format.specs.Texts.{epoch_text, head_text, stat_text};
 
-use cover_rules::PageKey;
-use sp_base::{Path, mangling_and_unmangling};
+use sp_base::{mangling_and_unmangling, segments_and_their_spelling};
 
 /// A page that has a key has files, and so have the .stat files of its folder.
 pub fn a_page_has_files()
@@ -33,24 +35,16 @@ pub fn folders_are_mangled()
     mangling_and_unmangling();
 }
 
-/// The key of a page whose path is of texts is of texts.
-pub fn keys_are_of_texts()
-    ensures { (path : List (List ℕ)) (key : PageKey) → AllByRecursion AreBytes path → page_key_of path ≡ Some key → IsTextKey key }
-{}
-
-/// A key is of texts, as the laws on different keys want it.
-pub fn a_key_is_of_texts(key: &PageKey)
-    ensures { IsTextKey key.now }
+/// The folders that may have stamps for a page are paths of texts, where the page's key is one and the handle of the invalidation is such a
+/// path: the folder whose stamp the page is compared with, and each folder that the invalidation touches.
+pub fn folders_of_stamps_are_paths()
+    ensures touched { (level : ℕ) (inv : Invalidation) (folder : List (List ℕ)) → IsTrue (is_path inv.handle) → Contains (touched_of level inv) folder → IsTrue (is_path folder) }
+    ensures touched_bytes { (level : ℕ) (inv : Invalidation) (folder : List (List ℕ)) → AllByRecursion AreBytes inv.handle → Contains (touched_of level inv) folder → AllByRecursion AreBytes folder }
+    ensures stat { (level : ℕ) (key : PageKey) → IsPageKey key → IsTrue (is_path (stat_folder level key)) }
+    ensures stat_bytes { (level : ℕ) (key : PageKey) → IsPageKey key → AllByRecursion AreBytes (stat_folder level key) }
 {
-    let _folder = key.folder.spelling().as_bytes();
-    let _file = key.file.text().as_bytes();
-}
-
-/// A path is of texts, as the laws on different folders want it.
-pub fn a_path_is_of_texts(path: &Path)
-    ensures { AllByRecursion AreBytes path.now }
-{
-    let _spelling = path.spelling().as_bytes();
+    mangling_and_unmangling();
+    segments_and_their_spelling();
 }
 
 /// The texts that are written read as what they were written of.
@@ -69,34 +63,34 @@ pub fn what_reads_is_its_text()
     ensures fits { (text : List ℕ) (epoch : ℕ) → epoch_of text ≡ Some epoch → (0 < epoch) × (epoch < 2 ^ 64) }
 {}
 
-/// The name of each file lies in the docroot: it has no empty segment and none that is `.` or `..`, so it begins with no slash, and
-/// each of its bytes is a letter, a digit or one of `.`, `_`, `-`, `%` and the slashes between segments.
+/// The name of each file lies in the docroot: a disk's guard takes it (`is_inside` of `sp_outside`), since it has no empty segment and none
+/// that is `.` or `..`, and each of its bytes is a letter, a digit or one of `.`, `_`, `-`, `%` and the slashes between segments.
 pub fn names_lie_in_the_docroot()
-    ensures body { (key : PageKey) → IsTrue (is_path key.folder) → page_key_of (page_path key) ≡ Some key → IsTrue (is_inside (body_name key.folder key.file)) }
-    ensures head { (key : PageKey) → IsTrue (is_path key.folder) → page_key_of (page_path key) ≡ Some key → IsTrue (is_inside (head_name key.folder key.file)) }
-    ensures stat { (folder : List (List ℕ)) → IsTrue (is_path folder) → IsTrue (is_inside (stat_name folder)) }
-    ensures epoch { IsTrue (is_inside epoch_name) }
+    ensures body { (key : PageKey) → IsPageKey key → IsTrue (is_docroot_name (body_name key.folder key.file)) }
+    ensures head { (key : PageKey) → IsPageKey key → IsTrue (is_docroot_name (head_name key.folder key.file)) }
+    ensures stat { (folder : List (List ℕ)) → IsTrue (is_path folder) → IsTrue (is_docroot_name (stat_name folder)) }
+    ensures epoch { IsTrue (is_docroot_name epoch_name) }
 {}
 
 /// Different keys have different files, and so have folders whose mangled paths differ; a page's files, stamps and the session's number stand in files
 /// of their own.
 pub fn names_are_apart()
-    ensures bodies { (key other : PageKey) → IsTextKey key → IsTextKey other → body_name key.folder key.file ≡ body_name other.folder other.file → key ≡ other }
-    ensures heads { (key other : PageKey) → IsTextKey key → IsTextKey other → head_name key.folder key.file ≡ head_name other.folder other.file → key ≡ other }
+    ensures bodies { (key other : PageKey) → IsPageKey key → IsPageKey other → body_name key.folder key.file ≡ body_name other.folder other.file → key ≡ other }
+    ensures heads { (key other : PageKey) → IsPageKey key → IsPageKey other → head_name key.folder key.file ≡ head_name other.folder other.file → key ≡ other }
     ensures stats { (folder other : List (List ℕ)) → AllByRecursion AreBytes folder → AllByRecursion AreBytes other → stat_name folder ≡ stat_name other → mangled_segs folder ≡ mangled_segs other }
-    ensures head { (key other : PageKey) → IsTextKey key → IsTextKey other → head_name key.folder key.file ≢ body_name other.folder other.file }
-    ensures stat_body { (folder : List (List ℕ)) (key : PageKey) → AllByRecursion AreBytes folder → IsTextKey key → page_key_of (page_path key) ≡ Some key → stat_name folder ≢ body_name key.folder key.file }
-    ensures stat_head { (folder : List (List ℕ)) (key : PageKey) → AllByRecursion AreBytes folder → IsTextKey key → page_key_of (page_path key) ≡ Some key → stat_name folder ≢ head_name key.folder key.file }
-    ensures epoch_body { (key : PageKey) → IsTextKey key → page_key_of (page_path key) ≡ Some key → epoch_name ≢ body_name key.folder key.file }
-    ensures epoch_head { (key : PageKey) → IsTextKey key → page_key_of (page_path key) ≡ Some key → epoch_name ≢ head_name key.folder key.file }
+    ensures head { (key other : PageKey) → IsPageKey key → IsPageKey other → head_name key.folder key.file ≢ body_name other.folder other.file }
+    ensures stat_body { (folder : List (List ℕ)) (key : PageKey) → AllByRecursion AreBytes folder → IsPageKey key → stat_name folder ≢ body_name key.folder key.file }
+    ensures stat_head { (folder : List (List ℕ)) (key : PageKey) → AllByRecursion AreBytes folder → IsPageKey key → stat_name folder ≢ head_name key.folder key.file }
+    ensures epoch_body { (key : PageKey) → IsPageKey key → epoch_name ≢ body_name key.folder key.file }
+    ensures epoch_head { (key : PageKey) → IsPageKey key → epoch_name ≢ head_name key.folder key.file }
     ensures epoch_stat { (folder : List (List ℕ)) → AllByRecursion AreBytes folder → stat_name folder ≢ epoch_name }
 {}
 
 /// The files of pages and the .stat files are told by their names: a page's body and head are page files, a folder's stamp is a .stat
 /// file, no name is both, and the session's number is neither.
 pub fn names_tell_their_files()
-    ensures body { (key : PageKey) → IsTrue (is_path key.folder) → page_key_of (page_path key) ≡ Some key → IsTrue (is_page_file (body_name key.folder key.file)) }
-    ensures head { (key : PageKey) → IsTrue (is_path key.folder) → page_key_of (page_path key) ≡ Some key → IsTrue (is_page_file (head_name key.folder key.file)) }
+    ensures body { (key : PageKey) → IsPageKey key → IsTrue (is_page_file (body_name key.folder key.file)) }
+    ensures head { (key : PageKey) → IsPageKey key → IsTrue (is_page_file (head_name key.folder key.file)) }
     ensures stat { (folder : List (List ℕ)) → IsTrue (is_path folder) → IsTrue (is_stat_file (stat_name folder)) }
     ensures apart { (name : List ℕ) → IsTrue (is_page_file name) → is_stat_file name ≡ false }
     ensures epoch_page { is_page_file epoch_name ≡ false }
@@ -110,3 +104,14 @@ pub fn no_name_ends_as_one_beside()
     ensures stat { (folder : List (List ℕ)) (rest : List ℕ) → stat_name folder ≢ rest ++ beside_ending }
     ensures epoch { (rest : List ℕ) → epoch_name ≢ rest ++ beside_ending }
 {}
+
+/// An invalidation deletes exactly the page at its handle, and the pages whose files have names that begin with one of its prefixes. It is
+/// the same whether a page's body is looked at or its head.
+pub fn deleted_pages_are_told_by_names()
+    ensures body { (inv : Invalidation) (key : PageKey) → IsPageKey key → IsTrue (is_path inv.handle) → AllByRecursion AreBytes inv.handle
+        → (deletes inv key ≡ true) ↔ IsDeletedByName inv key (body_name key.folder key.file) }
+    ensures head { (inv : Invalidation) (key : PageKey) → IsPageKey key → IsTrue (is_path inv.handle) → AllByRecursion AreBytes inv.handle
+        → (deletes inv key ≡ true) ↔ IsDeletedByName inv key (head_name key.folder key.file) }
+{
+    segments_and_their_spelling();
+}

@@ -1,8 +1,10 @@
-//! Tests of calls of `cache_files` and `stat_files`, which are proved apart from them.
+//! Tests of calls of `cache_files`, `stat_files` and `docroot_format`, which are proved apart from them.
 #![tactic(auto)]
 
 #[cfg(test)]
 mod disks;
+#[cfg(test)]
+mod file_kinds;
 #[cfg(test)]
 mod pages;
 #[cfg(test)]

@@ -1,12 +1,13 @@
 //! Pages that are put, read and dropped, and each call with each of its disk calls failing, before and after its change.
 ghost use Rattle.std.specs.Prelude.{IfOk, IfSome};
-ghost use Rattle.cache_files.specs.Pages.{IsKey, IsStorable};
+ghost use Rattle.cover_rules.specs.Pages.{IsPageKey};
+ghost use Rattle.cache_files.specs.Pages.{IsStorable};
 
 use crate::disks::{Held, disk_with, outcome, stands};
 use cache_files::{HeadNote, Page, drop_page, get_head, get_known, get_page, put_page};
-use cover_rules::{PageKey, Stamp, a_page_has_one_key, page_key};
+use cover_rules::{PageKey, Stamp, page_key};
 use docroot_format::FileFault;
-use sp_base::{Answer, Mark, Mem, Path, TextBuf, a_path_and_its_text};
+use sp_base::{Answer, Mark, Mem, Path, TextBuf};
 use sp_outside::{MemDisk, Way};
 use std::alloc::Global;
 use test_values::answer_of;
@@ -32,17 +33,15 @@ const NEW_HEAD: Option<&str> = Some("page 1 1 4 1 text/html;charset=utf-8\n");
 const NEW_BODY: Option<&str> = Some("x");
 
 fn key(alloc: Global) -> Option<PageKey>
-    ensures { IfSome result IsKey }
+    ensures { IfSome result IsPageKey }
 {
-    a_path_and_its_text();
-    a_page_has_one_key();
-    match Path::read(alloc, "/content/en.html") {
-        Ok(path) => match page_key(alloc, &path) {
-            Ok(key) => key,
-            Err(_) => None,
-        },
-        Err(_) => None,
-    }
+    let Ok(path) = Path::read(alloc, "/content/en.html") else {
+        return None;
+    };
+    let Ok(Some(key)) = page_key(alloc, &path) else {
+        return None;
+    };
+    Some(key)
 }
 
 fn answer(alloc: Global) -> Mem<Answer>
@@ -59,7 +58,7 @@ fn stand(alloc: Global, disk: &mut MemDisk, head: Option<&str>, body: Option<&st
 }
 
 fn put_at(alloc: Global, disk: &mut MemDisk, key: &PageKey) -> Result<(), FileFault>
-    requires { IsKey key.now }
+    requires { IsPageKey key.now }
 {
     let answer = answer(alloc)?;
     put_page(alloc, disk, key, Stamp { epoch: 1, count: 4 }, &answer)

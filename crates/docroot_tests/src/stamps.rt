@@ -25,7 +25,7 @@ fn folder(alloc: Global) -> Option<Path>
 
 fn touched(alloc: Global, disk: &mut MemDisk) -> Result<(), FileFault> {
     match folder(alloc) {
-        Some(folder) => touch(disk, &folder, Stamp { epoch: 1, count: 5 }),
+        Some(folder) => touch(alloc, disk, &folder, Stamp { epoch: 1, count: 5 }),
         None => Err(FileFault::NoMemory),
     }
 }

@@ -8,9 +8,8 @@ use Rattle.http_front.specs.declared.turn.Turn.TheVariants.{Continue, Whole}
 use Rattle.sp_base.specs.declared.answer.Answer.{Answer}
 use Rattle.connections.specs.Slots.{Slot, interim_slot, is_awaiting}
 use Rattle.connections.specs.Connections.{Connection, with_due_continue, after_turn, with_piece, slots_with_landing, fresh, next_turn, with_answer, with_slot}
-use Rattle.connections.specs.Histories.{Landing, Move, Shut as ShutMove, Sent as SentMove, Piece as PieceMove, Treatment, after_all, connection_after_move}
+use Rattle.connections.specs.Histories.{Landing, Move, some_closes, Shut as ShutMove, Sent as SentMove, Piece as PieceMove, Treatment, after_all, connection_after_move}
 use Rattle.connections.specs.declared.sending.Sending.{Sending}
-use Rattle.front.specs.Histories.{some_closes}
 use Rattle.front.proofs.PastLemmas.{Past, longer}
 
 abbrev IsClosing : Connection → Type 0

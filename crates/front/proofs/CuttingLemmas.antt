@@ -4,13 +4,13 @@ use Rattle.resource_tree.specs.Content.{Content}
 use Rattle.any_config.specs.declared.farm.Farm.{Farm}
 use Rattle.http_front.specs.Turns.{SpellsTurns}
 use Rattle.connections.specs.Slots.{Awaits, Fixed, Interim, IsWritten, MayAnswer, Response, Says, Slot, is_last}
-use Rattle.connections.specs.Histories.{AnswersRun, IsEndOr}
+use Rattle.connections.specs.Histories.{HaveNoSendingOutOfMemory, AnswersRun, IsEndOr}
 use Rattle.connections.specs.declared.sending.Sending.{Sending}
-use Rattle.front.specs.Cuttings.{AreAnsweredAlike, HaveNoDrySending, CuttingsAgree, OneBegins, bytes_sent}
+use Rattle.front.specs.Cuttings.{AreAnsweredAlike, CuttingsAgree, OneBegins, bytes_sent}
 use Rattle.front.specs.Events.{Event, Run}
 use Rattle.front.specs.Histories.{AnswersWhatCame, came_since_opened, sent_since_opened}
 use Rattle.front.specs.Publishers.{Publishing}
-use Rattle.front.specs.States.{start_of}
+use Rattle.front.specs.States.{Start, start_of}
 use Rattle.front.proofs.StreamLemmas.{Beginnings}
 
 -- ---- lists
@@ -53,38 +53,38 @@ written-same slot Fixed a b x y = x ∙ sym y
 written-same slot (Awaits flight) a b x y = absurd x
 written-same slot (Says answer) a b x y = x ∙ sym y
 
-written-not-dry : (slot : Slot) (sending : Sending) → sending.dry ≡ false → MayAnswer slot sending → IsWritten slot slot.response sending.bytes
-written-not-dry slot sending not_dry (inl written) = written
-written-not-dry slot sending not_dry (inr dry) = absurd (let is_dry : sending.dry ≡ true = dry.0 in let no : ⊥ = cc in no)
+written-with-memory : (slot : Slot) (sending : Sending) → sending.out_of_memory ≡ false → MayAnswer slot sending → IsWritten slot slot.response sending.bytes
+written-with-memory slot sending had_memory (inl written) = written
+written-with-memory slot sending had_memory (inr out_of_memory) = absurd (let ran_out : sending.out_of_memory ≡ true = out_of_memory.0 in let no : ⊥ = cc in no)
 
-same-bytes : (x y : Slot) (s t : Sending) → x ≡ y → MayAnswer x s → MayAnswer y t → s.dry ≡ false → t.dry ≡ false → s.bytes ≡ t.bytes
-same-bytes x y s t same one two not_dry other_not_dry =
-    written-same y y.response s.bytes t.bytes (subst (λ (z : Slot). IsWritten z z.response s.bytes) same (written-not-dry x s not_dry one)) (written-not-dry y t other_not_dry two)
+same-bytes : (x y : Slot) (s t : Sending) → x ≡ y → MayAnswer x s → MayAnswer y t → s.out_of_memory ≡ false → t.out_of_memory ≡ false → s.bytes ≡ t.bytes
+same-bytes x y s t same one two had_memory other_had_memory =
+    written-same y y.response s.bytes t.bytes (subst (λ (z : Slot). IsWritten z z.response s.bytes) same (written-with-memory x s had_memory one)) (written-with-memory y t other_had_memory two)
 
-begins-bytes : (xs ys : List Slot) (sent other : List Sending) → AnswersRun xs sent → AnswersRun ys other → AreAnsweredAlike xs ys → HaveNoDrySending sent → HaveNoDrySending other → OneBegins (bytes_sent sent) (bytes_sent other)
-begins-bytes xs ys [] other one two same not_dry other_not_dry = inl (bytes_sent other, refl)
-begins-bytes xs ys (s ∷ sent) [] one two same not_dry other_not_dry = inr (bytes_sent (s ∷ sent), refl)
-begins-bytes [] ys (s ∷ sent) (t ∷ other) one two same not_dry other_not_dry = absurd one
-begins-bytes (x ∷ xs) [] (s ∷ sent) (t ∷ other) one two same not_dry other_not_dry = absurd two
-begins-bytes (x ∷ xs) (y ∷ ys) (s ∷ sent) (t ∷ other) one two same not_dry other_not_dry =
-    begins-append s.bytes t.bytes (bytes_sent sent) (bytes_sent other) (same-bytes x y s t (same.0 one.2 two.2) one.0 two.0 not_dry.0 other_not_dry.0)
+begins-bytes : (xs ys : List Slot) (sent other : List Sending) → AnswersRun xs sent → AnswersRun ys other → AreAnsweredAlike xs ys → HaveNoSendingOutOfMemory sent → HaveNoSendingOutOfMemory other → OneBegins (bytes_sent sent) (bytes_sent other)
+begins-bytes xs ys [] other one two same had_memory other_had_memory = inl (bytes_sent other, refl)
+begins-bytes xs ys (s ∷ sent) [] one two same had_memory other_had_memory = inr (bytes_sent (s ∷ sent), refl)
+begins-bytes [] ys (s ∷ sent) (t ∷ other) one two same had_memory other_had_memory = absurd one
+begins-bytes (x ∷ xs) [] (s ∷ sent) (t ∷ other) one two same had_memory other_had_memory = absurd two
+begins-bytes (x ∷ xs) (y ∷ ys) (s ∷ sent) (t ∷ other) one two same had_memory other_had_memory =
+    begins-append s.bytes t.bytes (bytes_sent sent) (bytes_sent other) (same-bytes x y s t (same.0 one.2 two.2) one.0 two.0 had_memory.0 other_had_memory.0)
     (by_last (is_last x s.bytes) (is_last y t.bytes) one.1 two.1 (begins-bytes xs ys sent other))
   where
     by_last : (p q : Bool) → IsEndOr p sent (AnswersRun xs sent) → IsEndOr q other (AnswersRun ys other)
-        → (AnswersRun xs sent → AnswersRun ys other → AreAnsweredAlike xs ys → HaveNoDrySending sent → HaveNoDrySending other → OneBegins (bytes_sent sent) (bytes_sent other)) → OneBegins (bytes_sent sent) (bytes_sent other)
+        → (AnswersRun xs sent → AnswersRun ys other → AreAnsweredAlike xs ys → HaveNoSendingOutOfMemory sent → HaveNoSendingOutOfMemory other → OneBegins (bytes_sent sent) (bytes_sent other)) → OneBegins (bytes_sent sent) (bytes_sent other)
     by_last true q ended next rest = inl (bytes_sent other, ap (λ xs. bytes_sent xs ++ bytes_sent other) (sym ended))
     by_last false true next ended rest = inr (bytes_sent sent, ap (λ xs. bytes_sent xs ++ bytes_sent sent) (sym ended))
-    by_last false false first second rest = rest first second same.1 not_dry.1 other_not_dry.1
+    by_last false false first second rest = rest first second same.1 had_memory.1 other_had_memory.1
 
 -- ---- the law
 -- the law of streams
 abbrev pub Streams : Type 0
-Streams = (publishing : Publishing) (farm : Farm) (content : Content) (events : List Event) (c : ℕ) → Run (start_of publishing farm content) events → AnswersWhatCame (came_since_opened c events) (sent_since_opened c events)
+Streams = (s : Start) (events : List Event) (c : ℕ) → Run (start_of s) events → AnswersWhatCame (came_since_opened c events) (sent_since_opened c events)
 
 pub cut-alike : Beginnings → Streams → CuttingsAgree
-cut-alike law streams p q f g one other a b c d more first second grows =
-    let x = streams p f one a c first in
-    let y = subst (λ came. AnswersWhatCame came (sent_since_opened d b)) grows (streams q g other b d second) in
+cut-alike law streams p q a b c d more first second grows =
+    let x = streams p a c first in
+    let y = subst (λ came. AnswersWhatCame came (sent_since_opened d b)) grows (streams q b d second) in
     record {
       one = x;
       two = y;

@@ -2,7 +2,7 @@
 use Rattle.std.proofs.Common.{◌≡◌, ℕ, ◌<◌, ◌≤◌, ◌++◌, zero, suc, Bool, true, false, cond, List, [], ◌∷◌, Some, None, length, refl, ap, sym, subst, ◌∙◌, arith}
 use Rattle.std.specs.Prelude.{◌==◌, if◌then◌else◌, slice_get}
 use Rattle.sp_base.specs.declared.answer.Answer.{Answer}
-use Rattle.sp_base.specs.declared.answer.Req.{Req}
+use Rattle.sp_base.specs.Requests.{Request}
 use Rattle.error_answers.specs.Errors.{error_answer}
 use Rattle.http_front.specs.declared.turn.Turn.{Turn}
 use Rattle.http_front.specs.declared.turn.Turn.TheVariants.{Continue, Whole}
@@ -10,7 +10,7 @@ use Rattle.connections.specs.Slots.{Awaits, Fixed, Interim, Response, Says, Slot
 use Rattle.connections.specs.Connections.{slots_with_landing, with_answer}
 use Rattle.front.specs.Owned.{AreEach, ByStatus, Treating}
 
-pub each-map : (P Q : Treating → Req → Response → Type 0) → ((treating : Treating) (request : Req) (response : Response) → P treating request response → Q treating request response)
+pub each-map : (P Q : Treating → Request → Response → Type 0) → ((treating : Treating) (request : Request) (response : Response) → P treating request response → Q treating request response)
     → (treatings : List Treating) (turns : List Turn) (slots : List Slot) → AreEach P treatings turns slots → AreEach Q treatings turns slots
 each-map P Q next treatings turns [] all = all
 each-map P Q next treatings [] (s ∷ slots) all = all
@@ -24,7 +24,7 @@ some-within [] i x at = absurd (let no : ⊥ = cc in no)
 some-within (y ∷ xs) zero x at = omega arith
 some-within (y ∷ xs) (suc i) x at = omega (arith, some-within xs i x at)
 
-pub each-push : (P : Treating → Req → Response → Type 0) (treatings : List Treating) (turns : List Turn) (slots : List Slot) (treating : Treating) (request : Req) (slot : Slot) → AreEach P treatings turns slots
+pub each-push : (P : Treating → Request → Response → Type 0) (treatings : List Treating) (turns : List Turn) (slots : List Slot) (treating : Treating) (request : Request) (slot : Slot) → AreEach P treatings turns slots
     → slice_get turns (length slots) ≡ Some (Whole request) → P treating request slot.response → AreEach P (treatings ++ treating ∷ []) turns (slots ++ slot ∷ [])
 each-push P treatings [] [] treating request slot all at is = absurd (let no : ⊥ = cc in no)
 each-push P treatings (Continue ∷ turns) [] treating request slot all at is = absurd (let no : ⊥ = cc in no)
@@ -37,7 +37,7 @@ each-push P treatings (Continue ∷ turns) (s ∷ slots) treating request slot a
 each-push P [] (Whole r ∷ turns) (s ∷ slots) treating request slot all at is = absurd all
 each-push P (x ∷ treatings) (Whole r ∷ turns) (s ∷ slots) treating request slot all at is = (all.0, each-push P treatings turns slots treating request slot all.1 at is)
 
-pub each-interim : (P : Treating → Req → Response → Type 0) (treatings : List Treating) (turns : List Turn) (slots : List Slot) → AreEach P treatings turns slots → slice_get turns (length slots) ≡ Some Continue
+pub each-interim : (P : Treating → Request → Response → Type 0) (treatings : List Treating) (turns : List Turn) (slots : List Slot) → AreEach P treatings turns slots → slice_get turns (length slots) ≡ Some Continue
     → AreEach P treatings turns (slots ++ interim_slot ∷ [])
 each-interim P treatings [] [] all at = absurd (let no : ⊥ = cc in no)
 each-interim P treatings (Continue ∷ turns) [] all at = (refl, all)
@@ -47,7 +47,7 @@ each-interim P treatings (Continue ∷ turns) (s ∷ slots) all at = (all.0, eac
 each-interim P [] (Whole r ∷ turns) (s ∷ slots) all at = absurd all
 each-interim P (x ∷ treatings) (Whole r ∷ turns) (s ∷ slots) all at = (all.0, each-interim P treatings turns slots all.1 at)
 
-pub each-fault : (P : Treating → Req → Response → Type 0) (treatings : List Treating) (turns : List Turn) (slots : List Slot) (slot : Slot) (status : ℕ) → AreEach P treatings turns slots → slice_get turns (length slots) ≡ None
+pub each-fault : (P : Treating → Request → Response → Type 0) (treatings : List Treating) (turns : List Turn) (slots : List Slot) (slot : Slot) (status : ℕ) → AreEach P treatings turns slots → slice_get turns (length slots) ≡ None
     → length slots ≤ length turns → slot.response ≡ local_response status → AreEach P (treatings ++ ByStatus status ∷ []) turns (slots ++ slot ∷ [])
 each-fault P treatings [] [] slot status all at room is = record { status = status; noted = ap (λ ts. ts ++ ByStatus status ∷ []) all; last = refl; response_is = is }
 each-fault P treatings (t ∷ turns) [] slot status all at room is = absurd (let no : ⊥ = cc in no)
@@ -57,7 +57,7 @@ each-fault P [] (Whole r ∷ turns) (s ∷ slots) slot status all at room is = a
 each-fault P (x ∷ treatings) (Whole r ∷ turns) (s ∷ slots) slot status all at room is = (all.0, each-fault P treatings turns slots slot status all.1 at (omega (arith, room)) is)
 
 -- ---- further turns
-pub each-more : (P : Treating → Req → Response → Type 0) (treatings : List Treating) (turns more : List Turn) (slots : List Slot) → length slots ≤ length turns → AreEach P treatings turns slots → AreEach P treatings (turns ++ more) slots
+pub each-more : (P : Treating → Request → Response → Type 0) (treatings : List Treating) (turns more : List Turn) (slots : List Slot) → length slots ≤ length turns → AreEach P treatings turns slots → AreEach P treatings (turns ++ more) slots
 each-more P treatings turns more [] room all = all
 each-more P treatings [] more (s ∷ slots) room all = absurd (omega (arith, room))
 each-more P treatings (Continue ∷ turns) more (s ∷ slots) room all = (all.0, each-more P treatings turns more slots (omega (arith, room)) all.1)
@@ -89,8 +89,8 @@ length-filled n a (s ∷ slots) = by_test (is_awaiting n s.response) (length-fil
     by_test true rest = refl
     by_test false rest = omega (arith, rest)
 
-pub each-filled : (P Q : Treating → Req → Response → Type 0) (n : ℕ) (a : Answer) → ((treating : Treating) (request : Req) (response : Response) → P treating request response → Q treating request response)
-    → ((treating : Treating) (request : Req) → P treating request (Awaits n) → Q treating request (Says a)) → (treatings : List Treating) (turns : List Turn) (slots : List Slot) → AreEach P treatings turns slots → AreEach Q treatings turns (slots_with_landing n a slots)
+pub each-filled : (P Q : Treating → Request → Response → Type 0) (n : ℕ) (a : Answer) → ((treating : Treating) (request : Request) (response : Response) → P treating request response → Q treating request response)
+    → ((treating : Treating) (request : Request) → P treating request (Awaits n) → Q treating request (Says a)) → (treatings : List Treating) (turns : List Turn) (slots : List Slot) → AreEach P treatings turns slots → AreEach Q treatings turns (slots_with_landing n a slots)
 each-filled P Q n a next lands treatings turns [] all = all
 each-filled P Q n a next lands treatings [] (s ∷ slots) all =
     let still : is_awaiting n s.response ≡ false = ap (is_awaiting n) all.response_is ∙ local-answered n all.status in

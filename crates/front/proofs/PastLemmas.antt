@@ -11,8 +11,8 @@ use Rattle.http_front.specs.declared.turn.Turn.TheVariants.{Continue, Whole}
 use Rattle.sp_base.specs.declared.answer.Answer.{Answer}
 use Rattle.connections.specs.Slots.{Slot, interim_slot}
 use Rattle.connections.specs.Connections.{Connection, Due, Send, with_due_continue, after_turn, with_piece, fresh, next_turn, with_landing, with_sent, with_slot}
-use Rattle.connections.specs.Connections as connection
-use Rattle.connections.specs.Histories.{Follows, IsMove, Landing, Move, Shut as ShutMove, Sent as SentMove, Piece as PieceMove, Treatment, after_all, sendings}
+use Rattle.connections.specs.Connections as model
+use Rattle.connections.specs.Histories.{Follows, IsAtRest, IsMove, Landing, Move, Shut as ShutMove, Sent as SentMove, Piece as PieceMove, Treatment, after_all, sendings}
 use Rattle.connections.specs.Histories as history
 use Rattle.connections.specs.declared.sending.Sending.{Sending}
 
@@ -215,7 +215,7 @@ past-fed d came sent bytes turns ends spells past = past-read d came sent bytes 
 pub record Last (came : List ℕ) (sent : List Sending) : Type 0 where
   pub last : Connection
   pub past : Past last came sent
-  pub still : (slot : Slot) → connection.due last ≡ Send slot → ⊥
+  pub rests : IsAtRest (model.due last)
 
-abbrev pub last-now : (d : Connection) (came : List ℕ) (sent : List Sending) → Past d came sent → ((slot : Slot) → connection.due d ≡ Send slot → ⊥) → Last came sent
-last-now d came sent past still = record { last = d; past = past; still = still }
+abbrev pub last-now : (d : Connection) (came : List ℕ) (sent : List Sending) → Past d came sent → IsAtRest (model.due d) → Last came sent
+last-now d came sent past rests = record { last = d; past = past; rests = rests }

@@ -3,7 +3,7 @@ use Rattle.std.proofs.Common.{◌≡◌, ℕ, ◌+◌, ◌||◌, ◌++◌, Bool,
 use Rattle.std.specs.Prelude.{◌==◌, IsTrue}
 use Rattle.std.specs.Option.{option_map}
 use Rattle.std.proofs.lemmas.Map.{update_here}
-use Rattle.sp_base.specs.declared.answer.Req.{Req}
+use Rattle.sp_base.specs.Requests.{Request}
 use Rattle.any_config.specs.declared.farm.Farm.{Farm}
 use Rattle.dispatch_rules.specs.Admission.{admits}
 use Rattle.http_front.specs.declared.turn.Turn.TheVariants.{Whole}
@@ -11,99 +11,99 @@ use Rattle.connections.specs.Slots.{Awaits, local_response, request_slot}
 use Rattle.connections.specs.Connections.{Connection, Due, IsInPlaceOfDue, Send, Treat, due, is_crowded, with_sent}
 use Rattle.connections.specs.Histories.{IsDueSending}
 use Rattle.connections.specs.declared.sending.Sending.{Sending}
-use Rattle.front.specs.Boards.{GivesDry, IsAnswering, Meets, OwesRequest, SkyTied, is_full_sky}
-use Rattle.front.specs.Lines.{LineHolds, Owes}
-use Rattle.front.specs.Moves.{Mood, GivesDue, IsFirstPoint, state_after_note, state_after_ask, points, due_of_connection, line_due, is_crowded_line, is_front_full, local_slot, new_flight, request_of, with_turn_slot}
+use Rattle.front.specs.Boards.{GivesIn, IsAnswering, OpenStandsFor, OwesRequest, FlightsStandFor, are_flights_full}
+use Rattle.front.specs.KeptConnections.{ConnectionStandsFor, Owes}
+use Rattle.front.specs.Moves.{Conditions, GivesDue, IsFirstPoint, state_after_note, state_after_ask, points, due_of_connection, due_if_open, is_crowded_if_open, is_front_full, local_slot, new_flight, treated_request, with_turn_slot}
 use Rattle.front.specs.States.{RunState, flights_asked}
-use Rattle.front.specs.declared.line.Line.{Line}
+use Rattle.front.specs.declared.connection.Connection.{Connection as KeptConnection}
 use Rattle.front.specs.declared.note.Note.{Note}
 use Rattle.front.specs.declared.note.Note.TheVariants.{Ask as asked, Local, Sent}
-use Rattle.front.specs.declared.sky.Sky.{Sky}
+use Rattle.front.specs.declared.flights.Flights.{Flights}
 use Rattle.front.specs.declared.treat.Answering.TheVariants.{Here, InFlight}
-use Rattle.front.proofs.SkyLemmas.{rising-push}
+use Rattle.front.proofs.FlightListLemmas.{rising-push}
 
-pub sky-same : (sky : Sky) (w v : RunState) → SkyTied sky w → v.air ≡ w.air → v.log ≡ w.log → SkyTied sky v
-sky-same sky w v tied air log = record {
-  air = tied.air ∙ sym air;
+pub flights-same : (flights : Flights) (w v : RunState) → FlightsStandFor flights w → v.flights ≡ w.flights → v.log ≡ w.log → FlightsStandFor flights v
+flights-same flights w v tied air_is log = record {
+  flights = tied.flights ∙ sym air_is;
   asked = rw log tied.asked;
   rising = tied.rising;
 }
 
 -- what is due decides what a note has to be
-due-gives : (m : Mood) (w : RunState) (c : ℕ) (owed : Due) (note : Note) → due_of_connection w c ≡ owed → GivesDue m w c owed note → GivesDue m w c (due_of_connection w c) note
+due-gives : (m : Conditions) (w : RunState) (c : ℕ) (owed : Due) (note : Note) → due_of_connection w c ≡ owed → GivesDue m w c owed note → GivesDue m w c (due_of_connection w c) note
 due-gives m w c owed note is gives = subst (λ d. GivesDue m w c d note) (sym is) gives
 
 -- ---- something is sent
-pub given-sent : {farm : Farm} (w : RunState) (c : ℕ) (k j : Line) (sky : Sky) (sending : Sending) → Meets farm w c k sky → ((m : Connection) → LineHolds k m → IsDueSending m sending × LineHolds j (with_sent sending.bytes m))
-    → ((m : Connection) → LineHolds k m → IsTrue sending.dry → IsInPlaceOfDue (due m) sending.bytes) → GivesDry sending.dry w c (Sent c sending.bytes) × Meets farm (state_after_note w (Sent c sending.bytes)) c j sky
-given-sent {farm} w c k j sky sending meets sends shows =
+pub given-sent : {farm : Farm} (w : RunState) (c : ℕ) (k j : KeptConnection) (flights : Flights) (sending : Sending) → OpenStandsFor farm w c k flights → ((m : Connection) → ConnectionStandsFor k m → IsDueSending m sending × ConnectionStandsFor j (with_sent sending.bytes m))
+    → ((m : Connection) → ConnectionStandsFor k m → IsTrue sending.out_of_memory → IsInPlaceOfDue (due m) sending.bytes) → GivesIn sending.out_of_memory w c (Sent c sending.bytes) × OpenStandsFor farm (state_after_note w (Sent c sending.bytes)) c j flights
+given-sent {farm} w c k j flights sending meets sends shows =
     let m = meets.connection in
     let sent = sends m meets.holds in
-    let owed : due_of_connection w c ≡ Send sent.0.slot = ap line_due meets.open_is ∙ sent.0.is_due in (
+    let owed : due_of_connection w c ≡ Send sent.0.slot = ap due_if_open meets.open_is ∙ sent.0.is_due in (
       (
-        λ mood allows. due-gives mood w c _ _ owed (sending.bytes, refl, ⊎_elim (λ written. inl written) (λ fixed. inr (allows fixed.0, fixed.1)) sent.0.answers),
-        λ dry. subst (λ d. IsInPlaceOfDue d sending.bytes) (sym (ap line_due meets.open_is)) (shows m meets.holds dry),
+        λ conditions allows. due-gives conditions w c _ _ owed (sending.bytes, refl, ⊎_elim (λ written. inl written) (λ fixed. inr (allows fixed.0, fixed.1)) sent.0.answers),
+        λ out_of_memory. subst (λ d. IsInPlaceOfDue d sending.bytes) (sym (ap due_if_open meets.open_is)) (shows m meets.holds out_of_memory),
       ),
       record {
         connection = with_sent sending.bytes m;
-        open_is = update_here w.line c _ ∙ ap (option_map (with_sent sending.bytes)) meets.open_is;
+        open_is = update_here w.connection c _ ∙ ap (option_map (with_sent sending.bytes)) meets.open_is;
         holds = sent.1;
-        sky_is = sky-same sky w _ meets.sky_is refl refl;
+        flights_are = flights-same flights w _ meets.flights_are refl refl;
         farm_is = meets.farm_is;
       },
     )
 
 -- ---- a request is turned away
-full-is : (sky : Sky) (w : RunState) → SkyTied sky w → is_front_full w ≡ is_full_sky sky
-full-is sky w tied = rw (tied.air, tied.asked) refl
+full-is : (flights : Flights) (w : RunState) → FlightsStandFor flights w → is_front_full w ≡ are_flights_full flights
+full-is flights w tied = rw (tied.flights, tied.asked) refl
 
-crowded-is : (w : RunState) (c : ℕ) (m : Connection) → w.line c ≡ Some m → is_crowded_line (w.line c) ≡ is_crowded m
-crowded-is w c m is = ap is_crowded_line is
+crowded-is : (w : RunState) (c : ℕ) (m : Connection) → w.connection c ≡ Some m → is_crowded_if_open (w.connection c) ≡ is_crowded m
+crowded-is w c m is = ap is_crowded_if_open is
 
 -- what the front answers itself is owed: by the first point, or since memory ran out
-away-owed : (w : RunState) (c status : ℕ) (request : Req) (crowded admitted full dry : Bool) → is_crowded_line (w.line c) ≡ crowded → admits w.farm request ≡ admitted → is_front_full w ≡ full → IsAnswering crowded admitted full (Here status dry)
-    → (m : Mood) → (IsTrue dry → IsTrue m.dry) → IsFirstPoint m w c request (Local c status) points ⊎ (IsTrue m.dry × (Local c status ≡ Local c 507))
-away-owed w c status request true admitted full dry crowd may room (inl is) m allows =
-    let at : Here status dry ≡ Here 503 false = is in
+away-owed : (w : RunState) (c status : ℕ) (request : Request) (crowded admitted full out_of_memory : Bool) → is_crowded_if_open (w.connection c) ≡ crowded → admits w.farm request ≡ admitted → is_front_full w ≡ full → IsAnswering crowded admitted full (Here status out_of_memory)
+    → (m : Conditions) → (IsTrue out_of_memory → IsTrue m.out_of_memory) → IsFirstPoint w c request (Local c status) points ⊎ (IsTrue m.out_of_memory × (Local c status ≡ Local c 507))
+away-owed w c status request true admitted full out_of_memory crowd may room (inl is) m allows =
+    let at : Here status out_of_memory ≡ Here 503 false = is in
     let same : status ≡ 503 = cc in
     inl (rw same (inl (crowd, refl)))
-away-owed w c status request false false full dry crowd may room (inl is) m allows =
-    let at : Here status dry ≡ Here 404 false = is in
+away-owed w c status request false false full out_of_memory crowd may room (inl is) m allows =
+    let at : Here status out_of_memory ≡ Here 404 false = is in
     let same : status ≡ 404 = cc in
     inl (rw same (inr (λ yes. let no : ⊥ = cc in no, inl (may, refl))))
-away-owed w c status request false true true dry crowd may room (inl is) m allows =
-    let at : Here status dry ≡ Here 503 false = is in
+away-owed w c status request false true true out_of_memory crowd may room (inl is) m allows =
+    let at : Here status out_of_memory ≡ Here 503 false = is in
     let same : status ≡ 503 = cc in
     inl (rw same (inr (λ yes. let no : ⊥ = cc in no, inr (λ hidden. let no : ⊥ = cc in no, inl (room, refl)))))
-away-owed w c status request false true false dry crowd may room (inl is) m allows = absurd (let at : Here status dry ≡ InFlight = is in let no : ⊥ = cc in no)
-away-owed w c status request crowded admitted full dry crowd may room (inr is) m allows =
+away-owed w c status request false true false out_of_memory crowd may room (inl is) m allows = absurd (let at : Here status out_of_memory ≡ InFlight = is in let no : ⊥ = cc in no)
+away-owed w c status request crowded admitted full out_of_memory crowd may room (inr is) m allows =
     let same : status ≡ 507 = cc in
-    let is_dry : dry ≡ true = cc in
-    inr (allows is_dry, ap (Local c) same)
+    let ran_out : out_of_memory ≡ true = cc in
+    inr (allows ran_out, ap (Local c) same)
 
 -- where there was no memory to find the point, that is the fixed 507
-away-fixed : (crowded admitted full dry : Bool) (status : ℕ) → IsAnswering crowded admitted full (Here status dry) → IsTrue dry → status ≡ 507
-away-fixed true admitted full dry status (inl is) is_dry = absurd (let at : Here status dry ≡ Here 503 false = is in let no : ⊥ = cc in no)
-away-fixed false false full dry status (inl is) is_dry = absurd (let at : Here status dry ≡ Here 404 false = is in let no : ⊥ = cc in no)
-away-fixed false true true dry status (inl is) is_dry = absurd (let at : Here status dry ≡ Here 503 false = is in let no : ⊥ = cc in no)
-away-fixed false true false dry status (inl is) is_dry = absurd (let at : Here status dry ≡ InFlight = is in let no : ⊥ = cc in no)
-away-fixed crowded admitted full dry status (inr is) is_dry = let same : status ≡ 507 = cc in same
+away-fixed : (crowded admitted full out_of_memory : Bool) (status : ℕ) → IsAnswering crowded admitted full (Here status out_of_memory) → IsTrue out_of_memory → status ≡ 507
+away-fixed true admitted full out_of_memory status (inl is) ran_out = absurd (let at : Here status out_of_memory ≡ Here 503 false = is in let no : ⊥ = cc in no)
+away-fixed false false full out_of_memory status (inl is) ran_out = absurd (let at : Here status out_of_memory ≡ Here 404 false = is in let no : ⊥ = cc in no)
+away-fixed false true true out_of_memory status (inl is) ran_out = absurd (let at : Here status out_of_memory ≡ Here 503 false = is in let no : ⊥ = cc in no)
+away-fixed false true false out_of_memory status (inl is) ran_out = absurd (let at : Here status out_of_memory ≡ InFlight = is in let no : ⊥ = cc in no)
+away-fixed crowded admitted full out_of_memory status (inr is) ran_out = let same : status ≡ 507 = cc in same
 
-pub given-away : {farm : Farm} (w : RunState) (c status : ℕ) (k j : Line) (sky : Sky) (request : Req) (crowded dry : Bool) → (owes : OwesRequest farm w c k sky request) → crowded ≡ is_crowded owes.connection
-    → IsAnswering crowded (admits farm request) (is_full_sky sky) (Here status dry) → ((m : Connection) → Owes k m → LineHolds j (with_turn_slot (request_slot request (crowded || status == 507) (local_response status)) m))
-    → GivesDry dry w c (Local c status) × Meets farm (state_after_note w (Local c status)) c j sky
-given-away {farm} w c status k j sky request crowded dry owes is_crowd answering holds =
+pub given-away : {farm : Farm} (w : RunState) (c status : ℕ) (k j : KeptConnection) (flights : Flights) (request : Request) (crowded out_of_memory : Bool) → (owes : OwesRequest farm w c k flights request) → crowded ≡ is_crowded owes.connection
+    → IsAnswering crowded (admits farm request) (are_flights_full flights) (Here status out_of_memory) → ((m : Connection) → Owes k m → ConnectionStandsFor j (with_turn_slot (request_slot request (crowded || status == 507) (local_response status)) m))
+    → GivesIn out_of_memory w c (Local c status) × OpenStandsFor farm (state_after_note w (Local c status)) c j flights
+given-away {farm} w c status k j flights request crowded out_of_memory owes is_crowd answering holds =
     let m = owes.connection in
-    let owed : due_of_connection w c ≡ Treat (Whole request) = ap line_due owes.open_is ∙ owes.due_is in
-    let some : request_of (due_of_connection w c) ≡ Some request = ap request_of owed in
-    let line_crowd : is_crowded_line (w.line c) ≡ crowded = crowded-is w c m owes.open_is ∙ sym is_crowd in (
-      (λ mood allows. due-gives mood w c _ _ owed (away-owed w c status request crowded (admits farm request) (is_full_sky sky) dry line_crowd (ap (λ x. admits x request) owes.farm_is) (full-is sky w owes.sky_is) answering mood allows), away-fixed crowded (admits farm request) (is_full_sky sky) dry status answering),
+    let owed : due_of_connection w c ≡ Treat (Whole request) = ap due_if_open owes.open_is ∙ owes.due_is in
+    let some : treated_request (due_of_connection w c) ≡ Some request = ap treated_request owed in
+    let at_crowd : is_crowded_if_open (w.connection c) ≡ crowded = crowded-is w c m owes.open_is ∙ sym is_crowd in (
+      (λ conditions allows. due-gives conditions w c _ _ owed (away-owed w c status request crowded (admits farm request) (are_flights_full flights) out_of_memory at_crowd (ap (λ x. admits x request) owes.farm_is) (full-is flights w owes.flights_are) answering conditions allows), away-fixed crowded (admits farm request) (are_flights_full flights) out_of_memory status answering),
       record {
         connection = with_turn_slot (request_slot request (crowded || status == 507) (local_response status)) m;
-        open_is = update_here w.line c _ ∙ ap (option_map (λ line. with_turn_slot (local_slot (request_of (due_of_connection w c)) status line) line)) owes.open_is
+        open_is = update_here w.connection c _ ∙ ap (option_map (λ connection. with_turn_slot (local_slot (treated_request (due_of_connection w c)) status connection) connection)) owes.open_is
             ∙ ap (λ r. Some (with_turn_slot (local_slot r status m) m)) some ∙ ap (λ b. Some (with_turn_slot (request_slot request (b || status == 507) (local_response status)) m)) (sym is_crowd);
         holds = holds m owes.owes;
-        sky_is = sky-same sky w _ owes.sky_is refl refl;
+        flights_are = flights-same flights w _ owes.flights_are refl refl;
         farm_is = owes.farm_is;
       },
     )
@@ -117,29 +117,29 @@ flight-owed false true false (inl is) = (refl, refl, refl)
 flight-owed crowded admitted full (inr is) = absurd (let no : ⊥ = cc in no)
 
 -- ---- a flight is asked
-pub given-ask : {farm : Farm} (w : RunState) (c n : ℕ) (k j : Line) (sky new : Sky) (request : Req) (crowded : Bool) → (owes : OwesRequest farm w c k sky request) → crowded ≡ is_crowded owes.connection
-    → IsAnswering crowded (admits farm request) (is_full_sky sky) InFlight → n ≡ sky.asked + 1
-    → new.asked ≡ sky.asked + 1 → new.flights.items ≡ sky.flights.items ++ new_flight (sky.asked + 1) c request ∷ [] → ((m : Connection) → Owes k m → LineHolds j (with_turn_slot (request_slot request false (Awaits n)) m))
-    → GivesDry false w c (asked n c None) × Meets farm (state_after_note w (asked n c None)) c j new
-given-ask {farm} w c n k j sky new request crowded owes is_crowd answering number counted flights holds =
+pub given-ask : {farm : Farm} (w : RunState) (c n : ℕ) (k j : KeptConnection) (flights new : Flights) (request : Request) (crowded : Bool) → (owes : OwesRequest farm w c k flights request) → crowded ≡ is_crowded owes.connection
+    → IsAnswering crowded (admits farm request) (are_flights_full flights) InFlight → n ≡ flights.asked + 1
+    → new.asked ≡ flights.asked + 1 → new.flying.items ≡ flights.flying.items ++ new_flight (flights.asked + 1) c request ∷ [] → ((m : Connection) → Owes k m → ConnectionStandsFor j (with_turn_slot (request_slot request false (Awaits n)) m))
+    → GivesIn false w c (asked n c None) × OpenStandsFor farm (state_after_note w (asked n c None)) c j new
+given-ask {farm} w c n k j flights new request crowded owes is_crowd answering number counted added holds =
     let m = owes.connection in
-    let passes = flight-owed crowded (admits farm request) (is_full_sky sky) answering in
-    let owed : due_of_connection w c ≡ Treat (Whole request) = ap line_due owes.open_is ∙ owes.due_is in
-    let some : request_of (due_of_connection w c) ≡ Some request = ap request_of owed in
-    let not_crowded : is_crowded_line (w.line c) ≡ false = crowded-is w c m owes.open_is ∙ sym is_crowd ∙ passes.0 in
+    let passes = flight-owed crowded (admits farm request) (are_flights_full flights) answering in
+    let owed : due_of_connection w c ≡ Treat (Whole request) = ap due_if_open owes.open_is ∙ owes.due_is in
+    let some : treated_request (due_of_connection w c) ≡ Some request = ap treated_request owed in
+    let not_crowded : is_crowded_if_open (w.connection c) ≡ false = crowded-is w c m owes.open_is ∙ sym is_crowd ∙ passes.0 in
     let admitted : admits w.farm request ≡ true = ap (λ x. admits x request) owes.farm_is ∙ passes.1 in
-    let free : is_front_full w ≡ false = full-is sky w owes.sky_is ∙ passes.2 in
-    let next : asked n c None ≡ asked (flights_asked w.log.entries + 1) c None = ap (λ x. asked x c None) (number ∙ ap (λ x. x + 1) owes.sky_is.asked) in
+    let free : is_front_full w ≡ false = full-is flights w owes.flights_are ∙ passes.2 in
+    let next : asked n c None ≡ asked (flights_asked w.log + 1) c None = ap (λ x. asked x c None) (number ∙ ap (λ x. x + 1) owes.flights_are.asked) in
     let is : state_after_note w (asked n c None) ≡ state_after_ask w n c None (Some request) = ap (state_after_ask w n c None) some in (
-      (λ mood allows. due-gives mood w c _ _ owed (inl (inr (λ crowd. let no : ⊥ = cc in no, inr (λ hidden. let no : ⊥ = cc in no, inr (λ full. let no : ⊥ = cc in no, inl (tt, next)))))), λ is_dry. absurd (let no : ⊥ = cc in no)),
-      subst (λ v. Meets farm v c j new) (sym is) (record {
+      (λ conditions allows. due-gives conditions w c _ _ owed (inl (inr (λ crowd. let no : ⊥ = cc in no, inr (λ hidden. let no : ⊥ = cc in no, inr (λ full. let no : ⊥ = cc in no, inl (tt, next)))))), λ ran_out. absurd (let no : ⊥ = cc in no)),
+      subst (λ v. OpenStandsFor farm v c j new) (sym is) (record {
         connection = with_turn_slot (request_slot request false (Awaits n)) m;
-        open_is = update_here w.line c _ ∙ ap (option_map (with_turn_slot (request_slot request false (Awaits n)))) owes.open_is;
+        open_is = update_here w.connection c _ ∙ ap (option_map (with_turn_slot (request_slot request false (Awaits n)))) owes.open_is;
         holds = holds m owes.owes;
-        sky_is = record {
-          air = flights ∙ ap (λ x. sky.flights.items ++ new_flight x c request ∷ []) (sym number) ∙ ap (λ air. air ++ new_flight n c request ∷ []) owes.sky_is.air;
-          asked = counted ∙ ap (λ x. x + 1) owes.sky_is.asked;
-          rising = rw (flights, counted) (rising-push 0 sky.flights.items sky.asked (new_flight (sky.asked + 1) c request) owes.sky_is.rising (omega arith));
+        flights_are = record {
+          flights = added ∙ ap (λ x. flights.flying.items ++ new_flight x c request ∷ []) (sym number) ∙ ap (λ air_is. air_is ++ new_flight n c request ∷ []) owes.flights_are.flights;
+          asked = counted ∙ ap (λ x. x + 1) owes.flights_are.asked;
+          rising = rw (added, counted) (rising-push 0 flights.flying.items flights.asked (new_flight (flights.asked + 1) c request) owes.flights_are.rising (omega arith));
         };
         farm_is = owes.farm_is;
       }),

@@ -7,33 +7,49 @@ use Rattle.http_front.specs.Turns.{Breaks, End, SpellsTurns, Waits}
 use Rattle.http_front.specs.declared.turn.Turn.{Turn}
 use Rattle.connections.specs.Slots.{Slot, is_answered}
 use Rattle.connections.specs.Connections.{Close, Connection, Due, Nothing, Refuse, Send, Treat, due_at_end, due_at_slot, due_at_turn, due_without_sending, fresh, next_turn}
-use Rattle.connections.specs.Connections as connection
-use Rattle.connections.specs.Histories.{AnswersRun, AreOfTurns, Follows, Move, after_all, sendings}
+use Rattle.connections.specs.Connections as model
+use Rattle.connections.specs.Histories.{AnswersRun, AreAllTreated, AreOfTurns, Follows, HaveNoSendingOutOfMemory, IsAtRest, Move, after_all, sendings, some_closes}
 use Rattle.connections.specs.declared.sending.Sending.{Sending}
 use Rattle.front.specs.Events.{Event, Run, state_after_events}
 use Rattle.front.specs.Histories.{AnswersStream, AnswersWhatCame, HasReadAll, came_since_opened, sent_since_opened}
 use Rattle.front.specs.Publishers.{Publishing}
-use Rattle.front.specs.States.{RunState, start_of}
+use Rattle.front.specs.States.{Start, RunState, start_of}
 use Rattle.front.proofs.ClosingLemmas.{past-all}
 use Rattle.front.proofs.HistoryLemmas.{Kept, run-kept, start-kept}
 use Rattle.front.proofs.PastLemmas.{Past}
 
 -- the laws of one connection
 abbrev pub InOrder : Type 0
-InOrder = (peer : List ℕ) (moves : List Move) → Follows (fresh peer) moves → ((slot : Slot) → connection.due (after_all (fresh peer) moves) ≢ Send slot) → AnswersRun (after_all (fresh peer) moves).slots (sendings moves)
+InOrder = (peer : List ℕ) (moves : List Move) → Follows (fresh peer) moves → ((slot : Slot) → model.due (after_all (fresh peer) moves) ≢ Send slot) → AnswersRun (after_all (fresh peer) moves).slots (sendings moves)
 
 abbrev pub OfTurns : Type 0
 OfTurns = (peer : List ℕ) (moves : List Move) → Follows (fresh peer) moves → AreOfTurns (after_all (fresh peer) moves).turns (after_all (fresh peer) moves).ends (after_all (fresh peer) moves).slots
 
-pub answers-past : InOrder → (d : Connection) (came : List ℕ) (sent : List Sending) → Past d came sent → ((slot : Slot) → connection.due d ≡ Send slot → ⊥) → AnswersRun d.slots sent
+pub answers-past : InOrder → (d : Connection) (came : List ℕ) (sent : List Sending) → Past d came sent → ((slot : Slot) → model.due d ≡ Send slot → ⊥) → AnswersRun d.slots sent
 answers-past law d came sent past still =
-    let answers = law past.peer past.moves past.follows (λ slot e. still slot (ap connection.due (sym past.is) ∙ e)) in
+    let answers = law past.peer past.moves past.follows (λ slot e. still slot (ap model.due (sym past.is) ∙ e)) in
     rw (past.is, past.sent_is) at answers
 
 pub turns-past : OfTurns → (d : Connection) (came : List ℕ) (sent : List Sending) → Past d came sent → AreOfTurns d.turns d.ends d.slots
 turns-past law d came sent past = subst (λ (x : Connection). AreOfTurns x.turns x.ends x.slots) past.is (law past.peer past.moves past.follows)
 
-abbrev pub stream-past : InOrder → OfTurns → (d : Connection) (came : List ℕ) (sent : List Sending) → Past d came sent → ((slot : Slot) → connection.due d ≡ Send slot → ⊥) → AnswersStream d.stream sent
+-- each turn is treated
+abbrev pub EachTreated : Type 0
+EachTreated = (peer : List ℕ) (moves : List Move) → Follows (fresh peer) moves → IsAtRest (model.due (after_all (fresh peer) moves)) → some_closes (after_all (fresh peer) moves).slots ≡ false → HaveNoSendingOutOfMemory (sendings moves)
+    → AreAllTreated (after_all (fresh peer) moves).turns (after_all (fresh peer) moves).ends (after_all (fresh peer) moves).slots
+
+pub treated-past : EachTreated → (d : Connection) (came : List ℕ) (sent : List Sending) → Past d came sent → IsAtRest (model.due d) → some_closes d.slots ≡ false → HaveNoSendingOutOfMemory sent → AreAllTreated d.turns d.ends d.slots
+treated-past law d came sent past rests none memory =
+    subst (λ (x : Connection). AreAllTreated x.turns x.ends x.slots) past.is (law past.peer past.moves past.follows (subst (λ x. IsAtRest (model.due x)) (sym past.is) rests)
+    (subst (λ (x : Connection). some_closes x.slots ≡ false) (sym past.is) none) (subst HaveNoSendingOutOfMemory (sym past.sent_is) memory))
+
+pub rest-still : (d : Connection) → IsAtRest (model.due d) → (slot : Slot) → model.due d ≡ Send slot → ⊥
+rest-still d rests slot e = subst IsAtRest e rests
+
+pub idle-rest : (d : Connection) → model.due d ≡ Nothing → IsAtRest (model.due d)
+idle-rest d idle = subst IsAtRest (sym idle) tt
+
+abbrev pub stream-past : InOrder → OfTurns → (d : Connection) (came : List ℕ) (sent : List Sending) → Past d came sent → ((slot : Slot) → model.due d ≡ Send slot → ⊥) → AnswersStream d.stream sent
 stream-past order turns d came sent past still = record {
   turns = d.turns;
   ends = d.ends;
@@ -43,16 +59,17 @@ stream-past order turns d came sent past still = record {
   answers = answers-past order d came sent past still;
 }
 
-abbrev pub what-past : InOrder → OfTurns → (d : Connection) (came : List ℕ) (sent : List Sending) → Past d came sent → ((slot : Slot) → connection.due d ≡ Send slot → ⊥) → AnswersWhatCame came sent
-what-past order turns d came sent past still = record {
+abbrev pub what-past : InOrder → OfTurns → EachTreated → (d : Connection) (came : List ℕ) (sent : List Sending) → Past d came sent → IsAtRest (model.due d) → AnswersWhatCame came sent
+what-past order turns treated d came sent past rests = record {
   stream = d.stream;
   rest = past.unread;
   came_is = past.came_is;
-  answers = stream-past order turns d came sent past still;
+  answers = stream-past order turns d came sent past (rest-still d rests);
   all_read = past-all d came sent past;
+  all_treated = treated-past treated d came sent past rests;
 }
 
-pub idle-still : (d : Connection) → connection.due d ≡ Nothing → (slot : Slot) → connection.due d ≡ Send slot → ⊥
+pub idle-still : (d : Connection) → model.due d ≡ Nothing → (slot : Slot) → model.due d ≡ Send slot → ⊥
 idle-still d idle slot e = let no : ⊥ = cc in no
 
 -- ---- an open connection that reads on
@@ -79,52 +96,52 @@ idle-slot (Some slot) d reads idle = by_answer (is_answered slot.response) idle
     by_answer true e = absurd (let no : ⊥ = cc in no)
     by_answer false e = idle-without_sending d reads e
 
-idle-due : (d : Connection) → d.closing ≡ false → connection.due d ≡ Nothing → (next_turn d ≡ None) × (d.ends ≡ Waits)
+idle-due : (d : Connection) → d.closing ≡ false → model.due d ≡ Nothing → (next_turn d ≡ None) × (d.ends ≡ Waits)
 idle-due d reads idle = by_over d.over idle
   where
     by_over : (over : Bool) → (if over then Close else due_at_slot (slice_get d.slots d.sent) d) ≡ Nothing → (next_turn d ≡ None) × (d.ends ≡ Waits)
     by_over true e = absurd (let no : ⊥ = cc in no)
     by_over false e = idle-slot (slice_get d.slots d.sent) d reads e
 
-read-past : (d : Connection) (came : List ℕ) (sent : List Sending) → Past d came sent → d.closing ≡ false → connection.due d ≡ Nothing → HasReadAll came d
+read-past : (d : Connection) (came : List ℕ) (sent : List Sending) → Past d came sent → d.closing ≡ false → model.due d ≡ Nothing → HasReadAll came d
 read-past d came sent past reads idle =
     let none = idle-due d reads idle in
     let all : came ≡ d.stream = past.came_is ∙ ap (λ xs. d.stream ++ xs) (past.read reads) ∙ append-nil d.stream in
     record { spells = rw all (subst (λ end. SpellsTurns d.stream d.turns end) none.1 past.spells); treated = none.0 }
 
 -- ---- the laws
-end-kept : (publishing : Publishing) (farm : Farm) (content : Content) (events : List Event) (c : ℕ) → Run (start_of publishing farm content) events
-    → Kept (state_after_events (start_of publishing farm content) events) c (came_since_opened c events) (sent_since_opened c events)
-end-kept publishing farm content events c run = run-kept (start_of publishing farm content) events c [] [] (start-kept publishing farm content c) run
+end-kept : (s : Start) (events : List Event) (c : ℕ) → Run (start_of s) events
+    → Kept (state_after_events (start_of s) events) c (came_since_opened c events) (sent_since_opened c events)
+end-kept s events c run = run-kept (start_of s) events c [] [] (start-kept s c) run
 
-pub answered-in-order : InOrder → (publishing : Publishing) (farm : Farm) (content : Content) (events : List Event) (c : ℕ) (d : Connection) → Run (start_of publishing farm content) events
-    → (state_after_events (start_of publishing farm content) events).line c ≡ Some d → AnswersRun d.slots (sent_since_opened c events)
-answered-in-order law publishing farm content events c d run some =
-    let kept = end-kept publishing farm content events c run in
+pub answered-in-order : InOrder → (s : Start) (events : List Event) (c : ℕ) (d : Connection) → Run (start_of s) events
+    → (state_after_events (start_of s) events).connection c ≡ Some d → AnswersRun d.slots (sent_since_opened c events)
+answered-in-order law s events c d run some =
+    let kept = end-kept s events c run in
     answers-past law d _ _ (kept.held.here d some) (idle-still d (kept.still d some))
 
-pub slots-of-turns : OfTurns → (publishing : Publishing) (farm : Farm) (content : Content) (events : List Event) (c : ℕ) (d : Connection) → Run (start_of publishing farm content) events
-    → (state_after_events (start_of publishing farm content) events).line c ≡ Some d → AreOfTurns d.turns d.ends d.slots
-slots-of-turns law publishing farm content events c d run some = turns-past law d _ _ ((end-kept publishing farm content events c run).held.here d some)
+pub slots-of-turns : OfTurns → (s : Start) (events : List Event) (c : ℕ) (d : Connection) → Run (start_of s) events
+    → (state_after_events (start_of s) events).connection c ≡ Some d → AreOfTurns d.turns d.ends d.slots
+slots-of-turns law s events c d run some = turns-past law d _ _ ((end-kept s events c run).held.here d some)
 
-pub read-all : (publishing : Publishing) (farm : Farm) (content : Content) (events : List Event) (c : ℕ) (d : Connection) → Run (start_of publishing farm content) events
-    → (state_after_events (start_of publishing farm content) events).line c ≡ Some d → d.closing ≡ false → HasReadAll (came_since_opened c events) d
-read-all publishing farm content events c d run some reads =
-    let kept = end-kept publishing farm content events c run in
+pub read-all : (s : Start) (events : List Event) (c : ℕ) (d : Connection) → Run (start_of s) events
+    → (state_after_events (start_of s) events).connection c ≡ Some d → d.closing ≡ false → HasReadAll (came_since_opened c events) d
+read-all s events c d run some reads =
+    let kept = end-kept s events c run in
     read-past d _ _ (kept.held.here d some) reads (kept.still d some)
 
-answers-kept : InOrder → OfTurns → (w : RunState) (c : ℕ) (came : List ℕ) (sent : List Sending) (line : Option Connection) → w.line c ≡ line → Kept w c came sent → AnswersWhatCame came sent
-answers-kept order turns w c came sent (Some d) is kept =
+answers-kept : InOrder → OfTurns → EachTreated → (w : RunState) (c : ℕ) (came : List ℕ) (sent : List Sending) (connection : Option Connection) → w.connection c ≡ connection → Kept w c came sent → AnswersWhatCame came sent
+answers-kept order turns treated w c came sent (Some d) is kept =
     let past = kept.held.here d is in
-    what-past order turns d came sent past (idle-still d (kept.still d is))
-answers-kept order turns w c came sent None is kept =
+    what-past order turns treated d came sent past (idle-rest d (kept.still d is))
+answers-kept order turns treated w c came sent None is kept =
     let last = kept.held.over is in
-    what-past order turns last.last came sent last.past last.still
+    what-past order turns treated last.last came sent last.past last.rests
 
-pub answered-streams : InOrder → OfTurns → (publishing : Publishing) (farm : Farm) (content : Content) (events : List Event) (c : ℕ) → Run (start_of publishing farm content) events
+pub answered-streams : InOrder → OfTurns → EachTreated → (s : Start) (events : List Event) (c : ℕ) → Run (start_of s) events
     → AnswersWhatCame (came_since_opened c events) (sent_since_opened c events)
-answered-streams order turns publishing farm content events c run =
-    answers-kept order turns (state_after_events (start_of publishing farm content) events) c _ _ ((state_after_events (start_of publishing farm content) events).line c) refl (end-kept publishing farm content events c run)
+answered-streams order turns treated s events c run =
+    answers-kept order turns treated (state_after_events (start_of s) events) c _ _ ((state_after_events (start_of s) events).connection c) refl (end-kept s events c run)
 
 -- ---- cuttings
 abbrev pub Beginnings : Type 0

@@ -13,54 +13,52 @@ use Rattle.front.specs.declared.step.Pick.TheVariants.{Number, First}
 use Rattle.front.specs.declared.step.Step.{Step}
 use Rattle.front.specs.declared.step.Step.TheVariants.{Opened, Piece, Gone, Direct, Render, Deliver, Lose}
 use Rattle.front.specs.declared.note.Note.{Note}
-use Rattle.front.specs.declared.note.Note.TheVariants.{Answer as answered, Ask as asked, Local, Rendered, Passed, Lost, Sent, Shut, Refused, Idle, Dry}
+use Rattle.front.specs.declared.note.Note.TheVariants.{Answer as answered, Local, Rendered, Passed, Lost, Sent, Shut, Refused, Idle, Dry}
+use Rattle.connections.specs.Ids.{ConnectionId}
 use Rattle.connections.specs.Slots.{fixed_answer}
 use Rattle.front.specs.Publishers.{direct_answer}
 use Rattle.front.specs.States.{RunState}
-use Rattle.front.specs.Moves.{Mood, Settles, state_after_note, state_after_notes, due_of_connection, on_line, has_number, published_for}
+use Rattle.front.specs.Moves.{Conditions, Settles, state_after_note, state_after_notes, due_of_connection, on_connection, has_number, published_for}
 
--- An event: its step, its notes but for those that name its mood, and the mood. Of a piece it tells which further turns its
+-- An event: its step, its notes but for those that name what it ran under, and that. Of a piece it tells which further turns its
 -- connection's stream now spells, and how they end.
 pub record Event : Type 0 where
   pub step : Step
   pub body : List Note
-  pub mood : Mood
+  pub conditions : Conditions
   pub turns : List Turn
   pub ends : End
 
--- the notes that name a mood: in a dry one `Dry`
-abbrev pub mood_notes : Mood → List Note
-mood_notes m = if m.dry then Dry ∷ [] else []
+-- the notes that name what an event ran under: `Dry` where memory ran out
+abbrev pub condition_notes : Conditions → List Note
+condition_notes m = if m.out_of_memory then Dry ∷ [] else []
 
--- the notes of an event: those that name its mood are last
+-- the notes of an event: those that name what it ran under are last
 abbrev pub notes_of : Event → List Note
-notes_of e = e.body ++ mood_notes e.mood
+notes_of e = e.body ++ condition_notes e.conditions
 
 -- ---- what a step does before any note
 
 -- the most connections
-abbrev pub most_lines : ℕ
-most_lines = 256
+abbrev pub most_connections : ℕ
+most_connections = 256
 
 -- the connection is there, where there is room
-abbrev pub state_after_opening : RunState → ℕ → List ℕ → Option Connection → RunState
-state_after_opening w c peer (Some line) = w
-state_after_opening w c peer None = if nat_le most_lines w.lines then w else record w { line = update nat_eq w.line c (Some (fresh peer)); lines = w.lines + 1 }
+abbrev pub state_after_opening : RunState → ConnectionId → List ℕ → Option Connection → RunState
+state_after_opening w c peer (Some connection) = w
+state_after_opening w c peer None = if nat_le most_connections w.connection_count then w else record w { connection = update nat_eq w.connection c (Some (fresh peer)); connection_count = w.connection_count + 1 }
 
 -- the connection isn't there any more
-abbrev pub state_after_going : RunState → ℕ → Option Connection → RunState
+abbrev pub state_after_going : RunState → ConnectionId → Option Connection → RunState
 state_after_going w c None = w
-state_after_going w c (Some line) = record w { line = update nat_eq w.line c None; lines = w.lines - 1 }
+state_after_going w c (Some connection) = record w { connection = update nat_eq w.connection c None; connection_count = w.connection_count - 1 }
 
 -- the state once a step has begun, before its notes
 abbrev pub state_before_notes : RunState → Event → Step → RunState
-state_before_notes w e (Opened c peer) = state_after_opening w c peer (w.line c)
-state_before_notes w e (Piece c bytes) = on_line w c (with_piece bytes e.turns e.ends)
-state_before_notes w e (Gone c) = state_after_going w c (w.line c)
-state_before_notes w e (Direct target) = w
-state_before_notes w e (Render pick) = w
-state_before_notes w e (Deliver pick) = w
-state_before_notes w e (Lose pick) = w
+state_before_notes w e (Opened c peer) = state_after_opening w c peer (w.connection c)
+state_before_notes w e (Piece c bytes) = on_connection w c (with_piece bytes e.turns e.ends)
+state_before_notes w e (Gone c) = state_after_going w c (w.connection c)
+state_before_notes w e _ = w
 
 -- the state after an event
 abbrev pub after_event : RunState → Event → RunState
@@ -75,7 +73,7 @@ is_picked First flying = true
 
 -- the first flight that is asked for and can be taken: with `First` the one with the least number
 abbrev pub picked_flight : Pick → (Flying → Bool) → List Flying → Option Flying
-picked_flight pick can air = find (λ flying. is_picked pick flying && can flying) air
+picked_flight pick can flights = find (λ flying. is_picked pick flying && can flying) flights
 
 -- the flight has an answer
 abbrev pub is_rendered : Flying → Bool
@@ -92,52 +90,52 @@ is_any flying = true
 -- ---- the notes of each step
 
 -- the notes of an opening: it does nothing where the connection is there, and is refused where there is no room
-abbrev pub opening : ℕ → ℕ → Option Connection → List Note
-opening c lines (Some line) = Idle ∷ []
-opening c lines None = if nat_le most_lines lines then Refused c ∷ [] else []
+abbrev pub opening : ConnectionId → ℕ → Option Connection → List Note
+opening c count (Some connection) = Idle ∷ []
+opening c count None = if nat_le most_connections count then Refused c ∷ [] else []
 
 -- the notes of a client that goes: it does nothing where the connection isn't there
 abbrev pub going : Option Connection → List Note
 going None = Idle ∷ []
-going (Some line) = []
+going (Some connection) = []
 
 -- The stream spells these turns now too, and ends so, unless it is read no further; and the connection gets what it is owed.
-pub record PieceFeeds (w : RunState) (e : Event) (c : ℕ) (bytes : List ℕ) (line : Connection) : Type 0 where
-  pub spells : line.closing ≡ false → SpellsTurns (line.stream ++ bytes) (line.turns ++ e.turns) e.ends
-  pub settles : Settles e.mood (on_line w c (with_piece bytes e.turns e.ends)) c e.body
+pub record PieceFeeds (w : RunState) (e : Event) (c : ConnectionId) (bytes : List ℕ) (connection : Connection) : Type 0 where
+  pub spells : connection.closing ≡ false → SpellsTurns (connection.stream ++ bytes) (connection.turns ++ e.turns) e.ends
+  pub settles : Settles e.conditions (on_connection w c (with_piece bytes e.turns e.ends)) c e.body
 
 -- a piece does nothing where the connection isn't there
-abbrev pub PieceTo : RunState → Event → ℕ → List ℕ → Option Connection → Type 0
+abbrev pub PieceTo : RunState → Event → ConnectionId → List ℕ → Option Connection → Type 0
 PieceTo w e c bytes None = e.body ≡ Idle ∷ []
-PieceTo w e c bytes (Some line) = PieceFeeds w e c bytes line
+PieceTo w e c bytes (Some connection) = PieceFeeds w e c bytes connection
 
--- the answer that is wanted, or in its place the fixed one: the event says that it is dry exactly where that stands there
-abbrev pub IsOrFixed : Mood → Answer → Answer → Type 0
-IsOrFixed m answer wanted = ((answer ≡ wanted) × (m.dry ≡ false)) ⊎ ((answer ≡ fixed_answer) × (m.dry ≡ true))
+-- the answer that is wanted, or in its place the fixed one: memory ran out exactly where that stands there
+abbrev pub IsOrFixed : Conditions → Answer → Answer → Type 0
+IsOrFixed m answer wanted = ((answer ≡ wanted) × (m.out_of_memory ≡ false)) ⊎ ((answer ≡ fixed_answer) × (m.out_of_memory ≡ true))
 
 -- the publisher's answer to the target, on the content of this moment
 abbrev pub DirectTo : RunState → Event → List ℕ → Type 0
-DirectTo w e target = (answer : Answer) × IsOrFixed e.mood answer (direct_answer w.publishing w.farm w.content target) × (e.body ≡ answered answer ∷ [])
+DirectTo w e target = (answer : Answer) × IsOrFixed e.conditions answer (direct_answer w.publishing w.farm w.content target) × (e.body ≡ answered answer ∷ [])
 
 -- the publisher's answer to the flight's request, on the content of this moment
 abbrev pub RenderTo : RunState → Event → Option Flying → Type 0
 RenderTo w e None = e.body ≡ Idle ∷ []
-RenderTo w e (Some flying) = (answer : Answer) × IsOrFixed e.mood answer (published_for w flying.request).answer × (e.body ≡ Rendered flying.number answer ∷ [])
+RenderTo w e (Some flying) = (answer : Answer) × IsOrFixed e.conditions answer (published_for w flying.request).answer × (e.body ≡ Rendered flying.number answer ∷ [])
 
 -- a first note, and then what its connection is owed
-pub record LeadsNotes (w : RunState) (m : Mood) (first : Note) (c : ℕ) (notes : List Note) : Type 0 where
+pub record LeadsNotes (w : RunState) (m : Conditions) (first : Note) (c : ConnectionId) (notes : List Note) : Type 0 where
   pub rest : List Note
   pub begins : notes ≡ first ∷ rest
   pub settles : Settles m (state_after_note w first) c rest
 
 -- which note a landing has: without a cache its answer is passed on
-abbrev pub MayLand : RunState → Mood → Flying → Answer → Note → Type 0
-MayLand w m flying answer note = note ≡ Passed flying.number
+abbrev pub MayLand : Flying → Note → Type 0
+MayLand flying note = note ≡ Passed flying.number
 
 -- a landing with this answer; it does nothing where the flight has none
 abbrev pub DeliverAs : RunState → Event → Flying → Option Answer → Type 0
 DeliverAs w e flying None = e.body ≡ Idle ∷ []
-DeliverAs w e flying (Some answer) = (note : Note) × MayLand w e.mood flying answer note × LeadsNotes w e.mood note flying.line e.body
+DeliverAs w e flying (Some answer) = (note : Note) × MayLand flying note × LeadsNotes w e.conditions note flying.connection e.body
 
 -- a landing of the flight; it does nothing where there is none
 abbrev pub DeliverTo : RunState → Event → Option Flying → Type 0
@@ -147,45 +145,39 @@ DeliverTo w e (Some flying) = DeliverAs w e flying flying.rendered
 -- a loss of the flight, and then what its connection is owed; it does nothing where there is none
 abbrev pub LoseTo : RunState → Event → Option Flying → Type 0
 LoseTo w e None = e.body ≡ Idle ∷ []
-LoseTo w e (Some flying) = LeadsNotes w e.mood (Lost flying.number) flying.line e.body
+LoseTo w e (Some flying) = LeadsNotes w e.conditions (Lost flying.number) flying.connection e.body
 
 -- the event is one of this step
 abbrev pub HappensBy : RunState → Event → Step → Type 0
-HappensBy w e (Opened c peer) = e.body ≡ opening c w.lines (w.line c)
-HappensBy w e (Piece c bytes) = PieceTo w e c bytes (w.line c)
-HappensBy w e (Gone c) = e.body ≡ going (w.line c)
+HappensBy w e (Opened c peer) = e.body ≡ opening c w.connection_count (w.connection c)
+HappensBy w e (Piece c bytes) = PieceTo w e c bytes (w.connection c)
+HappensBy w e (Gone c) = e.body ≡ going (w.connection c)
 HappensBy w e (Direct target) = DirectTo w e target
-HappensBy w e (Render pick) = RenderTo w e (picked_flight pick is_unrendered w.air)
-HappensBy w e (Deliver pick) = DeliverTo w e (picked_flight pick is_rendered w.air)
-HappensBy w e (Lose pick) = LoseTo w e (picked_flight pick is_any w.air)
+HappensBy w e (Render pick) = RenderTo w e (picked_flight pick is_unrendered w.flights)
+HappensBy w e (Deliver pick) = DeliverTo w e (picked_flight pick is_rendered w.flights)
+HappensBy w e (Lose pick) = LoseTo w e (picked_flight pick is_any w.flights)
 
 -- The note shows that memory ran out: it gives the fixed 507 as an answer, as what is rendered or as a request's own, or it sends
 -- that in place of what is due to be sent.
-abbrev pub ShowsLack : RunState → Note → Type 0
-ShowsLack w (answered answer) = answer ≡ fixed_answer
-ShowsLack w (asked number c key) = ⊥
-ShowsLack w (Local c status) = status ≡ insufficient_storage
-ShowsLack w (Rendered number answer) = answer ≡ fixed_answer
-ShowsLack w (Passed number) = ⊥
-ShowsLack w (Lost number) = ⊥
-ShowsLack w (Sent c bytes) = IsInPlaceOfDue (due_of_connection w c) bytes
-ShowsLack w (Shut c) = ⊥
-ShowsLack w (Refused c) = ⊥
-ShowsLack w Idle = ⊥
-ShowsLack w Dry = ⊥
+abbrev pub ShowsOutOfMemory : RunState → Note → Type 0
+ShowsOutOfMemory w (answered answer) = answer ≡ fixed_answer
+ShowsOutOfMemory w (Local c status) = status ≡ insufficient_storage
+ShowsOutOfMemory w (Rendered number answer) = answer ≡ fixed_answer
+ShowsOutOfMemory w (Sent c bytes) = IsInPlaceOfDue (due_of_connection w c) bytes
+ShowsOutOfMemory w _ = ⊥
 
 -- one of the notes does, in the state in which it comes
-abbrev pub SomeShowsLack : RunState → List Note → Type 0
-SomeShowsLack w [] = ⊥
-SomeShowsLack w (note ∷ notes) = ShowsLack w note ⊎ SomeShowsLack (state_after_note w note) notes
+abbrev pub SomeShowsOutOfMemory : RunState → List Note → Type 0
+SomeShowsOutOfMemory w [] = ⊥
+SomeShowsOutOfMemory w (note ∷ notes) = ShowsOutOfMemory w note ⊎ SomeShowsOutOfMemory (state_after_note w note) notes
 
 -- an event says that memory ran out only where one of its notes shows it
-abbrev pub ShowsLackIfDry : RunState → Mood → List Note → Type 0
-ShowsLackIfDry w m notes = IsTrue m.dry → SomeShowsLack w notes
+abbrev pub ShowsIfOutOfMemory : RunState → Conditions → List Note → Type 0
+ShowsIfOutOfMemory w m notes = IsTrue m.out_of_memory → SomeShowsOutOfMemory w notes
 
 -- the event happens in this state: by its step, and it says that memory ran out only where a note shows it
 abbrev pub Happens : RunState → Event → Type 0
-Happens w e = HappensBy w e e.step × ShowsLackIfDry (state_before_notes w e e.step) e.mood e.body
+Happens w e = HappensBy w e e.step × ShowsIfOutOfMemory (state_before_notes w e e.step) e.conditions e.body
 
 -- a run: each event happens in the state that those before it left
 abbrev pub Run : RunState → List Event → Type 0

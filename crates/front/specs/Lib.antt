@@ -7,6 +7,6 @@ pub mod Cuttings
 pub mod Renders
 pub mod Owned
 pub mod Determined
-pub mod Lines
+pub mod KeptConnections
 pub mod Boards
 pub mod Fronts

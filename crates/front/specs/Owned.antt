@@ -1,105 +1,85 @@
 -- Whose answer each slot of a connection has: that of its own request's flight, or the front's own.
 use Rattle.std.specs.Prelude.{◌≡◌, ◌++◌, ◌⊎◌, ℕ, Bool, nat_eq, if◌then◌else◌, List, [], ◌∷◌, flat_map}
 use Rattle.sp_base.specs.declared.answer.Answer.{Answer}
-use Rattle.sp_base.specs.declared.answer.Req.{Req}
-use Rattle.resource_tree.specs.Content.{Content}
-use Rattle.any_config.specs.declared.farm.Farm.{Farm}
+use Rattle.sp_base.specs.Requests.{Request}
 use Rattle.error_answers.specs.Errors.{error_answer}
 use Rattle.http_front.specs.declared.turn.Turn.{Turn}
 use Rattle.http_front.specs.declared.turn.Turn.TheVariants.{Continue, Whole}
-use Rattle.connections.specs.Slots.{Awaits, Fixed, Interim, Response, Says, Slot, local_response}
+use Rattle.connections.specs.Slots.{Awaits, Interim, Response, Says, Slot, local_response}
+use Rattle.connections.specs.Ids.{ConnectionId, FlightId}
 use Rattle.connections.specs.declared.sending.Sending.{Sending}
 use Rattle.front.specs.declared.note.Note.{Note}
-use Rattle.front.specs.declared.note.Note.TheVariants.{Answer as answered, Ask as asked, Local, Rendered, Passed, Lost, Sent, Shut, Refused, Idle, Dry}
+use Rattle.front.specs.declared.note.Note.TheVariants.{Ask as asked, Local, Lost}
 use Rattle.front.specs.Events.{Event, Run}
 use Rattle.front.specs.Histories.{AnswersWhatCame, came_since_opened, opens_connection, sent_since_opened}
-use Rattle.front.specs.Publishers.{Publishing}
 use Rattle.front.specs.Renders.{Rendering, renders_of}
-use Rattle.front.specs.States.{start_of}
+use Rattle.front.specs.States.{Start, start_of}
 
 -- how a request is treated, or the fault of a stream: by the flight with this number, or by the front itself with this status
 pub data Treating : Type 0 where
-  ByFlight : (number : ℕ) → Treating
+  ByFlight : (number : FlightId) → Treating
   ByStatus : (status : ℕ) → Treating
 
 -- how the note treats a request of the connection, or the fault of its stream
-abbrev pub treated_by : ℕ → Note → List Treating
-treated_by c (answered answer) = []
+abbrev pub treated_by : ConnectionId → Note → List Treating
 treated_by c (asked number d key) = if nat_eq d c then ByFlight number ∷ [] else []
 treated_by c (Local d status) = if nat_eq d c then ByStatus status ∷ [] else []
-treated_by c (Rendered number answer) = []
-treated_by c (Passed number) = []
-treated_by c (Lost number) = []
-treated_by c (Sent d bytes) = []
-treated_by c (Shut d) = []
-treated_by c (Refused d) = []
-treated_by c Idle = []
-treated_by c Dry = []
+treated_by c _ = []
 
 -- the same of notes, one after another
-abbrev pub treated_in : ℕ → List Note → List Treating
+abbrev pub treated_in : ConnectionId → List Note → List Treating
 treated_in c notes = flat_map (treated_by c) notes
 
 -- the same once further events have happened: where one opens the connection, it begins anew
-abbrev pub treated_after : ℕ → List Treating → List Event → List Treating
+abbrev pub treated_after : ConnectionId → List Treating → List Event → List Treating
 treated_after c treatings [] = treatings
 treated_after c treatings (e ∷ events) = treated_after c (if opens_connection c e.step e.body then [] else treatings ++ treated_in c e.body) events
 
 -- how each request of the connection was treated since it was opened last, in order, and after them the fault of its stream: by the
 -- flight that was asked for that very request, or by the front itself
-abbrev pub treated_since_opened : ℕ → List Event → List Treating
+abbrev pub treated_since_opened : ConnectionId → List Event → List Treating
 treated_since_opened c events = treated_after c [] events
 
 -- the flight with this number was for this request, and was rendered with this answer
-pub record WasRendered (renders : List Rendering) (number : ℕ) (request : Req) (answer : Answer) : Type 0 where
+pub record WasRendered (renders : List Rendering) (number : FlightId) (request : Request) (answer : Answer) : Type 0 where
   pub before : List Rendering
   pub later : List Rendering
-  pub dry : Bool
-  pub is : renders ≡ before ++ record { number = number; request = request; answer = answer; dry = dry } ∷ later
+  pub out_of_memory : Bool
+  pub is : renders ≡ before ++ record { number = number; request = request; answer = answer; out_of_memory = out_of_memory } ∷ later
 
 -- the flights that notes lose
-abbrev pub lost_by : Note → List ℕ
-lost_by (answered answer) = []
-lost_by (asked number c key) = []
-lost_by (Local c status) = []
-lost_by (Rendered number answer) = []
-lost_by (Passed number) = []
+abbrev pub lost_by : Note → List FlightId
 lost_by (Lost number) = number ∷ []
-lost_by (Sent c bytes) = []
-lost_by (Shut c) = []
-lost_by (Refused c) = []
-lost_by Idle = []
-lost_by Dry = []
+lost_by _ = []
 
 -- the same of notes, one after another
-abbrev pub lost_in : List Note → List ℕ
+abbrev pub lost_in : List Note → List FlightId
 lost_in notes = flat_map lost_by notes
 
 -- the flights that are lost in a run, one after another
-abbrev pub losses_of : List Event → List ℕ
+abbrev pub losses_of : List Event → List FlightId
 losses_of events = flat_map (λ (e : Event). lost_in e.body) events
 
 -- the flight with this number was lost
-pub record WasLost (losses : List ℕ) (number : ℕ) : Type 0 where
-  pub before : List ℕ
-  pub later : List ℕ
+pub record WasLost (losses : List FlightId) (number : FlightId) : Type 0 where
+  pub before : List FlightId
+  pub later : List FlightId
   pub is : losses ≡ before ++ number ∷ later
 
 -- what became of the flights of a run: what was rendered for them, and which were lost
 pub record Outcomes : Type 0 where
   pub renders : List Rendering
-  pub losses : List ℕ
+  pub losses : List FlightId
 
 -- what answers a request for which this flight was asked: the flight is awaited; or what was rendered for it, where it wasn't lost; or
 -- Bad Gateway, where it was (RFC 9110, section 15.6.3)
-abbrev pub IsOfFlight : Outcomes → ℕ → Req → Response → Type 0
-IsOfFlight outcomes number request Interim = ⊥
-IsOfFlight outcomes number request Fixed = ⊥
+abbrev pub IsOfFlight : Outcomes → FlightId → Request → Response → Type 0
 IsOfFlight outcomes number request (Awaits flight) = flight ≡ number
 IsOfFlight outcomes number request (Says answer) = (WasRendered outcomes.renders number request answer × (WasLost outcomes.losses number → ⊥)) ⊎ (WasLost outcomes.losses number × (answer ≡ error_answer 502))
+IsOfFlight outcomes number request _ = ⊥
 
 -- what answers a request: its flight, or the front itself with the status that was noted
-abbrev pub IsOfRequest : Outcomes → Treating → Req → Response → Type 0
+abbrev pub IsOfRequest : Outcomes → Treating → Request → Response → Type 0
 IsOfRequest outcomes (ByStatus status) request response = response ≡ local_response status
 IsOfRequest outcomes (ByFlight number) request response = IsOfFlight outcomes number request response
 
@@ -111,7 +91,7 @@ pub record IsNotedFault (treatings : List Treating) (slot : Slot) (slots : List 
   pub response_is : slot.response ≡ local_response status
 
 -- The slots are those of the turns: a Continue's, a request's that is answered so, and after all turns that of a fault.
-abbrev pub AreEach : (Treating → Req → Response → Type 0) → List Treating → List Turn → List Slot → Type 0
+abbrev pub AreEach : (Treating → Request → Response → Type 0) → List Treating → List Turn → List Slot → Type 0
 AreEach Is treatings turns [] = treatings ≡ []
 AreEach Is treatings [] (slot ∷ slots) = IsNotedFault treatings slot slots
 AreEach Is treatings (Continue ∷ turns) (slot ∷ slots) = (slot.response ≡ Interim) × AreEach Is treatings turns slots
@@ -125,5 +105,5 @@ pub record AreOwnAnswers (outcomes : Outcomes) (treatings : List Treating) (came
 
 -- In every run each answer that is sent is its own request's, whether the connection is open, shut or gone.
 abbrev pub AnswersAreOwn : Type 0
-AnswersAreOwn = (publishing : Publishing) (farm : Farm) (content : Content) (events : List Event) (c : ℕ) → Run (start_of publishing farm content) events
-    → AreOwnAnswers (record { renders = renders_of (start_of publishing farm content) events; losses = losses_of events }) (treated_since_opened c events) (came_since_opened c events) (sent_since_opened c events)
+AnswersAreOwn = (s : Start) (events : List Event) (c : ConnectionId) → Run (start_of s) events
+    → AreOwnAnswers (record { renders = renders_of (start_of s) events; losses = losses_of events }) (treated_since_opened c events) (came_since_opened c events) (sent_since_opened c events)

@@ -36,15 +36,16 @@ pub(crate) fn fixed_answer(alloc: Global) -> Answer
     }
 }
 
-/// A copy of an answer.
-pub(crate) fn copied(alloc: Global, answer: &Answer) -> Mem<Answer>
-    ensures { IfOk result (λ a. a ≡ answer.now) }
+/// An answer once more, whose body is shared.
+pub(crate) fn shared(alloc: Global, answer: &mut Answer) -> Mem<Answer>
+    ensures ok { IfOk result (λ a. a ≡ answer.old) }
+    ensures same { answer.new ≡ answer.old }
 {
     Ok(Answer {
         status: answer.status,
         kind: answer.kind.duplicate(alloc)?,
         location: answer.location.duplicate(alloc)?,
         mark: answer.mark,
-        body: ByteBuf::of(alloc, answer.body.bytes())?,
+        body: answer.body.share(alloc)?,
     })
 }

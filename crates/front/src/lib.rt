@@ -4,24 +4,24 @@
 
 mod asking;
 mod board;
+mod connection;
+mod effect;
+mod flights;
 mod flying;
 mod front;
 mod laws;
-mod line;
 mod note;
 mod renderer;
 mod serve;
-mod sky;
 mod step;
-mod told;
 mod treat;
 
 pub use flying::Flying;
 pub use front::Front;
 pub use laws::{
     a_cutting_changes_no_byte, a_cutting_changes_no_turn, answers_are_of_their_own_requests,
-    connections_are_answered_in_order, events_extend, renders_are_published,
-    runs_without_dry_events_are_determined, streams_without_dry_events_end_alike,
+    connections_and_flights_are_counted, connections_are_answered_in_order, events_extend,
+    renders_are_published, runs_with_memory_are_determined, streams_with_memory_end_alike,
 };
 pub use note::{Note, NoteList};
 pub use renderer::Renderer;

@@ -1,4 +1,5 @@
 //! What happens in an event.
+use connections::{ConnectionId, FlightId};
 use cover_rules::PageKey;
 use sp_base::{Answer, ByteBuf, Items};
 
@@ -8,21 +9,21 @@ pub enum Note {
     /// The publisher answers a target.
     Answer(Answer),
     /// A flight is in the air, for a connection, and for a page of the cache if it has one.
-    Ask(u64, u32, Option<PageKey>),
+    Ask(FlightId, ConnectionId, Option<PageKey>),
     /// A turn of a connection is answered by this status.
-    Local(u32, u16),
+    Local(ConnectionId, u16),
     /// A flight is rendered.
-    Rendered(u64, Answer),
+    Rendered(FlightId, Answer),
     /// A flight has landed, and its answer is passed on.
-    Passed(u64),
+    Passed(FlightId),
     /// A flight is lost.
-    Lost(u64),
+    Lost(FlightId),
     /// Bytes are sent on a connection.
-    Sent(u32, ByteBuf),
+    Sent(ConnectionId, ByteBuf),
     /// A connection is shut.
-    Shut(u32),
+    Shut(ConnectionId),
     /// There is no room for a connection.
-    Refused(u32),
+    Refused(ConnectionId),
     /// The step does nothing.
     Idle,
     /// Memory ran out.

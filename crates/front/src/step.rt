@@ -1,11 +1,12 @@
 //! What an event does.
+use connections::{ConnectionId, FlightId};
 use sp_base::{ByteBuf, TextBuf};
 
 /// Which of the flights that a step can take.
 #[derive(Drop)]
 pub enum Pick {
     /// The one with this number.
-    Number(u64),
+    Number(FlightId),
     /// The one with the least number.
     First,
 }
@@ -14,11 +15,11 @@ pub enum Pick {
 #[derive(Drop)]
 pub enum Step {
     /// A connection is there, from this peer.
-    Opened(u32, TextBuf),
+    Opened(ConnectionId, TextBuf),
     /// Bytes come on a connection.
-    Piece(u32, ByteBuf),
+    Piece(ConnectionId, ByteBuf),
     /// A connection is gone.
-    Gone(u32),
+    Gone(ConnectionId),
     /// The publisher is asked for a target, past the connections.
     Direct(TextBuf),
     /// A flight is rendered.

@@ -6,3 +6,4 @@ pub mod KidLemmas
 pub mod ObjectLemmas
 pub mod ReadBackLemmas
 pub mod WritingLemmas
+mod StreamLemmas

@@ -1,8 +1,6 @@
 -- The content of a resource that is a file (JCR 2.0, nt:file), and its media type.
-use Rattle.std.specs.Prelude.{◌==◌, ◌&&◌, ◌-◌, ℕ, Bool, not, nat_le, if◌then◌else◌, List, Option, Some, None, option_map, codes, length, slice_index}
-use Rattle.std.specs.List.{list_all}
-use Rattle.sp_base.specs.Bytes.{is_printable_ascii}
-use Rattle.sp_base.specs.Limits.{longest_media_type}
+use Rattle.std.specs.Prelude.{◌==◌, ◌&&◌, ◌-◌, ℕ, Bool, not, if◌then◌else◌, List, Option, Some, None, option_map, codes, length, slice_index}
+use Rattle.sp_base.specs.MediaTypes.{is_kind}
 use Rattle.sp_base.specs.Properties.{text_in}
 use Rattle.sp_base.specs.declared.value.Value.{Value}
 use Rattle.resource_tree.specs.Seen.{Resource, Seen}
@@ -10,14 +8,10 @@ use Rattle.get_servlet.specs.declared.kids.Kid.{Kid}
 use Rattle.get_servlet.specs.declared.streams.Stream.{Stream}
 use Rattle.get_servlet.specs.Rendering.{lists_kid, kid_of_name}
 
--- each byte is a printable one of ASCII
-abbrev pub is_printable_text : List ℕ → Bool
-is_printable_text text = list_all is_printable_ascii text
-
 -- a text that may be sent as a media type: 1 to `longest_media_type` printable bytes, the first and the last no spaces
 abbrev pub is_media_type : List ℕ → Bool
-is_media_type text = not (length text == 0) && (nat_le (length text) longest_media_type && (is_printable_text text
-    && (not (slice_index text 0 == 32) && not (slice_index text (length text - 1) == 32))))
+is_media_type text = not (length text == 0) && (is_kind text
+    && (not (slice_index text 0 == 32) && not (slice_index text (length text - 1) == 32)))
 
 -- the media type of a file whose kid has this text as its type
 abbrev pub media_type_of : Option (List ℕ) → List ℕ

@@ -1,9 +1,12 @@
 //! Laws of the definitions, on functions that do nothing.
-ghost use Rattle.std.specs.Prelude.{◌≡◌, ◌≤◌, ◌↔◌, ℕ, Some};
+ghost use Rattle.std.specs.Prelude.{◌≡◌, ◌≤◌, ◌↔◌, ℕ, IsTrue, Some};
 ghost use Rattle.json.specs.Json.{document};
+ghost use Rattle.sp_base.specs.MediaTypes.{is_kind};
 ghost use Rattle.sp_base.specs.Paths.{most_segments};
 ghost use Rattle.resource_tree.specs.Seen.{Resource, Seen};
 ghost use Rattle.get_servlet.specs.declared.answer.JsonAnswer.TheVariants.{Over};
+ghost use Rattle.get_servlet.specs.declared.streams.Stream.{Stream};
+ghost use Rattle.get_servlet.specs.Streams.{stream_of};
 ghost use Rattle.get_servlet.specs.Answers.{json_answer, IsOver};
 ghost use Rattle.get_servlet.specs.Objects.{objects_in, HasLongs, HaveLongs};
 ghost use Rattle.get_servlet.specs.Rendering.{resource_json, json_text, shown_count};
@@ -28,4 +31,9 @@ pub fn texts_read_back()
 /// is greater and shows more.
 pub fn over_is_the_greatest_depth()
     ensures { (seen : Seen) (res : Resource) (depth most_bytes most : ℕ) → (json_answer seen res depth most_bytes ≡ Over most) ↔ IsOver seen res depth most }
+{}
+
+/// The media type of a file is one that may be kept and sent.
+pub fn streams_have_media_types()
+    ensures { (seen : Seen) (res : Resource) (stream : Stream) → stream_of seen res ≡ Some stream → IsTrue (is_kind stream.kind) }
 {}

@@ -13,6 +13,7 @@ mod writing;
 pub use answer::{Depth, JsonAnswer, json_of};
 pub use kids::Kid;
 pub use laws::{
-    over_is_the_greatest_depth, shown_are_the_objects, sixty_four_levels_are_all, texts_read_back,
+    over_is_the_greatest_depth, shown_are_the_objects, sixty_four_levels_are_all,
+    streams_have_media_types, texts_read_back,
 };
 pub use streams::{Stream, stream_of};

@@ -1,11 +1,11 @@
 // The content of a resource that is a file.
 ghost use Rattle.std.specs.Prelude.{◌≡◌, IfOk};
 ghost use Rattle.std.specs.Option.{option_copied};
-ghost use Rattle.get_servlet.specs.Streams.{is_printable_text, is_media_type, media_type_of, stream_in, stream_of};
+ghost use Rattle.get_servlet.specs.Streams.{is_media_type, media_type_of, stream_in, stream_of};
 
 use crate::kids::{kid_of_name, lists_kid};
 use resource_tree::{Look, Res};
-use sp_base::{LONGEST_MEDIA_TYPE, Mem, PropList, TextBuf};
+use sp_base::{Mem, PropList, TextBuf, is_kind};
 use std::alloc::Global;
 
 /// The content of a file, and its media type.
@@ -15,18 +15,12 @@ pub struct Stream {
     pub body: TextBuf,
 }
 
-fn is_printable(text: &str) -> bool
-    ensures { result ≡ is_printable_text text.now }
-{
-    text.as_bytes().iter().all(|b| *b >= b' ' && *b <= b'~')
-}
-
 // Whether a text may be sent as a media type: 1 to `LONGEST_MEDIA_TYPE` printable bytes, the first and the last no spaces.
 fn is_media_type(text: &str) -> bool
     ensures { result ≡ is_media_type text.now }
 {
     let bytes = text.as_bytes();
-    if bytes.is_empty() || bytes.len() > LONGEST_MEDIA_TYPE || !is_printable(text) {
+    if bytes.is_empty() || !is_kind(bytes) {
         return false;
     }
     bytes[0] != b' ' && bytes[bytes.len() - 1] != b' '

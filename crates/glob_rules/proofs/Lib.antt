@@ -4,3 +4,4 @@ pub mod CharLemmas
 pub mod RuleLemmas
 pub mod ReadLemmas
 pub mod SpellingLemmas
+pub mod FormLemmas

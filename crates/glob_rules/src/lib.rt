@@ -3,6 +3,7 @@
 
 mod chars;
 mod fault;
+mod form;
 mod glob;
 mod laws;
 mod piece;

@@ -6,6 +6,7 @@ ghost use Rattle.glob_rules.specs.Spelling.{Spells, IsFault};
 ghost use Rattle.glob_rules.specs.declared.piece.GlobPiece.{GlobPiece};
 
 use crate::chars::first_char;
+use crate::form::form_of;
 use crate::piece::{CharClass, CharRange, GlobPiece};
 use crate::{Glob, GlobFault};
 use sp_base::{Items, Mem};
@@ -42,7 +43,12 @@ fn pieces_of(alloc: Global, text: &str) -> Result<Glob, GlobFault>
             rest = later;
         }
     }
-    Ok(Glob { pieces })
+    let (form, literal) = form_of(alloc, pieces.as_slice())?;
+    Ok(Glob {
+        pieces,
+        form,
+        literal,
+    })
 }
 
 // What a class holds, and the text after the `]` that closes it.

@@ -7,7 +7,7 @@ use Rattle.std.proofs.lemmas.Str.Ascii.{IsAscii-from_all}
 use Rattle.httparse.specs.Grammar.{AllPass, HasNoRequest, IsField, IsToken, LineEnd, MayBecomeRequest, NeverHasRequest, RequestHead, is_uri_byte, lf, print_blank, print_end, print_section, print_version}
 use Rattle.httparse.proofs.GrammarLemmas.{cons-append, print_request-append, request_pieces, request_unique}
 use Rattle.httparse.proofs.PieceLemmas.{Blank_deterministic, Method_deterministic, Stops_token}
-use Rattle.sp_base.specs.declared.answer.Req.{Req}
+use Rattle.sp_base.specs.Requests.{Request}
 use Rattle.http_front.specs.declared.fault.InFault.{InFault}
 use Rattle.http_front.specs.declared.fault.InFault.TheVariants.{BadHead, LongHead}
 use Rattle.http_front.specs.declared.turn.Turn.{Turn}
@@ -118,7 +118,7 @@ stops_one s (Breaks f) Waits x y = inr (waits_breaks s f y x)
 stops_one s (Breaks f) (Breaks g) x y = ⊎_elim (λ same. inl (ap Breaks same)) (λ open_. inr open_) (breaks_breaks s f g x y)
 
 -- what comes after a request is one
-rest_one : (s : List ℕ) (awaits : Bool) (request : Req) (rest after : List ℕ) → BeginsWithRequest s awaits request rest → BeginsWithRequest s awaits request after → rest ≡ after
+rest_one : (s : List ℕ) (awaits : Bool) (request : Request) (rest after : List ℕ) → BeginsWithRequest s awaits request rest → BeginsWithRequest s awaits request after → rest ≡ after
 rest_one s awaits request rest after x y =
     sym (append-nil rest) ∙ (request_same s [] awaits awaits request request rest after x (append_none s (λ t. BeginsWithRequest t awaits request after) y)).2
 

@@ -1,44 +1,48 @@
 -- What decides about a head.
-use Rattle.std.proofs.Common.{◌≡◌, ◌≢◌, ◌<◌, ◌+◌, ◌++◌, ℕ, Bool, true, false, cond, List, [], ◌∷◌, Option, Some, None, Ok, Err, length, get_or, map, take, sym, ◌∙◌, ap, refl, arith, subst}
+use Rattle.std.proofs.Common.{◌≡◌, ◌<◌, ◌+◌, ◌++◌, ℕ, Bool, true, false, cond, List, [], ◌∷◌, Option, Some, None, Ok, Err, length, get_or, map, take, sym, ◌∙◌, ap, refl, arith, subst}
 use Rattle.std.specs.Prelude.{nat_lt, option_map, unwrap_or, All, codes}
 use Rattle.std.specs.List.{find}
 use Rattle.std.specs.Option.{is_none}
-use Rattle.std.specs.Str.{IsUtf8, str_to_ascii_lowercase}
-use Rattle.std.proofs.lemmas.List.{get_or-map, length-map, map-append, take_more}
+use Rattle.std.proofs.lemmas.List.{append-nil, get_or-map, length-map, map-append, take_more}
+use Rattle.std.proofs.lemmas.List.Folds.{list_any-append}
+use Rattle.std.specs.List.{list_any}
+use Rattle.sp_base.specs.declared.field.FieldPlace.{FieldPlace}
+use Rattle.sp_base.specs.Fields.{field_at}
 use Rattle.httparse.specs.declared.spans.HeaderSpan.{HeaderSpan}
 use Rattle.httparse.specs.Spans.{header_bytes, span_bytes}
 use Rattle.http_front.specs.declared.fault.InFault.{InFault}
 use Rattle.http_front.specs.declared.fault.InFault.TheVariants.{BadHead, ManyHeaders, BadTarget, NoLength, BadLength, LongBody}
 use Rattle.http_front.specs.declared.target.Target.{Target}
-use Rattle.http_front.specs.declared.head.Asked.{Asked}
-use Rattle.sp_base.specs.declared.answer.Req.{Req}
-use Rattle.http_front.specs.Heads.{lower_case_field, asked_host, body_length, has_transfer_coding, first_refusal, asked_of, asked_with, length_or_fault, HeadParts, heads, closes_connection, is_closing, request_line, request_with, awaits_continue, Asks, within_limit, longest_body, most_fields}
-use Rattle.std.specs.Prelude.{◌==◌, ◌||◌}
-use Rattle.std.proofs.lemmas.Bool.Decides.{nat_tests}
+use Rattle.sp_base.specs.Requests.{Request, request_line}
+use Rattle.http_front.specs.LentHeads.{is_closing_field, is_closing_by_name}
+use Rattle.http_header.specs.FieldName.{IsFieldName}
+use Rattle.http_front.specs.Heads.{Asked, asks_to_close, lower_case_field, asked_host, body_length, has_transfer_coding, first_refusal, asked_of, asked_with, length_or_fault, HeadParts, heads, closes_connection, request_with, awaits_continue, Asks, within_limit, longest_body, most_fields}
+use Rattle.std.specs.Prelude.{◌==◌, ◌||◌, ◌&&◌}
 use Rattle.http1.specs.declared.fields.KnownFields.{KnownFields}
-use Rattle.http1.specs.Fields.{known_fields, has_option, elements_named}
+use Rattle.http1.specs.Text.{eq_ignore_case}
+use Rattle.http1.specs.Fields.{known_fields, has_option, elements, elements_named, is_named}
 use Rattle.http_front.specs.Targets.{target_of}
 
--- the name of a field is a text, where all are
-pub name_at : (bytes : List ℕ) (fields : List HeaderSpan) (i : ℕ) (d : HeaderSpan) → All (λ field. IsUtf8 field.0) (map (header_bytes bytes) fields) → i < length fields
-    → IsUtf8 (span_bytes bytes (get_or fields i d).name)
-name_at bytes fields i d all inside =
-    subst (λ field. IsUtf8 field.0) (get_or-map (header_bytes bytes) fields i d (header_bytes bytes d) inside)
-    (all i (header_bytes bytes d) (omega (arith, length-map fields (header_bytes bytes))))
+-- the name of a field may be one, where all may
+pub name_at : (bytes : List ℕ) (spans : List HeaderSpan) (i : ℕ) (d : HeaderSpan) → All (λ field. IsFieldName field.0) (map (header_bytes bytes) spans) → i < length spans
+    → IsFieldName (span_bytes bytes (get_or spans i d).name)
+name_at bytes spans i d all inside =
+    subst (λ field. IsFieldName field.0) (get_or-map (header_bytes bytes) spans i d (header_bytes bytes d) inside)
+    (all i (header_bytes bytes d) (omega (arith, length-map spans (header_bytes bytes))))
 
 -- one field more
-pub one_more : (bytes : List ℕ) (fields : List HeaderSpan) (i : ℕ) (d : HeaderSpan) (heads next : List (List ℕ × List ℕ)) (name value : List ℕ)
-    → heads ≡ map lower_case_field (map (header_bytes bytes) (take i fields)) → next ≡ heads ++ (name, value) ∷ []
-    → name ≡ str_to_ascii_lowercase (span_bytes bytes (get_or fields i d).name) → value ≡ span_bytes bytes (get_or fields i d).value → i < length fields
-    → next ≡ map lower_case_field (map (header_bytes bytes) (take (i + 1) fields))
-one_more bytes fields i d heads next name value so_far pushed named valued inside =
-    let field = get_or fields i d in
-    let before = map (header_bytes bytes) (take i fields) in
-    let pair : (name, value) ≡ lower_case_field (header_bytes bytes field) = λ j. (named j, valued j) in
-    pushed ∙ ap (λ (hs : List (List ℕ × List ℕ)). hs ++ (name, value) ∷ []) so_far ∙ ap (λ (f : List ℕ × List ℕ). map lower_case_field before ++ f ∷ []) pair
-    ∙ sym (map-append lower_case_field before (header_bytes bytes field ∷ []))
-    ∙ ap (λ (fs : List (List ℕ × List ℕ)). map lower_case_field fs) (sym (map-append (header_bytes bytes) (take i fields) (field ∷ [])))
-    ∙ ap (λ (fs : List HeaderSpan). map lower_case_field (map (header_bytes bytes) fs)) (sym (take_more fields i d inside))
+pub one_more : (bytes : List ℕ) (spans : List HeaderSpan) (i : ℕ) (d : HeaderSpan) (fields next : List FieldPlace) (field : FieldPlace)
+    → map (field_at bytes) fields ≡ map lower_case_field (map (header_bytes bytes) (take i spans)) → next ≡ fields ++ field ∷ []
+    → field_at bytes field ≡ lower_case_field (header_bytes bytes (get_or spans i d)) → i < length spans
+    → map (field_at bytes) next ≡ map lower_case_field (map (header_bytes bytes) (take (i + 1) spans))
+one_more bytes spans i d fields next field so_far pushed told inside =
+    let span = get_or spans i d in
+    let before = map (header_bytes bytes) (take i spans) in
+    ap (map (field_at bytes)) pushed ∙ map-append (field_at bytes) fields (field ∷ []) ∙ ap (λ (fs : List (List ℕ × List ℕ)). fs ++ field_at bytes field ∷ []) so_far
+    ∙ ap (λ (f : List ℕ × List ℕ). map lower_case_field before ++ f ∷ []) told
+    ∙ sym (map-append lower_case_field before (header_bytes bytes span ∷ []))
+    ∙ ap (λ (fs : List (List ℕ × List ℕ)). map lower_case_field fs) (sym (map-append (header_bytes bytes) (take i spans) (span ∷ [])))
+    ∙ ap (λ (fs : List HeaderSpan). map lower_case_field (map (header_bytes bytes) fs)) (sym (take_more spans i d inside))
 
 pub bad_head : (minor : ℕ) (target : List ℕ) (fields : List (List ℕ × List ℕ)) → asked_host minor fields ≡ None → first_refusal minor target fields ≡ Some BadHead
 unfolding first_refusal
@@ -98,24 +102,41 @@ pub asked_is : (minor : ℕ) (target : List ℕ) (fields : List (List ℕ × Lis
 unfolding asked_of length_or_fault after_target first
 asked_is minor target fields host read n h t l = rw (h, t, (length_fine (has_transfer_coding fields) (body_length fields) n l).1) refl
 
+-- the options of a field that isn't named so count for none
+counted : (test : List ℕ → Bool) (named : Bool) (options : List (List ℕ)) → named && list_any test options ≡ list_any test (cond named options [])
+counted test true options = refl
+counted test false options = refl
+
+-- the fields in lower case ask to close where the fields do
+closes_by_name : (fields : List (List ℕ × List ℕ)) → list_any is_closing_field (map lower_case_field fields) ≡ asks_to_close fields
+unfolding eq_ignore_case
+closes_by_name [] = refl
+closes_by_name (field ∷ fields) =
+    let test = λ (e : List ℕ). eq_ignore_case e (codes "close") in
+    let named = is_named (codes "connection") field in
+    (λ i. counted test named (elements field.1) i || closes_by_name fields i)
+    ∙ sym (list_any-append test (cond named (elements field.1) []) (elements_named (codes "connection") fields))
+
+closing_is : (p : HeadParts) → is_closing_by_name p.minor (heads p) ≡ closes_connection p
+closing_is p = ap (λ b. (p.minor == 0) || b) (closes_by_name p.fields)
+
+-- the summary of one Connection field
+pub known_close : (value : List ℕ) (known : KnownFields) → known ≡ known_fields ((codes "connection", value) ∷ []) → known.close ≡ has_option (codes "close") (elements value)
+unfolding known_fields eq_ignore_case
+known_close value known e = ap (λ k. k.close) e ∙ ap (has_option (codes "close")) (append-nil (elements value))
+
 -- what a head asks for, from what was read of it
-pub asks : (p : HeadParts) (method line target : List ℕ) (fields : List (List ℕ × List ℕ)) (asked : Asked) (close : Bool) → method ≡ p.method → target ≡ p.target → fields ≡ heads p
-    → line ≡ request_line method target p.minor → close ≡ closes_connection p → first_refusal p.minor target fields ≡ None → asked_of p.minor target fields ≡ Some asked
-    → (request : Req) (await : Bool) → request ≡ request_with method line p.minor asked fields close → await ≡ awaits_continue p.minor asked.body_length fields
-    → Asks p (record { request = request; body_length = asked.body_length; awaits_continue = await })
-asks p method line target fields asked close m t f l s none some request await r w = record {
+pub asks : (p : HeadParts) (target : List ℕ) (fields : List (List ℕ × List ℕ)) (asked : Asked) → target ≡ p.target → fields ≡ heads p → first_refusal p.minor target fields ≡ None
+    → asked_of p.minor target fields ≡ Some asked → (request : Request) (await : Bool)
+    → request ≡ request_with p.method (request_line p.method p.target p.minor) p.minor asked fields (is_closing_by_name p.minor fields)
+    → await ≡ awaits_continue p.minor asked.body_length fields → Asks p (record { request = request; body_length = asked.body_length; awaits_continue = await })
+asks p target fields asked t f none some request await r w = record {
   faultless = subst (λ u. first_refusal p.minor u (heads p) ≡ None) t (subst (λ fs. first_refusal p.minor target fs ≡ None) f none);
   asked = asked;
   asked_is = subst (λ u. asked_of p.minor u (heads p) ≡ Some asked) t (subst (λ fs. asked_of p.minor target fs ≡ Some asked) f some);
   head_is = λ i. record {
-    request = (r ∙ λ j. request_with (m j) ((l ∙ λ k. request_line (m k) (t k) p.minor) j) p.minor asked (f j) (s j)) i;
+    request = (r ∙ λ j. request_with p.method (request_line p.method p.target p.minor) p.minor asked (f j) ((ap (is_closing_by_name p.minor) f ∙ closing_is p) j)) i;
     body_length = asked.body_length;
     awaits_continue = (w ∙ ap (λ fs. awaits_continue p.minor asked.body_length fs) f) i;
   };
 }
-
-pub closing_is : (minor : ℕ) (fields : List (List ℕ × List ℕ)) (known : KnownFields) → minor ≢ 0 → known ≡ known_fields fields → known.close ≡ is_closing minor fields
-unfolding known_fields
-closing_is minor fields known later e =
-    let no : (minor == 0) ≡ false = grind (arith, nat_tests) in
-    ap (λ k. k.close) e ∙ sym (ap (λ b. b || has_option (codes "close") (elements_named (codes "connection") fields)) no)

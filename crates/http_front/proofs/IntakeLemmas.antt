@@ -3,7 +3,7 @@ use Rattle.std.proofs.Common.{◌≡◌, ◌<◌, ◌≤◌, ◌⊎◌, inl, inr
 use Rattle.std.specs.Prelude.{IfErr, IfNone, IfOk, IfSome, OnErr}
 use Rattle.std.proofs.lemmas.List.{take-append-drop, length-take-le}
 use Rattle.httparse.specs.Grammar.{HasNoRequest, MayBecomeRequest}
-use Rattle.sp_base.specs.declared.answer.Req.{Req}
+use Rattle.sp_base.specs.Requests.{Request}
 use Rattle.http_front.specs.declared.fault.InFault.{InFault}
 use Rattle.http_front.specs.declared.fault.InFault.TheVariants.{NoMemory}
 use Rattle.http_front.specs.declared.head.AskedHead.{AskedHead}
@@ -43,7 +43,7 @@ fault_stays s more fault stops = ⊎_elim (λ refused. inl (refused_stays s more
 
 -- ---- after a head
 
-request_begins : (s more : List ℕ) (a : AskedHead) (r : List ℕ) (awaits : Bool) (request : Req) (rest : List ℕ) → BeginsAsking s a r → a.awaits_continue ≡ awaits → HasBody a (r ++ more) request rest
+request_begins : (s more : List ℕ) (a : AskedHead) (r : List ℕ) (awaits : Bool) (request : Request) (rest : List ℕ) → BeginsAsking s a r → a.awaits_continue ≡ awaits → HasBody a (r ++ more) request rest
     → BeginsWithRequest (s ++ more) awaits request rest
 request_begins s more a r awaits request rest b is body = record { asked = a; bytes = r ++ more; begins = asking_stays s more a r b; awaits_is = is; body = body }
 
@@ -62,7 +62,7 @@ not_asked s more a r (Whole request ∷ turns) end b is f = (f.0, request_begins
 
 -- ---- a body
 
-pub body_taken : (a : AskedHead) (rest more : List ℕ) (request : Req) (turns : List Turn) (end : End) → a.body_length ≤ length rest → request ≡ with_body a (take a.body_length rest)
+pub body_taken : (a : AskedHead) (rest more : List ℕ) (request : Request) (turns : List Turn) (end : End) → a.body_length ≤ length rest → request ≡ with_body a (take a.body_length rest)
     → SpellsTurns (drop a.body_length rest ++ more) turns end → TurnsFollow a (rest ++ more) (Whole request ∷ turns) end
 body_taken a rest more request turns end fits is spells =
     let n = a.body_length in (
@@ -106,7 +106,7 @@ leads_unasked old rest a len heading is begins waits = λ more turns end f.
     subst (λ p. Continues p (rest_of old ++ more) turns end) (sym heading)
     (not_asked (rest_of old) more a (drop len (rest_of old)) turns end begins waits (subst (λ r. TurnsFollow a (r ++ more) turns end) is f))
 
-pub leads_body : (old : Intake) (phase : Phase) (rest : List ℕ) (a : AskedHead) (request : Req) → old.phase ≡ Body a → phase ≡ Heading → rest ≡ drop a.body_length (rest_of old)
+pub leads_body : (old : Intake) (phase : Phase) (rest : List ℕ) (a : AskedHead) (request : Request) → old.phase ≡ Body a → phase ≡ Heading → rest ≡ drop a.body_length (rest_of old)
     → a.body_length ≤ length (rest_of old) → request ≡ with_body a (take a.body_length (rest_of old))
     → (more : List ℕ) (turns : List Turn) (end : End) → Continues phase (rest ++ more) turns end → RemainderSpells old more (Whole request ∷ turns) end
 leads_body old phase rest a request body heading is fits made = λ more turns end l.

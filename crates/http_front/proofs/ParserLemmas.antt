@@ -1,6 +1,6 @@
 -- What the parser finds at the beginning of a stream.
-use Rattle.std.proofs.Common.{◌≡◌, ◌<◌, ◌≤◌, ◌+◌, ◌*◌, ℕ, true, List, [], ◌∷◌, ◌++◌, length, take, drop, sym, ◌∙◌, ap, subst, arith, length-append, flat_map, suc}
-use Rattle.std.specs.Prelude.{All, IsUtf8}
+use Rattle.std.proofs.Common.{◌≡◌, refl, ◌<◌, ◌≤◌, ◌+◌, ◌*◌, ℕ, true, List, [], ◌∷◌, ◌++◌, length, take, drop, sym, ◌∙◌, ap, subst, arith, length-append, length-take, length-drop, get_or, map, flat_map, suc, ◌-◌}
+use Rattle.std.specs.Prelude.{All, IsUtf8, slice_range}
 use Rattle.std.proofs.lemmas.Bool.Decides.{nat_tests}
 use Rattle.std.proofs.lemmas.List.Elements.{All-weaker, All-map, All-head}
 use Rattle.std.proofs.lemmas.Str.{IsUtf8-from_ascii}
@@ -9,12 +9,14 @@ use Rattle.httparse.specs.Grammar.{is_token_byte, IsToken, LineEnd, crlf, lf, pr
 use Rattle.httparse.specs.Grammar.{print_blank, print_version}
 use Rattle.httparse.proofs.GrammarLemmas.{print_request-append}
 use Rattle.httparse.proofs.PieceLemmas.{print_field-append}
-use Rattle.httparse.specs.Spans.{IsRequestWithin, IsRequestAt, RequestExceeds, name_and_value}
+use Rattle.http_header.specs.Token as header
+use Rattle.httparse.specs.declared.spans.Span.{Span}
+use Rattle.httparse.specs.Spans.{header_bytes, span_bytes, IsHeaderWithin, IsRequestWithin, IsRequestAt, RequestExceeds, name_and_value}
 use Rattle.httparse.specs.declared.spans.HeaderSpan.{HeaderSpan}
 use Rattle.httparse.specs.declared.spans.RequestSpans.{RequestSpans}
-use Rattle.http_front.specs.declared.fault.InFault.{InFault}
 use Rattle.http_front.specs.declared.head.AskedHead.{AskedHead}
-use Rattle.http_front.specs.Heads.{HeadParts, request_parts_at, AreTexts, Asks}
+use Rattle.http_front.specs.Heads.{HeadParts, request_parts_at, AreTexts, AreWithin, Asks}
+use Rattle.std.proofs.lemmas.List.{take-append-le, drop-append-le, take-append-drop, length-take-le}
 use Rattle.http_front.specs.StreamBeginnings.{HoldsHead, HoldsSomeHead}
 use Rattle.http_front.specs.Turns.{BeginsAsking, longest_head}
 
@@ -25,15 +27,33 @@ token_is_ascii b token = grind (arith, nat_tests)
 token_is_text : (bytes : List ℕ) → IsToken bytes → IsUtf8 bytes
 token_is_text bytes token = IsUtf8-from_ascii _ (IsAscii-from_all _ (All-weaker (λ b. is_token_byte b ≡ true) (λ b. b < 128) token_is_ascii _ token.1))
 
--- method, target and names of a head are texts
-pub texts : (bytes : List ℕ) (fields : List HeaderSpan) (spans : RequestSpans) → HoldsSomeHead bytes fields spans → AreTexts (request_parts_at bytes fields spans)
-texts bytes fields spans holds =
+-- both grammars have the same tokens
+same_byte : (b : ℕ) → is_token_byte b ≡ true → header.is_token_byte b ≡ true
+unfolding is_token_byte header.is_token_byte
+same_byte b token = token
+
+same_token : (bytes : List ℕ) → IsToken bytes → header.IsToken bytes
+same_token bytes token = (token.0, All-weaker (λ b. is_token_byte b ≡ true) (λ b. header.is_token_byte b ≡ true) same_byte bytes token.1)
+
+-- a part is no longer than the whole
+span_short : (bytes : List ℕ) (span : Span) → length (span_bytes bytes span) ≤ length bytes
+span_short bytes span = omega (arith, length-take (span.end - span.start) (drop span.start bytes), length-drop span.start bytes)
+
+short_names : (bytes : List ℕ) (spans : List HeaderSpan) → length bytes ≤ longest_head → All (λ field. length field.0 ≤ 65535) (map (header_bytes bytes) spans)
+short_names bytes spans small = All-map (λ field. length field.0 ≤ 65535) (header_bytes bytes) spans (λ i d inside. omega (arith, small, span_short bytes (get_or spans i d).name))
+
+-- method and target of a head are texts, and its names may be those of fields
+pub texts : (bytes : List ℕ) (spans : List HeaderSpan) (at : RequestSpans) → length bytes ≤ longest_head → HoldsSomeHead bytes spans at → AreTexts (request_parts_at bytes spans at)
+texts bytes spans at small holds =
     let head = holds.0 in
-    subst AreTexts (sym holds.1.parts_are) (record {
-      method = token_is_text head.method holds.1.reads.0.method;
-      target = holds.1.reads.0.target_text;
-      names = All-map (λ field. IsUtf8 field.0) name_and_value head.fields (All-weaker IsField (λ f. IsUtf8 f.name) (λ f h. token_is_text f.name h.name) head.fields holds.1.reads.0.fields);
-    })
+    let same = holds.1.parts_are in
+    let tokens = All-map (λ field. header.IsToken field.0) name_and_value head.fields (All-weaker IsField (λ f. header.IsToken f.name) (λ f h. same_token f.name h.name) head.fields holds.1.reads.0.fields) in
+    let here : All (λ field. header.IsToken field.0) (request_parts_at bytes spans at).fields = subst (λ (p : HeadParts). All (λ field. header.IsToken field.0) p.fields) (sym same) tokens in
+    record {
+      method = subst (λ (p : HeadParts). IsUtf8 p.method) (sym same) (token_is_text head.method holds.1.reads.0.method);
+      target = subst (λ (p : HeadParts). IsUtf8 p.target) (sym same) holds.1.reads.0.target_text;
+      names = λ i d inside. (here i d inside, short_names bytes spans small i d inside);
+    }
 
 -- and its version is 1.0 or 1.1
 pub version : (bytes : List ℕ) (fields : List HeaderSpan) (spans : RequestSpans) → HoldsSomeHead bytes fields spans → spans.version ≤ 1
@@ -84,6 +104,33 @@ asking bytes fields spans asked small holds asks = (
     asks = subst (λ p. Asks p asked) holds.1.parts_are asks;
   },
 )
+
+-- what stands in the first bytes stands there in all
+range_in : (bytes : List ℕ) (n a b : ℕ) → a ≤ b → b ≤ n → n ≤ length bytes → slice_range (take n bytes) a b ≡ slice_range bytes a b
+range_in bytes n a b order fits there =
+    let first = take n bytes in
+    let rest = drop n bytes in
+    let long : length first ≡ n = length-take-le n bytes there in
+    let short : b - a ≤ length (drop a first) = omega (arith, length-drop a first, long, order, fits) in
+    sym (ap (λ (l : List ℕ). slice_range l a b) (sym (take-append-drop n bytes))
+    ∙ ap (λ (l : List ℕ). take (b - a) l) (drop-append-le a first rest (omega (arith, long, order, fits))) ∙ take-append-le (b - a) (drop a first) rest short)
+
+fields_in : (bytes : List ℕ) (n : ℕ) (spans : List HeaderSpan) → n ≤ length bytes → All (IsHeaderWithin n) spans → map (header_bytes (take n bytes)) spans ≡ map (header_bytes bytes) spans
+fields_in bytes n [] there within = refl
+fields_in bytes n (span ∷ spans) there within =
+    let own = All-head (IsHeaderWithin n) span spans within in
+    let rest = fields_in bytes n spans there (λ k d l. within (suc k) d (omega (arith, l))) in
+    λ i. (range_in bytes n span.name.start span.name.end own.0.0 own.0.1 there i, range_in bytes n span.value.start span.value.end own.1.0 own.1.1 there i) ∷ rest i
+
+-- the parts that stand in the first bytes stand there in all
+pub parts_in : (bytes : List ℕ) (n : ℕ) (spans : List HeaderSpan) (at : RequestSpans) → n ≤ length bytes → AreWithin n spans at
+    → request_parts_at (take n bytes) spans at ≡ request_parts_at bytes spans at
+parts_in bytes n spans at there within = λ i. record {
+  method = range_in bytes n at.method.start at.method.end within.method.0 within.method.1 there i;
+  target = range_in bytes n at.path.start at.path.end within.path.0 within.path.1 there i;
+  minor = at.version;
+  fields = fields_in bytes n spans there within.fields_fit i;
+}
 
 -- ---- room
 

@@ -4,7 +4,7 @@ use Rattle.std.proofs.lemmas.Bool.{true≢false}
 use Rattle.std.proofs.lemmas.List.{take-append-le}
 use Rattle.httparse.specs.Grammar.{RequestHead, print_request, ReadsRequest, HasNoRequest, NeverHasRequest}
 use Rattle.httparse.proofs.GrammarLemmas.{ReadsRequest-append, request_prefix_free}
-use Rattle.sp_base.specs.declared.answer.Req.{Req}
+use Rattle.sp_base.specs.Requests.{Request}
 use Rattle.http_front.specs.declared.fault.InFault.{InFault}
 use Rattle.http_front.specs.declared.head.AskedHead.{AskedHead}
 use Rattle.http_front.specs.declared.turn.Turn.{Turn}
@@ -132,16 +132,16 @@ stops_short s more a r (Breaks fault) x stops = ⊎_elim
 
 -- ---- the request with which a stream begins
 
-whole_long : (a : AskedHead) (bytes : List ℕ) (request : Req) (rest more : List ℕ) → HasBody a bytes request rest → length (bytes ++ more) < a.body_length → ⊥
+whole_long : (a : AskedHead) (bytes : List ℕ) (request : Request) (rest more : List ℕ) → HasBody a bytes request rest → length (bytes ++ more) < a.body_length → ⊥
 whole_long a bytes request rest more body short =
     let size = ap length body.joined ∙ length-append body.body rest in
     omega (arith, size, length-append bytes more, body.whole, short)
 
-pub request_stays : (s more : List ℕ) (awaits : Bool) (request : Req) (rest : List ℕ) (end : End) → BeginsWithRequest s awaits request rest → Stops (s ++ more) end → ⊥
+pub request_stays : (s more : List ℕ) (awaits : Bool) (request : Request) (rest : List ℕ) (end : End) → BeginsWithRequest s awaits request rest → Stops (s ++ more) end → ⊥
 request_stays s more awaits request rest end b stops =
     whole_long b.asked b.bytes request rest more b.body (stops_short s more b.asked b.bytes end b.begins stops).short
 
-pub request_same : (s more : List ℕ) (x y : Bool) (r q : Req) (rest after : List ℕ) → BeginsWithRequest s x r rest → BeginsWithRequest (s ++ more) y q after
+pub request_same : (s more : List ℕ) (x y : Bool) (r q : Request) (rest after : List ℕ) → BeginsWithRequest s x r rest → BeginsWithRequest (s ++ more) y q after
     → (x ≡ y) × (r ≡ q) × (rest ++ more ≡ after)
 request_same s more x y r q rest after b c =
     let same = same_asking s more b.asked c.asked b.bytes c.bytes b.begins c.begins in
@@ -155,12 +155,12 @@ request_same s more x y r q rest after b c =
     )
 
 -- a head that is whole, before its body, as the head of the request that follows
-asked_same : (s more : List ℕ) (x : Bool) (r : Req) (rest : List ℕ) → AwaitsAskedBody s → BeginsWithRequest (s ++ more) x r rest → x ≡ true
+asked_same : (s more : List ℕ) (x : Bool) (r : Request) (rest : List ℕ) → AwaitsAskedBody s → BeginsWithRequest (s ++ more) x r rest → x ≡ true
 asked_same s more x r rest a b =
     let same = same_asking s more a.asked b.asked a.rest b.bytes a.begins b.begins in
     sym b.awaits_is ∙ ap (λ h. h.awaits_continue) (sym same.0) ∙ a.asks
 
-not_asked : (s more : List ℕ) (x : Bool) (r : Req) (rest : List ℕ) → BeginsWithRequest s x r rest → AwaitsAskedBody (s ++ more) → ⊥
+not_asked : (s more : List ℕ) (x : Bool) (r : Request) (rest : List ℕ) → BeginsWithRequest s x r rest → AwaitsAskedBody (s ++ more) → ⊥
 not_asked s more x r rest b a =
     let same = same_asking s more b.asked a.asked b.bytes a.rest b.begins a.begins in
     whole_long b.asked b.bytes r rest more b.body

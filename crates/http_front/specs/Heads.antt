@@ -1,21 +1,21 @@
 -- What a whole request head asks for, and why one is refused (RFC 9110, RFC 9112).
 -- `request_parts_at`, `AreWithin`, `AreTexts`, `within_limit` and `length_or_fault` are needed by private functions and proofs alone.
-use Rattle.std.specs.Prelude.{◌≡◌, ◌==◌, ◌&&◌, ◌||◌, ◌++◌, ℕ, Bool, false, nat_eq, nat_lt, if◌then◌else◌, List, [], ◌∷◌, Option, Some, None, option_and_then, option_map, Result, Ok, Err, All, IsUtf8, codes, decimal, length, map, unwrap_or}
+use Rattle.std.specs.Prelude.{◌≡◌, ◌==◌, ◌&&◌, ◌||◌, ℕ, Bool, false, nat_eq, nat_lt, if◌then◌else◌, List, [], ◌∷◌, Option, Some, None, option_and_then, option_map, Result, Ok, Err, All, IsUtf8, codes, length, map, unwrap_or}
 use Rattle.std.specs.List.{count_by, find}
 use Rattle.std.specs.Cmp.Lexicographic.{pointwise}
 use Rattle.std.specs.Option.{is_none, is_some}
 use Rattle.std.specs.Str.{str_to_ascii_lowercase}
+use Rattle.http_header.specs.FieldName.{IsFieldName}
 use Rattle.httparse.specs.Grammar.{RequestHead}
 use Rattle.httparse.specs.declared.spans.HeaderSpan.{HeaderSpan}
 use Rattle.httparse.specs.declared.spans.RequestSpans.{RequestSpans}
 use Rattle.httparse.specs.Spans.{IsWithin, IsHeaderWithin, header_bytes, name_and_value, span_bytes}
 use Rattle.http1.specs.Text.{eq_ignore_case}
 use Rattle.http1.specs.Fields.{elements_named, has_option}
-use Rattle.sp_base.specs.declared.answer.Req.{Req}
+use Rattle.sp_base.specs.Requests.{Request, request_line}
 use Rattle.sp_base.specs.Fields.{field_of}
 use Rattle.http_front.specs.declared.fault.InFault.{InFault}
 use Rattle.http_front.specs.declared.fault.InFault.TheVariants.{BadHead, ManyHeaders, BadTarget, NoLength, BadLength, LongBody}
-use Rattle.http_front.specs.declared.head.Asked.{Asked}
 use Rattle.http_front.specs.declared.head.AskedHead.{AskedHead}
 use Rattle.http_front.specs.declared.target.Target.{Target}
 use Rattle.http_front.specs.Hosts.{host_of, length_of}
@@ -87,7 +87,14 @@ first_refusal minor target fields = option_map (λ refusal. refusal.1) (find (λ
 abbrev pub head_fault : HeadParts → Option InFault
 head_fault p = first_refusal p.minor p.target (heads p)
 
--- where host, target and length can be read: what a head asks for
+-- what a head asks for, where host, target and length can be read
+pub record Asked : Type 0 where
+  pub host : List ℕ
+  pub port : ℕ
+  pub target : Target
+  pub body_length : ℕ
+
+-- the same, of these
 abbrev pub asked_with : List ℕ × ℕ → Target → ℕ → Asked
 asked_with host target n = record { host = host.0; port = host.1; target = target; body_length = n }
 
@@ -95,9 +102,13 @@ asked_with host target n = record { host = host.0; port = host.1; target = targe
 unfoldable pub asked_of : ℕ → List ℕ → List (List ℕ × List ℕ) → Option Asked
 asked_of minor target fields = option_and_then (λ host. option_and_then (λ read. option_map (asked_with host read) (body_length fields)) (target_of target)) (asked_host minor fields)
 
--- the connection closes after the answer: the request is of HTTP/1.0, or a Connection field has the option `close` (RFC 9112, section 9.3)
+-- a Connection field has the option `close` (RFC 9110, section 7.6.1)
+abbrev pub asks_to_close : List (List ℕ × List ℕ) → Bool
+asks_to_close fields = has_option (codes "close") (elements_named (codes "connection") fields)
+
+-- the connection closes after the answer: the request is of HTTP/1.0, or it asks for that (RFC 9112, section 9.3)
 abbrev pub is_closing : ℕ → List (List ℕ × List ℕ) → Bool
-is_closing minor fields = (minor == 0) || has_option (codes "close") (elements_named (codes "connection") fields)
+is_closing minor fields = (minor == 0) || asks_to_close fields
 
 -- the same of the parts of a head
 abbrev pub closes_connection : HeadParts → Bool
@@ -112,12 +123,8 @@ is_continue (Some value) = eq_ignore_case value (codes "100-continue")
 abbrev pub awaits_continue : ℕ → ℕ → List (List ℕ × List ℕ) → Bool
 awaits_continue minor n fields = (minor == 1) && (nat_lt 0 n && is_continue (field_of fields (codes "expect")))
 
--- the request line without its end (RFC 9112, section 3)
-abbrev pub request_line : List ℕ → List ℕ → ℕ → List ℕ
-request_line method target minor = method ++ 32 ∷ (target ++ codes " HTTP/1." ++ decimal minor)
-
 -- the request that a head with these parts asks for, without its body
-abbrev pub request_with : List ℕ → List ℕ → ℕ → Asked → List (List ℕ × List ℕ) → Bool → Req
+abbrev pub request_with : List ℕ → List ℕ → ℕ → Asked → List (List ℕ × List ℕ) → Bool → Request
 request_with method line minor asked fields close = record {
   method = method;
   line = line;
@@ -158,17 +165,17 @@ request_parts_at bytes fields spans = record {
   fields = map (header_bytes bytes) fields;
 }
 
--- the parts lie within the bytes
-pub record AreWithin (bytes : List ℕ) (fields : List HeaderSpan) (spans : RequestSpans) : Type 0 where
-  pub method : IsWithin (length bytes) spans.method
-  pub path : IsWithin (length bytes) spans.path
-  pub fields_fit : All (IsHeaderWithin (length bytes)) fields
+-- the parts lie within the first n bytes
+pub record AreWithin (n : ℕ) (fields : List HeaderSpan) (spans : RequestSpans) : Type 0 where
+  pub method : IsWithin n spans.method
+  pub path : IsWithin n spans.path
+  pub fields_fit : All (IsHeaderWithin n) fields
 
--- method, target and names are UTF-8
+-- method and target are UTF-8, and the names may be those of fields (RFC 9110, section 5.1)
 pub record AreTexts (p : HeadParts) : Type 0 where
   pub method : IsUtf8 p.method
   pub target : IsUtf8 p.target
-  pub names : All (λ field. IsUtf8 field.0) p.fields
+  pub names : All (λ field. IsFieldName field.0) p.fields
 
 -- a length that can be read and is no more than a body may have, else the fault
 abbrev pub within_limit : Option ℕ → Result ℕ InFault

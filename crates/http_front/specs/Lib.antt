@@ -10,3 +10,4 @@ pub mod OpenEnds
 pub mod StreamBeginnings
 pub mod Intakes
 pub mod FieldValues
+pub mod LentHeads

@@ -2,7 +2,7 @@
 -- sender waits for that.
 use Rattle.std.specs.Prelude.{◌≡◌, ◌⊎◌, ◌<◌, ◌≤◌, ◌++◌, ℕ, Bool, true, false, List, [], ◌∷◌, Some, length, take}
 use Rattle.httparse.specs.Grammar.{RequestHead, print_request, ReadsRequest, HasNoRequest, NeverHasRequest, MayBecomeRequest}
-use Rattle.sp_base.specs.declared.answer.Req.{Req}
+use Rattle.sp_base.specs.Requests.{Request}
 use Rattle.http_front.specs.declared.fault.InFault.{InFault}
 use Rattle.http_front.specs.declared.fault.InFault.TheVariants.{BadHead, LongHead}
 use Rattle.http_front.specs.declared.head.AskedHead.{AskedHead}
@@ -42,11 +42,11 @@ pub record BeginsRefused (stream : List ℕ) (fault : InFault) : Type 0 where
   pub refused : head_fault (parts_of head) ≡ Some fault
 
 -- the request with its body
-abbrev pub with_body : AskedHead → List ℕ → Req
+abbrev pub with_body : AskedHead → List ℕ → Request
 with_body asked body = record asked.request { body = body }
 
 -- the bytes after a head are the body that it tells of, and then rest
-pub record HasBody (asked : AskedHead) (bytes : List ℕ) (request : Req) (rest : List ℕ) : Type 0 where
+pub record HasBody (asked : AskedHead) (bytes : List ℕ) (request : Request) (rest : List ℕ) : Type 0 where
   pub body : List ℕ
   pub joined : bytes ≡ body ++ rest
   pub whole : length body ≡ asked.body_length
@@ -75,7 +75,7 @@ Stops stream Waits = (AwaitsHead stream × (length stream < longest_head)) ⊎ A
 Stops stream (Breaks fault) = BeginsRefused stream fault ⊎ HasNoHead stream fault
 
 -- the stream begins with a whole request, whose sender waits for 100 Continue or doesn't, and rest comes after it
-pub record BeginsWithRequest (stream : List ℕ) (awaits : Bool) (request : Req) (rest : List ℕ) : Type 0 where
+pub record BeginsWithRequest (stream : List ℕ) (awaits : Bool) (request : Request) (rest : List ℕ) : Type 0 where
   pub asked : AskedHead
   pub bytes : List ℕ
   pub begins : BeginsAsking stream asked bytes

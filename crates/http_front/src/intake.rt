@@ -192,7 +192,5 @@ fn left(buffer: &Vec<u8>, start: usize) -> &[u8]
 fn with_body(head: AskedHead, body: ByteBuf) -> Req
     ensures { result ≡ with_body head body }
 {
-    let mut request = head.request;
-    request.body = body;
-    request
+    head.request.with_body(body)
 }

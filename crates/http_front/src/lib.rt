@@ -4,6 +4,7 @@
 
 mod answer;
 mod fault;
+mod fields;
 mod head;
 mod host;
 mod intake;

@@ -4,6 +4,7 @@ ghost use Rattle.std.specs.List.{before_first, list_any};
 ghost use Rattle.std.specs.Option.{option_map, option_and_then};
 ghost use Rattle.percent_encoding.specs.Percent.{percent_decode as decoding};
 ghost use Rattle.sp_base.specs.Paths.{path_in, unmangled_segs};
+ghost use Rattle.http_front.specs.LentHeads.{target_by};
 ghost use Rattle.http_front.specs.PathReading.{is_percent, is_underscore, path_and_slash};
 ghost use Rattle.http_front.specs.Targets.{is_question_mark, query_of, begins_with_slash, ends_in_slash, without_slash as trimmed, utf8_text, target_of};
 
@@ -22,19 +23,46 @@ pub struct Target {
     pub query: Option<ByteBuf>,
 }
 
+// The same, with the query lent.
+#[derive(Drop)]
+pub(crate) struct LentTarget<'a> {
+    pub path: Path,
+    pub slash: bool,
+    pub query: Option<&'a [u8]>,
+}
+
 /// Reads a target. None is a bad one: it doesn't begin with a slash, or its decoded path isn't UTF-8 or spells no path.
 pub fn read_target(alloc: Global, target: &str) -> Mem<Option<Target>>
     ensures { IfOk result (λ o. o ≡ target_of target.now) }
+{
+    match lent_target(alloc, target) {
+        Ok(Some(lent)) => Ok(Some(owned(alloc, lent)?)),
+        Ok(None) => Ok(None),
+        Err(_) => Err(NoMemory),
+    }
+}
+
+fn owned(alloc: Global, lent: LentTarget<'_>) -> Mem<Target>
+    ensures { IfOk result (λ target. target ≡ target_by lent.entry) }
+{
+    let LentTarget { path, slash, query } = lent;
+    let query = copied(alloc, query)?;
+    Ok(Target { path, slash, query })
+}
+
+/// Reads a target, and lends its query.
+pub fn lent_target(alloc: Global, target: &str) -> Mem<Option<LentTarget<'_>>>
+    ensures { IfOk result (λ o. option_map target_by o ≡ target_of target.now) }
 {
     if !begins_with_slash(target) {
         return Ok(None);
     }
     let (path, query) = cut(target);
-    let Some((path, slash)) = read_path(alloc, path)? else {
-        return Ok(None);
-    };
-    let query = copied(alloc, query)?;
-    Ok(Some(Target { path, slash, query }))
+    let read = read_path(alloc, path)?;
+    match read {
+        Some((path, slash)) => Ok(Some(LentTarget { path, slash, query })),
+        None => Ok(None),
+    }
 }
 
 // An escape isn't a slash here: the target is looked at as it came.

@@ -92,7 +92,7 @@ fn whole(
     spans: &RequestSpans,
 ) -> Mem<StreamStart>
     requires small { length bytes.now ≤ longest_head }
-    requires within { AreWithin bytes.now fields.now spans.now }
+    requires within { AreWithin spans.now.len fields.now spans.now }
     requires holds { HoldsSomeHead bytes.now fields.now spans.now }
     ensures { (room : ℕ) → IfOk result (IsWindowStart bytes.now room) }
 {

@@ -1,5 +1,5 @@
 //! A connection for whose answer no memory was there. Connections with answers are stored runs (examples/runs: pipelines, limits).
-use connections::{AnswerPlace, Outbox, Reply};
+use connections::{AnswerPlace, AnswerQueue, FlightId, Reply};
 use std::alloc::Global;
 
 const FIXED: &[u8] =
@@ -13,21 +13,21 @@ fn fixed_place() -> AnswerPlace {
     }
 }
 
-fn sends_fixed(alloc: Global, outbox: &mut Outbox) -> bool {
-    matches!(outbox.send(alloc), Some(sending) if sending.bytes.bytes() == FIXED)
+fn sends_fixed(alloc: Global, queue: &mut AnswerQueue) -> bool {
+    matches!(queue.send(alloc), Some(sending) if sending.bytes.bytes() == FIXED)
 }
 
 // Whether the fixed answer is the last that is sent, whatever stands after it. No place awaits the flight that is filled.
-fn closes_after_fixed(alloc: Global, outbox: &mut Outbox) -> bool {
-    let is_full = outbox.push(fixed_place()).is_ok()
-        && outbox.push(AnswerPlace::of_fault(Reply::Own(400))).is_ok();
-    outbox.fill(3, Reply::Own(502));
-    is_full && sends_fixed(alloc, outbox) && outbox.send(alloc).is_none() && outbox.is_over()
+fn closes_after_fixed(alloc: Global, queue: &mut AnswerQueue) -> bool {
+    let is_full = queue.push(fixed_place()).is_ok()
+        && queue.push(AnswerPlace::of_fault(Reply::Own(400))).is_ok();
+    queue.fill(FlightId::new(3), Reply::Own(502));
+    is_full && sends_fixed(alloc, queue) && queue.send(alloc).is_none() && queue.is_over()
 }
 
 fn closes(alloc: Global) -> bool {
-    match Outbox::new(alloc) {
-        Ok(mut outbox) => closes_after_fixed(alloc, &mut outbox),
+    match AnswerQueue::new(alloc) {
+        Ok(mut queue) => closes_after_fixed(alloc, &mut queue),
         Err(_) => false,
     }
 }

@@ -51,11 +51,11 @@ spot_of node text = if ends_in_name text then option_and_then (if_changeable nod
 
 -- the goal of a copy or a move: a slash at the end asks for the target's own name under it
 abbrev pub goes_under : List ℕ → Bool
-goes_under word = nat_lt 1 (length word) && ends_with nat_eq word (codes "/")
+goes_under word = ends_with nat_eq word (codes "/")
 
--- the word without that slash
+-- the word without that slash; the root's text is it
 abbrev pub word_without_slash : List ℕ → List ℕ
-word_without_slash word = if goes_under word then take (length word - 1) word else word
+word_without_slash word = if nat_lt 1 (length word) && goes_under word then take (length word - 1) word else word
 
 -- the path that a goal's text names, seen from the target's parent
 abbrev pub goal_base : List (List ℕ) → List ℕ → Option (List (List ℕ))

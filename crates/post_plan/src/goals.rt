@@ -12,7 +12,7 @@ use std::alloc::Global;
 fn goes_under(word: &str) -> bool
     ensures { result ≡ spec.goes_under word.now }
 {
-    word.len() > 1 && word.as_bytes().ends_with(b"/")
+    word.as_bytes().ends_with(b"/")
 }
 
 fn without_slash(word: &str) -> &str

@@ -10,3 +10,4 @@ pub mod ReportLemmas
 pub mod SeenAloneLemmas
 pub mod GoodLemmas
 pub mod CauseLemmas
+mod KindLemmas

@@ -1,6 +1,7 @@
 //! Laws of the rendering, on functions that do nothing.
-ghost use Rattle.std.specs.Prelude.{◌≡◌, ◌≢◌, ◌≤◌, ◌<◌, ◌||◌, [], ℕ, List, Some, true, length};
+ghost use Rattle.std.specs.Prelude.{◌≡◌, ◌≢◌, ◌≤◌, ◌<◌, ◌||◌, [], ℕ, IsTrue, List, Some, true, length};
 ghost use Rattle.sp_base.specs.Limits.{most_rendered_bytes};
+ghost use Rattle.sp_base.specs.MediaTypes.{is_kind};
 ghost use Rattle.sp_base.specs.Paths.{text_of};
 ghost use Rattle.sp_base.specs.declared.answer.Ask.{Ask};
 ghost use Rattle.resource_tree.specs.Content.{Content, IsGood};
@@ -21,6 +22,7 @@ ghost use Rattle.publisher.specs.PostLaws.{PostsAreRefusedForCauses, RequestsKee
 ghost use Rattle.publisher.specs.Rendering.{content_after_request, is_post, is_read, answer_to_request, scope_of, seen_resources};
 
 use form_input::forms_are_refused_for_causes;
+use get_servlet::streams_have_media_types;
 use htl_text::the_pieces_are_the_text;
 use post_apply::{operations_keep_content_good, refusals_have_causes};
 use post_plan::operations_name_paths;
@@ -75,6 +77,14 @@ pub fn statuses_are_short()
     ensures error { (status : ℕ) → (error_answer status).status ≡ status }
 {
     away_is_a_redirect();
+}
+
+/// The media type of each answer may be kept with a page and sent: it is empty, or at most 100 printable bytes of ASCII.
+pub fn kinds_are_short()
+    ensures rendered { (tree : Content) (ask : Ask) → IsTrue (is_kind (answer_to_request tree ask).kind) }
+    ensures error { (status : ℕ) → IsTrue (is_kind (error_answer status).kind) }
+{
+    streams_have_media_types();
 }
 
 /// A GET, a HEAD or a POST of a path whose text is mapped away is a redirect to the escaped target. Whatever the method, it changes

@@ -1,4 +1,5 @@
 //! Scenarios that are written, and notes that the program doesn't make, worked out by hand from `docs/formats/FORMATS.md`.
+use connections::{ConnectionId, FlightId};
 use cover_rules::{PageKey, page_key};
 use front::{Note, NoteList};
 use replay_text::{Scenario, read_scenario, write_notes, write_scenario};
@@ -52,9 +53,9 @@ fn key(alloc: Global, path: &str) -> Mem<Option<PageKey>> {
 // A flight for a page of the cache, bytes that are no text, and that memory ran out.
 fn push_notes(alloc: Global, notes: &mut NoteList) -> Mem<()> {
     let page = key(alloc, "/content/site/en.html")?;
-    notes.push(Note::Ask(u64::MAX, u32::MAX, page))?;
+    notes.push(Note::Ask(FlightId::new(u64::MAX), ConnectionId::new(u32::MAX), page))?;
     let sent = ByteBuf::of(alloc, b"\"\x00\xff\\")?;
-    notes.push(Note::Sent(3, sent))?;
+    notes.push(Note::Sent(ConnectionId::new(3), sent))?;
     notes.push(Note::Dry)
 }
 

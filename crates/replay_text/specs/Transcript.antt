@@ -111,8 +111,7 @@ IsWritable (Lost n) = IsFlightNumber n
 IsWritable (Sent c bytes) = IsConnectionNumber c
 IsWritable (Shut c) = IsConnectionNumber c
 IsWritable (Refused c) = IsConnectionNumber c
-IsWritable Idle = Unit {0}
-IsWritable Dry = Unit {0}
+IsWritable _ = Unit {0}
 
 -- the same of each note
 abbrev pub AreWritable : List Note → Type 0

@@ -3,6 +3,7 @@ ghost use Rattle.std.specs.Prelude.{◌≡◌, ◌++◌, [], ◌<◌, IfOk, OnOk
 ghost use Rattle.std.specs.Fmt.{decimal};
 ghost use Rattle.replay_text.specs.Transcript.{hex, quoted_byte, quotation, quotation_or_dash, mark_text, answer_text, key_text, note_line, note_text, event_text};
 
+use connections::{ConnectionId, FlightId};
 use cover_rules::PageKey;
 use front::Note;
 use sp_base::{Answer, Mark, Mem};
@@ -109,40 +110,52 @@ fn push_numbered(alloc: Global, out: &mut Vec<u8>, word: &[u8], n: u64) -> Mem<(
     push_number(alloc, out, n)
 }
 
+// A word and the number of a connection.
+fn push_connection(
+    alloc: Global,
+    out: &mut Vec<u8>,
+    word: &[u8],
+    connection: ConnectionId,
+) -> Mem<()>
+    ensures { OnOk result (out.new.items ≡ out.old.items ++ (word.now ++ decimal connection)) }
+{
+    push_numbered(alloc, out, word, u64::from(connection.number()))
+}
+
 fn push_ask(
     alloc: Global,
     out: &mut Vec<u8>,
-    flight: u64,
-    line: u32,
+    flight: FlightId,
+    connection: ConnectionId,
     key: &Option<PageKey>,
 ) -> Mem<()>
-    ensures { OnOk result (out.new.items ≡ out.old.items ++ (codes "ask " ++ decimal flight ++ codes " " ++ decimal line ++ codes " " ++ key_text key.now)) }
+    ensures { OnOk result (out.new.items ≡ out.old.items ++ (codes "ask " ++ decimal flight ++ codes " " ++ decimal connection ++ codes " " ++ key_text key.now)) }
 {
-    push_numbered(alloc, out, b"ask ", flight)?;
-    push_numbered(alloc, out, b" ", u64::from(line))?;
+    push_numbered(alloc, out, b"ask ", flight.number())?;
+    push_connection(alloc, out, b" ", connection)?;
     push(out, b" ")?;
     push_key(alloc, out, key)
 }
 
-fn push_local(alloc: Global, out: &mut Vec<u8>, line: u32, status: u16) -> Mem<()>
-    ensures { OnOk result (out.new.items ≡ out.old.items ++ (codes "local " ++ decimal line ++ codes " " ++ decimal status)) }
+fn push_local(alloc: Global, out: &mut Vec<u8>, connection: ConnectionId, status: u16) -> Mem<()>
+    ensures { OnOk result (out.new.items ≡ out.old.items ++ (codes "local " ++ decimal connection ++ codes " " ++ decimal status)) }
 {
-    push_numbered(alloc, out, b"local ", u64::from(line))?;
+    push_connection(alloc, out, b"local ", connection)?;
     push_numbered(alloc, out, b" ", u64::from(status))
 }
 
-fn push_rendered(alloc: Global, out: &mut Vec<u8>, flight: u64, answer: &Answer) -> Mem<()>
+fn push_rendered(alloc: Global, out: &mut Vec<u8>, flight: FlightId, answer: &Answer) -> Mem<()>
     ensures { OnOk result (out.new.items ≡ out.old.items ++ (codes "rendered " ++ decimal flight ++ codes " " ++ answer_text answer.now)) }
 {
-    push_numbered(alloc, out, b"rendered ", flight)?;
+    push_numbered(alloc, out, b"rendered ", flight.number())?;
     push(out, b" ")?;
     push_answer(alloc, out, answer)
 }
 
-fn push_sent(alloc: Global, out: &mut Vec<u8>, line: u32, bytes: &[u8]) -> Mem<()>
-    ensures { OnOk result (out.new.items ≡ out.old.items ++ (codes "sent " ++ decimal line ++ codes " " ++ quotation bytes.now)) }
+fn push_sent(alloc: Global, out: &mut Vec<u8>, connection: ConnectionId, bytes: &[u8]) -> Mem<()>
+    ensures { OnOk result (out.new.items ≡ out.old.items ++ (codes "sent " ++ decimal connection ++ codes " " ++ quotation bytes.now)) }
 {
-    push_numbered(alloc, out, b"sent ", u64::from(line))?;
+    push_connection(alloc, out, b"sent ", connection)?;
     push(out, b" ")?;
     push_quoted(out, bytes)
 }
@@ -156,14 +169,14 @@ fn push_note_line(alloc: Global, out: &mut Vec<u8>, note: &Note) -> Mem<()>
             push(out, b"answer ")?;
             push_answer(alloc, out, answer)
         }
-        Note::Ask(flight, line, key) => push_ask(alloc, out, *flight, *line, key),
-        Note::Local(line, status) => push_local(alloc, out, *line, *status),
+        Note::Ask(flight, connection, key) => push_ask(alloc, out, *flight, *connection, key),
+        Note::Local(connection, status) => push_local(alloc, out, *connection, *status),
         Note::Rendered(flight, answer) => push_rendered(alloc, out, *flight, answer),
-        Note::Passed(flight) => push_numbered(alloc, out, b"passed ", *flight),
-        Note::Lost(flight) => push_numbered(alloc, out, b"lost ", *flight),
-        Note::Sent(line, bytes) => push_sent(alloc, out, *line, bytes.bytes()),
-        Note::Shut(line) => push_numbered(alloc, out, b"shut ", u64::from(*line)),
-        Note::Refused(line) => push_numbered(alloc, out, b"refused ", u64::from(*line)),
+        Note::Passed(flight) => push_numbered(alloc, out, b"passed ", flight.number()),
+        Note::Lost(flight) => push_numbered(alloc, out, b"lost ", flight.number()),
+        Note::Sent(connection, bytes) => push_sent(alloc, out, *connection, bytes.bytes()),
+        Note::Shut(connection) => push_connection(alloc, out, b"shut ", *connection),
+        Note::Refused(connection) => push_connection(alloc, out, b"refused ", *connection),
         Note::Idle => push(out, b"none"),
         Note::Dry => push(out, b"dry"),
     }

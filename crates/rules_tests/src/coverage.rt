@@ -207,12 +207,18 @@ fn touches(alloc: Global, level: usize, handle: &str, wanted: &[&str]) -> Result
 const LONG: &str = "/a/                                                                   /b/c";
 
 // The level, the handle, and the folders that are touched.
-const TOUCHED: [(usize, &str, &[&str]); 5] = [
+const TOUCHED: [(usize, &str, &[&str]); 7] = [
     (2, "/content/site/en/p", &["/", "/content", "/content/site"]),
     (2, "/content/en", &["/", "/content"]),
     (2, "/jcr:a/b", &["/", "/_jcr_a"]),
     (2, "/", &["/"]),
     (9, LONG, &["/", "/a"]),
+    (
+        4,
+        "/content/dam/logo.png/x",
+        &["/", "/content", "/content/dam"],
+    ),
+    (4, "/content/.a/b/c", &["/", "/content"]),
 ];
 
 #[test]

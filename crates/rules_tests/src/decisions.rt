@@ -1,9 +1,15 @@
 //! What a farm says of pages, answers and clients, which the program does not ask yet, and that the publisher isn't handed what a GET brings.
 //! Which requests are admitted, and that a POST's form is handed on, is a stored run (examples/runs/farm).
+ghost use Rattle.std.specs.Prelude.{All, length};
+ghost use Rattle.sp_base.specs.Fields.{IsFieldWithin};
+
 use any_config::{Farm, STANDARD_FARM, farm_of, read_any};
 use cover_rules::page_key;
 use dispatch_rules::{ask_of, auto_of, key_of, may_flush, storable};
-use sp_base::{Answer, ByteBuf, HeadList, Mark, Mem, NoMemory, Path, PathFault, Req, TextBuf};
+use http_header::{AUTHORIZATION, CONTENT_TYPE, HeaderName};
+use sp_base::{
+    Answer, ByteBuf, FieldPlace, LentHead, Mark, Mem, NoMemory, Path, PathFault, Req, TextBuf,
+};
 use std::alloc::Global;
 
 // The members stand in another order than those of the standard farm.
@@ -26,35 +32,27 @@ fn farm(alloc: Global, text: &str) -> Mem<Farm> {
     }
 }
 
-// A request for the root that names no method and no host.
-fn bare_request(alloc: Global) -> Req {
-    Req {
-        method: TextBuf::from(String::new(alloc)),
-        line: TextBuf::from(String::new(alloc)),
-        minor: 1,
-        host: TextBuf::from(String::new(alloc)),
-        port: 80,
-        path: Path::root(alloc),
-        slash: false,
-        query: None,
-        heads: HeadList::new(alloc),
-        body: ByteBuf::from(Vec::new(alloc)),
-        close: false,
-    }
-}
-
-// Makes it a request of these.
-fn direct(
+// A request of this method, path and query that names no host. The values of its fields stand in these bytes.
+fn request(
     alloc: Global,
-    req: &mut Req,
-    method: &str,
-    path: &str,
-    query: &str,
-) -> Result<(), PathFault> {
-    req.method = TextBuf::of(alloc, method)?;
-    req.path = Path::read(alloc, path)?;
-    req.query = Some(ByteBuf::of(alloc, query.as_bytes())?);
-    Ok(())
+    row: &Row,
+    fields: Vec<FieldPlace>,
+    bytes: &[u8],
+) -> Result<Req, PathFault>
+    requires { All (IsFieldWithin (length bytes.now)) fields.items }
+{
+    let head = LentHead {
+        method: row.0,
+        target: "",
+        minor: 1,
+        host: "",
+        port: 80,
+        slash: false,
+        query: Some(row.2.as_bytes()),
+        close: false,
+    };
+    let path = Path::read(alloc, row.1)?;
+    Ok(Req::of(alloc, &head, path, bytes, fields)?)
 }
 
 // Whether this is the text of the key under which a request's answer may be kept; `-` where there is none.
@@ -65,15 +63,14 @@ fn has_key(alloc: Global, farm: &Farm, req: &Req, wanted: &str) -> Mem<bool> {
     }
 }
 
-fn gives_key(alloc: Global, farm: &Farm, req: &mut Req, row: &Row) -> Result<bool, PathFault> {
-    let (method, path, query, key) = *row;
-    direct(alloc, req, method, path, query)?;
-    Ok(has_key(alloc, farm, req, key)?)
+fn gives_key(alloc: Global, farm: &Farm, row: &Row) -> Result<bool, PathFault> {
+    let req = request(alloc, row, Vec::new(alloc), b"")?;
+    Ok(has_key(alloc, farm, &req, row.3)?)
 }
 
-fn give_keys(alloc: Global, farm: &Farm, req: &mut Req, rows: &[Row]) -> bool {
+fn give_keys(alloc: Global, farm: &Farm, rows: &[Row]) -> bool {
     for row in rows {
-        if !matches!(gives_key(alloc, farm, req, row), Ok(true)) {
+        if !matches!(gives_key(alloc, farm, row), Ok(true)) {
             return false;
         }
     }
@@ -107,10 +104,23 @@ const STANDARD_KEYS: [Row; 6] = [
     ("GET", "/en.html", "", "/en.html"),
 ];
 
-fn keeps_none_that_is_authorized(alloc: Global, farm: &Farm, req: &mut Req) -> Mem<bool> {
-    let name = TextBuf::of(alloc, "authorization")?;
-    req.heads.push((name, ByteBuf::from(Vec::new(alloc))))?;
-    Ok(key_of(alloc, farm, req)?.is_none())
+// A row whose request has a key.
+const KEPT: Row = ("GET", "/en.html", "", "/en.html");
+
+// The request of that row with a field of this name and value.
+fn request_with(alloc: Global, name: HeaderName, value: &[u8]) -> Result<Req, PathFault> {
+    let mut fields = Vec::new(alloc);
+    fields.push(FieldPlace {
+        name,
+        start: 0,
+        end: value.len(),
+    })?;
+    request(alloc, &KEPT, fields, value)
+}
+
+fn keeps_none_that_is_authorized(alloc: Global, farm: &Farm) -> Result<bool, PathFault> {
+    let req = request_with(alloc, AUTHORIZATION, b"")?;
+    Ok(key_of(alloc, farm, &req)?.is_none())
 }
 
 fn key_is_auto(alloc: Global, farm: &Farm, path: &Path) -> Mem<bool> {
@@ -139,34 +149,28 @@ fn flushes_for_this_host_alone(farm: &Farm) -> bool {
         && !may_flush(farm, "::1")
 }
 
-fn bring_form(alloc: Global, req: &mut Req) -> Mem<()> {
-    req.body = ByteBuf::of(alloc, b"a=b")?;
-    let kind = ByteBuf::of(alloc, b"text/plain")?;
-    req.heads.push((TextBuf::of(alloc, "content-type")?, kind))
-}
-
 fn asks_for_target_alone(alloc: Global, farm: &Farm, req: &Req) -> bool {
     matches!(ask_of(alloc, farm, req), Ok(ask) if ask.kind.text() == "" && ask.body.bytes().len() == 0)
 }
 
 // Whether the publisher isn't handed the form that a GET brings.
-fn hands_on_no_form(alloc: Global, farm: &Farm, req: &mut Req) -> bool {
-    bring_form(alloc, req).is_ok() && asks_for_target_alone(alloc, farm, req)
+fn hands_on_no_form(alloc: Global, farm: &Farm) -> Result<bool, PathFault> {
+    let req = request_with(alloc, CONTENT_TYPE, b"text/plain")?;
+    let req = req.with_body(ByteBuf::of(alloc, b"a=b")?);
+    Ok(asks_for_target_alone(alloc, farm, &req))
 }
 
-// The last row is of a GET that has a key.
-fn decides(alloc: Global, farm: &Farm, req: &mut Req, rows: &[Row]) -> bool {
-    give_keys(alloc, farm, req, rows)
-        && matches!(keeps_none_that_is_authorized(alloc, farm, req), Ok(true))
-        && hands_on_no_form(alloc, farm, req)
+fn decides(alloc: Global, farm: &Farm, rows: &[Row]) -> bool {
+    give_keys(alloc, farm, rows)
+        && matches!(keeps_none_that_is_authorized(alloc, farm), Ok(true))
+        && matches!(hands_on_no_form(alloc, farm), Ok(true))
         && outdates_html_alone(alloc, farm)
         && flushes_for_this_host_alone(farm)
 }
 
 fn farm_decides(alloc: Global, text: &str, level: usize, rows: &[Row]) -> bool {
-    let mut req = bare_request(alloc);
     match farm(alloc, text) {
-        Ok(farm) => farm.level == level && decides(alloc, &farm, &mut req, rows),
+        Ok(farm) => farm.level == level && decides(alloc, &farm, rows),
         Err(_) => false,
     }
 }

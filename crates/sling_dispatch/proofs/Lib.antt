@@ -7,4 +7,4 @@ pub mod Words
 pub mod Statuses
 pub mod RequestLemmas
 pub mod FilterLemmas
-pub mod NotDryLemmas
+pub mod MemoryLemmas

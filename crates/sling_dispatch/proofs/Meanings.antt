@@ -9,9 +9,9 @@ use Rattle.content_json.specs.declared.fault.ContentFault.TheVariants.{NoMemory 
 use Rattle.replay_text.specs.Languages.{IsRefusedWithin}
 use Rattle.sling_dispatch.specs.Streams.{IsReadOut}
 use Rattle.replay_text.specs.Scenario.{IsScenario, ReadsScenario, longest_scenario}
-use Rattle.sling_dispatch.specs.Endings.{StreamReport, RunCall, IsRunOf, Writing, Nothing, UsageLine, SourceLine, RefusalLine, ContentLine, FarmLine, Events, output_of, HasWritten, Means, IsDue, HasContent, IsReplay, HasNotFailed, IsUntouched}
+use Rattle.sling_dispatch.specs.Endings.{StreamReport, RunCall, IsRunOf, Writing, Nothing, UsageLine, SourceLine, RefusalLine, ContentLine, FarmLine, Events, output_of, EndsIn, Whole, Broken, Means, IsDue, HasContent, IsReplay, HasNotFailed, IsUntouched}
 use Rattle.sling_dispatch.specs.InnerEndings.{IsDueIn, IsDueOf, IsContentOr, IsFarmOr, TellsText, IsDueAt}
-use Rattle.sling_dispatch.specs.Farms.{farm_in, farm_text, lacks_memory}
+use Rattle.sling_dispatch.specs.Farms.{farm_in, farm_text, is_out_of_memory}
 use Rattle.sling_dispatch.specs.declared.farms.FarmRefusal.{FarmRefusal}
 use Rattle.replay_text.specs.declared.scenario.Scenario.{Scenario}
 use Rattle.sling_dispatch.proofs.Writing.{added-nothing}
@@ -19,36 +19,42 @@ use Rattle.sling_dispatch.specs.declared.ending.Ending.{Ending}
 use Rattle.sling_dispatch.specs.declared.ending.Ending.TheVariants.{Done, Usage, SourceFailed, SinkFailed, Refused, ContentRefused, FarmRefused, NoMemory}
 
 -- what may be written here may be written there
+whole_weaker : (D E : Writing → Type 0) → ((w : Writing) → D w → E w) → (ending : Ending) (sink : StreamReport (List ℕ)) → Whole D ending sink → Whole E ending sink
+whole_weaker D E to ending sink m = record { writing = m.writing; due = to m.writing m.due; ends = m.ends; wrote = m.wrote }
+
+broken_weaker : (D E : Writing → Type 0) → ((w : Writing) → D w → E w) → (sink : StreamReport (List ℕ)) → Broken D sink → Broken E sink
+broken_weaker D E to sink m = record { writing = m.writing; due = to m.writing m.due; wrote = m.wrote }
+
 pub means_weaker : (D E : Writing → Type 0) → ((w : Writing) → D w → E w) → (ending : Ending) (sink : StreamReport (List ℕ)) → Means D ending sink → Means E ending sink
-means_weaker D E to Done sink m = (m.0, m.1, to (Events m.0 m.1) m.2, m.3, m.4)
-means_weaker D E to Usage sink m = (to UsageLine m.0, m.1)
-means_weaker D E to SourceFailed sink m = (to SourceLine m.0, m.1)
-means_weaker D E to Refused sink m = (m.0, to (RefusalLine m.0) m.1, m.2)
-means_weaker D E to ContentRefused sink m = (m.0, to (ContentLine m.0) m.1, m.2)
-means_weaker D E to FarmRefused sink m = (m.0, to (FarmLine m.0) m.1, m.2)
-means_weaker D E to SinkFailed sink m = (m.0, to m.0 m.1, m.2, m.3)
-means_weaker D E to NoMemory sink m = (m.0, to m.0 m.1, m.2, m.3)
+means_weaker D E to SinkFailed sink m = (broken_weaker D E to sink m.0, m.1)
+means_weaker D E to NoMemory sink m = (broken_weaker D E to sink m.0, m.1)
+means_weaker D E to Done sink m = whole_weaker D E to Done sink m
+means_weaker D E to Usage sink m = whole_weaker D E to Usage sink m
+means_weaker D E to SourceFailed sink m = whole_weaker D E to SourceFailed sink m
+means_weaker D E to Refused sink m = whole_weaker D E to Refused sink m
+means_weaker D E to ContentRefused sink m = whole_weaker D E to ContentRefused sink m
+means_weaker D E to FarmRefused sink m = whole_weaker D E to FarmRefused sink m
 
 -- Nothing was written, and memory ran out.
 pub out_of_memory : (D : Writing → Type 0) → D Nothing → (sink : StreamReport (List ℕ)) → sink.new ≡ sink.old → HasNotFailed sink → Means D NoMemory sink
-out_of_memory D due sink e not_failed = (Nothing, due, (0, e ∙ sym (added-nothing sink.old)), not_failed)
+out_of_memory D due sink e not_failed = (record { writing = Nothing; due = due; wrote = (0, e ∙ sym (added-nothing sink.old)) }, not_failed)
 
 -- What came of writing a text that is due, of which good was to be the ending.
 pub told_line : (D : Writing → Type 0) (w : Writing) (good ending : Ending) (text : List ℕ) (sink : StreamReport (List ℕ)) → D w
-    → (HasWritten sink w → Means D good sink) → text ≡ output_of w → TellsText good text ending sink → Means D ending sink
-told_line D w good ending text sink due whole e (inl t) =
-    subst (λ x. Means D x sink) (sym t.0) (whole (t.1 ∙ ap (held_after sink.old) e, t.2))
-told_line D w good ending text sink due whole e (inr (inl t)) =
-    subst (λ x. Means D x sink) (sym t.0) (w, due, (t.1.0, t.1.1 ∙ ap (λ s. held_after sink.old (take t.1.0 s)) e), t.2)
-told_line D w good ending text sink due whole e (inr (inr t)) =
-    subst (λ x. Means D x sink) (sym t.0) (w, due, (t.1.0, t.1.1 ∙ ap (λ s. held_after sink.old (take t.1.0 s)) e), t.2)
+    → EndsIn w good → (Whole D good sink → Means D good sink) → text ≡ output_of w → TellsText good text ending sink → Means D ending sink
+told_line D w good ending text sink due ends whole e (inl t) =
+    subst (λ x. Means D x sink) (sym t.0) (whole (record { writing = w; due = due; ends = ends; wrote = (t.1 ∙ ap (held_after sink.old) e, t.2) }))
+told_line D w good ending text sink due ends whole e (inr (inl t)) =
+    subst (λ x. Means D x sink) (sym t.0) (record { writing = w; due = due; wrote = (t.1.0, t.1.1 ∙ ap (λ s. held_after sink.old (take t.1.0 s)) e) }, t.2)
+told_line D w good ending text sink due ends whole e (inr (inr t)) =
+    subst (λ x. Means D x sink) (sym t.0) (record { writing = w; due = due; wrote = (t.1.0, t.1.1 ∙ ap (λ s. held_after sink.old (take t.1.0 s)) e) }, t.2)
 
 -- The same of a text for which memory may have run out.
 pub told_made : {T E : Type 0} (items : T → List ℕ) (D : Writing → Type 0) (w : Writing) (good ending : Ending) (line : Result T E)
-    (sink : StreamReport (List ℕ)) → D Nothing → D w → (HasWritten sink w → Means D good sink) → IfOk line (λ t. items t ≡ output_of w)
+    (sink : StreamReport (List ℕ)) → D Nothing → D w → EndsIn w good → (Whole D good sink → Means D good sink) → IfOk line (λ t. items t ≡ output_of w)
     → IfOk line (λ t. TellsText good (items t) ending sink) → OnErr line ((ending ≡ NoMemory) × IsUntouched sink) → Means D ending sink
-told_made items D w good ending (Ok t) sink none due whole e told untold = told_line D w good ending (items t) sink due whole e told
-told_made items D w good ending (Err x) sink none due whole e told untold =
+told_made items D w good ending (Ok t) sink none due ends whole e told untold = told_line D w good ending (items t) sink due ends whole e told
+told_made items D w good ending (Err x) sink none due ends whole e told untold =
     subst (λ n. Means D n sink) (sym untold.0) (out_of_memory D none sink untold.1.0 untold.1.1)
 
 pub due_content : (s : Scenario) (fault : ContentFault) → (fault ≢ no_memory → content_of s.content ≡ Err fault) → (w : Writing) → IsContentOr fault w → IsDueIn s w
@@ -60,14 +66,14 @@ due_content s fault e (ContentLine f) d = (e d.1 ∙ ap (λ x. Err x) (sym d.0),
 due_content s fault e (FarmLine refusal) d = absurd d
 due_content s fault e (Events t events) d = absurd d
 
-pub due_farm : (s : Scenario) (refusal : FarmRefusal) → HasContent s → (lacks_memory refusal ≡ false → farm_in (farm_text s.farm) ≡ Err refusal)
+pub due_farm : (s : Scenario) (refusal : FarmRefusal) → HasContent s → (is_out_of_memory refusal ≡ false → farm_in (farm_text s.farm) ≡ Err refusal)
     → (w : Writing) → IsFarmOr refusal w → IsDueIn s w
 due_farm s refusal has e Nothing d = tt
 due_farm s refusal has e UsageLine d = d
 due_farm s refusal has e SourceLine d = d
 due_farm s refusal has e (RefusalLine before) d = d
 due_farm s refusal has e (ContentLine fault) d = absurd d
-due_farm s refusal has e (FarmLine r) d = (has, e d.1 ∙ ap (λ x. Err x) (sym d.0), ap lacks_memory d.0 ∙ d.1)
+due_farm s refusal has e (FarmLine r) d = (has, e d.1 ∙ ap (λ x. Err x) (sym d.0), ap is_out_of_memory d.0 ∙ d.1)
 due_farm s refusal has e (Events t events) d = absurd d
 
 -- what is written of the acts is written of the scenario

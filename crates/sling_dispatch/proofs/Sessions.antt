@@ -19,9 +19,9 @@ use Rattle.replay_text.specs.Scenario.{IsActs}
 use Rattle.replay_text.specs.Transcript.{event_text, transcript_from, transcript}
 use Rattle.replay_text.specs.declared.event_line.EventLine.{EventLine}
 use Rattle.replay_text.specs.declared.scenario.Scenario.{Scenario}
-use Rattle.sling_dispatch.specs.Runs.{IsSession, asked_publisher_host, sling_publisher, step_of, told_of_events}
+use Rattle.sling_dispatch.specs.Runs.{IsSession, asked_publisher_host, sling_start, step_of, told_of_events}
 use Rattle.sling_dispatch.specs.Fronts.{IsNext}
-use Rattle.sling_dispatch.specs.Endings.{Writing, Events, StreamReport, report_of, HasWrittenPrefix}
+use Rattle.sling_dispatch.specs.Endings.{Writing, Events, StreamReport, report_of, Broken, Whole}
 use Rattle.sling_dispatch.specs.InnerEndings.{AreActLines, IsDueOf, TellsText, ending_by, PlaysAll}
 use Rattle.sling_dispatch.specs.declared.ending.Ending.{Ending}
 use Rattle.sling_dispatch.specs.declared.ending.Ending.TheVariants.{Done, NoMemory}
@@ -64,14 +64,14 @@ pub record Played (tree : Content) (farm : Farm) (acts rest : List ℕ) (count :
   pub left_are : IsActs rest left
   pub events : List Event
   pub steps : map (λ (e : Event). e.step) events ≡ map (step_of (asked_publisher_host farm)) made
-  pub run : Run (start_of sling_publisher farm tree) events
+  pub run : Run (start_of (sling_start farm tree)) events
   pub count_is : length events ≡ count
-  pub stands : Stands (state_after_events (start_of sling_publisher farm tree) events)
+  pub stands : Stands (state_after_events (start_of (sling_start farm tree)) events)
   pub sent : List ℕ
   pub written : new ≡ held_after old sent
   pub text_is : told_of_events events ≡ sent ++ gathered
 
-pub played_none : (tree : Content) (farm : Farm) (acts : List ℕ) (Stands : RunState → Type 0) (old : Option (List ℕ)) → AreActLines acts → Stands (start_of sling_publisher farm tree)
+pub played_none : (tree : Content) (farm : Farm) (acts : List ℕ) (Stands : RunState → Type 0) (old : Option (List ℕ)) → AreActLines acts → Stands (start_of (sling_start farm tree))
     → Played tree farm acts acts 0 Stands old old []
 played_none tree farm acts Stands old are stands = record {
   made = [];
@@ -100,7 +100,7 @@ pub played_next : Goes → Leaves → FirstIsTold → (tree : Content) (farm : F
 played_next goes leaves told_first tree farm acts rest after count Stands After old new gathered text p x =
     let host = asked_publisher_host farm in
     let first = told_first rest after p.left x.act p.left_are x.is_line x.lines_are in
-    let w = start_of sling_publisher farm tree in
+    let w = start_of (sling_start farm tree) in
     let next = x.extends.extended (state_after_events w p.events) p.stands in
     let event = next.event in
     let events = p.events ++ event ∷ [] in
@@ -147,7 +147,7 @@ played_sent tree farm acts rest count Stands old mid new gathered sent left p e 
 
 session_of : (tree : Content) (farm : Farm) (acts : List ℕ) (made left : List EventLine) (events : List Event) (s : Scenario) → s.acts ≡ acts → content_of s.content ≡ Ok tree
     → farm_in (farm_text s.farm) ≡ Ok farm → IsActs acts (made ++ left) → map (λ (e : Event). e.step) events ≡ map (step_of (asked_publisher_host farm)) made
-    → Run (start_of sling_publisher farm tree) events → IsSession s left events
+    → Run (start_of (sling_start farm tree)) events → IsSession s left events
 session_of tree farm acts made left events s same reads farm_reads are steps run = record {
   tree = tree;
   reads = reads;
@@ -162,26 +162,26 @@ session_of tree farm acts made left events s same reads farm_reads are steps run
 -- only a prefix of what was gathered was written
 prefix_due : (tree : Content) (farm : Farm) (acts rest : List ℕ) (count k : ℕ) (Stands : RunState → Type 0) (mid : Option (List ℕ)) (gathered : List ℕ) (sink : StreamReport (List ℕ))
     → Played tree farm acts rest count Stands sink.old mid gathered → sink.new ≡ held_after mid (take k gathered) → (s : Scenario) → s.acts ≡ acts
-    → content_of s.content ≡ Ok tree → farm_in (farm_text s.farm) ≡ Ok farm → (w : Writing) × IsDueOf s w × HasWrittenPrefix sink w
+    → content_of s.content ≡ Ok tree → farm_in (farm_text s.farm) ≡ Ok farm → Broken (IsDueOf s) sink
 prefix_due tree farm acts rest count k Stands mid gathered sink p e s same reads farm_reads =
-    let long = length p.sent in (
-      Events s p.events,
-      (refl, (p.left, session_of tree farm acts p.made p.left p.events s same reads farm_reads p.acts_are p.steps p.run)),
-      (
+    let long = length p.sent in record {
+      writing = Events s p.events;
+      due = (refl, (p.left, session_of tree farm acts p.made p.left p.events s same reads farm_reads p.acts_are p.steps p.run));
+      wrote = (
         long + k,
         e ∙ ap (λ m. held_after m (take k gathered)) p.written ∙ added-added sink.old p.sent (take k gathered)
             ∙ ap (held_after sink.old) (sym (take-append-add p.sent gathered k) ∙ ap (take (long + k)) (sym p.text_is)),
-      ),
-    )
+      );
+    }
 
 -- the sink failed, or lacked memory, while it was to take what was gathered
 pub broken_off : (tree : Content) (farm : Farm) (acts rest : List ℕ) (count k : ℕ) (Stands : RunState → Type 0) (mid : Option (List ℕ)) (gathered : List ℕ) (fault : SinkFault)
     (sink : StreamReport (List ℕ)) → Played tree farm acts rest count Stands sink.old mid gathered → sink.new ≡ held_after mid (take k gathered)
     → HasSinkCause {T = Unit {0}} sink.faults_old sink.faults_new (Err fault) → PlaysAll tree farm acts (ending_by fault) sink
 broken_off tree farm acts rest count k Stands mid gathered sink_failed sink p e cause = λ s same reads farm_reads.
-    let x = prefix_due tree farm acts rest count k Stands mid gathered sink p e s same reads farm_reads in (x.0, x.1, x.2, cause)
+    (prefix_due tree farm acts rest count k Stands mid gathered sink p e s same reads farm_reads, cause)
 broken_off tree farm acts rest count k Stands mid gathered sink_memory sink p e cause = λ s same reads farm_reads.
-    let x = prefix_due tree farm acts rest count k Stands mid gathered sink p e s same reads farm_reads in (x.0, x.1, x.2, cause)
+    (prefix_due tree farm acts rest count k Stands mid gathered sink p e s same reads farm_reads, cause)
 
 -- no more events are made, since memory ran out, and what was gathered is written
 pub played_stopped : (tree : Content) (farm : Farm) (acts rest : List ℕ) (count : ℕ) (Stands : RunState → Type 0) (mid : Option (List ℕ)) (gathered : List ℕ) (ending : Ending)
@@ -212,13 +212,12 @@ pub played_all : (tree : Content) (farm : Farm) (acts rest : List ℕ) (count : 
     → TellsText Done gathered ending (report_of mid sink.new sink.faults_old sink.faults_new) → PlaysAll tree farm acts ending sink
 played_all tree farm acts rest count Stands mid gathered ending sink whole p (inl t) =
     subst (λ x. PlaysAll tree farm acts x sink) (sym t.0) (λ s same reads farm_reads.
-    let session = session_of tree farm acts p.made p.left p.events s same reads farm_reads p.acts_are p.steps p.run in (
-      s,
-      p.events,
-      (refl, (p.left, session)),
-      subst (λ (left : List EventLine). IsSession s left p.events) (none_left rest p.left p.left_are whole) session,
-      (t.1 ∙ ap (λ m. held_after m gathered) p.written ∙ added-added sink.old p.sent gathered ∙ ap (held_after sink.old) (sym p.text_is), t.2),
-    ))
+    let session = session_of tree farm acts p.made p.left p.events s same reads farm_reads p.acts_are p.steps p.run in record {
+      writing = Events s p.events;
+      due = (refl, (p.left, session));
+      ends = (refl, subst (λ (left : List EventLine). IsSession s left p.events) (none_left rest p.left p.left_are whole) session);
+      wrote = (t.1 ∙ ap (λ m. held_after m gathered) p.written ∙ added-added sink.old p.sent gathered ∙ ap (held_after sink.old) (sym p.text_is), t.2);
+    })
 played_all tree farm acts rest count Stands mid gathered ending sink whole p (inr (inl t)) =
     subst (λ x. PlaysAll tree farm acts x sink) (sym t.0) (broken_off tree farm acts rest count t.1.0 Stands mid gathered sink_failed sink p t.1.1 t.2)
 played_all tree farm acts rest count Stands mid gathered ending sink whole p (inr (inr t)) =

@@ -11,7 +11,7 @@ use Rattle.replay_text.specs.Languages.{IsRefusedWithin}
 use Rattle.replay_text.specs.Scenario.{IsScenario, ReadsScenario, longest_scenario}
 use Rattle.sling_dispatch.specs.Runs.{IsSession, told_of_events}
 use Rattle.sling_dispatch.specs.Streams.{IsReadOut}
-use Rattle.sling_dispatch.specs.Farms.{farm_in, farm_text, lacks_memory}
+use Rattle.sling_dispatch.specs.Farms.{farm_in, farm_text, is_out_of_memory}
 use Rattle.sling_dispatch.specs.Faults.{fault_text, refusal_text}
 use Rattle.any_config.specs.declared.farm.Farm.{Farm}
 use Rattle.sling_dispatch.specs.declared.farms.FarmRefusal.{FarmRefusal}
@@ -72,17 +72,34 @@ HasWritten sink w = (sink.new ≡ held_after sink.old (output_of w)) × HasNotFa
 abbrev pub HasWrittenPrefix : StreamReport (List ℕ) → Writing → Type 0
 HasWrittenPrefix sink w = (n : ℕ) × (sink.new ≡ held_after sink.old (take n (output_of w)))
 
--- What each ending says of the sink, where IsDue says what may be written.
+-- The run ends so where all of this was written; nothing is no ending's.
+abbrev pub EndsIn : Writing → Ending → Type 0
+EndsIn Nothing ending = ⊥
+EndsIn UsageLine ending = ending ≡ Usage
+EndsIn SourceLine ending = ending ≡ SourceFailed
+EndsIn (RefusalLine before) ending = ending ≡ Refused
+EndsIn (ContentLine fault) ending = ending ≡ ContentRefused
+EndsIn (FarmLine refusal) ending = ending ≡ FarmRefused
+EndsIn (Events s events) ending = (ending ≡ Done) × IsSession s [] events
+
+-- what is due was written whole, and the run ends as after that
+pub record Whole (IsDue : Writing → Type 0) (ending : Ending) (sink : StreamReport (List ℕ)) : Type 0 where
+  pub writing : Writing
+  pub due : IsDue writing
+  pub ends : EndsIn writing ending
+  pub wrote : HasWritten sink writing
+
+-- a prefix of what is due was written
+pub record Broken (IsDue : Writing → Type 0) (sink : StreamReport (List ℕ)) : Type 0 where
+  pub writing : Writing
+  pub due : IsDue writing
+  pub wrote : HasWrittenPrefix sink writing
+
+-- What each ending says of the sink, where IsDue says what may be written: the sink failed, or memory did, or all was written.
 abbrev pub Means : (Writing → Type 0) → Ending → StreamReport (List ℕ) → Type 0
-Means IsDue Done sink = (s : Scenario) × (events : List Event) × IsDue (Events s events) × IsSession s [] events
-    × HasWritten sink (Events s events)
-Means IsDue Usage sink = IsDue UsageLine × HasWritten sink UsageLine
-Means IsDue SourceFailed sink = IsDue SourceLine × HasWritten sink SourceLine
-Means IsDue Refused sink = (before : ℕ) × IsDue (RefusalLine before) × HasWritten sink (RefusalLine before)
-Means IsDue ContentRefused sink = (fault : ContentFault) × IsDue (ContentLine fault) × HasWritten sink (ContentLine fault)
-Means IsDue FarmRefused sink = (refusal : FarmRefusal) × IsDue (FarmLine refusal) × HasWritten sink (FarmLine refusal)
-Means IsDue SinkFailed sink = (w : Writing) × IsDue w × HasWrittenPrefix sink w × HasFailed sink
-Means IsDue NoMemory sink = (w : Writing) × IsDue w × HasWrittenPrefix sink w × HasNotFailed sink
+Means IsDue SinkFailed sink = Broken IsDue sink × HasFailed sink
+Means IsDue NoMemory sink = Broken IsDue sink × HasNotFailed sink
+Means IsDue ending sink = Whole IsDue ending sink
 
 -- these are first events of the scenario
 abbrev pub IsRunOf : Scenario → List Event → Type 0
@@ -122,7 +139,7 @@ IsDue c (RefusalLine before) = Replays c (λ bytes. IsRefusedWithin longest_scen
 IsDue c (ContentLine fault) = Replays c (λ bytes. (s : Scenario) × ReadsScenario bytes s × (content_of s.content ≡ Err fault)) × IsAtEnd c.source.new
     × (fault ≢ no_memory)
 IsDue c (FarmLine refusal) = Replays c (λ bytes. (s : Scenario) × ReadsScenario bytes s × HasContent s × (farm_in (farm_text s.farm) ≡ Err refusal))
-    × IsAtEnd c.source.new × (lacks_memory refusal ≡ false)
+    × IsAtEnd c.source.new × (is_out_of_memory refusal ≡ false)
 IsDue c (Events s events) = Replays c (λ bytes. ReadsScenario bytes s) × IsAtEnd c.source.new × IsRunOf s events
 
 -- the exit status of an ending

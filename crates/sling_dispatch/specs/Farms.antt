@@ -32,13 +32,7 @@ abbrev pub farm_in : List ℕ → Result Farm FarmRefusal
 farm_in text = farm_in_file (any_of text)
 
 -- the farm wasn't read, since memory ran out
-abbrev pub lacks_memory : FarmRefusal → Bool
-lacks_memory (NoFile file.NoMemory) = true
-lacks_memory (NoFile (file.BadName at)) = false
-lacks_memory (NoFile (file.BadQuote at)) = false
-lacks_memory (NoFile (file.TooDeep at)) = false
-lacks_memory (NoFile (file.Unclosed at)) = false
-lacks_memory (NoFarm farm.NoMemory) = true
-lacks_memory (NoFarm (farm.Missing name)) = false
-lacks_memory (NoFarm (farm.BadKind name)) = false
-lacks_memory (NoFarm (farm.NotSupported name)) = false
+abbrev pub is_out_of_memory : FarmRefusal → Bool
+is_out_of_memory (NoFile file.NoMemory) = true
+is_out_of_memory (NoFarm farm.NoMemory) = true
+is_out_of_memory _ = false

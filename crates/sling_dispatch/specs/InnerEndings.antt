@@ -10,8 +10,8 @@ use Rattle.content_json.specs.declared.fault.ContentFault.{ContentFault}
 use Rattle.content_json.specs.declared.fault.ContentFault.TheVariants.{NoMemory as no_memory}
 use Rattle.replay_text.specs.Languages.{IsRefusedWithin}
 use Rattle.replay_text.specs.Scenario.{IsActs, IsScenario, ReadsScenario, longest_scenario}
-use Rattle.sling_dispatch.specs.Endings.{StreamReport, HasNotFailed, HasFailed, Writing, Nothing, UsageLine, SourceLine, RefusalLine, ContentLine, FarmLine, Events, Means, HasContent, IsRunOf}
-use Rattle.sling_dispatch.specs.Farms.{farm_in, farm_text, lacks_memory}
+use Rattle.sling_dispatch.specs.Endings.{StreamReport, HasNotFailed, HasFailed, Writing, Nothing, RefusalLine, ContentLine, FarmLine, Events, Means, HasContent, IsRunOf}
+use Rattle.sling_dispatch.specs.Farms.{farm_in, farm_text, is_out_of_memory}
 use Rattle.any_config.specs.declared.farm.Farm.{Farm}
 use Rattle.sling_dispatch.specs.declared.farms.FarmRefusal.{FarmRefusal}
 use Rattle.replay_text.specs.declared.event_line.EventLine.{EventLine}
@@ -24,52 +24,37 @@ use Rattle.sling_dispatch.specs.declared.ending.Ending.TheVariants.{SinkFailed, 
 -- what is written of a text that was read, after which a longer one may go on
 abbrev pub IsDueAt : List ℕ → Writing → Type 0
 IsDueAt text Nothing = Unit {0}
-IsDueAt text UsageLine = ⊥
-IsDueAt text SourceLine = ⊥
 IsDueAt text (RefusalLine before) = (rest : List ℕ) → (length text ≤ longest_scenario → rest ≡ []) → IsRefusedWithin longest_scenario IsScenario (text ++ rest) before
 IsDueAt text (ContentLine fault) = (fault ≢ no_memory) × (s : Scenario) × ReadsScenario text s × (content_of s.content ≡ Err fault)
-IsDueAt text (FarmLine refusal) = (lacks_memory refusal ≡ false) × (s : Scenario) × ReadsScenario text s × HasContent s × (farm_in (farm_text s.farm) ≡ Err refusal)
+IsDueAt text (FarmLine refusal) = (is_out_of_memory refusal ≡ false) × (s : Scenario) × ReadsScenario text s × HasContent s × (farm_in (farm_text s.farm) ≡ Err refusal)
 IsDueAt text (Events s events) = ReadsScenario text s × IsRunOf s events
+IsDueAt text _ = ⊥
 
 -- what is written of a scenario
 abbrev pub IsDueIn : Scenario → Writing → Type 0
 IsDueIn s Nothing = Unit {0}
-IsDueIn s UsageLine = ⊥
-IsDueIn s SourceLine = ⊥
-IsDueIn s (RefusalLine before) = ⊥
 IsDueIn s (ContentLine fault) = (content_of s.content ≡ Err fault) × (fault ≢ no_memory)
-IsDueIn s (FarmLine refusal) = HasContent s × (farm_in (farm_text s.farm) ≡ Err refusal) × (lacks_memory refusal ≡ false)
+IsDueIn s (FarmLine refusal) = HasContent s × (farm_in (farm_text s.farm) ≡ Err refusal) × (is_out_of_memory refusal ≡ false)
 IsDueIn s (Events t events) = (t ≡ s) × IsRunOf s events
+IsDueIn s _ = ⊥
 
 -- what a session writes
 abbrev pub IsDueOf : Scenario → Writing → Type 0
 IsDueOf s Nothing = Unit {0}
-IsDueOf s UsageLine = ⊥
-IsDueOf s SourceLine = ⊥
-IsDueOf s (RefusalLine before) = ⊥
-IsDueOf s (ContentLine fault) = ⊥
-IsDueOf s (FarmLine refusal) = ⊥
 IsDueOf s (Events t events) = (t ≡ s) × IsRunOf s events
+IsDueOf s _ = ⊥
 
 -- nothing, or this line about a content
 abbrev pub IsContentOr : ContentFault → Writing → Type 0
 IsContentOr fault Nothing = Unit {0}
-IsContentOr fault UsageLine = ⊥
-IsContentOr fault SourceLine = ⊥
-IsContentOr fault (RefusalLine before) = ⊥
 IsContentOr fault (ContentLine f) = (f ≡ fault) × (fault ≢ no_memory)
-IsContentOr fault (FarmLine refusal) = ⊥
-IsContentOr fault (Events s events) = ⊥
+IsContentOr fault _ = ⊥
 
 -- nothing, or this line about a farm
 abbrev pub IsFarmOr : FarmRefusal → Writing → Type 0
 IsFarmOr refusal Nothing = Unit {0}
-IsFarmOr refusal UsageLine = ⊥
-IsFarmOr refusal SourceLine = ⊥
-IsFarmOr refusal (RefusalLine before) = ⊥
-IsFarmOr refusal (ContentLine fault) = ⊥
-IsFarmOr refusal (FarmLine r) = (r ≡ refusal) × (lacks_memory refusal ≡ false)
-IsFarmOr refusal (Events s events) = ⊥
+IsFarmOr refusal (FarmLine r) = (r ≡ refusal) × (is_out_of_memory refusal ≡ false)
+IsFarmOr refusal _ = ⊥
 
 -- What came of writing a text, of which good was to be the ending: that, or the sink failed, or memory did.
 abbrev pub TellsText : Ending → List ℕ → Ending → StreamReport (List ℕ) → Type 0

@@ -1,7 +1,7 @@
 pub mod FilterParts
 pub mod Farms
 pub mod Runs
-pub mod SessionsWithoutDryEvents
+pub mod SessionsWithMemory
 pub mod Fronts
 pub mod Streams
 pub mod Faults

@@ -19,7 +19,7 @@ use Rattle.sp_base.specs.Limits.{http_port}
 use Rattle.any_config.specs.declared.farm.Farm.{Farm}
 use Rattle.front.specs.Publishers.{Publishing}
 use Rattle.front.specs.Events.{Event, Run, notes_of}
-use Rattle.front.specs.States.{start_of}
+use Rattle.front.specs.States.{Start, start_of}
 use Rattle.sling_dispatch.specs.Farms.{farm_in, farm_text}
 
 -- ---- the requests that lines ask for (RFC 9112, sections 2.1 and 3)
@@ -71,6 +71,10 @@ step_of host (line.Lose flight) = Lose (pick_of flight)
 abbrev pub sling_publisher : Publishing
 sling_publisher content ask = record { answer = answer_to_request content ask; content = content_after_request content ask }
 
+-- what a session begins with
+abbrev pub sling_start : Farm → Content → Start
+sling_start farm tree = record { publishing = sling_publisher; farm = farm; content = tree }
+
 -- the transcript of events
 abbrev pub told_of_events : List Event → List ℕ
 told_of_events events = transcript (map notes_of events)
@@ -85,4 +89,4 @@ pub record IsSession (s : Scenario) (left : List EventLine) (events : List Event
   pub made : List EventLine
   pub acts : IsActs s.acts (made ++ left)
   pub steps : map (λ (e : Event). e.step) events ≡ map (step_of (asked_publisher_host farm)) made
-  pub run : Run (start_of sling_publisher farm tree) events
+  pub run : Run (start_of (sling_start farm tree)) events

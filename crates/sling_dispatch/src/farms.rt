@@ -28,7 +28,7 @@ pub fn farm_text(given: &Option<ByteBuf>) -> &[u8]
 /// The farm that a text gives.
 pub fn farm_in(alloc: Global, text: &[u8]) -> Result<Farm, FarmRefusal>
     ensures ok { IfOk result (λ farm. spec.farm_in text.now ≡ Ok farm) }
-    ensures err { IfErr result (λ refusal. spec.lacks_memory refusal ≡ false → spec.farm_in text.now ≡ Err refusal) }
+    ensures err { IfErr result (λ refusal. spec.is_out_of_memory refusal ≡ false → spec.farm_in text.now ≡ Err refusal) }
 {
     let top = match read_any(alloc, text) {
         Ok(top) => top,
@@ -41,8 +41,8 @@ pub fn farm_in(alloc: Global, text: &[u8]) -> Result<Farm, FarmRefusal>
 }
 
 /// Whether the farm wasn't read, since memory ran out.
-pub fn lacks_memory(refusal: &FarmRefusal) -> bool
-    ensures { result ≡ spec.lacks_memory refusal.now }
+pub fn is_out_of_memory(refusal: &FarmRefusal) -> bool
+    ensures { result ≡ spec.is_out_of_memory refusal.now }
 {
     match refusal {
         FarmRefusal::NoFile(fault) => matches!(fault, AnyFault::NoMemory),

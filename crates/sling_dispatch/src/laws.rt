@@ -10,7 +10,7 @@ ghost use Rattle.dispatch_rules.specs.UrlParts.{stem};
 ghost use Rattle.front.specs.Publishers.{direct_answer};
 ghost use Rattle.front.specs.Events.{Event, notes_of};
 ghost use Rattle.replay_text.specs.Scenario.{ReadsScenario};
-ghost use Rattle.sling_dispatch.specs.SessionsWithoutDryEvents.{SessionsWithoutDryEventsAreOne};
+ghost use Rattle.sling_dispatch.specs.SessionsWithMemory.{SessionsWithMemoryAreOne};
 ghost use Rattle.sling_dispatch.specs.Endings.{StreamReport, RunCall, Means, IsDue, IsReplay, HasNotFailed, HasContent, HasFarm};
 ghost use Rattle.sling_dispatch.specs.declared.ending.Ending.{Ending};
 ghost use Rattle.sling_dispatch.specs.declared.ending.Ending.TheVariants.{Done, NoMemory};
@@ -19,7 +19,7 @@ ghost use Rattle.sling_dispatch.specs.Runs.{IsSession, sling_publisher, told_of_
 ghost use Rattle.replay_text.specs.declared.event_line.EventLine.{EventLine};
 ghost use Rattle.replay_text.specs.declared.scenario.Scenario.{Scenario};
 
-use front::runs_without_dry_events_are_determined;
+use front::runs_with_memory_are_determined;
 use publisher::statuses_are_short;
 use replay_text::{a_transcript_tells_its_events, acts_are_told_by_their_lines, one_reading};
 
@@ -55,10 +55,10 @@ pub fn a_filter_sees_the_decomposition()
 {}
 
 /// A scenario has one transcript, where memory runs out in no event and the streams end alike. (They do if in the first no stream that
-/// is still read ends within a target that isn't UTF-8 and can't become it: `front`'s law `streams_without_dry_events_end_alike`.)
-pub fn a_session_without_dry_events_has_one_transcript()
-    ensures { SessionsWithoutDryEventsAreOne }
+/// is still read ends within a target that isn't UTF-8 and can't become it: `front`'s law `streams_with_memory_end_alike`.)
+pub fn a_session_with_memory_has_one_transcript()
+    ensures { SessionsWithMemoryAreOne }
 {
     acts_are_told_by_their_lines();
-    runs_without_dry_events_are_determined();
+    runs_with_memory_are_determined();
 }

@@ -4,7 +4,7 @@ ghost use Rattle.sp_outside.specs.Told.{held_after};
 ghost use Rattle.sp_outside.specs.Causes.{HasSinkCause};
 ghost use Rattle.sling_dispatch.specs.Fronts.{IsNext};
 ghost use Rattle.sling_dispatch.specs.Runs.{sling_publisher};
-ghost use Rattle.front.specs.Fronts.{BoardStands};
+ghost use Rattle.front.specs.Fronts.{FrontStandsFor};
 ghost use Rattle.sling_dispatch.specs.Endings.{report_of};
 ghost use Rattle.sling_dispatch.specs.InnerEndings.{AreActLines, TellsText, ending_by, PlaysAll};
 
@@ -115,7 +115,7 @@ fn event_of<'a>(
     lines: &'a [u8],
 ) -> Mem<(Vec<u8>, &'a [u8])>
     requires { AreActLines lines.now × (lines.now ≢ []) }
-    ensures { IfOk result (λ p. IsNext (BoardStands sling_publisher front.old.renderer.publisher front.old.farm front.old.board) (BoardStands sling_publisher front.new.renderer.publisher front.new.farm front.new.board) host.now lines.now p.1.now event p.0.items) }
+    ensures { IfOk result (λ p. IsNext (FrontStandsFor sling_publisher front.old.renderer.publisher front.old.farm front.old.board) (FrontStandsFor sling_publisher front.new.renderer.publisher front.new.farm front.new.board) host.now lines.now p.1.now event p.0.items) }
 {
     acts_are_told_by_their_lines();
     let Some((act, rest)) = first_act(alloc, lines)? else {

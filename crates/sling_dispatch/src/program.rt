@@ -9,7 +9,7 @@ ghost use Rattle.sling_dispatch.specs.InnerEndings.{AreActLines, IsDueAt, IsDueI
 ghost use Rattle.sling_dispatch.specs.Farms as spec;
 
 use crate::ending::Ending;
-use crate::farms::{FarmRefusal, farm_in, farm_text, lacks_memory};
+use crate::farms::{FarmRefusal, farm_in, farm_text, is_out_of_memory};
 use crate::faults::{content_line, farm_line, is_memory, refusal_line};
 use crate::play::{play, say};
 use crate::streams::{ReadFault, read_whole};
@@ -141,7 +141,7 @@ fn session<K: Sink>(alloc: Global, seeds: RandomState, scenario: Scenario, sink:
 // The farm that a text gives, or the standard one. The text is given up.
 fn farm_given(alloc: Global, given: Option<ByteBuf>) -> Result<Farm, FarmRefusal>
     ensures ok { IfOk result (λ farm. spec.farm_in (spec.farm_text given) ≡ Ok farm) }
-    ensures err { IfErr result (λ refusal. spec.lacks_memory refusal ≡ false → spec.farm_in (spec.farm_text given) ≡ Err refusal) }
+    ensures err { IfErr result (λ refusal. spec.is_out_of_memory refusal ≡ false → spec.farm_in (spec.farm_text given) ≡ Err refusal) }
 {
     farm_in(alloc, farm_text(&given))
 }
@@ -177,7 +177,7 @@ fn refuse_content<K: Sink>(alloc: Global, fault: &ContentFault, sink: &mut K) ->
 fn refuse_farm<K: Sink>(alloc: Global, refusal: &FarmRefusal, sink: &mut K) -> Ending
     ensures { Means (IsFarmOr refusal.now) result (report_of (K.held sink.old) (K.held sink.new) (K.faults sink.old) (K.faults sink.new)) }
 {
-    if lacks_memory(refusal) {
+    if is_out_of_memory(refusal) {
         return Ending::NoMemory;
     }
     say_line(sink, farm_line(alloc, refusal), Ending::FarmRefused)

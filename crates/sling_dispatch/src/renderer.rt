@@ -2,7 +2,7 @@
 ghost use Rattle.sling_dispatch.specs.Runs.{sling_publisher};
 
 use front::Renderer;
-use publisher::{Publisher, reads_change_nothing, statuses_are_short};
+use publisher::{Publisher, kinds_are_short, reads_change_nothing, statuses_are_short};
 use sp_base::{Answer, Ask, Mem};
 use std::alloc::Global;
 
@@ -20,6 +20,7 @@ impl Renderer for PublisherRenderer {
     fn render(&mut self, alloc: Global, ask: &Ask) -> Mem<Answer> {
         reads_change_nothing();
         statuses_are_short();
+        kinds_are_short();
         self.publisher.answer(alloc, ask)
     }
 }

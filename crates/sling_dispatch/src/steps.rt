@@ -3,6 +3,7 @@ ghost use Rattle.std.specs.Prelude.{◌≡◌, ◌++◌, IfOk, OnOk, codes};
 ghost use Rattle.sling_dispatch.specs.Runs as runs;
 
 use any_config::Farm;
+use connections::{ConnectionId, FlightId};
 use front::{Pick, Step};
 use replay_text::{EventLine, Flight};
 use sp_base::{ByteBuf, HTTP_PORT, Mem};
@@ -28,12 +29,16 @@ pub fn step_of(alloc: Global, host: &[u8], line: EventLine) -> Mem<Step>
 {
     match line {
         EventLine::Direct(target) => Ok(Step::Direct(target)),
-        EventLine::Open(c, peer) => Ok(Step::Opened(c, peer)),
-        EventLine::Close(c) => Ok(Step::Gone(c)),
-        EventLine::Bytes(c, bytes) => Ok(Step::Piece(c, bytes)),
-        EventLine::Get(c, target) => Ok(Step::Piece(c, get_bytes(alloc, host, target.text())?)),
+        EventLine::Open(c, peer) => Ok(Step::Opened(ConnectionId::new(c), peer)),
+        EventLine::Close(c) => Ok(Step::Gone(ConnectionId::new(c))),
+        EventLine::Bytes(c, bytes) => Ok(Step::Piece(ConnectionId::new(c), bytes)),
+        EventLine::Get(c, target) => {
+            let bytes = get_bytes(alloc, host, target.text())?;
+            Ok(Step::Piece(ConnectionId::new(c), bytes))
+        }
         EventLine::Post(c, target, form) => {
-            Ok(Step::Piece(c, post_bytes(alloc, host, target.text(), form.bytes())?))
+            let bytes = post_bytes(alloc, host, target.text(), form.bytes())?;
+            Ok(Step::Piece(ConnectionId::new(c), bytes))
         }
         EventLine::Render(flight) => Ok(Step::Render(pick_of(flight))),
         EventLine::Deliver(flight) => Ok(Step::Deliver(pick_of(flight))),
@@ -46,7 +51,7 @@ fn pick_of(flight: Flight) -> Pick
 {
     match flight {
         Flight::First => Pick::First,
-        Flight::Numbered(number) => Pick::Number(number),
+        Flight::Numbered(number) => Pick::Number(FlightId::new(number)),
     }
 }
 

@@ -1,3 +1,5 @@
+mod FieldFound
+mod RequestBlockLemmas
 pub mod PropertyLemmas
 pub mod PathLemmas
 pub mod TypedLemmas
@@ -9,3 +11,4 @@ pub mod PathPrefixes
 pub mod PathRest
 pub mod MangledLemmas
 pub mod TextBytes
+pub mod PathBytes

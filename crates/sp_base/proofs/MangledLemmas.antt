@@ -6,7 +6,7 @@ use Rattle.std.specs.Cmp.Lexicographic.{bytes_decides, pointwise}
 use Rattle.std.specs.List.{list_all, list_any, starts_with}
 use Rattle.sp_base.specs.Paths.{is_path, is_empty, is_long, seg_ok, mangled_of, unless_fault, is_mangled, is_namespaced, mangled_seg, mangled_segs, unmangled_seg, unmangled_segs, pieces}
 use Rattle.sp_base.specs.PathTexts.{spelling_of, segs_in}
-use Rattle.sp_base.proofs.PathLemmas.{both, first, second, lacks_slash, lacks_of, is_not, or_first, or_second, true_test, small_back, no_fault, mangled_on, pieces_lack}
+use Rattle.sp_base.proofs.PathLemmas.{both, first, is_not, lacks_of, lacks_slash, mangled_on, no_fault, or_first, or_second, pieces_lack, second, small_back, small_le, test_true, true_test}
 use Rattle.sp_base.proofs.PathText.{spelled-more, pieces-spelled}
 
 and_first : (a b : Bool) → (a && b) ≡ true → a ≡ true
@@ -188,3 +188,9 @@ fits path h long =
     let t = true_test (is_path path) h in
     let few : length (mangled_segs path) ≤ 64 = omega (arith, small_back (length path) (second _ _ t), length-map path mangled_seg) in
     ap (λ fault. unless_fault fault (mangled_segs path)) (no_fault (mangled_segs path) (all_after path (first _ _ t) long) few)
+
+pub mangled_path : (path : List (List ℕ)) → is_path path ≡ true → list_any is_long (mangled_segs path) ≡ false → is_path (mangled_segs path) ≡ true
+mangled_path path h long =
+    let t = true_test (is_path path) h in
+    let few : length (mangled_segs path) ≤ 64 = omega (arith, small_back (length path) (second _ _ t), length-map path mangled_seg) in
+    test_true _ (both _ _ (all_after path (first _ _ t) long) (small_le (length (mangled_segs path)) few))

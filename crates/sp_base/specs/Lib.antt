@@ -1,5 +1,7 @@
 pub mod Bytes
 pub mod Limits
+pub mod MediaTypes
+pub mod Texts
 pub mod Names
 pub mod Properties
 pub mod PropertyPlaces
@@ -8,3 +10,6 @@ pub mod PathTexts
 pub mod Typed
 pub mod PathExact
 pub mod Fields
+pub mod HeldBytes
+pub mod Requests
+pub mod RequestBlocks

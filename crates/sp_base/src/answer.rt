@@ -1,5 +1,5 @@
-//! Requests as they were read, what the publisher is asked, and answers before they are written as HTTP.
-use crate::{ByteBuf, HeadList, Path, TextBuf};
+//! What the publisher is asked, and answers before they are written as HTTP.
+use crate::{ByteBuf, Path, TextBuf};
 
 /// What a response says of caching, as the Cache-Control directive of its name (RFC 9111, section 5.2.2).
 #[derive(Clone, Copy, PartialEq, Eq, Debug, Drop)]
@@ -8,30 +8,6 @@ pub enum Mark {
     NoCache,
     NoStore,
     MustRevalidate,
-}
-
-/// A request as a client sent it.
-#[derive(Drop)]
-pub struct Req {
-    /// The method (RFC 9110, section 9.1: case counts).
-    pub method: TextBuf,
-    /// The request line as it came, without its line end (RFC 9112, section 3).
-    pub line: TextBuf,
-    /// The minor version of HTTP/1.
-    pub minor: u8,
-    /// The host that is asked, without its port; empty where a request of version 1.0 names none.
-    pub host: TextBuf,
-    pub port: u16,
-    /// The path of the target, decoded and unmangled.
-    pub path: Path,
-    /// Whether a slash at the path's end was dropped.
-    pub slash: bool,
-    /// The target's query as it came, without the question mark.
-    pub query: Option<ByteBuf>,
-    pub heads: HeadList,
-    pub body: ByteBuf,
-    /// Whether the connection closes after the answer.
-    pub close: bool,
 }
 
 /// A request as it is asked of the publisher.

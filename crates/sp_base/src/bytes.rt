@@ -1,23 +1,34 @@
 //! Bytes that contracts see as a list of numbers.
-ghost use Rattle.std.specs.Prelude.{◌≡◌, IfOk};
+ghost use Rattle.std.specs.Prelude.{◌≡◌, IfOk, IfErr};
 ghost use Rattle.sp_base.specs.Bytes as spec;
+ghost use Rattle.sp_base.specs.HeldBytes.{held_bytes};
 
-use crate::{Mem, TextBuf};
-use std::alloc::Global;
+use crate::{Mem, NoMemory, TextBuf};
+use std::alloc::{AllocError, Global};
 use std::marker::Model;
+use std::mem::replace;
+use std::rc::Rc;
 
-/// Owned bytes.
+/// Owned bytes, which may have several owners: a share is the same bytes without a copy.
 #[derive(Drop)]
 pub struct ByteBuf {
-    bytes: Vec<u8>,
+    held: HeldBytes,
+}
+
+// How bytes are held: by one owner, or by each that shares them.
+#[derive(Drop)]
+enum HeldBytes {
+    Alone(Vec<u8>),
+    Shared(Rc<Vec<u8>>),
 }
 
 impl Model for ByteBuf {
     ghost use Rattle.std.specs.Prelude.{List, ℕ};
+    ghost use Rattle.sp_base.specs.HeldBytes.{held_bytes};
 
     ghost Value = { List ℕ };
 
-    ghost view = { λ b. b.bytes.items };
+    ghost view = { λ b. held_bytes b.held };
 }
 
 impl ByteBuf {
@@ -25,15 +36,51 @@ impl ByteBuf {
     pub fn of(alloc: Global, bytes: &[u8]) -> Mem<ByteBuf>
         ensures { IfOk result (λ b. b ≡ bytes.now) }
     {
-        Ok(ByteBuf {
-            bytes: Vec::from_slice(alloc, bytes)?,
-        })
+        Ok(ByteBuf::from(Vec::from_slice(alloc, bytes)?))
     }
 
     pub fn bytes(&self) -> &[u8]
         ensures { result.now ≡ self.now }
     {
-        self.bytes.as_slice()
+        match &self.held {
+            HeldBytes::Alone(bytes) => bytes.as_slice(),
+            HeldBytes::Shared(bytes) => bytes.as_ref().as_slice(),
+        }
+    }
+
+    /// The same bytes once more, without a copy. The first share takes memory, but not for the bytes.
+    pub fn share(&mut self, alloc: Global) -> Mem<ByteBuf>
+        ensures ok { IfOk result (λ b. b ≡ self.old) }
+        ensures same { self.new ≡ self.old }
+    {
+        let held = replace(&mut self.held, HeldBytes::Alone(Vec::new(alloc)));
+        match shared(alloc, held) {
+            Ok(bytes) => {
+                let more: Result<Rc<Vec<u8>>, AllocError> = bytes.clone();
+                self.held = HeldBytes::Shared(bytes);
+                Ok(ByteBuf {
+                    held: HeldBytes::Shared(more?),
+                })
+            }
+            Err(held) => {
+                self.held = held;
+                Err(NoMemory)
+            }
+        }
+    }
+}
+
+// Bytes that may be shared; out of memory they are as they were.
+fn shared(alloc: Global, held: HeldBytes) -> Result<Rc<Vec<u8>>, HeldBytes>
+    ensures ok { IfOk result (λ bytes. bytes.value.items ≡ held_bytes held) }
+    ensures err { IfErr result (λ same. held_bytes same ≡ held_bytes held) }
+{
+    match held {
+        HeldBytes::Shared(bytes) => Ok(bytes),
+        HeldBytes::Alone(bytes) => match Rc::new(alloc, bytes) {
+            Ok(bytes) => Ok(bytes),
+            Err(refused) => Err(HeldBytes::Alone(refused.value)),
+        },
     }
 }
 
@@ -41,7 +88,9 @@ impl From<Vec<u8>> for ByteBuf {
     ghost from_gives = { λ bytes b. b ≡ bytes.items };
 
     fn from(bytes: Vec<u8>) -> ByteBuf {
-        ByteBuf { bytes }
+        ByteBuf {
+            held: HeldBytes::Alone(bytes),
+        }
     }
 }
 
@@ -50,7 +99,7 @@ impl From<TextBuf> for ByteBuf {
 
     fn from(text: TextBuf) -> ByteBuf {
         ByteBuf {
-            bytes: text.into_bytes(),
+            held: HeldBytes::Alone(text.into_bytes()),
         }
     }
 }

@@ -1,8 +1,7 @@
 //! Lists that contracts see as lists.
 ghost use Rattle.std.specs.Prelude.{◌≡◌, ◌==◌, [], ◌∷◌, ◌++◌, IfOk, OnOk, OnErr, option_copied, slice_get, length};
-ghost use Rattle.sp_base.specs.Fields.{field_of};
 
-use crate::{ByteBuf, Mem, Path, TextBuf};
+use crate::{Mem, Path, TextBuf};
 use std::alloc::Global;
 use std::marker::Model;
 
@@ -21,10 +20,6 @@ pub type LongList = Items<i64>;
 pub type TruthList = Items<bool>;
 
 pub type PathList = Items<Path>;
-
-/// Header fields in the order in which they came: a name in lower case, and the value's bytes without blanks round it (RFC 9110,
-/// section 5).
-pub type HeadList = Items<(TextBuf, ByteBuf)>;
 
 /// The numbers of calls, counted from 1.
 pub type CallList = Items<u64>;
@@ -123,18 +118,5 @@ impl TruthList {
         Ok(Items {
             items: Vec::from_slice(alloc, self.items.as_slice())?,
         })
-    }
-}
-
-impl HeadList {
-    /// The value of the first field of a name, which is given in lower case.
-    pub fn field(&self, name: &str) -> Option<&[u8]>
-        ensures { option_copied result ≡ field_of self.now name.now }
-    {
-        let found = self.as_slice().iter().find(|field| field.0.text() == name);
-        match found {
-            Some(field) => Some(field.1.bytes()),
-            None => None,
-        }
     }
 }

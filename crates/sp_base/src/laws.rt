@@ -1,8 +1,11 @@
 //! How paths and their texts belong together: laws of the definitions, on functions that do nothing.
 ghost use Rattle.std.specs.Prelude.{◌≡◌, ◌<◌, ◌≤◌, ℕ, List, IsTrue, true, false, Ok, ◌∷◌, length, take, slice_index};
-ghost use Rattle.std.specs.List.{list_any};
+ghost use Rattle.std.specs.List.{AllByRecursion, list_any};
+ghost use Rattle.sp_base.specs.Bytes.{AreBytes};
 ghost use Rattle.sp_base.specs.Paths.{is_long, is_path, is_under, parent_of, path_of, pieces, text_of, mangled_segs, mangled_of, unmangled_segs};
 ghost use Rattle.sp_base.specs.PathTexts.{lack_slashes, segs_in, spelling_of, text_under};
+
+use crate::Path;
 
 /// The text of a path reads as that path, and a text that reads as a path is the path's text.
 pub fn a_path_and_its_text()
@@ -29,7 +32,16 @@ pub fn mangling_and_unmangling()
 
     // A mangled path is one unless a segment grew too long.
     ensures fits { (path : List (List ℕ)) → IsTrue (is_path path) → list_any is_long (mangled_segs path) ≡ false → mangled_of path ≡ Ok (mangled_segs path) }
+    ensures path { (path : List (List ℕ)) → IsTrue (is_path path) → list_any is_long (mangled_segs path) ≡ false → IsTrue (is_path (mangled_segs path)) }
+    ensures bytes { (path : List (List ℕ)) → AllByRecursion AreBytes path → AllByRecursion AreBytes (mangled_segs path) }
 {}
+
+/// A path's segments have bytes, as the laws on different paths want it.
+pub fn a_path_has_bytes(path: &Path)
+    ensures { AllByRecursion AreBytes path.now }
+{
+    let _spelling = path.spelling().as_bytes();
+}
 
 /// Whether a path is under another is read off their texts. The pieces of any text may stand for segments, as a page's file after its
 /// folder.

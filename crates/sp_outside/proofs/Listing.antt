@@ -99,7 +99,7 @@ second_true false b e = absurd (true≢false (sym e))
 abbrev in_range : Bound (String Global) → String Global × List ℕ → Bool
 in_range start e = range_contains string_cmp start Unbounded e.0
 
-abbrev wanted : List ℕ → List ℕ → List ℕ → Bool
+abbrev pub wanted : List ℕ → List ℕ → List ℕ → Bool
 wanted prefix after name = has_prefix prefix name && is_lt (by_name after name)
 
 -- of the names with the prefix those are after a name that stand from the first place on
@@ -282,7 +282,7 @@ all_above : (name : List ℕ) (es : List (List ℕ × List ℕ)) → T (below_al
 all_above name [] h = tt
 all_above name (e ∷ es) h = (less _ (first _ _ h), all_above name es (second _ _ h))
 
-rises : (es : List (List ℕ × List ℕ)) → T (is_sorted by_name es) → IsStrictlySortedBy by_name (map (λ e. e.0) es)
+pub rises : (es : List (List ℕ × List ℕ)) → T (is_sorted by_name es) → IsStrictlySortedBy by_name (map (λ e. e.0) es)
 unfolding IsStrictlySortedBy
 rises [] h = tt
 rises (e ∷ es) h = (all_above e.0 es (first _ _ h), rises es (second _ _ h))

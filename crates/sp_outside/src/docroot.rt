@@ -1,8 +1,10 @@
 //! Files below a folder, by the calls of the system.
-ghost use Rattle.std.specs.Prelude.{IfOk};
+ghost use Rattle.std.specs.Prelude.{IfOk, IsTrue, OnOk};
+ghost use Rattle.sp_outside.specs.FileNames.{is_inside};
 ghost use Rattle.sp_outside.specs.Files.{IsListing};
 
 use crate::DiskFault;
+use crate::file_name::{BESIDE, is_inside};
 use crate::folder_walk::names_below;
 use crate::name_index::{NameIndex, Standing};
 use crate::name_list::push_next;
@@ -10,9 +12,6 @@ use sp_base::{ByteBuf, Mem, NameList};
 use std::alloc::Global;
 use std::fs::{self, File, Files, OpenFile};
 use std::io::{self, ErrorKind, Read, Write};
-
-/// The ending of a file that is written beside another, which it then replaces.
-pub(crate) const BESIDE: &str = "%t";
 
 /// The most bytes of a path that Linux takes.
 const LONGEST_PATH: usize = 4_095;
@@ -41,15 +40,6 @@ pub(crate) struct Docroot<R: Files + AllocGlobal + Clone + Drop> {
     has_names: bool,
     // Each folder below the docroot that was found or made is synced into the one that it lies in.
     folders_last: bool,
-}
-
-// A name that may have a file: no segment is empty, `.` or `..`, it has no NUL, and not the ending of a file beside another.
-fn is_inside(name: &str) -> bool {
-    !name.ends_with(BESIDE)
-        && !name.contains('\0')
-        && name
-            .split('/')
-            .all(|seg| !seg.is_empty() && seg != "." && seg != "..")
 }
 
 // The last segment begins with a dot: the file isn't a page, and has to last over a loss of power.
@@ -187,7 +177,10 @@ impl<R: Files + AllocGlobal + Clone + Drop> Docroot<R> {
 
 // Writing and removing.
 impl<R: Files + AllocGlobal + Clone + Drop> Docroot<R> {
-    pub(crate) fn write(&mut self, name: &str, bytes: &[u8]) -> Result<(), DiskFault> {
+    /// Writes a file, which its name leads to below the folder, else nothing.
+    pub(crate) fn write(&mut self, name: &str, bytes: &[u8]) -> Result<(), DiskFault>
+        ensures inside { OnOk result (IsTrue (is_inside name.now)) }
+    {
         if !is_inside(name) || bytes.len() > LONGEST_FILE {
             return Err(DiskFault::Failed);
         }

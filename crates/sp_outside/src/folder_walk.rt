@@ -1,5 +1,6 @@
 //! The walk over a folder and all folders below it.
-use crate::docroot::{BESIDE, sync_folder};
+use crate::docroot::sync_folder;
+use crate::file_name::is_beside;
 use crate::name_index::{NameIndex, Standing};
 use crate::{DiskFault, LONGEST_FILE_NAME};
 use sp_base::Mem;
@@ -76,7 +77,7 @@ fn take_entry<R: Files + AllocGlobal + Clone + Drop>(
     let path = entry.path().as_str();
     if found.is_dir() {
         push_path(alloc, folders, path)?;
-    } else if found.is_file() && !path.ends_with(BESIDE) {
+    } else if found.is_file() && !is_beside(path) {
         let name = path.get(prefix..).unwrap_or("");
         if name.len() > LONGEST_FILE_NAME {
             return Err(DiskFault::Failed);

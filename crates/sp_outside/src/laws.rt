@@ -1,9 +1,10 @@
 //! What follows from the definitions of files: laws, on functions that do nothing.
-ghost use Rattle.std.specs.Prelude.{◌≡◌, ◌≢◌, ℕ, List, Some, None};
+ghost use Rattle.std.specs.Prelude.{◌≡◌, ◌≢◌, ◌↔◌, ◌≤◌, ◌<◌, ℕ, List, Some, None, Contains, IsUtf8, length, take};
 ghost use Rattle.std.specs.List.{All};
 ghost use Rattle.std.specs.declared.cmp.Ordering.TheVariants.{Less};
 ghost use Rattle.sp_base.specs.Names.{by_name};
-ghost use Rattle.sp_outside.specs.Files.{Files, IsEndlessWalk, IsListing, file_at, with_file, without_file};
+ghost use Rattle.sp_outside.specs.FileNames.{HasReached, IsNameAfter, names_left};
+ghost use Rattle.sp_outside.specs.Files.{Files, IsEndlessWalk, IsListing, file_at, longest_file_name, names_after, with_file, without_file};
 
 /// A file is what was written last under its name, and no other name's file changes with it.
 pub fn files_have_names()
@@ -18,4 +19,21 @@ pub fn files_have_names()
 pub fn walks_end()
     ensures later { (prefix after : List ℕ) (most : ℕ) (names : List (List ℕ)) → IsListing prefix after most names → All (λ name. by_name after name ≡ Less) names }
     ensures ends { (prefix : List ℕ) (most : ℕ) (after : ℕ → List ℕ) (lists : ℕ → List (List ℕ)) → IsEndlessWalk prefix most after lists → ⊥ }
+{}
+
+/// A walk comes nearer to its end with each list: of a name that is listed after another, fewer are left than of that one.
+pub fn fewer_names_follow()
+    ensures { (prefix after name : List ℕ) (most : ℕ) (names : List (List ℕ)) → IsUtf8 after → length after ≤ longest_file_name → IsListing prefix after most names
+        → Contains names name → names_left name < names_left after }
+{}
+
+/// The names that are listed after a name are exactly the names of files that are after it and begin with the prefix.
+pub fn names_are_of_files()
+    ensures { (files : Files) (prefix after name : List ℕ) → Contains (names_after files prefix after) name ↔ IsNameAfter files prefix after name }
+{}
+
+/// A list leaves out no name that it came to.
+pub fn nothing_is_passed_over()
+    ensures { (files : Files) (prefix after name : List ℕ) (most : ℕ) (names : List (List ℕ)) → names ≡ take most (names_after files prefix after)
+        → IsNameAfter files prefix after name → HasReached names most name → Contains names name }
 {}

@@ -6,6 +6,7 @@
 
 mod disk;
 mod docroot;
+mod file_name;
 mod folder_walk;
 mod laws;
 mod mem_disk;
@@ -19,7 +20,10 @@ mod source;
 mod words;
 
 pub use disk::{Disk, DiskFault, LONGEST_FILE_NAME};
-pub use laws::{files_have_names, walks_end};
+pub use file_name::has_segments;
+pub use laws::{
+    fewer_names_follow, files_have_names, names_are_of_files, nothing_is_passed_over, walks_end,
+};
 pub use mem_disk::{MemDisk, Plan, Way};
 pub use memory::{MemSink, MemSource};
 pub use real::{RealSink, RealSource};

@@ -1,6 +1,6 @@
 -- Which pages .stat files outdate (Adobe Dispatcher manual, "Invalidating Files by Folder Level"). Where the manual compares the times of
 -- files, stamps are compared: one is newer where its session is later, or the session is the same and its count is greater.
-use Rattle.std.specs.Prelude.{◌==◌, ◌&&◌, ◌||◌, ℕ, Bool, false, not, nat_lt, List, Option, Some, None}
+use Rattle.std.specs.Prelude.{◌==◌, ◌&&◌, ◌||◌, ℕ, Bool, false, not, nat_lt, Option, Some, None}
 use Rattle.sp_outside.specs.Files.{Files}
 use Rattle.cover_rules.specs.Coverage.{stat_folder}
 use Rattle.cover_rules.specs.declared.page.PageKey.{PageKey}

@@ -1,9 +1,16 @@
 -- The stamps of folders, as the files of the docroot hold them (Adobe Dispatcher manual, "Invalidating Files by Folder Level").
-use Rattle.std.specs.Prelude.{ℕ, List, Option, Some, None, option_map}
+use Rattle.std.specs.Prelude.{◌≡◌, ◌≢◌, ◌⊎◌, ◌<◌, ◌≤◌, ℕ, Option, Some, None, option_and_then, option_map}
+use Rattle.sp_base.specs.Paths.{mangled_segs}
+use Rattle.sp_base.specs.Texts.{Segments, Text}
+use Rattle.std.specs.List.{AllByRecursion}
+use Rattle.sp_base.specs.Bytes.{AreBytes}
 use Rattle.sp_base.specs.Limits.{greatest_u64}
-use Rattle.sp_outside.specs.Files.{Files, file_at}
+use Rattle.sp_outside.specs.Files.{Files, file_at, told_with, with_file}
 use Rattle.docroot_format.specs.Names.{stat_name}
+use Rattle.docroot_format.specs.Faults.{IsLeftByFault}
 use Rattle.docroot_format.specs.Readings.{stat_of}
+use Rattle.docroot_format.specs.Texts.{stat_text}
+use Rattle.docroot_format.specs.declared.fault.FileFault.{FileFault}
 use Rattle.cover_rules.specs.declared.stamp.Stamp.{Stamp}
 
 -- the greatest stamp, which outdates every page
@@ -16,9 +23,35 @@ stamp_or_greatest None = greatest_stamp
 stamp_or_greatest (Some stamp) = record { epoch = stamp.0; count = stamp.1 }
 
 -- the stamp that the bytes of a .stat file stand for: bytes of another form stand for the greatest
-abbrev pub stamp_in : List ℕ → Stamp
+abbrev pub stamp_in : Text → Stamp
 stamp_in bytes = stamp_or_greatest (stat_of bytes)
 
 -- the stamp that the files hold for a folder, where it has a .stat file
-abbrev pub stamp_at : Files → List (List ℕ) → Option Stamp
+abbrev pub stamp_at : Files → Segments → Option Stamp
 stamp_at files folder = option_map stamp_in (file_at files (stat_name folder))
+
+-- a folder's .stat file is of the form and holds this stamp, or it is of another form, and this is the greatest
+abbrev pub IsHeldOrGreatest : Files → Segments → Stamp → Type 0
+IsHeldOrGreatest files folder stamp =
+    (option_and_then stat_of (file_at files (stat_name folder)) ≡ Some (stamp.epoch, stamp.count))
+    ⊎ ((option_and_then stat_of (file_at files (stat_name folder)) ≡ None) × (stamp ≡ greatest_stamp))
+
+-- a stamp is the same as another or before it: by the session, then by the count
+abbrev pub IsUpTo : Stamp → Stamp → Type 0
+IsUpTo stamp last = (stamp.epoch < last.epoch) ⊎ ((stamp.epoch ≡ last.epoch) × (stamp.count ≤ last.count))
+
+-- the files after a touch of a folder: it has this stamp
+abbrev pub files_with_stamp : Files → Segments → Stamp → Files
+files_with_stamp files folder stamp = with_file files (stat_name folder) (stat_text stamp.epoch stamp.count)
+
+-- the same, where the disk tells its files
+abbrev pub told_with_stamp : Option Files → Segments → Stamp → Option Files
+told_with_stamp told folder stamp = told_with told (stat_name folder) (stat_text stamp.epoch stamp.count)
+
+-- a touch that failed leaves these files
+abbrev pub LeftByTouch : Files → Files → Segments → Stamp → FileFault → Type 0
+LeftByTouch old new folder stamp fault = IsLeftByFault (Some old) (told_with_stamp (Some old) folder stamp) (Some new) fault
+
+-- each folder with another mangled path than this has the stamp that it had
+abbrev pub KeepsOtherStamps : Files → Files → Segments → Type 0
+KeepsOtherStamps old new folder = (other : Segments) → AllByRecursion AreBytes other → mangled_segs other ≢ mangled_segs folder → stamp_at new other ≡ stamp_at old other

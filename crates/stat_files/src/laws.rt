@@ -1,37 +1,58 @@
 //! What follows from the definitions of stamps: laws, on functions that do nothing.
-ghost use Rattle.std.specs.Prelude.{◌≡◌, ◌≢◌, ◌⊎◌, ◌<◌, ◌≤◌, ◌^◌, ℕ, Bool, true, false, not, List, Some, None};
+ghost use Rattle.std.specs.Prelude.{◌≡◌, ◌≢◌, ◌⊎◌, ◌<◌, ◌≤◌, ◌^◌, ℕ, Bool, true, false, not, Some, None};
+ghost use Rattle.std.specs.FinMap.{empty};
 ghost use Rattle.std.specs.List.{AllByRecursion};
 ghost use Rattle.sp_base.specs.Bytes.{AreBytes};
-ghost use Rattle.sp_outside.specs.Files.{Files, file_at, told_with, with_file};
+ghost use Rattle.sp_base.specs.Texts.{Segments, Text};
+ghost use Rattle.sp_outside.specs.Files.{Files, file_at, with_file, without_file};
 ghost use Rattle.sp_base.specs.Paths.{mangled_segs};
-ghost use Rattle.docroot_format.specs.Faults.{IsLeftByFault};
 ghost use Rattle.docroot_format.specs.declared.fault.FileFault.{FileFault};
 ghost use Rattle.docroot_format.specs.declared.fault.FileFault.TheVariants.{Disk as disk_failed};
 ghost use Rattle.docroot_format.specs.Names.{stat_name};
 ghost use Rattle.docroot_format.specs.Readings.{stat_of};
-ghost use Rattle.docroot_format.specs.Texts.{stat_text};
 ghost use Rattle.cover_rules.specs.Coverage.{stat_folder};
+ghost use Rattle.cover_rules.specs.Pages.{IsPageKey};
 ghost use Rattle.cover_rules.specs.declared.page.PageKey.{PageKey};
 ghost use Rattle.cover_rules.specs.declared.stamp.Stamp.{Stamp};
 ghost use Rattle.stat_files.specs.Outdated.{is_older, is_outdated, outdates_page};
-ghost use Rattle.stat_files.specs.Stamps.{greatest_stamp, stamp_at, stamp_or_greatest};
+ghost use Rattle.stat_files.specs.Stamps.{IsHeldOrGreatest, IsUpTo, KeepsOtherStamps, LeftByTouch, files_with_stamp, greatest_stamp, stamp_at, stamp_or_greatest};
 
 use docroot_format::{names_are_apart, texts_are_read_back};
 use sp_outside::files_have_names;
 
 /// The stamp of a folder is the one that it was given last.
 pub fn a_stamp_is_read_back()
-    ensures { (files : Files) (folder : List (List ℕ)) (stamp : Stamp) → stamp.epoch < 2 ^ 64 → stamp.count < 2 ^ 64 → stamp_at (with_file files (stat_name folder) (stat_text stamp.epoch stamp.count)) folder ≡ Some stamp }
+    ensures { (files : Files) (folder : Segments) (stamp : Stamp) → stamp.epoch < 2 ^ 64 → stamp.count < 2 ^ 64 → stamp_at (files_with_stamp files folder stamp) folder ≡ Some stamp }
 {
     files_have_names();
     texts_are_read_back();
 }
 
+/// The stamp of a folder is the same while another file is written or taken away, that of a folder with another mangled path among them.
+pub fn stamps_have_files_of_their_own()
+    ensures touched { (files : Files) (folder : Segments) (bytes : Text) → AllByRecursion AreBytes folder → KeepsOtherStamps files (with_file files (stat_name folder) bytes) folder }
+    ensures written { (files : Files) (folder : Segments) (name bytes : Text) → name ≢ stat_name folder → stamp_at (with_file files name bytes) folder ≡ stamp_at files folder }
+    ensures removed { (files : Files) (folder : Segments) (name : Text) → name ≢ stat_name folder → stamp_at (without_file files name) folder ≡ stamp_at files folder }
+{
+    files_have_names();
+    names_are_apart();
+}
+
+/// The stamp of a folder is the one that its .stat file holds, or, where that is of another form, the greatest.
+pub fn a_stamp_is_held_or_the_greatest()
+    ensures { (files : Files) (folder : Segments) (stamp : Stamp) → stamp_at files folder ≡ Some stamp → IsHeldOrGreatest files folder stamp }
+{}
+
+/// No files hold no stamp.
+pub fn empty_files_hold_no_stamp()
+    ensures { (folder : Segments) → stamp_at empty folder ≡ None }
+{}
+
 /// A .stat file of another form has the greatest stamp: no stamp is above it, by the session and then by the count, so it outdates
 /// every page.
 pub fn a_foreign_stamp_is_the_greatest()
     ensures foreign { stamp_or_greatest None ≡ greatest_stamp }
-    ensures greatest { (stamp : Stamp) → stamp.epoch < 2 ^ 64 → stamp.count < 2 ^ 64 → (stamp.epoch < greatest_stamp.epoch) ⊎ ((stamp.epoch ≡ greatest_stamp.epoch) × (stamp.count ≤ greatest_stamp.count)) }
+    ensures greatest { (stamp : Stamp) → stamp.epoch < 2 ^ 64 → stamp.count < 2 ^ 64 → IsUpTo stamp greatest_stamp }
 {}
 
 /// Of two stamps one is older, or they are the same.
@@ -48,7 +69,7 @@ pub fn what_outdates_a_page()
     ensures same { (stamp : Stamp) → outdates_page (Some stamp) stamp ≡ true }
     ensures newer { (stat page : Stamp) → is_older page stat ≡ true → outdates_page (Some stat) page ≡ true }
     ensures older { (stat page : Stamp) → is_older stat page ≡ true → outdates_page (Some stat) page ≡ false }
-    ensures foreign { (level : ℕ) (files : Files) (key : PageKey) (bytes : List ℕ) (page : Stamp) → page.epoch < 2 ^ 64 → page.count < 2 ^ 64 → file_at files (stat_name (stat_folder level key)) ≡ Some bytes
+    ensures foreign { (level : ℕ) (files : Files) (key : PageKey) (bytes : Text) (page : Stamp) → page.epoch < 2 ^ 64 → page.count < 2 ^ 64 → file_at files (stat_name (stat_folder level key)) ≡ Some bytes
         → stat_of bytes ≡ None → is_outdated level true files key page ≡ true }
     ensures missing { (level : ℕ) (auto : Bool) (files : Files) (key : PageKey) (page : Stamp) → file_at files (stat_name (stat_folder level key)) ≡ None → is_outdated level auto files key page ≡ false }
 {
@@ -60,26 +81,29 @@ pub fn what_outdates_a_page()
 /// change whether it is outdated.
 pub fn a_touch_outdates_what_is_not_newer()
     ensures touched { (level : ℕ) (files : Files) (key : PageKey) (stamp page : Stamp) → stamp.epoch < 2 ^ 64 → stamp.count < 2 ^ 64
-        → is_outdated level true (with_file files (stat_name (stat_folder level key)) (stat_text stamp.epoch stamp.count)) key page ≡ not (is_older stamp page) }
-    ensures beside { (level : ℕ) (auto : Bool) (files : Files) (key : PageKey) (folder : List (List ℕ)) (stamp page : Stamp) → AllByRecursion AreBytes key.folder → AllByRecursion AreBytes folder
-        → mangled_segs folder ≢ mangled_segs (stat_folder level key) → is_outdated level auto (with_file files (stat_name folder) (stat_text stamp.epoch stamp.count)) key page ≡ is_outdated level auto files key page }
+        → is_outdated level true (files_with_stamp files (stat_folder level key) stamp) key page ≡ not (is_older stamp page) }
+    ensures beside { (level : ℕ) (auto : Bool) (files : Files) (key : PageKey) (folder : Segments) (stamp page : Stamp) → IsPageKey key → AllByRecursion AreBytes folder
+        → mangled_segs folder ≢ mangled_segs (stat_folder level key) → is_outdated level auto (files_with_stamp files folder stamp) key page ≡ is_outdated level auto files key page }
 {
     a_stamp_is_read_back();
     files_have_names();
     names_are_apart();
 }
 
-/// A touch that failed leaves the old stamp or, where the disk failed, the new one; each other file is as it was.
+/// A touch that failed leaves the old stamp or, where the disk failed, the new one; each other file, so each other stamp, is as it was.
 pub fn a_failed_touch_leaves_the_old_stamp_or_the_new()
-    ensures whole { (files new : Files) (folder : List (List ℕ)) (stamp : Stamp) (fault : FileFault) → IsLeftByFault (Some files) (told_with (Some files) (stat_name folder) (stat_text stamp.epoch stamp.count)) (Some new) fault
-        → (new ≡ files) ⊎ ((fault ≡ disk_failed) × (new ≡ with_file files (stat_name folder) (stat_text stamp.epoch stamp.count))) }
-    ensures stamp { (files new : Files) (folder : List (List ℕ)) (stamp : Stamp) (fault : FileFault) → stamp.epoch < 2 ^ 64 → stamp.count < 2 ^ 64
-        → IsLeftByFault (Some files) (told_with (Some files) (stat_name folder) (stat_text stamp.epoch stamp.count)) (Some new) fault
+    ensures whole { (files new : Files) (folder : Segments) (stamp : Stamp) (fault : FileFault) → LeftByTouch files new folder stamp fault
+        → (new ≡ files) ⊎ ((fault ≡ disk_failed) × (new ≡ files_with_stamp files folder stamp)) }
+    ensures stamp { (files new : Files) (folder : Segments) (stamp : Stamp) (fault : FileFault) → stamp.epoch < 2 ^ 64 → stamp.count < 2 ^ 64
+        → LeftByTouch files new folder stamp fault
         → (stamp_at new folder ≡ stamp_at files folder) ⊎ (stamp_at new folder ≡ Some stamp) }
-    ensures beside { (files new : Files) (folder : List (List ℕ)) (stamp : Stamp) (fault : FileFault) (name : List ℕ)
-        → IsLeftByFault (Some files) (told_with (Some files) (stat_name folder) (stat_text stamp.epoch stamp.count)) (Some new) fault
+    ensures others { (files new : Files) (folder : Segments) (stamp : Stamp) (fault : FileFault) → AllByRecursion AreBytes folder → LeftByTouch files new folder stamp fault
+        → KeepsOtherStamps files new folder }
+    ensures beside { (files new : Files) (folder : Segments) (stamp : Stamp) (fault : FileFault) (name : Text)
+        → LeftByTouch files new folder stamp fault
         → name ≢ stat_name folder → file_at new name ≡ file_at files name }
 {
     a_stamp_is_read_back();
     files_have_names();
+    stamps_have_files_of_their_own();
 }

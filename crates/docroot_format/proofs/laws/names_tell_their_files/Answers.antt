@@ -4,10 +4,10 @@ use Rattle.docroot_format.proofs.FileKinds.{body_is_page_file, head_is_page_file
 use Rattle.docroot_format.proofs.laws.names_tell_their_files.Goals as goal
 
 pub returns-clause-body : goal.returns-clause-body
-returns-clause-body c = λ key. body_is_page_file (page_path key) key
+returns-clause-body c = λ key page. body_is_page_file (page_path key) key page.folder page.own
 
 pub returns-clause-head : goal.returns-clause-head
-returns-clause-head c = λ key. head_is_page_file (page_path key) key
+returns-clause-head c = λ key page. head_is_page_file (page_path key) key page.folder page.own
 
 pub returns-clause-stat : goal.returns-clause-stat
 returns-clause-stat c = stat_is_stat_file

@@ -4,7 +4,7 @@ use Rattle.front.proofs.StreamLemmas.{same-turns}
 use Rattle.front.proofs.laws.a_cutting_changes_no_turn.Goals as goal
 
 pub returns : goal.returns
-returns c p q f g one other a b n m x y run after some there reads on same =
-    let first = c.connections_are_answered_in_order.ensures.reads p f one a n x run some reads in
-    let second = c.connections_are_answered_in_order.ensures.reads q g other b m y after there on in
+returns c p q a b n m x y run after some there reads on same =
+    let first = c.connections_are_answered_in_order.ensures.reads p a n x run some reads in
+    let second = c.connections_are_answered_in_order.ensures.reads q b m y after there on in
     same-turns c.the_turns_of_a_beginning.ensures _ x y first (subst (λ came. HasReadAll came y) (sym same) second)

@@ -8,7 +8,7 @@ pub returns-clause-slots : goal.returns-clause-slots
 returns-clause-slots c = slots-of-turns c.slots_of_turns.ensures
 
 pub returns-clause-streams : goal.returns-clause-streams
-returns-clause-streams c = answered-streams c.answers_in_order.ensures c.slots_of_turns.ensures
+returns-clause-streams c = answered-streams c.answers_in_order.ensures c.slots_of_turns.ensures c.each_turn_is_treated.ensures
 
 pub returns-clause-reads : goal.returns-clause-reads
 returns-clause-reads c = read-all

@@ -1,11 +1,18 @@
-use Rattle.std.proofs.Common.{◌∙◌}
-use Rattle.http_front.specs.Heads as spec
-use Rattle.http_front.proofs.HeadLemmas.{asks}
+use Rattle.std.proofs.Common.{◌≡◌, ◌≢◌, Some, sym, subst}
+use Rattle.std.specs.Prelude.{IfOk, IfErr}
+use Rattle.http_front.specs.declared.fault.InFault.TheVariants.{NoMemory}
+use Rattle.http_front.specs.Heads.{AreTexts, Asks, head_fault}
+use Rattle.http_front.proofs.ParserLemmas.{parts_in}
 use Rattle.http_front.proofs.head.read_head.Goals as goal
+
+pub read_bytes-requires-clause-texts : goal.read_bytes-requires-clause-texts
+read_bytes-requires-clause-texts c = subst AreTexts (sym (parts_in c.args.bytes.now c.args.at.now.len c.args.spans.now c.args.at.now c.requires.there c.requires.within)) c.requires.texts
 
 pub returns-clause-ok : goal.returns-clause-ok
 returns-clause-ok c =
-    asks (spec.request_parts_at c.args.bytes.now c.args.fields.now c.args.spans.now) c.text_of-method.result.now c.in_ok-line.line c.text_of-target.result.now c.in_ok-heads.heads c.in_ok-asked.asked
-    c.is_closing-close.result
-    (c.text_of-method.ensures ∙ c.of.ensures) (c.text_of-target.ensures ∙ c.of-2.ensures) c.in_ok-heads.ensures c.in_ok-line.ensures c.is_closing-close.ensures c.in_ok-asked.ensures.faultless c.in_ok-asked.ensures.ok _ _
-    c.in_ok-request.ensures c.awaits_continue-awaits_continue.ensures
+    subst (λ p. IfOk c.read_bytes.result (Asks p)) (parts_in c.args.bytes.now c.args.at.now.len c.args.spans.now c.args.at.now c.requires.there c.requires.within) c.read_bytes.ensures.ok
+
+pub returns-clause-err : goal.returns-clause-err
+returns-clause-err c =
+    subst (λ p. IfErr c.read_bytes.result (λ e. e ≢ NoMemory → head_fault p ≡ Some e)) (parts_in c.args.bytes.now c.args.at.now.len c.args.spans.now c.args.at.now c.requires.there c.requires.within)
+    c.read_bytes.ensures.err

@@ -2,7 +2,7 @@ use Rattle.http_front.proofs.ParserLemmas.{texts, version, asking}
 use Rattle.http_front.proofs.window.whole.Goals as goal
 
 pub read_head-requires-clause-texts : goal.read_head-requires-clause-texts
-read_head-requires-clause-texts c = texts _ _ _ c.requires.holds
+read_head-requires-clause-texts c = texts _ _ _ c.requires.small c.requires.holds
 
 pub read_head-requires-clause-version : goal.read_head-requires-clause-version
 read_head-requires-clause-version c = version _ _ _ c.requires.holds

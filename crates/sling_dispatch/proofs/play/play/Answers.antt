@@ -1,7 +1,7 @@
 use Rattle.std.proofs.Common.{rules, ◌≡◌, ◌∙◌, ◌++◌, ◌+◌, Err, length, ap, sym, subst, take, arith, refl}
 use Rattle.sp_outside.specs.Told.{held_after}
 use Rattle.sp_outside.specs.Causes.{HasSinkCause}
-use Rattle.front.specs.Fronts.{BoardStands}
+use Rattle.front.specs.Fronts.{FrontStandsFor}
 use Rattle.sling_dispatch.specs.Endings.{report_of, Nothing}
 use Rattle.sling_dispatch.specs.InnerEndings.{PlaysAll}
 use Rattle.sling_dispatch.specs.declared.ending.Ending.TheVariants.{Done, NoMemory}
@@ -13,7 +13,7 @@ use Rattle.sling_dispatch.proofs.play.play.Goals as goal
 
 pub loop-rest-init : goal.loop-rest-init
 loop-rest-init g c =
-    let start = BoardStands sling_publisher c.new-front.result.renderer.publisher c.new-front.result.farm c.new-front.result.board in
+    let start = FrontStandsFor sling_publisher c.new-front.result.renderer.publisher c.new-front.result.farm c.new-front.result.board in
     let held = g.K.Sink.held c.args.sink.now in
     record {
       played = subst (Played c.args.publisher c.args.farm c.args.acts.now c.args.acts.now 0 start held held) (sym c.new-gathered.ensures.items)
@@ -29,8 +29,8 @@ loop-rest-preserved g c =
     let acts = c.args.acts.now in
     let old = g.K.Sink.held c.args.sink.now in
     let mid = g.K.Sink.held l.sink in
-    let before = BoardStands sling_publisher l.front.renderer.publisher l.front.farm l.front.board in
-    let remainder = BoardStands sling_publisher c.event_of.new.front.renderer.publisher c.event_of.new.front.farm c.event_of.new.front.board in
+    let before = FrontStandsFor sling_publisher l.front.renderer.publisher l.front.farm l.front.board in
+    let remainder = FrontStandsFor sling_publisher c.event_of.new.front.renderer.publisher c.event_of.new.front.farm c.event_of.new.front.board in
     let text = c.in-Ok-event_of.text.items in
     let after = c.in-Ok-event_of.after.now in
     let made : IsNext before remainder (asked_publisher_host c.args.farm) l.rest.now after (l.event + 1) text
@@ -48,13 +48,13 @@ loop-rest-preserved g c =
     }
 
 pub returns-in_default : goal.returns-in_default
-returns-in_default g c = λ s same reads farm_reads. (Nothing, tt, (0, sym (added-nothing (g.K.Sink.held c.args.sink.now))), refl)
+returns-in_default g c = λ s same reads farm_reads. (record { writing = Nothing; due = tt; wrote = (0, sym (added-nothing (g.K.Sink.held c.args.sink.now))) }, refl)
 
 pub returns-in_default-event_of : goal.returns-in_default-event_of
 returns-in_default-event_of g c =
     let sink = report_of (g.K.Sink.held c.args.sink.now) (g.K.Sink.held c.say.new.sink) (g.K.Sink.faults c.args.sink.now) (g.K.Sink.faults c.say.new.sink) in
     let l = c.loop-rest in
-    let before = BoardStands sling_publisher l.front.renderer.publisher l.front.farm l.front.board in
+    let before = FrontStandsFor sling_publisher l.front.renderer.publisher l.front.farm l.front.board in
     let text = c.deref-in_default-event_of in
     played_stopped c.args.publisher c.args.farm c.args.acts.now l.rest.now l.event before (g.K.Sink.held l.sink) l.gathered.items c.say.result sink l.invariant.played
     (told_from NoMemory l.gathered.items text.result.now c.say.result (g.K.Sink.held l.sink) (g.K.Sink.faults l.sink) sink text.ensures.value
@@ -66,8 +66,8 @@ returns-in-Err g c =
     let acts = c.args.acts.now in
     let old = g.K.Sink.held c.args.sink.now in
     let mid = g.K.Sink.held l.sink in
-    let before = BoardStands sling_publisher l.front.renderer.publisher l.front.farm l.front.board in
-    let remainder = BoardStands sling_publisher c.event_of.new.front.renderer.publisher c.event_of.new.front.farm c.event_of.new.front.board in
+    let before = FrontStandsFor sling_publisher l.front.renderer.publisher l.front.farm l.front.board in
+    let remainder = FrontStandsFor sling_publisher c.event_of.new.front.renderer.publisher c.event_of.new.front.farm c.event_of.new.front.board in
     let text = c.in-Ok-event_of.text.items in
     let after = c.in-Ok-event_of.after.now in
     let sink = report_of old (g.K.Sink.held c.gather.new.sink) (g.K.Sink.faults c.args.sink.now) (g.K.Sink.faults c.gather.new.sink) in
@@ -86,7 +86,7 @@ returns g c =
     let sink = report_of (g.K.Sink.held c.args.sink.now) (g.K.Sink.held c.say-2.new.sink) (g.K.Sink.faults c.args.sink.now) (g.K.Sink.faults c.say-2.new.sink) in
     let l = c.loop-rest in
     let none : length c.loop-rest.rest.now ≡ 0 = search rules in
-    let before = BoardStands sling_publisher l.front.renderer.publisher l.front.farm l.front.board in
+    let before = FrontStandsFor sling_publisher l.front.renderer.publisher l.front.farm l.front.board in
     played_all c.args.publisher c.args.farm c.args.acts.now l.rest.now l.event before (g.K.Sink.held l.sink) l.gathered.items c.say-2.result sink (no_bytes l.rest.now none) l.invariant.played
     (told_from Done l.gathered.items c.deref-2.result.now c.say-2.result (g.K.Sink.held l.sink) (g.K.Sink.faults l.sink) sink c.deref-2.ensures.value
     l.invariant.not_failed c.say-2.ensures)

@@ -14,7 +14,7 @@ returns-then-not-is_replay-clause-ending g c =
     let call : RunCall = record { words = map (λ w. w.now) c.args.words.now; source = report_of held held count count } in
     let sink = report_of (g.K.Sink.held c.args.sink.now) (g.K.Sink.held c.say.new.sink) (g.K.Sink.faults c.args.sink.now) (g.K.Sink.faults c.say.new.sink) in
     let due : IsDue call UsageLine = ((λ h. let k = c.is_replay.ensures.1 h in cc (k, c.if-not-is_replay.true)), (refl, refl)) in
-    told_line (IsDue call) UsageLine Usage c.say.result (codes "usage: replay" ++ 10 ∷ []) sink due (λ w. (due, w)) refl c.say.ensures
+    told_line (IsDue call) UsageLine Usage c.say.result (codes "usage: replay" ++ 10 ∷ []) sink due refl (λ m. m) refl c.say.ensures
 
 pub returns-in-Ok-clause-ending : goal.returns-in-Ok-clause-ending
 returns-in-Ok-clause-ending g c =
@@ -38,7 +38,7 @@ returns-in-Err-Failed-clause-ending g c =
     let sink = report_of (g.K.Sink.held c.args.sink.now) (g.K.Sink.held c.say-in-Err-Failed.new.sink) (g.K.Sink.faults c.args.sink.now) (g.K.Sink.faults c.say-in-Err-Failed.new.sink) in
     let cause = rw c.in-Err-Failed.field-0-is at c.in-Err-Failed.ensures.cause in
     let due : IsDue call SourceLine = (c.is_replay.ensures.0 c.if-not-is_replay.false, cause) in
-    told_line (IsDue call) SourceLine SourceFailed c.say-in-Err-Failed.result (codes "source failed" ++ 10 ∷ []) sink due (λ w. (due, w)) refl c.say-in-Err-Failed.ensures
+    told_line (IsDue call) SourceLine SourceFailed c.say-in-Err-Failed.result (codes "source failed" ++ 10 ∷ []) sink due refl (λ m. m) refl c.say-in-Err-Failed.ensures
 
 pub returns-in-Err-NoMemory-clause-ending : goal.returns-in-Err-NoMemory-clause-ending
 returns-in-Err-NoMemory-clause-ending g c =

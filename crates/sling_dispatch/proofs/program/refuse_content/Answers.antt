@@ -17,4 +17,4 @@ returns g c =
     let sink = report_of (g.K.Sink.held c.args.sink.now) (g.K.Sink.held c.say_line.new.sink) (g.K.Sink.faults c.args.sink.now) (g.K.Sink.faults c.say_line.new.sink) in
     let due : IsContentOr fault (ContentLine fault) = (refl, λ h. let k = c.is_memory.ensures.1 h in cc (k, c.if-is_memory.false)) in
     told_made (λ text. text.items) (IsContentOr fault) (ContentLine fault) ContentRefused c.say_line.result c.content_line.result sink tt due
-    (λ w. (fault, due, w)) c.content_line.ensures c.say_line.ensures.made c.say_line.ensures.not_made
+    refl (λ m. m) c.content_line.ensures c.say_line.ensures.made c.say_line.ensures.not_made

@@ -5,8 +5,8 @@ use Rattle.sling_dispatch.specs.declared.ending.Ending.TheVariants.{FarmRefused}
 use Rattle.sling_dispatch.proofs.Meanings.{told_made, out_of_memory}
 use Rattle.sling_dispatch.proofs.program.refuse_farm.Goals as goal
 
-pub returns-then-lacks_memory : goal.returns-then-lacks_memory
-returns-then-lacks_memory g c =
+pub returns-then-is_out_of_memory : goal.returns-then-is_out_of_memory
+returns-then-is_out_of_memory g c =
     let held = g.K.Sink.held c.args.sink.now in
     let count = g.K.Sink.faults c.args.sink.now in
     out_of_memory (IsFarmOr c.args.refusal.now) tt (report_of held held count count) refl refl
@@ -15,6 +15,6 @@ pub returns : goal.returns
 returns g c =
     let refusal = c.args.refusal.now in
     let sink = report_of (g.K.Sink.held c.args.sink.now) (g.K.Sink.held c.say_line.new.sink) (g.K.Sink.faults c.args.sink.now) (g.K.Sink.faults c.say_line.new.sink) in
-    let due : IsFarmOr refusal (FarmLine refusal) = (refl, let k = c.lacks_memory.ensures in cc (k, c.if-lacks_memory.false)) in
+    let due : IsFarmOr refusal (FarmLine refusal) = (refl, let k = c.is_out_of_memory.ensures in cc (k, c.if-is_out_of_memory.false)) in
     told_made (λ text. text.items) (IsFarmOr refusal) (FarmLine refusal) FarmRefused c.say_line.result c.farm_line.result sink tt due
-    (λ w. (refusal, due, w)) c.farm_line.ensures c.say_line.ensures.made c.say_line.ensures.not_made
+    refl (λ m. m) c.farm_line.ensures c.say_line.ensures.made c.say_line.ensures.not_made

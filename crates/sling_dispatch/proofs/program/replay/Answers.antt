@@ -20,7 +20,7 @@ returns-in-Err-Line g c =
     let line = rw c.in-Err-Line.field-0-is at c.refusal_line.ensures in
     told_made (λ line. line.items) (IsDueAt text) (RefusalLine before) Refused c.say_line.result c.refusal_line.result
     (report_of (g.K.Sink.held c.args.sink.now) (g.K.Sink.held c.say_line.new.sink) (g.K.Sink.faults c.args.sink.now) (g.K.Sink.faults c.say_line.new.sink))
-    tt r.0 (λ w. (before, r.0, w)) line c.say_line.ensures.made c.say_line.ensures.not_made
+    tt r.0 refl (λ m. m) line c.say_line.ensures.made c.say_line.ensures.not_made
 
 pub refusal_line-requires : goal.refusal_line-requires
 refusal_line-requires g c =

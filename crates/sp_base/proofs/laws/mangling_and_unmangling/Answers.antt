@@ -1,4 +1,5 @@
-use Rattle.sp_base.proofs.MangledLemmas.{back, one, again, fits}
+use Rattle.sp_base.proofs.MangledLemmas.{back, one, again, fits, mangled_path}
+use Rattle.sp_base.proofs.PathBytes.{all_mangled}
 use Rattle.sp_base.proofs.laws.mangling_and_unmangling.Goals as goal
 
 pub returns-clause-back : goal.returns-clause-back
@@ -12,3 +13,9 @@ returns-clause-again c = again
 
 pub returns-clause-fits : goal.returns-clause-fits
 returns-clause-fits c = fits
+
+pub returns-clause-path : goal.returns-clause-path
+returns-clause-path c = mangled_path
+
+pub returns-clause-bytes : goal.returns-clause-bytes
+returns-clause-bytes c = all_mangled

@@ -1,4 +1,4 @@
-use Rattle.std.proofs.Common.{◌≡◌, ◌≢◌, ◌⊎◌, inl, inr, ⊎_elim, ℕ, List, Some, ◌∙◌, ap}
+use Rattle.std.proofs.Common.{◌≡◌, ◌⊎◌, inl, inr, ⊎_elim, ℕ, List, Some, ◌∙◌, ap}
 use Rattle.sp_outside.specs.Files.{Files, file_at, told_with, with_file}
 use Rattle.docroot_format.specs.Faults.{IsLeftByFault}
 use Rattle.docroot_format.specs.Names.{stat_name}
@@ -22,6 +22,12 @@ pub returns-clause-stamp : goal.returns-clause-stamp
 returns-clause-stamp c = λ files new folder stamp fault epoch count h.
     ⊎_elim (λ same. inl (ap (λ f. stamp_at f folder) same))
     (λ w. inr (ap (λ f. stamp_at f folder) w.1 ∙ c.a_stamp_is_read_back.ensures files folder stamp epoch count))
+    (left files new (stat_name folder) (stat_text stamp.epoch stamp.count) fault h)
+
+pub returns-clause-others : goal.returns-clause-others
+returns-clause-others c = λ files new folder stamp fault text h other more differ.
+    ⊎_elim (λ same. ap (λ f. stamp_at f other) same)
+    (λ w. ap (λ f. stamp_at f other) w.1 ∙ c.stamps_have_files_of_their_own.ensures.touched files folder (stat_text stamp.epoch stamp.count) text other more differ)
     (left files new (stat_name folder) (stat_text stamp.epoch stamp.count) fault h)
 
 pub returns-clause-beside : goal.returns-clause-beside

@@ -1,9 +1,6 @@
-use Rattle.std.proofs.Common.{◌≡◌, ◌&&◌, ◌∙◌, Bool, true, false, not, Option, None, Some, refl, ap, option_map}
-use Rattle.sp_outside.specs.Files.{file_at}
-use Rattle.cover_rules.specs.Coverage.{stat_folder}
-use Rattle.docroot_format.specs.Names.{stat_name}
+use Rattle.std.proofs.Common.{◌≡◌, ◌&&◌, ◌∙◌, Bool, true, false, not, refl, ap, option_map}
 use Rattle.stat_files.specs.Outdated.{is_older, outdates_page}
-use Rattle.stat_files.specs.Stamps.{greatest_stamp, stamp_in, stamp_or_greatest}
+use Rattle.stat_files.specs.Stamps.{stamp_in, stamp_or_greatest}
 use Rattle.stat_files.proofs.StampOrder.{greatest_not_older}
 use Rattle.stat_files.proofs.laws.what_outdates_a_page.Goals as goal
 

@@ -1,6 +1,6 @@
 use Rattle.std.proofs.Common.{ap, ◌∙◌, sym}
 use Rattle.connections.specs.Slots.{are_fixed_507}
-use Rattle.connections.specs.Ties.{reply_bytes}
+use Rattle.connections.specs.AnswerQueues.{reply_bytes}
 use Rattle.connections.proofs.FixedLemmas.{own_unfixed}
 use Rattle.connections.proofs.place.AnswerPlace.owns_fixed_507.Goals as goal
 

@@ -4,8 +4,8 @@ use Rattle.front.proofs.board.Board.settle.Goals.{then-over+in_ok-push, else-ove
 
 pub returns : goal.returns
 returns c = λ w tied. elim c.if-over.branch [
-  | then-over+in_ok-push b ↦ rw (b.self-is, b.told-is) (settled-over c.args.self.now w c.args.c c.in-Some.line.now c.serve_all.new.line c.serve_all.new.sky (c.get_mut.follows.lender c.serve_all.new.line) b.remove.new.self c.in_ok-told.field-0.told b.push.new.self c.in_ok-told.field-0.over
-      tied c.in-Some.ensures.value c.in_ok-told.ensures b.if-over.true (c.get_mut.follows.holds c.serve_all.new.line) b.remove.ensures.updates b.remove.result b.remove.ensures.value b.remove.ensures.len b.in_ok-push.ensures.notes b.in_ok-push.ensures.dry)
-  | else-over b ↦ rw (b.self-is, b.told-is) (settled-quiet c.args.self.now w c.args.c c.in-Some.line.now c.serve_all.new.line c.serve_all.new.sky (c.get_mut.follows.lender c.serve_all.new.line) c.in_ok-told.field-0.told c.in_ok-told.field-0.over
-      tied c.in-Some.ensures.value c.in_ok-told.ensures b.if-over.false (c.get_mut.follows.holds c.serve_all.new.line))
+  | then-over+in_ok-push b ↦ rw (b.self-is, b.effect-is) (settled-over c.args.self.now w c.args.c c.in-Some.connection.now c.serve_all.new.connection c.serve_all.new.flights (c.get_mut.follows.lender c.serve_all.new.connection) b.remove.new.self c.in_ok-effect.field-0.effect b.push.new.self c.in_ok-effect.field-0.over
+      tied c.in-Some.ensures.value c.in_ok-effect.ensures b.if-over.true (c.get_mut.follows.holds c.serve_all.new.connection) b.remove.ensures.updates b.remove.result b.remove.ensures.value b.remove.ensures.len b.in_ok-push.ensures.notes b.in_ok-push.ensures.out_of_memory)
+  | else-over b ↦ rw (b.self-is, b.effect-is) (settled-quiet c.args.self.now w c.args.c c.in-Some.connection.now c.serve_all.new.connection c.serve_all.new.flights (c.get_mut.follows.lender c.serve_all.new.connection) c.in_ok-effect.field-0.effect c.in_ok-effect.field-0.over
+      tied c.in-Some.ensures.value c.in_ok-effect.ensures b.if-over.false (c.get_mut.follows.holds c.serve_all.new.connection))
 ]

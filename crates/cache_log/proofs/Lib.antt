@@ -1,0 +1,9 @@
+pub mod PlaceLemmas
+pub mod ClearLemmas
+pub mod PermittedLemmas
+pub mod OwedLemmas
+pub mod HitLemmas
+pub mod NumberLemmas
+pub mod LegalLemmas
+pub mod ExampleLemmas
+pub mod AfterLemmas

@@ -1,0 +1,5 @@
+pub mod Ids
+pub mod Entries
+pub mod Hits
+pub mod Flown
+pub mod Rules

@@ -1,0 +1,3 @@
+pub mod ToldFiles
+pub mod KeptHere
+pub mod NextNumber

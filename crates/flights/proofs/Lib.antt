@@ -1,0 +1,2 @@
+mod FlightLemmas
+mod HistoryLemmas

@@ -1,0 +1,3 @@
+pub mod ClearPages
+pub mod Flights
+pub mod Landings

@@ -1,0 +1,16 @@
+//! What the cache knows of a flight.
+use cover_rules::{PageKey, Stamp};
+
+/// A flight: a request that the publisher was asked, until its answer lands or it is lost.
+#[derive(Drop)]
+pub struct Flight {
+    pub number: u64,
+    /// The page that its answer may be kept as, if it has one.
+    pub key: Option<PageKey>,
+    /// Whether .stat files outdate that page.
+    pub auto: bool,
+    /// When it was asked.
+    pub stamp: Stamp,
+    /// Whether an invalidation covers that page that was unfinished when the flight was asked, or has begun since.
+    pub voided: bool,
+}

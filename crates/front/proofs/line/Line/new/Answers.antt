@@ -1,6 +1,0 @@
-use Rattle.std.proofs.Common.{refl}
-use Rattle.front.proofs.LineLemmas.{new-holds}
-use Rattle.front.proofs.line.Line.new.Goals as goal
-
-pub returns : goal.returns
-returns c = λ peer. new-holds _ peer c.in_ok-new.ensures c.new-2.ensures.items refl (c.in_ok-new-2.ensures peer)

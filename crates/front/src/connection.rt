@@ -1,0 +1,179 @@
+//! One connection, as the front keeps it.
+ghost use Rattle.std.specs.Prelude.{◌≡◌, ◌≢◌, ◌+◌, ◌≤◌, ◌<◌, ℕ, List, true, false, IsTrue, IfSome, IfNone, IfOk, OnOk, OnSome};
+ghost use Rattle.http_front.specs.declared.fault.InFault.TheVariants as variant;
+ghost use Rattle.http_front.specs.declared.turn.Turn.{Turn};
+ghost use Rattle.sp_base.specs.declared.answer.Answer as models;
+ghost use Rattle.connections.specs.Slots.{Says, Slot};
+ghost use Rattle.connections.specs.Connections as model;
+ghost use Rattle.connections.specs.Connections.{IsInPlaceOfDue, with_due_continue, due, due_without_sending, fresh, with_landing, with_sent, with_slot};
+ghost use Rattle.connections.specs.Histories.{IsDueSending};
+ghost use Rattle.connections.specs.AnswerQueues.{PlaceStandsFor, ReplyStandsFor, QueueStandsFor};
+ghost use Rattle.front.specs.KeptConnections as kept;
+ghost use Rattle.front.specs.KeptConnections.{ConnectionStandsFor, StandsForButContinue, Owes, ConnectionReads, TakenAs, TellsTurns, taken_work, work_of};
+
+use connections::{AnswerPlace, AnswerQueue, FlightId, Reply, Sending};
+use http_front::{InFault, Intake, Turn};
+use sp_base::{Mem, NoMemory, Req};
+use std::alloc::Global;
+use std::collections::VecDeque;
+
+/// A connection: the bytes that no turn has taken, the turns that have no slot yet, how they end, and the answers that are owed.
+#[derive(Drop)]
+pub(crate) struct Connection {
+    intake: Intake,
+    turns: VecDeque<Turn>,
+    // The stream is read no further, and why, unless that is answered already.
+    fault: Option<InFault>,
+    answers: AnswerQueue,
+}
+
+/// What is to be answered next.
+#[derive(Drop)]
+pub(crate) enum Taken {
+    Request(Req),
+    Fault(InFault),
+    /// Nothing.
+    Waiting,
+    /// Nothing, and all is sent.
+    Over,
+}
+
+impl Connection {
+    /// A connection of which nothing came.
+    pub(crate) fn new(alloc: Global) -> Mem<Connection>
+        ensures { IfOk result (λ connection. (peer : List ℕ) → ConnectionStandsFor connection (fresh peer)) }
+    {
+        Ok(Connection {
+            intake: Intake::new(alloc)?,
+            turns: VecDeque::new(alloc),
+            fault: None,
+            answers: AnswerQueue::new(alloc)?,
+        })
+    }
+
+    /// Takes the next bytes of its stream, unless that is read no further.
+    pub(crate) fn read(&mut self, alloc: Global, bytes: &[u8]) -> Mem<()>
+        ensures { OnOk result ((c : model.Connection) → ConnectionStandsFor self.old c → ConnectionReads bytes.now c self.new) }
+    {
+        if self.answers.is_closing() {
+            return Ok(());
+        }
+        self.intake.feed(bytes)?;
+        self.fault = read_turns(alloc, &mut self.intake, &mut self.turns)?;
+        self.advance()?;
+        Ok(())
+    }
+
+    // A sender that waits next for 100 Continue gets it. Once the connection closes, the turns that came after are let go.
+    fn advance(&mut self) -> Mem<()>
+        ensures holds { OnOk result ((c : model.Connection) → StandsForButContinue self.old c → ConnectionStandsFor self.new (with_due_continue c)) }
+        ensures work { OnOk result (work_of self.new ≤ work_of self.old) }
+    {
+        if self.answers.is_closing() {
+            self.turns.clear();
+            return Ok(());
+        }
+        if !begins_with_continue(&self.turns) {
+            return Ok(());
+        }
+        self.turns.pop_front();
+        self.answers.push(AnswerPlace::interim())?;
+        Ok(())
+    }
+
+    /// What is sent next, if anything can be.
+    pub(crate) fn send(&mut self, alloc: Global) -> Option<Sending>
+        ensures sends { IfSome result (λ sending. (c : model.Connection) → ConnectionStandsFor self.old c → IsDueSending c sending × ConnectionStandsFor self.new (with_sent sending.bytes c)) }
+        ensures out_of_memory { IfSome result (λ sending. (c : model.Connection) → ConnectionStandsFor self.old c → IsTrue sending.out_of_memory → IsInPlaceOfDue (due c) sending.bytes) }
+        ensures waits { IfNone result ((c : model.Connection) → ConnectionStandsFor self.old c → due c ≡ due_without_sending c) }
+        ensures less { OnSome result (work_of self.new < work_of self.old) }
+        ensures same { IfNone result (self.new ≡ self.old) }
+    {
+        self.answers.send(alloc)
+    }
+
+    /// Takes the next turn, where nothing can be sent. A slot is owed for it.
+    pub(crate) fn take(&mut self) -> Taken
+        ensures taken { (c : model.Connection) → ConnectionStandsFor self.old c → due c ≡ due_without_sending c → TakenAs result c self.new }
+        ensures less { work_of self.new + taken_work result ≤ work_of self.old }
+    {
+        if self.answers.is_over() {
+            return Taken::Over;
+        }
+        if self.answers.is_closing() {
+            return Taken::Waiting;
+        }
+        match self.turns.pop_front() {
+            Some(Turn::Whole(request)) => Taken::Request(request),
+            Some(Turn::Continue) => Taken::Waiting,
+            None => match self.fault.take() {
+                Some(fault) => Taken::Fault(fault),
+                None => Taken::Waiting,
+            },
+        }
+    }
+
+    /// Gives the turn that was taken its place.
+    pub(crate) fn push(&mut self, place: AnswerPlace) -> Mem<()>
+        ensures request { OnOk result ((c : model.Connection) (slot : Slot) → PlaceStandsFor place slot → Owes self.old c → ConnectionStandsFor self.new (with_due_continue (with_slot slot c))) }
+        ensures fault { OnOk result ((c : model.Connection) (slot : Slot) → PlaceStandsFor place slot → slot.closes ≡ true → QueueStandsFor self.old.answers c → ConnectionStandsFor self.new (with_due_continue (with_slot slot c))) }
+        ensures work { OnOk result (work_of self.new ≤ work_of self.old + 1) }
+    {
+        self.answers.push(place)?;
+        self.advance()?;
+        Ok(())
+    }
+
+    /// Gives the slot that awaits this flight its answer.
+    pub(crate) fn fill(&mut self, flight: FlightId, reply: Reply)
+        ensures { (c : model.Connection) (answer : models.Answer) → ReplyStandsFor reply (Says answer) → ConnectionStandsFor self.old c → ConnectionStandsFor self.new (with_landing flight answer c) }
+    {
+        self.answers.fill(flight, reply);
+    }
+
+    pub(crate) fn is_crowded(&self) -> bool
+        ensures { (c : model.Connection) → QueueStandsFor self.now.answers c → result ≡ model.is_crowded c }
+    {
+        self.answers.is_crowded()
+    }
+}
+
+fn begins_with_continue(turns: &VecDeque<Turn>) -> bool
+    ensures { result ≡ kept.begins_with_continue turns.now.items }
+{
+    match turns.front() {
+        Some(Turn::Continue) => true,
+        _ => false,
+    }
+}
+
+// Reads the turns that are whole, to the end or to a fault.
+fn read_turns(
+    alloc: Global,
+    intake: &mut Intake,
+    turns: &mut VecDeque<Turn>,
+) -> Mem<Option<InFault>>
+    ensures { IfOk result (λ fault. TellsTurns intake.old turns.old.items intake.new turns.new.items fault) }
+{
+    loop {
+        match intake.next(alloc) {
+            Ok(Some(turn)) => turns.push_back(turn)?,
+            Ok(None) => return Ok(None),
+            Err(fault) => {
+                let told = told_fault(fault)?;
+                return Ok(Some(told));
+            }
+        }
+    }
+}
+
+// A fault that the stream has. Out of memory isn't one.
+fn told_fault(fault: InFault) -> Mem<InFault>
+    ensures same { IfOk result (λ told. told ≡ fault) }
+    ensures other { IfOk result (λ told. fault ≢ variant.NoMemory) }
+{
+    match fault {
+        InFault::NoMemory => Err(NoMemory),
+        other => Ok(other),
+    }
+}

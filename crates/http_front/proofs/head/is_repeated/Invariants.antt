@@ -1,8 +1,0 @@
-use Rattle.std.proofs.Common.{◌≡◌, ◌≤◌, take}
-use Rattle.std.specs.Prelude.{nat_eq}
-use Rattle.std.specs.List.{count_by}
-use Rattle.std.specs.Cmp.Lexicographic.{pointwise}
-use Rattle.http_front.proofs.head.is_repeated.Given as goal
-
-abbrev pub invariant-loop-field : goal.invariant-loop-field
-invariant-loop-field l = (l.count ≡ count_by (λ field. pointwise nat_eq field.0 l.name) (take l.field-index l.heads)) × (l.count ≤ l.field-index)

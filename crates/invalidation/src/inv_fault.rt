@@ -1,0 +1,42 @@
+//! Why a request names no invalidation.
+ghost use Rattle.std.specs.Prelude.{◌≡◌};
+ghost use Rattle.invalidation.specs.declared.inv_fault.InvFault.TheVariants.{NoMemory as no_memory};
+
+use sp_base::NoMemory;
+use std::alloc::{AllocError, AllocFailed};
+
+/// Why a request names no invalidation. The faults are looked for in this order.
+#[derive(Clone, Copy, PartialEq, Eq, Debug, Drop)]
+pub enum InvFault {
+    /// There is no `CQ-Handle` field.
+    NoHandle,
+    /// The `CQ-Handle` field, its escapes decoded, spells no path.
+    BadHandle,
+    /// There is no `CQ-Action` field, or it names no action.
+    BadAction,
+    NoMemory,
+}
+
+impl From<NoMemory> for InvFault {
+    ghost from_gives = { λ _ e. e ≡ no_memory };
+
+    fn from(_fault: NoMemory) -> InvFault {
+        InvFault::NoMemory
+    }
+}
+
+impl From<AllocError> for InvFault {
+    ghost from_gives = { λ _ e. e ≡ no_memory };
+
+    fn from(_fault: AllocError) -> InvFault {
+        InvFault::NoMemory
+    }
+}
+
+impl<T: Drop> From<AllocFailed<T>> for InvFault {
+    ghost from_gives = { λ _ e. e ≡ no_memory };
+
+    fn from(_fault: AllocFailed<T>) -> InvFault {
+        InvFault::NoMemory
+    }
+}

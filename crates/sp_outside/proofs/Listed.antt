@@ -1,0 +1,137 @@
+-- The names of a list are those of files, and none that it came to is left out.
+use Rattle.std.proofs.Common.{◌≡◌, ◌≢◌, ◌<◌, ◌&&◌, ◌||◌, ◌⊎◌, inl, inr, ℕ, zero, suc, Bool, true, false, cond, List, [], ◌∷◌, Option, Some, None, get_or, length, take, refl, sym, ◌∙◌, ap, subst, arith}
+use Rattle.std.specs.Prelude.{Contains, ◌↔◌}
+use Rattle.std.specs.Cmp.{eq_by_cmp_equiv}
+use Rattle.std.specs.Cmp.Lexicographic.{nat_list_cmp_total}
+use Rattle.std.specs.FinMap.{contains_key-keys, entries, entries_sorted, keys}
+use Rattle.std.specs.List.{AllByRecursion, filter, list_any}
+use Rattle.std.specs.List.Sorted.{IsStrictlySortedBy}
+use Rattle.std.specs.Option.{is_some}
+use Rattle.std.specs.Ordering.{eq_by_cmp, is_lt}
+use Rattle.std.specs.declared.cmp.Ordering.{Ordering}
+use Rattle.std.specs.declared.cmp.Ordering.TheVariants.{Less, Equal, Greater}
+use Rattle.std.proofs.lemmas.Bool.{true≢false}
+use Rattle.std.proofs.lemmas.List.Elements.{All-contains, All-contains_itself, All-filter, filter_passes}
+use Rattle.std.proofs.lemmas.List.Kept.{IsStrictlySortedBy-filter}
+use Rattle.std.proofs.lemmas.Map.Views.{list_any-from_Contains}
+use Rattle.sp_base.specs.Names.{by_name}
+use Rattle.sp_outside.specs.FileNames.{HasReached, IsNameAfter}
+use Rattle.sp_outside.specs.Files.{Files, file_at, has_prefix, names_after}
+use Rattle.sp_outside.proofs.HeldFiles.{equal, same_name}
+use Rattle.sp_outside.proofs.Listing.{rises, wanted}
+
+-- ---- elements
+
+here : (x : List ℕ) (xs : List (List ℕ)) → Contains (x ∷ xs) x
+here x xs = (0, omega arith, refl)
+
+there : (x y : List ℕ) (xs : List (List ℕ)) → Contains xs y → Contains (x ∷ xs) y
+there x y xs has = (suc has.0, omega (arith, has.1), has.2)
+
+at_place : (x y : List ℕ) (xs : List (List ℕ)) (k : ℕ) → k < length (x ∷ xs) → get_or (x ∷ xs) k y ≡ y → (x ≡ y) ⊎ Contains xs y
+at_place x y xs zero lt e = inl e
+at_place x y xs (suc k) lt e = inr (k, omega (arith, lt), e)
+
+first_or_rest : (x y : List ℕ) (xs : List (List ℕ)) → Contains (x ∷ xs) y → (x ≡ y) ⊎ Contains xs y
+first_or_rest x y xs has = at_place x y xs has.0 has.1 has.2
+
+kept : (test : List ℕ → Bool) (xs : List (List ℕ)) (x : List ℕ) → Contains xs x → test x ≡ true → Contains (filter test xs) x
+kept test [] x has passes = absurd (omega (arith, has.1))
+kept test (y ∷ xs) x has passes = elim (first_or_rest y x xs has) [
+  | inl same ↦ subst (λ (l : List (List ℕ)). Contains l x) (sym (ap (λ b. cond b (y ∷ filter test xs) (filter test xs)) (ap test same ∙ passes)))
+      (subst (λ z. Contains (z ∷ filter test xs) x) (sym same) (here x (filter test xs)))
+  | inr more ↦ elim (test y) as (λ b. Contains (cond b (y ∷ filter test xs) (filter test xs)) x) [
+    | true ↦ there y x (filter test xs) (kept test xs x more passes)
+    | false ↦ kept test xs x more passes
+  ]
+]
+
+-- ---- the names of files
+
+some_there : {A : Type 0} (o : Option A) → is_some o ≡ true → o ≢ None
+some_there None e none = true≢false (sym e)
+some_there (Some x) e none = true≢false (ap is_some none)
+
+there_some : {A : Type 0} (o : Option A) → o ≢ None → is_some o ≡ true
+there_some None there = absurd (there refl)
+there_some (Some x) there = refl
+
+one_true : (a b : Bool) → a || b ≡ true → (a ≡ true) ⊎ (b ≡ true)
+one_true true b e = inl refl
+one_true false b e = inr e
+
+among : (name : List ℕ) (names : List (List ℕ)) → list_any (eq_by_cmp by_name name) names ≡ true → Contains names name
+among name [] e = absurd (true≢false (sym e))
+among name (other ∷ names) e = elim (one_true (eq_by_cmp by_name name other) (list_any (eq_by_cmp by_name name) names) e) [
+  | inl same ↦ subst (λ x. Contains (x ∷ names) name) (same_name name other (equal (by_name name other) same)) (here name names)
+  | inr more ↦ there other name names (among name names more)
+]
+
+first_true : (a b : Bool) → a && b ≡ true → a ≡ true
+first_true true b e = refl
+first_true false b e = absurd (true≢false (sym e))
+
+second_true : (a b : Bool) → a && b ≡ true → b ≡ true
+second_true true b e = e
+second_true false b e = absurd (true≢false (sym e))
+
+less_is : (o : Ordering) → is_lt o ≡ true → o ≡ Less
+less_is Less e = refl
+less_is Equal e = absurd (true≢false (sym e))
+less_is Greater e = absurd (true≢false (sym e))
+
+pub of_files : (files : Files) (prefix after name : List ℕ) → Contains (names_after files prefix after) name ↔ IsNameAfter files prefix after name
+of_files files prefix after name =
+    let names = names_after files prefix after in (
+      λ has.
+          let passes = All-contains (λ n. wanted prefix after n ≡ true) names name (filter_passes (wanted prefix after) (keys files)) has in
+          let known = All-contains (Contains (keys files)) names name (All-filter (wanted prefix after) (Contains (keys files)) (keys files) (All-contains_itself (keys files))) has in (
+            first_true _ _ passes,
+            less_is _ (second_true (has_prefix prefix name) _ passes),
+            some_there (file_at files name) (contains_key-keys files name ∙ list_any-from_Contains (eq_by_cmp_equiv nat_list_cmp_total) name (keys files) known),
+          ),
+      λ is.
+          kept (wanted prefix after) (keys files) name
+          (among name (keys files) (sym (contains_key-keys files name) ∙ there_some (file_at files name) is.2))
+          (ap (λ b. b && is_lt (by_name after name)) is.0 ∙ ap is_lt is.1),
+    )
+
+-- ---- names that rise
+
+above : (name : List ℕ) (names : List (List ℕ)) (other : List ℕ) → AllByRecursion (λ next. by_name name next ≡ Less) names → Contains names other → by_name name other ≡ Less
+above name [] other all has = absurd (omega (arith, has.1))
+above name (next ∷ names) other all has = elim (first_or_rest next other names has) [
+  | inl same ↦ subst (λ n. by_name name n ≡ Less) same all.0
+  | inr more ↦ above name names other all.1 more
+]
+
+-- a name that one of the first isn't before is among the first
+reached : (n : ℕ) (names : List (List ℕ)) (listed name : List ℕ) → IsStrictlySortedBy by_name names → Contains names name → Contains (take n names) listed → by_name listed name ≢ Less
+    → Contains (take n names) name
+unfolding IsStrictlySortedBy
+reached zero names listed name rising has first last = absurd (omega (arith, first.1))
+reached (suc n) [] listed name rising has first last = absurd (omega (arith, has.1))
+reached (suc n) (next ∷ names) listed name rising has first last = elim (first_or_rest next name names has) [
+  | inl same ↦ subst (λ x. Contains (x ∷ take n names) name) (sym same) (here name (take n names))
+  | inr more ↦ elim (first_or_rest next listed (take n names) first) [
+    | inl same ↦ absurd (last (subst (λ x. by_name x name ≡ Less) same (above next names name rising.0 more)))
+    | inr later ↦ there next name (take n names) (reached n names listed name rising.1 more later last)
+  ]
+]
+
+all_taken : (n : ℕ) (names : List (List ℕ)) → length (take n names) < n → take n names ≡ names
+all_taken zero names lt = absurd (omega (arith, lt))
+all_taken (suc n) [] lt = refl
+all_taken (suc n) (name ∷ names) lt = ap (λ rest. name ∷ rest) (all_taken n names (omega (arith, lt)))
+
+pub passed_over : (files : Files) (prefix after name : List ℕ) (most : ℕ) (names : List (List ℕ)) → names ≡ take most (names_after files prefix after) → IsNameAfter files prefix after name
+    → HasReached names most name → Contains names name
+passed_over files prefix after name most names is named came =
+    let all = names_after files prefix after in
+    let has = (of_files files prefix after name).1 named in
+    let rising = IsStrictlySortedBy-filter by_name (wanted prefix after) (keys files) (rises (entries files) (entries_sorted files)) in
+    subst (λ (l : List (List ℕ)). Contains l name) (sym is)
+    (elim (subst (λ (l : List (List ℕ)). HasReached l most name) is came) [
+      | inl one ↦ reached most all one.0 name rising has one.1 one.2
+      | inr room ↦ subst (λ (l : List (List ℕ)). Contains l name) (sym (all_taken most all room)) has
+    ])

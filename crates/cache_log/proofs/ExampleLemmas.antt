@@ -7,14 +7,14 @@ use Rattle.cover_rules.specs.declared.invalidation.Invalidation.{Invalidation}
 use Rattle.dispatch_rules.specs.Caching.{is_storable}
 use Rattle.cache_log.specs.Entries.{Kept, LogEntry, Asked, Landed, Lost, Begun, Sliced, Ended, Failed, Hit, Up, Session}
 use Rattle.cache_log.specs.Hits.{stored, Unfinished, InAir}
-use Rattle.cache_log.specs.Rules.{Conditions, IsLegal}
+use Rattle.cache_log.specs.Rules.{CallConditions, IsLegal}
 
 -- a call in which nothing fails
-abbrev calm : Conditions
+abbrev calm : CallConditions
 calm = record { disk_failed = false; out_of_memory = false; restarts = false }
 
 -- a restart in which nothing fails
-abbrev again : Conditions
+abbrev again : CallConditions
 again = record { disk_failed = false; out_of_memory = false; restarts = true }
 
 -- up to the beginning of a flush

@@ -7,27 +7,27 @@ use Rattle.dispatch_rules.specs.Caching.{is_storable}
 use Rattle.cache_log.specs.Entries.{Kept, Unkept, Passed, Done, Failed, LogEntry, Asked, Landed, Lost, Begun, Sliced, Ended, Hit, Up, Down, Session, downs_since, is_up, last_epoch}
 use Rattle.cache_log.specs.Hits.{InAir}
 use Rattle.cache_log.specs.Flown.{HasEpoch, IsClearFlight, IsPermittedHit}
-use Rattle.cache_log.specs.Rules.{AllAllowed, Allowed, Conditions, IsAboveAll, IsIdle, IsLegal}
+use Rattle.cache_log.specs.Rules.{AllAllowed, Allowed, CallConditions, IsAboveAll, IsIdle, IsLegal}
 use Rattle.cache_log.proofs.PlaceLemmas.{first-within, none-within, rest-within, within}
 use Rattle.cache_log.proofs.ClearLemmas.{clear-placed}
 use Rattle.cache_log.proofs.PermittedLemmas.{permitted-placed}
 
-pub legal-call : (farm : Farm) (under : Conditions) (entries log : List LogEntry) → AllAllowed farm under entries log → IsLegal farm log → IsLegal farm (entries ++ log)
+pub legal-call : (farm : Farm) (under : CallConditions) (entries log : List LogEntry) → AllAllowed farm under entries log → IsLegal farm log → IsLegal farm (entries ++ log)
 legal-call farm under [] log all legal = legal
 legal-call farm under (e ∷ entries) log all legal = ((under, all.0), legal-call farm under entries log all.1 legal)
 
-pub legal-place : (farm : Farm) (since : List LogEntry) (e : LogEntry) (before : List LogEntry) → IsLegal farm (since ++ e ∷ before) → ((under : Conditions) × Allowed farm under e before) × IsLegal farm before
+pub legal-place : (farm : Farm) (since : List LogEntry) (e : LogEntry) (before : List LogEntry) → IsLegal farm (since ++ e ∷ before) → ((under : CallConditions) × Allowed farm under e before) × IsLegal farm before
 legal-place farm [] e before legal = legal
 legal-place farm (d ∷ since) e before legal = legal-place farm since e before legal.1
 
 pub legal-hit : (farm : Farm) (since : List LogEntry) (key : PageKey) (before : List LogEntry) → IsLegal farm (since ++ Hit key ∷ before) → (a : Answer) × IsPermittedHit farm before key a
 legal-hit farm since key before legal =
-    let here : ((under : Conditions) × Allowed farm under (Hit key) before) × IsLegal farm before = legal-place farm since (Hit key) before legal in
+    let here : ((under : CallConditions) × Allowed farm under (Hit key) before) × IsLegal farm before = legal-place farm since (Hit key) before legal in
     (here.0.1.1.0, permitted-placed farm key here.0.1.1.0 before here.1 here.0.1.1.1)
 
 pub legal-kept : (farm : Farm) (since : List LogEntry) (n : ℕ) (key : PageKey) (given : Answer) (before : List LogEntry) → IsLegal farm (since ++ Landed n (Some key) given Kept ∷ before) → IsTrue (is_storable given) × IsClearFlight farm before n key
 legal-kept farm since n key given before legal =
-    let here : ((under : Conditions) × Allowed farm under (Landed n (Some key) given Kept) before) × IsLegal farm before = legal-place farm since (Landed n (Some key) given Kept) before legal in
+    let here : ((under : CallConditions) × Allowed farm under (Landed n (Some key) given Kept) before) × IsLegal farm before = legal-place farm since (Landed n (Some key) given Kept) before legal in
     (here.0.1.1.0, clear-placed farm before n key here.0.1.1.1)
 
 pub up-no-downs : (log : List LogEntry) → IsTrue (is_up log) → downs_since log ≡ 0

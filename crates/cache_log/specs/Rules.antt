@@ -11,13 +11,13 @@ use Rattle.cache_log.specs.Entries.{Kept, Unkept, Passed, Done, Failed, LogEntry
 use Rattle.cache_log.specs.Hits.{Unfinished, InAir, IsClear, MayHit, MustHit}
 
 -- what a call of the cache ran under: whether the disk failed in it, whether memory ran out, and whether it is a restart's
-pub record Conditions : Type 0 where
+pub record CallConditions : Type 0 where
   pub disk_failed : Bool
   pub out_of_memory : Bool
   pub restarts : Bool
 
 -- the disk failed in the call, or memory ran out
-abbrev pub HasFallenShort : Conditions → Type 0
+abbrev pub HasFallenShort : CallConditions → Type 0
 HasFallenShort under = IsTrue under.disk_failed ⊎ IsTrue under.out_of_memory
 
 -- a hit is owed to a request with this key
@@ -46,7 +46,7 @@ IsAboveAll epoch (Session other ∷ log) = (other < epoch) × IsAboveAll epoch l
 IsAboveAll epoch (_ ∷ log) = IsAboveAll epoch log
 
 -- What an entry asks of the log before it, in a call under these conditions:
-abbrev pub Allowed : Farm → Conditions → LogEntry → List LogEntry → Type 0
+abbrev pub Allowed : Farm → CallConditions → LogEntry → List LogEntry → Type 0
 -- the publisher is asked by a cache that is up, for what is owed only where the disk failed; each flight has the next number;
 Allowed farm under (Asked flight key) log = IsTrue (is_up log) × (flight ≡ flights_asked log + 1) × (IsOwed farm log key → IsTrue under.disk_failed)
 -- a hit is permitted;
@@ -72,14 +72,14 @@ Allowed farm under Down log = IsTrue under.restarts × IsIdle log × (HasFallenS
 Allowed farm under (Session epoch) log = IsIdle log × IsAboveAll epoch log
 
 -- each entry that a call adds is allowed, the newest first
-abbrev pub AllAllowed : Farm → Conditions → List LogEntry → List LogEntry → Type 0
+abbrev pub AllAllowed : Farm → CallConditions → List LogEntry → List LogEntry → Type 0
 AllAllowed farm under [] log = Unit {0}
 AllAllowed farm under (entry ∷ entries) log = Allowed farm under entry (entries ++ log) × AllAllowed farm under entries log
 
 -- a legal log: each entry was allowed, in a call under some conditions
 abbrev pub IsLegal : Farm → List LogEntry → Type 0
 IsLegal farm [] = Unit {0}
-IsLegal farm (entry ∷ log) = ((under : Conditions) × Allowed farm under entry log) × IsLegal farm log
+IsLegal farm (entry ∷ log) = ((under : CallConditions) × Allowed farm under entry log) × IsLegal farm log
 
 -- The bound on the slices that leave a flush unfinished, 64 names a slice: no more names stand in its way than the files that were there
 -- when the session began, two for each landing that was kept or unkept, a .stat file for each folder down to the level of each flush, and

@@ -9,7 +9,7 @@ ghost use Rattle.cache_log.specs.Ids.{FlightId, FlushId};
 ghost use Rattle.cache_log.specs.Entries.{LogEntry, Asked, Landed, Lost, Begun, Sliced, Ended, Hit, Up, Session, Fate, Kept, Done, Failed, downs_since, flights_asked, flushes_begun, is_up, last_epoch};
 ghost use Rattle.cache_log.specs.Hits.{Covers, HasDone, InAir, IsClear, MayHit, MustHit, NoneDoneSince, Unfinished, stored};
 ghost use Rattle.cache_log.specs.Flown.{HasEpoch, IsClearFlight, IsDoneFlush, IsFlying, IsOwedHit, IsPermittedBy, IsPermittedHit, IsUnfinishedFlush, since_asking};
-ghost use Rattle.cache_log.specs.Rules.{AllAllowed, Allowed, Conditions, IsAboveAll, IsIdle, IsLegal};
+ghost use Rattle.cache_log.specs.Rules.{AllAllowed, Allowed, CallConditions, IsAboveAll, IsIdle, IsLegal};
 
 /// A flush is unfinished exactly where it began at a place of the log and has not ended since, and one ended done exactly where it did so at
 /// a place of the log and was unfinished before. A flight is in the air exactly where it was asked at a place of the log, the last one with
@@ -23,8 +23,8 @@ pub fn flights_and_flushes_are_at_places()
 /// A legal log stays legal with the entries of a call that are allowed; and each entry of a legal log was allowed by the log before it, which
 /// is legal too.
 pub fn a_legal_log_grows_by_what_is_allowed()
-    ensures call { (farm : Farm) (under : Conditions) (entries log : List LogEntry) → AllAllowed farm under entries log → IsLegal farm log → IsLegal farm (entries ++ log) }
-    ensures place { (farm : Farm) (since : List LogEntry) (entry : LogEntry) (before : List LogEntry) → IsLegal farm (since ++ entry ∷ before) → ((under : Conditions) × Allowed farm under entry before) × IsLegal farm before }
+    ensures call { (farm : Farm) (under : CallConditions) (entries log : List LogEntry) → AllAllowed farm under entries log → IsLegal farm log → IsLegal farm (entries ++ log) }
+    ensures place { (farm : Farm) (since : List LogEntry) (entry : LogEntry) (before : List LogEntry) → IsLegal farm (since ++ entry ∷ before) → ((under : CallConditions) × Allowed farm under entry before) × IsLegal farm before }
 {}
 
 /// Such a log is legal, whatever page it is about, whatever its answer that may be stored, and whatever is flushed: a session begins; a flight
@@ -104,5 +104,5 @@ pub fn what_is_owed_is_permitted()
 
 /// A landing that is kept is owed at once, as it is stored.
 pub fn what_is_kept_is_owed()
-    ensures { (farm : Farm) (under : Conditions) (log : List LogEntry) (flight : FlightId) (key : PageKey) (given : Answer) → Allowed farm under (Landed flight (Some key) given Kept) log → MustHit farm (Landed flight (Some key) given Kept ∷ log) key (stored given) }
+    ensures { (farm : Farm) (under : CallConditions) (log : List LogEntry) (flight : FlightId) (key : PageKey) (given : Answer) → Allowed farm under (Landed flight (Some key) given Kept) log → MustHit farm (Landed flight (Some key) given Kept ∷ log) key (stored given) }
 {}

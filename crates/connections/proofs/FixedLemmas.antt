@@ -1,5 +1,5 @@
 -- Which answers have the bytes of the fixed 507.
-use Rattle.std.proofs.Common.{◌≡◌, ◌≢◌, ◌<◌, ◌^◌, ◌++◌, ◌||◌, ◌&&◌, ◌==◌, ◌∙◌, ◌⊎◌, inl, inr, ℕ, Bool, true, false, List, [], ◌∷◌, codes, decimal, drop, length, get_or, refl, ap, sym, subst, arith}
+use Rattle.std.proofs.Common.{◌≡◌, ◌≢◌, ◌++◌, ◌||◌, ◌&&◌, ◌==◌, ◌∙◌, ◌⊎◌, inl, inr, ℕ, Bool, true, false, List, [], ◌∷◌, codes, decimal, drop, length, get_or, refl, ap, sym, subst, arith}
 use Rattle.std.specs.Prelude.{IsTrue, flat_map, if◌then◌else◌}
 use Rattle.std.specs.Char.{is_ascii_digit}
 use Rattle.std.specs.List.{list_any}
@@ -12,15 +12,18 @@ use Rattle.std.proofs.lemmas.List.{append_assoc, append_cancel_left}
 use Rattle.std.proofs.lemmas.List.Folds.{list_any-append}
 use Rattle.location_field.specs.Location.{location_of}
 use Rattle.sp_base.specs.Bytes.{is_visible_ascii}
+use Rattle.any_config.specs.declared.farm.Farm.{Farm}
+use Rattle.cover_rules.specs.declared.page.PageKey.{PageKey}
+use Rattle.dispatch_rules.specs.Caching.{is_storable}
+use Rattle.cache_log.specs.Entries.{LogEntry}
 use Rattle.error_answers.specs.Errors.{error_answer, phrase_of}
 use Rattle.percent_encoding.specs.Percent.{percent_encode_byte}
 use Rattle.sp_base.specs.declared.answer.Answer.{Answer}
 use Rattle.sp_base.specs.declared.answer.Mark.{Mark}
 use Rattle.sp_base.specs.declared.answer.Mark.TheVariants.{Plain, NoCache, NoStore, MustRevalidate}
 use Rattle.http_front.specs.Answers.{Field, allowed_methods, answer_bytes, answer_content, connection, content_length, directive_of, field_line, fields_of, fixed_507, is_without_content, plain_value, status_line, unless_empty}
-use Rattle.connections.specs.Slots.{fixed_answer, are_fixed_507}
+use Rattle.connections.specs.Slots.{IsHit, fixed_answer, are_fixed_507}
 use Rattle.connections.proofs.DigitLemmas.{decimal-all, written-0, written-507}
-use Rattle.connections.proofs.QueueLemmas.{are_fixed_507-fixed}
 
 -- ---- a number ends where another byte comes
 both_true : (a b : Bool) → (a && b) ≡ true → (a ≡ true) × (b ≡ true)
@@ -235,7 +238,16 @@ fixed_is h c a e =
     after_directive : (v : List ℕ) (later : List Field) (tail : List ℕ) → fields_text (unless_empty (codes "Cache-Control") v ++ later) tail ≡ fixed_rest → (v ≡ []) × (fields_text later tail ≡ fixed_rest)
     after_directive v later tail e = let none = no_directive v later tail e in (none, subst (λ x. fields_text (unless_empty (codes "Cache-Control") x ++ later) tail ≡ fixed_rest) none e)
 
+-- no hit has them: what may be stored has another status
+pub hit-unfixed : (h c : Bool) (farm : Farm) (log : List LogEntry) (key : PageKey) (a : Answer) → IsHit farm log key a → answer_bytes h c a ≡ fixed_507 → ⊥
+hit-unfixed h c farm log key a hit e =
+    let storable : is_storable fixed_answer ≡ true = subst (λ (x : Answer). is_storable x ≡ true) (fixed_is h c a e).2 hit.1 in
+    false≢true storable
+
 -- ---- and the other way round
+pub are_fixed_507-fixed : (bytes : List ℕ) → bytes ≡ fixed_507 → are_fixed_507 bytes ≡ true
+are_fixed_507-fixed bytes e = rw e refl
+
 pub answer_fixed : answer_bytes false true fixed_answer ≡ fixed_507
 unfolding answer_bytes status_line field_line plain_value location_of phrase_of digits
 answer_fixed = refl

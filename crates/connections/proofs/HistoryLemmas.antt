@@ -3,14 +3,14 @@ use Rattle.std.proofs.Common.{◌≡◌, ◌≢◌, ℕ, ◌+◌, ◌≤◌, zer
 use Rattle.std.specs.Prelude.{slice_get}
 use Rattle.std.proofs.lemmas.Grind.{common_steps}
 use Rattle.std.proofs.lemmas.List.{take-append-le}
-use Rattle.sp_base.specs.declared.answer.Answer.{Answer}
 use Rattle.http_front.specs.Turns.{End, Waits, Breaks}
 use Rattle.http_front.specs.declared.turn.Turn.{Turn}
 use Rattle.http_front.specs.declared.turn.Turn.TheVariants.{Continue, Whole}
 use Rattle.connections.specs.declared.sending.Sending.{Sending}
-use Rattle.connections.specs.Slots.{Slot, MayAnswer, is_answered, is_last, interim_slot}
-use Rattle.connections.specs.Connections.{Connection, Close, Nothing, Send, with_due_continue, after_turn, due, due_at_slot, due_at_turn, due_without_sending, with_piece, slots_with_landing, fresh, next_turn, with_landing, with_sent, with_slot}
-use Rattle.connections.specs.Histories.{AnswersRun, Follows, IsDueSending, IsEndOr, Landing, Move, Piece, Sent, Shut, Treatment, after_all, sendings}
+use Rattle.connections.specs.declared.awaited.Awaited.{Awaited}
+use Rattle.connections.specs.Slots.{Response, Slot, MayAnswer, is_answered, is_last, interim_slot}
+use Rattle.connections.specs.Connections.{Connection, Close, Nothing, Send, with_due_continue, after_turn, due, due_at_slot, due_at_turn, due_without_sending, with_piece, slots_with_end, fresh, next_turn, with_end, with_sent, with_slot}
+use Rattle.connections.specs.Histories.{AnswersRun, Ending, Follows, IsDueSending, IsEndOr, Move, Piece, Sent, Shut, Treatment, after_all, sendings}
 use Rattle.connections.specs.AnswerQueues.{AllAnswered}
 use Rattle.connections.proofs.PlaceLemmas.{filled-past, length-filled}
 use Rattle.connections.proofs.TurnLemmas.{LastCloses, last-of}
@@ -136,22 +136,22 @@ told-fed c sent bytes turns ends told =
     let more : Connection = record c { stream = c.stream ++ bytes; turns = c.turns ++ turns; ends = ends } in
     told-where c.closing c (with_due_continue more) sent told (told-advanced more sent (record { within = told.within; past = told.past }))
 
-told-landing : (c : Connection) (sent : List Sending) (n : ℕ) (a : Answer) → Told c sent → Told (with_landing n a c) sent
-told-landing c sent n a told =
+told-ending : (c : Connection) (sent : List Sending) (n : Awaited) (t : Response) → Told c sent → Told (with_end n t c) sent
+told-ending c sent n t told =
     let within = told.within in
     let whole : take c.sent c.slots ++ drop c.sent c.slots ≡ c.slots = grind (arith, common_steps) in
-    let split : slots_with_landing n a c.slots ≡ take c.sent c.slots ++ slots_with_landing n a (drop c.sent c.slots) =
-    sym (ap (slots_with_landing n a) whole) ∙ filled-past n a (take c.sent c.slots) (drop c.sent c.slots) (past-answered _ sent c.over told.past) in
+    let split : slots_with_end n t c.slots ≡ take c.sent c.slots ++ slots_with_end n t (drop c.sent c.slots) =
+    sym (ap (slots_with_end n t) whole) ∙ filled-past n t (take c.sent c.slots) (drop c.sent c.slots) (past-answered _ sent c.over told.past) in
     let size : length (take c.sent c.slots) ≡ c.sent = grind (arith, common_steps) in
-    let cut : take c.sent (slots_with_landing n a c.slots) ≡ take c.sent c.slots = rw split (take-exact (take c.sent c.slots) (slots_with_landing n a (drop c.sent c.slots)) c.sent size).0 in
-    record { within = omega (arith, length-filled n a c.slots); past = rw cut told.past }
+    let cut : take c.sent (slots_with_end n t c.slots) ≡ take c.sent c.slots = rw split (take-exact (take c.sent c.slots) (slots_with_end n t (drop c.sent c.slots)) c.sent size).0 in
+    record { within = omega (arith, length-filled n t c.slots); past = rw cut told.past }
 
 -- ---- all moves
 told-all : (c : Connection) (moves : List Move) (sent : List Sending) → Told c sent → Follows c moves → Told (after_all c moves) (sent ++ sendings moves)
 told-all c [] sent told follows = rw (append-nil sent) told
 told-all c (Piece bytes turns ends ∷ moves) sent told follows = told-all (with_piece bytes turns ends c) moves sent (told-fed c sent bytes turns ends told) follows.1
 told-all c (Treatment slot ∷ moves) sent told follows = told-all (with_due_continue (with_slot slot c)) moves sent (told-advanced (with_slot slot c) sent (told-slot c sent slot told)) follows.1
-told-all c (Landing n a ∷ moves) sent told follows = told-all (with_landing n a c) moves sent (told-landing c sent n a told) follows.1
+told-all c (Ending n t ∷ moves) sent told follows = told-all (with_end n t c) moves sent (told-ending c sent n t told) follows.1
 told-all c (Sent x ∷ moves) sent told follows =
     let joined : (sent ++ x ∷ []) ++ sendings moves ≡ sent ++ x ∷ sendings moves = append_assoc sent (x ∷ []) (sendings moves) in
     rw (sym joined) (told-all (with_sent x.bytes c) moves (sent ++ x ∷ []) (told-sent c sent x told follows.0) follows.1)

@@ -5,3 +5,4 @@ pub mod TurnLemmas
 pub mod DigitLemmas
 pub mod FixedLemmas
 pub mod RestLemmas
+pub mod HitLemmas

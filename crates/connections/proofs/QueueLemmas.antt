@@ -5,16 +5,17 @@ use Rattle.std.specs.Cmp.Lexicographic.{same_text}
 use Rattle.std.proofs.lemmas.Bool.{false≢true}
 use Rattle.std.proofs.lemmas.Grind.{common_steps}
 use Rattle.std.proofs.lemmas.List.{take-append-le}
-use Rattle.sp_base.specs.declared.answer.Answer.{Answer}
 use Rattle.http_front.specs.Answers.{fixed_507}
+use Rattle.connections.specs.declared.awaited.Awaited.{Awaited}
 use Rattle.connections.specs.declared.place.AnswerPlace.{AnswerPlace}
 use Rattle.connections.specs.declared.sending.Sending.{Sending}
 use Rattle.connections.specs.declared.place.Reply.{Reply}
-use Rattle.connections.specs.Slots.{IsInPlaceOf, Says, Slot, MayAnswer, is_answered, are_fixed_507}
-use Rattle.connections.specs.Connections.{Connection, Close, IsInPlaceOfDue, Send, due, due_at_slot, due_without_sending, slots_with_landing, with_landing, with_sent, with_slot}
+use Rattle.connections.specs.Slots.{IsInPlaceOf, Response, Slot, MayAnswer, is_answered, are_fixed_507}
+use Rattle.connections.specs.Connections.{Connection, Close, IsInPlaceOfDue, Send, due, due_at_slot, due_without_sending, slots_with_end, with_end, with_sent, with_slot}
 use Rattle.connections.specs.Histories.{IsDueSending}
 use Rattle.connections.specs.AnswerQueues.{AllAnswered, PlacesStandFor, IsLeft, IsSendingOf, PlaceStandsFor, ReplyStandsFor, first_has_reply, has_reply, place_bytes}
-use Rattle.connections.proofs.PlaceLemmas.{answered-tied, filled-past, filled_places, length-filled, tied-filled, tied-head, tied-none, tied-push, written-bytes, written-tied}
+use Rattle.connections.proofs.FixedLemmas.{are_fixed_507-fixed}
+use Rattle.connections.proofs.PlaceLemmas.{answered-tied, filled-past, filled_places, fixed-bytes, length-filled, tied-filled, tied-head, tied-none, tied-push, written-tied}
 
 -- ---- lists
 pub drop-head : {A : Type 0} (n : ℕ) (xs : List A) (y : A) (ys : List A) → drop n xs ≡ y ∷ ys → (slice_get xs n ≡ Some y) × (drop (suc n) xs ≡ ys) × (n < length xs) × (take (suc n) xs ≡ take n xs ++ y ∷ [])
@@ -55,9 +56,6 @@ push-left {places} c place slot left tied =
 or-true : (b : Bool) → (b || true) ≡ true
 or-true true = refl
 or-true false = refl
-
-pub are_fixed_507-fixed : (bytes : List ℕ) → bytes ≡ fixed_507 → are_fixed_507 bytes ≡ true
-are_fixed_507-fixed bytes e = rw e refl
 
 -- what is spare stays the fixed 507 until that is sent
 spare-fixed : (sending : Sending) (place : AnswerPlace) (spare now_spare : List ℕ) (over : Bool) → spare ≡ fixed_507 → (now_spare ≡ spare) ⊎ (sending.bytes ≡ spare) → over ≡ (place.closes || are_fixed_507 sending.bytes) → over ≡ false → now_spare ≡ fixed_507
@@ -117,7 +115,7 @@ in-place place slot sending spare fixed (inl own) tied has out_of_memory = absur
 in-place place slot sending spare fixed (inr sent) tied has out_of_memory =
     let bytes : sending.bytes ≡ fixed_507 = sent.1 ∙ fixed in
     let other : are_fixed_507 (place_bytes place) ≡ false = not-false _ (sym sent.0 ∙ out_of_memory) in
-    (bytes, λ written. false≢true (sym other ∙ are_fixed_507-fixed _ (sym (written-bytes place slot sending.bytes tied has written) ∙ bytes)))
+    (bytes, λ written. false≢true (sym other ∙ are_fixed_507-fixed _ (sym (fixed-bytes place slot sending.bytes tied has bytes written) ∙ bytes)))
 
 pub in-place-due : {places : List AnswerPlace} {closing over : Bool} {spare : List ℕ} (c : Connection) (place : AnswerPlace) (rest : List AnswerPlace) (sending : Sending) → IsLeft places closing over spare c → places ≡ place ∷ rest → over ≡ false
     → has_reply place.reply ≡ true → IsSendingOf place spare sending → IsTrue sending.out_of_memory → IsInPlaceOfDue (due c) sending.bytes
@@ -150,18 +148,18 @@ held-waits {places} c left = by_places places left.unsent
         let waits : is_answered first.0.response ≡ false = answered-tied p.reply first.0.response first.3.replies ∙ e in
         due-by c (Some first.0) cut.0 (rw waits refl)
 
--- ---- a flight has landed
-pub filled-left : {places : List AnswerPlace} {closing over : Bool} {spare : List ℕ} (c : Connection) (n : ℕ) (r : Reply) (a : Answer) → ReplyStandsFor r (Says a) → IsLeft places closing over spare c → IsLeft (filled_places n r places) closing over spare (with_landing n a c)
-filled-left {places} c n r a says left =
+-- ---- what a slot waits for has ended
+pub filled-left : {places : List AnswerPlace} {closing over : Bool} {spare : List ℕ} (c : Connection) (n : Awaited) (r : Reply) (t : Response) → ReplyStandsFor r t → IsLeft places closing over spare c → IsLeft (filled_places n r places) closing over spare (with_end n t c)
+filled-left {places} c n r t says left =
     let within = left.within in
     let whole : take c.sent c.slots ++ drop c.sent c.slots ≡ c.slots = grind (arith, common_steps) in
-    let split : slots_with_landing n a c.slots ≡ take c.sent c.slots ++ slots_with_landing n a (drop c.sent c.slots) =
-    sym (ap (slots_with_landing n a) whole) ∙ filled-past n a (take c.sent c.slots) (drop c.sent c.slots) left.past in
+    let split : slots_with_end n t c.slots ≡ take c.sent c.slots ++ slots_with_end n t (drop c.sent c.slots) =
+    sym (ap (slots_with_end n t) whole) ∙ filled-past n t (take c.sent c.slots) (drop c.sent c.slots) left.past in
     let size : length (take c.sent c.slots) ≡ c.sent = grind (arith, common_steps) in
-    let cut = take-exact (take c.sent c.slots) (slots_with_landing n a (drop c.sent c.slots)) c.sent size in
+    let cut = take-exact (take c.sent c.slots) (slots_with_end n t (drop c.sent c.slots)) c.sent size in
     record {
-      unsent = rw (split, cut.1) (tied-filled n r a places (drop c.sent c.slots) says left.unsent);
-      within = omega (arith, length-filled n a c.slots);
+      unsent = rw (split, cut.1) (tied-filled n r t places (drop c.sent c.slots) says left.unsent);
+      within = omega (arith, length-filled n t c.slots);
       past = rw (split, cut.0) left.past;
       closing_is = left.closing_is;
       over_is = left.over_is;

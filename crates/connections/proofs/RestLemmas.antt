@@ -1,16 +1,16 @@
 -- A connection at rest that no slot closes has treated each turn.
-use Rattle.std.proofs.Common.{◌≡◌, ◌||◌, ◌≤◌, ◌∙◌, ℕ, zero, suc, Bool, true, false, cond, List, [], ◌∷◌, length, take, get_or, Option, Some, None, refl, ap, sym, subst, arith, inl, inr}
+use Rattle.std.proofs.Common.{◌≡◌, ◌||◌, ◌≤◌, ◌∙◌, ℕ, zero, suc, Bool, true, false, List, [], ◌∷◌, length, take, get_or, Option, Some, None, refl, ap, sym, subst, arith, inl, inr}
 use Rattle.std.specs.Prelude.{if◌then◌else◌, slice_get}
 use Rattle.std.specs.Cmp.Lexicographic.{same_text}
-use Rattle.http_front.specs.Answers.{answer_bytes, fixed_507, interim_100}
+use Rattle.http_front.specs.Answers.{fixed_507}
 use Rattle.http_front.specs.Turns.{End, Waits, Breaks}
 use Rattle.http_front.specs.declared.turn.Turn.{Turn}
 use Rattle.http_front.specs.declared.turn.Turn.TheVariants.{Continue, Whole}
 use Rattle.connections.specs.declared.sending.Sending.{Sending}
-use Rattle.connections.specs.Slots.{Awaits, Fixed, Interim, IsWritten, MayAnswer, Response, Says, Slot, are_fixed_507, is_answered, is_last}
+use Rattle.connections.specs.Slots.{Awaits, Cached, Fixed, Interim, IsWritten, MayAnswer, Response, Says, Slot, are_fixed_507, is_answered, is_last}
 use Rattle.connections.specs.Connections.{Close, Connection, Nothing, Send, due, due_at_slot, due_at_turn, due_without_sending, fresh, next_turn}
 use Rattle.connections.specs.Histories.{AreAllTreated, Follows, HaveNoSendingOutOfMemory, IsAtRest, IsOfTurn, Move, after_all, sendings, some_closes}
-use Rattle.connections.proofs.FixedLemmas.{fixed_is}
+use Rattle.connections.proofs.FixedLemmas.{fixed_is, hit-unfixed}
 use Rattle.connections.proofs.HistoryLemmas.{Past, PastRest, told-of}
 use Rattle.connections.proofs.TurnLemmas.{LastCloses, Open, good-of}
 
@@ -44,8 +44,9 @@ open-take (suc n) (t ∷ turns) (s ∷ slots) open_ = (open_.0, open_.1, open-ta
 written-closes : (slot : Slot) (response : Response) (bytes : List ℕ) → IsWritten slot response bytes → bytes ≡ fixed_507 → (response ≡ Fixed → slot.closes ≡ true) → slot.closes ≡ true
 written-closes slot Interim bytes written is fixed = absurd (let other : 49 ≡ 53 = ap (λ t. get_or t 9 0) (sym written ∙ is) in omega (arith, other))
 written-closes slot Fixed bytes written is fixed = fixed refl
-written-closes slot (Awaits flight) bytes written is fixed = absurd written
+written-closes slot (Awaits what) bytes written is fixed = absurd written
 written-closes slot (Says answer) bytes written is fixed = (fixed_is slot.head_only slot.closes answer (sym written ∙ is)).1
+written-closes slot (Cached farm log key) bytes written is fixed = absurd (hit-unfixed slot.head_only slot.closes farm log key written.0 written.1 (sym written.2 ∙ is))
 
 fixed-closes : (turn : Turn) (slot : Slot) → IsOfTurn turn slot → slot.response ≡ Fixed → slot.closes ≡ true
 fixed-closes Continue slot is e = absurd (let interim : slot.response ≡ Interim = ap (λ (s : Slot). s.response) is in let no : ⊥ = cc in no)

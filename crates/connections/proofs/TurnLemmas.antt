@@ -1,16 +1,16 @@
 -- The slots of a connection are those of its turns.
-use Rattle.std.proofs.Common.{◌≡◌, ℕ, Bool, true, false, cond, List, [], ◌∷◌, ◌++◌, length, Option, Some, None, refl, ap, sym, ◌∙◌}
+use Rattle.std.proofs.Common.{◌≡◌, ◌≢◌, ℕ, Bool, true, false, cond, List, [], ◌∷◌, ◌++◌, length, Option, Some, None, refl, ap, sym, ◌∙◌}
 use Rattle.std.specs.Prelude.{◌==◌, if◌then◌else◌, slice_get}
-use Rattle.sp_base.specs.declared.answer.Answer.{Answer}
 use Rattle.error_answers.specs.Errors.{error_answer}
 use Rattle.http_front.specs.Faults.{fault_status}
 use Rattle.http_front.specs.Turns.{End, Waits, Breaks}
 use Rattle.http_front.specs.declared.fault.InFault.{InFault}
 use Rattle.http_front.specs.declared.turn.Turn.{Turn}
 use Rattle.http_front.specs.declared.turn.Turn.TheVariants.{Continue, Whole}
-use Rattle.connections.specs.Slots.{Fixed, Says, Slot, interim_slot, is_answered, is_awaiting, local_response}
-use Rattle.connections.specs.Connections.{Close, Connection, Due, Nothing, Refuse, Send, Treat, with_due_continue, after_turn, due, due_at_slot, due_at_turn, due_without_sending, with_piece, slots_with_landing, fresh, next_turn, with_answer, with_landing, with_sent, with_slot}
-use Rattle.connections.specs.Histories.{AreOfTurns, Follows, IsEndOr, IsOfEnd, IsOfFault, IsOfTurn, IsSlotOf, Landing, Move, Piece, Sent, Shut, Treatment, after_all}
+use Rattle.connections.specs.declared.awaited.Awaited.{Awaited}
+use Rattle.connections.specs.Slots.{Fixed, Response, Says, Slot, interim_slot, is_answered, is_awaiting, local_response}
+use Rattle.connections.specs.Connections.{Close, Connection, Due, Nothing, Refuse, Send, Treat, with_due_continue, after_turn, due, due_at_slot, due_at_turn, due_without_sending, with_piece, slots_with_end, fresh, next_turn, with_end, with_response, with_sent, with_slot}
+use Rattle.connections.specs.Histories.{AreOfTurns, Ending, Follows, IsEndOr, IsOfEnd, IsOfFault, IsOfTurn, IsSlotOf, Move, Piece, Sent, Shut, Treatment, after_all}
 
 -- the slots are those of turns, and none closes the connection
 abbrev pub Open : List Turn → List Slot → Type 0
@@ -59,50 +59,50 @@ open-more turns more [] open_ = tt
 open-more [] more (s ∷ slots) open_ = absurd open_
 open-more (t ∷ turns) more (s ∷ slots) open_ = (open_.0, open_.1, open-more turns more slots open_.2)
 
--- ---- a flight has landed
-of-turn-filled : (n : ℕ) (a : Answer) (t : Turn) (s : Slot) → is_awaiting n s.response ≡ true → IsOfTurn t s → IsOfTurn t (with_answer a s)
-of-turn-filled n a Continue s awaits is = absurd (let no : false ≡ true = ap (λ (r : Slot). is_awaiting n r.response) (sym is) ∙ awaits in let none : ⊥ = cc in none)
-of-turn-filled n a (Whole request) s awaits is = (is.0, Says a, ap (with_answer a) is.2, λ fixed. absurd (let no : ⊥ = cc in no))
+-- ---- what a slot waits for has ended
+of-turn-filled : (n : Awaited) (r : Response) (t : Turn) (s : Slot) → r ≢ Fixed → is_awaiting n s.response ≡ true → IsOfTurn t s → IsOfTurn t (with_response r s)
+of-turn-filled n r Continue s other awaits is = absurd (let no : false ≡ true = ap (λ (x : Slot). is_awaiting n x.response) (sym is) ∙ awaits in let none : ⊥ = cc in none)
+of-turn-filled n r (Whole request) s other awaits is = (is.0, r, ap (with_response r) is.2, λ fixed. absurd (other fixed))
 
--- the slot of a fault awaits no flight
-local-waits : (n status : ℕ) → is_awaiting n (local_response status) ≡ false
+-- the slot of a fault waits for nothing
+local-waits : (n : Awaited) (status : ℕ) → is_awaiting n (local_response status) ≡ false
 local-waits n status = by_test (status == 507)
   where
     by_test : (b : Bool) → is_awaiting n (if b then Fixed else Says (error_answer status)) ≡ false
     by_test true = refl
     by_test false = refl
 
-end-waits : (n : ℕ) (ends : End) (s : Slot) → IsOfEnd ends s → is_awaiting n s.response ≡ false
+end-waits : (n : Awaited) (ends : End) (s : Slot) → IsOfEnd ends s → is_awaiting n s.response ≡ false
 end-waits n Waits s is = absurd is
 end-waits n (Breaks fault) s is = ap (λ (r : Slot). is_awaiting n r.response) is ∙ local-waits n (fault_status fault)
 
-filled-none : (n : ℕ) (a : Answer) (slots : List Slot) → slots ≡ [] → slots_with_landing n a slots ≡ []
-filled-none n a slots e = rw e refl
+filled-none : (n : Awaited) (r : Response) (slots : List Slot) → slots ≡ [] → slots_with_end n r slots ≡ []
+filled-none n r slots e = rw e refl
 
 end-or-map : (b : Bool) (slots others : List Slot) (P Q : Type 0) → IsEndOr b slots P → (slots ≡ [] → others ≡ []) → (P → Q) → IsEndOr b others Q
 end-or-map true slots others P Q here none next = none here
 end-or-map false slots others P Q here none next = next here
 
-filled-are : (n : ℕ) (a : Answer) (turns : List Turn) (ends : End) (slots : List Slot) → AreOfTurns turns ends slots → AreOfTurns turns ends (slots_with_landing n a slots)
-filled-are n a turns ends [] all = tt
-filled-are n a [] ends (s ∷ slots) all = by_test (is_awaiting n s.response) refl
+filled-are : (n : Awaited) (r : Response) (turns : List Turn) (ends : End) (slots : List Slot) → r ≢ Fixed → AreOfTurns turns ends slots → AreOfTurns turns ends (slots_with_end n r slots)
+filled-are n r turns ends [] other all = tt
+filled-are n r [] ends (s ∷ slots) other all = by_test (is_awaiting n s.response) refl
   where
-    by_test : (t : Bool) → is_awaiting n s.response ≡ t → AreOfTurns [] ends (cond (is_awaiting n s.response) (with_answer a s ∷ slots) (s ∷ slots_with_landing n a slots))
+    by_test : (t : Bool) → is_awaiting n s.response ≡ t → AreOfTurns [] ends (cond (is_awaiting n s.response) (with_response r s ∷ slots) (s ∷ slots_with_end n r slots))
     by_test true e = absurd (let waits : is_awaiting n s.response ≡ false = end-waits n ends s all.0 in let no : ⊥ = cc in no)
-    by_test false e = rw e (all.0, filled-none n a slots all.1)
-filled-are n a (t ∷ turns) ends (s ∷ slots) all = by_test (is_awaiting n s.response) refl (filled-are n a turns ends slots)
+    by_test false e = rw e (all.0, filled-none n r slots all.1)
+filled-are n r (t ∷ turns) ends (s ∷ slots) other all = by_test (is_awaiting n s.response) refl (filled-are n r turns ends slots other)
   where
-    by_test : (b : Bool) → is_awaiting n s.response ≡ b → (AreOfTurns turns ends slots → AreOfTurns turns ends (slots_with_landing n a slots)) → AreOfTurns (t ∷ turns) ends (cond (is_awaiting n s.response) (with_answer a s ∷ slots) (s ∷ slots_with_landing n a slots))
-    by_test true e rest = rw e (of-turn-filled n a t s e all.0, all.1)
-    by_test false e rest = rw e (all.0, end-or-map s.closes slots (slots_with_landing n a slots) _ _ all.1 (filled-none n a slots) rest)
+    by_test : (b : Bool) → is_awaiting n s.response ≡ b → (AreOfTurns turns ends slots → AreOfTurns turns ends (slots_with_end n r slots)) → AreOfTurns (t ∷ turns) ends (cond (is_awaiting n s.response) (with_response r s ∷ slots) (s ∷ slots_with_end n r slots))
+    by_test true e rest = rw e (of-turn-filled n r t s other e all.0, all.1)
+    by_test false e rest = rw e (all.0, end-or-map s.closes slots (slots_with_end n r slots) _ _ all.1 (filled-none n r slots) rest)
 
-filled-open : (n : ℕ) (a : Answer) (turns : List Turn) (slots : List Slot) → Open turns slots → Open turns (slots_with_landing n a slots)
-filled-open n a turns [] open_ = tt
-filled-open n a [] (s ∷ slots) open_ = absurd open_
-filled-open n a (t ∷ turns) (s ∷ slots) open_ = by_test (is_awaiting n s.response) refl (filled-open n a turns slots open_.2)
+filled-open : (n : Awaited) (r : Response) (turns : List Turn) (slots : List Slot) → r ≢ Fixed → Open turns slots → Open turns (slots_with_end n r slots)
+filled-open n r turns [] other open_ = tt
+filled-open n r [] (s ∷ slots) other open_ = absurd open_
+filled-open n r (t ∷ turns) (s ∷ slots) other open_ = by_test (is_awaiting n s.response) refl (filled-open n r turns slots other open_.2)
   where
-    by_test : (b : Bool) → is_awaiting n s.response ≡ b → Open turns (slots_with_landing n a slots) → Open (t ∷ turns) (cond (is_awaiting n s.response) (with_answer a s ∷ slots) (s ∷ slots_with_landing n a slots))
-    by_test true e rest = rw e (of-turn-filled n a t s e open_.0, open_.1, open_.2)
+    by_test : (b : Bool) → is_awaiting n s.response ≡ b → Open turns (slots_with_end n r slots) → Open (t ∷ turns) (cond (is_awaiting n s.response) (with_response r s ∷ slots) (s ∷ slots_with_end n r slots))
+    by_test true e rest = rw e (of-turn-filled n r t s other e open_.0, open_.1, open_.2)
     by_test false e rest = rw e (open_.0, open_.1, rest)
 
 -- ---- the slot that closes a connection is its last
@@ -120,18 +120,18 @@ last-cons : (s : Slot) (slots : List Slot) → LastCloses slots → LastCloses (
 last-cons s [] last = absurd last
 last-cons s (t ∷ slots) last = last
 
-last-filled : (n : ℕ) (a : Answer) (slots : List Slot) → LastCloses slots → LastCloses (slots_with_landing n a slots)
-last-filled n a [] last = absurd last
-last-filled n a (s ∷ []) last = by_test (is_awaiting n s.response)
+last-filled : (n : Awaited) (r : Response) (slots : List Slot) → LastCloses slots → LastCloses (slots_with_end n r slots)
+last-filled n r [] last = absurd last
+last-filled n r (s ∷ []) last = by_test (is_awaiting n s.response)
   where
-    by_test : (b : Bool) → LastCloses (cond b (with_answer a s ∷ []) (s ∷ []))
+    by_test : (b : Bool) → LastCloses (cond b (with_response r s ∷ []) (s ∷ []))
     by_test true = last
     by_test false = last
-last-filled n a (s ∷ t ∷ slots) last = by_test (is_awaiting n s.response) (last-filled n a (t ∷ slots) last)
+last-filled n r (s ∷ t ∷ slots) last = by_test (is_awaiting n s.response) (last-filled n r (t ∷ slots) last)
   where
-    by_test : (b : Bool) → LastCloses (slots_with_landing n a (t ∷ slots)) → LastCloses (cond b (with_answer a s ∷ t ∷ slots) (s ∷ slots_with_landing n a (t ∷ slots)))
+    by_test : (b : Bool) → LastCloses (slots_with_end n r (t ∷ slots)) → LastCloses (cond b (with_response r s ∷ t ∷ slots) (s ∷ slots_with_end n r (t ∷ slots)))
     by_test true rest = last
-    by_test false rest = last-cons s (slots_with_landing n a (t ∷ slots)) rest
+    by_test false rest = last-cons s (slots_with_end n r (t ∷ slots)) rest
 
 -- ---- one move
 pub record Good (c : Connection) : Type 0 where
@@ -259,14 +259,14 @@ good-more c bytes turns ends good going =
 good-fed : (c : Connection) (bytes : List ℕ) (turns : List Turn) (ends : End) → Good c → Good (with_piece bytes turns ends c)
 good-fed c bytes turns ends good = good-where c.closing c (with_due_continue (record c { stream = c.stream ++ bytes; turns = c.turns ++ turns; ends = ends })) good (λ going. good-advanced _ (good-more c bytes turns ends good going))
 
-good-landing : (c : Connection) (n : ℕ) (a : Answer) → Good c → Good (with_landing n a c)
-good-landing c n a good = record { are = filled-are n a c.turns c.ends c.slots good.are; open_ = λ e. filled-open n a c.turns c.slots (good.open_ e); last = λ e. last-filled n a c.slots (good.last e) }
+good-ending : (c : Connection) (n : Awaited) (r : Response) → r ≢ Fixed → Good c → Good (with_end n r c)
+good-ending c n r other good = record { are = filled-are n r c.turns c.ends c.slots other good.are; open_ = λ e. filled-open n r c.turns c.slots other (good.open_ e); last = λ e. last-filled n r c.slots (good.last e) }
 
 good-all : (c : Connection) (moves : List Move) → Good c → Follows c moves → Good (after_all c moves)
 good-all c [] good follows = good
 good-all c (Piece bytes turns ends ∷ moves) good follows = good-all (with_piece bytes turns ends c) moves (good-fed c bytes turns ends good) follows.1
 good-all c (Treatment slot ∷ moves) good follows = good-all (with_due_continue (with_slot slot c)) moves (good-advanced (with_slot slot c) (good-treatment c slot good follows.0)) follows.1
-good-all c (Landing n a ∷ moves) good follows = good-all (with_landing n a c) moves (good-landing c n a good) follows.1
+good-all c (Ending n r ∷ moves) good follows = good-all (with_end n r c) moves (good-ending c n r follows.0 good) follows.1
 good-all c (Sent x ∷ moves) good follows = good-all (with_sent x.bytes c) moves (record { are = good.are; open_ = good.open_; last = good.last }) follows.1
 good-all c (Shut ∷ moves) good follows = good-all c moves good follows.1
 

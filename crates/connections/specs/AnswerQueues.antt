@@ -1,7 +1,7 @@
 -- What the code keeps of a connection: the places of its answers that aren't sent yet.
 -- `has_reply`, `first_has_reply`, `is_final_reply`, `reply_bytes`, `place_bytes` and `IsSendingOf` are needed by private functions and proofs
 -- alone.
-use Rattle.std.specs.Prelude.{◌≡◌, ◌≤◌, ◌⊎◌, ℕ, Bool, true, false, not, nat_eq, List, [], ◌∷◌, drop, length, take}
+use Rattle.std.specs.Prelude.{◌≡◌, ◌≤◌, ◌⊎◌, ℕ, Bool, true, false, not, List, [], ◌∷◌, drop, length, take}
 use Rattle.error_answers.specs.Errors.{error_answer}
 use Rattle.http_front.specs.Answers.{answer_bytes, fixed_507, interim_100}
 use Rattle.connections.specs.declared.place.AnswerPlace.{AnswerPlace}
@@ -9,22 +9,22 @@ use Rattle.connections.specs.declared.place.Reply.{Reply}
 use Rattle.connections.specs.declared.place.Reply.TheVariants.{Interim, Fixed, Own, Awaits, Says}
 use Rattle.connections.specs.declared.answer_queue.AnswerQueue.{AnswerQueue}
 use Rattle.connections.specs.declared.sending.Sending.{Sending}
-use Rattle.connections.specs.Ids.{FlightId}
-use Rattle.connections.specs.Slots.{Slot, Response, is_answered, are_fixed_507}
+use Rattle.connections.specs.declared.awaited.Awaited.{Awaited}
+use Rattle.connections.specs.Slots.{IsHit, Slot, Response, is_answered, is_same_awaited, are_fixed_507}
 use Rattle.connections.specs.Slots as model
 use Rattle.connections.specs.Connections.{Connection}
 
 -- ---- replies
 
--- it doesn't wait for a flight
+-- it waits for nothing
 abbrev pub has_reply : Reply → Bool
-has_reply (Awaits flight) = false
+has_reply (Awaits what) = false
 has_reply _ = true
 
--- it awaits this flight
-abbrev pub awaits : FlightId → Reply → Bool
-awaits flight (Awaits other) = nat_eq other flight
-awaits flight _ = false
+-- it awaits this flight, or the end of this flush
+abbrev pub awaits : Awaited → Reply → Bool
+awaits what (Awaits other) = is_same_awaited other what
+awaits what _ = false
 
 -- it answers a request, and is no interim response
 abbrev pub is_final_reply : Reply → Bool
@@ -36,7 +36,7 @@ abbrev pub reply_bytes : Bool → Bool → Reply → List ℕ
 reply_bytes head_only closes Interim = interim_100
 reply_bytes head_only closes Fixed = fixed_507
 reply_bytes head_only closes (Own status) = answer_bytes head_only closes (error_answer status)
-reply_bytes head_only closes (Awaits flight) = []
+reply_bytes head_only closes (Awaits what) = []
 reply_bytes head_only closes (Says answer) = answer_bytes head_only closes answer
 
 -- the bytes of the reply in its place
@@ -54,13 +54,14 @@ IsSendingOf place spare sending = ((sending.out_of_memory ≡ false) × (sending
 
 -- ---- places and slots
 
--- the reply stands for the response
+-- the reply stands for the response: an answer also for a hit that it may be the answer of
 abbrev pub ReplyStandsFor : Reply → Response → Type 0
 ReplyStandsFor Interim model.Interim = Unit {0}
 ReplyStandsFor Fixed model.Fixed = Unit {0}
 ReplyStandsFor (Own status) (model.Says b) = b ≡ error_answer status
 ReplyStandsFor (Awaits m) (model.Awaits n) = m ≡ n
 ReplyStandsFor (Says a) (model.Says b) = a ≡ b
+ReplyStandsFor (Says a) (model.Cached farm log key) = IsHit farm log key a
 ReplyStandsFor _ _ = ⊥
 
 -- the place stands for the slot
@@ -75,7 +76,7 @@ PlacesStandFor [] [] = Unit {0}
 PlacesStandFor (place ∷ places) (slot ∷ slots) = PlaceStandsFor place slot × PlacesStandFor places slots
 PlacesStandFor _ _ = ⊥
 
--- none of the slots waits for a flight
+-- none of the slots waits
 abbrev pub AllAnswered : List Slot → Type 0
 AllAnswered [] = Unit {0}
 AllAnswered (slot ∷ slots) = (is_answered slot.response ≡ true) × AllAnswered slots

@@ -1,13 +1,12 @@
 -- A connection as its whole past: what came, which turns that spells, and the slots of the turns that were treated.
 use Rattle.std.specs.Prelude.{◌+◌, ◌||◌, ◌++◌, ℕ, Bool, false, nat_le, if◌then◌else◌, List, [], ◌∷◌, Option, Some, None, drop, length, slice_get}
 use Rattle.std.specs.List.{count_by}
-use Rattle.sp_base.specs.declared.answer.Answer.{Answer}
 use Rattle.http_front.specs.Turns.{End, Waits, Breaks}
 use Rattle.http_front.specs.declared.fault.InFault.{InFault}
 use Rattle.http_front.specs.declared.turn.Turn.{Turn}
-use Rattle.http_front.specs.declared.turn.Turn.TheVariants.{Continue, Whole}
-use Rattle.connections.specs.Ids.{FlightId}
-use Rattle.connections.specs.Slots.{IsInPlaceOf, Slot, Says, is_answered, is_awaiting, is_final, is_last, interim_slot}
+use Rattle.http_front.specs.declared.turn.Turn.TheVariants.{Continue}
+use Rattle.connections.specs.declared.awaited.Awaited.{Awaited}
+use Rattle.connections.specs.Slots.{IsInPlaceOf, Response, Slot, is_answered, is_awaiting, is_final, is_last, interim_slot}
 
 -- An open connection: its peer; its stream, as far as it was read; the turns that the stream spells, and how they end; a slot for
 -- each turn that was treated; how many of the slots were sent; whether no further turn is treated; and whether no further slot is sent.
@@ -94,18 +93,18 @@ with_due_continue c = if c.closing then c else after_turn (next_turn c) c
 abbrev pub with_piece : List ℕ → List Turn → End → Connection → Connection
 with_piece bytes turns ends c = if c.closing then c else with_due_continue (record c { stream = c.stream ++ bytes; turns = c.turns ++ turns; ends = ends })
 
--- the slot has this answer
-abbrev pub with_answer : Answer → Slot → Slot
-with_answer answer slot = record slot { response = Says answer }
+-- the slot has this response
+abbrev pub with_response : Response → Slot → Slot
+with_response response slot = record slot { response = response }
 
--- the first slot that awaits the flight has its answer
-abbrev pub slots_with_landing : FlightId → Answer → List Slot → List Slot
-slots_with_landing flight answer [] = []
-slots_with_landing flight answer (slot ∷ slots) = if is_awaiting flight slot.response then with_answer answer slot ∷ slots else slot ∷ slots_with_landing flight answer slots
+-- the first slot that waits for this has the response
+abbrev pub slots_with_end : Awaited → Response → List Slot → List Slot
+slots_with_end what response [] = []
+slots_with_end what response (slot ∷ slots) = if is_awaiting what slot.response then with_response response slot ∷ slots else slot ∷ slots_with_end what response slots
 
--- a flight has landed
-abbrev pub with_landing : FlightId → Answer → Connection → Connection
-with_landing flight answer c = record c { slots = slots_with_landing flight answer c.slots }
+-- a flight has landed or is lost, or a flush has ended
+abbrev pub with_end : Awaited → Response → Connection → Connection
+with_end what response c = record c { slots = slots_with_end what response c.slots }
 
 -- the connection closes after these bytes of the slot, if there is one
 abbrev pub is_last_at : Option Slot → List ℕ → Bool

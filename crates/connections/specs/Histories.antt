@@ -1,23 +1,22 @@
 -- What may happen to a connection, one thing after another, and what is then sent on it.
-use Rattle.std.specs.Prelude.{◌≡◌, ℕ, Bool, true, false, List, [], ◌∷◌, length}
+use Rattle.std.specs.Prelude.{◌≡◌, ◌≢◌, ℕ, Bool, true, false, List, [], ◌∷◌, length}
 use Rattle.std.specs.List.{list_any}
-use Rattle.sp_base.specs.declared.answer.Answer.{Answer}
 use Rattle.http_front.specs.Faults.{fault_status}
 use Rattle.http_front.specs.Turns.{End, Waits, Breaks}
 use Rattle.http_front.specs.declared.fault.InFault.{InFault}
 use Rattle.http_front.specs.declared.turn.Turn.{Turn}
 use Rattle.http_front.specs.declared.turn.Turn.TheVariants.{Continue, Whole}
+use Rattle.connections.specs.declared.awaited.Awaited.{Awaited}
 use Rattle.connections.specs.declared.sending.Sending.{Sending}
-use Rattle.connections.specs.Ids.{FlightId}
 use Rattle.connections.specs.Slots.{Slot, Response, Fixed, MayAnswer, is_answered, is_last, local_response, request_slot, fault_slot, interim_slot}
-use Rattle.connections.specs.Connections.{Connection, Due, Send, Treat, Refuse, Close, Nothing, due, with_piece, with_slot, with_due_continue, with_landing, with_sent}
+use Rattle.connections.specs.Connections.{Connection, Due, Send, Treat, Refuse, Close, Nothing, due, with_piece, with_slot, with_due_continue, with_end, with_sent}
 
--- What happens to a connection: bytes come, with the turns that they add; a turn or a fault gets its slot; a flight lands; a slot is
--- sent; it is shut.
+-- What happens to a connection: bytes come, with the turns that they add; a turn or a fault gets its slot; what a slot waits for, a flight or
+-- a flush, ends; a slot is sent; it is shut.
 pub data Move : Type 0 where
   Piece : (bytes : List ℕ) (turns : List Turn) (ends : End) → Move
   Treatment : (slot : Slot) → Move
-  Landing : (flight : FlightId) (answer : Answer) → Move
+  Ending : (what : Awaited) (response : Response) → Move
   Sent : (sending : Sending) → Move
   Shut : Move
 
@@ -25,7 +24,7 @@ pub data Move : Type 0 where
 abbrev pub connection_after_move : Connection → Move → Connection
 connection_after_move c (Piece bytes turns ends) = with_piece bytes turns ends c
 connection_after_move c (Treatment slot) = with_due_continue (with_slot slot c)
-connection_after_move c (Landing flight answer) = with_landing flight answer c
+connection_after_move c (Ending what response) = with_end what response c
 connection_after_move c (Sent sending) = with_sent sending.bytes c
 connection_after_move c Shut = c
 
@@ -56,9 +55,10 @@ pub record IsDueSending (c : Connection) (sending : Sending) : Type 0 where
   pub is_due : due c ≡ Send slot
   pub answers : MayAnswer slot sending
 
--- the move may come: bytes and landings at any time, the others where they are due
+-- The move may come: bytes at any time, and the end of what a slot waits for, which isn't the fixed 507; the others where they are due.
 abbrev pub IsMove : Connection → Move → Type 0
 IsMove c (Treatment slot) = IsSlotOf (due c) slot
+IsMove c (Ending what response) = response ≢ Fixed
 IsMove c (Sent sending) = IsDueSending c sending
 IsMove c Shut = due c ≡ Close
 IsMove c _ = Unit {0}
@@ -84,7 +84,7 @@ abbrev pub IsEndOr : {A : Type 0} → Bool → List A → Type 0 → Type 0
 IsEndOr true later Rest = later ≡ []
 IsEndOr false later Rest = Rest
 
--- What was sent answers the slots in their order, each once, up to the first that waits for a flight, and nothing after one that closes
+-- What was sent answers the slots in their order, each once, up to the first that waits, and nothing after one that closes
 -- the connection.
 abbrev pub AnswersRun : List Slot → List Sending → Type 0
 AnswersRun [] [] = Unit {0}

@@ -1,10 +1,7 @@
 -- The numbers of what a front has many of.
 use Rattle.std.specs.Prelude.{ℕ}
+pub use Rattle.cache_log.specs.Ids.{FlightId, FlushId}
 
 -- the number of a connection
 abbrev pub ConnectionId : Type 0
 ConnectionId = ℕ
-
--- the number of a flight
-abbrev pub FlightId : Type 0
-FlightId = ℕ

@@ -4,22 +4,35 @@ use Rattle.std.specs.Cmp.Lexicographic.{pointwise}
 use Rattle.sp_base.specs.declared.answer.Answer.{Answer}
 use Rattle.sp_base.specs.declared.answer.Mark.TheVariants.{Plain}
 use Rattle.sp_base.specs.Requests.{Request}
+use Rattle.any_config.specs.declared.farm.Farm.{Farm}
+use Rattle.cover_rules.specs.declared.page.PageKey.{PageKey}
+use Rattle.dispatch_rules.specs.Caching.{is_storable}
+use Rattle.cache_log.specs.Entries.{LogEntry}
+use Rattle.cache_log.specs.Hits.{MayHit}
 use Rattle.error_answers.specs.Errors.{error_answer}
 use Rattle.http_front.specs.Answers.{answer_bytes, fixed_507, interim_100}
 use Rattle.http_front.specs.Faults.{insufficient_storage}
+use Rattle.connections.specs.declared.awaited.Awaited.{Awaited}
+use Rattle.connections.specs.declared.awaited.Awaited.TheVariants.{Flight, Flush}
 use Rattle.connections.specs.declared.sending.Sending.{Sending}
-use Rattle.connections.specs.Ids.{FlightId}
 
 -- the answer in place of one for which no memory was there (RFC 4918, section 11.5): its status alone
 abbrev pub fixed_answer : Answer
 fixed_answer = record { status = insufficient_storage; kind = []; location = []; mark = Plain; body = [] }
 
--- What a slot is answered by: 100 Continue (RFC 9110, section 15.2.1), the fixed 507, what a flight will bring, or an answer.
+-- The cache may answer a hit on the page so, before this farm with this log: the hit is permitted (RFC 9111, section 4), and the answer is one
+-- that may be stored (section 3). Of a legal log each permitted answer is.
+abbrev pub IsHit : Farm → List LogEntry → PageKey → Answer → Type 0
+IsHit farm log key answer = MayHit farm log key answer × IsTrue (is_storable answer)
+
+-- What a slot is answered by: 100 Continue (RFC 9110, section 15.2.1), the fixed 507, what a flight or the end of a flush will bring, an
+-- answer, or any of those that the cache may answer for a page, by its log as it was when the request was treated.
 pub data Response : Type 0 where
   Interim : Response
   Fixed : Response
-  Awaits : (flight : FlightId) → Response
+  Awaits : (what : Awaited) → Response
   Says : (answer : Answer) → Response
+  Cached : (farm : Farm) (log : List LogEntry) (key : PageKey) → Response
 
 -- The place of a response: whether it is sent without its body, whether the connection closes after it, and what answers it. The
 -- bytes are made when they are sent.
@@ -32,15 +45,21 @@ pub record Slot : Type 0 where
 abbrev pub local_response : ℕ → Response
 local_response status = if status == insufficient_storage then Fixed else Says (error_answer status)
 
--- it doesn't wait for a flight
+-- it waits for nothing
 abbrev pub is_answered : Response → Bool
-is_answered (Awaits flight) = false
+is_answered (Awaits what) = false
 is_answered _ = true
 
--- it awaits this flight
-abbrev pub is_awaiting : FlightId → Response → Bool
-is_awaiting flight (Awaits other) = nat_eq other flight
-is_awaiting flight _ = false
+-- both are the same flight, or the same flush
+abbrev pub is_same_awaited : Awaited → Awaited → Bool
+is_same_awaited (Flight n) (Flight m) = nat_eq n m
+is_same_awaited (Flush v) (Flush u) = nat_eq v u
+is_same_awaited _ _ = false
+
+-- it awaits this flight, or the end of this flush
+abbrev pub is_awaiting : Awaited → Response → Bool
+is_awaiting what (Awaits other) = is_same_awaited other what
+is_awaiting what _ = false
 
 -- it answers a request, and isn't an interim response before the request's own
 abbrev pub is_final : Response → Bool
@@ -51,8 +70,9 @@ is_final _ = true
 abbrev pub IsWritten : Slot → Response → List ℕ → Type 0
 IsWritten slot Interim bytes = bytes ≡ interim_100
 IsWritten slot Fixed bytes = bytes ≡ fixed_507
-IsWritten slot (Awaits flight) bytes = ⊥
+IsWritten slot (Awaits what) bytes = ⊥
 IsWritten slot (Says answer) bytes = bytes ≡ answer_bytes slot.head_only slot.closes answer
+IsWritten slot (Cached farm log key) bytes = (answer : Answer) × IsHit farm log key answer × (bytes ≡ answer_bytes slot.head_only slot.closes answer)
 
 -- What may be sent for a slot: its own bytes; or the fixed 507, where memory ran out.
 abbrev pub MayAnswer : Slot → Sending → Type 0

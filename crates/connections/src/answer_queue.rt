@@ -1,14 +1,13 @@
 //! The answers that a connection still owes, in the order of its requests.
 ghost use Rattle.std.specs.Prelude.{◌≡◌, ◌+◌, ◌⊎◌, ℕ, List, false, IsTrue, IfNone, IfOk, IfSome, OnErr, OnOk, OnSome, position};
 ghost use Rattle.std.specs.List.{count_by};
-ghost use Rattle.sp_base.specs.declared.answer.Answer as models;
-ghost use Rattle.connections.specs.Slots.{Says, Slot};
+ghost use Rattle.connections.specs.Slots.{Response, Slot};
 ghost use Rattle.connections.specs.Connections as model;
-ghost use Rattle.connections.specs.Connections.{Connection, IsInPlaceOfDue, due, due_without_sending, fresh, with_landing, with_sent, with_slot};
+ghost use Rattle.connections.specs.Connections.{Connection, IsInPlaceOfDue, due, due_without_sending, fresh, with_end, with_sent, with_slot};
 ghost use Rattle.connections.specs.Histories.{IsDueSending};
 ghost use Rattle.connections.specs.AnswerQueues.{IsSendingOf, PlaceStandsFor, ReplyStandsFor, QueueStandsFor, awaits, is_final_reply, first_has_reply, unsent_count};
 
-use crate::ids::FlightId;
+use crate::awaited::Awaited;
 use crate::place::{AnswerPlace, Reply};
 use crate::sending::Sending;
 use http_front::fixed_507;
@@ -117,12 +116,12 @@ impl AnswerQueue {
         replace(&mut self.spare, ByteBuf::from(Vec::new(alloc)))
     }
 
-    /// Gives the first place that awaits this flight its answer. Where none does, nothing changes.
-    pub fn fill(&mut self, flight: FlightId, reply: Reply)
-        ensures filled { (c : Connection) (answer : models.Answer) → ReplyStandsFor reply (Says answer) → QueueStandsFor self.old c → QueueStandsFor self.new (with_landing flight answer c) }
+    /// Gives the first place that awaits this flight, or the end of this flush, its reply. Where none does, nothing changes.
+    pub fn fill(&mut self, awaited: Awaited, reply: Reply)
+        ensures filled { (c : Connection) (response : Response) → ReplyStandsFor reply response → QueueStandsFor self.old c → QueueStandsFor self.new (with_end awaited response c) }
         ensures same { unsent_count self.new ≡ unsent_count self.old }
     {
-        if let Some(at) = awaiting_place(&self.places, flight) {
+        if let Some(at) = awaiting_place(&self.places, awaited) {
             self.places[at].reply = reply;
         }
     }
@@ -158,8 +157,8 @@ impl AnswerQueue {
     }
 }
 
-fn awaiting_place(places: &VecDeque<AnswerPlace>, flight: FlightId) -> Option<usize>
-    ensures { result ≡ position (λ place. awaits flight place.reply) places.now.items }
+fn awaiting_place(places: &VecDeque<AnswerPlace>, awaited: Awaited) -> Option<usize>
+    ensures { result ≡ position (λ place. awaits awaited place.reply) places.now.items }
 {
-    places.iter().position(|place| place.reply.awaits(flight))
+    places.iter().position(|place| place.reply.awaits(awaited))
 }

@@ -1,13 +1,18 @@
 //! What follows from the definitions for a whole connection, on functions that do nothing.
 ghost use Rattle.std.specs.Prelude.{◌≡◌, ◌≢◌, ℕ, Bool, List, None, false, slice_get, true};
 ghost use Rattle.sp_base.specs.declared.answer.Answer as model;
+ghost use Rattle.any_config.specs.declared.farm.Farm.{Farm};
+ghost use Rattle.cover_rules.specs.declared.page.PageKey.{PageKey};
+ghost use Rattle.cache_log.specs.Entries.{LogEntry};
+ghost use Rattle.cache_log.specs.Hits.{MayHit};
+ghost use Rattle.cache_log.specs.Rules.{IsLegal};
 ghost use Rattle.http_front.specs.Answers.{answer_bytes, fixed_507};
-ghost use Rattle.connections.specs.Slots.{Slot, fixed_answer};
+ghost use Rattle.connections.specs.Slots.{IsHit, Slot, fixed_answer};
 ghost use Rattle.connections.specs.Connections.{Close, Send, due, fresh};
 ghost use Rattle.connections.specs.Histories.{AnswersRun, AreAllTreated, AreOfTurns, Follows, HaveNoSendingOutOfMemory, IsAtRest, Move, after_all, sendings, some_closes};
 
 /// Whatever happens to a connection: once nothing more can be sent, what was sent on it answers its slots in their order, each once,
-/// up to the first that waits for a flight, and nothing after one that closes the connection.
+/// up to the first that waits, and nothing after one that closes the connection.
 pub fn answers_in_order()
     ensures { (peer : List ℕ) (moves : List Move) → Follows (fresh peer) moves → ((slot : Slot) → due (after_all (fresh peer) moves) ≢ Send slot) → AnswersRun (after_all (fresh peer) moves).slots (sendings moves) }
 {}
@@ -35,4 +40,9 @@ pub fn each_turn_is_treated()
 pub fn the_fixed_answer_is_its_bytes()
     ensures bytes { answer_bytes false true fixed_answer ≡ fixed_507 }
     ensures only { (head_only closes : Bool) (answer : model.Answer) → answer_bytes head_only closes answer ≡ fixed_507 → (head_only ≡ false) × (closes ≡ true) × (answer ≡ fixed_answer) }
+{}
+
+/// Of a legal log, a hit may be answered with each answer that the log permits, since what was kept or unkept was storable.
+pub fn permitted_hits_of_a_legal_log_are_hits()
+    ensures { (farm : Farm) (log : List LogEntry) (key : PageKey) (answer : model.Answer) → IsLegal farm log → MayHit farm log key answer → IsHit farm log key answer }
 {}

@@ -3,16 +3,18 @@
 #![tactic(auto)]
 
 mod answer_queue;
+mod awaited;
 mod ids;
 mod laws;
 mod place;
 mod sending;
 
 pub use answer_queue::AnswerQueue;
-pub use ids::{ConnectionId, FlightId};
+pub use awaited::Awaited;
+pub use ids::{ConnectionId, FlightId, FlushId};
 pub use laws::{
-    a_closing_connection_ends, answers_in_order, each_turn_is_treated, slots_of_turns,
-    the_fixed_answer_is_its_bytes,
+    a_closing_connection_ends, answers_in_order, each_turn_is_treated,
+    permitted_hits_of_a_legal_log_are_hits, slots_of_turns, the_fixed_answer_is_its_bytes,
 };
 pub use place::{AnswerPlace, Reply};
 pub use sending::Sending;

@@ -4,7 +4,7 @@ ghost use Rattle.http_front.specs.Answers.{answer_bytes as bytes_of};
 ghost use Rattle.connections.specs.Slots as model;
 ghost use Rattle.connections.specs.AnswerQueues.{PlaceStandsFor, ReplyStandsFor, awaits as awaiting, is_final_reply, has_reply as answered, place_bytes};
 
-use crate::ids::FlightId;
+use crate::awaited::Awaited;
 use error_answers::error_answer;
 use http_front::{INSUFFICIENT_STORAGE, answer_bytes, fixed_507, interim_100};
 use sp_base::{Answer, ByteBuf, Mark, Mem, Req};
@@ -19,9 +19,9 @@ pub enum Reply {
     Fixed,
     /// The answer of an error with this status. It is made when it is sent.
     Own(u16),
-    /// What this flight will bring.
-    Awaits(FlightId),
-    /// An answer.
+    /// What this flight, or the end of this flush, will bring.
+    Awaits(Awaited),
+    /// An answer, of the publisher or of the cache.
     Says(Answer),
 }
 
@@ -46,11 +46,11 @@ impl Reply {
         }
     }
 
-    pub(crate) fn awaits(&self, flight: FlightId) -> bool
-        ensures { result ≡ awaiting flight self.now }
+    pub(crate) fn awaits(&self, what: Awaited) -> bool
+        ensures { result ≡ awaiting what self.now }
     {
         match self {
-            Reply::Awaits(other) => *other == flight,
+            Reply::Awaits(other) => other.is_same(&what),
             _ => false,
         }
     }

@@ -1,3 +1,4 @@
 pub mod ToldFiles
 pub mod KeptHere
 pub mod NextNumber
+pub mod CountedNames

@@ -49,7 +49,7 @@ AreTold (Some _) = Unit {0}
 one_left : (Q : Option Files → Type 0) (old wanted new : Option Files) (fault : FileFault) → Q old → Q wanted → IsLeftByFault old wanted new fault → Q new
 one_left Q old wanted new fault p q left = ⊎_elim (λ e. subst Q (sym e) p) (λ e. subst Q (sym e.1) q) left
 
-put_keeps : (Q : Option Files → Type 0) (asked made : Option (List Call)) (old new : Option Files) (key : PageKey) (stamp : Stamp) (answer : Answer) (fault : FileFault) → Q old → Q (told_headless old key) → Q (told_with_body old key answer)
+pub put_keeps : (Q : Option Files → Type 0) (asked made : Option (List Call)) (old new : Option Files) (key : PageKey) (stamp : Stamp) (answer : Answer) (fault : FileFault) → Q old → Q (told_headless old key) → Q (told_with_body old key answer)
     → Q (told_with_page old key stamp answer) → IsPutLeft asked made old new key stamp answer fault → Q new
 put_keeps Q asked made old new key stamp answer fault o bare half whole left =
     ⊎_elim (λ l. subst Q (sym l.1.1) o)
@@ -57,7 +57,7 @@ put_keeps Q asked made old new key stamp answer fault o bare half whole left =
     (λ more. ⊎_elim (λ l. one_left Q (told_headless old key) (told_with_body old key answer) new fault bare half l.1)
     (λ l. one_left Q (told_with_body old key answer) (told_with_page old key stamp answer) new fault half whole l.1) more) begun) left
 
-drop_keeps : (Q : Option Files → Type 0) (asked made : Option (List Call)) (old new : Option Files) (key : PageKey) (fault : FileFault) → Q old → Q (told_headless old key) → Q (told_without_page old key)
+pub drop_keeps : (Q : Option Files → Type 0) (asked made : Option (List Call)) (old new : Option Files) (key : PageKey) (fault : FileFault) → Q old → Q (told_headless old key) → Q (told_without_page old key)
     → IsDropLeft asked made old new key fault → Q new
 drop_keeps Q asked made old new key fault o bare gone left =
     ⊎_elim (λ l. subst Q (sym l.1.1) o)

@@ -1,8 +1,9 @@
 -- What a call on the files of the docroot makes of the pages, the stamps of folders and the number of the session that they hold.
-use Rattle.std.specs.Prelude.{◌≡◌, ◌≢◌, ◌⊎◌, ◌≤◌, ◌+◌, ℕ, Option, Some, None}
-use Rattle.std.specs.List.{AllByRecursion}
+use Rattle.std.specs.Prelude.{◌≡◌, ◌≢◌, ◌⊎◌, ◌≤◌, ◌<◌, ◌+◌, ℕ, Bool, Option, Some, None, length}
+use Rattle.std.specs.FinMap.{keys}
+use Rattle.std.specs.List.{AllByRecursion, filter}
 use Rattle.sp_base.specs.Bytes.{AreBytes}
-use Rattle.sp_base.specs.Texts.{Segments}
+use Rattle.sp_base.specs.Texts.{Segments, Text}
 use Rattle.sp_base.specs.declared.answer.Answer.{Answer}
 use Rattle.sp_outside.specs.Files.{Files}
 use Rattle.cover_rules.specs.declared.page.PageKey.{PageKey}
@@ -27,6 +28,16 @@ Told P (Some old) (Some new) = P old new
 pub record IsStampFolder (folder : Segments) : Type 0 where
   pub docroot : IsFolder folder
   pub bytes : AllByRecursion AreBytes folder
+
+-- ---- how many files there are
+
+-- how many names of files pass a test
+abbrev pub count_names : (Text → Bool) → Files → ℕ
+count_names is_counted files = length (filter is_counted (keys files))
+
+-- whichever names are counted, at most so many files more have one of them
+abbrev pub AddsNames : ℕ → Files → Files → Type 0
+AddsNames most old new = (is_counted : Text → Bool) → count_names is_counted new ≤ count_names is_counted old + most
 
 -- ---- what is beside a change
 
@@ -62,29 +73,33 @@ pub record BesideNumber (old new : Files) : Type 0 where
 
 -- ---- the page of a key
 
--- A put sets the page of its key. It leaves no stamp later than the session, where its own isn't and there was none.
+-- A put sets the page of its key, with two files. It leaves no stamp later than the session, where its own isn't and there was none.
 pub record PageSet (key : PageKey) (stamp : Stamp) (answer : Answer) (old new : Files) : Type 0 where
   pub here : HasPage new key stamp answer
   pub beside : BesidePage key old new
   pub order : stamp.epoch ≤ epoch_held old → KeepsOrder old new
+  pub names : AddsNames 2 old new
 
 -- A put that failed leaves the old page, none, or, where the disk failed, the new one.
 pub record MayPut (key : PageKey) (stamp : Stamp) (answer : Answer) (fault : FileFault) (old new : Files) : Type 0 where
   pub here : HasSamePage old new key ⊎ (HasNoPage new key ⊎ ((fault ≡ Disk) × HasPage new key stamp answer))
   pub beside : BesidePage key old new
   pub order : stamp.epoch ≤ epoch_held old → KeepsOrder old new
+  pub names : AddsNames 2 old new
 
 -- A drop leaves no page of its key.
 pub record PageGone (key : PageKey) (old new : Files) : Type 0 where
   pub here : HasNoPage new key
   pub beside : BesidePage key old new
   pub order : KeepsOrder old new
+  pub names : AddsNames 0 old new
 
 -- A drop that failed leaves the old page or, where the disk failed, none.
 pub record MayDrop (key : PageKey) (fault : FileFault) (old new : Files) : Type 0 where
   pub here : HasSamePage old new key ⊎ ((fault ≡ Disk) × HasNoPage new key)
   pub beside : BesidePage key old new
   pub order : KeepsOrder old new
+  pub names : AddsNames 0 old new
 
 -- ---- the stamp of a folder
 
@@ -93,12 +108,14 @@ pub record StampSet (folder : Segments) (stamp : Stamp) (old new : Files) : Type
   pub here : stamp_at new folder ≡ Some stamp
   pub beside : BesideStamp folder old new
   pub order : stamp.epoch ≤ epoch_held old → KeepsOrder old new
+  pub names : AddsNames 1 old new
 
 -- A touch that failed leaves the old stamp or, where the disk failed, the new one.
 pub record MayTouch (folder : Segments) (stamp : Stamp) (fault : FileFault) (old new : Files) : Type 0 where
   pub here : (stamp_at new folder ≡ stamp_at old folder) ⊎ ((fault ≡ Disk) × (stamp_at new folder ≡ Some stamp))
   pub beside : BesideStamp folder old new
   pub order : stamp.epoch ≤ epoch_held old → KeepsOrder old new
+  pub names : AddsNames 1 old new
 
 -- ---- the number of the session
 
@@ -108,14 +125,18 @@ pub record IsNextNumber (epoch : ℕ) (old new : Files) : Type 0 where
   pub more : epoch ≡ epoch_held old + 1
   pub next : next_epoch new ≡ after_epoch (Some epoch)
 
--- An opening sets the number of the session.
+-- An opening sets the number of the session. Its file is there from the first session on.
 pub record NumberSet (epoch : ℕ) (old new : Files) : Type 0 where
   pub here : IsNextNumber epoch old new
   pub beside : BesideNumber old new
   pub order : KeepsOrder old new
+  pub names : AddsNames 1 old new
+  pub again : 0 < epoch_held old → AddsNames 0 old new
 
 -- An opening that failed leaves the old number or, where the disk failed, the next.
 pub record MayOpen (fault : OpenFault) (old new : Files) : Type 0 where
   pub here : KeepsNumber old new ⊎ ((fault ≡ open_disk) × IsNextNumber (epoch_held old + 1) old new)
   pub beside : BesideNumber old new
   pub order : KeepsOrder old new
+  pub names : AddsNames 1 old new
+  pub again : 0 < epoch_held old → AddsNames 0 old new

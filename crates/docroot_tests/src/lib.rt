@@ -1,10 +1,12 @@
-//! Tests of calls of `cache_files`, `stat_files` and `docroot_format`, which are proved apart from them.
+//! Tests of calls of `cache_files`, `stat_files`, `docroot_format` and `invalidation`, which are proved apart from them.
 #![tactic(auto)]
 
 #[cfg(test)]
 mod disks;
 #[cfg(test)]
 mod file_kinds;
+#[cfg(test)]
+mod flushes;
 #[cfg(test)]
 mod pages;
 #[cfg(test)]

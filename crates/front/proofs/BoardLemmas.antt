@@ -1,5 +1,5 @@
 -- The connections of a board, when one of them changes.
-use Rattle.std.proofs.Common.{◌≡◌, ◌≢◌, ℕ, ◌+◌, ◌||◌, ◌++◌, Bool, true, false, List, [], ◌∷◌, Option, Some, None, Ordering, cond, refl, ap, sym, subst, ◌∙◌, arith, eq-eqb, inl, ⊎_elim}
+use Rattle.std.proofs.Common.{◌≡◌, ◌≢◌, ℕ, ◌+◌, ◌++◌, Bool, true, false, List, [], ◌∷◌, Option, Some, None, Ordering, cond, refl, ap, sym, subst, ◌∙◌, arith, eq-eqb, ⊎_elim}
 use Rattle.std.specs.Prelude.{IsSome, IsTrue, is_some, nat_eq, if◌then◌else◌}
 use Rattle.std.specs.declared.cmp.Ordering.TheVariants.{Less, Equal, Greater}
 use Rattle.std.specs.Option.{option_map}
@@ -8,24 +8,26 @@ use Rattle.std.specs.BTreeMap.{BTreeMap, get, is_at, Updates, WritesThrough, btr
 use Rattle.std.proofs.lemmas.Map.{update_apart, update_here}
 use Rattle.std.proofs.lemmas.Map.Lookups.{exact_unsigned}
 use Rattle.std.proofs.lemmas.Bool.{cases_eq, ne_eqb}
-use Rattle.sp_base.specs.declared.answer.Answer.{Answer}
-use Rattle.any_config.specs.declared.farm.Farm.{Farm}
-use Rattle.connections.specs.Connections.{Connection, with_landing}
-use Rattle.front.specs.Boards.{AllGiven, BoardStandsFor, FirstThen, HasLanded, EntryStandsFor, ConnectionsStandFor, OpenStandsFor, ServesIn, SettlesIn, FlightsStandFor}
-use Rattle.front.specs.Events.{SomeShowsOutOfMemory}
+use Rattle.sp_outside.specs.Files.{Files}
+use Rattle.connections.specs.Connections.{Connection}
+use Rattle.connections.specs.Slots.{Response}
+use Rattle.run_events.specs.declared.conditions.Conditions.{Conditions}
+use Rattle.run_events.specs.declared.note.Note.{Note}
+use Rattle.run_events.specs.declared.note.Note.TheVariants.{Shut}
+use Rattle.run_events.specs.Moves.{GivesDue, GivesNext, Serves, state_after_note, state_after_notes, due_of_connection}
+use Rattle.run_events.specs.States.{RunState}
+use Rattle.front.specs.Boards.{AllGiven, BoardAt, BoardStandsFor, ConnectionsStandFor, EntryStandsFor, FirstThen, HasEnded, OpenStandsFor, SettlesIn, at_disk, behind_board}
+use Rattle.front.specs.Caches.{Allows, Behind, BehindStandsFor, CacheParts, RepliesFor, behind, under_both, under_nothing, with_end_if}
 use Rattle.front.specs.KeptConnections.{ConnectionStandsFor}
-use Rattle.front.specs.Moves.{GivesDue, Serves, state_after_note, state_after_notes, due_of_connection}
-use Rattle.front.specs.States.{RunState}
+use Rattle.front.specs.declared.answered.Ended.{Ended as EndedAs}
 use Rattle.front.specs.declared.board.Board.{Board}
 use Rattle.front.specs.declared.connection.Connection.{Connection as KeptConnection}
-use Rattle.front.specs.declared.note.Note.{Note}
-use Rattle.front.specs.declared.note.Note.TheVariants.{Shut}
-use Rattle.front.specs.declared.flights.Flights.{Flights}
 use Rattle.front.specs.declared.effect.Effect.{Effect}
-use Rattle.front.proofs.MoveLemmas.{Frame, afters-push, serves-frame, serves-push, shows-push}
+use Rattle.front.proofs.CauseLemmas.{allows-left, allows-right, cause-first, cause-push, no-failure}
+use Rattle.front.proofs.MoveLemmas.{Frame, afters-push, serves-frame, serves-push}
 
 -- ---- maps by number
-is_eq-true : (r : Ordering) → is_eq r ≡ true → r ≡ Equal
+pub is_eq-true : (r : Ordering) → is_eq r ≡ true → r ≡ Equal
 is_eq-true Less e = absurd (let no : ⊥ = cc in no)
 is_eq-true Equal e = refl
 is_eq-true Greater e = absurd (let no : ⊥ = cc in no)
@@ -62,10 +64,36 @@ tied-none None None tied e = refl
 tied-none None (Some m) tied e = absurd tied
 tied-none (Some k) connection tied e = absurd (let no : ⊥ = cc in no)
 
-pub meets : {farm : Farm} (b : Board) (w : RunState) (c : ℕ) (k : KeptConnection) → BoardStandsFor farm b w → get nat_cmp b.open_connections c ≡ Some k → OpenStandsFor farm w c k b.flights
+-- what is behind the connections stands for a state with the same log, flights and flushes
+pub behind-same : (b : Behind) (w v : RunState) → BehindStandsFor b w → v.farm ≡ w.farm → v.found ≡ w.found → v.flights ≡ w.flights → v.flushes ≡ w.flushes → v.log ≡ w.log → BehindStandsFor b v
+behind-same b w v tied farm found flights flushes log = record {
+  core_is = rw (found, log) tied.core_is;
+  farm_is = farm ∙ tied.farm_is;
+  flying_is = tied.flying_is ∙ sym flights;
+  rising = rw log tied.rising;
+  flights_are = rw farm tied.flights_are;
+  flushing_is = tied.flushing_is ∙ sym flushes;
+  flushes_are = tied.flushes_are;
+  flushes_rise = rw log tied.flushes_rise;
+}
+
+-- the count of faults is told by the calls, not by the state
+pub behind-counted : (cache : CacheParts) (files : Option Files) (before after : ℕ) (w : RunState) → BehindStandsFor (behind cache files before) w → BehindStandsFor (behind cache files after) w
+behind-counted cache files before after w tied = record {
+  core_is = tied.core_is;
+  farm_is = tied.farm_is;
+  flying_is = tied.flying_is;
+  rising = tied.rising;
+  flights_are = tied.flights_are;
+  flushing_is = tied.flushing_is;
+  flushes_are = tied.flushes_are;
+  flushes_rise = tied.flushes_rise;
+}
+
+pub meets : (b : BoardAt) (w : RunState) (c : ℕ) (k : KeptConnection) → BoardStandsFor b w → get nat_cmp b.board.open_connections c ≡ Some k → OpenStandsFor w c k (behind_board b)
 meets b w c k tied here =
     let opened = tied-some _ _ k (tied.open_connections.each c) here in
-    record { connection = opened.connection; open_is = opened.open_is; holds = opened.holds; flights_are = tied.flights; farm_is = tied.farm_is }
+    record { connection = opened.connection; open_is = opened.open_is; holds = opened.holds; behind_is = tied.behind_is; slicing_is = tied.slicing_is }
 
 -- the connection is the new one in both, and the others are as before
 pub open_connections-after : (old new : BTreeMap ℕ KeptConnection) (w v : RunState) (c : ℕ) (k : KeptConnection) (m : Connection) → ConnectionsStandFor old w → get nat_cmp new c ≡ Some k → ((q : ℕ) → q ≢ c → get nat_cmp new q ≡ get nat_cmp old q)
@@ -89,34 +117,29 @@ open_connections-without old new w v c tied updates fewer none others count = re
   count = omega (arith, fewer, count, tied.count);
 }
 
--- ---- an event in which memory doesn't run out
-pub both-ways : {P : Type 0} (out_of_memory : Bool) → out_of_memory ≡ false → IsTrue out_of_memory → P
-both-ways out_of_memory had_memory ran_out = absurd (let no : ⊥ = cc in no)
-
 -- ---- a connection is given all that it is owed
-memory-frame : (out_of_memory : Bool) (w : RunState) (c : ℕ) (notes : List Note) (m : Connection) → ServesIn out_of_memory w c notes → (state_after_notes w notes).connection c ≡ Some m → Frame c w (state_after_notes w notes)
-memory-frame out_of_memory w c notes m serves is = serves-frame (record { out_of_memory = out_of_memory }) w c notes m (serves (record { out_of_memory = out_of_memory }) (λ x. x)) is
+all-allowed : (m : Conditions) → Allows m m
+all-allowed m = record { disk_failed = λ is. is; out_of_memory = λ is. is }
 
-open_connections-given : {farm : Farm} (b : Board) (w : RunState) (c : ℕ) (k j : KeptConnection) (flights : Flights) (open_connections : BTreeMap ℕ KeptConnection) (effect : Effect) (over : Bool) → BoardStandsFor farm b w → Some k ≡ get nat_cmp b.open_connections c
-    → AllGiven effect over farm w c j flights → WritesThrough nat_cmp (nat_cmp c) b.open_connections j open_connections → ConnectionsStandFor open_connections (state_after_notes w effect.notes.items)
-open_connections-given b w c k j flights open_connections effect over tied here all writes =
+given-frame : (under : Conditions) (w : RunState) (c : ℕ) (notes : List Note) (m : Connection) → w.slicing ≡ None → ((n : Conditions) → Allows under n → Serves n w c notes) → (state_after_notes w notes).connection c ≡ Some m → Frame c w (state_after_notes w notes)
+given-frame under w c notes m quiet serves is = serves-frame under w c notes m (rw quiet tt) (serves under (all-allowed under)) is
+
+open_connections-given : (b : BoardAt) (w : RunState) (c : ℕ) (k j : KeptConnection) (new : Behind) (open_connections : BTreeMap ℕ KeptConnection) (effect : Effect) (over : Bool) → BoardStandsFor b w → Some k ≡ get nat_cmp b.board.open_connections c
+    → AllGiven effect over w c j (behind_board b) new → WritesThrough nat_cmp (nat_cmp c) b.board.open_connections j open_connections → ConnectionsStandFor open_connections (state_after_notes w effect.notes.items)
+open_connections-given b w c k j new open_connections effect over tied here all writes =
     let given = all.given in
     let updates = writes.3 (some-there _ k (sym here)) in
-    let frame = memory-frame effect.out_of_memory w c effect.notes.items given.meets.connection given.serves given.meets.open_is in
-    open_connections-after b.open_connections open_connections w (state_after_notes w effect.notes.items) c j given.meets.connection tied.open_connections updates.1 (λ q other. updates.2 q (at-other c q other)) writes.2 given.meets.open_is given.meets.holds frame
+    let frame = given-frame effect.conditions w c effect.notes.items given.meets.connection tied.slicing_is given.serves given.meets.open_is in
+    open_connections-after b.board.open_connections open_connections w (state_after_notes w effect.notes.items) c j given.meets.connection tied.open_connections updates.1 (λ q other. updates.2 q (at-other c q other)) writes.2 given.meets.open_is given.meets.holds frame
 
-pub settled-quiet : {farm : Farm} (b : Board) (w : RunState) (c : ℕ) (k j : KeptConnection) (flights : Flights) (open_connections : BTreeMap ℕ KeptConnection) (effect : Effect) (over : Bool) → BoardStandsFor farm b w → Some k ≡ get nat_cmp b.open_connections c
-    → ((u : RunState) → OpenStandsFor farm u c k b.flights → AllGiven effect over farm u c j flights) → over ≡ false → WritesThrough nat_cmp (nat_cmp c) b.open_connections j open_connections
-    → SettlesIn effect.out_of_memory w c effect.notes.items × BoardStandsFor farm (record { open_connections = open_connections; flights = flights }) (state_after_notes w effect.notes.items)
-settled-quiet {farm} b w c k j flights open_connections effect over tied here serves stays writes =
-    let all = subst (λ o. AllGiven effect o farm w c j flights) stays (serves w (meets b w c k tied (sym here))) in (
-      (λ m allows. record { serves = all.given.serves m allows; idle = all.then_due }, all.given.shows),
-      record { farm_is = all.given.meets.farm_is; open_connections = open_connections-given b w c k j flights open_connections effect false tied here all writes; flights = all.given.meets.flights_are },
+pub settled-quiet : (b : BoardAt) (w : RunState) (c : ℕ) (k j : KeptConnection) (cache : CacheParts) (files : Option Files) (faults : ℕ) (open_connections : BTreeMap ℕ KeptConnection) (effect : Effect) (over : Bool) → BoardStandsFor b w → Some k ≡ get nat_cmp b.board.open_connections c
+    → ((u : RunState) → OpenStandsFor u c k (behind_board b) → AllGiven effect over u c j (behind_board b) (behind cache files faults)) → over ≡ false → WritesThrough nat_cmp (nat_cmp c) b.board.open_connections j open_connections
+    → SettlesIn effect.conditions w c effect.notes.items b.faults faults × BoardStandsFor (at_disk (record { open_connections = open_connections; cache = cache }) files faults) (state_after_notes w effect.notes.items)
+settled-quiet b w c k j cache files faults open_connections effect over tied here serves stays writes =
+    let all = subst (λ o. AllGiven effect o w c j (behind_board b) (behind cache files faults)) stays (serves w (meets b w c k tied (sym here))) in (
+      record { settles = λ m allows. record { serves = all.given.serves m allows; idle = all.then_due; sliced = all.given.meets.slicing_is }; cause = all.given.cause },
+      record { open_connections = open_connections-given b w c k j (behind cache files faults) open_connections effect false tied here all writes; behind_is = all.given.meets.behind_is; slicing_is = all.given.meets.slicing_is },
     )
-
-or-false : (b : Bool) → (b || false) ≡ b
-or-false true = refl
-or-false false = refl
 
 some-one : (o : Option KeptConnection) (j : KeptConnection) (n : ℕ) → o ≡ Some j → n + (if is_some o then 1 else 0) ≡ n + 1
 some-one None j n e = absurd (let no : ⊥ = cc in no)
@@ -133,58 +156,61 @@ some-of (Some k) e = (k, refl)
 pub one-fewer : (o : Option KeptConnection) (k : KeptConnection) (m n : ℕ) → o ≡ Some k → n + (if is_some o then 1 else 0) ≡ m → n + 1 ≡ m
 one-fewer o k m n some len = sym (some-one o k n some) ∙ len
 
-pub settled-over : {farm : Farm} (b : Board) (w : RunState) (c : ℕ) (k j : KeptConnection) (flights : Flights) (open_connections left : BTreeMap ℕ KeptConnection) (effect all : Effect) (over : Bool) → BoardStandsFor farm b w → Some k ≡ get nat_cmp b.open_connections c
-    → ((u : RunState) → OpenStandsFor farm u c k b.flights → AllGiven effect over farm u c j flights) → over ≡ true → WritesThrough nat_cmp (nat_cmp c) b.open_connections j open_connections
+-- the end of a connection is owed, and given
+pub settled-over : (b : BoardAt) (w : RunState) (c : ℕ) (k j : KeptConnection) (cache : CacheParts) (files : Option Files) (faults : ℕ) (open_connections left : BTreeMap ℕ KeptConnection) (effect all : Effect) (over : Bool) → BoardStandsFor b w → Some k ≡ get nat_cmp b.board.open_connections c
+    → ((u : RunState) → OpenStandsFor u c k (behind_board b) → AllGiven effect over u c j (behind_board b) (behind cache files faults)) → over ≡ true → WritesThrough nat_cmp (nat_cmp c) b.board.open_connections j open_connections
     → Updates nat_cmp open_connections left c None → (o : Option KeptConnection) → o ≡ get nat_cmp open_connections c → btree_map_len left + (if is_some o then 1 else 0) ≡ btree_map_len open_connections
-    → all.notes.items ≡ effect.notes.items ++ Shut c ∷ [] → all.out_of_memory ≡ (effect.out_of_memory || false)
-    → SettlesIn all.out_of_memory w c all.notes.items × BoardStandsFor farm (record { open_connections = left; flights = flights }) (state_after_notes w all.notes.items)
-settled-over {farm} b w c k j flights open_connections left effect all over tied here serves ends writes updates o was len notes out_of_memory =
-    let given = subst (λ x. AllGiven effect x farm w c j flights) ends (serves w (meets b w c k tied (sym here))) in
+    → all.notes.items ≡ effect.notes.items ++ Shut c ∷ [] → all.conditions ≡ under_both effect.conditions under_nothing
+    → SettlesIn all.conditions w c all.notes.items b.faults faults × BoardStandsFor (at_disk (record { open_connections = left; cache = cache }) files faults) (state_after_notes w all.notes.items)
+settled-over b w c k j cache files faults open_connections left effect all over tied here serves ends writes updates o was len notes conditions =
+    let given = subst (λ x. AllGiven effect x w c j (behind_board b) (behind cache files faults)) ends (serves w (meets b w c k tied (sym here))) in
     let v = state_after_notes w effect.notes.items in
-    let mid = open_connections-given b w c k j flights open_connections effect true tied here given writes in
+    let mid = open_connections-given b w c k j (behind cache files faults) open_connections effect true tied here given writes in
     let there = some-there _ k (sym here) in
     let some : o ≡ Some j = was ∙ (writes.3 there).1 in
     let fewer : btree_map_len left + 1 ≡ btree_map_len open_connections = one-fewer o j _ _ some len in
     let end : state_after_notes w all.notes.items ≡ state_after_note v (Shut c) = ap (state_after_notes w) notes ∙ afters-push w effect.notes.items (Shut c) in
-    let same_memory : all.out_of_memory ≡ effect.out_of_memory = out_of_memory ∙ or-false effect.out_of_memory in
-    let size : v.connection_count ≡ btree_map_len open_connections = sym mid.count in (
-      (
-        λ m allows. record {
-          serves = subst (Serves m w c) (sym notes) (serves-push m w c effect.notes.items (Shut c) (given.given.serves m (λ is. allows (same_memory ∙ is))) (subst (λ d. GivesDue m v c d (Shut c)) (sym given.then_due) refl));
-          idle = ap (λ u. due_of_connection u c) end ∙ rw (update_here v.connection c None) refl;
-        },
-        λ ran_out. subst (SomeShowsOutOfMemory w) (sym notes) (shows-push w effect.notes.items (Shut c) (inl (given.given.shows (sym same_memory ∙ ran_out)))),
-      ),
-      subst (BoardStandsFor farm (record { open_connections = left; flights = flights })) (sym end) (record {
-        farm_is = given.given.meets.farm_is;
+    let size : v.connection_count ≡ btree_map_len open_connections = sym mid.count in
+    let quiet : v.slicing ≡ None = given.given.meets.slicing_is in
+    let gives : (m : Conditions) → GivesNext m v c v.slicing (Shut c) = λ m. subst (λ s. GivesNext m v c s (Shut c)) (sym quiet) (subst (λ d. GivesDue m v c d (Shut c)) (sym given.then_due) refl) in (
+      rw (notes, conditions) (record {
+        settles = λ m allows. record {
+          serves = serves-push m w c effect.notes.items (Shut c) (given.given.serves m (allows-left effect.conditions under_nothing m allows)) (gives m);
+          idle = ap (λ u. due_of_connection u c) (afters-push w effect.notes.items (Shut c)) ∙ rw (update_here v.connection c None) refl;
+          sliced = ap (λ (u : RunState). u.slicing) (afters-push w effect.notes.items (Shut c)) ∙ quiet;
+        };
+        cause = cause-push b.faults faults faults effect.conditions under_nothing w effect.notes.items (Shut c) given.given.cause (record { disk = refl; spoils = λ is. absurd is; shows = λ is. absurd (let no : ⊥ = cc in no) });
+      }),
+      subst (BoardStandsFor (at_disk (record { open_connections = left; cache = cache }) files faults)) (sym end) (record {
         open_connections = open_connections-without open_connections left v (state_after_note v (Shut c)) c mid updates fewer (update_here v.connection c None) (λ q other. update_apart v.connection c None q other) (omega (arith, fewer, size));
-        flights = flights-shut flights v c given.given.meets.flights_are;
+        behind_is = behind-same (behind cache files faults) v (state_after_note v (Shut c)) given.given.meets.behind_is refl refl refl refl refl;
+        slicing_is = quiet;
       }),
     )
-  where
-    flights-shut : (flights : Flights) (v : RunState) (c : ℕ) → FlightsStandFor flights v → FlightsStandFor flights (state_after_note v (Shut c))
-    flights-shut flights v c tied = record { flights = tied.flights; asked = tied.asked; rising = tied.rising }
 
--- ---- a flight has landed
-pub landed : {farm : Farm} (b g h : Board) (w v : RunState) (c number : ℕ) (answer : Answer) (first : Note) (effect all : Effect) → HasLanded farm b w v c number answer
-    → ((q : ℕ) (o : Option Connection) → EntryStandsFor (get nat_cmp b.open_connections q) o → EntryStandsFor (get nat_cmp g.open_connections q) (cond (nat_eq q c) (option_map (with_landing number answer) o) o))
-    → btree_map_len g.open_connections ≡ btree_map_len b.open_connections → g.flights ≡ b.flights
-    → ((u : RunState) → BoardStandsFor farm g u → SettlesIn effect.out_of_memory u c effect.notes.items × BoardStandsFor farm h (state_after_notes u effect.notes.items)) → all.notes.items ≡ first ∷ effect.notes.items → all.out_of_memory ≡ effect.out_of_memory
-    → FirstThen first farm v c all h
-landed {farm} b g h w v c number answer first effect all landing fill count flights settled notes out_of_memory =
-    let open_connections : ConnectionsStandFor g.open_connections v = record {
-      each = λ q. ⊎_elim
-          (λ at.
-          let test : nat_eq q c ≡ true = eq-eqb q c (sym at) in
-          let now : v.connection q ≡ option_map (with_landing number answer) (w.connection q) = subst (λ x. v.connection x ≡ option_map (with_landing number answer) (w.connection x)) at (ap (λ f. f c) landing.connection_is ∙ update_here w.connection c _) in
-          rw now (rw test at (fill q (w.connection q) (landing.open_connections.each q))))
-          (λ apart.
-          let other : q ≢ c = λ e. apart (sym e) in
-          let test : nat_eq q c ≡ false = ne_eqb q c other in
-          rw (ap (λ f. f q) landing.connection_is ∙ update_apart w.connection c _ q other) (rw test at (fill q (w.connection q) (landing.open_connections.each q))))
-          (cases_eq c q);
-      count = count ∙ landing.open_connections.count ∙ sym landing.count_is;
+-- ---- something that a connection waited for has ended
+pub ended-then : (b g : BoardAt) (h : BoardAt) (w : RunState) (ended : EndedAs) (before : ℕ) (effect all : Effect) → HasEnded b w ended before
+    → ((q : ℕ) (o : Option Connection) (response : Option Response) → RepliesFor ended.reply response → EntryStandsFor (get nat_cmp b.board.open_connections q) o → EntryStandsFor (get nat_cmp g.board.open_connections q) (if nat_eq q ended.connection then option_map (with_end_if ended.awaited response) o else o))
+    → btree_map_len g.board.open_connections ≡ btree_map_len b.board.open_connections → behind_board g ≡ behind_board b
+    → ((u : RunState) → BoardStandsFor g u → SettlesIn effect.conditions u ended.connection effect.notes.items b.faults h.faults × BoardStandsFor h (state_after_notes u effect.notes.items)) → all.notes.items ≡ ended.note ∷ effect.notes.items → all.conditions ≡ under_both ended.conditions effect.conditions
+    → FirstThen ended w all before h
+ended-then b g h w ended before effect all has fill count same settled notes conditions =
+    let ending = has.ending in
+    let v = state_after_note w ended.note in
+    let tied : BoardStandsFor g v = record {
+      open_connections = record {
+        each = λ q. rw (ending.connection_is q) (fill q (w.connection q) ending.response ending.replies (has.open_connections.each q));
+        count = count ∙ has.open_connections.count ∙ sym ending.count_is;
+      };
+      behind_is = subst (λ x. BehindStandsFor x v) (sym same) ending.behind_is;
+      slicing_is = ending.slicing_is;
     } in
-    let tied : BoardStandsFor farm g v = record { farm_is = landing.farm_is; open_connections = open_connections; flights = rw flights landing.flights } in
     let done = settled v tied in
-    record { rest = effect.notes.items; begins = notes; settles = subst (λ d. SettlesIn d v c effect.notes.items) (sym out_of_memory) done.0; board_is = done.1 }
+    record {
+      rest = effect.notes.items;
+      begins = notes;
+      settles = λ m allows. done.0.settles m (allows-right ended.conditions effect.conditions m (subst (λ x. Allows x m) conditions allows));
+      first = subst (Allows ended.conditions) (sym conditions) (allows-left ended.conditions effect.conditions (under_both ended.conditions effect.conditions) (all-allowed (under_both ended.conditions effect.conditions)));
+      cause = rw (notes, conditions) (cause-first before b.faults h.faults ended.conditions effect.conditions w ended.note effect.notes.items ending.cause done.0.cause);
+      board_is = rw notes done.1;
+    }

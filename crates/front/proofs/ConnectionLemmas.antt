@@ -7,9 +7,9 @@ use Rattle.http_front.specs.declared.fault.InFault.{InFault}
 use Rattle.http_front.specs.declared.intake.Intake.{Intake}
 use Rattle.http_front.specs.declared.turn.Turn.{Turn}
 use Rattle.http_front.specs.declared.turn.Turn.TheVariants.{Continue, Whole}
-use Rattle.sp_base.specs.declared.answer.Answer.{Answer}
-use Rattle.connections.specs.Slots.{Slot, interim_slot, is_awaiting}
-use Rattle.connections.specs.Connections.{Close, Connection, Nothing, Treat, with_due_continue, after_turn, due, due_at_turn, due_without_sending, slots_with_landing, fresh, next_turn, with_answer, with_landing, with_sent, with_slot, IsInPlaceOfDue}
+use Rattle.connections.specs.declared.awaited.Awaited.{Awaited}
+use Rattle.connections.specs.Slots.{Response, Slot, interim_slot, is_awaiting}
+use Rattle.connections.specs.Connections.{Close, Connection, Nothing, Treat, with_due_continue, after_turn, due, due_at_turn, due_without_sending, slots_with_end, fresh, next_turn, with_end, with_response, with_sent, with_slot, IsInPlaceOfDue}
 use Rattle.connections.specs.Histories.{IsDueSending}
 use Rattle.connections.specs.declared.sending.Sending.{Sending}
 use Rattle.connections.specs.AnswerQueues.{QueueStandsFor}
@@ -54,6 +54,7 @@ paired-rest (Whole request ∷ done) turns paired = paired-rest done turns paire
 -- ---- a connection, when its answers change
 -- what counts of a connection beside its places is as before
 pub record SameStream (c d : Connection) : Type 0 where
+  pub peer : d.peer ≡ c.peer
   pub closing : d.closing ≡ c.closing
   pub stream : d.stream ≡ c.stream
   pub turns : d.turns ≡ c.turns
@@ -63,6 +64,7 @@ pub record SameStream (c d : Connection) : Type 0 where
 pub holds-same : (k : KeptConnection) (o : AnswerQueue) (c d : Connection) → ConnectionStandsFor k c → SameStream c d → QueueStandsFor o d → ConnectionStandsFor (record k { answers = o }) d
 holds-same k o c d holds same answers = record {
   keeps = record {
+    peer_is = holds.keeps.peer_is ∙ sym same.peer;
     answers = answers;
     reads = λ stays.
         let reads = holds.keeps.reads (sym same.closing ∙ stays) in
@@ -76,16 +78,16 @@ holds-same k o c d holds same answers = record {
   ready = λ stays. holds.ready (sym same.closing ∙ stays);
 }
 
-pub length-filled : (n : ℕ) (a : Answer) (slots : List Slot) → length (slots_with_landing n a slots) ≡ length slots
-length-filled n a [] = refl
-length-filled n a (s ∷ slots) = by_test (is_awaiting n s.response) (length-filled n a slots)
+pub length-filled : (n : Awaited) (r : Response) (slots : List Slot) → length (slots_with_end n r slots) ≡ length slots
+length-filled n r [] = refl
+length-filled n r (s ∷ slots) = by_test (is_awaiting n s.response) (length-filled n r slots)
   where
-    by_test : (b : Bool) → length (slots_with_landing n a slots) ≡ length slots → length (cond b (with_answer a s ∷ slots) (s ∷ slots_with_landing n a slots)) ≡ suc (length slots)
+    by_test : (b : Bool) → length (slots_with_end n r slots) ≡ length slots → length (cond b (with_response r s ∷ slots) (s ∷ slots_with_end n r slots)) ≡ suc (length slots)
     by_test true same = refl
     by_test false same = ap suc same
 
-pub fill-holds : (k : KeptConnection) (o : AnswerQueue) (c : Connection) (n : ℕ) (a : Answer) → ConnectionStandsFor k c → QueueStandsFor o (with_landing n a c) → ConnectionStandsFor (record k { answers = o }) (with_landing n a c)
-fill-holds k o c n a holds answers = holds-same k o c (with_landing n a c) holds (record { closing = refl; stream = refl; turns = refl; count = length-filled n a c.slots; ends = refl }) answers
+pub fill-holds : (k : KeptConnection) (o : AnswerQueue) (c : Connection) (n : Awaited) (r : Response) → ConnectionStandsFor k c → QueueStandsFor o (with_end n r c) → ConnectionStandsFor (record k { answers = o }) (with_end n r c)
+fill-holds k o c n r holds answers = holds-same k o c (with_end n r c) holds (record { peer = refl; closing = refl; stream = refl; turns = refl; count = length-filled n r c.slots; ends = refl }) answers
 
 -- ---- a 100 Continue
 advanced-open : (c : Connection) (turn : Option Turn) → c.closing ≡ false → next_turn c ≡ turn → with_due_continue c ≡ after_turn turn c
@@ -96,15 +98,16 @@ popped-continue [] new begins rest = absurd (let no : ⊥ = cc in no)
 popped-continue (Continue ∷ old) new begins rest = ap (λ turns. Continue ∷ turns) (sym rest)
 popped-continue (Whole request ∷ old) new begins rest = absurd (let no : ⊥ = cc in no)
 
-pub advance-continue : (k j : KeptConnection) (c : Connection) → c.closing ≡ false → j.intake ≡ k.intake → j.fault ≡ k.fault → k.turns.items ≡ Continue ∷ j.turns.items → QueueStandsFor j.answers (with_slot interim_slot c) → StandsForButContinue k c
+pub advance-continue : (k j : KeptConnection) (c : Connection) → c.closing ≡ false → j.peer ≡ k.peer → j.intake ≡ k.intake → j.fault ≡ k.fault → k.turns.items ≡ Continue ∷ j.turns.items → QueueStandsFor j.answers (with_slot interim_slot c) → StandsForButContinue k c
     → ConnectionStandsFor j (with_due_continue c)
-advance-continue k j c stays intake fault first answers keeps =
+advance-continue k j c stays peer intake fault first answers keeps =
     let reads = keeps.reads stays in
     let splits : Splits c.turns (length c.slots) (Continue ∷ j.turns.items) = rw first at reads.splits in
     let paired : IsPaired (Continue ∷ j.turns.items) = rw first at reads.paired in
     let is : with_due_continue c ≡ with_slot interim_slot c = advanced-open c (Some Continue) stays (split-head _ _ _ splits) in
     subst (ConnectionStandsFor j) (sym is) (record {
       keeps = record {
+        peer_is = peer ∙ keeps.peer_is;
         answers = answers;
         reads = λ still. record {
           told = rw intake reads.told;
@@ -117,11 +120,11 @@ advance-continue k j c stays intake fault first answers keeps =
     })
 
 -- a connection that closes is as it was, whatever turns are left of it
-pub advance-closing : (k j : KeptConnection) (c : Connection) → c.closing ≡ true → j.answers ≡ k.answers → StandsForButContinue k c → ConnectionStandsFor j (with_due_continue c)
-advance-closing k j c closes answers keeps =
+pub advance-closing : (k j : KeptConnection) (c : Connection) → c.closing ≡ true → j.peer ≡ k.peer → j.answers ≡ k.answers → StandsForButContinue k c → ConnectionStandsFor j (with_due_continue c)
+advance-closing k j c closes peer answers keeps =
     let is : with_due_continue c ≡ c = ap (λ b. cond b c (after_turn (next_turn c) c)) closes in
     subst (ConnectionStandsFor j) (sym is) (record {
-      keeps = record { answers = rw answers keeps.answers; reads = λ stays. absurd (let no : ⊥ = cc in no) };
+      keeps = record { peer_is = peer ∙ keeps.peer_is; answers = rw answers keeps.answers; reads = λ stays. absurd (let no : ⊥ = cc in no) };
       ready = λ stays. absurd (let no : ⊥ = cc in no);
     })
 
@@ -136,9 +139,10 @@ pub popped-none : (old new : List Turn) → old ≡ new → new ≡ drop 1 old �
 popped-none [] new same rest = refl
 popped-none (turn ∷ old) new same rest = absurd (let no : ⊥ = omega (arith, ap (λ (ts : List Turn). length ts) (same ∙ rest)) in no)
 
-pub holds-as : (k j : KeptConnection) (c : Connection) → j.intake ≡ k.intake → j.turns.items ≡ k.turns.items → j.fault ≡ k.fault → j.answers ≡ k.answers → ConnectionStandsFor k c → ConnectionStandsFor j c
-holds-as k j c intake turns fault answers holds = record {
+pub holds-as : (k j : KeptConnection) (c : Connection) → j.peer ≡ k.peer → j.intake ≡ k.intake → j.turns.items ≡ k.turns.items → j.fault ≡ k.fault → j.answers ≡ k.answers → ConnectionStandsFor k c → ConnectionStandsFor j c
+holds-as k j c peer intake turns fault answers holds = record {
   keeps = record {
+    peer_is = peer ∙ holds.keeps.peer_is;
     answers = rw answers holds.keeps.answers;
     reads = λ stays.
         let reads = holds.keeps.reads stays in
@@ -152,14 +156,15 @@ holds-as k j c intake turns fault answers holds = record {
   ready = λ stays. rw turns (holds.ready stays);
 }
 
-pub take-request : (k j : KeptConnection) (c : Connection) (request : _) → c.over ≡ false → c.closing ≡ false → due c ≡ due_without_sending c → k.turns.items ≡ Whole request ∷ j.turns.items → j.intake ≡ k.intake → j.fault ≡ k.fault → j.answers ≡ k.answers
+pub take-request : (k j : KeptConnection) (c : Connection) (request : _) → c.over ≡ false → c.closing ≡ false → due c ≡ due_without_sending c → k.turns.items ≡ Whole request ∷ j.turns.items → j.peer ≡ k.peer → j.intake ≡ k.intake → j.fault ≡ k.fault → j.answers ≡ k.answers
     → ConnectionStandsFor k c → (due c ≡ Treat (Whole request)) × Owes j c
-take-request k j c request lasts stays unsent first intake fault answers holds =
+take-request k j c request lasts stays unsent first peer intake fault answers holds =
     let reads = holds.keeps.reads stays in
     let splits : Splits c.turns (length c.slots) (Whole request ∷ j.turns.items) = rw first at reads.splits in
     let paired : IsPaired (Whole request ∷ j.turns.items) = rw first at reads.paired in (
       due-open c (Some (Whole request)) lasts stays unsent (split-head _ _ _ splits),
       record {
+        peer_is = peer ∙ holds.keeps.peer_is;
         answers = rw answers holds.keeps.answers;
         told = rw intake reads.told;
         splits = split-next _ _ _ _ splits;
@@ -175,8 +180,9 @@ take-none k c lasts stays unsent none holds =
     due-open c None lasts stays unsent (split-head _ _ _ splits) ∙ ap (due_at_turn None) reads.ends
 
 -- ---- a turn gets its place
-pub push-owed : (k j : KeptConnection) (c : Connection) (slot : Slot) → Owes k c → j.intake ≡ k.intake → j.fault ≡ k.fault → j.turns ≡ k.turns → QueueStandsFor j.answers (with_slot slot c) → StandsForButContinue j (with_slot slot c)
-push-owed k j c slot owes intake fault turns answers = record {
+pub push-owed : (k j : KeptConnection) (c : Connection) (slot : Slot) → Owes k c → j.peer ≡ k.peer → j.intake ≡ k.intake → j.fault ≡ k.fault → j.turns ≡ k.turns → QueueStandsFor j.answers (with_slot slot c) → StandsForButContinue j (with_slot slot c)
+push-owed k j c slot owes peer intake fault turns answers = record {
+  peer_is = peer ∙ owes.peer_is;
   answers = answers;
   reads = λ stays. record {
     told = rw intake owes.told;
@@ -190,8 +196,8 @@ or-closes : (b d : Bool) → d ≡ true → (b || d) ≡ false → ⊥
 or-closes true d e f = cc
 or-closes false d e f = cc
 
-pub push-fault : (j : KeptConnection) (c : Connection) (slot : Slot) → slot.closes ≡ true → QueueStandsFor j.answers (with_slot slot c) → StandsForButContinue j (with_slot slot c)
-push-fault j c slot closes answers = record { answers = answers; reads = λ stays. absurd (or-closes c.closing slot.closes closes stays) }
+pub push-fault : (j : KeptConnection) (c : Connection) (slot : Slot) → slot.closes ≡ true → j.peer ≡ c.peer → QueueStandsFor j.answers (with_slot slot c) → StandsForButContinue j (with_slot slot c)
+push-fault j c slot closes peer answers = record { peer_is = peer; answers = answers; reads = λ stays. absurd (or-closes c.closing slot.closes closes stays) }
 
 -- ---- bytes come
 pub read-closing : (k : KeptConnection) (c : Connection) (bytes : List ℕ) → c.closing ≡ true → ConnectionStandsFor k c → ConnectionReads bytes c k
@@ -202,15 +208,16 @@ read-closing k c bytes closes holds = record {
   holds = subst (ConnectionStandsFor k) (sym (ap (λ b. cond b c (with_due_continue (record c { stream = c.stream ++ bytes; turns = c.turns ++ []; ends = c.ends }))) closes)) holds;
 }
 
-pub read-open : (k j m : KeptConnection) (i : Intake) (c : Connection) (bytes : List ℕ) → c.closing ≡ false → ConnectionStandsFor k c → StandsFor i (c.stream ++ bytes) c.turns → TellsTurns i k.turns.items j.intake j.turns.items j.fault → j.answers ≡ k.answers
+pub read-open : (k j m : KeptConnection) (i : Intake) (c : Connection) (bytes : List ℕ) → c.closing ≡ false → ConnectionStandsFor k c → StandsFor i (c.stream ++ bytes) c.turns → TellsTurns i k.turns.items j.intake j.turns.items j.fault → j.peer ≡ k.peer → j.answers ≡ k.answers
     → ((d : Connection) → StandsForButContinue j d → ConnectionStandsFor m (with_due_continue d)) → ConnectionReads bytes c m
-read-open k j m i c bytes stays holds stands tells same advances =
+read-open k j m i c bytes stays holds stands tells peer same advances =
     let reads = holds.keeps.reads stays in
     let answers = holds.keeps.answers in
     let spells : SpellsTurns (c.stream ++ bytes) (c.turns ++ tells.turns) (end_of j.fault) = tells.spells _ _ stands in
     let joined : c.turns ++ tells.turns ≡ reads.splits.done ++ j.turns.items = ap (λ xs. xs ++ tells.turns) reads.splits.joined ∙ append_assoc reads.splits.done k.turns.items tells.turns ∙ ap (λ xs. reads.splits.done ++ xs) (sym tells.joined) in
     let fed_c : Connection = record c { stream = c.stream ++ bytes; turns = c.turns ++ tells.turns; ends = end_of j.fault } in
     let keeps : StandsForButContinue j fed_c = record {
+      peer_is = peer ∙ holds.keeps.peer_is;
       answers = rw same (record { unsent = answers.unsent; within = answers.within; past = answers.past; closing_is = answers.closing_is; over_is = answers.over_is; spare_is = answers.spare_is });
       reads = λ still. record {
         told = tells.told _ _ stands;
@@ -248,9 +255,10 @@ tells_end i j m before after_ fault on keeps ends = record {
 }
 
 -- ---- a new connection, and what is sent
-pub new-holds : (k : KeptConnection) (peer : List ℕ) → StandsFor k.intake [] [] → k.turns.items ≡ [] → k.fault ≡ None → QueueStandsFor k.answers (fresh peer) → ConnectionStandsFor k (fresh peer)
-new-holds k peer stands none whole answers = record {
+pub new-holds : (k : KeptConnection) (peer : List ℕ) → k.peer ≡ peer → StandsFor k.intake [] [] → k.turns.items ≡ [] → k.fault ≡ None → QueueStandsFor k.answers (fresh peer) → ConnectionStandsFor k (fresh peer)
+new-holds k peer is stands none whole answers = record {
   keeps = record {
+    peer_is = is;
     answers = answers;
     reads = λ stays. record {
       told = stands;
@@ -271,4 +279,4 @@ pub send-holds : (k : KeptConnection) (o : AnswerQueue) (sent : Option Sending) 
 send-holds k o None sends = tt
 send-holds k o (Some s) sends = λ m holds.
     let sent = sends m holds.keeps.answers in
-    (sent.0, holds-same k o m (with_sent s.bytes m) holds (record { closing = refl; stream = refl; turns = refl; count = refl; ends = refl }) sent.1)
+    (sent.0, holds-same k o m (with_sent s.bytes m) holds (record { peer = refl; closing = refl; stream = refl; turns = refl; count = refl; ends = refl }) sent.1)

@@ -4,9 +4,9 @@ use Rattle.std.specs.Prelude.{nat_eq, nat_lt, position, remove, slice_get, slice
 use Rattle.std.specs.List.{find, position_or_len}
 use Rattle.std.proofs.lemmas.List.Folds.{find_at}
 use Rattle.sp_base.specs.declared.answer.Answer.{Answer}
-use Rattle.front.specs.declared.flying.Flying.{Flying}
-use Rattle.front.specs.States.{AreRising}
-use Rattle.front.specs.Moves.{flight_at, with_rendered, with_rendered_at, without}
+use Rattle.run_events.specs.declared.flying.Flying.{Flying}
+use Rattle.run_events.specs.States.{AreRising}
+use Rattle.run_events.specs.Moves.{flight_at, with_rendered, with_rendered_at, without}
 
 -- ---- the first that is asked for
 pub get-none : {A : Type 0} (xs : List A) (i : ℕ) → length xs ≤ i → slice_get xs i ≡ None

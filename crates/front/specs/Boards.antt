@@ -1,48 +1,34 @@
--- What a front keeps of its connections and flights. (Of the theorem's reader this file is no concern.)
-use Rattle.std.specs.Prelude.{◌≡◌, ◌≢◌, ◌<◌, ◌≤◌, ◌||◌, ◌⊎◌, ℕ, Bool, true, false, not, if◌then◌else◌, nat_le, nat_eq, List, [], ◌∷◌, Option, Some, None, IsTrue, length}
+-- What a front keeps of its connections, before what is behind them. (Of the theorem's reader this file is no concern.)
+use Rattle.std.specs.Prelude.{◌≡◌, ◌≢◌, ◌<◌, ◌-◌, ℕ, Bool, true, false, if◌then◌else◌, List, [], ◌∷◌, Option, Some, None, IsTrue}
 use Rattle.std.specs.BTreeMap.{BTreeMap, get, btree_map_len}
 use Rattle.std.specs.Ordering.{nat_cmp}
-use Rattle.std.specs.Map.{update}
-use Rattle.std.specs.Option.{option_map}
-use Rattle.sp_base.specs.declared.answer.Answer.{Answer}
+use Rattle.sp_base.specs.Limits.{greatest_u64}
 use Rattle.sp_base.specs.Requests.{Request}
-use Rattle.any_config.specs.declared.farm.Farm.{Farm}
-use Rattle.http_front.specs.Faults.{insufficient_storage}
+use Rattle.sp_outside.specs.Files.{Files}
 use Rattle.http_front.specs.Turns.{End}
 use Rattle.http_front.specs.declared.fault.InFault.{InFault}
 use Rattle.http_front.specs.declared.turn.Turn.{Turn}
 use Rattle.http_front.specs.declared.turn.Turn.TheVariants.{Whole}
-use Rattle.connections.specs.Connections.{Connection, Close, Nothing, Refuse, Treat, due_without_sending, with_landing}
+use Rattle.cache_log.specs.Ids.{FlushId}
+use Rattle.connections.specs.Connections.{Connection, Close, Nothing, Refuse, Treat, due_without_sending}
 use Rattle.connections.specs.Connections as model
-use Rattle.connections.specs.Ids.{ConnectionId, FlightId}
-use Rattle.connections.specs.AnswerQueues.{QueueStandsFor}
+use Rattle.connections.specs.Ids.{ConnectionId}
+use Rattle.run_events.specs.declared.conditions.Conditions.{Conditions}
+use Rattle.run_events.specs.declared.note.Note.{Note}
+use Rattle.run_events.specs.declared.step.Step.{Step}
+use Rattle.run_events.specs.Causes.{IsDiskFailure, ShowsIfOutOfMemory, SpoilAtMost}
+use Rattle.run_events.specs.Events.{Event, HappensBy, HasCause, after_event, state_before_notes}
+use Rattle.run_events.specs.Moves.{Serves, Settles, state_after_note, state_after_notes, due_of_connection}
+use Rattle.run_events.specs.States.{RunState}
+use Rattle.front.specs.declared.answered.Ended.{Ended as EndedAs}
 use Rattle.front.specs.declared.board.Board.{Board}
-use Rattle.front.specs.declared.flying.Flying.{Flying}
 use Rattle.front.specs.declared.connection.Connection.{Connection as KeptConnection}
-use Rattle.front.specs.declared.note.Note.{Note}
 use Rattle.front.specs.declared.serve.Served.{Served}
-use Rattle.front.specs.declared.treat.Answering.{Answering}
-use Rattle.front.specs.declared.treat.Answering.TheVariants.{Here, InFlight}
-use Rattle.front.specs.declared.serve.Served.TheVariants.{Said, Quiet, Ended}
-use Rattle.front.specs.declared.flights.Flights.{Flights}
-use Rattle.front.specs.declared.step.Step.{Step}
+use Rattle.front.specs.declared.serve.Served.TheVariants.{Said, Begun, Quiet, Ended}
+use Rattle.front.specs.declared.treat.Treated.{Treated}
 use Rattle.front.specs.declared.effect.Effect.{Effect}
-use Rattle.front.specs.Events.{Event, HappensBy, ShowsIfOutOfMemory, ShowsOutOfMemory, after_event, state_before_notes}
-use Rattle.front.specs.KeptConnections.{ConnectionStandsFor, Owes, ConnectionReads}
-use Rattle.front.specs.Moves.{Conditions, GivesDue, Serves, Settles, state_after_note, state_after_notes, due_of_connection, most_flights, most_flights_asked}
-use Rattle.front.specs.States.{AreRising, RunState, flights_asked}
-
--- ---- flights
-
--- the flights are those in the air, and as many were asked
-pub record FlightsStandFor (kept : Flights) (w : RunState) : Type 0 where
-  pub flights : kept.flying.items ≡ w.flights
-  pub asked : kept.asked ≡ flights_asked w.log
-  pub rising : AreRising 0 kept.flying.items kept.asked
-
--- no further flight is asked
-abbrev pub are_flights_full : Flights → Bool
-are_flights_full flights = nat_le most_flights (length flights.flying.items) || nat_le most_flights_asked flights.asked
+use Rattle.front.specs.Caches.{Allows, Behind, BehindStandsFor, GivesIn, HasNoteCause, IsEnding, IsSlicing, behind}
+use Rattle.front.specs.KeptConnections.{AnswersStandFor, ConnectionStandsFor, Owes, ConnectionReads}
 
 -- ---- connections
 
@@ -57,113 +43,129 @@ pub record ConnectionsStandFor (open_connections : BTreeMap ConnectionId KeptCon
   pub each : (c : ConnectionId) → EntryStandsFor (get nat_cmp open_connections c) (w.connection c)
   pub count : btree_map_len open_connections ≡ w.connection_count
 
--- the farm is that of the state, and the board is what is left of it
-pub record BoardStandsFor (farm : Farm) (board : Board) (w : RunState) : Type 0 where
-  pub farm_is : w.farm ≡ farm
-  pub open_connections : ConnectionsStandFor board.open_connections w
-  pub flights : FlightsStandFor board.flights w
+-- a board before its disk
+pub record BoardAt : Type 0 where
+  pub board : Board
+  pub files : Option Files
+  pub faults : ℕ
 
--- ---- one connection beside the flights
+abbrev pub at_disk : Board → Option Files → ℕ → BoardAt
+at_disk board files faults = record { board = board; files = files; faults = faults }
 
--- memory may have run out
-abbrev pub Allows : Bool → Conditions → Type 0
-Allows out_of_memory m = IsTrue out_of_memory → IsTrue m.out_of_memory
+-- what is behind its connections
+abbrev pub behind_board : BoardAt → Behind
+behind_board b = behind b.board.cache b.files b.faults
 
--- the connection is there, kept so, with the farm and the flights
-pub record OpenStandsFor (farm : Farm) (w : RunState) (c : ConnectionId) (k : KeptConnection) (flights : Flights) : Type 0 where
+-- the board and its disk are what is left of the state, in which no slice is due
+pub record BoardStandsFor (b : BoardAt) (w : RunState) : Type 0 where
+  pub open_connections : ConnectionsStandFor b.board.open_connections w
+  pub behind_is : BehindStandsFor (behind_board b) w
+  pub slicing_is : w.slicing ≡ None
+
+-- ---- one connection before what is behind it
+
+-- the connection is there, kept so, before this; and no slice is due
+pub record OpenStandsFor (w : RunState) (c : ConnectionId) (k : KeptConnection) (b : Behind) : Type 0 where
   pub connection : Connection
   pub open_is : w.connection c ≡ Some connection
   pub holds : ConnectionStandsFor k connection
-  pub flights_are : FlightsStandFor flights w
-  pub farm_is : w.farm ≡ farm
+  pub behind_is : BehindStandsFor b w
+  pub slicing_is : w.slicing ≡ None
+
+-- the same, but that the first slice of a flush is due if there is one, which the connection waits for
+pub record OpenAfterNote (slices : Bool) (w : RunState) (c : ConnectionId) (k : KeptConnection) (b : Behind) : Type 0 where
+  pub connection : Connection
+  pub open_is : w.connection c ≡ Some connection
+  pub holds : ConnectionStandsFor k connection
+  pub behind_is : BehindStandsFor b w
+  pub slicing_is : IsSlicing slices c w
 
 -- the same where nothing of the connection can be sent
-pub record OpenWithoutSending (farm : Farm) (w : RunState) (c : ConnectionId) (k : KeptConnection) (flights : Flights) : Type 0 where
-  pub meets : OpenStandsFor farm w c k flights
+pub record OpenWithoutSending (w : RunState) (c : ConnectionId) (k : KeptConnection) (b : Behind) : Type 0 where
+  pub meets : OpenStandsFor w c k b
   pub without_sending : model.due meets.connection ≡ due_without_sending meets.connection
 
 -- a slot is owed for a request that was taken
-pub record OwesRequest (farm : Farm) (w : RunState) (c : ConnectionId) (k : KeptConnection) (flights : Flights) (request : Request) : Type 0 where
+pub record OwesRequest (w : RunState) (c : ConnectionId) (k : KeptConnection) (b : Behind) (request : Request) : Type 0 where
   pub connection : Connection
   pub open_is : w.connection c ≡ Some connection
   pub due_is : model.due connection ≡ Treat (Whole request)
   pub owes : Owes k connection
-  pub flights_are : FlightsStandFor flights w
-  pub farm_is : w.farm ≡ farm
+  pub behind_is : BehindStandsFor b w
+  pub slicing_is : w.slicing ≡ None
 
 -- a slot is owed for a fault that was taken
-pub record OwesFault (farm : Farm) (w : RunState) (c : ConnectionId) (k : KeptConnection) (flights : Flights) (fault : InFault) : Type 0 where
+pub record OwesFault (w : RunState) (c : ConnectionId) (k : KeptConnection) (b : Behind) (fault : InFault) : Type 0 where
   pub connection : Connection
   pub open_is : w.connection c ≡ Some connection
   pub due_is : model.due connection ≡ Refuse fault
-  pub answers : QueueStandsFor k.answers connection
-  pub flights_are : FlightsStandFor flights w
-  pub farm_is : w.farm ≡ farm
+  pub answers : AnswersStandFor k connection
+  pub behind_is : BehindStandsFor b w
+  pub slicing_is : w.slicing ≡ None
 
--- in such an event the note gives what is owed, and where memory ran out for it it shows that
-abbrev pub GivesIn : Bool → RunState → ConnectionId → Note → Type 0
-GivesIn out_of_memory w c note = ((m : Conditions) → Allows out_of_memory m → GivesDue m w c (due_of_connection w c) note) × (IsTrue out_of_memory → ShowsOutOfMemory w note)
-
--- the same of notes, one after another, but for what they show
-abbrev pub ServesIn : Bool → RunState → ConnectionId → List Note → Type 0
-ServesIn out_of_memory w c notes = (m : Conditions) → Allows out_of_memory m → Serves m w c notes
-
--- the notes give all that is owed in such an event, and where memory ran out for one a note shows it
-abbrev pub SettlesIn : Bool → RunState → ConnectionId → List Note → Type 0
-SettlesIn out_of_memory w c notes = ((m : Conditions) → Allows out_of_memory m → Settles m w c notes) × ShowsIfOutOfMemory w (record { out_of_memory = out_of_memory }) notes
-
--- by its first point a request is answered so
-abbrev pub first_point : Bool → Bool → Bool → Answering
-first_point crowded admitted full = if crowded then Here 503 false else (if not admitted then Here 404 false else (if full then Here 503 false else InFlight))
-
--- the same, or 507 where there was no memory to find the point
-abbrev pub IsAnswering : Bool → Bool → Bool → Answering → Type 0
-IsAnswering crowded admitted full answering = (answering ≡ first_point crowded admitted full) ⊎ (answering ≡ Here insufficient_storage true)
+-- a request that was taken was treated so
+pub record TreatedAs (treated : Treated) (w : RunState) (c : ConnectionId) (k : KeptConnection) (old new : Behind) : Type 0 where
+  pub gives : GivesIn treated.conditions w c treated.note
+  pub cause : HasNoteCause old.faults new.faults treated.conditions w treated.note
+  pub meets : OpenAfterNote treated.slices (state_after_note w treated.note) c k new
 
 -- one note was given, or none is owed, or the connection's end is
-abbrev pub ServedAs : Served → Farm → RunState → ConnectionId → KeptConnection → Flights → Type 0
-ServedAs (Said note out_of_memory) farm w c k flights = GivesIn out_of_memory w c note × OpenStandsFor farm (state_after_note w note) c k flights
-ServedAs Quiet farm w c k flights = (due_of_connection w c ≡ Nothing) × OpenStandsFor farm w c k flights
-ServedAs Ended farm w c k flights = (due_of_connection w c ≡ Close) × OpenStandsFor farm w c k flights
+abbrev pub ServedAs : Served → RunState → ConnectionId → KeptConnection → Behind → Behind → Type 0
+ServedAs (Said note under) w c k old new = GivesIn under w c note × HasNoteCause old.faults new.faults under w note × OpenAfterNote false (state_after_note w note) c k new
+ServedAs (Begun note under) w c k old new = GivesIn under w c note × HasNoteCause old.faults new.faults under w note × OpenAfterNote true (state_after_note w note) c k new
+ServedAs Quiet w c k old new = (due_of_connection w c ≡ Nothing) × (new ≡ old) × OpenStandsFor w c k new
+ServedAs Ended w c k old new = (due_of_connection w c ≡ Close) × (new ≡ old) × OpenStandsFor w c k new
 
 -- less is owed after it, where a note was given
 abbrev pub IsLess : Served → ℕ → ℕ → Type 0
-IsLess (Said note out_of_memory) left before = left < before
+IsLess (Said note under) left before = left < before
+IsLess (Begun note under) left before = left < before
 IsLess Quiet left before = Unit {0}
 IsLess Ended left before = Unit {0}
 
+-- What notes show of what they ran under, while the disk's count of faults was this one and then that.
+pub record HaveCause (before after : ℕ) (under : Conditions) (w : RunState) (notes : List Note) : Type 0 where
+  pub disk : IsDiskFailure before after under.disk_failed
+  pub spoils : after < greatest_u64 → SpoilAtMost (after - before) w notes
+  pub shows : ShowsIfOutOfMemory w under notes
+
 -- these notes were given
-pub record NotesGiven (out_of_memory : Bool) (notes : List Note) (farm : Farm) (w : RunState) (c : ConnectionId) (k : KeptConnection) (flights : Flights) : Type 0 where
-  pub serves : ServesIn out_of_memory w c notes
-  pub shows : ShowsIfOutOfMemory w (record { out_of_memory = out_of_memory }) notes
-  pub meets : OpenStandsFor farm (state_after_notes w notes) c k flights
+pub record NotesGiven (under : Conditions) (notes : List Note) (w : RunState) (c : ConnectionId) (k : KeptConnection) (old new : Behind) : Type 0 where
+  pub serves : (m : Conditions) → Allows under m → Serves m w c notes
+  pub cause : HaveCause old.faults new.faults under w notes
+  pub meets : OpenStandsFor (state_after_notes w notes) c k new
 
 -- the end is owed, or nothing
 abbrev pub end_or_nothing : Bool → model.Due
 end_or_nothing over = if over then Close else Nothing
 
 -- all that is owed was given, but for the end
-pub record AllGiven (effect : Effect) (over : Bool) (farm : Farm) (w : RunState) (c : ConnectionId) (k : KeptConnection) (flights : Flights) : Type 0 where
-  pub given : NotesGiven effect.out_of_memory effect.notes.items farm w c k flights
+pub record AllGiven (effect : Effect) (over : Bool) (w : RunState) (c : ConnectionId) (k : KeptConnection) (old new : Behind) : Type 0 where
+  pub given : NotesGiven effect.conditions effect.notes.items w c k old new
   pub then_due : due_of_connection (state_after_notes w effect.notes.items) c ≡ end_or_nothing over
+
+-- the notes gave all that was owed
+pub record SettlesIn (under : Conditions) (w : RunState) (c : ConnectionId) (notes : List Note) (before after : ℕ) : Type 0 where
+  pub settles : (m : Conditions) → Allows under m → Settles m w c notes
+  pub cause : HaveCause before after under w notes
 
 -- ---- whole events
 
 -- the event of a step with these notes
 abbrev pub event_of : Step → Effect → List Turn → End → Event
-event_of step effect turns ends = record { step = step; body = effect.notes.items; conditions = record { out_of_memory = effect.out_of_memory }; turns = turns; ends = ends }
+event_of step effect turns ends = record { step = step; body = effect.notes.items; conditions = effect.conditions; turns = turns; ends = ends }
 
 -- what was brought about is an event of this step
-pub record IsEventOf (Stands : RunState → Type 0) (w : RunState) (step : Step) (effect : Effect) : Type 0 where
+pub record IsEventOf (Stands : RunState → Type 0) (w : RunState) (step : Step) (effect : Effect) (before after : ℕ) : Type 0 where
   pub turns : List Turn
   pub ends : End
   pub happens : HappensBy w (event_of step effect turns ends) step
-  pub shows : ShowsIfOutOfMemory (state_before_notes w (event_of step effect turns ends) step) (record { out_of_memory = effect.out_of_memory }) effect.notes.items
+  pub cause : HaveCause before after effect.conditions (state_before_notes w (event_of step effect turns ends) step) effect.notes.items
   pub stands : Stands (after_event w (event_of step effect turns ends))
 
 -- what was brought about is an event of this step, of each state that the board stood for
-abbrev pub BoardMakesEvent : Farm → Board → Board → Step → Effect → Type 0
-BoardMakesEvent farm old new step effect = (w : RunState) → BoardStandsFor farm old w → IsEventOf (BoardStandsFor farm new) w step effect
+abbrev pub BoardMakesEvent : BoardAt → BoardAt → Step → Effect → Type 0
+BoardMakesEvent old new step effect = (w : RunState) → BoardStandsFor old w → IsEventOf (BoardStandsFor new) w step effect old.faults new.faults
 
 -- the connection with this number has read the bytes, and the others are as before
 pub record ReadAt (old new : Board) (c : ConnectionId) (bytes : List ℕ) : Type 0 where
@@ -173,20 +175,19 @@ pub record ReadAt (old new : Board) (c : ConnectionId) (bytes : List ℕ) : Type
   pub after_is : get nat_cmp new.open_connections c ≡ Some after
   pub others : (q : ConnectionId) → q ≢ c → get nat_cmp new.open_connections q ≡ get nat_cmp old.open_connections q
   pub count : btree_map_len new.open_connections ≡ btree_map_len old.open_connections
-  pub flights : new.flights ≡ old.flights
+  pub cache : new.cache ≡ old.cache
   pub reads : (connection : Connection) → ConnectionStandsFor before connection → ConnectionReads bytes connection after
 
--- the flight is out of the air, and its connection doesn't have the answer yet
-pub record HasLanded (farm : Farm) (board : Board) (w v : RunState) (c : ConnectionId) (number : FlightId) (answer : Answer) : Type 0 where
-  pub farm_is : v.farm ≡ farm
-  pub open_connections : ConnectionsStandFor board.open_connections w
-  pub connection_is : v.connection ≡ update nat_eq w.connection c (option_map (with_landing number answer) (w.connection c))
-  pub count_is : v.connection_count ≡ w.connection_count
-  pub flights : FlightsStandFor board.flights v
+-- Something ended, or a slice left more to do: the cache is as it is after its note, and the connections don't have the response yet.
+pub record HasEnded (b : BoardAt) (w : RunState) (ended : EndedAs) (before : ℕ) : Type 0 where
+  pub open_connections : ConnectionsStandFor b.board.open_connections w
+  pub ending : IsEnding w ended before (behind_board b)
 
 -- after the first note the connection was given all that it is owed
-pub record FirstThen (first : Note) (farm : Farm) (v : RunState) (c : ConnectionId) (effect : Effect) (board : Board) : Type 0 where
+pub record FirstThen (ended : EndedAs) (w : RunState) (effect : Effect) (before : ℕ) (b : BoardAt) : Type 0 where
   pub rest : List Note
-  pub begins : effect.notes.items ≡ first ∷ rest
-  pub settles : SettlesIn effect.out_of_memory v c rest
-  pub board_is : BoardStandsFor farm board (state_after_notes v rest)
+  pub begins : effect.notes.items ≡ ended.note ∷ rest
+  pub settles : (m : Conditions) → Allows effect.conditions m → Settles m (state_after_note w ended.note) ended.connection rest
+  pub first : Allows ended.conditions effect.conditions
+  pub cause : HaveCause before b.faults effect.conditions w effect.notes.items
+  pub board_is : BoardStandsFor b (state_after_notes w effect.notes.items)

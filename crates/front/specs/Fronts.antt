@@ -1,27 +1,40 @@
--- What a front stands for: the states of a run that it may be in. (Of the theorem's reader this file is no concern.)
-use Rattle.std.specs.Prelude.{◌≡◌, Bool, true, false, Result, Ok, Err}
-use Rattle.resource_tree.specs.Content.{Content}
-use Rattle.any_config.specs.declared.farm.Farm.{Farm}
+-- What a front stands for: the state of a run. (Of the theorem's reader this file is no concern.)
+use Rattle.std.specs.Prelude.{◌≡◌, ℕ, Bool, true, false, List, ◌∷◌, Option, Some, None, Result, Ok, Err}
 use Rattle.sp_base.specs.declared.answer.Answer.{Answer}
-use Rattle.front.specs.declared.board.Board.{Board}
-use Rattle.front.specs.declared.step.Step.{Step}
-use Rattle.front.specs.declared.effect.Effect.{Effect}
-use Rattle.front.specs.Boards.{BoardStandsFor, IsEventOf}
+use Rattle.resource_tree.specs.Content.{Content}
+use Rattle.sp_outside.specs.Files.{Files}
+use Rattle.any_config.specs.declared.farm.Farm.{Farm}
+use Rattle.cache_log.specs.Entries.{LogEntry, Session}
+use Rattle.coherence_core.specs.Holds.{HoldsClosed, files_counted}
 use Rattle.connections.specs.Slots.{fixed_answer}
-use Rattle.front.specs.Publishers.{Publishing}
-use Rattle.front.specs.States.{RunState}
+use Rattle.run_events.specs.declared.step.Step.{Step}
+use Rattle.run_events.specs.Publishers.{Publishing}
+use Rattle.run_events.specs.States.{RunState, start_of}
+use Rattle.front.specs.declared.effect.Effect.{Effect}
+use Rattle.front.specs.Boards.{BoardAt, BoardStandsFor, IsEventOf}
 
--- the publisher and the farm are those of the state, and the board is what is left of it
-pub record FrontStandsFor (publishing : Publishing) (content : Content) (farm : Farm) (board : Board) (w : RunState) : Type 0 where
+-- The publisher and its content are those of the state, and the board before its disk is what is left of it.
+pub record FrontStandsFor (publishing : Publishing) (content : Content) (b : BoardAt) (w : RunState) : Type 0 where
   pub publishing_is : w.publishing ≡ publishing
   pub content_is : w.content ≡ content
-  pub board_is : BoardStandsFor farm board w
+  pub board_is : BoardStandsFor b w
+
+-- the epoch in which the session of a board began, as long as it hasn't restarted
+abbrev pub epoch_of_board : BoardAt → ℕ
+epoch_of_board b = b.board.cache.core.epoch
+
+-- Over files that hold a closed log, a front with this board and this content of its publisher stands for the state in which a run begins
+-- with that log and a new session, which found as many files as there were.
+abbrev pub BeginsRun : Publishing → Content → Farm → Option Files → BoardAt → Content → Type 0
+BeginsRun publishing content farm None b now = Unit {0}
+BeginsRun publishing content farm (Some files) b now =
+    (log : List LogEntry) → HoldsClosed farm files log → FrontStandsFor publishing now b (start_of (record { publishing = publishing; farm = farm; content = content; log = Session (epoch_of_board b) ∷ log; found = files_counted files }))
 
 -- what was brought about is an event of this step, of each state that was stood for
-abbrev pub MakesEvent : (RunState → Type 0) → (RunState → Type 0) → Step → Effect → Type 0
-MakesEvent Before After step effect = (w : RunState) → Before w → IsEventOf After w step effect
+abbrev pub MakesEvent : (Before After : RunState → Type 0) → Step → Effect → (before after : ℕ) → Type 0
+MakesEvent Before After step effect before after = (w : RunState) → Before w → IsEventOf After w step effect before after
 
--- the answer that was made, or in place of none the fixed one
+-- the answer that was made, or the fixed one where memory ran out
 abbrev pub IsGiven : {E : Type 0} → Result Answer E → Answer → Bool → Type 0
-IsGiven (Ok answer) given out_of_memory = (given ≡ answer) × (out_of_memory ≡ false)
-IsGiven (Err fault) given out_of_memory = (given ≡ fixed_answer) × (out_of_memory ≡ true)
+IsGiven (Ok made) answer out_of_memory = (answer ≡ made) × (out_of_memory ≡ false)
+IsGiven (Err fault) answer out_of_memory = (answer ≡ fixed_answer) × (out_of_memory ≡ true)

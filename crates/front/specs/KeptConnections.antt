@@ -42,8 +42,14 @@ pub record ReadsOn (k : KeptConnection) (c : Connection) : Type 0 where
   pub ends : c.ends ≡ end_of k.fault
   pub paired : IsPaired k.turns.items
 
+-- the peer and the answers that are kept are those of the connection
+pub record AnswersStandFor (k : KeptConnection) (c : Connection) : Type 0 where
+  pub peer_is : k.peer ≡ c.peer
+  pub answers : QueueStandsFor k.answers c
+
 -- what is kept stands for the connection, but that a 100 Continue may be owed
 pub record StandsForButContinue (k : KeptConnection) (c : Connection) : Type 0 where
+  pub peer_is : k.peer ≡ c.peer
   pub answers : QueueStandsFor k.answers c
   pub reads : c.closing ≡ false → ReadsOn k c
 
@@ -54,6 +60,7 @@ pub record ConnectionStandsFor (k : KeptConnection) (c : Connection) : Type 0 wh
 
 -- the same, but that a slot is owed for the turn that was taken
 pub record Owes (k : KeptConnection) (c : Connection) : Type 0 where
+  pub peer_is : k.peer ≡ c.peer
   pub answers : QueueStandsFor k.answers c
   pub told : StandsFor k.intake c.stream c.turns
   pub splits : Splits c.turns (length c.slots + 1) k.turns.items
@@ -89,13 +96,13 @@ begins_with_continue (Whole request ∷ turns) = false
 -- what was taken is what is due of the connection, and this is how what is kept then stands for it
 abbrev pub TakenAs : Taken → Connection → KeptConnection → Type 0
 TakenAs (Request request) c k = (due c ≡ Treat (Whole request)) × Owes k c
-TakenAs (Fault fault) c k = (due c ≡ Refuse fault) × QueueStandsFor k.answers c
+TakenAs (Fault fault) c k = (due c ≡ Refuse fault) × AnswersStandFor k c
 TakenAs Waiting c k = (due c ≡ Nothing) × ConnectionStandsFor k c
 TakenAs Over c k = (due c ≡ Close) × ConnectionStandsFor k c
 
 -- by how much less work is left after it
 abbrev pub taken_work : Taken → ℕ
-taken_work (Request request) = 2
+taken_work (Request request) = 3
 taken_work (Fault fault) = 2
 taken_work Waiting = 0
 taken_work Over = 0
@@ -107,4 +114,4 @@ fault_work (Some fault) = 2
 
 -- at most how many notes the connection can still give
 abbrev pub work_of : KeptConnection → ℕ
-work_of k = unsent_count k.answers + 2 * length k.turns.items + fault_work k.fault
+work_of k = unsent_count k.answers + 3 * length k.turns.items + fault_work k.fault

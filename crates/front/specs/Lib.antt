@@ -1,12 +1,6 @@
-pub mod Publishers
-pub mod States
-pub mod Moves
-pub mod Events
-pub mod Histories
-pub mod Cuttings
-pub mod Renders
-pub mod Owned
-pub mod Determined
 pub mod KeptConnections
+pub mod Caches
 pub mod Boards
+pub mod Serving
+pub mod Restarts
 pub mod Fronts

@@ -1,7 +1,7 @@
 //! What the publisher is asked for a target, and the answer where no memory was there for its own.
 ghost use Rattle.std.specs.Prelude.{◌≡◌, IfOk};
 ghost use Rattle.connections.specs.Slots.{fixed_answer as fixed};
-ghost use Rattle.front.specs.Publishers as spec;
+ghost use Rattle.run_events.specs.Publishers as spec;
 
 use any_config::Farm;
 use http_front::{INSUFFICIENT_STORAGE, Target};

@@ -1,84 +1,71 @@
-//! The connections and the flights of a front.
-ghost use Rattle.std.specs.Prelude.{◌≡◌, ◌==◌, ℕ, List, Option, IfOk, IsTrue, false, None, [], if◌then◌else◌, is_some};
+//! The connections of a front, before what is behind them.
+ghost use Rattle.std.specs.Prelude.{◌≡◌, ◌==◌, ℕ, Option, IfOk, IsTrue, false, None, if◌then◌else◌, is_some};
 ghost use Rattle.std.specs.BTreeMap.{btree_map_len, get};
 ghost use Rattle.std.specs.Option.{option_map};
 ghost use Rattle.std.specs.Ordering.{nat_cmp};
-ghost use Rattle.sp_base.specs.declared.answer.Answer as models;
-ghost use Rattle.connections.specs.Slots.{Says};
-ghost use Rattle.connections.specs.AnswerQueues.{ReplyStandsFor};
+ghost use Rattle.sp_outside.specs.Files.{Files};
+ghost use Rattle.connections.specs.Slots.{Response};
 ghost use Rattle.connections.specs.Connections as model;
-ghost use Rattle.connections.specs.Connections.{with_landing};
-ghost use Rattle.front.specs.Boards.{BoardMakesEvent, BoardStandsFor, FirstThen, HasLanded, EntryStandsFor, ReadAt, SettlesIn};
-ghost use Rattle.front.specs.declared.step.Step.TheVariants.{Opened, Piece, Gone, Deliver, Lose};
-ghost use Rattle.front.specs.Moves.{state_after_notes};
-ghost use Rattle.front.specs.States.{RunState};
+ghost use Rattle.run_events.specs.declared.step.Step.TheVariants.{Opened, Piece, Gone, Deliver, Lose, Purge};
+ghost use Rattle.run_events.specs.Moves.{state_after_notes};
+ghost use Rattle.run_events.specs.States.{RunState};
+ghost use Rattle.front.specs.Boards.{BoardMakesEvent, BoardStandsFor, EntryStandsFor, FirstThen, HasEnded, ReadAt, SettlesIn, at_disk};
+ghost use Rattle.front.specs.Caches.{RepliesFor, with_end_if};
 
+use crate::answered::{Ended, with_memory};
+use crate::cache::Cache;
 use crate::connection::Connection;
 use crate::effect::Effect;
-use crate::flights::Flights;
-use crate::flying::Flying;
-use crate::note::Note;
 use crate::serve::{AllServed, serve_all};
-use crate::step::Pick;
-use any_config::Farm;
-use connections::{ConnectionId, FlightId, Reply};
-use sp_base::{ByteBuf, Mem};
+use connections::{Awaited, ConnectionId, Reply};
+use run_events::{Note, Pick};
+use sp_base::{ByteBuf, Mem, TextBuf};
+use sp_outside::Disk;
 use std::alloc::Global;
 use std::collections::BTreeMap;
 
 const MOST_CONNECTIONS: usize = 256;
 
-/// The open connections by number, and the flights.
-#[derive(Drop)]
+/// The open connections by number, and what is behind them.
 pub(crate) struct Board {
     pub(crate) open_connections: BTreeMap<ConnectionId, Connection>,
-    pub(crate) flights: Flights,
+    pub(crate) cache: Cache,
 }
 
 impl Board {
-    pub(crate) fn new(alloc: Global) -> Board
-        ensures open_connections { btree_map_len result.open_connections ≡ 0 }
-        ensures each { (c : ℕ) → get nat_cmp result.open_connections c ≡ None }
-        ensures flights { (result.flights.flying.items ≡ []) × (result.flights.asked ≡ 0) }
-    {
-        Board {
-            open_connections: BTreeMap::new(alloc),
-            flights: Flights::new(alloc),
-        }
-    }
-
     // Gives a connection all that it is owed.
-    fn settle(&mut self, alloc: Global, farm: &Farm, c: ConnectionId) -> Mem<Effect>
-        ensures { IfOk result (λ effect. (w : RunState) → BoardStandsFor farm.now self.old w → SettlesIn effect.out_of_memory w c effect.notes.items × BoardStandsFor farm.now self.new (state_after_notes w effect.notes.items)) }
+    fn settle<D: Disk>(&mut self, alloc: Global, disk: &mut D, c: ConnectionId) -> Mem<Effect>
+        ensures { IfOk result (λ effect. (w : RunState) → BoardStandsFor (at_disk self.old (D.files disk.old) (D.faults disk.old)) w → SettlesIn effect.conditions w c effect.notes.items (D.faults disk.old) (D.faults disk.new) × BoardStandsFor (at_disk self.new (D.files disk.new) (D.faults disk.new)) (state_after_notes w effect.notes.items)) }
     {
         let Some(connection) = self.open_connections.get_mut(&c) else {
             return Ok(Effect::nothing(alloc));
         };
         let AllServed { mut effect, over } = serve_all(
             alloc,
-            farm,
+            disk,
             c,
             connection,
-            &mut self.flights,
+            &mut self.cache,
         )?;
         if over {
             self.open_connections.remove(&c);
-            effect.push(Note::Shut(c), false)?;
+            effect.push(Note::Shut(c), with_memory(false))?;
         }
         Ok(effect)
     }
 
     /// A connection is there, where there is room for it.
-    pub(crate) fn open(&mut self, alloc: Global, c: ConnectionId) -> Mem<Effect>
-        ensures { IfOk result (λ effect. (farm : Farm) (peer : List ℕ) → BoardMakesEvent farm self.old self.new (Opened c peer) effect) }
+    pub(crate) fn open(&mut self, alloc: Global, c: ConnectionId, peer: &TextBuf) -> Mem<Effect>
+        ensures { IfOk result (λ effect. (files : Option Files) (faults : ℕ) → BoardMakesEvent (at_disk self.old files faults) (at_disk self.new files faults) (Opened c peer.now) effect) }
     {
         if self.open_connections.contains_key(&c) {
-            return Effect::one(alloc, Note::Idle, false);
+            return Effect::idle(alloc);
         }
         if self.open_connections.len() >= MOST_CONNECTIONS {
-            return Effect::one(alloc, Note::Refused(c), false);
+            return Effect::one(alloc, Note::Refused(c), with_memory(false));
         }
-        self.open_connections.insert(c, Connection::new(alloc)?)?;
+        self.open_connections
+            .insert(c, Connection::new(alloc, peer)?)?;
         Ok(Effect::nothing(alloc))
     }
 
@@ -96,110 +83,96 @@ impl Board {
     }
 
     /// Bytes come on a connection.
-    pub(crate) fn take_piece(
+    pub(crate) fn take_piece<D: Disk>(
         &mut self,
         alloc: Global,
-        farm: &Farm,
+        disk: &mut D,
         c: ConnectionId,
         bytes: &ByteBuf,
     ) -> Mem<Effect>
-        ensures { IfOk result (λ effect. BoardMakesEvent farm.now self.old self.new (Piece c bytes.now) effect) }
+        ensures { IfOk result (λ effect. BoardMakesEvent (at_disk self.old (D.files disk.old) (D.faults disk.old)) (at_disk self.new (D.files disk.new) (D.faults disk.new)) (Piece c bytes.now) effect) }
     {
         if !self.read(alloc, c, bytes.bytes())? {
-            return Effect::one(alloc, Note::Idle, false);
+            return Effect::idle(alloc);
         }
-        let effect = self.settle(alloc, farm, c)?;
+        let effect = self.settle(alloc, disk, c)?;
         Ok(effect)
     }
 
     /// A connection is gone.
     pub(crate) fn close(&mut self, alloc: Global, c: ConnectionId) -> Mem<Effect>
-        ensures { IfOk result (λ effect. (farm : Farm) → BoardMakesEvent farm self.old self.new (Gone c) effect) }
+        ensures { IfOk result (λ effect. (files : Option Files) (faults : ℕ) → BoardMakesEvent (at_disk self.old files faults) (at_disk self.new files faults) (Gone c) effect) }
     {
         if !self.open_connections.contains_key(&c) {
-            return Effect::one(alloc, Note::Idle, false);
+            return Effect::idle(alloc);
         }
         self.open_connections.remove(&c);
         Ok(Effect::nothing(alloc))
     }
 
-    // Gives a connection the answer of a flight, if it is there.
-    fn fill(&mut self, c: ConnectionId, number: FlightId, reply: Reply)
-        ensures connection { (q : ℕ) (o : Option model.Connection) (answer : models.Answer) → ReplyStandsFor reply (Says answer) → EntryStandsFor (get nat_cmp self.old.open_connections q) o → EntryStandsFor (get nat_cmp self.new.open_connections q) (if q == c then option_map (with_landing number answer) o else o) }
+    // Gives a connection what it waited for, if it is there.
+    fn fill(&mut self, c: ConnectionId, awaited: Awaited, reply: Option<Reply>)
+        ensures connection { (q : ℕ) (o : Option model.Connection) (response : Option Response) → RepliesFor reply response → EntryStandsFor (get nat_cmp self.old.open_connections q) o → EntryStandsFor (get nat_cmp self.new.open_connections q) (if q == c then option_map (with_end_if awaited response) o else o) }
         ensures count { btree_map_len self.new.open_connections ≡ btree_map_len self.old.open_connections }
-        ensures flights { self.new.flights ≡ self.old.flights }
+        ensures cache { self.new.cache ≡ self.old.cache }
     {
         if let Some(connection) = self.open_connections.get_mut(&c) {
-            connection.fill(number, reply);
+            connection.end_wait(awaited, reply);
         }
     }
 
-    // Gives a connection the answer of a flight, and then all that it is owed.
-    fn finish(
-        &mut self,
-        alloc: Global,
-        farm: &Farm,
-        first: Note,
-        c: ConnectionId,
-        number: FlightId,
-        reply: Reply,
-    ) -> Mem<Effect>
-        ensures { IfOk result (λ effect. (w v : RunState) (answer : models.Answer) → ReplyStandsFor reply (Says answer) → HasLanded farm.now self.old w v c number answer → FirstThen first farm.now v c effect self.new) }
+    // Gives a connection what it waited for, and then all that it is owed.
+    fn finish<D: Disk>(&mut self, alloc: Global, disk: &mut D, ended: Ended) -> Mem<Effect>
+        ensures { IfOk result (λ effect. (w : RunState) (before : ℕ) → HasEnded (at_disk self.old (D.files disk.old) (D.faults disk.old)) w ended before → FirstThen ended w effect before (at_disk self.new (D.files disk.new) (D.faults disk.new))) }
     {
-        self.fill(c, number, reply);
-        let effect = self.settle(alloc, farm, c)?;
-        let effect = effect.preceded_by(alloc, first)?;
+        let Ended {
+            note,
+            conditions,
+            connection,
+            awaited,
+            reply,
+        } = ended;
+        self.fill(connection, awaited, reply);
+        let effect = self.settle(alloc, disk, connection)?;
+        let effect = effect.preceded_by(alloc, note, conditions)?;
         Ok(effect)
     }
 
     /// A rendered flight lands.
-    pub(crate) fn deliver(&mut self, alloc: Global, farm: &Farm, pick: &Pick) -> Mem<Effect>
-        ensures { IfOk result (λ effect. BoardMakesEvent farm.now self.old self.new (Deliver pick.now) effect) }
+    pub(crate) fn deliver<D: Disk>(
+        &mut self,
+        alloc: Global,
+        disk: &mut D,
+        pick: &Pick,
+    ) -> Mem<Effect>
+        ensures { IfOk result (λ effect. BoardMakesEvent (at_disk self.old (D.files disk.old) (D.faults disk.old)) (at_disk self.new (D.files disk.new) (D.faults disk.new)) (Deliver pick.now) effect) }
     {
-        let Some(at) = self.flights.first_rendered(pick) else {
-            return Effect::one(alloc, Note::Idle, false);
+        let Some(ended) = self.cache.deliver(alloc, disk, pick) else {
+            return Effect::idle(alloc);
         };
-        let Flying {
-            number,
-            connection,
-            request: _,
-            rendered,
-        } = self.flights.land(at);
-        let Some(answer) = rendered else {
-            unreachable!();
-        };
-        let effect = self.finish(
-            alloc,
-            farm,
-            Note::Passed(number),
-            connection,
-            number,
-            Reply::Says(answer),
-        )?;
+        let effect = self.finish(alloc, disk, ended)?;
         Ok(effect)
     }
 
     /// A flight is lost.
-    pub(crate) fn lose(&mut self, alloc: Global, farm: &Farm, pick: &Pick) -> Mem<Effect>
-        ensures { IfOk result (λ effect. BoardMakesEvent farm.now self.old self.new (Lose pick.now) effect) }
+    pub(crate) fn lose<D: Disk>(&mut self, alloc: Global, disk: &mut D, pick: &Pick) -> Mem<Effect>
+        ensures { IfOk result (λ effect. BoardMakesEvent (at_disk self.old (D.files disk.old) (D.faults disk.old)) (at_disk self.new (D.files disk.new) (D.faults disk.new)) (Lose pick.now) effect) }
     {
-        let Some(at) = self.flights.first_picked(pick) else {
-            return Effect::one(alloc, Note::Idle, false);
+        let Some(ended) = self.cache.lose(pick) else {
+            return Effect::idle(alloc);
         };
-        let Flying {
-            number,
-            connection,
-            request: _,
-            rendered: _,
-        } = self.flights.land(at);
-        let effect = self.finish(
-            alloc,
-            farm,
-            Note::Lost(number),
-            connection,
-            number,
-            Reply::Own(502),
-        )?;
+        let effect = self.finish(alloc, disk, ended)?;
+        Ok(effect)
+    }
+
+    /// The oldest unfinished flush gets a slice.
+    pub(crate) fn purge<D: Disk>(&mut self, alloc: Global, disk: &mut D) -> Mem<Effect>
+        ensures { IfOk result (λ effect. BoardMakesEvent (at_disk self.old (D.files disk.old) (D.faults disk.old)) (at_disk self.new (D.files disk.new) (D.faults disk.new)) Purge effect) }
+    {
+        let Some(ended) = self.cache.slice(alloc, disk) else {
+            return Effect::idle(alloc);
+        };
+        let effect = self.finish(alloc, disk, ended)?;
         Ok(effect)
     }
 }

@@ -1,25 +1,27 @@
 //! One connection, as the front keeps it.
-ghost use Rattle.std.specs.Prelude.{◌≡◌, ◌≢◌, ◌+◌, ◌≤◌, ◌<◌, ℕ, List, true, false, IsTrue, IfSome, IfNone, IfOk, OnOk, OnSome};
+ghost use Rattle.std.specs.Prelude.{◌≡◌, ◌≢◌, ◌+◌, ◌≤◌, ◌<◌, ℕ, List, Option, true, false, IsTrue, IfSome, IfNone, IfOk, OnOk, OnSome};
 ghost use Rattle.http_front.specs.declared.fault.InFault.TheVariants as variant;
 ghost use Rattle.http_front.specs.declared.turn.Turn.{Turn};
-ghost use Rattle.sp_base.specs.declared.answer.Answer as models;
-ghost use Rattle.connections.specs.Slots.{Says, Slot};
+ghost use Rattle.connections.specs.Slots.{Response, Slot};
 ghost use Rattle.connections.specs.Connections as model;
-ghost use Rattle.connections.specs.Connections.{IsInPlaceOfDue, with_due_continue, due, due_without_sending, fresh, with_landing, with_sent, with_slot};
+ghost use Rattle.connections.specs.Connections.{IsInPlaceOfDue, with_due_continue, due, due_without_sending, fresh, with_end, with_sent, with_slot};
 ghost use Rattle.connections.specs.Histories.{IsDueSending};
 ghost use Rattle.connections.specs.AnswerQueues.{PlaceStandsFor, ReplyStandsFor, QueueStandsFor};
+ghost use Rattle.front.specs.Caches.{RepliesFor, with_end_if};
 ghost use Rattle.front.specs.KeptConnections as kept;
-ghost use Rattle.front.specs.KeptConnections.{ConnectionStandsFor, StandsForButContinue, Owes, ConnectionReads, TakenAs, TellsTurns, taken_work, work_of};
+ghost use Rattle.front.specs.KeptConnections.{AnswersStandFor, ConnectionStandsFor, StandsForButContinue, Owes, ConnectionReads, TakenAs, TellsTurns, taken_work, work_of};
 
-use connections::{AnswerPlace, AnswerQueue, FlightId, Reply, Sending};
+use connections::{AnswerPlace, AnswerQueue, Awaited, Reply, Sending};
 use http_front::{InFault, Intake, Turn};
-use sp_base::{Mem, NoMemory, Req};
+use sp_base::{Mem, NoMemory, Req, TextBuf};
 use std::alloc::Global;
 use std::collections::VecDeque;
 
-/// A connection: the bytes that no turn has taken, the turns that have no slot yet, how they end, and the answers that are owed.
+/// A connection: the address of its client, the bytes that no turn has taken, the turns that have no slot yet, how they end, and the
+/// answers that are owed.
 #[derive(Drop)]
 pub(crate) struct Connection {
+    peer: TextBuf,
     intake: Intake,
     turns: VecDeque<Turn>,
     // The stream is read no further, and why, unless that is answered already.
@@ -39,16 +41,23 @@ pub(crate) enum Taken {
 }
 
 impl Connection {
-    /// A connection of which nothing came.
-    pub(crate) fn new(alloc: Global) -> Mem<Connection>
-        ensures { IfOk result (λ connection. (peer : List ℕ) → ConnectionStandsFor connection (fresh peer)) }
+    /// A connection of this client, of which nothing came.
+    pub(crate) fn new(alloc: Global, peer: &TextBuf) -> Mem<Connection>
+        ensures { IfOk result (λ connection. ConnectionStandsFor connection (fresh peer.now)) }
     {
         Ok(Connection {
+            peer: peer.duplicate(alloc)?,
             intake: Intake::new(alloc)?,
             turns: VecDeque::new(alloc),
             fault: None,
             answers: AnswerQueue::new(alloc)?,
         })
+    }
+
+    pub(crate) fn peer(&self) -> &TextBuf
+        ensures { result.now ≡ self.now.peer }
+    {
+        &self.peer
     }
 
     /// Takes the next bytes of its stream, unless that is read no further.
@@ -116,7 +125,7 @@ impl Connection {
     /// Gives the turn that was taken its place.
     pub(crate) fn push(&mut self, place: AnswerPlace) -> Mem<()>
         ensures request { OnOk result ((c : model.Connection) (slot : Slot) → PlaceStandsFor place slot → Owes self.old c → ConnectionStandsFor self.new (with_due_continue (with_slot slot c))) }
-        ensures fault { OnOk result ((c : model.Connection) (slot : Slot) → PlaceStandsFor place slot → slot.closes ≡ true → QueueStandsFor self.old.answers c → ConnectionStandsFor self.new (with_due_continue (with_slot slot c))) }
+        ensures fault { OnOk result ((c : model.Connection) (slot : Slot) → PlaceStandsFor place slot → slot.closes ≡ true → AnswersStandFor self.old c → ConnectionStandsFor self.new (with_due_continue (with_slot slot c))) }
         ensures work { OnOk result (work_of self.new ≤ work_of self.old + 1) }
     {
         self.answers.push(place)?;
@@ -124,11 +133,22 @@ impl Connection {
         Ok(())
     }
 
-    /// Gives the slot that awaits this flight its answer.
-    pub(crate) fn fill(&mut self, flight: FlightId, reply: Reply)
-        ensures { (c : model.Connection) (answer : models.Answer) → ReplyStandsFor reply (Says answer) → ConnectionStandsFor self.old c → ConnectionStandsFor self.new (with_landing flight answer c) }
+    /// Gives the slot that awaits this flight, or the end of this flush, its reply.
+    pub(crate) fn fill(&mut self, awaited: Awaited, reply: Reply)
+        ensures filled { (c : model.Connection) (response : Response) → ReplyStandsFor reply response → ConnectionStandsFor self.old c → ConnectionStandsFor self.new (with_end awaited response c) }
+        ensures work { work_of self.new ≡ work_of self.old }
     {
-        self.answers.fill(flight, reply);
+        self.answers.fill(awaited, reply);
+    }
+
+    /// The same of what may go on: without a reply the slot waits on.
+    pub(crate) fn end_wait(&mut self, awaited: Awaited, reply: Option<Reply>)
+        ensures filled { (c : model.Connection) (response : Option Response) → RepliesFor reply response → ConnectionStandsFor self.old c → ConnectionStandsFor self.new (with_end_if awaited response c) }
+        ensures work { work_of self.new ≡ work_of self.old }
+    {
+        if let Some(reply) = reply {
+            self.fill(awaited, reply);
+        }
     }
 
     pub(crate) fn is_crowded(&self) -> bool

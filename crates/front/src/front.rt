@@ -1,32 +1,39 @@
 //! The front: one call for each step.
-ghost use Rattle.std.specs.Prelude.{◌≡◌, ◌≢◌, ◌<◌, IfOk, OnOk, OnErr, Some, length, slice_get};
-ghost use Rattle.front.specs.declared.step.Step.TheVariants.{Direct, Render};
-ghost use Rattle.front.specs.Events.{Extends};
-ghost use Rattle.front.specs.Fronts.{IsGiven, FrontStandsFor, MakesEvent};
+ghost use Rattle.std.specs.Prelude.{◌≡◌, ◌≢◌, ◌<◌, false, ℕ, Option, Ok, Err, IfErr, IfOk, IfSome, IsTrue, OnErr, OnOk, Some, length, slice_get};
+ghost use Rattle.sp_outside.specs.Files.{Files};
+ghost use Rattle.sp_base.specs.MediaTypes.{is_kind};
+ghost use Rattle.cache_files.specs.declared.epoch.OpenFault.TheVariants as fault;
+ghost use Rattle.cache_files.specs.Epochs.{HasOpenCause, next_epoch};
+ghost use Rattle.docroot_changes.specs.Changes.{Told};
+ghost use Rattle.coherence_core.specs.Sessions.{KeepsHolds};
 ghost use Rattle.dispatch_rules.specs.Asking.{publisher_ask};
 ghost use Rattle.http_front.specs.Faults.{insufficient_storage};
-ghost use Rattle.front.specs.Publishers.{direct_answer};
-ghost use Rattle.front.specs.States.{start_of};
+ghost use Rattle.run_events.specs.declared.flying.Flying as model;
+ghost use Rattle.run_events.specs.declared.step.Step.TheVariants.{Direct, Render};
+ghost use Rattle.run_events.specs.Events.{Extends};
+ghost use Rattle.run_events.specs.Publishers.{direct_answer};
+ghost use Rattle.front.specs.Boards.{at_disk};
+ghost use Rattle.front.specs.Fronts.{BeginsRun, epoch_of_board, FrontStandsFor, IsGiven, MakesEvent};
 
 use crate::asking::{fixed_answer, get_of, shared};
 use crate::board::Board;
+use crate::cache::Cache;
 use crate::effect::Effect;
-use crate::flying::Flying;
-use crate::note::{Note, NoteList};
 use crate::renderer::Renderer;
-use crate::step::{Pick, Step};
 use any_config::Farm;
-use dispatch_rules::ask_of;
+use cache_files::OpenFault;
+use coherence_core::the_files_hold_what_stands;
 use error_answers::error_answer;
 use http_front::read_target;
+use run_events::{Conditions, Note, NoteList, Pick, Step};
 use sp_base::{Answer, Mem};
+use sp_outside::Disk;
 use std::alloc::Global;
+use std::collections::BTreeMap;
 
-/// Connections before a publisher, the farm that admits their requests, and the flights between them.
-#[derive(Drop)]
+/// Connections before a cache before a publisher. It holds tickets of flights, so it can't be dropped: `end` gives it up.
 pub struct Front<R: Renderer + Drop> {
     renderer: R,
-    farm: Farm,
     board: Board,
 }
 
@@ -38,56 +45,89 @@ pub(crate) struct OrFixed {
 }
 
 impl<R: Renderer + Drop> Front<R> {
-    /// A front without a connection.
-    pub fn new(alloc: Global, renderer: R, farm: Farm) -> Self
-        ensures { FrontStandsFor R.publishing (R.content result.renderer) result.farm result.board (start_of (record { publishing = R.publishing; farm = farm; content = R.content renderer })) }
+    /// A front without a connection, whose cache begins a session over the files of the disk. Over files that hold a closed log it stands
+    /// for the state in which a run begins with that log and the session.
+    pub fn new<D: Disk>(
+        alloc: Global,
+        renderer: R,
+        farm: Farm,
+        disk: &mut D,
+    ) -> Result<Self, OpenFault>
+        ensures stands { IfOk result (λ front. BeginsRun R.publishing (R.content renderer) farm (D.files disk.old) (at_disk front.board (D.files disk.new) (D.faults disk.new)) (R.content front.renderer)) }
+        ensures left { IfErr result (λ fault. Told (KeepsHolds farm) (D.files disk.old) (D.files disk.new)) }
+        ensures err { IfErr result (λ e. e ≢ fault.NoMemory → e ≢ fault.Disk → IfSome (D.files disk.old) (λ files. next_epoch files ≡ Err e)) }
+        ensures epoch { IfOk result (λ front. IfSome (D.files disk.old) (λ files. next_epoch files ≡ Ok (epoch_of_board (at_disk front.board (D.files disk.new) (D.faults disk.new))))) }
+        ensures cause { HasOpenCause (D.faults disk.old) (D.faults disk.new) result }
     {
-        Front {
+        let cache = Cache::start(alloc, farm, disk)?;
+        Ok(Front {
             renderer,
-            farm,
-            board: Board::new(alloc),
-        }
+            board: Board {
+                open_connections: BTreeMap::new(alloc),
+                cache,
+            },
+        })
     }
 
     /// One step, with what happens in it: its event. An `Err` ends the run.
-    pub fn step(&mut self, alloc: Global, step: &Step) -> Mem<NoteList>
-        ensures { IfOk result (λ notes. Extends (FrontStandsFor R.publishing (R.content self.old.renderer) self.old.farm self.old.board) (FrontStandsFor R.publishing (R.content self.new.renderer) self.new.farm self.new.board) step.now notes) }
+    pub fn step<D: Disk>(&mut self, alloc: Global, disk: &mut D, step: &Step) -> Mem<NoteList>
+        ensures { IfOk result (λ notes. Extends (FrontStandsFor R.publishing (R.content self.old.renderer) (at_disk self.old.board (D.files disk.old) (D.faults disk.old))) (FrontStandsFor R.publishing (R.content self.new.renderer) (at_disk self.new.board (D.files disk.new) (D.faults disk.new))) (D.faults disk.old) (D.faults disk.new) step.now notes) }
     {
-        let effect = self.take_step(alloc, step)?;
+        the_files_hold_what_stands();
+        let effect = self.take_step(alloc, disk, step)?;
         let notes = effect.into_notes()?;
         Ok(notes)
     }
 
-    fn take_step(&mut self, alloc: Global, step: &Step) -> Mem<Effect>
-        ensures { IfOk result (λ effect. MakesEvent (FrontStandsFor R.publishing (R.content self.old.renderer) self.old.farm self.old.board) (FrontStandsFor R.publishing (R.content self.new.renderer) self.new.farm self.new.board) step.now effect) }
+    /// Loses each flight in the air, and gives the front up. Its publisher is given back.
+    pub fn end(self) -> R
+        ensures { result ≡ self.renderer }
+    {
+        let Front { renderer, board } = self;
+        let Board {
+            open_connections: _,
+            cache,
+        } = board;
+        cache.end();
+        renderer
+    }
+
+    fn take_step<D: Disk>(&mut self, alloc: Global, disk: &mut D, step: &Step) -> Mem<Effect>
+        ensures { IfOk result (λ effect. MakesEvent (FrontStandsFor R.publishing (R.content self.old.renderer) (at_disk self.old.board (D.files disk.old) (D.faults disk.old))) (FrontStandsFor R.publishing (R.content self.new.renderer) (at_disk self.new.board (D.files disk.new) (D.faults disk.new))) step.now effect (D.faults disk.old) (D.faults disk.new)) }
     {
         match step {
-            Step::Opened(c, _) => self.board.open(alloc, *c),
-            Step::Piece(c, bytes) => self.board.take_piece(alloc, &self.farm, *c, bytes),
+            Step::Opened(c, peer) => self.board.open(alloc, *c, peer),
+            Step::Piece(c, bytes) => self.board.take_piece(alloc, disk, *c, bytes),
             Step::Gone(c) => self.board.close(alloc, *c),
             Step::Direct(target) => self.answer_directly(alloc, target.text()),
             Step::Render(pick) => self.render(alloc, pick),
-            Step::Deliver(pick) => self.board.deliver(alloc, &self.farm, pick),
-            Step::Lose(pick) => self.board.lose(alloc, &self.farm, pick),
+            Step::Deliver(pick) => self.board.deliver(alloc, disk, pick),
+            Step::Lose(pick) => self.board.lose(alloc, disk, pick),
+            Step::Purge => self.board.purge(alloc, disk),
+            Step::Restart => self.board.restart(alloc, disk),
         }
     }
 
     fn answer_directly(&mut self, alloc: Global, target: &str) -> Mem<Effect>
-        ensures { IfOk result (λ effect. MakesEvent (FrontStandsFor R.publishing (R.content self.old.renderer) self.old.farm self.old.board) (FrontStandsFor R.publishing (R.content self.new.renderer) self.new.farm self.new.board) (Direct target.now) effect) }
+        ensures { IfOk result (λ effect. (files : Option Files) (faults : ℕ) → MakesEvent (FrontStandsFor R.publishing (R.content self.old.renderer) (at_disk self.old.board files faults)) (FrontStandsFor R.publishing (R.content self.new.renderer) (at_disk self.new.board files faults)) (Direct target.now) effect faults faults) }
     {
         let answer = self.answer_target(alloc, target);
         let OrFixed {
             answer,
             out_of_memory,
         } = or_fixed(alloc, answer);
-        Effect::one(alloc, Note::Answer(answer), out_of_memory)
+        Effect::one(
+            alloc,
+            Note::Answer(answer),
+            if_memory_ran_out(out_of_memory),
+        )
     }
 
     fn render(&mut self, alloc: Global, pick: &Pick) -> Mem<Effect>
-        ensures { IfOk result (λ effect. MakesEvent (FrontStandsFor R.publishing (R.content self.old.renderer) self.old.farm self.old.board) (FrontStandsFor R.publishing (R.content self.new.renderer) self.new.farm self.new.board) (Render pick.now) effect) }
+        ensures { IfOk result (λ effect. (files : Option Files) (faults : ℕ) → MakesEvent (FrontStandsFor R.publishing (R.content self.old.renderer) (at_disk self.old.board files faults)) (FrontStandsFor R.publishing (R.content self.new.renderer) (at_disk self.new.board files faults)) (Render pick.now) effect faults faults) }
     {
-        let Some(at) = self.board.flights.first_unrendered(pick) else {
-            return Effect::one(alloc, Note::Idle, false);
+        let Some(at) = self.board.cache.first_unrendered(pick) else {
+            return Effect::idle(alloc);
         };
         let answer = self.answer_flight(alloc, at);
         let OrFixed {
@@ -96,36 +136,39 @@ impl<R: Renderer + Drop> Front<R> {
         } = or_fixed(alloc, answer);
         let mut answer = answer;
         let copy = shared(alloc, &mut answer)?;
-        let number = self.board.flights.render(at, copy);
-        Effect::one(alloc, Note::Rendered(number, answer), out_of_memory)
+        let number = self.board.cache.render(at, copy);
+        Effect::one(
+            alloc,
+            Note::Rendered(number, answer),
+            if_memory_ran_out(out_of_memory),
+        )
     }
 
     // The publisher's answer to a target.
     fn answer_target(&mut self, alloc: Global, target: &str) -> Mem<Answer>
-        ensures ok { IfOk result (λ a. a ≡ direct_answer R.publishing self.old.farm (R.content self.old.renderer) target.now) }
+        ensures ok { IfOk result (λ a. a ≡ direct_answer R.publishing self.old.board.cache.core.farm (R.content self.old.renderer) target.now) }
         ensures content { R.content self.new.renderer ≡ R.content self.old.renderer }
-        ensures farm { self.new.farm ≡ self.old.farm }
         ensures board { self.new.board ≡ self.old.board }
     {
         match read_target(alloc, target)? {
             Some(target) => self
                 .renderer
-                .render(alloc, &get_of(alloc, &self.farm, target)?),
+                .render(alloc, &get_of(alloc, self.board.cache.farm(), target)?),
             None => error_answer(alloc, 400),
         }
     }
 
     // The publisher's answer to the request of the flight that stands there.
     fn answer_flight(&mut self, alloc: Global, at: usize) -> Mem<Answer>
-        requires { at < length self.old.board.flights.flying.items }
-        ensures ok { IfOk result (λ a. (flying : Flying) → slice_get self.old.board.flights.flying.items at ≡ Some flying → a ≡ (R.publishing (R.content self.old.renderer) (publisher_ask self.old.farm flying.request)).answer) }
-        ensures after { OnOk result ((flying : Flying) → slice_get self.old.board.flights.flying.items at ≡ Some flying → R.content self.new.renderer ≡ (R.publishing (R.content self.old.renderer) (publisher_ask self.old.farm flying.request)).content) }
+        requires { at < length self.old.board.cache.flying }
+        ensures ok { IfOk result (λ a. (flying : model.Flying) → slice_get self.old.board.cache.flying at ≡ Some flying → a ≡ (R.publishing (R.content self.old.renderer) (publisher_ask self.old.board.cache.core.farm flying.request)).answer) }
+        ensures after { OnOk result ((flying : model.Flying) → slice_get self.old.board.cache.flying at ≡ Some flying → R.content self.new.renderer ≡ (R.publishing (R.content self.old.renderer) (publisher_ask self.old.board.cache.core.farm flying.request)).content) }
         ensures status { IfOk result (λ a. a.status ≢ insufficient_storage) }
+        ensures kind { IfOk result (λ a. IsTrue (is_kind a.kind)) }
         ensures unchanged { OnErr result (R.content self.new.renderer ≡ R.content self.old.renderer) }
-        ensures farm { self.new.farm ≡ self.old.farm }
         ensures board { self.new.board ≡ self.old.board }
     {
-        let ask = ask_of(alloc, &self.farm, &self.board.flights.flying[at].request)?;
+        let ask = self.board.cache.ask_at(alloc, at)?;
         self.renderer.render(alloc, &ask)
     }
 }
@@ -143,5 +186,14 @@ fn or_fixed(alloc: Global, answer: Mem<Answer>) -> OrFixed
             answer: fixed_answer(alloc),
             out_of_memory: true,
         },
+    }
+}
+
+fn if_memory_ran_out(out_of_memory: bool) -> Conditions
+    ensures { result ≡ record { disk_failed = false; out_of_memory = out_of_memory } }
+{
+    Conditions {
+        disk_failed: false,
+        out_of_memory,
     }
 }

@@ -3,7 +3,7 @@ ghost use Rattle.std.specs.Prelude.{◌≡◌, ◌≢◌, IfOk, IsTrue, OnOk, On
 ghost use Rattle.resource_tree.specs.Content.{Content};
 ghost use Rattle.http_front.specs.Faults.{insufficient_storage};
 ghost use Rattle.sp_base.specs.MediaTypes.{is_kind};
-ghost use Rattle.front.specs.Publishers.{Publishing};
+ghost use Rattle.run_events.specs.Publishers.{Publishing};
 
 use sp_base::{Answer, Ask, Mem};
 use std::alloc::Global;

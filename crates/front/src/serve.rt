@@ -1,26 +1,33 @@
 //! What a connection is owed, given to it note by note.
-ghost use Rattle.std.specs.Prelude.{◌≤◌, ◌+◌, false, IfOk, OnOk};
-ghost use Rattle.front.specs.Boards.{AllGiven, GivesIn, IsLess, OpenStandsFor, OpenWithoutSending, OwesFault, ServedAs};
+ghost use Rattle.std.specs.Prelude.{◌≡◌, ◌≤◌, ◌<◌, ◌+◌, ℕ, true, false, IfOk, OnOk};
+ghost use Rattle.connections.specs.Ids as ids;
+ghost use Rattle.run_events.specs.Moves.{state_after_note};
+ghost use Rattle.run_events.specs.States.{RunState};
+ghost use Rattle.front.specs.Boards.{AllGiven, IsLess, OpenAfterNote, OpenStandsFor, OpenWithoutSending, OwesFault, ServedAs, TreatedAs};
+ghost use Rattle.front.specs.Caches.{Behind, GivesIn, HasNoteCause, behind, under_nothing};
+ghost use Rattle.front.specs.declared.connection.Connection.{Connection as KeptConnection};
 ghost use Rattle.front.specs.KeptConnections.{work_of};
-ghost use Rattle.front.specs.Moves.{state_after_note};
-ghost use Rattle.front.specs.States.{RunState};
+ghost use Rattle.front.specs.Serving.{NotesThen};
 
+use crate::answered::{Ended, local_reply, with_memory};
+use crate::cache::Cache;
 use crate::connection::{Connection, Taken};
 use crate::effect::Effect;
-use crate::flights::Flights;
-use crate::note::Note;
-use crate::treat::{Treated, local_reply, treat};
-use any_config::Farm;
+use crate::treat::{Treated, treat};
 use connections::{AnswerPlace, ConnectionId};
 use http_front::InFault;
+use run_events::{Conditions, Note};
 use sp_base::Mem;
+use sp_outside::Disk;
 use std::alloc::Global;
 
 /// What a connection was owed.
 #[derive(Drop)]
 pub(crate) enum Served {
-    /// This note, and whether memory ran out.
-    Said(Note, bool),
+    /// This note, and what its call ran under.
+    Said(Note, Conditions),
+    /// The same of a flush whose first slice is due.
+    Begun(Note, Conditions),
     /// Nothing.
     Quiet,
     /// Its end.
@@ -35,53 +42,69 @@ pub(crate) struct AllServed {
 }
 
 // Gives a connection the next thing that it is owed.
-fn serve_one(
+fn serve_one<D: Disk>(
     alloc: Global,
-    farm: &Farm,
+    disk: &mut D,
     c: ConnectionId,
     connection: &mut Connection,
-    flights: &mut Flights,
+    cache: &mut Cache,
 ) -> Mem<Served>
-    ensures served { IfOk result (λ served. (w : RunState) → OpenStandsFor farm.now w c connection.old flights.old → ServedAs served farm.now w c connection.new flights.new) }
+    ensures served { IfOk result (λ served. (w : RunState) → OpenStandsFor w c connection.old (behind cache.old (D.files disk.old) (D.faults disk.old)) → ServedAs served w c connection.new (behind cache.old (D.files disk.old) (D.faults disk.old)) (behind cache.new (D.files disk.new) (D.faults disk.new))) }
     ensures less { IfOk result (λ served. IsLess served (work_of connection.new) (work_of connection.old)) }
 {
     match connection.send(alloc) {
-        Some(sending) => Ok(Served::Said(Note::Sent(c, sending.bytes), sending.out_of_memory)),
-        None => serve_turn(alloc, farm, c, connection, flights),
+        Some(sending) => Ok(Served::Said(
+            Note::Sent(c, sending.bytes),
+            Conditions {
+                disk_failed: false,
+                out_of_memory: sending.out_of_memory,
+            },
+        )),
+        None => serve_turn(alloc, disk, c, connection, cache),
     }
 }
 
 // The same where nothing can be sent.
-fn serve_turn(
+fn serve_turn<D: Disk>(
     alloc: Global,
-    farm: &Farm,
+    disk: &mut D,
     c: ConnectionId,
     connection: &mut Connection,
-    flights: &mut Flights,
+    cache: &mut Cache,
 ) -> Mem<Served>
-    ensures served { IfOk result (λ served. (w : RunState) → OpenWithoutSending farm.now w c connection.old flights.old → ServedAs served farm.now w c connection.new flights.new) }
+    ensures served { IfOk result (λ served. (w : RunState) → OpenWithoutSending w c connection.old (behind cache.old (D.files disk.old) (D.faults disk.old)) → ServedAs served w c connection.new (behind cache.old (D.files disk.old) (D.faults disk.old)) (behind cache.new (D.files disk.new) (D.faults disk.new))) }
     ensures less { IfOk result (λ served. IsLess served (work_of connection.new) (work_of connection.old)) }
 {
     match connection.take() {
         Taken::Request(request) => {
-            let Treated {
-                note,
-                out_of_memory,
-            } = treat(alloc, farm, c, request, connection, flights)?;
-            Ok(Served::Said(note, out_of_memory))
+            let treated = treat(alloc, disk, c, request, connection, cache)?;
+            Ok(treated.into_served())
         }
         Taken::Fault(fault) => {
             let note = refuse(c, fault, connection)?;
-            Ok(Served::Said(note, false))
+            Ok(Served::Said(note, with_memory(false)))
         }
         Taken::Waiting => Ok(Served::Quiet),
         Taken::Over => Ok(Served::Ended),
     }
 }
 
+impl Treated {
+    fn into_served(self) -> Served
+        ensures served { (w : RunState) (c : ids.ConnectionId) (k : KeptConnection) (old new : Behind) → TreatedAs self w c k old new → ServedAs result w c k old new }
+        ensures less { (left before : ℕ) → left < before → IsLess result left before }
+    {
+        if self.slices {
+            Served::Begun(self.note, self.conditions)
+        } else {
+            Served::Said(self.note, self.conditions)
+        }
+    }
+}
+
 // Answers the fault of a stream.
 fn refuse(c: ConnectionId, fault: InFault, connection: &mut Connection) -> Mem<Note>
-    ensures given { IfOk result (λ note. (farm : Farm) (w : RunState) (flights : Flights) → OwesFault farm w c connection.old flights fault → GivesIn false w c note × OpenStandsFor farm (state_after_note w note) c connection.new flights) }
+    ensures given { IfOk result (λ note. (w : RunState) (b : Behind) → OwesFault w c connection.old b fault → GivesIn under_nothing w c note × HasNoteCause b.faults b.faults under_nothing w note × OpenAfterNote false (state_after_note w note) c connection.new b) }
     ensures work { OnOk result (work_of connection.new ≤ work_of connection.old + 1) }
 {
     let status = fault.status();
@@ -89,20 +112,49 @@ fn refuse(c: ConnectionId, fault: InFault, connection: &mut Connection) -> Mem<N
     Ok(Note::Local(c, status))
 }
 
-/// Gives a connection all that it is owed, but for its end.
-pub(crate) fn serve_all(
+// Gives a connection the first slice of the flush that just began for it, and the end of that flush, if the slice ends it.
+fn push_first_slice<D: Disk>(
     alloc: Global,
-    farm: &Farm,
+    disk: &mut D,
+    connection: &mut Connection,
+    cache: &mut Cache,
+    effect: &mut Effect,
+) -> Mem<()>
+    ensures given { OnOk result ((w : RunState) (c : ids.ConnectionId) (old : Behind) → NotesThen true effect.old w c connection.old old (behind cache.old (D.files disk.old) (D.faults disk.old)) → NotesThen false effect.new w c connection.new old (behind cache.new (D.files disk.new) (D.faults disk.new))) }
+    ensures work { work_of connection.new ≡ work_of connection.old }
+{
+    let Some(ended) = cache.slice(alloc, disk) else {
+        return Ok(());
+    };
+    let Ended {
+        note,
+        conditions,
+        connection: _,
+        awaited,
+        reply,
+    } = ended;
+    connection.end_wait(awaited, reply);
+    effect.push(note, conditions)
+}
+
+/// Gives a connection all that it is owed, but for its end.
+pub(crate) fn serve_all<D: Disk>(
+    alloc: Global,
+    disk: &mut D,
     c: ConnectionId,
     connection: &mut Connection,
-    flights: &mut Flights,
+    cache: &mut Cache,
 ) -> Mem<AllServed>
-    ensures { IfOk result (λ all. (w : RunState) → OpenStandsFor farm.now w c connection.old flights.old → AllGiven all.effect all.over farm.now w c connection.new flights.new) }
+    ensures { IfOk result (λ all. (w : RunState) → OpenStandsFor w c connection.old (behind cache.old (D.files disk.old) (D.faults disk.old)) → AllGiven all.effect all.over w c connection.new (behind cache.old (D.files disk.old) (D.faults disk.old)) (behind cache.new (D.files disk.new) (D.faults disk.new))) }
 {
     let mut effect = Effect::nothing(alloc);
     loop {
-        match serve_one(alloc, farm, c, connection, flights)? {
-            Served::Said(note, out_of_memory) => effect.push(note, out_of_memory)?,
+        match serve_one(alloc, disk, c, connection, cache)? {
+            Served::Said(note, conditions) => effect.push(note, conditions)?,
+            Served::Begun(note, conditions) => {
+                effect.push(note, conditions)?;
+                push_first_slice(alloc, disk, connection, cache, &mut effect)?;
+            }
             Served::Quiet => return Ok(AllServed {
                 effect,
                 over: false,

@@ -1,5 +1,5 @@
 //! A connection for whose answer no memory was there. Connections with answers are stored runs (examples/runs: pipelines, limits).
-use connections::{AnswerPlace, AnswerQueue, FlightId, Reply};
+use connections::{AnswerPlace, AnswerQueue, Awaited, FlightId, Reply};
 use std::alloc::Global;
 
 const FIXED: &[u8] =
@@ -21,7 +21,7 @@ fn sends_fixed(alloc: Global, queue: &mut AnswerQueue) -> bool {
 fn closes_after_fixed(alloc: Global, queue: &mut AnswerQueue) -> bool {
     let is_full = queue.push(fixed_place()).is_ok()
         && queue.push(AnswerPlace::of_fault(Reply::Own(400))).is_ok();
-    queue.fill(FlightId::new(3), Reply::Own(502));
+    queue.fill(Awaited::Flight(FlightId::new(3)), Reply::Own(502));
     is_full && sends_fixed(alloc, queue) && queue.send(alloc).is_none() && queue.is_over()
 }
 

@@ -1,1 +1,10 @@
 mod HandleLemmas
+mod Chains
+mod TakenFiles
+mod LookedAt
+mod Passing
+mod PrefixLemmas
+mod Touching
+mod HandlePages
+mod SliceFacts
+mod SliceSteps

@@ -1,1 +1,3 @@
 pub mod Invalidations
+pub mod Slices
+pub mod Walks

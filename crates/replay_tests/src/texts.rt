@@ -1,8 +1,8 @@
 //! Scenarios that are written, and notes that the program doesn't make, worked out by hand from `docs/formats/FORMATS.md`.
-use connections::{ConnectionId, FlightId};
-use cover_rules::{PageKey, page_key};
-use front::{Note, NoteList};
+use connections::{ConnectionId, FlightId, FlushId};
+use cover_rules::{Action, Invalidation, PageKey, page_key};
 use replay_text::{Scenario, read_scenario, write_notes, write_scenario};
+use run_events::{Failure, Note, NoteList};
 use sp_base::{ByteBuf, Items, Mem, Path};
 use std::alloc::Global;
 
@@ -56,12 +56,31 @@ fn push_notes(alloc: Global, notes: &mut NoteList) -> Mem<()> {
     notes.push(Note::Ask(FlightId::new(u64::MAX), ConnectionId::new(u32::MAX), page))?;
     let sent = ByteBuf::of(alloc, b"\"\x00\xff\\")?;
     notes.push(Note::Sent(ConnectionId::new(3), sent))?;
+    push_flush_notes(alloc, notes)?;
     notes.push(Note::Dry)
+}
+
+// A flush of a node of which the name begins with a namespace, a slice that left more to do, and how it ended.
+fn push_flush_notes(alloc: Global, notes: &mut NoteList) -> Mem<()> {
+    let Ok(handle) = Path::read(alloc, "/content/jcr:content") else {
+        return Ok(());
+    };
+    let flush = FlushId::new(7);
+    let inv = Invalidation {
+        action: Action::Delete,
+        handle,
+        only: true,
+    };
+    notes.push(Note::Flush(flush, ConnectionId::new(3), inv))?;
+    notes.push(Note::Sliced(flush))?;
+    notes.push(Note::Failed(flush, Failure::Memory))
 }
 
 const NOTES: &str = r#"@ 12
 ask 18446744073709551615 4294967295 "/content/site/en.html"
 sent 3 "\"\x00\xff\\"
+flush 7 Delete "/content/_jcr_content" only
+failed 7
 dry
 "#;
 

@@ -13,5 +13,7 @@ pub mod OneReading
 pub mod WrittenLaws
 pub mod Escapes
 pub mod PageLaws
+pub mod HandleLaws
+pub mod NoteLines
 pub mod Telling
 pub mod WordLemmas

@@ -90,7 +90,7 @@ IfOkNone-weaker (Err e) P Q f h = tt
 not_blank_above : (b : ℕ) → 48 ≤ b → not_blank b ≡ true
 not_blank_above b le = let t : eqb b 32 ≡ false = grind (arith, nat_tests) in rw t refl
 
-pub decimal_no_blank : (n : ℕ) → n < 4294967296 → list_all not_blank (decimal n) ≡ true
+pub decimal_no_blank : (n : ℕ) → n < 18446744073709551616 → list_all not_blank (decimal n) ≡ true
 decimal_no_blank n small = digits_no_blank (decimal n) (decimal_is_IsNumeral n (omega (arith, small))).0.1
   where
     digits_no_blank : (ds : List ℕ) → AllDigits 10 ds → list_all not_blank ds ≡ true
@@ -98,11 +98,20 @@ decimal_no_blank n small = digits_no_blank (decimal n) (decimal_is_IsNumeral n (
     digits_no_blank (c ∷ ds) d =
         ap (λ t. t && list_all not_blank ds) (not_blank_above c (omega (arith, digit_from_value c d.0))) ∙ digits_no_blank ds d.1
 
--- a line about a connection goes on in one way
-pub one_connection : (word line rest other : List ℕ) (c d : ℕ) → IsConnectionNumber c → IsConnectionNumber d → line ≡ connection_text word c rest → line ≡ connection_text word d other → rest ≡ other
-one_connection word line rest other c d is_c is_d e f =
+-- a line with a number goes on in one way
+pub one_numbered : (word line rest other : List ℕ) (c d : ℕ) → c < 18446744073709551616 → d < 18446744073709551616 → line ≡ connection_text word c rest → line ≡ connection_text word d other → rest ≡ other
+one_numbered word line rest other c d is_c is_d e f =
     (one_first_word (decimal c) (decimal d) rest other (decimal_no_blank c is_c) (decimal_no_blank d is_d)
     (same_after word (decimal c ++ 32 ∷ rest) (decimal d ++ 32 ∷ other) (sym e ∙ f))).1
+
+-- a line about a connection does
+pub one_connection : (word line rest other : List ℕ) (c d : ℕ) → IsConnectionNumber c → IsConnectionNumber d → line ≡ connection_text word c rest → line ≡ connection_text word d other → rest ≡ other
+one_connection word line rest other c d is_c is_d e f = one_numbered word line rest other c d (omega (arith, is_c)) (omega (arith, is_d)) e f
+
+-- a text without a blank isn't cut by one
+pub not_cut : (word rest : List ℕ) → list_all not_blank (word ++ 32 ∷ rest) ≡ true → ⊥
+not_cut [] rest e = no_blank_first 32 rest e refl
+not_cut (b ∷ word) rest e = not_cut word rest (no_blank_after b (word ++ 32 ∷ rest) e)
 
 visible_not_blank : (b : ℕ) → is_visible_ascii b ≡ true → not_blank b ≡ true
 visible_not_blank b e = not_blank_from b (grind (arith, nat_tests))

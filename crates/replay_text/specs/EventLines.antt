@@ -1,11 +1,14 @@
 -- The lines of events: what each asks for, and how it is spelled.
-use Rattle.std.specs.Prelude.{◌≢◌, ◌≤◌, ◌++◌, ◌&&◌, ◌==◌, ℕ, Bool, not, List, [], ◌∷◌, codes, IsTrue, length}
+use Rattle.std.specs.Prelude.{◌≢◌, ◌≤◌, ◌<◌, ◌++◌, ◌&&◌, ◌==◌, ℕ, Bool, true, false, not, List, [], ◌∷◌, codes, IsTrue, length}
 use Rattle.std.specs.List.{list_all}
 use Rattle.std.specs.Fmt.{decimal}
 use Rattle.sp_base.specs.Bytes.{AreBytes, is_visible_ascii}
-use Rattle.replay_text.specs.Transcript.{quotation, IsConnectionNumber, IsFlightNumber}
+use Rattle.sp_outside.specs.declared.mem_disk.Way.{Way}
+use Rattle.sp_outside.specs.declared.mem_disk.Way.TheVariants.{Old, New}
+use Rattle.cover_rules.specs.declared.invalidation.Action.{Action}
+use Rattle.replay_text.specs.Transcript.{quotation, action_text, IsConnectionNumber, IsFlightNumber}
 use Rattle.replay_text.specs.declared.event_line.EventLine.{EventLine}
-use Rattle.replay_text.specs.declared.event_line.EventLine.TheVariants.{Direct, Open, Close, Bytes, Get, Post, Render, Deliver, Lose}
+use Rattle.replay_text.specs.declared.event_line.EventLine.TheVariants.{Direct, Open, Close, Bytes, Get, Post, Flush, Render, Deliver, Lose, Purge, Restart, Fail}
 use Rattle.replay_text.specs.declared.event_line.Flight.{Flight}
 use Rattle.replay_text.specs.declared.event_line.Flight.TheVariants.{First, Numbered}
 
@@ -18,6 +21,20 @@ abbrev pub flight_text : Flight → List ℕ
 flight_text First = codes "first"
 flight_text (Numbered n) = decimal n
 
+-- the scope of a flush: the resource alone, or nothing more is said
+abbrev pub scope_text : Bool → List ℕ
+scope_text true = codes " only"
+scope_text false = []
+
+-- what a flush asks for: what was done to the content, its handle and the scope
+abbrev pub flushed_text : Action → List ℕ → Bool → List ℕ
+flushed_text action handle only = action_text action ++ 32 ∷ (handle ++ scope_text only)
+
+-- what a call of the disk that fails leaves of its change: the old files, or the new ones
+abbrev pub way_text : Way → List ℕ
+way_text Old = codes "old"
+way_text New = codes "new"
+
 -- the line of an event
 abbrev pub line_of : EventLine → List ℕ
 line_of (Direct target) = codes "direct " ++ target
@@ -26,16 +43,24 @@ line_of (Close c) = codes "close " ++ decimal c
 line_of (Bytes c bytes) = codes "bytes " ++ decimal c ++ 32 ∷ quotation bytes
 line_of (Get c target) = codes "get " ++ decimal c ++ 32 ∷ target
 line_of (Post c target body) = codes "post " ++ decimal c ++ 32 ∷ (target ++ 32 ∷ quotation body)
+line_of (Flush c action handle only) = codes "flush " ++ decimal c ++ 32 ∷ flushed_text action handle only
 line_of (Render flight) = codes "render " ++ flight_text flight
 line_of (Deliver flight) = codes "deliver " ++ flight_text flight
 line_of (Lose flight) = codes "lose " ++ flight_text flight
+line_of Purge = codes "purge"
+line_of Restart = codes "restart"
+line_of (Fail n way) = codes "fail " ++ decimal n ++ 32 ∷ way_text way
+
+-- calls of a disk are counted from 1, in 64 bits
+abbrev pub IsCallNumber : ℕ → Type 0
+IsCallNumber n = (1 ≤ n) × (n < 18446744073709551616)
 
 -- flights are numbered from 1, in 64 bits
 abbrev pub IsFlight : Flight → Type 0
 IsFlight First = Unit {0}
 IsFlight (Numbered n) = (1 ≤ n) × IsFlightNumber n
 
--- what it asks for can be asked for: peers and targets are visible bytes, and a piece has some bytes
+-- what it asks for can be asked for: peers, targets and handles are visible bytes, and a piece has some bytes
 abbrev pub IsEventLine : EventLine → Type 0
 IsEventLine (Direct target) = IsTrue (is_target target)
 IsEventLine (Open c peer) = IsConnectionNumber c × IsTrue (is_target peer)
@@ -43,6 +68,10 @@ IsEventLine (Close c) = IsConnectionNumber c
 IsEventLine (Bytes c bytes) = IsConnectionNumber c × AreBytes bytes × (bytes ≢ [])
 IsEventLine (Get c target) = IsConnectionNumber c × IsTrue (is_target target)
 IsEventLine (Post c target body) = IsConnectionNumber c × IsTrue (is_target target) × AreBytes body
+IsEventLine (Flush c action handle only) = IsConnectionNumber c × IsTrue (is_target handle)
 IsEventLine (Render flight) = IsFlight flight
 IsEventLine (Deliver flight) = IsFlight flight
 IsEventLine (Lose flight) = IsFlight flight
+IsEventLine Purge = Unit {0}
+IsEventLine Restart = Unit {0}
+IsEventLine (Fail n way) = IsCallNumber n

@@ -3,8 +3,10 @@
 use Rattle.std.specs.Fmt.{decimal}
 use Rattle.std.specs.Prelude.{◌≢◌, ◌<◌, ◌+◌, ◌-◌, ◌*◌, ◌++◌, ◌==◌, ℕ, Bool, not, if◌then◌else◌, nat_lt, List, [], ◌∷◌, get_or, codes, IsTrue}
 use Rattle.sp_base.specs.Bytes.{AreBytes}
+use Rattle.sp_outside.specs.declared.mem_disk.Way.{Way}
+use Rattle.cover_rules.specs.declared.invalidation.Action.{Action}
 use Rattle.replay_text.specs.Transcript.{quoted_byte, quotation, IsConnectionNumber}
-use Rattle.replay_text.specs.EventLines.{is_target, IsFlight, flight_text}
+use Rattle.replay_text.specs.EventLines.{is_target, IsFlight, IsCallNumber, flight_text, flushed_text, way_text}
 use Rattle.replay_text.specs.declared.event_line.Flight.{Flight}
 
 -- the number that a hexadecimal digit stands for
@@ -32,7 +34,7 @@ IsNoQuotation text = (bytes : List ℕ) → AreBytes bytes → text ≢ quotatio
 abbrev pub not_blank : ℕ → Bool
 not_blank b = not (b == 32)
 
--- the text begins with a word, a number of a connection and a blank, and goes on with rest
+-- the text begins with a word, a number and a blank, and goes on with rest
 abbrev pub connection_text : List ℕ → ℕ → List ℕ → List ℕ
 connection_text word c rest = word ++ (decimal c ++ 32 ∷ rest)
 
@@ -57,6 +59,19 @@ abbrev pub IsNoPost : List ℕ → Type 0
 IsNoPost line = (c : ℕ) (target body : List ℕ) → IsConnectionNumber c → IsTrue (is_target target) → AreBytes body
     → line ≢ connection_text (codes "post ") c (target ++ 32 ∷ quotation body)
 
+-- an action, a handle and a scope
+abbrev pub IsNoFlushed : List ℕ → Type 0
+IsNoFlushed text = (action : Action) (handle : List ℕ) (only : Bool) → IsTrue (is_target handle) → text ≢ flushed_text action handle only
+
+-- `flush`, a connection, and these
+abbrev pub IsNoFlush : List ℕ → Type 0
+IsNoFlush line = (c : ℕ) (action : Action) (handle : List ℕ) (only : Bool) → IsConnectionNumber c → IsTrue (is_target handle)
+    → line ≢ connection_text (codes "flush ") c (flushed_text action handle only)
+
+-- `fail`, the number of a call, and what it leaves
+abbrev pub IsNoFail : List ℕ → Type 0
+IsNoFail line = (n : ℕ) (way : Way) → IsCallNumber n → line ≢ connection_text (codes "fail ") n (way_text way)
+
 -- a word and a flight
 abbrev pub IsNoFlightOf : List ℕ → List ℕ → Type 0
 IsNoFlightOf word line = (flight : Flight) → IsFlight flight → line ≢ word ++ flight_text flight
@@ -67,6 +82,7 @@ pub record IsOfNoConnection (line : List ℕ) : Type 0 where
   pub closes : IsNoClose line
   pub bytes : IsNoBytes line
   pub gets : IsNoTargetOf (codes "get ") line
+  pub flushes : IsNoFlush line
   pub posts : IsNoPost line
 
 -- the line is of no flight
@@ -74,3 +90,9 @@ pub record IsOfNoFlight (line : List ℕ) : Type 0 where
   pub renders : IsNoFlightOf (codes "render ") line
   pub delivers : IsNoFlightOf (codes "deliver ") line
   pub loses : IsNoFlightOf (codes "lose ") line
+
+-- the line is none about the cache or its disk
+pub record IsOfNoCache (line : List ℕ) : Type 0 where
+  pub purges : line ≢ codes "purge"
+  pub restarts : line ≢ codes "restart"
+  pub fails : IsNoFail line

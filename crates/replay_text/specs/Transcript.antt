@@ -1,15 +1,19 @@
 -- How events are written.
-use Rattle.std.specs.Prelude.{◌≡◌, ◌+◌, ◌<◌, ◌/◌, ◌%◌, ◌++◌, ◌==◌, ℕ, if◌then◌else◌, nat_lt, List, [], ◌∷◌, codes, flat_map, Option, Some, None, IsTrue}
+use Rattle.std.specs.Prelude.{◌≡◌, ◌+◌, ◌<◌, ◌/◌, ◌%◌, ◌++◌, ◌==◌, ℕ, Bool, true, false, if◌then◌else◌, nat_lt, List, [], ◌∷◌, codes, flat_map, Option, Some, None, IsTrue}
 use Rattle.std.specs.Fmt.{decimal}
 use Rattle.sp_base.specs.Bytes.{is_printable_ascii}
 use Rattle.sp_base.specs.declared.answer.Answer.{Answer}
 use Rattle.sp_base.specs.declared.answer.Mark.{Mark}
 use Rattle.sp_base.specs.declared.answer.Mark.TheVariants.{Plain, NoCache, NoStore, MustRevalidate}
-use Rattle.sp_base.specs.Paths.{is_path}
+use Rattle.sp_base.specs.Paths.{is_path, mangled_segs, text_of, unmangled_segs}
 use Rattle.cover_rules.specs.Pages.{page_key_of, page_text}
 use Rattle.cover_rules.specs.declared.page.PageKey.{PageKey}
-use Rattle.front.specs.declared.note.Note.{Note}
-use Rattle.front.specs.declared.note.Note.TheVariants.{Answer as answered, Ask, Local, Rendered, Passed, Lost, Sent, Shut, Refused, Idle, Dry}
+use Rattle.cover_rules.specs.declared.invalidation.Invalidation.{Invalidation}
+use Rattle.cover_rules.specs.declared.invalidation.Action.{Action}
+use Rattle.cover_rules.specs.declared.invalidation.Action.TheVariants.{Activate, Deactivate, Delete}
+use Rattle.run_events.specs.declared.note.Failure.TheVariants.{Disk}
+use Rattle.run_events.specs.declared.note.Note.{Note}
+use Rattle.run_events.specs.declared.note.Note.TheVariants.{Answer as answered, Ask, Hit, Local, Flush, Sliced, Done, Failed, Rendered, Kept, Unkept, Passed, Lost, Sent, Shut, Refused, Idle, Up, Down, Hurt, Dry}
 
 -- a hexadecimal digit, in lower case
 abbrev pub hex : ℕ → ℕ
@@ -47,22 +51,49 @@ abbrev pub key_text : Option PageKey → List ℕ
 key_text None = codes "-"
 key_text (Some key) = quotation (page_text key)
 
--- the line of a note, without its newline: flights and connections stand there by their numbers
+-- the word of an action (Adobe Dispatcher manual, "Invalidating Cached Pages From AEM": `CQ-Action`)
+abbrev pub action_text : Action → List ℕ
+action_text Activate = codes "Activate"
+action_text Deactivate = codes "Deactivate"
+action_text Delete = codes "Delete"
+
+-- the word of an invalidation's scope: all, or the resource alone
+abbrev pub scope_word : Bool → List ℕ
+scope_word true = codes "only"
+scope_word false = codes "all"
+
+-- an invalidation: its action, the quoted text of its handle as that stands in URLs, and its scope
+abbrev pub invalidation_text : Invalidation → List ℕ
+invalidation_text inv = action_text inv.action ++ codes " " ++ quotation (text_of (mangled_segs inv.handle)) ++ codes " " ++ scope_word inv.only
+
+-- The line of a note, without its newline: flights, flushes and connections stand there by their numbers. A slice that left more to do
+-- has no line.
 abbrev pub note_line : Note → List ℕ
 note_line (answered a) = codes "answer " ++ answer_text a
 note_line (Ask n c key) = codes "ask " ++ decimal n ++ codes " " ++ decimal c ++ codes " " ++ key_text key
+note_line (Hit c key) = codes "hit " ++ decimal c ++ codes " " ++ key_text (Some key)
 note_line (Local c status) = codes "local " ++ decimal c ++ codes " " ++ decimal status
+note_line (Flush v c inv) = codes "flush " ++ decimal v ++ codes " " ++ invalidation_text inv
+note_line (Sliced v) = []
+note_line (Done v) = codes "done " ++ decimal v
+note_line (Failed v why) = codes "failed " ++ decimal v
 note_line (Rendered n a) = codes "rendered " ++ decimal n ++ codes " " ++ answer_text a
+note_line (Kept n key) = codes "kept " ++ decimal n ++ codes " " ++ key_text (Some key)
+note_line (Unkept n) = codes "unkept " ++ decimal n
 note_line (Passed n) = codes "passed " ++ decimal n
 note_line (Lost n) = codes "lost " ++ decimal n
 note_line (Sent c bytes) = codes "sent " ++ decimal c ++ codes " " ++ quotation bytes
 note_line (Shut c) = codes "shut " ++ decimal c
 note_line (Refused c) = codes "refused " ++ decimal c
 note_line Idle = codes "none"
+note_line (Up epoch) = codes "up " ++ decimal epoch
+note_line Down = codes "down"
+note_line Hurt = codes "hurt"
 note_line Dry = codes "dry"
 
--- the line of a note
+-- the line of a note, where it has one
 abbrev pub note_text : Note → List ℕ
+note_text (Sliced v) = []
 note_text note = note_line note ++ 10 ∷ []
 
 -- the lines of an event
@@ -82,7 +113,7 @@ transcript events = transcript_from 1 events
 abbrev pub IsStatus : ℕ → Type 0
 IsStatus status = status < 65536
 
--- numbers of flights have 64 bits
+-- numbers of flights and of flushes have 64 bits, and so have epochs
 abbrev pub IsFlightNumber : ℕ → Type 0
 IsFlightNumber n = n < 18446744073709551616
 
@@ -99,18 +130,29 @@ abbrev pub IsPage : Option PageKey → Type 0
 IsPage None = Unit {0}
 IsPage (Some key) = (path : List (List ℕ)) × IsTrue (is_path path) × (page_key_of path ≡ Some key)
 
--- The numbers of the note fit, and its key is one of a page. Without the latter two keys may have one text: a file `b/c.html` in
+-- the handle is that of a request: a path with its namespace prefixes as they stand in the repository
+abbrev pub IsHandle : List (List ℕ) → Type 0
+IsHandle handle = (path : List (List ℕ)) × IsTrue (is_path path) × (handle ≡ unmangled_segs path)
+
+-- The numbers of the note fit, its key is one of a page, and its handle one of a request. Without the second two keys may have one text: a file `b/c.html` in
 -- `/a`, and a file `c.html` in `/a/b`.
 abbrev pub IsWritable : Note → Type 0
 IsWritable (answered a) = IsStatus a.status
 IsWritable (Ask n c key) = IsFlightNumber n × IsConnectionNumber c × IsPage key
+IsWritable (Hit c key) = IsConnectionNumber c × IsPage (Some key)
 IsWritable (Local c status) = IsConnectionNumber c × IsStatus status
+IsWritable (Flush v c inv) = IsFlightNumber v × IsHandle inv.handle
+IsWritable (Done v) = IsFlightNumber v
+IsWritable (Failed v why) = IsFlightNumber v
 IsWritable (Rendered n a) = IsFlightNumber n × IsStatus a.status
+IsWritable (Kept n key) = IsFlightNumber n × IsPage (Some key)
+IsWritable (Unkept n) = IsFlightNumber n
 IsWritable (Passed n) = IsFlightNumber n
 IsWritable (Lost n) = IsFlightNumber n
 IsWritable (Sent c bytes) = IsConnectionNumber c
 IsWritable (Shut c) = IsConnectionNumber c
 IsWritable (Refused c) = IsConnectionNumber c
+IsWritable (Up epoch) = IsFlightNumber epoch
 IsWritable _ = Unit {0}
 
 -- the same of each note
@@ -122,3 +164,12 @@ AreWritable (note ∷ notes) = IsWritable note × AreWritable notes
 abbrev pub EventsAreWritable : List (List Note) → Type 0
 EventsAreWritable [] = Unit {0}
 EventsAreWritable (notes ∷ events) = AreWritable notes × EventsAreWritable events
+
+-- What the lines of an event tell: its notes, but for slices that left more to do, for the connection that asked for a flush, and for
+-- why a flush failed. (For these two one stands that any might be.)
+abbrev pub told_notes : List Note → List Note
+told_notes [] = []
+told_notes (Sliced v ∷ notes) = told_notes notes
+told_notes (Flush v c inv ∷ notes) = Flush v 0 inv ∷ told_notes notes
+told_notes (Failed v why ∷ notes) = Failed v Disk ∷ told_notes notes
+told_notes (note ∷ notes) = note ∷ told_notes notes

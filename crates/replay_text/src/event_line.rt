@@ -1,5 +1,7 @@
 //! The lines of events.
+use cover_rules::Action;
 use sp_base::{ByteBuf, TextBuf};
+use sp_outside::Way;
 
 /// Which flight an event is about.
 #[derive(Clone, Copy, PartialEq, Eq, Debug, Drop)]
@@ -25,10 +27,19 @@ pub enum EventLine {
     Get(u32, TextBuf),
     /// A POST to a target comes on a connection, with a form as its body.
     Post(u32, TextBuf, ByteBuf),
+    /// A POST comes on a connection that asks for an invalidation: what was done to the content at a handle, and whether no .stat file
+    /// is touched.
+    Flush(u32, Action, TextBuf, bool),
     /// The answer of a flight is made.
     Render(Flight),
     /// The answer of a flight arrives.
     Deliver(Flight),
     /// The answer of a flight is lost.
     Lose(Flight),
+    /// A slice of the oldest flush under way is made.
+    Purge,
+    /// The cache begins anew over its files.
+    Restart,
+    /// This one of the disk's next calls fails, counted from 1. No event comes of it.
+    Fail(u64, Way),
 }

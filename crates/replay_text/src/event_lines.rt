@@ -5,6 +5,7 @@ ghost use Rattle.replay_text.specs.EventLines.{is_target, line_of, IsEventLine};
 ghost use Rattle.replay_text.specs.Quoting.{connection_text, IsNoDirect, IsNoTargetOf, IsNoClose, IsNoBytes, IsNoPost, IsOfNoConnection, IsOfNoFlight};
 ghost use Rattle.replay_text.specs.Transcript.{quotation, IsConnectionNumber};
 
+use crate::cache_lines::{cache_line, flush_line};
 use crate::event_line::EventLine;
 use crate::event_reader::{after_word, connection, connection_after, first_word, flight_after};
 use crate::quoted::unquoted;
@@ -121,6 +122,9 @@ fn connection_line(alloc: Global, line: &[u8]) -> Mem<Option<EventLine>>
     if let Some(event) = bytes_line(alloc, line)? {
         return Ok(Some(event));
     }
+    if let Some(event) = flush_line(alloc, line)? {
+        return Ok(Some(event));
+    }
     post_line(alloc, line)
 }
 
@@ -150,6 +154,9 @@ pub fn read_event_line(alloc: Global, line: &[u8]) -> Mem<Option<EventLine>>
         return Ok(Some(event));
     }
     if let Some(event) = flight_line(alloc, line)? {
+        return Ok(Some(event));
+    }
+    if let Some(event) = cache_line(alloc, line)? {
         return Ok(Some(event));
     }
     connection_line(alloc, line)

@@ -1,5 +1,5 @@
 //! Reads the lines of events.
-ghost use Rattle.std.specs.Prelude.{◌≡◌, ◌≢◌, ◌<◌, ◌^◌, ◌++◌, ◌∷◌, ℕ, List, IfOk, IfSome, IfNone, IsTrue};
+ghost use Rattle.std.specs.Prelude.{◌≡◌, ◌≢◌, ◌≤◌, ◌<◌, ◌^◌, ◌++◌, ◌∷◌, ℕ, List, IfOk, IfSome, IfNone, IsTrue};
 ghost use Rattle.std.specs.List.{list_all};
 ghost use Rattle.std.specs.Fmt.{decimal};
 ghost use Rattle.replay_text.specs.Transcript.{IsConnectionNumber};
@@ -62,6 +62,17 @@ pub fn connection(alloc: Global, word: &[u8]) -> Mem<Option<u32>>
     }
 }
 
+// The number from 1 on that a word spells.
+pub fn number_from_one(alloc: Global, word: &[u8]) -> Mem<Option<u64>>
+    ensures some { IfOk result (λ o. IfSome o (λ n. (1 ≤ n) × (n < 2 ^ 64) × (word.now ≡ decimal n))) }
+    ensures none { IfOk result (λ o. IfNone o ((n : ℕ) → 1 ≤ n → n < 2 ^ 64 → word.now ≢ decimal n)) }
+{
+    let Some(n) = number(alloc, word)? else {
+        return Ok(None);
+    };
+    if n > 0 { Ok(Some(n)) } else { Ok(None) }
+}
+
 // The flight that a word names.
 fn flight(alloc: Global, word: &[u8]) -> Mem<Option<Flight>>
     ensures some { IfOk result (λ o. IfSome o (λ f. IsFlight f × (word.now ≡ flight_text f))) }
@@ -70,14 +81,10 @@ fn flight(alloc: Global, word: &[u8]) -> Mem<Option<Flight>>
     if same(word, b"first") {
         return Ok(Some(Flight::First));
     }
-    let Some(n) = number(alloc, word)? else {
+    let Some(n) = number_from_one(alloc, word)? else {
         return Ok(None);
     };
-    if n > 0 {
-        Ok(Some(Flight::Numbered(n)))
-    } else {
-        Ok(None)
-    }
+    Ok(Some(Flight::Numbered(n)))
 }
 
 // The text after a word that begins it.

@@ -1,14 +1,14 @@
 //! Laws of the definitions, on functions that do nothing.
-ghost use Rattle.std.specs.Prelude.{◌≡◌, ℕ, List};
+ghost use Rattle.std.specs.Prelude.{◌≡◌, ℕ, List, map};
 ghost use Rattle.replay_text.specs.Languages.{IsRefusedWithin};
 ghost use Rattle.replay_text.specs.Scenario.{SpellsScenario, IsScenario, longest_scenario};
-ghost use Rattle.replay_text.specs.Transcript.{transcript, EventsAreWritable};
-ghost use Rattle.front.specs.declared.note.Note.{Note};
+ghost use Rattle.replay_text.specs.Transcript.{told_notes, transcript, EventsAreWritable};
+ghost use Rattle.run_events.specs.declared.note.Note.{Note};
 ghost use Rattle.replay_text.specs.Written.{scenario_text};
 ghost use Rattle.replay_text.specs.declared.scenario.Scenario.{Scenario};
 
 use cover_rules::a_page_has_one_key;
-use sp_base::segments_and_their_spelling;
+use sp_base::{mangling_and_unmangling, segments_and_their_spelling};
 
 /// A text spells at most one scenario.
 pub fn one_reading()
@@ -25,10 +25,13 @@ pub fn a_scenario_has_one_text()
     ensures { (text : List ℕ) (s : Scenario) → SpellsScenario text s → text ≡ scenario_text s }
 {}
 
-/// A transcript tells its events: no two lists of events are written alike, where their numbers fit and their keys are those of pages.
+/// A transcript tells what its lines can of its events, where their numbers fit, their keys are those of pages and their handles those of
+/// requests; and it depends on nothing else.
 pub fn a_transcript_tells_its_events()
-    ensures { (a b : List (List Note)) → EventsAreWritable a → EventsAreWritable b → transcript a ≡ transcript b → a ≡ b }
+    ensures told { (a b : List (List Note)) → EventsAreWritable a → EventsAreWritable b → transcript a ≡ transcript b → map told_notes a ≡ map told_notes b }
+    ensures alone { (a b : List (List Note)) → map told_notes a ≡ map told_notes b → transcript a ≡ transcript b }
 {
     a_page_has_one_key();
     segments_and_their_spelling();
+    mangling_and_unmangling();
 }

@@ -2,9 +2,11 @@
 #![tactic(auto)]
 
 mod acts;
+mod cache_lines;
 mod event_line;
 mod event_lines;
 mod event_reader;
+mod handles;
 mod laws;
 mod lines;
 mod quoted;

@@ -1,12 +1,14 @@
 //! Writes the lines of events.
-ghost use Rattle.std.specs.Prelude.{◌≡◌, ◌++◌, [], ◌<◌, IfOk, OnOk, codes};
+ghost use Rattle.std.specs.Prelude.{◌≡◌, ◌++◌, [], ◌<◌, Some, IfOk, OnOk, codes};
 ghost use Rattle.std.specs.Fmt.{decimal};
-ghost use Rattle.replay_text.specs.Transcript.{hex, quoted_byte, quotation, quotation_or_dash, mark_text, answer_text, key_text, note_line, note_text, event_text};
+ghost use Rattle.sp_base.specs.Paths.{mangled_segs, text_of};
+ghost use Rattle.replay_text.specs.Transcript.{hex, quoted_byte, quotation, quotation_or_dash, mark_text, answer_text, key_text, action_text, scope_word, invalidation_text, note_line, note_text, event_text};
 
-use connections::{ConnectionId, FlightId};
-use cover_rules::PageKey;
-use front::Note;
-use sp_base::{Answer, Mark, Mem};
+use crate::handles::mangled_text;
+use connections::{ConnectionId, FlightId, FlushId};
+use cover_rules::{Action, Invalidation, PageKey};
+use run_events::Note;
+use sp_base::{Answer, Mark, Mem, Path};
 use std::alloc::Global;
 
 pub fn push(out: &mut Vec<u8>, bytes: &[u8]) -> Mem<()>
@@ -90,14 +92,18 @@ fn push_answer(alloc: Global, out: &mut Vec<u8>, answer: &Answer) -> Mem<()>
     push_quoted(out, answer.body.bytes())
 }
 
+fn push_page(alloc: Global, out: &mut Vec<u8>, key: &PageKey) -> Mem<()>
+    ensures { OnOk result (out.new.items ≡ out.old.items ++ key_text (Some key.now)) }
+{
+    let path = key.text(alloc)?;
+    push_quoted(out, path.text().as_bytes())
+}
+
 fn push_key(alloc: Global, out: &mut Vec<u8>, key: &Option<PageKey>) -> Mem<()>
     ensures { OnOk result (out.new.items ≡ out.old.items ++ key_text key.now) }
 {
     match key {
-        Some(key) => {
-            let path = key.text(alloc)?;
-            push_quoted(out, path.text().as_bytes())
-        }
+        Some(key) => push_page(alloc, out, key),
         None => push(out, b"-"),
     }
 }
@@ -137,6 +143,67 @@ fn push_ask(
     push_key(alloc, out, key)
 }
 
+fn push_hit(alloc: Global, out: &mut Vec<u8>, connection: ConnectionId, key: &PageKey) -> Mem<()>
+    ensures { OnOk result (out.new.items ≡ out.old.items ++ (codes "hit " ++ decimal connection ++ codes " " ++ key_text (Some key.now))) }
+{
+    push_connection(alloc, out, b"hit ", connection)?;
+    push(out, b" ")?;
+    push_page(alloc, out, key)
+}
+
+fn push_kept(alloc: Global, out: &mut Vec<u8>, flight: FlightId, key: &PageKey) -> Mem<()>
+    ensures { OnOk result (out.new.items ≡ out.old.items ++ (codes "kept " ++ decimal flight ++ codes " " ++ key_text (Some key.now))) }
+{
+    push_numbered(alloc, out, b"kept ", flight.number())?;
+    push(out, b" ")?;
+    push_page(alloc, out, key)
+}
+
+fn push_action(out: &mut Vec<u8>, action: Action) -> Mem<()>
+    ensures { OnOk result (out.new.items ≡ out.old.items ++ action_text action) }
+{
+    match action {
+        Action::Activate => push(out, b"Activate"),
+        Action::Deactivate => push(out, b"Deactivate"),
+        Action::Delete => push(out, b"Delete"),
+    }
+}
+
+fn push_scope(out: &mut Vec<u8>, only: bool) -> Mem<()>
+    ensures { OnOk result (out.new.items ≡ out.old.items ++ scope_word only) }
+{
+    if only {
+        push(out, b"only")
+    } else {
+        push(out, b"all")
+    }
+}
+
+fn push_handle(alloc: Global, out: &mut Vec<u8>, handle: &Path) -> Mem<()>
+    ensures { OnOk result (out.new.items ≡ out.old.items ++ quotation (text_of (mangled_segs handle.now))) }
+{
+    let text = mangled_text(alloc, handle)?;
+    push_quoted(out, &text)
+}
+
+fn push_invalidation(alloc: Global, out: &mut Vec<u8>, inv: &Invalidation) -> Mem<()>
+    ensures { OnOk result (out.new.items ≡ out.old.items ++ invalidation_text inv.now) }
+{
+    push_action(out, inv.action)?;
+    push(out, b" ")?;
+    push_handle(alloc, out, &inv.handle)?;
+    push(out, b" ")?;
+    push_scope(out, inv.only)
+}
+
+fn push_flush(alloc: Global, out: &mut Vec<u8>, flush: FlushId, inv: &Invalidation) -> Mem<()>
+    ensures { OnOk result (out.new.items ≡ out.old.items ++ (codes "flush " ++ decimal flush ++ codes " " ++ invalidation_text inv.now)) }
+{
+    push_numbered(alloc, out, b"flush ", flush.number())?;
+    push(out, b" ")?;
+    push_invalidation(alloc, out, inv)
+}
+
 fn push_local(alloc: Global, out: &mut Vec<u8>, connection: ConnectionId, status: u16) -> Mem<()>
     ensures { OnOk result (out.new.items ≡ out.old.items ++ (codes "local " ++ decimal connection ++ codes " " ++ decimal status)) }
 {
@@ -160,7 +227,7 @@ fn push_sent(alloc: Global, out: &mut Vec<u8>, connection: ConnectionId, bytes: 
     push_quoted(out, bytes)
 }
 
-// The line of a note, without its newline.
+// The line of a note, without its newline. A slice that left more to do has none.
 fn push_note_line(alloc: Global, out: &mut Vec<u8>, note: &Note) -> Mem<()>
     ensures { OnOk result (out.new.items ≡ out.old.items ++ note_line note.now) }
 {
@@ -170,14 +237,24 @@ fn push_note_line(alloc: Global, out: &mut Vec<u8>, note: &Note) -> Mem<()>
             push_answer(alloc, out, answer)
         }
         Note::Ask(flight, connection, key) => push_ask(alloc, out, *flight, *connection, key),
+        Note::Hit(connection, key) => push_hit(alloc, out, *connection, key),
         Note::Local(connection, status) => push_local(alloc, out, *connection, *status),
+        Note::Flush(flush, _, inv) => push_flush(alloc, out, *flush, inv),
+        Note::Sliced(_) => Ok(()),
+        Note::Done(flush) => push_numbered(alloc, out, b"done ", flush.number()),
+        Note::Failed(flush, _) => push_numbered(alloc, out, b"failed ", flush.number()),
         Note::Rendered(flight, answer) => push_rendered(alloc, out, *flight, answer),
+        Note::Kept(flight, key) => push_kept(alloc, out, *flight, key),
+        Note::Unkept(flight) => push_numbered(alloc, out, b"unkept ", flight.number()),
         Note::Passed(flight) => push_numbered(alloc, out, b"passed ", flight.number()),
         Note::Lost(flight) => push_numbered(alloc, out, b"lost ", flight.number()),
         Note::Sent(connection, bytes) => push_sent(alloc, out, *connection, bytes.bytes()),
         Note::Shut(connection) => push_connection(alloc, out, b"shut ", *connection),
         Note::Refused(connection) => push_connection(alloc, out, b"refused ", *connection),
         Note::Idle => push(out, b"none"),
+        Note::Up(epoch) => push_numbered(alloc, out, b"up ", *epoch),
+        Note::Down => push(out, b"down"),
+        Note::Hurt => push(out, b"hurt"),
         Note::Dry => push(out, b"dry"),
     }
 }
@@ -185,6 +262,9 @@ fn push_note_line(alloc: Global, out: &mut Vec<u8>, note: &Note) -> Mem<()>
 fn push_note(alloc: Global, out: &mut Vec<u8>, note: &Note) -> Mem<()>
     ensures { OnOk result (out.new.items ≡ out.old.items ++ note_text note.now) }
 {
+    if let Note::Sliced(_) = note {
+        return Ok(());
+    }
     push_note_line(alloc, out, note)?;
     push(out, b"\n")
 }

@@ -9,7 +9,7 @@ use Rattle.any_config.specs.declared.farm.Farm.{Farm}
 use Rattle.publisher.specs.Rendering.{answer_to_request}
 use Rattle.sling_dispatch.specs.Runs.{sling_publisher}
 use Rattle.http_front.specs.Targets.{begins_with_slash, path_bytes, ends_in_slash, path_of_bytes, with_path}
-use Rattle.front.specs.Publishers.{get_of, answer_to, direct_answer}
+use Rattle.run_events.specs.Publishers.{get_of, answer_to, direct_answer}
 
 -- the answer to a target by its decoded path alone
 answer_at : Farm → Content → Bool → Option (List (List ℕ)) → Answer

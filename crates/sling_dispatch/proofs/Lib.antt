@@ -1,10 +1,14 @@
 pub mod Writing
+pub mod ArmedLemmas
+pub mod BeginLemmas
 pub mod Sessions
 pub mod Meanings
 pub mod Completeness
 pub mod DirectLemmas
 pub mod Words
-pub mod Statuses
 pub mod RequestLemmas
 pub mod FilterLemmas
+pub mod SessionLemmas
 pub mod MemoryLemmas
+pub mod NumberLemmas
+pub mod WritableLemmas

@@ -1,6 +1,8 @@
 -- The events that were made so far are a run, and their lines were written or are gathered.
-use Rattle.std.proofs.Common.{◌≡◌, ◌≤◌, ◌+◌, ◌++◌, ℕ, List, [], ◌∷◌, Option, Ok, Err, inl, inr, length, map, suc, take, sym, ◌∙◌, ap, subst, refl, arith, append_assoc, length-append}
+use Rattle.std.proofs.Common.{◌≡◌, ◌≤◌, ◌+◌, ◌++◌, ℕ, not, true, false, List, [], ◌∷◌, Option, Some, None, Ok, Err, inl, inr, length, map, suc, take, sym, ◌∙◌, ap, subst, refl, arith, append_assoc, length-append}
+use Rattle.std.specs.List.{filter_map, cons_option}
 use Rattle.std.proofs.lemmas.List.{take_all, append-nil}
+use Rattle.std.proofs.lemmas.List.Elements.{filter_map-append}
 use Rattle.std.proofs.Math.Seq.{take-append-add}
 use Rattle.sp_outside.specs.Told.{held_after}
 use Rattle.sp_outside.specs.Causes.{HasSinkCause}
@@ -10,21 +12,24 @@ use Rattle.resource_tree.specs.Content.{Content}
 use Rattle.content_json.specs.ContentOf.{content as content_of}
 use Rattle.any_config.specs.declared.farm.Farm.{Farm}
 use Rattle.sling_dispatch.specs.Farms.{farm_in, farm_text}
-use Rattle.front.specs.Events.{Event, FurtherEvent, Happens, Run, after_event, state_after_events, notes_of}
-use Rattle.front.specs.States.{RunState, start_of}
-use Rattle.front.specs.declared.note.Note.{Note}
+use Rattle.run_events.specs.Events.{Event, FurtherEvent, Happens, Run, after_event, state_after_events, notes_of}
+use Rattle.run_events.specs.States.{RunState, start_of}
+use Rattle.run_events.specs.declared.note.Note.{Note}
+use Rattle.run_events.specs.declared.step.Step.{Step}
 use Rattle.replay_text.specs.EventLines.{line_of, IsEventLine}
 use Rattle.replay_text.specs.Lines.{text_of_lines}
 use Rattle.replay_text.specs.Scenario.{IsActs}
 use Rattle.replay_text.specs.Transcript.{event_text, transcript_from, transcript}
 use Rattle.replay_text.specs.declared.event_line.EventLine.{EventLine}
 use Rattle.replay_text.specs.declared.scenario.Scenario.{Scenario}
-use Rattle.sling_dispatch.specs.Runs.{IsSession, asked_publisher_host, sling_start, step_of, told_of_events}
-use Rattle.sling_dispatch.specs.Fronts.{IsNext}
+use Rattle.sling_dispatch.specs.Runs.{AreArmed, IsSession, asked_publisher_host, sling_start, step_of, told_of_events}
+use Rattle.sling_dispatch.specs.Fronts.{IsNext, IsPlayed, SessionStandsFor}
 use Rattle.sling_dispatch.specs.Endings.{Writing, Events, StreamReport, report_of, Broken, Whole}
 use Rattle.sling_dispatch.specs.InnerEndings.{AreActLines, IsDueOf, TellsText, ending_by, PlaysAll}
 use Rattle.sling_dispatch.specs.declared.ending.Ending.{Ending}
 use Rattle.sling_dispatch.specs.declared.ending.Ending.TheVariants.{Done, NoMemory}
+use Rattle.sling_dispatch.specs.declared.session.Session.{Session}
+use Rattle.sling_dispatch.proofs.ArmedLemmas.{Fit, armed_after, fit_plan, fit_event, armed_plan, armed_event, after_plan, after_event_armed, armed_by}
 use Rattle.sling_dispatch.proofs.Writing.{added-added, added-nothing}
 
 transcript_push : (n : ℕ) (events : List (List Note)) (notes : List Note)
@@ -41,6 +46,10 @@ map_push : {A B : Type 0} (f : A → B) (xs : List A) (x : A) → map f (xs ++ x
 map_push f [] x = refl
 map_push f (y ∷ xs) x = ap (λ t. f y ∷ t) (map_push f xs x)
 
+list_nil : {A : Type 0} (a : List A) → a ++ [] ≡ a
+list_nil [] = refl
+list_nil (x ∷ a) = ap (λ t. x ∷ t) (list_nil a)
+
 list_assoc : {A : Type 0} (a b c : List A) → (a ++ b) ++ c ≡ a ++ (b ++ c)
 list_assoc [] b c = refl
 list_assoc (x ∷ a) b c = ap (λ t. x ∷ t) (list_assoc a b c)
@@ -56,24 +65,31 @@ Goes = (w : RunState) (events : List Event) (e : Event) → Run w events → Hap
 abbrev pub Leaves : Type 0
 Leaves = (w : RunState) (events : List Event) (e : Event) → state_after_events w (events ++ e ∷ []) ≡ after_event (state_after_events w events) e
 
+-- the step of each line, if it has one
+abbrev pub steps_of : Farm → List EventLine → List (Option Step)
+steps_of farm acts = map (step_of (asked_publisher_host farm)) acts
+
 -- Some acts were done. Of the lines of their events some were sent, and the rest is gathered.
-pub record Played (tree : Content) (farm : Farm) (acts rest : List ℕ) (count : ℕ) (Stands : RunState → Type 0) (old new : Option (List ℕ)) (gathered : List ℕ) : Type 0 where
+pub record Played (tree : Content) (farm : Farm) (acts rest : List ℕ) (s : Session) (old new : Option (List ℕ)) (gathered : List ℕ) : Type 0 where
   pub made : List EventLine
   pub left : List EventLine
   pub acts_are : IsActs acts (made ++ left)
   pub left_are : IsActs rest left
   pub events : List Event
-  pub steps : map (λ (e : Event). e.step) events ≡ map (step_of (asked_publisher_host farm)) made
+  pub steps : map (λ (e : Event). e.step) events ≡ filter_map (step_of (asked_publisher_host farm)) made
   pub run : Run (start_of (sling_start farm tree)) events
-  pub count_is : length events ≡ count
-  pub stands : Stands (state_after_events (start_of (sling_start farm tree)) events)
+  pub fit : Fit (steps_of farm made) events
+  pub armed : AreArmed false (start_of (sling_start farm tree)) (steps_of farm made) events
+  pub may_fail : armed_after false (steps_of farm made) events ≡ not s.disk.spent
+  pub count_is : length events ≡ s.event
+  pub stands : SessionStandsFor s (state_after_events (start_of (sling_start farm tree)) events)
   pub sent : List ℕ
   pub written : new ≡ held_after old sent
   pub text_is : told_of_events events ≡ sent ++ gathered
 
-pub played_none : (tree : Content) (farm : Farm) (acts : List ℕ) (Stands : RunState → Type 0) (old : Option (List ℕ)) → AreActLines acts → Stands (start_of (sling_start farm tree))
-    → Played tree farm acts acts 0 Stands old old []
-played_none tree farm acts Stands old are stands = record {
+pub played_none : (tree : Content) (farm : Farm) (acts : List ℕ) (s : Session) (old : Option (List ℕ)) → AreActLines acts → SessionStandsFor s (start_of (sling_start farm tree))
+    → s.disk.spent ≡ true → s.event ≡ 0 → Played tree farm acts acts s old old []
+played_none tree farm acts s old are stands spent event = record {
   made = [];
   left = are.0;
   acts_are = are.1;
@@ -81,7 +97,10 @@ played_none tree farm acts Stands old are stands = record {
   events = [];
   steps = refl;
   run = tt;
-  count_is = refl;
+  fit = tt;
+  armed = tt;
+  may_fail = sym (ap not spent);
+  count_is = sym event;
   stands = stands;
   sent = [];
   written = sym (added-nothing old);
@@ -93,44 +112,97 @@ abbrev pub FirstIsTold : Type 0
 FirstIsTold = (lines rest : List ℕ) (acts : List EventLine) (act : EventLine) → IsActs lines acts → IsEventLine act → lines ≡ line_of act ++ 10 ∷ rest
     → (left : List EventLine) × (acts ≡ act ∷ left) × IsActs rest left
 
--- the next event was made, and its lines are to be gathered
-pub played_next : Goes → Leaves → FirstIsTold → (tree : Content) (farm : Farm) (acts rest after : List ℕ) (count : ℕ) (Stands After : RunState → Type 0) (old new : Option (List ℕ)) (gathered text : List ℕ)
-    → Played tree farm acts rest count Stands old new gathered
-    → IsNext Stands After (asked_publisher_host farm) rest after (count + 1) text → Played tree farm acts after (count + 1) After old new (gathered ++ text)
-played_next goes leaves told_first tree farm acts rest after count Stands After old new gathered text p x =
+-- the steps of one act more
+steps_push : (farm : Farm) (made : List EventLine) (act : EventLine) (o : Option Step) → step_of (asked_publisher_host farm) act ≡ o
+    → steps_of farm (made ++ act ∷ []) ≡ steps_of farm made ++ o ∷ []
+steps_push farm made act o e = map_push (step_of (asked_publisher_host farm)) made act ∙ ap (λ (x : Option Step). steps_of farm made ++ x ∷ []) e
+
+made_push : (host : List ℕ) (made : List EventLine) (act : EventLine) (o : Option Step) → step_of host act ≡ o
+    → filter_map (step_of host) (made ++ act ∷ []) ≡ filter_map (step_of host) made ++ cons_option o []
+made_push host made act o e =
+    filter_map-append (step_of host) made (act ∷ []) ∙ ap (λ (x : Option Step). filter_map (step_of host) made ++ cons_option x []) e
+
+-- the next line plans a failure
+played_plan : (tree : Content) (farm : Farm) (acts rest after : List ℕ) (s t : Session) (old new : Option (List ℕ)) (gathered text : List ℕ) (act : EventLine) (left : List EventLine)
+    → (p : Played tree farm acts rest s old new gathered) → step_of (asked_publisher_host farm) act ≡ None → p.left ≡ act ∷ left → IsActs after left → IsPlayed None s t text
+    → Played tree farm acts after t old new (gathered ++ text)
+played_plan tree farm acts rest after s t old new gathered text act left p step is left_are x =
     let host = asked_publisher_host farm in
-    let first = told_first rest after p.left x.act p.left_are x.is_line x.lines_are in
     let w = start_of (sling_start farm tree) in
-    let next = x.extends.extended (state_after_events w p.events) p.stands in
-    let event = next.event in
-    let events = p.events ++ event ∷ [] in
-    let number : 1 + length (map notes_of p.events) ≡ count + 1 = omega (arith, p.count_is, length_map notes_of p.events) in
-    let told : told_of_events events ≡ told_of_events p.events ++ event_text (count + 1) x.notes = ap transcript (map_push notes_of p.events event) ∙ transcript_push 1 (map notes_of p.events) (notes_of event)
-    ∙ ap (λ k. told_of_events p.events ++ event_text k (notes_of event)) number ∙ ap (λ notes. told_of_events p.events ++ event_text (count + 1) notes) next.notes_are in
+    let steps = steps_push farm p.made act None step in
     record {
-      made = p.made ++ x.act ∷ [];
-      left = first.0;
-      acts_are = subst (IsActs acts) (ap (λ t. p.made ++ t) first.1 ∙ sym (list_assoc p.made (x.act ∷ []) first.0)) p.acts_are;
-      left_are = first.2;
-      events = events;
-      steps = map_push (λ (y : Event). y.step) p.events event ∙ ap (λ t. t ++ event.step ∷ []) p.steps ∙ ap (λ s. map (step_of host) p.made ++ s ∷ []) next.step_is
-          ∙ sym (map_push (step_of host) p.made x.act);
-      run = goes w p.events event p.run next.happens;
-      count_is = omega (arith, p.count_is, length-append p.events (event ∷ []));
-      stands = subst After (sym (leaves w p.events event)) next.stands;
+      made = p.made ++ act ∷ [];
+      left = left;
+      acts_are = subst (IsActs acts) (ap (λ t. p.made ++ t) is ∙ sym (list_assoc p.made (act ∷ []) left)) p.acts_are;
+      left_are = left_are;
+      events = p.events;
+      steps = p.steps ∙ sym (made_push host p.made act None step ∙ list_nil (filter_map (step_of host) p.made));
+      run = p.run;
+      fit = subst (λ (o : List (Option Step)). Fit o p.events) (sym steps) (fit_plan (steps_of farm p.made) p.events p.fit);
+      armed = subst (λ (o : List (Option Step)). AreArmed false w o p.events) (sym steps) (armed_plan false w (steps_of farm p.made) p.events p.fit p.armed);
+      may_fail = ap (λ (o : List (Option Step)). armed_after false o p.events) steps ∙ after_plan false (steps_of farm p.made) p.events p.fit ∙ sym (ap not x.1);
+      count_is = p.count_is ∙ sym x.2;
+      stands = x.0 (state_after_events w p.events) p.stands;
       sent = p.sent;
       written = p.written;
-      text_is = told ∙ ap (λ t. told_of_events p.events ++ t) (sym x.text_is) ∙ ap (λ t. t ++ text) p.text_is ∙ append_assoc p.sent gathered text;
+      text_is = p.text_is ∙ ap (λ g. p.sent ++ g) (sym (ap (λ g. gathered ++ g) x.3 ∙ append-nil gathered));
     }
 
+-- the next event was made, and its lines are to be gathered
+played_event : Goes → Leaves → (tree : Content) (farm : Farm) (acts rest after : List ℕ) (s t : Session) (old new : Option (List ℕ)) (gathered text : List ℕ) (act : EventLine) (left : List EventLine) (step : Step)
+    → (p : Played tree farm acts rest s old new gathered) → step_of (asked_publisher_host farm) act ≡ Some step → p.left ≡ act ∷ left → IsActs after left → IsPlayed (Some step) s t text
+    → Played tree farm acts after t old new (gathered ++ text)
+played_event goes leaves tree farm acts rest after s t old new gathered text act left step p step_is is left_are x =
+    let host = asked_publisher_host farm in
+    let w = start_of (sling_start farm tree) in
+    let steps = steps_push farm p.made act (Some step) step_is in
+    let notes = x.0 in
+    let next = x.1.extended (state_after_events w p.events) p.stands in
+    let event = next.event in
+    let events = p.events ++ event ∷ [] in
+    let arms = armed_by s.disk.spent t.disk.spent (state_after_events w p.events) event (armed_after false (steps_of farm p.made) p.events) p.may_fail next.cause in
+    let number : 1 + length (map notes_of p.events) ≡ t.event = omega (arith, p.count_is, length_map notes_of p.events, x.2) in
+    let told : told_of_events events ≡ told_of_events p.events ++ event_text t.event notes = ap transcript (map_push notes_of p.events event) ∙ transcript_push 1 (map notes_of p.events) (notes_of event)
+    ∙ ap (λ k. told_of_events p.events ++ event_text k (notes_of event)) number ∙ ap (λ ns. told_of_events p.events ++ event_text t.event ns) next.notes_are in
+    record {
+      made = p.made ++ act ∷ [];
+      left = left;
+      acts_are = subst (IsActs acts) (ap (λ t. p.made ++ t) is ∙ sym (list_assoc p.made (act ∷ []) left)) p.acts_are;
+      left_are = left_are;
+      events = events;
+      steps = map_push (λ (y : Event). y.step) p.events event ∙ ap (λ t. t ++ event.step ∷ []) p.steps ∙ ap (λ u. filter_map (step_of host) p.made ++ u ∷ []) next.step_is
+          ∙ sym (made_push host p.made act (Some step) step_is);
+      run = goes w p.events event p.run next.happens;
+      fit = subst (λ (o : List (Option Step)). Fit o events) (sym steps) (fit_event (steps_of farm p.made) p.events step event p.fit);
+      armed = subst (λ (o : List (Option Step)). AreArmed false w o events) (sym steps) (armed_event false w (steps_of farm p.made) p.events step event p.fit p.armed arms.0);
+      may_fail = ap (λ (o : List (Option Step)). armed_after false o events) steps ∙ after_event_armed false (steps_of farm p.made) p.events step event p.fit ∙ arms.1;
+      count_is = omega (arith, p.count_is, length-append p.events (event ∷ []), x.2);
+      stands = subst (SessionStandsFor t) (sym (leaves w p.events event)) next.stands;
+      sent = p.sent;
+      written = p.written;
+      text_is = told ∙ ap (λ t. told_of_events p.events ++ t) (sym x.3) ∙ ap (λ t. t ++ text) p.text_is ∙ append_assoc p.sent gathered text;
+    }
+
+-- the next line was played
+pub played_next : Goes → Leaves → FirstIsTold → (tree : Content) (farm : Farm) (acts rest after : List ℕ) (s t : Session) (old new : Option (List ℕ)) (gathered text : List ℕ)
+    → Played tree farm acts rest s old new gathered → IsNext (asked_publisher_host farm) rest after s t text → Played tree farm acts after t old new (gathered ++ text)
+played_next goes leaves told_first tree farm acts rest after s t old new gathered text p x =
+    let first = told_first rest after p.left x.act p.left_are x.is_line x.lines_are in
+    by_step (step_of (asked_publisher_host farm) x.act) refl x.played first
+  where
+    by_step : (o : Option Step) → step_of (asked_publisher_host farm) x.act ≡ o → IsPlayed o s t text → ((left : List EventLine) × (p.left ≡ x.act ∷ left) × IsActs after left)
+        → Played tree farm acts after t old new (gathered ++ text)
+    by_step None e played (left, is, are) = played_plan tree farm acts rest after s t old new gathered text x.act left p e is are played
+    by_step (Some step) e played (left, is, are) = played_event goes leaves tree farm acts rest after s t old new gathered text x.act left step p e is are played
+
 -- the lines after an act's are shorter
-pub next_shorter : (Stands After : RunState → Type 0) (host rest after : List ℕ) (count : ℕ) (text : List ℕ) → IsNext Stands After host rest after count text → length after + 1 ≤ length rest
-next_shorter Stands After host rest after count text x = omega (arith, ap length x.lines_are, length-append (line_of x.act) (10 ∷ after))
+pub next_shorter : (host rest after : List ℕ) (s t : Session) (text : List ℕ) → IsNext host rest after s t text → length after + 1 ≤ length rest
+next_shorter host rest after s t text x = omega (arith, ap length x.lines_are, length-append (line_of x.act) (10 ∷ after))
 
 -- more of the lines were sent
-pub played_sent : (tree : Content) (farm : Farm) (acts rest : List ℕ) (count : ℕ) (Stands : RunState → Type 0) (old mid new : Option (List ℕ)) (gathered sent left : List ℕ)
-    → Played tree farm acts rest count Stands old mid gathered → new ≡ held_after mid sent → sent ++ left ≡ gathered → Played tree farm acts rest count Stands old new left
-played_sent tree farm acts rest count Stands old mid new gathered sent left p e same = record {
+pub played_sent : (tree : Content) (farm : Farm) (acts rest : List ℕ) (s : Session) (old mid new : Option (List ℕ)) (gathered sent left : List ℕ)
+    → Played tree farm acts rest s old mid gathered → new ≡ held_after mid sent → sent ++ left ≡ gathered → Played tree farm acts rest s old new left
+played_sent tree farm acts rest s old mid new gathered sent left p e same = record {
   made = p.made;
   left = p.left;
   acts_are = p.acts_are;
@@ -138,6 +210,9 @@ played_sent tree farm acts rest count Stands old mid new gathered sent left p e 
   events = p.events;
   steps = p.steps;
   run = p.run;
+  fit = p.fit;
+  armed = p.armed;
+  may_fail = p.may_fail;
   count_is = p.count_is;
   stands = p.stands;
   sent = p.sent ++ sent;
@@ -145,28 +220,28 @@ played_sent tree farm acts rest count Stands old mid new gathered sent left p e 
   text_is = p.text_is ∙ ap (λ t. p.sent ++ t) (sym same) ∙ sym (append_assoc p.sent sent left);
 }
 
-session_of : (tree : Content) (farm : Farm) (acts : List ℕ) (made left : List EventLine) (events : List Event) (s : Scenario) → s.acts ≡ acts → content_of s.content ≡ Ok tree
-    → farm_in (farm_text s.farm) ≡ Ok farm → IsActs acts (made ++ left) → map (λ (e : Event). e.step) events ≡ map (step_of (asked_publisher_host farm)) made
-    → Run (start_of (sling_start farm tree)) events → IsSession s left events
-session_of tree farm acts made left events s same reads farm_reads are steps run = record {
+session_of : (tree : Content) (farm : Farm) (acts rest : List ℕ) (t : Session) (old new : Option (List ℕ)) (gathered : List ℕ) (s : Scenario) → s.acts ≡ acts → content_of s.content ≡ Ok tree
+    → farm_in (farm_text s.farm) ≡ Ok farm → (p : Played tree farm acts rest t old new gathered) → IsSession s p.left p.events
+session_of tree farm acts rest t old new gathered s same reads farm_reads p = record {
   tree = tree;
   reads = reads;
   farm = farm;
   farm_reads = farm_reads;
-  made = made;
-  acts = subst (λ (b : List ℕ). IsActs b (made ++ left)) (sym same) are;
-  steps = steps;
-  run = run;
+  made = p.made;
+  acts = subst (λ (b : List ℕ). IsActs b (p.made ++ p.left)) (sym same) p.acts_are;
+  steps = p.steps;
+  run = p.run;
+  armed = p.armed;
 }
 
 -- only a prefix of what was gathered was written
-prefix_due : (tree : Content) (farm : Farm) (acts rest : List ℕ) (count k : ℕ) (Stands : RunState → Type 0) (mid : Option (List ℕ)) (gathered : List ℕ) (sink : StreamReport (List ℕ))
-    → Played tree farm acts rest count Stands sink.old mid gathered → sink.new ≡ held_after mid (take k gathered) → (s : Scenario) → s.acts ≡ acts
+prefix_due : (tree : Content) (farm : Farm) (acts rest : List ℕ) (k : ℕ) (t : Session) (mid : Option (List ℕ)) (gathered : List ℕ) (sink : StreamReport (List ℕ))
+    → Played tree farm acts rest t sink.old mid gathered → sink.new ≡ held_after mid (take k gathered) → (s : Scenario) → s.acts ≡ acts
     → content_of s.content ≡ Ok tree → farm_in (farm_text s.farm) ≡ Ok farm → Broken (IsDueOf s) sink
-prefix_due tree farm acts rest count k Stands mid gathered sink p e s same reads farm_reads =
+prefix_due tree farm acts rest k t mid gathered sink p e s same reads farm_reads =
     let long = length p.sent in record {
       writing = Events s p.events;
-      due = (refl, (p.left, session_of tree farm acts p.made p.left p.events s same reads farm_reads p.acts_are p.steps p.run));
+      due = (refl, (p.left, session_of tree farm acts rest t _ _ gathered s same reads farm_reads p));
       wrote = (
         long + k,
         e ∙ ap (λ m. held_after m (take k gathered)) p.written ∙ added-added sink.old p.sent (take k gathered)
@@ -175,26 +250,26 @@ prefix_due tree farm acts rest count k Stands mid gathered sink p e s same reads
     }
 
 -- the sink failed, or lacked memory, while it was to take what was gathered
-pub broken_off : (tree : Content) (farm : Farm) (acts rest : List ℕ) (count k : ℕ) (Stands : RunState → Type 0) (mid : Option (List ℕ)) (gathered : List ℕ) (fault : SinkFault)
-    (sink : StreamReport (List ℕ)) → Played tree farm acts rest count Stands sink.old mid gathered → sink.new ≡ held_after mid (take k gathered)
+pub broken_off : (tree : Content) (farm : Farm) (acts rest : List ℕ) (k : ℕ) (t : Session) (mid : Option (List ℕ)) (gathered : List ℕ) (fault : SinkFault)
+    (sink : StreamReport (List ℕ)) → Played tree farm acts rest t sink.old mid gathered → sink.new ≡ held_after mid (take k gathered)
     → HasSinkCause {T = Unit {0}} sink.faults_old sink.faults_new (Err fault) → PlaysAll tree farm acts (ending_by fault) sink
-broken_off tree farm acts rest count k Stands mid gathered sink_failed sink p e cause = λ s same reads farm_reads.
-    (prefix_due tree farm acts rest count k Stands mid gathered sink p e s same reads farm_reads, cause)
-broken_off tree farm acts rest count k Stands mid gathered sink_memory sink p e cause = λ s same reads farm_reads.
-    (prefix_due tree farm acts rest count k Stands mid gathered sink p e s same reads farm_reads, cause)
+broken_off tree farm acts rest k t mid gathered sink_failed sink p e cause = λ s same reads farm_reads.
+    (prefix_due tree farm acts rest k t mid gathered sink p e s same reads farm_reads, cause)
+broken_off tree farm acts rest k t mid gathered sink_memory sink p e cause = λ s same reads farm_reads.
+    (prefix_due tree farm acts rest k t mid gathered sink p e s same reads farm_reads, cause)
 
 -- no more events are made, since memory ran out, and what was gathered is written
-pub played_stopped : (tree : Content) (farm : Farm) (acts rest : List ℕ) (count : ℕ) (Stands : RunState → Type 0) (mid : Option (List ℕ)) (gathered : List ℕ) (ending : Ending)
-    (sink : StreamReport (List ℕ)) → Played tree farm acts rest count Stands sink.old mid gathered
+pub played_stopped : (tree : Content) (farm : Farm) (acts rest : List ℕ) (t : Session) (mid : Option (List ℕ)) (gathered : List ℕ) (ending : Ending)
+    (sink : StreamReport (List ℕ)) → Played tree farm acts rest t sink.old mid gathered
     → TellsText NoMemory gathered ending (report_of mid sink.new sink.faults_old sink.faults_new) → PlaysAll tree farm acts ending sink
-played_stopped tree farm acts rest count Stands mid gathered ending sink p (inl t) =
-    subst (λ x. PlaysAll tree farm acts x sink) (sym t.0)
-    (broken_off tree farm acts rest count (length gathered) Stands mid gathered sink_memory sink p
-    (t.1 ∙ ap (held_after mid) (sym (take_all (length gathered) gathered (omega arith)))) t.2)
-played_stopped tree farm acts rest count Stands mid gathered ending sink p (inr (inl t)) =
-    subst (λ x. PlaysAll tree farm acts x sink) (sym t.0) (broken_off tree farm acts rest count t.1.0 Stands mid gathered sink_failed sink p t.1.1 t.2)
-played_stopped tree farm acts rest count Stands mid gathered ending sink p (inr (inr t)) =
-    subst (λ x. PlaysAll tree farm acts x sink) (sym t.0) (broken_off tree farm acts rest count t.1.0 Stands mid gathered sink_memory sink p t.1.1 t.2)
+played_stopped tree farm acts rest t mid gathered ending sink p (inl told) =
+    subst (λ x. PlaysAll tree farm acts x sink) (sym told.0)
+    (broken_off tree farm acts rest (length gathered) t mid gathered sink_memory sink p
+    (told.1 ∙ ap (held_after mid) (sym (take_all (length gathered) gathered (omega arith)))) told.2)
+played_stopped tree farm acts rest t mid gathered ending sink p (inr (inl told)) =
+    subst (λ x. PlaysAll tree farm acts x sink) (sym told.0) (broken_off tree farm acts rest told.1.0 t mid gathered sink_failed sink p told.1.1 told.2)
+played_stopped tree farm acts rest t mid gathered ending sink p (inr (inr told)) =
+    subst (λ x. PlaysAll tree farm acts x sink) (sym told.0) (broken_off tree farm acts rest told.1.0 t mid gathered sink_memory sink p told.1.1 told.2)
 
 pub no_bytes : (xs : List ℕ) → length xs ≡ 0 → xs ≡ []
 no_bytes [] e = refl
@@ -207,21 +282,21 @@ none_left rest (act ∷ left) are e =
     absurd (omega (arith, ap length (sym are.bytes_are ∙ e), length-append (line_of act) (10 ∷ text_of_lines (map line_of left))))
 
 -- all acts were done, and what was gathered is written
-pub played_all : (tree : Content) (farm : Farm) (acts rest : List ℕ) (count : ℕ) (Stands : RunState → Type 0) (mid : Option (List ℕ)) (gathered : List ℕ) (ending : Ending)
-    (sink : StreamReport (List ℕ)) → rest ≡ [] → Played tree farm acts rest count Stands sink.old mid gathered
+pub played_all : (tree : Content) (farm : Farm) (acts rest : List ℕ) (t : Session) (mid : Option (List ℕ)) (gathered : List ℕ) (ending : Ending)
+    (sink : StreamReport (List ℕ)) → rest ≡ [] → Played tree farm acts rest t sink.old mid gathered
     → TellsText Done gathered ending (report_of mid sink.new sink.faults_old sink.faults_new) → PlaysAll tree farm acts ending sink
-played_all tree farm acts rest count Stands mid gathered ending sink whole p (inl t) =
-    subst (λ x. PlaysAll tree farm acts x sink) (sym t.0) (λ s same reads farm_reads.
-    let session = session_of tree farm acts p.made p.left p.events s same reads farm_reads p.acts_are p.steps p.run in record {
+played_all tree farm acts rest t mid gathered ending sink whole p (inl told) =
+    subst (λ x. PlaysAll tree farm acts x sink) (sym told.0) (λ s same reads farm_reads.
+    let session = session_of tree farm acts rest t _ _ gathered s same reads farm_reads p in record {
       writing = Events s p.events;
       due = (refl, (p.left, session));
       ends = (refl, subst (λ (left : List EventLine). IsSession s left p.events) (none_left rest p.left p.left_are whole) session);
-      wrote = (t.1 ∙ ap (λ m. held_after m gathered) p.written ∙ added-added sink.old p.sent gathered ∙ ap (held_after sink.old) (sym p.text_is), t.2);
+      wrote = (told.1 ∙ ap (λ m. held_after m gathered) p.written ∙ added-added sink.old p.sent gathered ∙ ap (held_after sink.old) (sym p.text_is), told.2);
     })
-played_all tree farm acts rest count Stands mid gathered ending sink whole p (inr (inl t)) =
-    subst (λ x. PlaysAll tree farm acts x sink) (sym t.0) (broken_off tree farm acts rest count t.1.0 Stands mid gathered sink_failed sink p t.1.1 t.2)
-played_all tree farm acts rest count Stands mid gathered ending sink whole p (inr (inr t)) =
-    subst (λ x. PlaysAll tree farm acts x sink) (sym t.0) (broken_off tree farm acts rest count t.1.0 Stands mid gathered sink_memory sink p t.1.1 t.2)
+played_all tree farm acts rest t mid gathered ending sink whole p (inr (inl told)) =
+    subst (λ x. PlaysAll tree farm acts x sink) (sym told.0) (broken_off tree farm acts rest told.1.0 t mid gathered sink_failed sink p told.1.1 told.2)
+played_all tree farm acts rest t mid gathered ending sink whole p (inr (inr told)) =
+    subst (λ x. PlaysAll tree farm acts x sink) (sym told.0) (broken_off tree farm acts rest told.1.0 t mid gathered sink_memory sink p told.1.1 told.2)
 
 -- what a text tells of the sink, from the call's beginning on
 pub told_from : (good : Ending) (gathered text : List ℕ) (ending : Ending) (mid : Option (List ℕ)) (faults : ℕ) (sink : StreamReport (List ℕ)) → text ≡ gathered

@@ -1,6 +1,8 @@
 pub mod FilterParts
 pub mod Farms
 pub mod Runs
+pub mod ScriptedDisks
+pub mod SessionLaws
 pub mod SessionsWithMemory
 pub mod Fronts
 pub mod Streams

@@ -1,5 +1,6 @@
 -- Which events a scenario has.
-use Rattle.std.specs.Prelude.{◌≡◌, ◌==◌, ◌++◌, if◌then◌else◌, ℕ, List, [], ◌∷◌, Ok, codes, length, map}
+use Rattle.std.specs.Prelude.{◌≡◌, ◌==◌, ◌++◌, ◌&&◌, if◌then◌else◌, ℕ, Bool, true, false, not, List, [], ◌∷◌, Option, Some, None, Ok, IsTrue, codes, length, map}
+use Rattle.std.specs.List.{filter_map}
 use Rattle.std.specs.Fmt.{decimal}
 use Rattle.resource_tree.specs.Content.{Content}
 use Rattle.content_json.specs.ContentOf.{content as content_of}
@@ -10,16 +11,19 @@ use Rattle.replay_text.specs.declared.event_line.Flight.{Flight}
 use Rattle.replay_text.specs.declared.event_line.Flight.TheVariants as flight
 use Rattle.replay_text.specs.declared.scenario.Scenario.{Scenario}
 use Rattle.replay_text.specs.Scenario.{IsActs}
-use Rattle.replay_text.specs.Transcript.{transcript}
-use Rattle.front.specs.declared.step.Pick.{Pick}
-use Rattle.front.specs.declared.step.Pick.TheVariants.{Number, First}
-use Rattle.front.specs.declared.step.Step.{Step}
-use Rattle.front.specs.declared.step.Step.TheVariants.{Opened, Piece, Gone, Direct, Render, Deliver, Lose}
+use Rattle.replay_text.specs.Transcript.{action_text, transcript}
+use Rattle.run_events.specs.declared.step.Pick.{Pick}
+use Rattle.run_events.specs.declared.step.Pick.TheVariants.{Number, First}
+use Rattle.run_events.specs.declared.step.Step.{Step}
+use Rattle.run_events.specs.declared.step.Step.TheVariants.{Opened, Piece, Gone, Direct, Render, Deliver, Lose, Purge, Restart}
 use Rattle.sp_base.specs.Limits.{http_port}
 use Rattle.any_config.specs.declared.farm.Farm.{Farm}
-use Rattle.front.specs.Publishers.{Publishing}
-use Rattle.front.specs.Events.{Event, Run, notes_of}
-use Rattle.front.specs.States.{Start, start_of}
+use Rattle.cover_rules.specs.declared.invalidation.Action.{Action}
+use Rattle.cache_log.specs.Entries.{Session}
+use Rattle.run_events.specs.Causes.{SpoilAtMost}
+use Rattle.run_events.specs.Publishers.{Publishing}
+use Rattle.run_events.specs.Events.{Event, Run, after_event, notes_of, state_before_notes}
+use Rattle.run_events.specs.States.{RunState, Start, start_of}
 use Rattle.sling_dispatch.specs.Farms.{farm_in, farm_text}
 
 -- ---- the requests that lines ask for (RFC 9112, sections 2.1 and 3)
@@ -46,6 +50,18 @@ post_bytes host target form =
     head_line (codes "POST " ++ (target ++ codes " HTTP/1.1"))
     ++ (host_line host ++ (head_line (codes "Content-Type: application/x-www-form-urlencoded") ++ (head_line (codes "Content-Length: " ++ decimal (length form)) ++ (head_line [] ++ form))))
 
+-- the field that says that the resource alone is meant, where it is
+abbrev pub scope_line : Bool → List ℕ
+scope_line true = head_line (codes "CQ-Action-Scope: ResourceOnly")
+scope_line false = []
+
+-- a request for an invalidation at a host (Adobe Dispatcher manual, "Invalidating Cached Pages From AEM")
+abbrev pub flush_bytes : List ℕ → Action → List ℕ → Bool → List ℕ
+flush_bytes host action handle only =
+    head_line (codes "POST /dispatcher/invalidate.cache HTTP/1.1")
+    ++ (host_line host ++ (head_line (codes "CQ-Action: " ++ action_text action) ++ (head_line (codes "CQ-Handle: " ++ handle)
+    ++ (scope_line only ++ (head_line (codes "Content-Length: 0") ++ head_line [])))))
+
 -- ---- what lines do
 
 -- the flight that a line names: the one with a number, or the first that can be taken
@@ -53,17 +69,45 @@ abbrev pub pick_of : Flight → Pick
 pick_of flight.First = First
 pick_of (flight.Numbered n) = Number n
 
--- what a line of a scenario does, where this host is asked
-abbrev pub step_of : List ℕ → EventLine → Step
-step_of host (line.Direct target) = Direct target
-step_of host (line.Open c peer) = Opened c peer
-step_of host (line.Close c) = Gone c
-step_of host (line.Bytes c bytes) = Piece c bytes
-step_of host (line.Get c target) = Piece c (get_bytes host target)
-step_of host (line.Post c target form) = Piece c (post_bytes host target form)
-step_of host (line.Render flight) = Render (pick_of flight)
-step_of host (line.Deliver flight) = Deliver (pick_of flight)
-step_of host (line.Lose flight) = Lose (pick_of flight)
+-- what a line of a scenario does, where this host is asked: that a call of the disk is to fail is no event
+abbrev pub step_of : List ℕ → EventLine → Option Step
+step_of host (line.Direct target) = Some (Direct target)
+step_of host (line.Open c peer) = Some (Opened c peer)
+step_of host (line.Close c) = Some (Gone c)
+step_of host (line.Bytes c bytes) = Some (Piece c bytes)
+step_of host (line.Get c target) = Some (Piece c (get_bytes host target))
+step_of host (line.Post c target form) = Some (Piece c (post_bytes host target form))
+step_of host (line.Flush c action handle only) = Some (Piece c (flush_bytes host action handle only))
+step_of host (line.Render flight) = Some (Render (pick_of flight))
+step_of host (line.Deliver flight) = Some (Deliver (pick_of flight))
+step_of host (line.Lose flight) = Some (Lose (pick_of flight))
+step_of host line.Purge = Some Purge
+step_of host line.Restart = Some Restart
+step_of host (line.Fail n way) = None
+
+-- ---- how the disk fails
+
+-- how much an event may spoil
+abbrev pub may_spoil : Bool → ℕ
+may_spoil true = 1
+may_spoil false = 0
+
+-- The disk fails in the event only where it may, and then at most one request or flush is spoilt.
+pub record IsArmed (armed : Bool) (w : RunState) (e : Event) : Type 0 where
+  pub may_fail : IsTrue e.conditions.disk_failed → IsTrue armed
+  pub spoils : SpoilAtMost (may_spoil e.conditions.disk_failed) (state_before_notes w e e.step) e.body
+
+-- the disk may fail after this, where it might before: after an event in which it did, it may not
+abbrev pub armed_after_event : Bool → Event → Bool
+armed_after_event armed e = armed && not e.conditions.disk_failed
+
+-- The disk fails as the lines say, of each of which this is the step, if it has one: in an event only where a line that plans a failure came
+-- before it, since which no event's disk failed.
+abbrev pub AreArmed : Bool → RunState → List (Option Step) → List Event → Type 0
+AreArmed armed w [] events = Unit {0}
+AreArmed armed w (None ∷ steps) events = AreArmed true w steps events
+AreArmed armed w (Some step ∷ steps) [] = Unit {0}
+AreArmed armed w (Some step ∷ steps) (e ∷ events) = IsArmed armed w e × AreArmed (armed_after_event armed e) (after_event w e) steps events
 
 -- ---- sessions
 
@@ -71,16 +115,16 @@ step_of host (line.Lose flight) = Lose (pick_of flight)
 abbrev pub sling_publisher : Publishing
 sling_publisher content ask = record { answer = answer_to_request content ask; content = content_after_request content ask }
 
--- what a session begins with
+-- what a session begins with: no files, and a log in which a first session began
 abbrev pub sling_start : Farm → Content → Start
-sling_start farm tree = record { publishing = sling_publisher; farm = farm; content = tree }
+sling_start farm tree = record { publishing = sling_publisher; farm = farm; content = tree; log = Session 1 ∷ []; found = 0 }
 
 -- the transcript of events
 abbrev pub told_of_events : List Event → List ℕ
 told_of_events events = transcript (map notes_of events)
 
 -- The content and the farm of the scenario have a reading, and these are the events of its acts but for some that are left at the end:
--- a run of the publisher on that content, before that farm.
+-- a run of the publisher on that content behind a cache that begins without files, before that farm; and the disk fails as the acts say.
 pub record IsSession (s : Scenario) (left : List EventLine) (events : List Event) : Type 0 where
   pub tree : Content
   pub reads : content_of s.content ≡ Ok tree
@@ -88,5 +132,6 @@ pub record IsSession (s : Scenario) (left : List EventLine) (events : List Event
   pub farm_reads : farm_in (farm_text s.farm) ≡ Ok farm
   pub made : List EventLine
   pub acts : IsActs s.acts (made ++ left)
-  pub steps : map (λ (e : Event). e.step) events ≡ map (step_of (asked_publisher_host farm)) made
+  pub steps : map (λ (e : Event). e.step) events ≡ filter_map (step_of (asked_publisher_host farm)) made
   pub run : Run (start_of (sling_start farm tree)) events
+  pub armed : AreArmed false (start_of (sling_start farm tree)) (map (step_of (asked_publisher_host farm)) made) events

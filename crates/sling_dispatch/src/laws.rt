@@ -7,9 +7,11 @@ ghost use Rattle.any_config.specs.declared.farm.Farm as models;
 ghost use Rattle.url_split.specs.declared.decompose.Parts as split;
 ghost use Rattle.url_split.specs.Split.{IsSplit};
 ghost use Rattle.dispatch_rules.specs.UrlParts.{stem};
-ghost use Rattle.front.specs.Publishers.{direct_answer};
-ghost use Rattle.front.specs.Events.{Event, notes_of};
+ghost use Rattle.run_events.specs.Publishers.{direct_answer};
+ghost use Rattle.run_events.specs.Events.{Event, notes_of};
 ghost use Rattle.replay_text.specs.Scenario.{ReadsScenario};
+ghost use Rattle.replay_text.specs.Transcript.{told_notes};
+ghost use Rattle.sling_dispatch.specs.SessionLaws.{SessionHitsAreFresh, SessionLogsAreLegal, SessionRepliesInFlightAreNotStored, SessionsServeKeptPages};
 ghost use Rattle.sling_dispatch.specs.SessionsWithMemory.{SessionsWithMemoryAreOne};
 ghost use Rattle.sling_dispatch.specs.Endings.{StreamReport, RunCall, Means, IsDue, IsReplay, HasNotFailed, HasContent, HasFarm};
 ghost use Rattle.sling_dispatch.specs.declared.ending.Ending.{Ending};
@@ -19,9 +21,12 @@ ghost use Rattle.sling_dispatch.specs.Runs.{IsSession, sling_publisher, told_of_
 ghost use Rattle.replay_text.specs.declared.event_line.EventLine.{EventLine};
 ghost use Rattle.replay_text.specs.declared.scenario.Scenario.{Scenario};
 
-use front::runs_with_memory_are_determined;
 use publisher::statuses_are_short;
 use replay_text::{a_transcript_tells_its_events, acts_are_told_by_their_lines, one_reading};
+use run_laws::{
+    answers_of_hits_are_fresh, kept_pages_are_served, logs_are_legal, notes_name_pages,
+    replies_in_flight_are_not_stored, runs_with_memory_are_determined,
+};
 
 /// How the path of a target is escaped doesn't matter, apart from the slash that it begins with, nor which query follows.
 pub fn spellings_are_answered_alike()
@@ -40,10 +45,13 @@ pub fn complete()
     one_reading();
 }
 
-/// A transcript tells what happened in its session: no two sessions have the same, but those in which the same happened.
+/// A transcript tells what the lines of its session's events can tell: no two sessions of scenarios that are read have the same, but those in
+/// which the same is told. (Such a scenario has too few lines for an epoch that doesn't fit 64 bits.)
 pub fn a_transcript_tells_its_session()
-    ensures { (s t : Scenario) (left right : List EventLine) (a b : List Event) → IsSession s left a → IsSession t right b → told_of_events a ≡ told_of_events b → map notes_of a ≡ map notes_of b }
+    ensures { (read other : List ℕ) (s t : Scenario) (left right : List EventLine) (a b : List Event) → ReadsScenario read s → ReadsScenario other t → IsSession s left a → IsSession t right b
+        → told_of_events a ≡ told_of_events b → map told_notes (map notes_of a) ≡ map told_notes (map notes_of b) }
 {
+    notes_name_pages();
     statuses_are_short();
     a_transcript_tells_its_events();
 }
@@ -54,11 +62,40 @@ pub fn a_filter_sees_the_decomposition()
     ensures { (known : List (List ℕ) → Bool) (text : List ℕ) (parts : split.Parts) (s : IsSplit known text parts) → s.at ≡ length (stem text) → SeesParts text parts }
 {}
 
-/// A scenario has one transcript, where memory runs out in no event and the streams end alike. (They do if in the first no stream that
-/// is still read ends within a target that isn't UTF-8 and can't become it: `front`'s law `streams_with_memory_end_alike`.)
+/// A scenario has one transcript, where in no event the disk fails or memory runs out, no page is served from the cache, and no flush
+/// begins; and where the streams end alike. (They do if in the first no stream that is still read ends within a target that isn't UTF-8 and
+/// can't become it: the law `streams_with_memory_end_alike` of `run_laws`.)
 pub fn a_session_with_memory_has_one_transcript()
     ensures { SessionsWithMemoryAreOne }
 {
     acts_are_told_by_their_lines();
     runs_with_memory_are_determined();
+}
+
+/// The log of the cache is legal in each session.
+pub fn session_logs_are_legal()
+    ensures { SessionLogsAreLegal }
+{
+    logs_are_legal();
+}
+
+/// After a flush that was answered 200 no hit is older.
+pub fn session_hits_are_fresh()
+    ensures { SessionHitsAreFresh }
+{
+    answers_of_hits_are_fresh();
+}
+
+/// A reply in flight as a flush begins that covers its page is never stored.
+pub fn session_replies_in_flight_are_not_stored()
+    ensures { SessionRepliesInFlightAreNotStored }
+{
+    replies_in_flight_are_not_stored();
+}
+
+/// A kept page that no flush covered since is served without a render, where neither the disk fails nor memory runs out.
+pub fn sessions_serve_kept_pages()
+    ensures { SessionsServeKeptPages }
+{
+    kept_pages_are_served();
 }

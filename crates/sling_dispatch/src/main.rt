@@ -9,6 +9,8 @@ mod laws;
 mod play;
 mod program;
 mod renderer;
+mod scripted_disk;
+mod session;
 mod steps;
 mod streams;
 

@@ -1,22 +1,17 @@
 //! Makes the events of a scenario, and writes its transcript in large parts.
-ghost use Rattle.std.specs.Prelude.{◌≡◌, ◌≢◌, ◌++◌, [], ℕ, List, IfOk, OnOk, OnErr, take, true, false};
+ghost use Rattle.std.specs.Prelude.{◌≡◌, ◌++◌, ℕ, List, IfOk, OnOk, OnErr, take, true, false};
 ghost use Rattle.sp_outside.specs.Told.{held_after};
 ghost use Rattle.sp_outside.specs.Causes.{HasSinkCause};
-ghost use Rattle.sling_dispatch.specs.Fronts.{IsNext};
-ghost use Rattle.sling_dispatch.specs.Runs.{sling_publisher};
-ghost use Rattle.front.specs.Fronts.{FrontStandsFor};
 ghost use Rattle.sling_dispatch.specs.Endings.{report_of};
 ghost use Rattle.sling_dispatch.specs.InnerEndings.{AreActLines, TellsText, ending_by, PlaysAll};
 
 use crate::ending::Ending;
-use crate::renderer::PublisherRenderer;
-use crate::steps::{asked_host, step_of};
+use crate::session::Session;
 use crate::streams::write_all;
 use any_config::Farm;
-use front::{Front, events_extend};
 use publisher::Publisher;
-use replay_text::{acts_are_told_by_their_lines, first_act, write_notes};
-use sp_base::Mem;
+use replay_text::acts_are_told_by_their_lines;
+use run_laws::events_extend;
 use sp_outside::{Sink, SinkFault};
 use std::alloc::Global;
 use std::mem::forget;
@@ -57,26 +52,25 @@ pub fn play<K: Sink>(
 {
     events_extend();
     acts_are_told_by_their_lines();
-    let Ok(host) = asked_host(alloc, &farm) else {
+    let Ok(mut session) = Session::begin(alloc, publisher, farm) else {
         return Ending::NoMemory;
     };
-    let mut front = Front::new(alloc, PublisherRenderer { publisher }, farm);
     let mut gathered = Vec::new(alloc);
-    let mut event = 0;
     let mut rest = acts;
     while !rest.is_empty() {
-        event += 1;
-        let Ok((text, after)) = event_of(alloc, &mut front, &host, event, rest) else {
+        let Ok((text, after)) = session.play_line(alloc, rest) else {
+            drop(session.end());
             return say(sink, &gathered, Ending::NoMemory);
         };
         if let Err(fault) = gather(sink, &mut gathered, &text) {
+            drop(session.end());
             return ending_by(fault);
         }
         rest = after;
     }
     // The program ends with its run, and the system takes all memory back at once: given up node by node, a large content would cost
     // a seventh of the time that it took to read.
-    forget(front);
+    forget(session.end());
     say(sink, &gathered, Ending::Done)
 }
 
@@ -104,25 +98,4 @@ fn keep(gathered: &mut Vec<u8>, text: &[u8]) -> bool
         return false;
     }
     gathered.extend_from_slice(text).is_ok()
-}
-
-// The lines of the next event, that of the act whose line stands first, and the lines after that one.
-fn event_of<'a>(
-    alloc: Global,
-    front: &mut Front<PublisherRenderer>,
-    host: &[u8],
-    event: u64,
-    lines: &'a [u8],
-) -> Mem<(Vec<u8>, &'a [u8])>
-    requires { AreActLines lines.now × (lines.now ≢ []) }
-    ensures { IfOk result (λ p. IsNext (FrontStandsFor sling_publisher front.old.renderer.publisher front.old.farm front.old.board) (FrontStandsFor sling_publisher front.new.renderer.publisher front.new.farm front.new.board) host.now lines.now p.1.now event p.0.items) }
-{
-    acts_are_told_by_their_lines();
-    let Some((act, rest)) = first_act(alloc, lines)? else {
-        unreachable!();
-    };
-    let step = step_of(alloc, host, act)?;
-    let notes = front.step(alloc, &step)?;
-    let text = write_notes(alloc, event, notes.as_slice())?;
-    Ok((text, rest))
 }

@@ -1,12 +1,17 @@
 //! What the lines of a scenario do.
-ghost use Rattle.std.specs.Prelude.{◌≡◌, ◌++◌, IfOk, OnOk, codes};
+ghost use Rattle.std.specs.Prelude.{◌≡◌, ◌++◌, IfOk, OnOk, Some, codes};
+ghost use Rattle.replay_text.specs.Transcript.{action_text};
+ghost use Rattle.run_events.specs.declared.step.Step.TheVariants as model;
+ghost use Rattle.sling_dispatch.specs.Fronts.{step_of_task};
 ghost use Rattle.sling_dispatch.specs.Runs as runs;
 
 use any_config::Farm;
 use connections::{ConnectionId, FlightId};
+use cover_rules::Action;
 use front::{Pick, Step};
 use replay_text::{EventLine, Flight};
 use sp_base::{ByteBuf, HTTP_PORT, Mem};
+use sp_outside::Way;
 use std::alloc::Global;
 
 /// The host that a farm's publisher is asked at, with its port where it isn't that of HTTP.
@@ -23,27 +28,47 @@ pub fn asked_host(alloc: Global, farm: &Farm) -> Mem<Vec<u8>>
     Ok(host)
 }
 
-/// What a line of a scenario does, where this host is asked.
-pub fn step_of(alloc: Global, host: &[u8], line: EventLine) -> Mem<Step>
-    ensures { IfOk result (λ step. step ≡ runs.step_of host.now line) }
+/// What a line of a scenario asks for.
+#[derive(Drop)]
+pub enum Task {
+    /// A step of the front.
+    Step(Step),
+    /// That this one of the disk's next calls fails.
+    Fail(u64, Way),
+}
+
+/// What a line of a scenario asks for, where this host is asked.
+pub fn task_of(alloc: Global, host: &[u8], line: EventLine) -> Mem<Task>
+    ensures { IfOk result (λ task. step_of_task task ≡ runs.step_of host.now line) }
 {
     match line {
-        EventLine::Direct(target) => Ok(Step::Direct(target)),
-        EventLine::Open(c, peer) => Ok(Step::Opened(ConnectionId::new(c), peer)),
-        EventLine::Close(c) => Ok(Step::Gone(ConnectionId::new(c))),
-        EventLine::Bytes(c, bytes) => Ok(Step::Piece(ConnectionId::new(c), bytes)),
-        EventLine::Get(c, target) => {
-            let bytes = get_bytes(alloc, host, target.text())?;
-            Ok(Step::Piece(ConnectionId::new(c), bytes))
-        }
+        EventLine::Direct(target) => Ok(Task::Step(Step::Direct(target))),
+        EventLine::Open(c, peer) => Ok(Task::Step(Step::Opened(ConnectionId::new(c), peer))),
+        EventLine::Close(c) => Ok(Task::Step(Step::Gone(ConnectionId::new(c)))),
+        EventLine::Bytes(c, bytes) => Ok(piece(c, bytes)),
+        EventLine::Get(c, target) => Ok(piece(c, get_bytes(alloc, host, target.text())?)),
         EventLine::Post(c, target, form) => {
             let bytes = post_bytes(alloc, host, target.text(), form.bytes())?;
-            Ok(Step::Piece(ConnectionId::new(c), bytes))
+            Ok(piece(c, bytes))
         }
-        EventLine::Render(flight) => Ok(Step::Render(pick_of(flight))),
-        EventLine::Deliver(flight) => Ok(Step::Deliver(pick_of(flight))),
-        EventLine::Lose(flight) => Ok(Step::Lose(pick_of(flight))),
+        EventLine::Flush(c, action, handle, only) => {
+            let bytes = flush_bytes(alloc, host, action, handle.text(), only)?;
+            Ok(piece(c, bytes))
+        }
+        EventLine::Render(flight) => Ok(Task::Step(Step::Render(pick_of(flight)))),
+        EventLine::Deliver(flight) => Ok(Task::Step(Step::Deliver(pick_of(flight)))),
+        EventLine::Lose(flight) => Ok(Task::Step(Step::Lose(pick_of(flight)))),
+        EventLine::Purge => Ok(Task::Step(Step::Purge)),
+        EventLine::Restart => Ok(Task::Step(Step::Restart)),
+        EventLine::Fail(n, way) => Ok(Task::Fail(n, way)),
     }
+}
+
+// Bytes come on a connection.
+fn piece(c: u32, bytes: ByteBuf) -> Task
+    ensures { step_of_task result ≡ Some (model.Piece c bytes) }
+{
+    Task::Step(Step::Piece(ConnectionId::new(c), bytes))
 }
 
 fn pick_of(flight: Flight) -> Pick
@@ -98,5 +123,40 @@ fn post_bytes(alloc: Global, host: &[u8], target: &str, form: &[u8]) -> Mem<Byte
     push_head_line(&mut bytes, b"Content-Length: ", length.as_bytes())?;
     bytes.extend_from_slice(b"\r\n")?;
     bytes.extend_from_slice(form)?;
+    Ok(ByteBuf::from(bytes))
+}
+
+fn action_name(action: Action) -> &'static [u8]
+    ensures { result.now ≡ action_text action }
+{
+    match action {
+        Action::Activate => b"Activate",
+        Action::Deactivate => b"Deactivate",
+        Action::Delete => b"Delete",
+    }
+}
+
+// That the resource alone is meant, where it is.
+fn push_scope(out: &mut Vec<u8>, only: bool) -> Mem<()>
+    ensures { OnOk result (out.new.items ≡ out.old.items ++ runs.scope_line only) }
+{
+    if only {
+        push_head_line(out, b"CQ-Action-Scope: ", b"ResourceOnly")?;
+    }
+    Ok(())
+}
+
+// A request for an invalidation at a host.
+fn flush_bytes(alloc: Global, host: &[u8], action: Action, handle: &str, only: bool) -> Mem<ByteBuf>
+    ensures { IfOk result (λ bytes. bytes ≡ runs.flush_bytes host.now action handle.now only) }
+{
+    let mut bytes = Vec::new(alloc);
+    push_request_line(&mut bytes, b"POST ", "/dispatcher/invalidate.cache")?;
+    push_head_line(&mut bytes, b"Host: ", host)?;
+    push_head_line(&mut bytes, b"CQ-Action: ", action_name(action))?;
+    push_head_line(&mut bytes, b"CQ-Handle: ", handle.as_bytes())?;
+    push_scope(&mut bytes, only)?;
+    push_head_line(&mut bytes, b"Content-Length: ", b"0")?;
+    bytes.extend_from_slice(b"\r\n")?;
     Ok(ByteBuf::from(bytes))
 }

@@ -7,6 +7,7 @@ use Rattle.cache_files.specs.Epochs.{epoch_after}
 use Rattle.cache_files.specs.Pages.{IsDropLeft, files_without_page, told_without_page}
 use Rattle.stat_files.specs.Stamps.{stamp_in}
 use Rattle.docroot_changes.specs.Changes.{MayDrop, PageGone, Told}
+use Rattle.docroot_changes.proofs.CountedNames.{drop_names}
 use Rattle.docroot_changes.proofs.KeptHere.{drop_here}
 use Rattle.docroot_changes.proofs.ToldFiles.{if_err, on_ok, told_drop, told_made}
 use Rattle.docroot_changes.proofs.laws.what_a_drop_sets.Goals as goal
@@ -29,6 +30,7 @@ returns-clause-stopped c = λ result asked made before after key page stopped.
         number = record { held = stamps.epoch; next = ap epoch_after (failed.files old new key l epoch_name (apart.epoch_head key page) (apart.epoch_body key page)) };
       };
       order = c.no_stamp_is_later_than_the_session.ensures.drop_failed old new key page l;
+      names = drop_names asked made old new key fault h;
     }) left) stopped
 
 pub returns-clause-dropped : goal.returns-clause-dropped
@@ -40,4 +42,4 @@ returns-clause-dropped c = λ result before after key page ok.
     let unknown : Option (List Call) = None in
     let may : MayDrop key Disk old (files_without_page old key) =
     returns-clause-stopped c (Err Disk) unknown unknown (Some old) (Some (files_without_page old key)) key page (inr (inr (refl, (refl, inr (refl, refl))))) in
-    record { here = c.pages_have_files_of_their_own.ensures.dropped old key; beside = may.beside; order = may.order }) e) ok
+    record { here = c.pages_have_files_of_their_own.ensures.dropped old key; beside = may.beside; order = may.order; names = may.names }) e) ok

@@ -7,6 +7,7 @@ use Rattle.cache_files.specs.Epochs.{epoch_after}
 use Rattle.cache_files.specs.Pages.{IsPutLeft, files_with_page, told_with_page}
 use Rattle.stat_files.specs.Stamps.{stamp_in}
 use Rattle.docroot_changes.specs.Changes.{MayPut, PageSet, Told}
+use Rattle.docroot_changes.proofs.CountedNames.{put_names}
 use Rattle.docroot_changes.proofs.KeptHere.{put_here}
 use Rattle.docroot_changes.proofs.ToldFiles.{if_err, on_ok, told_made, told_put}
 use Rattle.docroot_changes.proofs.laws.what_a_put_sets.Goals as goal
@@ -31,6 +32,7 @@ returns-clause-stopped c = λ result asked made before after key stamp answer pa
         number = record { held = stamps.epoch; next = ap epoch_after (failed.files old new key stamp answer l epoch_name (apart.epoch_head key page) (apart.epoch_body key page)) };
       };
       order = λ session. c.no_stamp_is_later_than_the_session.ensures.put_failed old new key stamp answer (record { page = page; put = put; session = session }) l;
+      names = put_names asked made old new key stamp answer fault h;
     }) left) stopped
 
 pub returns-clause-put : goal.returns-clause-put
@@ -42,4 +44,4 @@ returns-clause-put c = λ result before after key stamp answer page put ok.
     let unknown : Option (List Call) = None in
     let may : MayPut key stamp answer Disk old (files_with_page old key stamp answer) =
     returns-clause-stopped c (Err Disk) unknown unknown (Some old) (Some (files_with_page old key stamp answer)) key stamp answer page put (inr (inr (inr (refl, inr (refl, refl))))) in
-    record { here = c.a_page_is_read_back.ensures old key stamp answer put; beside = may.beside; order = may.order }) e) ok
+    record { here = c.a_page_is_read_back.ensures old key stamp answer put; beside = may.beside; order = may.order; names = may.names }) e) ok

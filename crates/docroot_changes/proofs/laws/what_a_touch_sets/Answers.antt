@@ -6,7 +6,8 @@ use Rattle.docroot_format.specs.declared.fault.FileFault.TheVariants.{Disk}
 use Rattle.cache_files.specs.Epochs.{epoch_after}
 use Rattle.cache_files.specs.HeldStamps.{KeepsOrder}
 use Rattle.stat_files.specs.Stamps.{files_with_stamp, stamp_at, told_with_stamp}
-use Rattle.docroot_changes.specs.Changes.{BesideStamp, MayTouch, StampSet, Told}
+use Rattle.docroot_changes.specs.Changes.{AddsNames, BesideStamp, MayTouch, StampSet, Told}
+use Rattle.docroot_changes.proofs.CountedNames.{one_file, same_files}
 use Rattle.docroot_changes.proofs.KeptHere.{same_beside, touch_left}
 use Rattle.docroot_changes.proofs.ToldFiles.{if_err, on_ok, told_made, told_touch}
 use Rattle.docroot_changes.proofs.laws.what_a_touch_sets.Goals as goal
@@ -33,6 +34,7 @@ returns-clause-stopped c = λ result before after folder stamp may epoch count s
       beside = touch_left (BesideStamp folder old) old new folder stamp fault (same_beside folder old) changed whole;
       order = λ session. touch_left (KeepsOrder old) old new folder stamp fault (λ held. held)
           (c.no_stamp_is_later_than_the_session.ensures.touched old folder stamp (record { bytes = may.bytes; epoch = epoch; count = count; session = session })) whole;
+      names = touch_left (AddsNames 1 old) old new folder stamp fault (same_files old 1) (one_file old (stat_name folder) text) whole;
     }) left) stopped
 
 pub returns-clause-touched : goal.returns-clause-touched
@@ -43,4 +45,4 @@ returns-clause-touched c = λ result before after folder stamp may epoch count o
     (λ old.
     let left : MayTouch folder stamp Disk old (files_with_stamp old folder stamp) =
     returns-clause-stopped c (Err Disk) (Some old) (Some (files_with_stamp old folder stamp)) folder stamp may epoch count (inr (refl, refl)) in
-    record { here = c.a_stamp_is_read_back.ensures old folder stamp epoch count; beside = left.beside; order = left.order }) e) ok
+    record { here = c.a_stamp_is_read_back.ensures old folder stamp epoch count; beside = left.beside; order = left.order; names = left.names }) e) ok

@@ -5,7 +5,8 @@ use Rattle.docroot_format.specs.Readings.{epoch_of}
 use Rattle.docroot_format.specs.Texts.{epoch_text}
 use Rattle.cache_files.specs.Epochs.{LeftByOpening, after_epoch, epoch_after, IsOpenLeft, files_with_epoch, next_epoch, told_with_epoch}
 use Rattle.stat_files.specs.Stamps.{stamp_in}
-use Rattle.docroot_changes.specs.Changes.{BesideNumber, IsNextNumber, MayOpen, NumberSet, Told}
+use Rattle.docroot_changes.specs.Changes.{AddsNames, BesideNumber, IsNextNumber, MayOpen, NumberSet, Told}
+use Rattle.docroot_changes.proofs.CountedNames.{number_again, one_file, same_files}
 use Rattle.docroot_changes.proofs.KeptHere.{same_number}
 use Rattle.docroot_changes.proofs.NextNumber.{fits_next, next_more}
 use Rattle.docroot_changes.proofs.ToldFiles.{if_err, if_ok, told_open, told_when}
@@ -32,6 +33,8 @@ returns-clause-opened c = λ result before after counted written.
         stamps = λ folder bytes. ap (option_map stamp_in) (named.beside old epoch_name (stat_name folder) text (c.names_are_apart.ensures.epoch_stat folder bytes));
       };
       order = c.a_session_is_after_every_stamp.ensures.opened old epoch next;
+      names = one_file old epoch_name text;
+      again = number_again old text;
     }) is e) counted written
 
 pub returns-clause-stopped : goal.returns-clause-stopped
@@ -47,6 +50,8 @@ returns-clause-stopped c = λ result asked made before after stopped.
       here = inl (same_number old new same);
       beside = subst (BesideNumber old) (sym same) (record { pages = λ key page. record { page = refl; head = refl }; stamps = λ folder bytes. refl });
       order = order;
+      names = subst (AddsNames 1 old) (sym same) (same_files old 1);
+      again = λ held. subst (AddsNames 0 old) (sym same) (same_files old 0);
     })
     (λ w.
     let epoch = w.1.0 in
@@ -56,4 +61,6 @@ returns-clause-stopped c = λ result asked made before after stopped.
       here = inr (w.0, subst (λ n. IsNextNumber n old new) set.here.more set.here);
       beside = set.beside;
       order = order;
+      names = set.names;
+      again = set.again;
     }) (c.a_failed_opening_leaves_the_old_number_or_the_next.ensures.whole old new fault l)) left) stopped

@@ -1,10 +1,14 @@
-use Rattle.front.specs.Boards.{NotesGiven, OpenStandsFor}
+use Rattle.std.specs.Prelude.{false}
+use Rattle.run_events.specs.States.{RunState}
+use Rattle.front.specs.Boards.{OpenStandsFor}
+use Rattle.front.specs.Caches.{behind}
 use Rattle.front.specs.KeptConnections.{work_of}
-use Rattle.front.specs.States.{RunState}
+use Rattle.front.specs.Serving.{NotesThen}
 use Rattle.front.proofs.serve.serve_all.Given as goal
 
 abbrev pub invariant-loop-effect : goal.invariant-loop-effect
-invariant-loop-effect l = (w : RunState) → OpenStandsFor l.fn.farm w l.fn.c l.fn.connection l.fn.flights → NotesGiven l.effect.out_of_memory l.effect.notes.items l.fn.farm w l.fn.c l.connection l.flights
+invariant-loop-effect g l = (w : RunState) → OpenStandsFor w l.fn.c l.fn.connection (behind l.fn.cache (g.D.Disk.files l.fn.disk) (g.D.Disk.faults l.fn.disk))
+    → NotesThen false l.effect w l.fn.c l.connection (behind l.fn.cache (g.D.Disk.files l.fn.disk) (g.D.Disk.faults l.fn.disk)) (behind l.cache (g.D.Disk.files l.disk) (g.D.Disk.faults l.disk))
 
 abbrev pub decreases-loop-effect : goal.decreases-loop-effect
-decreases-loop-effect l = work_of l.connection
+decreases-loop-effect g l = work_of l.connection

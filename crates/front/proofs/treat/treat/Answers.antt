@@ -1,16 +1,21 @@
-use Rattle.std.proofs.Common.{false, sym, ◌∙◌}
-use Rattle.connections.specs.Slots.{Awaits, request_slot}
-use Rattle.front.proofs.ServeLemmas.{given-ask, given-away}
+use Rattle.std.proofs.Common.{◌≡◌, ◌||◌, refl, sym, ◌∙◌}
+use Rattle.connections.specs.Slots as model
+use Rattle.connections.specs.Slots.{request_slot}
+use Rattle.front.proofs.ServedLemmas.{ok-map}
+use Rattle.front.proofs.ServeLemmas.{asks-cache, given-answer, place-for}
 use Rattle.front.proofs.treat.treat.Goals as goal
+use Rattle.front.proofs.treat.treat.Goals.{then-closes, else-closes}
 
-pub returns-in_ok-turn_away-in-Here-clause-given : goal.returns-in_ok-turn_away-in-Here-clause-given
-returns-in_ok-turn_away-in-Here-clause-given c = λ w owes.
-    given-away w c.args.c c.in-Here.status c.args.connection.now c.turn_away.new.connection c.args.flights.now c.args.request c.is_crowded-crowded.result c.in-Here.out_of_memory owes (c.is_crowded-crowded.ensures owes.connection owes.owes.answers)
-    (rw c.in-Here.is at c.answering_of.ensures.is) c.in_ok-turn_away-in-Here.ensures.holds
+pub returns-then-is_crowded-clause-given : goal.returns-then-is_crowded-clause-given
+returns-then-is_crowded-clause-given g c =
+    ok-map c.turn_away.result c.turn_away.ensures.given (λ it given w owes. given w _ owes (sym (c.is_crowded.ensures owes.connection owes.owes.answers) ∙ c.if-is_crowded.true))
 
-pub returns-in_ok-push-in-InFlight-clause-given : goal.returns-in_ok-push-in-InFlight-clause-given
-returns-in_ok-push-in-InFlight-clause-given c = λ w owes.
-    let number = c.in_ok-number-in-InFlight.ensures.number in
-    let place = c.of_request-place.ensures (Awaits c.in_ok-number-in-InFlight.number) (c.next_number.ensures ∙ sym number) in
-    given-ask w c.args.c c.in_ok-number-in-InFlight.number c.args.connection.now c.push.new.self c.args.flights.now c.ask.new.self c.args.request c.is_crowded-crowded.result owes (c.is_crowded-crowded.ensures owes.connection owes.owes.answers)
-    (rw c.in-InFlight.is at c.answering_of.ensures.is) number c.in_ok-number-in-InFlight.ensures.asked c.in_ok-number-in-InFlight.ensures.flying (λ m owed. c.in_ok-push-in-InFlight.ensures.request m (request_slot c.args.request false (Awaits c.in_ok-number-in-InFlight.number)) place owed)
+pub returns-clause-given : goal.returns-clause-given
+returns-clause-given g c = λ w owes.
+    let answered = c.in_ok-note.field-0 in
+    let room = sym (c.is_crowded.ensures owes.connection owes.owes.answers) ∙ c.if-is_crowded.false in
+    let is = c.in_ok-note.ensures w (asks-cache w c.args.c c.args.connection.now _ c.args.request c.peer.result.now owes room c.peer.ensures) in
+    let closing : c.if-closes.push ≡ (answered.closes || c.of_request-place.result.closes) =
+    elim c.if-closes.branch [ then-closes v ↦ rw (v.push-is, v.if-closes.true) refl | else-closes v ↦ rw (v.push-is, v.if-closes.false) refl ] in
+    given-answer w c.args.c c.args.connection.now c.push.new.self _ _ c.args.request answered owes is
+    (λ m owed. c.in_ok-push.ensures.request m (request_slot c.args.request answered.closes is.response) (rw closing (place-for c.of_request-place.result c.args.request answered.closes answered.reply is.response (c.of_request-place.ensures model.Fixed tt) is.replies)) owed)

@@ -1,4 +1,4 @@
-use Rattle.std.proofs.Common.{◌≡◌, ◌++◌, ◌∷◌, ◌∙◌, ℕ, sym, subst}
+use Rattle.std.proofs.Common.{◌≡◌, ◌++◌, ◌∷◌, ◌∙◌, ℕ, sym, subst, arith}
 use Rattle.std.specs.Prelude.{IfNone}
 use Rattle.std.specs.Fmt.{decimal}
 use Rattle.replay_text.specs.Transcript.{IsConnectionNumber}
@@ -13,5 +13,5 @@ pub returns-in_default-2-clause-none : goal.returns-in_default-2-clause-none
 returns-in_default-2-clause-none c = λ n rest is e.
     let none = subst (λ o. IfNone o ((m : ℕ) → IsConnectionNumber m → c.in-Some-first_word.number.now ≡ decimal m → ⊥)) c.in_default-2.is c.in_ok-c.ensures.none in
     let after = same_after c.args.word.now c.in-Some.after.now (decimal n ++ 32 ∷ rest) (sym c.in-Some.ensures.some ∙ e) in
-    none n is (one_first_word c.in-Some-first_word.number.now (decimal n) c.in-Some-first_word.rest.now rest c.in-Some-first_word.ensures.some.1 (decimal_no_blank n is)
+    none n is (one_first_word c.in-Some-first_word.number.now (decimal n) c.in-Some-first_word.rest.now rest c.in-Some-first_word.ensures.some.1 (decimal_no_blank n (omega (arith, is)))
     (sym c.in-Some-first_word.ensures.some.0 ∙ after)).0

@@ -1,19 +1,11 @@
-use Rattle.std.proofs.Common.{rules, ◌≡◌, ◌<◌, ℕ, ◌∙◌, sym, arith, subst}
+use Rattle.std.proofs.Common.{◌≡◌, ◌≤◌, ◌<◌, ℕ, ◌∙◌, sym, subst}
 use Rattle.std.specs.Fmt.{decimal}
-use Rattle.std.specs.Prelude.{IfNone, IfSome}
+use Rattle.std.specs.Prelude.{IfNone}
 use Rattle.std.proofs.lemmas.Bool.{false≢true}
-use Rattle.std.proofs.lemmas.Fmt.{decimal_injective}
 use Rattle.replay_text.proofs.WordLemmas.{no_flight}
 use Rattle.replay_text.proofs.event_reader.flight.Goals as goal
 
 pub returns-in_default-clause-none : goal.returns-in_default-clause-none
 returns-in_default-clause-none c =
-    let none = subst (λ o. IfNone o ((n : ℕ) → n < 18446744073709551616 → c.args.word.now ≡ decimal n → ⊥)) c.in_default.is c.in_ok-n.ensures.none in
-    no_flight c.args.word.now (λ e. false≢true (sym c.if-same.false ∙ c.same.ensures.1 e)) (λ n from small e. none n small e)
-
-pub returns-else-n-gt0-clause-none : goal.returns-else-n-gt0-clause-none
-returns-else-n-gt0-clause-none c =
-    let some : c.args.word.now ≡ decimal c.in-Some.n = subst (λ o. IfSome o (λ n. c.args.word.now ≡ decimal n)) c.in-Some.is c.in_ok-n.ensures.some in
-    let bounded : c.in-Some.n < 18446744073709551616 = search rules in
-    no_flight c.args.word.now (λ e. false≢true (sym c.if-same.false ∙ c.same.ensures.1 e)) (λ n from small e.
-    omega (arith, from, decimal_injective n c.in-Some.n small bounded (sym e ∙ some), c.if-n-gt0.false))
+    let none = subst (λ o. IfNone o ((n : ℕ) → 1 ≤ n → n < 18446744073709551616 → c.args.word.now ≡ decimal n → ⊥)) c.in_default.is c.in_ok-n.ensures.none in
+    no_flight c.args.word.now (λ e. false≢true (sym c.if-same.false ∙ c.same.ensures.1 e)) none

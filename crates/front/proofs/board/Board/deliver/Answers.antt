@@ -1,15 +1,13 @@
-use Rattle.std.proofs.Common.{refl, sym, ◌∙◌}
-use Rattle.front.specs.Events.{is_picked}
-use Rattle.front.proofs.EventLemmas.{delivered, delivered-none, has-answer}
+use Rattle.std.proofs.Common.{refl}
+use Rattle.front.specs.Boards.{at_disk}
+use Rattle.front.proofs.EventLemmas.{delivered-none, landed}
 use Rattle.front.proofs.FrontLemmas.{ok-map-two}
 use Rattle.front.proofs.board.Board.deliver.Goals as goal
 
 pub returns-in_default : goal.returns-in_default
-returns-in_default c = ok-map-two c.one.result c.one.ensures.notes c.one.ensures.out_of_memory (λ effect notes had_memory w tied. delivered-none c.args.self.now w c.args.pick.now effect tied (sym c.first_rendered.ensures ∙ c.in_default.is) notes had_memory)
+returns-in_default g c = ok-map-two c.idle.result c.idle.ensures.notes c.idle.ensures.conditions (λ effect notes under w tied. delivered-none (at_disk c.args.self.now (g.D.Disk.files c.args.disk.now) (g.D.Disk.faults c.args.disk.now)) (at_disk (record { open_connections = c.args.self.now.open_connections; cache = c.deliver.new.self }) (g.D.Disk.files c.deliver.new.disk) (g.D.Disk.faults c.deliver.new.disk)) w c.args.pick.now effect tied (rw (c.in_default.ensures.same.0, c.in_default.ensures.same.1, c.in_default.ensures.same.2) refl) c.in_default.ensures.none notes under)
 
 pub returns : goal.returns
-returns c = λ w tied. delivered c.args.self.now c.finish.new.self c.land-number.new.self w c.args.pick.now c.in-Some.at c.land-number.result c.in-Some-rendered.answer c.in_ok-effect.effect tied (sym c.first_rendered.ensures ∙ c.in-Some.is)
-    c.land-number.ensures.landed c.in-Some-rendered.is c.land-number.ensures.flying c.land-number.ensures.asked (λ u v landing. c.in_ok-effect.ensures u v c.in-Some-rendered.answer refl landing)
-
-pub unreachable-requires : goal.unreachable-requires
-unreachable-requires c = has-answer (is_picked c.args.pick.now) c.args.self.now.flights.flying.items c.in-Some.at c.land-number.result (sym c.first_rendered.ensures ∙ c.in-Some.is) c.land-number.ensures.landed c.in_default-rendered.is
+returns g c = λ w tied.
+    let ends = (c.in-Some.ensures.landing w tied.behind_is tied.slicing_is) in
+    landed (at_disk c.args.self.now (g.D.Disk.files c.args.disk.now) (g.D.Disk.faults c.args.disk.now)) (at_disk c.finish.new.self (g.D.Disk.files c.finish.new.disk) (g.D.Disk.faults c.finish.new.disk)) _ _ w c.args.pick.now c.in-Some.ended c.in_ok-effect.effect ends (c.in_ok-effect.ensures w (g.D.Disk.faults c.args.disk.now) (record { open_connections = tied.open_connections; ending = ends.ending }))

@@ -1,6 +1,12 @@
-use Rattle.front.proofs.BoardLemmas.{landed}
+use Rattle.std.proofs.Common.{ap}
+use Rattle.front.specs.Boards.{at_disk}
+use Rattle.front.specs.Caches.{behind}
+use Rattle.front.proofs.BoardLemmas.{ended-then}
 use Rattle.front.proofs.board.Board.finish.Goals as goal
 
 pub returns : goal.returns
-returns c = λ w v answer says landing. landed c.args.self.now c.fill.new.self c.settle.new.self w v c.args.c c.args.number answer c.args.first c.in_ok-effect.effect c.in_ok-effect-2.effect landing (λ q o tied. c.fill.ensures.connection q o answer says tied) c.fill.ensures.count c.fill.ensures.flights c.in_ok-effect.ensures
-    c.in_ok-effect-2.ensures.notes c.in_ok-effect-2.ensures.out_of_memory
+returns g c = λ w before has.
+    let files = g.D.Disk.files c.args.disk.now in
+    let faults = g.D.Disk.faults c.args.disk.now in
+    ended-then (at_disk c.args.self.now files faults) (at_disk c.fill.new.self files faults) (at_disk c.settle.new.self (g.D.Disk.files c.settle.new.disk) (g.D.Disk.faults c.settle.new.disk)) w c.args.ended before c.in_ok-effect.effect c.in_ok-effect-2.effect has
+    c.fill.ensures.connection c.fill.ensures.count (ap (λ x. behind x files faults) c.fill.ensures.cache) c.in_ok-effect.ensures c.in_ok-effect-2.ensures.notes c.in_ok-effect-2.ensures.conditions

@@ -1,12 +1,13 @@
-use Rattle.std.proofs.Common.{refl, sym, ◌∙◌}
-use Rattle.error_answers.specs.Errors.{error_answer}
-use Rattle.front.proofs.EventLemmas.{lost, lost-none}
+use Rattle.std.proofs.Common.{refl}
+use Rattle.front.specs.Boards.{at_disk}
+use Rattle.front.proofs.EventLemmas.{lost-none, lost}
 use Rattle.front.proofs.FrontLemmas.{ok-map-two}
 use Rattle.front.proofs.board.Board.lose.Goals as goal
 
 pub returns-in_default : goal.returns-in_default
-returns-in_default c = ok-map-two c.one.result c.one.ensures.notes c.one.ensures.out_of_memory (λ effect notes had_memory w tied. lost-none c.args.self.now w c.args.pick.now effect tied (sym c.first_picked.ensures ∙ c.in_default.is) notes had_memory)
+returns-in_default g c = ok-map-two c.idle.result c.idle.ensures.notes c.idle.ensures.conditions (λ effect notes under w tied. lost-none (at_disk c.args.self.now (g.D.Disk.files c.args.disk.now) (g.D.Disk.faults c.args.disk.now)) (at_disk (record { open_connections = c.args.self.now.open_connections; cache = c.lose.new.self }) (g.D.Disk.files c.args.disk.now) (g.D.Disk.faults c.args.disk.now)) w c.args.pick.now effect tied (rw c.in_default.ensures.same refl) c.in_default.ensures.none notes under)
 
 pub returns : goal.returns
-returns c = λ w tied. lost c.args.self.now c.finish.new.self c.land-number.new.self w c.args.pick.now c.in-Some.at c.land-number.result c.in_ok-effect.effect tied (sym c.first_picked.ensures ∙ c.in-Some.is)
-    c.land-number.ensures.landed c.land-number.ensures.flying c.land-number.ensures.asked (λ u v landing. c.in_ok-effect.ensures u v (error_answer 502) refl landing)
+returns g c = λ w tied.
+    let ends = (c.in-Some.ensures.loss (g.D.Disk.files c.args.disk.now) (g.D.Disk.faults c.args.disk.now) w tied.behind_is tied.slicing_is) in
+    lost (at_disk c.args.self.now (g.D.Disk.files c.args.disk.now) (g.D.Disk.faults c.args.disk.now)) (at_disk c.finish.new.self (g.D.Disk.files c.finish.new.disk) (g.D.Disk.faults c.finish.new.disk)) _ _ w c.args.pick.now c.in-Some.ended c.in_ok-effect.effect ends (c.in_ok-effect.ensures w (g.D.Disk.faults c.args.disk.now) (record { open_connections = tied.open_connections; ending = ends.ending }))

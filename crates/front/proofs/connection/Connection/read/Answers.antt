@@ -10,5 +10,5 @@ pub returns : goal.returns
 returns c = λ m holds.
     let stays = sym (c.is_closing.ensures m holds.keeps.answers) ∙ c.if-is_closing.false in
     let told = c.in_ok-feed.ensures.ok m.stream m.turns (holds.keeps.reads stays).told in
-    read-open c.args.self.now (record { intake = c.read_turns.new.intake; turns = c.read_turns.new.turns; fault = c.in_ok-self.field-0; answers = c.args.self.now.answers }) c.advance.new.self c.feed.new.self m c.args.bytes.now
-    stays holds told c.in_ok-self.ensures refl c.in_ok-advance.ensures.holds
+    read-open c.args.self.now (record { peer = c.args.self.now.peer; intake = c.read_turns.new.intake; turns = c.read_turns.new.turns; fault = c.in_ok-self.field-0; answers = c.args.self.now.answers }) c.advance.new.self c.feed.new.self m c.args.bytes.now
+    stays holds told c.in_ok-self.ensures refl refl c.in_ok-advance.ensures.holds

@@ -1,0 +1,236 @@
+-- What a flight that lands or is lost makes of what is stood for.
+use Rattle.std.proofs.Common.{◌≡◌, ◌≢◌, ◌⊎◌, ◌≤◌, ◌+◌, ◌*◌, ◌<◌, ◌^◌, ℕ, true, false, not, List, [], ◌∷◌, Option, Some, None, IsSome, inl, inr, refl, sym, ◌∙◌, ap, subst, arith, ⊎_elim, length}
+use Rattle.std.specs.Prelude.{IfSome, IsTrue, ◌==◌}
+use Rattle.sp_base.specs.MediaTypes.{is_kind}
+use Rattle.std.proofs.lemmas.Bool.{and_parts, eqb-true}
+use Rattle.sp_outside.specs.Files.{Files}
+use Rattle.sp_base.specs.declared.answer.Answer.{Answer}
+use Rattle.sp_base.specs.declared.answer.Mark.{Mark}
+use Rattle.sp_base.specs.declared.answer.Mark.TheVariants.{Plain, NoCache, NoStore, MustRevalidate}
+use Rattle.any_config.specs.declared.farm.Farm.{Farm}
+use Rattle.cover_rules.specs.Pages.{IsPageKey}
+use Rattle.cover_rules.specs.declared.page.PageKey.{PageKey}
+use Rattle.cover_rules.specs.declared.stamp.Stamp.{Stamp}
+use Rattle.dispatch_rules.specs.Caching.{is_auto, is_plain_mark, is_storable}
+use Rattle.docroot_format.specs.declared.fault.FileFault.{FileFault}
+use Rattle.docroot_format.specs.declared.fault.FileFault.TheVariants.{Disk, NoMemory}
+use Rattle.cache_files.specs.Epochs.{epoch_held}
+use Rattle.cache_files.specs.HeldStamps.{KeepsOrder}
+use Rattle.cache_files.specs.Pages.{IsPagePut, page_at, page_of}
+use Rattle.stat_files.specs.Stamps.{stamp_at}
+use Rattle.docroot_changes.specs.Changes.{BesidePage, MayPut, PageSet}
+use Rattle.flights.specs.ClearPages.{ClearPage}
+use Rattle.flights.specs.declared.flight.Flight.{Flight}
+use Rattle.flights.specs.declared.landing.Landing.{Landing}
+use Rattle.flights.specs.declared.landing.Landing.TheVariants.{Clear, Voided, Unkeyed}
+use Rattle.flights.specs.Flights.{AreRising, flight_at, without}
+use Rattle.flights.specs.Landings.{LandsAs}
+use Rattle.cache_log.specs.Entries.{LogEntry, Kept, Landed, Lost, Passed, Unkept, flushes_begun, is_up, landings_stored}
+use Rattle.cache_log.specs.Hits.{InAir, IsClear, stored}
+use Rattle.cache_log.specs.Rules.{CallConditions, MayStore}
+use Rattle.coherence_core.specs.Bounds.{BoundsSlices, most_files}
+use Rattle.coherence_core.specs.Cores.{Extends, StandsFor, StandsOver, call_conditions, drawn_of}
+use Rattle.coherence_core.specs.Facts.{CoverageFacts}
+use Rattle.coherence_core.specs.Landings.{DeliveredAs, IsKeptAs, IsKeptFrom, IsStored, fate_of, landed_under}
+use Rattle.coherence_core.specs.Served.{Before, IsFresh, stat_for}
+use Rattle.coherence_core.specs.Stands.{IsLogFlight, Stands, stamp}
+use Rattle.coherence_core.specs.declared.answers.Landed.{Landed as LandedAs}
+use Rattle.coherence_core.specs.declared.answers.Landed.TheVariants as landed
+use Rattle.coherence_core.specs.declared.core_state.Core.{Core}
+use Rattle.coherence_core.proofs.StampLemmas.{epoch_below}
+use Rattle.coherence_core.proofs.FlightLemmas.{flying_at}
+use Rattle.coherence_core.proofs.LandingSteps.{kept, lost, passed, unkept}
+use Rattle.coherence_core.proofs.RestartSteps.{same_files}
+use Rattle.coherence_core.proofs.SliceBounds.{adds_none, names_stay}
+use Rattle.coherence_core.proofs.CallLemmas.{extends, key_cases, numbered_same}
+
+-- ---- answers
+
+plain_is : (m : Mark) → is_plain_mark m ≡ true → m ≡ Plain
+plain_is Plain is = refl
+plain_is NoCache is = absurd (cc is)
+plain_is NoStore is = absurd (cc is)
+plain_is MustRevalidate is = absurd (cc is)
+
+pub storable_parts : (a : Answer) → is_storable a ≡ true → (a.status ≡ 200) × (a.mark ≡ Plain)
+storable_parts a is = let both = and_parts (a.status == 200) (is_plain_mark a.mark) is in (eqb-true a.status 200 both.0, plain_is a.mark both.1)
+
+stored_is : (st : Stamp) (a : Answer) → is_storable a ≡ true → (page_of st a.kind a.body).answer ≡ stored a
+stored_is st a is = let p = storable_parts a is in (λ i. record { status = sym p.0 i; kind = a.kind; location = []; mark = sym p.1 i; body = a.body })
+
+pub if_flight : (o : Option Flight) (f : Flight) (P : Flight → Type 0) → o ≡ Some f → P f → IfSome o P
+if_flight o f P at p = subst (λ (x : Option Flight). IfSome x P) (sym at) p
+
+pub flight_if : (o : Option Flight) (f : Flight) (P : Flight → Type 0) → o ≡ Some f → IfSome o P → P f
+flight_if o f P at p = subst (λ (x : Option Flight). IfSome x P) at p
+
+pub some_flight : (o : Option Flight) → IsSome o → (f : Flight) × (o ≡ Some f)
+some_flight None there = absurd (cc there)
+some_flight (Some f) there = (f, refl)
+
+-- room for two files more
+two_more : (farm : Farm) (found : ℕ) (log : List LogEntry) (l : ℕ) → landings_stored log + 1 ≡ l → (b : ℕ) → flushes_begun log ≡ b → most_files farm found log + 2 ≤ found + 2 * l + (farm.level + 1) * b + 1
+two_more farm found log l is b same = go landings_stored_log l ((farm.level + 1) * b) is (ap (λ (x : ℕ). found + 2 * landings_stored log + (farm.level + 1) * x + 1 + 2) same)
+  where
+    landings_stored_log : ℕ
+    landings_stored_log = landings_stored log
+
+    go : (x y m : ℕ) → x + 1 ≡ y → most_files farm found log + 2 ≡ found + 2 * x + m + 1 + 2 → most_files farm found log + 2 ≤ found + 2 * y + m + 1
+    go x y m e is2 = omega (arith, e, is2)
+
+-- ---- a flight that leaves the air
+
+module _ (found : ℕ) (core : Core) (n : ℕ) (f : Flight) (at : flight_at n core.flights ≡ Some f) (next : List Flight) (is : next ≡ without n core.flights)
+    (left : (least number most : ℕ) (flights : List Flight) → AreRising least flights most → AreRising least (without number flights) most) where
+  known : (files : Files) (log : List LogEntry) → StandsOver found files core log → IsLogFlight core.farm log (stamp_at files) core.asked (stamp core.epoch (drawn_of core)) f × (f.number ≡ n)
+  known files log s = flying_at core.farm log (stamp_at files) core.asked n (stamp core.epoch (drawn_of core)) core.flights f s.stands.flying.each at
+
+  air : (files : Files) (log : List LogEntry) → StandsOver found files core log → InAir log n f.key
+  air files log s = let k = known files log s in subst (λ (m : ℕ). InAir log m f.key) k.1 k.0.in_air
+
+  rising : (files : Files) (log : List LogEntry) → StandsOver found files core log → AreRising 0 (without n core.flights) core.asked
+  rising files log s = left 0 n core.asked core.flights s.stands.flying.rising
+
+  pub gone_lost : (told : Option Files) (under : CallConditions) → Extends core.farm (StandsFor found told core) (StandsFor found told (record core { flights = next })) under (Lost n ∷ [])
+  gone_lost None under = extends (λ log s. absurd s)
+  gone_lost (Some files) under = extends (λ log s. (
+    ((f.key, air files log s), tt),
+    subst (λ (l : List Flight). StandsOver found files (record core { flights = l }) (Lost n ∷ log)) (sym is) (record {
+      stands = lost core.farm (page_at files) (stamp_at files) (epoch_held files) core.flights core.queue.items core.asked core.begun core.epoch (drawn_of core) log s.stands n (rising files log s);
+      numbered = s.numbered;
+      order = s.order;
+      down_is = s.down_is;
+      few = s.few;
+      slices = names_stay core.farm found 0 files files core.queue.items log (Lost n ∷ log) (adds_none files) (omega arith) (λ v. refl) refl s.slices;
+    }),
+  ))
+
+  -- a landing that isn't stored, since it may not be
+  gone_passed : (told : Option Files) (under : CallConditions) (a : Answer) → ((files : Files) (log : List LogEntry) → StandsOver found files core log → MayStore core.farm log n f.key a → ⊥) → Extends core.farm (StandsFor found told core) (StandsFor found told (record core { flights = next })) under (Landed n f.key a Passed ∷ [])
+  gone_passed None under a why = extends (λ log s. absurd s)
+  gone_passed (Some files) under a why = extends (λ log s. (
+    ((air files log s, why files log s), tt),
+    subst (λ (l : List Flight). StandsOver found files (record core { flights = l }) (Landed n f.key a Passed ∷ log)) (sym is) (record {
+      stands = passed core.farm (page_at files) (stamp_at files) (epoch_held files) core.flights core.queue.items core.asked core.begun core.epoch (drawn_of core) log s.stands n (rising files log s) f.key a;
+      numbered = s.numbered;
+      order = s.order;
+      down_is = s.down_is;
+      few = s.few;
+      slices = names_stay core.farm found 0 files files core.queue.items log (Landed n f.key a Passed ∷ log) (adds_none files) (omega arith) (λ v. refl) refl s.slices;
+    }),
+  ))
+
+  unkeyed : (told : Option Files) (under : CallConditions) (a : Answer) → f.key ≡ None → Extends core.farm (StandsFor found told core) (StandsFor found told (record core { flights = next })) under (Landed n f.key a Passed ∷ [])
+  unkeyed told under a none = gone_passed told under a (λ files log s may. subst (λ (k : Option PageKey). MayStore core.farm log n k a) none may)
+
+  voided : (told : Option Files) (under : CallConditions) (a : Answer) (key : PageKey) → (f.voided ≡ true) × (f.key ≡ Some key) → Extends core.farm (StandsFor found told core) (StandsFor found told (record core { flights = next })) under (Landed n f.key a Passed ∷ [])
+  voided told under a key h = gone_passed told under a (λ files log s may.
+      let k = known files log s in
+      let clear : IsClear core.farm log n key = (subst (λ (x : Option PageKey). MayStore core.farm log n x a) h.1 may).1 in
+      (k.0.keyed key h.1).voided h.0 (subst (λ (m : ℕ). IsClear core.farm log m key) (sym k.1) clear))
+
+  -- a landing whose flight is clear
+  module _ (facts : CoverageFacts core.farm) (c : ClearPage) (clear : (f.voided ≡ false) × (f.key ≡ Some c.key) × (c.stamp ≡ f.stamp)) (a : Answer) where
+    module _ (files after : Files) (log : List LogEntry) (s : StandsOver found files core log) where
+      clear_here : IsClear core.farm log n c.key
+      clear_here = let k = known files log s in subst (λ (m : ℕ). IsClear core.farm log m c.key) k.1 ((k.0.keyed c.key clear.1).clear clear.0)
+
+      air_here : InAir log n (Some c.key)
+      air_here = subst (λ (x : Option PageKey). InAir log n x) clear.1 (air files log s)
+
+      own_here : Before c.stamp (stamp core.epoch (drawn_of core))
+      own_here = subst (λ (x : Stamp). Before x (stamp core.epoch (drawn_of core))) (sym clear.2) (known files log s).0.drawn
+
+      fresh_here : IsFresh (is_auto core.farm c.key) (stat_for core.farm (stamp_at files) c.key) c.stamp
+      fresh_here = subst (λ (x : Stamp). IsFresh (is_auto core.farm c.key) (stat_for core.farm (stamp_at files) c.key) x) (sym clear.2) (((known files log s).0.keyed c.key clear.1).fresh clear.0)
+
+      low_here : c.stamp.epoch ≤ epoch_held files
+      low_here = let le : c.stamp.epoch ≤ core.epoch = epoch_below c.stamp core.epoch (drawn_of core) own_here in omega (arith, le, s.stands.epochs.current)
+
+      -- what stands over the files by their number and their stamps, stands over those after
+      over : (next_log : List LogEntry) → core.down ≡ not (is_up next_log) → BesidePage c.key files after → (c.stamp.epoch ≤ epoch_held files → KeepsOrder files after) → BoundsSlices core.farm found after core.queue.items next_log
+          → Stands core.farm (page_at after) (stamp_at files) (epoch_held files) (without n core.flights) core.queue.items core.asked core.begun core.epoch (drawn_of core) next_log → StandsOver found after (record core { flights = next }) next_log
+      over next_log down beside order slices stands = subst (λ (l : List Flight). StandsOver found after (record core { flights = l }) next_log) (sym is) (record {
+        stands = subst (λ (e : ℕ). Stands core.farm (page_at after) (stamp_at after) e (without n core.flights) core.queue.items core.asked core.begun core.epoch (drawn_of core) next_log) (sym beside.number.held)
+            (same_files core.farm facts (page_at after) (page_at after) (stamp_at files) (stamp_at after) (λ k good. refl) (λ g good. beside.stamps g good.bytes) (epoch_held files) (without n core.flights) core.queue.items core.asked core.begun core.epoch (drawn_of core) next_log stands);
+        numbered = numbered_same files after beside.number s.numbered;
+        order = order low_here s.order;
+        down_is = down;
+        few = s.few;
+        slices = slices;
+      })
+
+      put_others : BesidePage c.key files after → (l : PageKey) → IsPageKey l → c.key ≢ l → page_at after l ≡ page_at files l
+      put_others beside l good ne = (beside.pages l good (λ e. ne (sym e))).page
+
+      put_set : PageSet c.key c.stamp a files after → (l : PageKey) → IsPageKey l → (page_at after l ≡ page_at files l) ⊎ ((c.key ≡ l) × ((page_at after l ≡ Some (page_of c.stamp a.kind a.body)) ⊎ (page_at after l ≡ None)))
+      put_set set l good = ⊎_elim (λ (same : c.key ≡ l). inr (same, inl (ap (page_at after) (sym same) ∙ set.here.page))) (λ (ne : c.key ≢ l). inl (put_others set.beside l good ne)) (key_cases c.key l)
+
+      put_may : (fault : FileFault) → MayPut c.key c.stamp a fault files after → (l : PageKey) → IsPageKey l → (page_at after l ≡ page_at files l) ⊎ ((c.key ≡ l) × ((page_at after l ≡ Some (page_of c.stamp a.kind a.body)) ⊎ (page_at after l ≡ None)))
+      put_may fault put l good = ⊎_elim
+          (λ (same : c.key ≡ l). ⊎_elim
+          (λ old. inl (ap (page_at after) (sym same) ∙ old.page ∙ ap (page_at files) same))
+          (λ h. inr (same, ⊎_elim (λ none. inr (ap (page_at after) (sym same) ∙ none.page)) (λ new. inl (ap (page_at after) (sym same) ∙ new.1.page)) h))
+          put.here)
+          (λ (ne : c.key ≢ l). inl (put_others put.beside l good ne))
+          (key_cases c.key l)
+
+      whole : is_storable a ≡ true → PageSet c.key c.stamp a files after → StandsOver found after (record core { flights = next }) (Landed n (Some c.key) a Kept ∷ log)
+      whole storable t = over (Landed n (Some c.key) a Kept ∷ log) s.down_is t.beside t.order
+          (names_stay core.farm found 2 files after core.queue.items log (Landed n (Some c.key) a Kept ∷ log) t.names (two_more core.farm found log (landings_stored log + 1) refl (flushes_begun log) refl) (λ v. refl) refl s.slices)
+          (kept core.farm (page_at files) (stamp_at files) (epoch_held files) core.flights core.queue.items core.asked core.begun core.epoch (drawn_of core) log s.stands n (rising files log s) c.key a (page_of c.stamp a.kind a.body) (stored_is c.stamp a storable) (page_at after) (put_set t) clear_here own_here facts key_cases t.here.page fresh_here)
+
+      part : (fault : FileFault) → is_storable a ≡ true → MayPut c.key c.stamp a fault files after → StandsOver found after (record core { flights = next }) (Landed n (Some c.key) a Unkept ∷ log)
+      part fault storable t = over (Landed n (Some c.key) a Unkept ∷ log) s.down_is t.beside t.order
+          (names_stay core.farm found 2 files after core.queue.items log (Landed n (Some c.key) a Unkept ∷ log) t.names (two_more core.farm found log (landings_stored log + 1) refl (flushes_begun log) refl) (λ v. refl) refl s.slices)
+          (unkept core.farm (page_at files) (stamp_at files) (epoch_held files) core.flights core.queue.items core.asked core.begun core.epoch (drawn_of core) log s.stands n (rising files log s) c.key a (page_of c.stamp a.kind a.body) (stored_is c.stamp a storable) (page_at after) (put_may fault t) clear_here own_here facts)
+
+    for_key : (told new : Option Files) (out : LandedAs) → IsStored c.key c.stamp a out told new → Extends core.farm (StandsFor found told core) (StandsFor found new (record core { flights = next })) (landed_under out) (Landed n (Some c.key) a (fate_of out) ∷ [])
+    for_key None new out t = extends (λ log s. absurd s)
+    for_key (Some files) None (landed.Kept k) t = absurd t.1
+    for_key (Some files) None landed.Passed t = absurd (cc t.1)
+    for_key (Some files) None landed.DiskFailed t = absurd t.1
+    for_key (Some files) None landed.NoMemory t = absurd t.1
+    for_key (Some files) (Some after) (landed.Kept k) t = extends (λ log s. (((air_here files after log s, (t.0, clear_here files after log s)), tt), whole files after log s t.0 t.1))
+    for_key (Some files) (Some after) landed.Passed t = subst (λ (told : Option Files). Extends core.farm (StandsOver found files core) (StandsFor found told (record core { flights = next })) (landed_under landed.Passed) (Landed n (Some c.key) a Passed ∷ [])) (sym t.1)
+        (subst (λ (x : Option PageKey). Extends core.farm (StandsOver found files core) (StandsOver found files (record core { flights = next })) (landed_under landed.Passed) (Landed n x a Passed ∷ [])) clear.1
+        (gone_passed (Some files) (landed_under landed.Passed) a (λ fs log s may. let is_so : is_storable a ≡ true = (subst (λ (x : Option PageKey). MayStore core.farm log n x a) clear.1 may).0 in absurd (cc (is_so, t.0)))))
+    for_key (Some files) (Some after) landed.DiskFailed t = extends (λ log s. (((air_here files after log s, (t.0, clear_here files after log s), inl refl), tt), part files after log s Disk t.0 t.1))
+    for_key (Some files) (Some after) landed.NoMemory t = extends (λ log s. (((air_here files after log s, (t.0, clear_here files after log s), inr refl), tt), part files after log s NoMemory t.0 t.1))
+
+    gone_stored : (told new : Option Files) (out : LandedAs) → IsStored c.key c.stamp a out told new → Extends core.farm (StandsFor found told core) (StandsFor found new (record core { flights = next })) (landed_under out) (Landed n f.key a (fate_of out) ∷ [])
+    gone_stored told new out t = subst (λ (x : Option PageKey). Extends core.farm (StandsFor found told core) (StandsFor found new (record core { flights = next })) (landed_under out) (Landed n x a (fate_of out) ∷ [])) (sym clear.1) (for_key told new out t)
+
+-- ---- what a landing came to
+
+module _ (core : Core) (n : ℕ) (f : Flight) (at : flight_at n core.flights ≡ Some f) (next : List Flight) (is : next ≡ without n core.flights)
+    (left : (least number most : ℕ) (flights : List Flight) → AreRising least flights most → AreRising least (without number flights) most) (facts : CoverageFacts core.farm) (a : Answer) (told new : Option Files) where
+  passed_on : (found : ℕ) (out : LandedAs) → out ≡ landed.Passed → new ≡ told → Extends core.farm (StandsFor found told core) (StandsFor found told (record core { flights = next })) (call_conditions false false) (Landed n f.key a Passed ∷ []) → Extends core.farm (StandsFor found told core) (StandsFor found new (record core { flights = next })) (landed_under out) (Landed n f.key a (fate_of out) ∷ [])
+  passed_on found out out_is same e = rw (out_is, same) e
+
+  pub landing_owes : (landing : Landing) (out : LandedAs) → LandsAs f landing → IsKeptFrom landing a out told new → (found : ℕ) → Extends core.farm (StandsFor found told core) (StandsFor found new (record core { flights = next })) (landed_under out) (Landed n f.key a (fate_of out) ∷ [])
+  landing_owes Unkeyed out lands kept found = passed_on found out kept.0 kept.1 (unkeyed found core n f at next is left told (call_conditions false false) a lands)
+  landing_owes (Voided key) out lands kept found = passed_on found out kept.0 kept.1 (voided found core n f at next is left told (call_conditions false false) a key lands)
+  landing_owes (Clear c) out lands kept found = gone_stored found core n f at next is left facts c lands a told new out kept.0
+
+-- the same without a log
+delivered_clear : (f : Flight) (c : ClearPage) (a : Answer) (told new : Option Files) (out : LandedAs) → (f.voided ≡ false) × (f.key ≡ Some c.key) × (c.stamp ≡ f.stamp) → IsStored c.key c.stamp a out told new → DeliveredAs f a out told new
+delivered_clear f c a told new (landed.Kept k) clear t = (clear.0, (c.key, (clear.1, subst (λ (st : Stamp). IsStored c.key st a (landed.Kept k) told new) clear.2 t)))
+delivered_clear f c a told new landed.Passed clear t = (inr (inr t.0), t.1)
+delivered_clear f c a told new landed.DiskFailed clear t = (clear.0, (c.key, (clear.1, subst (λ (st : Stamp). IsStored c.key st a landed.DiskFailed told new) clear.2 t)))
+delivered_clear f c a told new landed.NoMemory clear t = (clear.0, (c.key, (clear.1, subst (λ (st : Stamp). IsStored c.key st a landed.NoMemory told new) clear.2 t)))
+
+pub landing_delivers : (f : Flight) (a : Answer) (told new : Option Files) (landing : Landing) (out : LandedAs) → LandsAs f landing → IsKeptFrom landing a out told new → DeliveredAs f a out told new
+landing_delivers f a told new Unkeyed out lands kept = subst (λ (o : LandedAs). DeliveredAs f a o told new) (sym kept.0) (inl lands, kept.1)
+landing_delivers f a told new (Voided key) out lands kept = subst (λ (o : LandedAs). DeliveredAs f a o told new) (sym kept.0) (inr (inl lands.0), kept.1)
+landing_delivers f a told new (Clear c) out lands kept = delivered_clear f c a told new out lands kept.0
+
+pub landing_keeps : (f : Flight) (a : Answer) (told new : Option Files) (landing : Landing) (out : LandedAs) → LandsAs f landing → IsKeptFrom landing a out told new → IsKeptAs f.key out
+landing_keeps f a told new Unkeyed out lands kept = subst (λ (o : LandedAs). IsKeptAs f.key o) (sym kept.0) tt
+landing_keeps f a told new (Voided key) out lands kept = subst (λ (o : LandedAs). IsKeptAs f.key o) (sym kept.0) tt
+landing_keeps f a told new (Clear c) out lands kept = subst (λ (o : Option PageKey). IsKeptAs o out) (sym lands.1) kept.1
+
+-- ---- what is put
+
+pub is_put : (st : Stamp) (a : Answer) → is_storable a ≡ true → IsTrue (is_kind a.kind) → st.epoch < 2 ^ 64 → st.count < 2 ^ 64 → length a.body < 2 ^ 64 → IsPagePut st a
+is_put st a is kind epoch count size = let p = storable_parts a is in record { storable = record { status = p.0; mark = p.1; kind = kind }; epoch = epoch; count = count; size = size }

@@ -1,0 +1,17 @@
+mod StampLemmas
+mod CoverageLemmas
+mod FlightLemmas
+mod FlushLemmas
+mod RequestSteps
+mod LandingSteps
+mod SliceSteps
+mod RestartSteps
+mod SliceBounds
+mod CallLemmas
+mod DeliveryLemmas
+mod FlushingLemmas
+mod SessionLemmas
+mod LookupLemmas
+mod AskingLemmas
+mod RequestLemmas
+mod StartLemmas

@@ -1,0 +1,12 @@
+use Rattle.std.proofs.Common.{sym, ◌∙◌}
+use Rattle.std.specs.Prelude.{Err}
+use Rattle.docroot_format.specs.declared.fault.FileFault.TheVariants.{Disk}
+use Rattle.coherence_core.proofs.DeliveryLemmas.{is_put}
+use Rattle.coherence_core.proofs.delivery.store.Goals as goal
+
+pub returns-in-Err-Disk-clause-stored : goal.returns-in-Err-Disk-clause-stored
+returns-in-Err-Disk-clause-stored g c =
+    let a = c.args.answer.now in
+    let is = sym c.storable.ensures ∙ c.if-not-storable.false in
+    let put = is_put c.stamp-stamp.result a is c.requires c.stamp_fits.ensures.epoch c.stamp_fits.ensures.count c.body_fits.ensures in
+    (is, rw (sym c.into_key-key.ensures.value, sym c.stamp-stamp.ensures) (c.what_a_put_sets.ensures.stopped (Err Disk) _ _ _ _ c.into_key-key.result c.stamp-stamp.result a c.into_key-key.ensures.page put (rw (c.in-Err-Disk.field-0-is) at c.in-Err-Disk.ensures.err)))

@@ -1,0 +1,107 @@
+-- What a core and the files of a disk stand for, and how a call of the core extends it.
+use Rattle.std.specs.Prelude.{◌≡◌, ◌≤◌, ◌+◌, ◌++◌, ◌^◌, ℕ, Bool, true, false, not, List, [], ◌∷◌, Option, Some, None, map}
+use Rattle.sp_outside.specs.Causes.{Rose}
+use Rattle.sp_outside.specs.Files.{Files}
+use Rattle.any_config.specs.declared.farm.Farm.{Farm}
+use Rattle.cover_rules.specs.declared.page.PageKey.{PageKey}
+use Rattle.cache_files.specs.Epochs.{epoch_held}
+use Rattle.cache_files.specs.HeldStamps.{HasNoLaterStamp}
+use Rattle.cache_files.specs.Pages.{page_at}
+use Rattle.stat_files.specs.Stamps.{stamp_at}
+use Rattle.flights.specs.declared.flight.Flight.{Flight}
+use Rattle.flights.specs.Flights.{AreRising}
+use Rattle.cache_log.specs.Ids.{FlightId, FlushId}
+use Rattle.cache_log.specs.Entries.{LogEntry, is_up}
+use Rattle.cache_log.specs.Rules.{AllAllowed, CallConditions}
+use Rattle.coherence_core.specs.Bounds.{BoundsSlices}
+use Rattle.coherence_core.specs.Holds.{IsNumbered}
+use Rattle.coherence_core.specs.Stands.{Stands}
+use Rattle.coherence_core.specs.declared.pending.Pending.{Pending}
+use Rattle.coherence_core.specs.declared.core_state.Core.{Core}
+
+-- ---- limits
+
+-- the most unfinished flushes
+abbrev pub most_flushes : ℕ
+most_flushes = 256
+
+-- the most stamps of a session
+abbrev pub most_stamps : ℕ
+most_stamps = 2 ^ 63
+
+-- ---- what a core stands for
+
+-- how many stamps the core has drawn: one for each flight and one for each flush
+abbrev pub drawn_of : Core → ℕ
+drawn_of core = core.asked + core.begun
+
+-- The core and the files stand for this log, in a session that found this many files.
+pub record StandsOver (found : ℕ) (files : Files) (core : Core) (log : List LogEntry) : Type 0 where
+  pub stands : Stands core.farm (page_at files) (stamp_at files) (epoch_held files) core.flights core.queue.items core.asked core.begun core.epoch (drawn_of core) log
+  pub numbered : IsNumbered files
+  pub order : HasNoLaterStamp files
+  pub down_is : core.down ≡ not (is_up log)
+  pub few : drawn_of core ≤ most_stamps
+  pub slices : BoundsSlices core.farm found files core.queue.items log
+
+-- the same of a disk, where it tells its files
+abbrev pub StandsFor : ℕ → Option Files → Core → List LogEntry → Type 0
+StandsFor found None core log = ⊥
+StandsFor found (Some files) core log = StandsOver found files core log
+
+-- For each log that was stood for, the log with these entries, the newest first, is stood for, and they are allowed in a call under these
+-- conditions.
+pub record Extends (farm : Farm) (Old New : List LogEntry → Type 0) (under : CallConditions) (entries : List LogEntry) : Type 0 where
+  pub allowed : (log : List LogEntry) → Old log → AllAllowed farm under entries log
+  pub stands : (log : List LogEntry) → Old log → New (entries ++ log)
+
+-- the same of a core and a disk before and after a call, in each session
+abbrev pub ExtendsCore : Option Files → Core → Option Files → Core → CallConditions → List LogEntry → Type 0
+ExtendsCore told core after next under entries = (found : ℕ) → Extends core.farm (StandsFor found told core) (StandsFor found after next) under entries
+
+-- ---- conditions
+
+-- the disk failed in a call exactly where it says so
+abbrev pub IsDiskTold : ℕ → ℕ → Bool → Type 0
+IsDiskTold before after true = Rose before after
+IsDiskTold before after false = after ≡ before
+
+-- the conditions of a call that was no restart's: whether the disk failed, and whether memory ran out
+abbrev pub call_conditions : Bool → Bool → CallConditions
+call_conditions disk_failed out_of_memory = record { disk_failed = disk_failed; out_of_memory = out_of_memory; restarts = false }
+
+-- ---- what callers see of a core beside its log
+
+-- what the dispatcher does for the site
+abbrev pub farm_of : Core → Farm
+farm_of core = core.farm
+
+-- the last restart went down
+abbrev pub is_down : Core → Bool
+is_down core = core.down
+
+-- the flights in the air, the oldest first
+abbrev pub flights_of : Core → List Flight
+flights_of core = core.flights
+
+-- the numbers of flights, and the page of each or none
+abbrev pub flight_labels : List Flight → List (FlightId × Option PageKey)
+flight_labels flights = map (λ (flight : Flight). (flight.number, flight.key)) flights
+
+-- the numbers of the flights rise up to that of the last one asked
+abbrev pub FlightsRise : Core → Type 0
+FlightsRise core = AreRising 0 core.flights core.asked
+
+-- the numbers of the flushes of a queue
+abbrev pub flush_numbers : List Pending → List FlushId
+flush_numbers [] = []
+flush_numbers (p ∷ ps) = p.number ∷ flush_numbers ps
+
+-- the numbers of the unfinished flushes, the oldest first
+abbrev pub flushes_of : Core → List FlushId
+flushes_of core = flush_numbers core.queue.items
+
+-- the farm, and whether the cache is down, are as they were
+pub record KeepsFarm (old new : Core) : Type 0 where
+  pub farm : new.farm ≡ old.farm
+  pub down : new.down ≡ old.down

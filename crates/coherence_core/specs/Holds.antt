@@ -1,0 +1,43 @@
+-- Which files hold which log: the one tie between the files of the docroot and what the log says (RFC 9111, section 4; Adobe Dispatcher
+-- manual, "Invalidating Files by Folder Level").
+use Rattle.std.specs.Prelude.{◌≡◌, ◌+◌, ℕ, List, Some, IsSome, length}
+use Rattle.std.specs.FinMap.{keys}
+use Rattle.sp_base.specs.Texts.{Segments, Text}
+use Rattle.sp_outside.specs.Files.{Files, file_at}
+use Rattle.any_config.specs.declared.farm.Farm.{Farm}
+use Rattle.docroot_format.specs.Names.{stat_name}
+use Rattle.docroot_format.specs.Readings.{stat_of}
+use Rattle.cache_files.specs.Epochs.{after_epoch, epoch_held, next_epoch}
+use Rattle.cache_files.specs.HeldStamps.{HasNoLaterStamp}
+use Rattle.cache_files.specs.Pages.{page_at}
+use Rattle.stat_files.specs.Stamps.{stamp_at}
+use Rattle.docroot_changes.specs.Changes.{IsStampFolder}
+use Rattle.cache_log.specs.Entries.{LogEntry}
+use Rattle.cache_log.specs.Rules.{IsAboveAll, IsIdle}
+use Rattle.coherence_core.specs.Stands.{HoldsPages}
+
+-- the number of files
+abbrev pub files_counted : Files → ℕ
+files_counted files = length (keys files)
+
+-- the number of the session is of its form, or there is none yet, so that the next session's is one more
+abbrev pub IsNumbered : Files → Type 0
+IsNumbered files = next_epoch files ≡ after_epoch (Some (epoch_held files))
+
+-- each .stat file is of its form
+abbrev pub AreStatsFormed : Files → Type 0
+AreStatsFormed files = (folder : Segments) (bytes : Text) → IsStampFolder folder → file_at files (stat_name folder) ≡ Some bytes → IsSome (stat_of bytes)
+
+-- The files hold the log: their pages do, no epoch of the log and no stamp is after the number of the session, which is of its form, and so is
+-- each .stat file.
+pub record Holds (farm : Farm) (files : Files) (log : List LogEntry) : Type 0 where
+  pub pages : HoldsPages farm (page_at files) (stamp_at files) log
+  pub numbered : IsNumbered files
+  pub above : IsAboveAll (epoch_held files + 1) log
+  pub order : HasNoLaterStamp files
+  pub formed : AreStatsFormed files
+
+-- The files hold a log that is closed, so that a session may go on with it.
+pub record HoldsClosed (farm : Farm) (files : Files) (log : List LogEntry) : Type 0 where
+  pub holds : Holds farm files log
+  pub idle : IsIdle log

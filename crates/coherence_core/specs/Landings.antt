@@ -1,0 +1,55 @@
+-- What becomes of a flight that lands (RFC 9111, section 3).
+use Rattle.std.specs.Prelude.{◌≡◌, ◌⊎◌, true, false, Option, Some, None}
+use Rattle.sp_base.specs.declared.answer.Answer.{Answer}
+use Rattle.sp_outside.specs.Files.{Files}
+use Rattle.cover_rules.specs.declared.page.PageKey.{PageKey}
+use Rattle.cover_rules.specs.declared.stamp.Stamp.{Stamp}
+use Rattle.dispatch_rules.specs.Caching.{is_storable}
+use Rattle.docroot_format.specs.declared.fault.FileFault.TheVariants.{Disk, NoMemory}
+use Rattle.docroot_changes.specs.Changes.{MayPut, PageSet, Told}
+use Rattle.flights.specs.declared.flight.Flight.{Flight}
+use Rattle.flights.specs.declared.landing.Landing.{Landing}
+use Rattle.flights.specs.declared.landing.Landing.TheVariants.{Clear, Voided, Unkeyed}
+use Rattle.cache_log.specs.Entries.{Fate, Kept, Unkept, Passed}
+use Rattle.cache_log.specs.Rules.{CallConditions}
+use Rattle.coherence_core.specs.Cores.{call_conditions}
+use Rattle.coherence_core.specs.declared.answers.Landed.{Landed}
+use Rattle.coherence_core.specs.declared.answers.Landed.TheVariants as landed
+
+-- its answer was stored; it was only passed on; or it may have been stored
+abbrev pub fate_of : Landed → Fate
+fate_of (landed.Kept key) = Kept
+fate_of landed.Passed = Passed
+fate_of landed.DiskFailed = Unkept
+fate_of landed.NoMemory = Unkept
+
+-- what the call ran under
+abbrev pub landed_under : Landed → CallConditions
+landed_under (landed.Kept key) = call_conditions false false
+landed_under landed.Passed = call_conditions false false
+landed_under landed.DiskFailed = call_conditions true false
+landed_under landed.NoMemory = call_conditions false true
+
+-- a page that was kept is that of the flight
+abbrev pub IsKeptAs : Option PageKey → Landed → Type 0
+IsKeptAs own (landed.Kept key) = own ≡ Some key
+IsKeptAs own _ = Unit {0}
+
+-- What storing an answer came to: its page is there; it isn't storable, and nothing changed; or its page may be there.
+abbrev pub IsStored : PageKey → Stamp → Answer → Landed → Option Files → Option Files → Type 0
+IsStored key stamp answer (landed.Kept own) old new = (is_storable answer ≡ true) × Told (PageSet key stamp answer) old new
+IsStored key stamp answer landed.Passed old new = (is_storable answer ≡ false) × (new ≡ old)
+IsStored key stamp answer landed.DiskFailed old new = (is_storable answer ≡ true) × Told (MayPut key stamp answer Disk) old new
+IsStored key stamp answer landed.NoMemory old new = (is_storable answer ≡ true) × Told (MayPut key stamp answer NoMemory) old new
+
+-- What a landing came to: it is stored where its flight gives leave, and else nothing changed.
+abbrev pub IsKeptFrom : Landing → Answer → Landed → Option Files → Option Files → Type 0
+IsKeptFrom (Clear clear) answer out old new = IsStored clear.key clear.stamp answer out old new × IsKeptAs (Some clear.key) out
+IsKeptFrom (Voided key) answer out old new = (out ≡ landed.Passed) × (new ≡ old)
+IsKeptFrom Unkeyed answer out old new = (out ≡ landed.Passed) × (new ≡ old)
+
+-- What delivering an answer to a flight came to: it may not be stored, and nothing changed, exactly where the flight is for no page or voided,
+-- or the answer isn't storable; else it was stored as the flight's page, with the stamp of its asking, or may have been.
+abbrev pub DeliveredAs : Flight → Answer → Landed → Option Files → Option Files → Type 0
+DeliveredAs flight answer landed.Passed old new = ((flight.key ≡ None) ⊎ ((flight.voided ≡ true) ⊎ (is_storable answer ≡ false))) × (new ≡ old)
+DeliveredAs flight answer out old new = (flight.voided ≡ false) × ((key : PageKey) × ((flight.key ≡ Some key) × IsStored key flight.stamp answer out old new))

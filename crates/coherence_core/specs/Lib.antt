@@ -1,0 +1,11 @@
+pub mod Served
+pub mod Facts
+pub mod Stands
+pub mod Holds
+pub mod Bounds
+pub mod Cores
+pub mod Requests
+pub mod Asking
+pub mod Landings
+pub mod Flushes
+pub mod Sessions

@@ -1,0 +1,110 @@
+//! A flight that lands or is lost.
+ghost use Rattle.std.specs.Prelude.{◌≡◌, ◌<◌, ◌^◌, ◌∷◌, [], ℕ, Option, Some, IfSome, IsSome, IsTrue, length};
+ghost use Rattle.sp_base.specs.MediaTypes.{is_kind};
+ghost use Rattle.sp_outside.specs.Files.{Files};
+ghost use Rattle.flights.specs.Flights.{flight_at, without};
+ghost use Rattle.cache_log.specs.Entries.{Landed as landed_entry, Lost};
+ghost use Rattle.cache_log.specs.Rules.{CallConditions};
+ghost use Rattle.coherence_core.specs.Cores.{ExtendsCore, FlightsRise, IsDiskTold, KeepsFarm};
+ghost use Rattle.coherence_core.specs.Landings.{DeliveredAs, IsKeptAs, IsKeptFrom, IsStored, fate_of, landed_under};
+
+use crate::answers::Landed;
+use crate::core_state::Core;
+use crate::laws::coverage_by_three_facts;
+use cache_files::put_page;
+use cover_rules::Stamp;
+use dispatch_rules::storable;
+use docroot_changes::what_a_put_sets;
+use docroot_format::FileFault;
+use flights::{Clear, Landing, Ticket, the_numbers_of_flights_rise};
+use sp_base::Answer;
+use sp_outside::Disk;
+use std::alloc::Global;
+
+impl Core {
+    /// Lands a flight. Its answer is stored where it may be.
+    pub fn deliver<D: Disk>(
+        &mut self,
+        alloc: Global,
+        disk: &mut D,
+        ticket: Ticket,
+        answer: &Answer,
+    ) -> Landed
+        requires flight { IsSome (flight_at ticket self.old.flights) }
+        requires kind { IsTrue (is_kind answer.now.kind) }
+        ensures log { IfSome (flight_at ticket self.old.flights) (λ flight. ExtendsCore (D.files disk.old) self.old (D.files disk.new) self.new (landed_under result) (landed_entry ticket flight.key answer.now (fate_of result) ∷ [])) }
+        ensures delivered { IfSome (flight_at ticket self.old.flights) (λ flight. DeliveredAs flight answer.now result (D.files disk.old) (D.files disk.new)) }
+        ensures key { IfSome (flight_at ticket self.old.flights) (λ flight. IsKeptAs flight.key result) }
+        ensures disk_failed { IsDiskTold (D.faults disk.old) (D.faults disk.new) (landed_under result).disk_failed }
+        ensures flights { self.new.flights ≡ without ticket self.old.flights }
+        ensures queue { self.new.queue ≡ self.old.queue }
+        ensures rising { FlightsRise self.old → FlightsRise self.new }
+        ensures kept { KeepsFarm self.old self.new }
+    {
+        coverage_by_three_facts();
+        the_numbers_of_flights_rise();
+        let landing = self.flights.land(ticket);
+        keep(alloc, disk, landing, answer)
+    }
+
+    /// Loses a flight.
+    pub fn lose(&mut self, ticket: Ticket)
+        requires { IsSome (flight_at ticket self.old.flights) }
+        ensures log { (told : Option Files) (under : CallConditions) → ExtendsCore told self.old told self.new under (Lost ticket ∷ []) }
+        ensures flights { self.new.flights ≡ without ticket self.old.flights }
+        ensures queue { self.new.queue ≡ self.old.queue }
+        ensures rising { FlightsRise self.old → FlightsRise self.new }
+        ensures kept { KeepsFarm self.old self.new }
+    {
+        the_numbers_of_flights_rise();
+        self.flights.lose(ticket);
+    }
+}
+
+// Stores the answer of a landing, where its flight gives leave.
+fn keep<D: Disk>(alloc: Global, disk: &mut D, landing: Landing, answer: &Answer) -> Landed
+    requires { IsTrue (is_kind answer.now.kind) }
+    ensures kept { IsKeptFrom landing answer.now result (D.files disk.old) (D.files disk.new) }
+    ensures disk_failed { IsDiskTold (D.faults disk.old) (D.faults disk.new) (landed_under result).disk_failed }
+{
+    match landing {
+        Landing::Unkeyed => Landed::Passed,
+        Landing::Voided(_) => Landed::Passed,
+        Landing::Clear(clear) => store(alloc, disk, clear, answer),
+    }
+}
+
+// Stores the answer of a landing, where it is storable. It is the one place where an answer is stored.
+fn store<D: Disk>(alloc: Global, disk: &mut D, clear: Clear, answer: &Answer) -> Landed
+    requires { IsTrue (is_kind answer.now.kind) }
+    ensures stored { IsStored clear.key clear.stamp answer.now result (D.files disk.old) (D.files disk.new) }
+    ensures key { IsKeptAs (Some clear.key) result }
+    ensures disk_failed { IsDiskTold (D.faults disk.old) (D.faults disk.new) (landed_under result).disk_failed }
+{
+    what_a_put_sets();
+    let stamp = clear.stamp();
+    let key = clear.into_key();
+    if !storable(answer) {
+        return Landed::Passed;
+    }
+    stamp_fits(stamp);
+    body_fits(answer);
+    match put_page(alloc, disk, &key, stamp, answer) {
+        Ok(()) => Landed::Kept(key),
+        Err(FileFault::Disk) => Landed::DiskFailed,
+        Err(FileFault::NoMemory) => Landed::NoMemory,
+    }
+}
+
+// The numbers of a stamp have 64 bits.
+fn stamp_fits(stamp: Stamp)
+    ensures epoch { stamp.epoch < 2 ^ 64 }
+    ensures count { stamp.count < 2 ^ 64 }
+{}
+
+// So has the length of a body.
+fn body_fits(answer: &Answer)
+    ensures { length answer.now.body < 2 ^ 64 }
+{
+    let _size = answer.body.bytes().len();
+}

@@ -1,0 +1,20 @@
+//! The core of a cache: its requests, landings, flushes in slices and restarts, over a disk that may fail (Adobe Dispatcher manual,
+//! "Invalidating Cached Pages From AEM"; RFC 9111).
+#![tactic(auto)]
+
+mod answers;
+mod asking;
+mod beginning;
+mod core_state;
+mod delivery;
+mod flushing;
+mod laws;
+mod lookup;
+mod pending;
+mod request;
+mod restart;
+
+pub use answers::{Got, Landed, Purged, Requested};
+pub use core_state::Core;
+pub use laws::{coverage_by_three_facts, no_files_hold_the_empty_log, the_files_hold_what_stands};
+pub use pending::Pending;

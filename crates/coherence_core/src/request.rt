@@ -1,0 +1,104 @@
+//! A request that comes to the cache.
+ghost use Rattle.std.specs.Prelude.{◌≡◌, ◌++◌, ℕ, false, List};
+ghost use Rattle.cover_rules.specs.Pages.{IsPageKey};
+ghost use Rattle.flights.specs.Flights.{numbers_of};
+ghost use Rattle.cache_log.specs.Entries.{LogEntry};
+ghost use Rattle.coherence_core.specs.Asking.{KeyedAs, RequestedAs};
+ghost use Rattle.coherence_core.specs.Cores.{ExtendsCore, FlightsRise, IsDiskTold, KeepsFarm, StandsFor, flight_labels, flush_numbers};
+ghost use Rattle.coherence_core.specs.Requests.{GotAs, got_entries, got_flights, got_flushes, got_labels, requested_under};
+
+use crate::answers::{Got, Requested};
+use crate::core_state::Core;
+use crate::laws::coverage_by_three_facts;
+use crate::lookup::look;
+use cache_files::a_page_is_its_head_and_its_body;
+use cover_rules::PageKey;
+use dispatch_rules::{admits, auto_of, key_of};
+use docroot_format::FileFault;
+use flights::the_numbers_of_flights_rise;
+use invalidation::is_invalidation;
+use sp_base::Req;
+use sp_outside::Disk;
+use std::alloc::Global;
+
+impl Core {
+    /// Answers a request, or says what is to be done for it. The first slice of a flush that begins is left to `purge_step`.
+    pub fn request<D: Disk>(
+        &mut self,
+        alloc: Global,
+        disk: &mut D,
+        req: &Req,
+        peer: &str,
+    ) -> Requested
+        ensures log { ExtendsCore (D.files disk.old) self.old (D.files disk.new) self.new (requested_under result) (got_entries result.got) }
+        ensures cause { (found : ℕ) (log : List LogEntry) → StandsFor found (D.files disk.old) self.old log → GotAs self.old log req.now peer.now result.disk_failed result.got }
+        ensures came { RequestedAs (D.files disk.old) self.old self.new req.now peer.now result }
+        ensures files { D.files disk.new ≡ D.files disk.old }
+        ensures disk_failed { IsDiskTold (D.faults disk.old) (D.faults disk.new) result.disk_failed }
+        ensures flights { numbers_of self.new.flights ≡ numbers_of self.old.flights ++ got_flights result.got }
+        ensures labels { flight_labels self.new.flights ≡ flight_labels self.old.flights ++ got_labels result.got }
+        ensures flushes { flush_numbers self.new.queue.items ≡ flush_numbers self.old.queue.items ++ got_flushes result.got }
+        ensures rising { FlightsRise self.old → FlightsRise self.new }
+        ensures kept { KeepsFarm self.old self.new }
+    {
+        a_page_is_its_head_and_its_body();
+        coverage_by_three_facts();
+        the_numbers_of_flights_rise();
+        self.answer(alloc, disk, req, peer)
+    }
+
+    // Does what the first point says that applies to the request.
+    fn answer<D: Disk>(&mut self, alloc: Global, disk: &mut D, req: &Req, peer: &str) -> Requested
+        ensures came { RequestedAs (D.files disk.old) self.old self.new req.now peer.now result }
+        ensures files { D.files disk.new ≡ D.files disk.old }
+        ensures disk_failed { IsDiskTold (D.faults disk.old) (D.faults disk.new) result.disk_failed }
+    {
+        if self.down {
+            return without_fault(Got::Down);
+        }
+        if is_invalidation(req) {
+            return without_fault(self.flush(alloc, req, peer));
+        }
+        match admits(alloc, &self.farm, req) {
+            Ok(true) => {}
+            Ok(false) => return without_fault(Got::Denied),
+            Err(_) => return without_fault(Got::NoMemory),
+        }
+        match key_of(alloc, &self.farm, req) {
+            Ok(Some(key)) => self.keyed(alloc, disk, key),
+            Ok(None) => without_fault(self.ask(alloc, None, false)),
+            Err(_) => without_fault(Got::NoMemory),
+        }
+    }
+
+    // Answers a request for a page that may be kept.
+    fn keyed<D: Disk>(&mut self, alloc: Global, disk: &mut D, key: PageKey) -> Requested
+        requires { IsPageKey key }
+        ensures keyed { KeyedAs (D.files disk.old) self.old self.new key result.got result.disk_failed }
+        ensures files { D.files disk.new ≡ D.files disk.old }
+        ensures disk_failed { IsDiskTold (D.faults disk.old) (D.faults disk.new) result.disk_failed }
+    {
+        let Ok(auto) = auto_of(alloc, &self.farm, &key) else {
+            return without_fault(Got::NoMemory);
+        };
+        match look(alloc, disk, self.farm.level, auto, &key) {
+            Ok(Some(answer)) => without_fault(Got::Hit(key, answer)),
+            Ok(None) => without_fault(self.ask(alloc, Some(key), auto)),
+            Err(FileFault::Disk) => Requested {
+                got: self.ask(alloc, Some(key), auto),
+                disk_failed: true,
+            },
+            Err(FileFault::NoMemory) => without_fault(Got::NoMemory),
+        }
+    }
+}
+
+fn without_fault(got: Got) -> Requested
+    ensures got { result.got ≡ got }
+    ensures disk_failed { result.disk_failed ≡ false }
+{
+    Requested {
+        got,
+        disk_failed: false,
+    }
+}

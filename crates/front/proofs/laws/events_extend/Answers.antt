@@ -1,8 +1,0 @@
-use Rattle.front.proofs.RunLemmas.{after_run_push, run_push}
-use Rattle.front.proofs.laws.events_extend.Goals as goal
-
-pub returns-clause-run : goal.returns-clause-run
-returns-clause-run c = run_push
-
-pub returns-clause-state : goal.returns-clause-state
-returns-clause-state c = after_run_push

@@ -1,5 +1,0 @@
-use Rattle.front.proofs.DeterminedLemmas.{runs-with-memory}
-use Rattle.front.proofs.laws.runs_with_memory_are_determined.Goals as goal
-
-pub returns : goal.returns
-returns c = runs-with-memory c.the_turns_of_a_beginning.ensures

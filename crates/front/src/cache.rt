@@ -1,0 +1,134 @@
+//! What stands behind the connections: the cache, the flights in the air, and the unfinished flushes.
+ghost use Rattle.std.specs.Prelude.{◌≡◌, ◌≢◌, ◌==◌, false, [], Ok, Err, IfErr, IfOk, IfSome};
+ghost use Rattle.cache_files.specs.declared.epoch.OpenFault.TheVariants as fault;
+ghost use Rattle.cache_files.specs.Epochs.{HasOpenCause, next_epoch};
+ghost use Rattle.coherence_core.specs.Cores.{flights_of, flushes_of};
+ghost use Rattle.coherence_core.specs.Sessions.{BeginsSession, KeepsHolds};
+ghost use Rattle.docroot_changes.specs.Changes.{Told};
+ghost use Rattle.http_front.specs.Faults.{insufficient_storage};
+ghost use Rattle.run_events.specs.declared.note.Note.TheVariants.{Local};
+ghost use Rattle.run_events.specs.States.{RunState};
+ghost use Rattle.front.specs.Caches.{AsksCache, IsAnswered, behind, local_reply};
+
+use crate::answered::{Answered, with_memory, without_memory};
+use crate::ticketed::{TicketedFlight, keep_flight, new_flight};
+use any_config::Farm;
+use cache_files::OpenFault;
+use coherence_core::{Core, Got, Requested};
+use connections::{ConnectionId, FlightId, FlushId};
+use flights::tickets_have_the_places_of_their_flights;
+use http_front::INSUFFICIENT_STORAGE;
+use run_events::{Conditions, Flushing};
+use sp_base::{Mem, Req, TextBuf};
+use sp_outside::Disk;
+use std::alloc::Global;
+use std::marker::Model;
+
+/// The core of a cache, the flights in the air, and the unfinished flushes, the oldest first, each with the connection that waits for it.
+pub(crate) struct Cache {
+    pub(crate) core: Core,
+    pub(crate) flights: Vec<TicketedFlight>,
+    pub(crate) flushes: Vec<Flushing>,
+}
+
+impl Model for Cache {
+    ghost use Rattle.front.specs.Caches.{AreTicketed, CacheParts, flying_of};
+
+    ghost Value = { CacheParts };
+
+    ghost view = { λ cache. record { core = cache.core; flying = flying_of cache.flights.items; flushes = cache.flushes.items } };
+
+    ghost invariant = { λ cache. AreTicketed cache.core cache.flights.items };
+}
+
+impl Cache {
+    /// A cache whose session begins over the files of the disk.
+    pub(crate) fn start<D: Disk>(
+        alloc: Global,
+        farm: Farm,
+        disk: &mut D,
+    ) -> Result<Cache, OpenFault>
+        ensures log { IfOk result (λ cache. BeginsSession farm (D.files disk.old) (D.files disk.new) cache.core) }
+        ensures left { IfErr result (λ fault. Told (KeepsHolds farm) (D.files disk.old) (D.files disk.new)) }
+        ensures err { IfErr result (λ e. e ≢ fault.NoMemory → e ≢ fault.Disk → IfSome (D.files disk.old) (λ files. next_epoch files ≡ Err e)) }
+        ensures epoch { IfOk result (λ cache. IfSome (D.files disk.old) (λ files. next_epoch files ≡ Ok cache.core.epoch)) }
+        ensures farm { IfOk result (λ cache. cache.core.farm ≡ farm) }
+        ensures empty { IfOk result (λ cache. (flights_of cache.core ≡ []) × (flushes_of cache.core ≡ []) × (cache.flying ≡ []) × (cache.flushes ≡ [])) }
+        ensures cause { HasOpenCause (D.faults disk.old) (D.faults disk.new) result }
+    {
+        let core = Core::start(alloc, farm, disk)?;
+        Ok(Cache {
+            core,
+            flights: Vec::new(alloc),
+            flushes: Vec::new(alloc),
+        })
+    }
+
+    /// The farm that the cache stands before.
+    pub(crate) fn farm(&self) -> &Farm
+        ensures { result.now ≡ self.now.core.farm }
+    {
+        self.core.farm()
+    }
+
+    /// Answers a request of a connection from this peer, or begins what will bring its answer.
+    pub(crate) fn request<D: Disk>(
+        &mut self,
+        alloc: Global,
+        disk: &mut D,
+        c: ConnectionId,
+        request: Req,
+        peer: &TextBuf,
+    ) -> Mem<Answered>
+        ensures { IfOk result (λ answered. (w : RunState) → AsksCache w c request peer.now (behind self.old (D.files disk.old) (D.faults disk.old)) → IsAnswered w c request answered (behind self.old (D.files disk.old) (D.faults disk.old)) (behind self.new (D.files disk.new) (D.faults disk.new))) }
+    {
+        tickets_have_the_places_of_their_flights();
+        let slices = self.flushes.is_empty();
+        let Requested { got, disk_failed } = self.core.request(alloc, disk, &request, peer.text());
+        let conditions = with_memory(disk_failed);
+        match got {
+            Got::Asked(ticket, key) => {
+                let number = FlightId::new(ticket.number());
+                let flying = new_flight(number, c, request);
+                keep_flight(&mut self.core, &mut self.flights, ticket, flying)?;
+                Ok(Answered::asked(c, number, key, conditions))
+            }
+            Got::Flush(number, inv) => {
+                let_go(request);
+                let number = FlushId::new(number);
+                self.flushes.push(Flushing {
+                    number,
+                    connection: c,
+                })?;
+                Ok(Answered::begun(c, number, inv, slices, conditions))
+            }
+            Got::Hit(key, answer) => {
+                let_go(request);
+                Ok(Answered::hit(c, key, answer, conditions))
+            }
+            Got::Down => Ok(turned_away(c, request, 503, conditions)),
+            Got::FullPurge => Ok(turned_away(c, request, 503, conditions)),
+            Got::FullAir => Ok(turned_away(c, request, 503, conditions)),
+            Got::Worn => Ok(turned_away(c, request, 503, conditions)),
+            Got::FlushForbidden => Ok(turned_away(c, request, 403, conditions)),
+            Got::FlushRefused(_) => Ok(turned_away(c, request, 400, conditions)),
+            Got::Denied => Ok(turned_away(c, request, 404, conditions)),
+            Got::NoMemory => Ok(turned_away(
+                c,
+                request,
+                INSUFFICIENT_STORAGE,
+                without_memory(disk_failed),
+            )),
+        }
+    }
+}
+
+// Answers a request by the front itself, with this status.
+fn turned_away(c: ConnectionId, _request: Req, status: u16, conditions: Conditions) -> Answered
+    ensures { result ≡ record { note = Local c status; reply = local_reply status; closes = status == insufficient_storage; slices = false; conditions = conditions } }
+{
+    Answered::local(c, status, conditions)
+}
+
+// A request that no flight takes.
+fn let_go(_request: Req) {}

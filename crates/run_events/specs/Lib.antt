@@ -1,0 +1,7 @@
+pub mod Publishers
+pub mod States
+pub mod Points
+pub mod Moves
+pub mod Restarts
+pub mod Causes
+pub mod Events

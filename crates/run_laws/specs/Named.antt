@@ -1,0 +1,35 @@
+-- What the notes of a run name: pages of the cache, and handles of invalidations (Adobe Dispatcher manual, "Invalidating Cached Pages From
+-- AEM").
+use Rattle.std.specs.Prelude.{◌≡◌, ℕ, IsTrue, List, [], ◌∷◌, Option, Some, None}
+use Rattle.sp_base.specs.Paths.{is_path, unmangled_segs}
+use Rattle.cover_rules.specs.Pages.{page_key_of}
+use Rattle.cover_rules.specs.declared.page.PageKey.{PageKey}
+use Rattle.run_events.specs.declared.note.Note.{Note}
+use Rattle.run_events.specs.declared.note.Note.TheVariants.{Ask as asked, Hit, Flush, Kept}
+
+-- a key is that of the page at some path
+abbrev pub IsPage : Option PageKey → Type 0
+IsPage None = Unit {0}
+IsPage (Some key) = (path : List (List ℕ)) × IsTrue (is_path path) × (page_key_of path ≡ Some key)
+
+-- the handle is that of a request: a path with its namespace prefixes as they stand in the repository
+abbrev pub IsHandle : List (List ℕ) → Type 0
+IsHandle handle = (path : List (List ℕ)) × IsTrue (is_path path) × (handle ≡ unmangled_segs path)
+
+-- the key of a note is one of a page, and its handle one of a request
+abbrev pub NamesPage : Note → Type 0
+NamesPage (asked n c key) = IsPage key
+NamesPage (Hit c key) = IsPage (Some key)
+NamesPage (Flush v c inv) = IsHandle inv.handle
+NamesPage (Kept n key) = IsPage (Some key)
+NamesPage _ = Unit {0}
+
+-- the same of each note
+abbrev pub NamePages : List Note → Type 0
+NamePages [] = Unit {0}
+NamePages (note ∷ notes) = NamesPage note × NamePages notes
+
+-- the same of each note of the events
+abbrev pub EventsNamePages : List (List Note) → Type 0
+EventsNamePages [] = Unit {0}
+EventsNamePages (notes ∷ events) = NamePages notes × EventsNamePages events

@@ -1,0 +1,12 @@
+//! Laws of whole runs: connections before a cache before a publisher. Definitions and laws alone.
+#![tactic(auto)]
+
+mod laws;
+
+pub use laws::{
+    a_cutting_changes_no_byte, a_cutting_changes_no_turn, answers_are_of_their_own_requests,
+    answers_of_hits_are_fresh, connections_and_flights_are_counted,
+    connections_are_answered_in_order, events_extend, kept_pages_are_served, logs_are_legal,
+    notes_name_pages, renders_are_published, replies_in_flight_are_not_stored,
+    runs_with_memory_are_determined, streams_with_memory_end_alike,
+};

@@ -1,0 +1,30 @@
+-- Scaffolding: how often the disk of a scenario fails, for the private functions of the run and for proofs alone.
+use Rattle.std.specs.Prelude.{◌≡◌, ℕ, Bool, true, false, Result, Ok, Err}
+use Rattle.sp_outside.specs.Files.{Files}
+use Rattle.sp_outside.specs.declared.disk.DiskFault.{DiskFault}
+use Rattle.sp_outside.specs.declared.disk.DiskFault.TheVariants.{Failed, NoMemory}
+use Rattle.sp_outside.specs.declared.mem_disk.Plan.{Plan}
+use Rattle.sp_outside.specs.declared.mem_disk.Plan.TheVariants.{Never, Once, From, Stopped}
+
+-- the disk of a scenario: its files, and whether no call may fail any more
+pub record ScriptedState : Type 0 where
+  pub files : Files
+  pub spent : Bool
+
+-- the count of its faults since a call was last told to fail
+abbrev pub fault_count : Bool → ℕ
+fault_count true = 1
+fault_count false = 0
+
+-- no call is planned to fail, or one that may
+abbrev pub FailsOnce : Plan → Bool → Type 0
+FailsOnce Never spent = Unit {0}
+FailsOnce (Once n way) spent = spent ≡ false
+FailsOnce (From n way) spent = ⊥
+FailsOnce Stopped spent = ⊥
+
+-- the call failed
+abbrev pub has_failed : {T : Type 0} → Result T DiskFault → Bool
+has_failed (Ok _) = false
+has_failed (Err Failed) = true
+has_failed (Err NoMemory) = false

@@ -1,9 +1,10 @@
 use Rattle.std.proofs.Common.{refl, arith}
-use Rattle.sling_dispatch.specs.Endings.{report_of, RefusalLine}
+use Rattle.sling_dispatch.specs.Endings.{RefusalLine}
+use Rattle.sling_dispatch.specs.Reports.{report_of}
 use Rattle.sling_dispatch.specs.InnerEndings.{IsDueAt, IsDueIn}
 use Rattle.sling_dispatch.specs.declared.ending.Ending.TheVariants.{Refused}
 use Rattle.sling_dispatch.proofs.Meanings.{means_weaker, in_text, told_made, out_of_memory}
-use Rattle.sling_dispatch.proofs.program.replay.Goals as goal
+use Rattle.sling_dispatch.proofs.replaying.replay.Goals as goal
 
 pub returns-in-Ok : goal.returns-in-Ok
 returns-in-Ok g c =
@@ -20,7 +21,7 @@ returns-in-Err-Line g c =
     let line = rw c.in-Err-Line.field-0-is at c.refusal_line.ensures in
     told_made (λ line. line.items) (IsDueAt text) (RefusalLine before) Refused c.say_line.result c.refusal_line.result
     (report_of (g.K.Sink.held c.args.sink.now) (g.K.Sink.held c.say_line.new.sink) (g.K.Sink.faults c.args.sink.now) (g.K.Sink.faults c.say_line.new.sink))
-    tt r.0 refl (λ m. m) line c.say_line.ensures.made c.say_line.ensures.not_made
+    r.0 refl (λ m. m) line c.say_line.ensures.made c.say_line.ensures.not_made
 
 pub refusal_line-requires : goal.refusal_line-requires
 refusal_line-requires g c =

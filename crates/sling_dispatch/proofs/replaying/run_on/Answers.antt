@@ -1,9 +1,9 @@
-use Rattle.std.proofs.Common.{◌∙◌, ap, sym}
-use Rattle.sling_dispatch.specs.Endings.{report_of}
+use Rattle.std.proofs.Common.{◌∙◌, ap}
+use Rattle.sling_dispatch.specs.Reports.{report_of}
 use Rattle.sling_dispatch.specs.InnerEndings.{IsDueIn, IsDueOf, IsFarmOr}
 use Rattle.sling_dispatch.specs.Farms.{farm_in, farm_text}
 use Rattle.sling_dispatch.proofs.Meanings.{means_weaker, due_acts, due_farm}
-use Rattle.sling_dispatch.proofs.program.run_on.Goals as goal
+use Rattle.sling_dispatch.proofs.replaying.run_on.Goals as goal
 
 pub returns-in-Ok : goal.returns-in-Ok
 returns-in-Ok g c = λ s same given reads.

@@ -1,6 +1,6 @@
-use Rattle.sling_dispatch.specs.Endings.{report_of}
+use Rattle.sling_dispatch.specs.Reports.{report_of}
 use Rattle.sling_dispatch.proofs.Meanings.{content_told}
-use Rattle.sling_dispatch.proofs.program.session.Goals as goal
+use Rattle.sling_dispatch.proofs.replaying.session.Goals as goal
 
 pub returns-in-Err : goal.returns-in-Err
 returns-in-Err g c =

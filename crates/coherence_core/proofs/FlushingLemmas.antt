@@ -82,7 +82,7 @@ module _ (found : ℕ) (core next : Core) (facts : CoverageFacts core.farm) (p :
   none_behind = record { touched = λ begun. absurd (cc begun); gone = λ k good del behind. absurd behind }
 
   ended : (step : PurgeStep) (outcome : Outcome) → IsSlice p.purge q step files after → next.queue.items ≡ rest → Stands core.farm (page_at after) (stamp_at after) (epoch_held after) core.flights rest core.asked core.begun core.epoch (drawn_of core) (Ended p.number outcome ∷ log) → StandsOver found after next (Ended p.number outcome ∷ log)
-  ended step outcome slice is stands = stands_with found after core next rest (Ended p.number outcome ∷ log) kept is stands (numbered_same files after slice.number s.numbered) (slice.order low s.order) s.down_is s.few (names_end core.farm found files after p rest log slice.names bounds outcome)
+  ended step outcome slice is stands = stands_with found after core next rest (Ended p.number outcome ∷ log) kept is stands (numbered_same files after slice.number s.numbered) (slice.order low s.order) s.down_is s.few (names_end core.farm found files after p rest log slice.names bounds here.flushing.each.1 outcome)
 
   fell : (step : PurgeStep) → IsSlice p.purge q step files after → next.queue.items ≡ rest → StandsOver found after next (Ended p.number Failed ∷ log)
   fell step slice is = ended step Failed slice is (failed core.farm facts (page_at after) (stamp_at after) (epoch_held after) core.flights (record { number = p.number; purge = forgotten }) rest core.asked core.begun core.epoch (drawn_of core) log (moved step slice forgotten (record { level = refl; inv = refl; stamp = refl }) none_behind))

@@ -15,3 +15,5 @@ mod LookupLemmas
 mod AskingLemmas
 mod RequestLemmas
 mod StartLemmas
+mod EndLemmas
+mod OpeningLemmas

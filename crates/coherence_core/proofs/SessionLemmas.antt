@@ -41,7 +41,7 @@ module _ (found : ℕ) (farm : Farm) (facts : CoverageFacts farm) (files : Files
   pub all_failed : (ps : List Pending) (log : List LogEntry) → StandsWith ps log → AllAllowed farm under (failed_entries (flush_numbers ps)) log × StandsWith [] (failed_entries (flush_numbers ps) ++ log) × (is_up (failed_entries (flush_numbers ps) ++ log) ≡ is_up log)
   all_failed [] log s = (tt, s, refl)
   all_failed (p ∷ ps) log s =
-      let rest = all_failed ps (Ended p.number Failed ∷ log) (failed farm facts (page_at files) (stamp_at files) (epoch_held files) [] p ps asked begun epoch drawn log s.0, names_end farm found files files p ps log (some_added _ files) s.1 Failed) in
+      let rest = all_failed ps (Ended p.number Failed ∷ log) (failed farm facts (page_at files) (stamp_at files) (epoch_held files) [] p ps asked begun epoch drawn log s.0, names_end farm found files files p ps log (some_added _ files) s.1 s.0.flushing.each.1 Failed) in
       let same : (failed_entries (flush_numbers ps) ++ Ended p.number Failed ∷ []) ++ log ≡ failed_entries (flush_numbers ps) ++ Ended p.number Failed ∷ log = append_assoc (failed_entries (flush_numbers ps)) (Ended p.number Failed ∷ []) log in (
         allowed_append farm under (failed_entries (flush_numbers ps)) (Ended p.number Failed ∷ []) log
             ((((p.purge.inv, s.0.flushing.each.0.unfinished), (λ w inv u. oldest p ps w inv s.0.flushing.each.1 (s.0.flushing.all w inv u))), inr restarts), tt) rest.0,

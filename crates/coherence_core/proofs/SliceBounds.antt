@@ -1,5 +1,5 @@
 -- The bound on the slices of a flush, as the log goes on.
-use Rattle.std.proofs.Common.{◌≡◌, ◌≢◌, ◌<◌, ◌≤◌, ◌+◌, ◌*◌, ℕ, Bool, true, false, List, [], ◌∷◌, ◌++◌, Option, Some, None, IsSome, refl, sym, ◌∙◌, subst, arith, eq-eqb, ne_eqb, ⊎_elim, length, if◌then◌else◌}
+use Rattle.std.proofs.Common.{◌≡◌, ◌≢◌, ◌<◌, ◌≤◌, ◌+◌, ◌*◌, ◌↔◌, ℕ, Bool, true, false, List, [], ◌∷◌, ◌++◌, Option, Some, None, IsSome, refl, sym, ◌∙◌, subst, arith, eq-eqb, ne_eqb, ⊎_elim, length, if◌then◌else◌}
 use Rattle.std.specs.FinMap.{keys}
 use Rattle.std.specs.List.{AllByRecursion, filter}
 use Rattle.std.proofs.lemmas.Bool.{cases_eq}
@@ -12,7 +12,7 @@ use Rattle.invalidation.specs.declared.place.Place.{Place}
 use Rattle.invalidation.specs.declared.purge.Purge.{Purge}
 use Rattle.invalidation.specs.Slices.{HasBegun, most_added, names_ahead, stamps_written}
 use Rattle.cache_log.specs.Entries.{LogEntry, Begun, Ended, Outcome, Session, Sliced, flushes_begun, landings_stored, slices_made}
-use Rattle.coherence_core.specs.Bounds.{BoundsSlices, HasNamesLeft, most_files, names_to_come}
+use Rattle.coherence_core.specs.Bounds.{BoundsSlices, HasBegunInLog, HasNamesLeft, most_files, names_to_come}
 use Rattle.coherence_core.specs.Holds.{files_counted}
 use Rattle.coherence_core.specs.Stands.{AreLater}
 use Rattle.coherence_core.specs.declared.pending.Pending.{Pending}
@@ -34,7 +34,7 @@ length_some p (x ∷ xs) = by_test (p x) (length_some p xs)
 ahead_most : (p : Purge) (files : Files) → names_ahead p files ≤ files_counted files
 ahead_most p files = length_some _ (keys files)
 
-counted_adds : (n : ℕ) (old new : Files) → AddsNames n old new → files_counted new ≤ files_counted old + n
+pub counted_adds : (n : ℕ) (old new : Files) → AddsNames n old new → files_counted new ≤ files_counted old + n
 counted_adds n old new adds =
     let le : length (filter (λ (name : Text). true) (keys new)) ≤ length (filter (λ (name : Text). true) (keys old)) + n = adds (λ (name : Text). true) in
     let a : length (filter (λ (name : Text). true) (keys new)) ≡ length (keys new) = length_all (keys new) in
@@ -43,6 +43,13 @@ counted_adds n old new adds =
 
 ahead_adds : (n : ℕ) (old new : Files) (p : Purge) → AddsNames n old new → names_ahead p new ≤ names_ahead p old + n
 ahead_adds n old new p adds = adds _
+
+-- a flush that has no place, and of which the log has no slice
+not_begun : (p : Pending) (log : List LogEntry) → p.purge.place ≡ None → slices_made p.number log ≡ 0 → HasBegunInLog p log
+not_begun p log none unmade = (
+  λ (begun : HasBegun p.purge). absurd (cc (subst (λ (o : Option Place). IsSome o) none begun)),
+  λ (made : 0 < slices_made p.number log). absurd (omega (arith, unmade, made)),
+)
 
 -- ---- entries that begin and end nothing
 
@@ -69,6 +76,7 @@ names_stay farm found n old new queue log after adds room same begun b = record 
           let was : 64 * slices_made p.number log + names_ahead p.purge old + names_to_come (p ∷ ps) ≤ most_files farm found log = h.0 in
           omega (arith, le, is, was, room),
       none ps h.1,
+      subst (λ (x : ℕ). HasBegun p.purge ↔ (0 < x)) (sym (same p.number)) h.2,
     )
 
 -- the same files
@@ -104,12 +112,14 @@ module _ (farm : Farm) (found : ℕ) (files : Files) (queue : List Pending) (log
         let few : files_counted files + 0 ≤ most_files farm found log = counted in
         omega (arith, unsliced, le, few, added, grown),
     tt,
+    not_begun q log place unsliced,
   )
   left_push (p ∷ ps) counted h = (
     let was : 64 * slices_made p.number log + names_ahead p.purge files + names_to_come (p ∷ ps) ≤ most_files farm found log = h.0 in
         let is : names_to_come (ps ++ q ∷ []) ≡ names_to_come ps + most_added q.purge = come_push ps q in
         omega (arith, was, is, added, grown),
     none_push ps h.1,
+    h.2,
   )
 
   pub names_begin : v ≡ flushes_begun log + 1 → BoundsSlices farm found files (queue ++ q ∷ []) (Begun v inv ∷ log)
@@ -126,20 +136,21 @@ module _ (farm : Farm) (found : ℕ) (old new : Files) (p : Pending) (queue : Li
   counted : files_counted new + names_to_come queue ≤ most_files farm found log
   counted = let le : files_counted new ≤ files_counted old + most_added p.purge = counted_adds (most_added p.purge) old new adds in omega (arith, le, b.files_left)
 
-  left_tail : (ps : List Pending) → files_counted new + names_to_come ps ≤ most_files farm found log → AllByRecursion (λ (q : Pending). slices_made q.number log ≡ 0) ps → HasNamesLeft (most_files farm found log) new ps log
-  left_tail [] few none = tt
-  left_tail (q ∷ qs) few none = (
+  left_tail : (ps : List Pending) → AreLater p ps → files_counted new + names_to_come ps ≤ most_files farm found log → AllByRecursion (λ (q : Pending). slices_made q.number log ≡ 0) ps → HasNamesLeft (most_files farm found log) new ps log
+  left_tail [] later few none = tt
+  left_tail (q ∷ qs) later few none = (
     let le : names_ahead q.purge new ≤ files_counted new = ahead_most q.purge new in
         omega (arith, le, few, none.0),
     none.1,
+    not_begun q log later.2 none.0,
   )
 
   -- it ended
-  pub names_end : (outcome : Outcome) → BoundsSlices farm found new queue (Ended p.number outcome ∷ log)
-  names_end outcome = record {
+  pub names_end : AreLater p queue → (outcome : Outcome) → BoundsSlices farm found new queue (Ended p.number outcome ∷ log)
+  names_end later outcome = record {
     bound = b.bound;
     files_left = counted;
-    names_left = end_left queue (left_tail queue counted b.names_left.1);
+    names_left = end_left queue (left_tail queue later counted b.names_left.1);
     unbegun = b.unbegun;
   }
     where
@@ -176,7 +187,7 @@ module _ (farm : Farm) (found : ℕ) (old new : Files) (p : Pending) (queue : Li
           (λ (ne : p.number ≢ v). let is : slices_made v (Sliced p.number ∷ log) ≡ slices_made v log = others v ne in let le : 64 * slices_made v log ≤ most_files farm found log = b.bound v in omega (arith, is, le))
           (cases_eq p.number v);
       files_left = omega (arith, counted, none_added);
-      names_left = (omega (arith, one_more, head_now), none_later queue later b.names_left.1);
+      names_left = (omega (arith, one_more, head_now), none_later queue later b.names_left.1, (λ (has : HasBegun q). omega (arith, one_more), λ (made : 0 < slices_made p.number (Sliced p.number ∷ log)). begun));
       unbegun = λ v lt. others v (let far : flushes_begun log < v = lt in omega (arith, far, known)) ∙ b.unbegun v lt;
     }
 

@@ -140,7 +140,7 @@ not_greatest : (epoch drawn : ℕ) → epoch < 2 ^ 64 → drawn ≤ most_stamps 
 not_greatest epoch drawn low few before = grind (arith, nat_tests)
 
 module _ (found : ℕ) (files : Files) (core : Core) (log : List LogEntry) (s : StandsOver found files core log) (fits : (text : Text) (epoch : ℕ) → epoch_of text ≡ Some epoch → (0 < epoch) × (epoch < 2 ^ 64)) where
-  formed : AreStatsFormed files
+  pub formed : AreStatsFormed files
   formed folder bytes good is = of_read (stat_of bytes) refl
     where
       of_read : (r : Option (ℕ × ℕ)) → stat_of bytes ≡ r → IsSome r

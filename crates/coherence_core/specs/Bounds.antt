@@ -1,9 +1,9 @@
 -- How many names of files may stand in the way of flushes, 64 of which a slice looks at.
-use Rattle.std.specs.Prelude.{◌≡◌, ◌<◌, ◌≤◌, ◌+◌, ◌*◌, ℕ, List, [], ◌∷◌}
+use Rattle.std.specs.Prelude.{◌≡◌, ◌<◌, ◌≤◌, ◌+◌, ◌*◌, ◌↔◌, ℕ, List, [], ◌∷◌}
 use Rattle.std.specs.List.{AllByRecursion}
 use Rattle.sp_outside.specs.Files.{Files}
 use Rattle.any_config.specs.declared.farm.Farm.{Farm}
-use Rattle.invalidation.specs.Slices.{most_added, names_ahead}
+use Rattle.invalidation.specs.Slices.{HasBegun, most_added, names_ahead}
 use Rattle.cache_log.specs.Ids.{FlushId}
 use Rattle.cache_log.specs.Entries.{LogEntry, flushes_begun, landings_stored, slices_made}
 use Rattle.cache_log.specs.Rules.{KeepsBound}
@@ -20,10 +20,15 @@ abbrev pub names_to_come : List Pending → ℕ
 names_to_come [] = 0
 names_to_come (p ∷ ps) = most_added p.purge + names_to_come ps
 
--- The oldest flush has looked at as many names, and has as many ahead, as the session may have had; the others have made no slice.
+-- the flush has begun exactly where the log has a slice that left more of it to do
+abbrev pub HasBegunInLog : Pending → List LogEntry → Type 0
+HasBegunInLog p log = HasBegun p.purge ↔ (0 < slices_made p.number log)
+
+-- The oldest flush has looked at as many names, and has as many ahead, as the session may have had, and has begun where a slice of it is in
+-- the log; the others have made no slice.
 abbrev pub HasNamesLeft : ℕ → Files → List Pending → List LogEntry → Type 0
 HasNamesLeft most files [] log = Unit {0}
-HasNamesLeft most files (p ∷ ps) log = (64 * slices_made p.number log + names_ahead p.purge files + names_to_come (p ∷ ps) ≤ most) × AllByRecursion (λ (q : Pending). slices_made q.number log ≡ 0) ps
+HasNamesLeft most files (p ∷ ps) log = (64 * slices_made p.number log + names_ahead p.purge files + names_to_come (p ∷ ps) ≤ most) × AllByRecursion (λ (q : Pending). slices_made q.number log ≡ 0) ps × HasBegunInLog p log
 
 -- The bound on slices, and what keeps it.
 pub record BoundsSlices (farm : Farm) (found : ℕ) (files : Files) (queue : List Pending) (log : List LogEntry) : Type 0 where

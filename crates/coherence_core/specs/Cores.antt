@@ -76,10 +76,6 @@ call_conditions disk_failed out_of_memory = record { disk_failed = disk_failed; 
 abbrev pub farm_of : Core → Farm
 farm_of core = core.farm
 
--- the last restart went down
-abbrev pub is_down : Core → Bool
-is_down core = core.down
-
 -- the flights in the air, the oldest first
 abbrev pub flights_of : Core → List Flight
 flights_of core = core.flights

@@ -9,3 +9,4 @@ pub mod Asking
 pub mod Landings
 pub mod Flushes
 pub mod Sessions
+pub mod Openings

@@ -4,17 +4,27 @@ use Rattle.sp_outside.specs.Files.{Files}
 use Rattle.any_config.specs.declared.farm.Farm.{Farm}
 use Rattle.cache_files.specs.declared.epoch.OpenFault.{OpenFault}
 use Rattle.cache_files.specs.declared.epoch.OpenFault.TheVariants as open_fault
-use Rattle.cache_log.specs.Ids.{FlushId}
-use Rattle.cache_log.specs.Entries.{LogEntry, Ended, Failed, Up, Down as down_entry, Session}
+use Rattle.flights.specs.Flights.{numbers_of}
+use Rattle.cache_log.specs.Ids.{FlightId, FlushId}
+use Rattle.cache_log.specs.Entries.{LogEntry, Ended, Failed, Lost, Up, Down as down_entry, Session}
 use Rattle.cache_log.specs.Rules.{CallConditions}
 use Rattle.coherence_core.specs.Holds.{Holds, HoldsClosed, files_counted}
-use Rattle.coherence_core.specs.Cores.{StandsFor}
+use Rattle.coherence_core.specs.Cores.{StandsFor, flushes_of}
 use Rattle.coherence_core.specs.declared.core_state.Core.{Core}
 
 -- each of these flushes is cut off, the oldest first
 abbrev pub failed_entries : List FlushId → List LogEntry
 failed_entries [] = []
 failed_entries (flush ∷ flushes) = failed_entries flushes ++ Ended flush Failed ∷ []
+
+-- each of these flights is lost, the oldest first
+abbrev pub lost_entries : List FlightId → List LogEntry
+lost_entries [] = []
+lost_entries (flight ∷ flights) = lost_entries flights ++ Lost flight ∷ []
+
+-- What closes the log of a session that ends, wherever it does: each flight in the air is lost, and then each unfinished flush is cut off.
+abbrev pub closing_entries : Core → List LogEntry
+closing_entries core = failed_entries (flushes_of core) ++ lost_entries (numbers_of core.flights)
 
 -- they are cut off, and the cache comes up with an epoch or goes down
 abbrev pub restarted_entries : List FlushId → Result ℕ OpenFault → List LogEntry

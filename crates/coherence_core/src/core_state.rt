@@ -1,11 +1,14 @@
 //! The core of a cache, and how a session begins.
 ghost use Rattle.std.specs.Prelude.{◌≡◌, ◌≢◌, ◌<◌, ◌≤◌, false, Err, [], IfErr, IfOk, IfSome, Ok};
 ghost use Rattle.any_config.specs.declared.farm.Farm.{Farm};
-ghost use Rattle.cache_files.specs.Epochs.{HasOpenCause, next_epoch};
+ghost use Rattle.cache_files.specs.Epochs.{HasOpenCause, next_epoch, told_with_epoch};
 ghost use Rattle.docroot_changes.specs.Changes.{Told};
+ghost use Rattle.docroot_changes.specs.DocrootCalls.{MakesDocrootCalls};
 ghost use Rattle.coherence_core.specs.Asking.{next_stamp};
 ghost use Rattle.coherence_core.specs.Cores.{FlightsRise, drawn_of, most_stamps};
-ghost use Rattle.coherence_core.specs.Sessions.{BeginsSession, KeepsHolds, OpensSession};
+ghost use Rattle.coherence_core.specs.Openings.{OpensCore};
+ghost use Rattle.coherence_core.specs.Sessions.{BeginsSession, IsFresh, KeepsHolds, OpensSession};
+ghost use Rattle.coherence_core.specs.declared.core_state.Core.{Core};
 
 use crate::laws::coverage_by_three_facts;
 use crate::pending::Pending;
@@ -15,7 +18,7 @@ use cache_files::{
     a_session_is_after_every_stamp, open_epoch,
 };
 use cover_rules::Stamp;
-use docroot_changes::what_an_opening_sets;
+use docroot_changes::{an_opening_takes_docroot_calls, docroot_calls_add_up, what_an_opening_sets};
 use docroot_format::names_are_apart;
 use flights::Flights;
 use sp_outside::Disk;
@@ -50,10 +53,14 @@ impl Core {
         ensures err { IfErr result (λ e. e ≢ OpenFault.NoMemory → e ≢ OpenFault.Disk → IfSome (D.files disk.old) (λ files. next_epoch files ≡ Err e)) }
         ensures epoch { IfOk result (λ core. IfSome (D.files disk.old) (λ files. next_epoch files ≡ Ok core.epoch)) }
         ensures farm { IfOk result (λ core. core.farm ≡ farm) }
+        ensures opened { IfOk result (OpensCore (D.files disk.old) (D.files disk.new)) }
+        ensures after { IfOk result (λ core. D.files disk.new ≡ told_with_epoch (D.files disk.old) core.epoch) }
+        ensures unopened { IfErr result (λ e. e ≢ OpenFault.Disk → D.files disk.new ≡ D.files disk.old) }
         ensures up { IfOk result (λ core. core.down ≡ false) }
         ensures empty { IfOk result (λ core. (core.flights ≡ []) × (core.queue.items ≡ [])) }
         ensures rising { IfOk result FlightsRise }
         ensures cause { HasOpenCause (D.faults disk.old) (D.faults disk.new) result }
+        ensures calls { MakesDocrootCalls (D.calls disk.old) (D.calls disk.new) }
     {
         let Opened { flights, epoch } = open(alloc, disk)?;
         Ok(Core {
@@ -107,11 +114,17 @@ fn open<D: Disk>(alloc: Global, disk: &mut D) -> Result<Opened, OpenFault>
     ensures left { IfErr result (λ fault. (farm : Farm) → Told (KeepsHolds farm) (D.files disk.old) (D.files disk.new)) }
     ensures err { IfErr result (λ e. e ≢ OpenFault.NoMemory → e ≢ OpenFault.Disk → IfSome (D.files disk.old) (λ files. next_epoch files ≡ Err e)) }
     ensures epoch { IfOk result (λ opened. IfSome (D.files disk.old) (λ files. next_epoch files ≡ Ok opened.epoch)) }
+    ensures opens { IfOk result (λ opened. (core : Core) → IsFresh core.farm opened.epoch core → OpensCore (D.files disk.old) (D.files disk.new) core) }
+    ensures after { IfOk result (λ opened. D.files disk.new ≡ told_with_epoch (D.files disk.old) opened.epoch) }
+    ensures unopened { IfErr result (λ e. e ≢ OpenFault.Disk → D.files disk.new ≡ D.files disk.old) }
     ensures empty { IfOk result (λ opened. opened.flights ≡ []) }
     ensures cause { HasOpenCause (D.faults disk.old) (D.faults disk.new) result }
+    ensures calls { MakesDocrootCalls (D.calls disk.old) (D.calls disk.new) }
 {
     coverage_by_three_facts();
     what_an_opening_sets();
+    an_opening_takes_docroot_calls();
+    docroot_calls_add_up();
     a_session_is_after_every_stamp();
     a_stamp_is_held_or_the_greatest();
     a_page_has_a_held_stamp();

@@ -2,6 +2,7 @@
 ghost use Rattle.std.specs.Prelude.{◌≡◌, ◌<◌, ◌^◌, ◌∷◌, [], ℕ, Option, Some, IfSome, IsSome, IsTrue, length};
 ghost use Rattle.sp_base.specs.MediaTypes.{is_kind};
 ghost use Rattle.sp_outside.specs.Files.{Files};
+ghost use Rattle.docroot_changes.specs.DocrootCalls.{MakesDocrootCalls};
 ghost use Rattle.flights.specs.Flights.{flight_at, without};
 ghost use Rattle.cache_log.specs.Entries.{Landed as landed_entry, Lost};
 ghost use Rattle.cache_log.specs.Rules.{CallConditions};
@@ -14,7 +15,7 @@ use crate::laws::coverage_by_three_facts;
 use cache_files::put_page;
 use cover_rules::Stamp;
 use dispatch_rules::storable;
-use docroot_changes::what_a_put_sets;
+use docroot_changes::{docroot_calls_add_up, pages_take_docroot_calls, what_a_put_sets};
 use docroot_format::FileFault;
 use flights::{Clear, Landing, Ticket, the_numbers_of_flights_rise};
 use sp_base::Answer;
@@ -36,6 +37,7 @@ impl Core {
         ensures delivered { IfSome (flight_at ticket self.old.flights) (λ flight. DeliveredAs flight answer.now result (D.files disk.old) (D.files disk.new)) }
         ensures key { IfSome (flight_at ticket self.old.flights) (λ flight. IsKeptAs flight.key result) }
         ensures disk_failed { IsDiskTold (D.faults disk.old) (D.faults disk.new) (landed_under result).disk_failed }
+        ensures calls { MakesDocrootCalls (D.calls disk.old) (D.calls disk.new) }
         ensures flights { self.new.flights ≡ without ticket self.old.flights }
         ensures queue { self.new.queue ≡ self.old.queue }
         ensures rising { FlightsRise self.old → FlightsRise self.new }
@@ -66,7 +68,9 @@ fn keep<D: Disk>(alloc: Global, disk: &mut D, landing: Landing, answer: &Answer)
     requires { IsTrue (is_kind answer.now.kind) }
     ensures kept { IsKeptFrom landing answer.now result (D.files disk.old) (D.files disk.new) }
     ensures disk_failed { IsDiskTold (D.faults disk.old) (D.faults disk.new) (landed_under result).disk_failed }
+    ensures calls { MakesDocrootCalls (D.calls disk.old) (D.calls disk.new) }
 {
+    docroot_calls_add_up();
     match landing {
         Landing::Unkeyed => Landed::Passed,
         Landing::Voided(_) => Landed::Passed,
@@ -80,8 +84,11 @@ fn store<D: Disk>(alloc: Global, disk: &mut D, clear: Clear, answer: &Answer) ->
     ensures stored { IsStored clear.key clear.stamp answer.now result (D.files disk.old) (D.files disk.new) }
     ensures key { IsKeptAs (Some clear.key) result }
     ensures disk_failed { IsDiskTold (D.faults disk.old) (D.faults disk.new) (landed_under result).disk_failed }
+    ensures calls { MakesDocrootCalls (D.calls disk.old) (D.calls disk.new) }
 {
     what_a_put_sets();
+    pages_take_docroot_calls();
+    docroot_calls_add_up();
     let stamp = clear.stamp();
     let key = clear.into_key();
     if !storable(answer) {

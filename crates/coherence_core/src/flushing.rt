@@ -1,5 +1,6 @@
 //! The work on flushes, slice by slice.
 ghost use Rattle.std.specs.Prelude.{◌≡◌, ◌<◌, length};
+ghost use Rattle.docroot_changes.specs.DocrootCalls.{MakesDocrootCalls};
 ghost use Rattle.coherence_core.specs.Cores.{ExtendsCore, IsDiskTold, KeepsFarm, flush_numbers};
 ghost use Rattle.coherence_core.specs.Flushes.{IsFirstSliced, PurgedAs, left_by, purged_entries, purged_under};
 
@@ -7,6 +8,7 @@ use crate::answers::Purged;
 use crate::core_state::Core;
 use crate::laws::coverage_by_three_facts;
 use crate::pending::Pending;
+use docroot_changes::docroot_calls_add_up;
 use invalidation::PurgeStep;
 use sp_outside::Disk;
 use std::alloc::Global;
@@ -18,11 +20,13 @@ impl Core {
         ensures flushes { PurgedAs result (flush_numbers self.old.queue.items) (flush_numbers self.new.queue.items) }
         ensures idle { result ≡ Purged.Idle → (self.new ≡ self.old) × (D.files disk.new ≡ D.files disk.old) }
         ensures disk_failed { IsDiskTold (D.faults disk.old) (D.faults disk.new) (purged_under result).disk_failed }
+        ensures calls { MakesDocrootCalls (D.calls disk.old) (D.calls disk.new) }
         ensures flights { self.new.flights ≡ self.old.flights }
         ensures asked { self.new.asked ≡ self.old.asked }
         ensures kept { KeepsFarm self.old self.new }
     {
         coverage_by_three_facts();
+        docroot_calls_add_up();
         if self.queue.is_empty() {
             return Purged::Idle;
         }
@@ -37,6 +41,7 @@ fn slice_first<D: Disk>(queue: &mut Vec<Pending>, alloc: Global, disk: &mut D) -
     requires { 0 < length queue.old.items }
     ensures sliced { IsFirstSliced (D.files disk.old) (D.files disk.new) queue.old.items queue.new.items result }
     ensures disk_failed { IsDiskTold (D.faults disk.old) (D.faults disk.new) (purged_under result).disk_failed }
+    ensures calls { MakesDocrootCalls (D.calls disk.old) (D.calls disk.new) }
 {
     let number = queue[0].number;
     match queue[0].purge.slice(alloc, disk) {

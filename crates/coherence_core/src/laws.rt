@@ -1,19 +1,26 @@
 //! What the core takes of the layers below, and what follows from what a core stands for: laws, on functions that do nothing but to call
 //! others.
-ghost use Rattle.std.specs.Prelude.{ℕ, List, []};
+ghost use Rattle.std.specs.Prelude.{◌≡◌, ◌≤◌, ◌++◌, ℕ, IsTrue, List, [], ◌∷◌};
 ghost use Rattle.std.specs.FinMap.{empty};
-ghost use Rattle.sp_outside.specs.Files.{Files};
+ghost use Rattle.sp_outside.specs.Files.{Files, file_at};
 ghost use Rattle.any_config.specs.declared.farm.Farm.{Farm};
-ghost use Rattle.cache_log.specs.Entries.{LogEntry};
-ghost use Rattle.cache_log.specs.Rules.{KeepsBound};
-ghost use Rattle.coherence_core.specs.Cores.{StandsOver};
+ghost use Rattle.docroot_format.specs.Names.{epoch_name};
+ghost use Rattle.cache_log.specs.Entries.{LogEntry, Session};
+ghost use Rattle.cache_log.specs.Rules.{AllAllowed, CallConditions, KeepsBound};
+ghost use Rattle.coherence_core.specs.Cores.{StandsOver, flushes_of};
 ghost use Rattle.coherence_core.specs.Facts.{CoverageFacts};
-ghost use Rattle.coherence_core.specs.Holds.{Holds, HoldsClosed};
+ghost use Rattle.coherence_core.specs.Holds.{Holds, HoldsClosed, files_counted};
+ghost use Rattle.coherence_core.specs.Openings.{IsCleared, IsCoreOpened, LieInside};
+ghost use Rattle.coherence_core.specs.Sessions.{closing_entries, failed_entries};
 ghost use Rattle.coherence_core.specs.declared.core_state.Core.{Core};
 
 use cache_files::empty_files_hold_no_page;
 use cover_rules::{a_touch_outdates_the_pages_of_its_folders, the_key_of_a_path_is_a_page_key};
-use docroot_format::{folders_are_mangled, folders_of_stamps_are_paths, what_reads_is_its_text};
+use docroot_format::{
+    folders_are_mangled, folders_of_stamps_are_paths, names_tell_their_files,
+    what_reads_is_its_text,
+};
+use flights::the_numbers_of_flights_rise;
 use stat_files::empty_files_hold_no_stamp;
 
 /// What is covered is what is deleted or what a touched folder outdates.
@@ -32,6 +39,27 @@ pub fn the_files_hold_what_stands()
     ensures bound { (found : ℕ) (files : Files) (core : Core) (log : List LogEntry) → StandsOver found files core log → KeepsBound core.farm found log }
 {
     what_reads_is_its_text();
+}
+
+/// Wherever a session ends, also in the middle of it, its files hold its log once that is closed: where each flight that is in the air is lost,
+/// and then each unfinished flush is cut off. A restart allows this. With nothing in the air the flushes alone are cut off.
+pub fn a_session_may_end_at_any_time()
+    ensures closed { (found : ℕ) (files : Files) (core : Core) (log : List LogEntry) → StandsOver found files core log → HoldsClosed core.farm files (closing_entries core ++ log) }
+    ensures landed { (found : ℕ) (files : Files) (core : Core) (log : List LogEntry) → StandsOver found files core log → core.flights ≡ [] → HoldsClosed core.farm files (failed_entries (flushes_of core) ++ log) }
+    ensures allowed { (found : ℕ) (files : Files) (core : Core) (log : List LogEntry) (under : CallConditions) → StandsOver found files core log → IsTrue under.restarts → AllAllowed core.farm under (closing_entries core) log }
+{
+    coverage_by_three_facts();
+    what_reads_is_its_text();
+    the_numbers_of_flights_rise();
+}
+
+/// Where a session was just opened, and no file is a page file or a .stat file, the core and the files stand for the log of this session alone.
+/// It stays one that was just opened as files go, but for that of the number.
+pub fn a_session_begins_without_pages()
+    ensures stands { (found : ℕ) (files : Files) (core : Core) → IsCoreOpened found files core → LieInside files → IsCleared files → StandsOver found files core (Session core.epoch ∷ []) }
+    ensures kept { (found : ℕ) (files after : Files) (core : Core) → IsCoreOpened found files core → file_at after epoch_name ≡ file_at files epoch_name → files_counted after ≤ files_counted files → IsCoreOpened found after core }
+{
+    names_tell_their_files();
 }
 
 /// No files hold the empty log.

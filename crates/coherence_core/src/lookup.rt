@@ -3,6 +3,7 @@ ghost use Rattle.std.specs.Prelude.{◌≡◌, IfOk, IfSome};
 ghost use Rattle.cover_rules.specs.Coverage.{stat_folder};
 ghost use Rattle.cover_rules.specs.Pages.{IsPageKey};
 ghost use Rattle.docroot_format.specs.Faults.{HasFileCause};
+ghost use Rattle.docroot_changes.specs.DocrootCalls.{MakesDocrootCalls};
 ghost use Rattle.cache_files.specs.Pages.{page_at};
 ghost use Rattle.stat_files.specs.Outdated as outdated;
 ghost use Rattle.stat_files.specs.Stamps.{stamp_at};
@@ -10,6 +11,7 @@ ghost use Rattle.coherence_core.specs.Served.{served};
 
 use cache_files::{a_page_is_its_head_and_its_body, get_head, get_known};
 use cover_rules::{PageKey, Stamp, stat_depth};
+use docroot_changes::{docroot_calls_add_up, pages_take_docroot_calls, stamps_take_docroot_calls};
 use docroot_format::{FileFault, folders_are_mangled};
 use sp_base::Answer;
 use sp_outside::Disk;
@@ -29,8 +31,11 @@ pub(crate) fn look<D: Disk>(
     ensures value { IfOk result (λ found. IfSome (D.files disk.old) (λ files. found ≡ served auto (stamp_at files (stat_folder level key.now)) (page_at files key.now))) }
     ensures files { D.files disk.new ≡ D.files disk.old }
     ensures cause { HasFileCause (D.faults disk.old) (D.faults disk.new) result }
+    ensures calls { MakesDocrootCalls (D.calls disk.old) (D.calls disk.new) }
 {
     a_page_is_its_head_and_its_body();
+    pages_take_docroot_calls();
+    docroot_calls_add_up();
     let Some(head) = get_head(alloc, disk, key)? else {
         return Ok(None);
     };
@@ -55,9 +60,13 @@ fn is_outdated<D: Disk>(
     ensures value { IfOk result (λ is. IfSome (D.files disk.old) (λ files. is ≡ outdated.outdates_page (stamp_at files (stat_folder level key.now)) page)) }
     ensures files { D.files disk.new ≡ D.files disk.old }
     ensures cause { HasFileCause (D.faults disk.old) (D.faults disk.new) result }
+    ensures calls { MakesDocrootCalls (D.calls disk.old) (D.calls disk.new) }
 {
     folders_are_mangled();
+    stamps_take_docroot_calls();
     let folder = key.folder.first(alloc, stat_depth(level, key))?;
+    // The law of its calls speaks of a path, and that the folder is one is a clause of its depth.
+    let _depth = folder.depth();
     let stat = stamp_of(alloc, disk, &folder)?;
     Ok(outdates_page(stat, page))
 }

@@ -1,6 +1,7 @@
 //! A request that comes to the cache.
 ghost use Rattle.std.specs.Prelude.{◌≡◌, ◌++◌, ℕ, false, List};
 ghost use Rattle.cover_rules.specs.Pages.{IsPageKey};
+ghost use Rattle.docroot_changes.specs.DocrootCalls.{MakesDocrootCalls};
 ghost use Rattle.flights.specs.Flights.{numbers_of};
 ghost use Rattle.cache_log.specs.Entries.{LogEntry};
 ghost use Rattle.coherence_core.specs.Asking.{KeyedAs, RequestedAs};
@@ -14,6 +15,7 @@ use crate::lookup::look;
 use cache_files::a_page_is_its_head_and_its_body;
 use cover_rules::PageKey;
 use dispatch_rules::{admits, auto_of, key_of};
+use docroot_changes::docroot_calls_add_up;
 use docroot_format::FileFault;
 use flights::the_numbers_of_flights_rise;
 use invalidation::is_invalidation;
@@ -35,6 +37,7 @@ impl Core {
         ensures came { RequestedAs (D.files disk.old) self.old self.new req.now peer.now result }
         ensures files { D.files disk.new ≡ D.files disk.old }
         ensures disk_failed { IsDiskTold (D.faults disk.old) (D.faults disk.new) result.disk_failed }
+        ensures calls { MakesDocrootCalls (D.calls disk.old) (D.calls disk.new) }
         ensures flights { numbers_of self.new.flights ≡ numbers_of self.old.flights ++ got_flights result.got }
         ensures labels { flight_labels self.new.flights ≡ flight_labels self.old.flights ++ got_labels result.got }
         ensures flushes { flush_numbers self.new.queue.items ≡ flush_numbers self.old.queue.items ++ got_flushes result.got }
@@ -52,7 +55,9 @@ impl Core {
         ensures came { RequestedAs (D.files disk.old) self.old self.new req.now peer.now result }
         ensures files { D.files disk.new ≡ D.files disk.old }
         ensures disk_failed { IsDiskTold (D.faults disk.old) (D.faults disk.new) result.disk_failed }
+        ensures calls { MakesDocrootCalls (D.calls disk.old) (D.calls disk.new) }
     {
+        docroot_calls_add_up();
         if self.down {
             return without_fault(Got::Down);
         }
@@ -77,7 +82,9 @@ impl Core {
         ensures keyed { KeyedAs (D.files disk.old) self.old self.new key result.got result.disk_failed }
         ensures files { D.files disk.new ≡ D.files disk.old }
         ensures disk_failed { IsDiskTold (D.faults disk.old) (D.faults disk.new) result.disk_failed }
+        ensures calls { MakesDocrootCalls (D.calls disk.old) (D.calls disk.new) }
     {
+        docroot_calls_add_up();
         let Ok(auto) = auto_of(alloc, &self.farm, &key) else {
             return without_fault(Got::NoMemory);
         };

@@ -2,13 +2,14 @@
 ghost use Rattle.std.specs.Prelude.{◌≡◌, ◌≢◌, [], false, true, Err, IfErr, IfOk, IfSome, Ok, OnErr, OnOk};
 ghost use Rattle.cache_files.specs.Epochs.{HasOpenCause, next_epoch};
 ghost use Rattle.docroot_changes.specs.Changes.{BesideNumber, Told};
+ghost use Rattle.docroot_changes.specs.DocrootCalls.{MakesDocrootCalls};
 ghost use Rattle.coherence_core.specs.Cores.{ExtendsCore, FlightsRise, flush_numbers};
 ghost use Rattle.coherence_core.specs.Sessions.{restarted_entries, restarted_under};
 
 use crate::core_state::Core;
 use crate::laws::coverage_by_three_facts;
 use cache_files::{OpenFault, open_epoch};
-use docroot_changes::what_an_opening_sets;
+use docroot_changes::{an_opening_takes_docroot_calls, what_an_opening_sets};
 use sp_outside::Disk;
 use std::alloc::Global;
 
@@ -18,6 +19,7 @@ impl Core {
         requires { self.old.flights ≡ [] }
         ensures log { ExtendsCore (D.files disk.old) self.old (D.files disk.new) self.new (restarted_under result) (restarted_entries (flush_numbers self.old.queue.items) result) }
         ensures ok { IfOk result (λ epoch. IfSome (D.files disk.old) (λ files. next_epoch files ≡ Ok epoch)) }
+        ensures epoch { IfOk result (λ epoch. self.new.epoch ≡ epoch) }
         ensures up { OnOk result (self.new.down ≡ false) }
         ensures down { OnErr result (self.new.down ≡ true) }
         ensures empty { (self.new.flights ≡ []) × (self.new.queue.items ≡ []) }
@@ -26,9 +28,11 @@ impl Core {
         ensures err { IfErr result (λ e. e ≢ OpenFault.NoMemory → e ≢ OpenFault.Disk → IfSome (D.files disk.old) (λ files. next_epoch files ≡ Err e)) }
         ensures files { Told BesideNumber (D.files disk.old) (D.files disk.new) }
         ensures cause { HasOpenCause (D.faults disk.old) (D.faults disk.new) result }
+        ensures calls { MakesDocrootCalls (D.calls disk.old) (D.calls disk.new) }
     {
         coverage_by_three_facts();
         what_an_opening_sets();
+        an_opening_takes_docroot_calls();
         self.queue.clear();
         match open_epoch(alloc, disk) {
             Ok(epoch) => {

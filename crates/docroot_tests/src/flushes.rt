@@ -134,10 +134,11 @@ fn takes_the_pages_of_each_action_away(rt: HostRuntime) {
     }
 }
 
-fn many_pages(alloc: Global, count: u64) -> Mem<MemDisk> {
+// So many files whose names end in this.
+fn many_files(alloc: Global, count: u64, ending: &str) -> Mem<MemDisk> {
     let mut disk = MemDisk::new(alloc);
     for n in 0..count {
-        let name = TextBuf::from(format!(in alloc; "content/en/page-{n}.html")?);
+        let name = TextBuf::from(format!(in alloc; "content/en/page-{n}{ending}")?);
         let text = name.text();
         if !text.is_empty() && text.len() <= LONGEST_FILE_NAME {
             let _ = disk.put(text, b"page");
@@ -146,9 +147,9 @@ fn many_pages(alloc: Global, count: u64) -> Mem<MemDisk> {
     Ok(disk)
 }
 
-// The steps of a flush of so many files, one slice after the other.
-fn steps(alloc: Global, count: u64) -> [Option<PurgeStep>; 3] {
-    let Ok(mut disk) = many_pages(alloc, count) else {
+// The steps of a flush over so many files whose names end in this, one slice after the other.
+fn steps(alloc: Global, count: u64, ending: &str) -> [Option<PurgeStep>; 3] {
+    let Ok(mut disk) = many_files(alloc, count, ending) else {
         return [None, None, None];
     };
     match flush(alloc, Action::Delete, "/content/en", false) {
@@ -164,9 +165,11 @@ fn steps(alloc: Global, count: u64) -> [Option<PurgeStep>; 3] {
 #[test]
 fn a_slice_looks_at_64_names(rt: HostRuntime) {
     let (more, done) = (Some(PurgeStep::More), Some(PurgeStep::Done));
-    assert!(rt; steps(rt.alloc(), 130) == [more, more, done]);
-    assert!(rt; steps(rt.alloc(), 64) == [more, done, done]);
-    assert!(rt; steps(rt.alloc(), 63) == [done, done, done]);
+    assert!(rt; steps(rt.alloc(), 130, ".html") == [more, more, done]);
+    assert!(rt; steps(rt.alloc(), 64, ".html") == [more, done, done]);
+    assert!(rt; steps(rt.alloc(), 63, ".html") == [done, done, done]);
+    // Names that are no page's count too: were a 65th passed over, the second slice would be the last.
+    assert!(rt; steps(rt.alloc(), 128, "/.note") == [more, more, done]);
 }
 
 // Which call of the disk fails in the first slice, and how; the stamp of the folder after it, and which of the four files are gone. The calls

@@ -4,3 +4,5 @@ pub mod Boards
 pub mod Serving
 pub mod Restarts
 pub mod Fronts
+pub mod Clearings
+pub mod Uses

@@ -11,6 +11,7 @@ ghost use Rattle.run_events.specs.Moves.{state_after_notes};
 ghost use Rattle.run_events.specs.States.{RunState};
 ghost use Rattle.front.specs.Boards.{BoardMakesEvent, BoardStandsFor, EntryStandsFor, FirstThen, HasEnded, ReadAt, SettlesIn, at_disk};
 ghost use Rattle.front.specs.Caches.{RepliesFor, with_end_if};
+ghost use Rattle.front.specs.Uses.{UsesDisk};
 
 use crate::answered::{Ended, with_memory};
 use crate::cache::Cache;
@@ -35,7 +36,8 @@ pub(crate) struct Board {
 impl Board {
     // Gives a connection all that it is owed.
     fn settle<D: Disk>(&mut self, alloc: Global, disk: &mut D, c: ConnectionId) -> Mem<Effect>
-        ensures { IfOk result (λ effect. (w : RunState) → BoardStandsFor (at_disk self.old (D.files disk.old) (D.faults disk.old)) w → SettlesIn effect.conditions w c effect.notes.items (D.faults disk.old) (D.faults disk.new) × BoardStandsFor (at_disk self.new (D.files disk.new) (D.faults disk.new)) (state_after_notes w effect.notes.items)) }
+        ensures given { IfOk result (λ effect. (w : RunState) → BoardStandsFor (at_disk self.old (D.files disk.old) (D.faults disk.old)) w → SettlesIn effect.conditions w c effect.notes.items (D.faults disk.old) (D.faults disk.new) × BoardStandsFor (at_disk self.new (D.files disk.new) (D.faults disk.new)) (state_after_notes w effect.notes.items)) }
+        ensures disk { UsesDisk (D.faults disk.old) (D.faults disk.new) (D.calls disk.old) (D.calls disk.new) }
     {
         let Some(connection) = self.open_connections.get_mut(&c) else {
             return Ok(Effect::nothing(alloc));
@@ -90,7 +92,8 @@ impl Board {
         c: ConnectionId,
         bytes: &ByteBuf,
     ) -> Mem<Effect>
-        ensures { IfOk result (λ effect. BoardMakesEvent (at_disk self.old (D.files disk.old) (D.faults disk.old)) (at_disk self.new (D.files disk.new) (D.faults disk.new)) (Piece c bytes.now) effect) }
+        ensures event { IfOk result (λ effect. BoardMakesEvent (at_disk self.old (D.files disk.old) (D.faults disk.old)) (at_disk self.new (D.files disk.new) (D.faults disk.new)) (Piece c bytes.now) effect) }
+        ensures disk { UsesDisk (D.faults disk.old) (D.faults disk.new) (D.calls disk.old) (D.calls disk.new) }
     {
         if !self.read(alloc, c, bytes.bytes())? {
             return Effect::idle(alloc);
@@ -123,7 +126,8 @@ impl Board {
 
     // Gives a connection what it waited for, and then all that it is owed.
     fn finish<D: Disk>(&mut self, alloc: Global, disk: &mut D, ended: Ended) -> Mem<Effect>
-        ensures { IfOk result (λ effect. (w : RunState) (before : ℕ) → HasEnded (at_disk self.old (D.files disk.old) (D.faults disk.old)) w ended before → FirstThen ended w effect before (at_disk self.new (D.files disk.new) (D.faults disk.new))) }
+        ensures given { IfOk result (λ effect. (w : RunState) (before : ℕ) → HasEnded (at_disk self.old (D.files disk.old) (D.faults disk.old)) w ended before → FirstThen ended w effect before (at_disk self.new (D.files disk.new) (D.faults disk.new))) }
+        ensures disk { UsesDisk (D.faults disk.old) (D.faults disk.new) (D.calls disk.old) (D.calls disk.new) }
     {
         let Ended {
             note,
@@ -145,7 +149,8 @@ impl Board {
         disk: &mut D,
         pick: &Pick,
     ) -> Mem<Effect>
-        ensures { IfOk result (λ effect. BoardMakesEvent (at_disk self.old (D.files disk.old) (D.faults disk.old)) (at_disk self.new (D.files disk.new) (D.faults disk.new)) (Deliver pick.now) effect) }
+        ensures event { IfOk result (λ effect. BoardMakesEvent (at_disk self.old (D.files disk.old) (D.faults disk.old)) (at_disk self.new (D.files disk.new) (D.faults disk.new)) (Deliver pick.now) effect) }
+        ensures disk { UsesDisk (D.faults disk.old) (D.faults disk.new) (D.calls disk.old) (D.calls disk.new) }
     {
         let Some(ended) = self.cache.deliver(alloc, disk, pick) else {
             return Effect::idle(alloc);
@@ -156,7 +161,8 @@ impl Board {
 
     /// A flight is lost.
     pub(crate) fn lose<D: Disk>(&mut self, alloc: Global, disk: &mut D, pick: &Pick) -> Mem<Effect>
-        ensures { IfOk result (λ effect. BoardMakesEvent (at_disk self.old (D.files disk.old) (D.faults disk.old)) (at_disk self.new (D.files disk.new) (D.faults disk.new)) (Lose pick.now) effect) }
+        ensures event { IfOk result (λ effect. BoardMakesEvent (at_disk self.old (D.files disk.old) (D.faults disk.old)) (at_disk self.new (D.files disk.new) (D.faults disk.new)) (Lose pick.now) effect) }
+        ensures disk { UsesDisk (D.faults disk.old) (D.faults disk.new) (D.calls disk.old) (D.calls disk.new) }
     {
         let Some(ended) = self.cache.lose(pick) else {
             return Effect::idle(alloc);
@@ -167,7 +173,8 @@ impl Board {
 
     /// The oldest unfinished flush gets a slice.
     pub(crate) fn purge<D: Disk>(&mut self, alloc: Global, disk: &mut D) -> Mem<Effect>
-        ensures { IfOk result (λ effect. BoardMakesEvent (at_disk self.old (D.files disk.old) (D.faults disk.old)) (at_disk self.new (D.files disk.new) (D.faults disk.new)) Purge effect) }
+        ensures event { IfOk result (λ effect. BoardMakesEvent (at_disk self.old (D.files disk.old) (D.faults disk.old)) (at_disk self.new (D.files disk.new) (D.faults disk.new)) Purge effect) }
+        ensures disk { UsesDisk (D.faults disk.old) (D.faults disk.new) (D.calls disk.old) (D.calls disk.new) }
     {
         let Some(ended) = self.cache.slice(alloc, disk) else {
             return Effect::idle(alloc);

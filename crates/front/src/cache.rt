@@ -1,17 +1,19 @@
 //! What stands behind the connections: the cache, the flights in the air, and the unfinished flushes.
-ghost use Rattle.std.specs.Prelude.{◌≡◌, ◌≢◌, ◌==◌, false, [], Ok, Err, IfErr, IfOk, IfSome};
+ghost use Rattle.std.specs.Prelude.{◌≡◌, ◌≢◌, ◌==◌, false, true, [], Ok, Err, IfErr, IfOk, IfSome};
 ghost use Rattle.cache_files.specs.declared.epoch.OpenFault.TheVariants as fault;
-ghost use Rattle.cache_files.specs.Epochs.{HasOpenCause, next_epoch};
+ghost use Rattle.cache_files.specs.Epochs.{HasOpenCause, next_epoch, told_with_epoch};
 ghost use Rattle.coherence_core.specs.Cores.{flights_of, flushes_of};
+ghost use Rattle.coherence_core.specs.Openings.{OpensCore};
 ghost use Rattle.coherence_core.specs.Sessions.{BeginsSession, KeepsHolds};
 ghost use Rattle.docroot_changes.specs.Changes.{Told};
 ghost use Rattle.http_front.specs.Faults.{insufficient_storage};
 ghost use Rattle.run_events.specs.declared.note.Note.TheVariants.{Local};
 ghost use Rattle.run_events.specs.States.{RunState};
 ghost use Rattle.front.specs.Caches.{AsksCache, IsAnswered, behind, local_reply};
+ghost use Rattle.front.specs.Uses.{UsesDisk};
 
 use crate::answered::{Answered, with_memory, without_memory};
-use crate::ticketed::{TicketedFlight, keep_flight, new_flight};
+use crate::ticketed::{TicketedFlight, new_flight};
 use any_config::Farm;
 use cache_files::OpenFault;
 use coherence_core::{Core, Got, Requested};
@@ -19,7 +21,7 @@ use connections::{ConnectionId, FlightId, FlushId};
 use flights::tickets_have_the_places_of_their_flights;
 use http_front::INSUFFICIENT_STORAGE;
 use run_events::{Conditions, Flushing};
-use sp_base::{Mem, Req, TextBuf};
+use sp_base::{Req, TextBuf};
 use sp_outside::Disk;
 use std::alloc::Global;
 use std::marker::Model;
@@ -53,8 +55,12 @@ impl Cache {
         ensures err { IfErr result (λ e. e ≢ fault.NoMemory → e ≢ fault.Disk → IfSome (D.files disk.old) (λ files. next_epoch files ≡ Err e)) }
         ensures epoch { IfOk result (λ cache. IfSome (D.files disk.old) (λ files. next_epoch files ≡ Ok cache.core.epoch)) }
         ensures farm { IfOk result (λ cache. cache.core.farm ≡ farm) }
+        ensures after { IfOk result (λ cache. D.files disk.new ≡ told_with_epoch (D.files disk.old) cache.core.epoch) }
+        ensures opened { IfOk result (λ cache. OpensCore (D.files disk.old) (D.files disk.new) cache.core) }
+        ensures unopened { IfErr result (λ e. e ≢ fault.Disk → D.files disk.new ≡ D.files disk.old) }
         ensures empty { IfOk result (λ cache. (flights_of cache.core ≡ []) × (flushes_of cache.core ≡ []) × (cache.flying ≡ []) × (cache.flushes ≡ [])) }
         ensures cause { HasOpenCause (D.faults disk.old) (D.faults disk.new) result }
+        ensures disk { UsesDisk (D.faults disk.old) (D.faults disk.new) (D.calls disk.old) (D.calls disk.new) }
     {
         let core = Core::start(alloc, farm, disk)?;
         Ok(Cache {
@@ -79,48 +85,61 @@ impl Cache {
         c: ConnectionId,
         request: Req,
         peer: &TextBuf,
-    ) -> Mem<Answered>
-        ensures { IfOk result (λ answered. (w : RunState) → AsksCache w c request peer.now (behind self.old (D.files disk.old) (D.faults disk.old)) → IsAnswered w c request answered (behind self.old (D.files disk.old) (D.faults disk.old)) (behind self.new (D.files disk.new) (D.faults disk.new))) }
+    ) -> Answered
+        ensures given { (w : RunState) → AsksCache w c request peer.now (behind self.old (D.files disk.old) (D.faults disk.old)) → IsAnswered w c request result (behind self.old (D.files disk.old) (D.faults disk.old)) (behind self.new (D.files disk.new) (D.faults disk.new)) }
+        ensures disk { UsesDisk (D.faults disk.old) (D.faults disk.new) (D.calls disk.old) (D.calls disk.new) }
     {
         tickets_have_the_places_of_their_flights();
         let slices = self.flushes.is_empty();
+        // The room of a flight or a flush is taken before it begins, so that it isn't lost.
+        if self.flights.reserve(1).is_err() || self.flushes.reserve(1).is_err() {
+            return out_of_memory(c, request, false);
+        }
         let Requested { got, disk_failed } = self.core.request(alloc, disk, &request, peer.text());
         let conditions = with_memory(disk_failed);
         match got {
             Got::Asked(ticket, key) => {
                 let number = FlightId::new(ticket.number());
                 let flying = new_flight(number, c, request);
-                keep_flight(&mut self.core, &mut self.flights, ticket, flying)?;
-                Ok(Answered::asked(c, number, key, conditions))
+                self.flights
+                    .push_reserved(TicketedFlight { ticket, flying });
+                Answered::asked(c, number, key, conditions)
             }
             Got::Flush(number, inv) => {
                 let_go(request);
                 let number = FlushId::new(number);
-                self.flushes.push(Flushing {
+                self.flushes.push_reserved(Flushing {
                     number,
                     connection: c,
-                })?;
-                Ok(Answered::begun(c, number, inv, slices, conditions))
+                });
+                Answered::begun(c, number, inv, slices, conditions)
             }
             Got::Hit(key, answer) => {
                 let_go(request);
-                Ok(Answered::hit(c, key, answer, conditions))
+                Answered::hit(c, key, answer, conditions)
             }
-            Got::Down => Ok(turned_away(c, request, 503, conditions)),
-            Got::FullPurge => Ok(turned_away(c, request, 503, conditions)),
-            Got::FullAir => Ok(turned_away(c, request, 503, conditions)),
-            Got::Worn => Ok(turned_away(c, request, 503, conditions)),
-            Got::FlushForbidden => Ok(turned_away(c, request, 403, conditions)),
-            Got::FlushRefused(_) => Ok(turned_away(c, request, 400, conditions)),
-            Got::Denied => Ok(turned_away(c, request, 404, conditions)),
-            Got::NoMemory => Ok(turned_away(
-                c,
-                request,
-                INSUFFICIENT_STORAGE,
-                without_memory(disk_failed),
-            )),
+            Got::Down => turned_away(c, request, 503, conditions),
+            Got::FullPurge => turned_away(c, request, 503, conditions),
+            Got::FullAir => turned_away(c, request, 503, conditions),
+            Got::Worn => turned_away(c, request, 503, conditions),
+            Got::FlushForbidden => turned_away(c, request, 403, conditions),
+            Got::FlushRefused(_) => turned_away(c, request, 400, conditions),
+            Got::Denied => turned_away(c, request, 404, conditions),
+            Got::NoMemory => out_of_memory(c, request, disk_failed),
         }
     }
+}
+
+// Answers a request for which memory ran out.
+fn out_of_memory(c: ConnectionId, request: Req, disk_failed: bool) -> Answered
+    ensures { result ≡ record { note = Local c insufficient_storage; reply = local_reply insufficient_storage; closes = true; slices = false; conditions = record { disk_failed = disk_failed; out_of_memory = true } } }
+{
+    turned_away(
+        c,
+        request,
+        INSUFFICIENT_STORAGE,
+        without_memory(disk_failed),
+    )
 }
 
 // Answers a request by the front itself, with this status.

@@ -1,5 +1,5 @@
 //! The ends of what connections wait for: flights that land or are lost, and slices of flushes.
-ghost use Rattle.std.specs.Prelude.{◌≡◌, ◌+◌, ◌∷◌, ◌&&◌, [], ℕ, Option, IfNone, IfSome, IsSome, None, OnSome, Some, length, position};
+ghost use Rattle.std.specs.Prelude.{◌≡◌, ◌≢◌, ◌+◌, ◌∷◌, ◌&&◌, [], false, ℕ, Option, IfNone, IfSome, IsSome, IsTrue, None, OnSome, Some, length, position};
 ghost use Rattle.sp_outside.specs.Files.{Files};
 ghost use Rattle.run_events.specs.declared.flying.Flying as model;
 ghost use Rattle.run_events.specs.declared.note.Note.TheVariants.{Lost};
@@ -8,6 +8,7 @@ ghost use Rattle.run_events.specs.Events as events;
 ghost use Rattle.run_events.specs.Events.{is_any, is_rendered};
 ghost use Rattle.run_events.specs.States.{RunState};
 ghost use Rattle.front.specs.Caches.{BehindStandsFor, IsLanding, IsLoss, IsSlice, behind, is_ending, landing_end_of, left_after, slice_end_of};
+ghost use Rattle.front.specs.Uses.{UsesDisk};
 
 use crate::answered::{Ended, with_memory, without_memory};
 use crate::cache::Cache;
@@ -32,6 +33,7 @@ impl Cache {
         ensures landing { IfSome result (λ ended. (w : RunState) → BehindStandsFor (behind self.old (D.files disk.old) (D.faults disk.old)) w → w.slicing ≡ None → IsLanding w pick.now ended (behind self.old (D.files disk.old) (D.faults disk.old)) (behind self.new (D.files disk.new) (D.faults disk.new))) }
         ensures none { IfNone result (position (λ flying. events.is_picked pick.now flying && is_rendered flying) self.old.flying ≡ None) }
         ensures same { IfNone result ((self.new ≡ self.old) × (D.files disk.new ≡ D.files disk.old) × (D.faults disk.new ≡ D.faults disk.old)) }
+        ensures disk { UsesDisk (D.faults disk.old) (D.faults disk.new) (D.calls disk.old) (D.calls disk.new) }
     {
         tickets_have_the_places_of_their_flights();
         let at = first_rendered(&self.flights, pick)?;
@@ -65,11 +67,20 @@ impl Cache {
         })
     }
 
+    /// Whether a flush is unfinished.
+    pub(crate) fn is_purging(&self) -> bool
+        ensures some { IsTrue result → self.now.flushes ≢ [] }
+        ensures none { result ≡ false → self.now.flushes ≡ [] }
+    {
+        !self.flushes.is_empty()
+    }
+
     /// The oldest unfinished flush gets a slice.
     pub(crate) fn slice<D: Disk>(&mut self, alloc: Global, disk: &mut D) -> Option<Ended>
         ensures slice { IfSome result (λ ended. (w : RunState) → BehindStandsFor (behind self.old (D.files disk.old) (D.faults disk.old)) w → IsSlice w ended (behind self.old (D.files disk.old) (D.faults disk.old)) (behind self.new (D.files disk.new) (D.faults disk.new))) }
         ensures none { IfNone result ((w : RunState) → BehindStandsFor (behind self.old (D.files disk.old) (D.faults disk.old)) w → (w.flushes ≡ []) × BehindStandsFor (behind self.new (D.files disk.new) (D.faults disk.new)) w) }
         ensures quiet { IfNone result (D.faults disk.new ≡ D.faults disk.old) }
+        ensures disk { UsesDisk (D.faults disk.old) (D.faults disk.new) (D.calls disk.old) (D.calls disk.new) }
     {
         if self.flushes.is_empty() {
             return None;

@@ -1,19 +1,24 @@
 //! The front: one call for each step.
-ghost use Rattle.std.specs.Prelude.{◌≡◌, ◌≢◌, ◌<◌, false, ℕ, Option, Ok, Err, IfErr, IfOk, IfSome, IsTrue, OnErr, OnOk, Some, length, slice_get};
+ghost use Rattle.std.specs.Prelude.{◌≡◌, ◌≢◌, ◌<◌, ◌≤◌, [], false, ℕ, Option, Ok, Err, IfErr, IfOk, IfSome, IsTrue, OnErr, OnOk, Some, length, option_map, slice_get};
+ghost use Rattle.std.specs.List.{find};
 ghost use Rattle.sp_outside.specs.Files.{Files};
 ghost use Rattle.sp_base.specs.MediaTypes.{is_kind};
 ghost use Rattle.cache_files.specs.declared.epoch.OpenFault.TheVariants as fault;
-ghost use Rattle.cache_files.specs.Epochs.{HasOpenCause, next_epoch};
+ghost use Rattle.cache_files.specs.Epochs.{HasOpenCause, next_epoch, told_with_epoch};
 ghost use Rattle.docroot_changes.specs.Changes.{Told};
+ghost use Rattle.docroot_changes.specs.DocrootCalls.{MakesDocrootCalls};
+ghost use Rattle.resource_tree.specs.Content.{Content};
 ghost use Rattle.coherence_core.specs.Sessions.{KeepsHolds};
 ghost use Rattle.dispatch_rules.specs.Asking.{publisher_ask};
 ghost use Rattle.http_front.specs.Faults.{insufficient_storage};
 ghost use Rattle.run_events.specs.declared.flying.Flying as model;
 ghost use Rattle.run_events.specs.declared.step.Step.TheVariants.{Direct, Render};
-ghost use Rattle.run_events.specs.Events.{Extends};
+ghost use Rattle.run_events.specs.Events.{Extends, is_unrendered};
 ghost use Rattle.run_events.specs.Publishers.{direct_answer};
+ghost use Rattle.run_events.specs.States.{RunState};
 ghost use Rattle.front.specs.Boards.{at_disk};
-ghost use Rattle.front.specs.Fronts.{BeginsRun, epoch_of_board, FrontStandsFor, IsGiven, MakesEvent};
+ghost use Rattle.front.specs.Fronts.{BeginsRun, FrontStandsFor, IsGiven, MakesEvent, OpensFront, epoch_of_board};
+ghost use Rattle.front.specs.Uses.{UsesDisk};
 
 use crate::asking::{fixed_answer, get_of, shared};
 use crate::board::Board;
@@ -23,6 +28,7 @@ use crate::renderer::Renderer;
 use any_config::Farm;
 use cache_files::OpenFault;
 use coherence_core::the_files_hold_what_stands;
+use connections::FlightId;
 use error_answers::error_answer;
 use http_front::read_target;
 use run_events::{Conditions, Note, NoteList, Pick, Step};
@@ -34,7 +40,7 @@ use std::collections::BTreeMap;
 /// Connections before a cache before a publisher. It holds tickets of flights, so it can't be dropped: `end` gives it up.
 pub struct Front<R: Renderer + Drop> {
     renderer: R,
-    board: Board,
+    pub(crate) board: Board,
 }
 
 /// An answer, and whether it is the fixed one since memory ran out.
@@ -57,7 +63,12 @@ impl<R: Renderer + Drop> Front<R> {
         ensures left { IfErr result (λ fault. Told (KeepsHolds farm) (D.files disk.old) (D.files disk.new)) }
         ensures err { IfErr result (λ e. e ≢ fault.NoMemory → e ≢ fault.Disk → IfSome (D.files disk.old) (λ files. next_epoch files ≡ Err e)) }
         ensures epoch { IfOk result (λ front. IfSome (D.files disk.old) (λ files. next_epoch files ≡ Ok (epoch_of_board (at_disk front.board (D.files disk.new) (D.faults disk.new))))) }
+        ensures renderer { IfOk result (λ front. front.renderer ≡ renderer) }
+        ensures after { IfOk result (λ front. D.files disk.new ≡ told_with_epoch (D.files disk.old) (epoch_of_board (at_disk front.board (D.files disk.new) (D.faults disk.new)))) }
+        ensures opened { IfOk result (λ front. OpensFront farm (D.files disk.old) (D.files disk.new) front.board) }
+        ensures unopened { IfErr result (λ e. e ≢ fault.Disk → D.files disk.new ≡ D.files disk.old) }
         ensures cause { HasOpenCause (D.faults disk.old) (D.faults disk.new) result }
+        ensures calls { MakesDocrootCalls (D.calls disk.old) (D.calls disk.new) }
     {
         let cache = Cache::start(alloc, farm, disk)?;
         Ok(Front {
@@ -71,12 +82,29 @@ impl<R: Renderer + Drop> Front<R> {
 
     /// One step, with what happens in it: its event. An `Err` ends the run.
     pub fn step<D: Disk>(&mut self, alloc: Global, disk: &mut D, step: &Step) -> Mem<NoteList>
-        ensures { IfOk result (λ notes. Extends (FrontStandsFor R.publishing (R.content self.old.renderer) (at_disk self.old.board (D.files disk.old) (D.faults disk.old))) (FrontStandsFor R.publishing (R.content self.new.renderer) (at_disk self.new.board (D.files disk.new) (D.faults disk.new))) (D.faults disk.old) (D.faults disk.new) step.now notes) }
+        ensures event { IfOk result (λ notes. Extends (FrontStandsFor R.publishing (R.content self.old.renderer) (at_disk self.old.board (D.files disk.old) (D.faults disk.old))) (FrontStandsFor R.publishing (R.content self.new.renderer) (at_disk self.new.board (D.files disk.new) (D.faults disk.new))) (D.faults disk.old) (D.faults disk.new) step.now notes) }
+        ensures count { D.faults disk.old ≤ D.faults disk.new }
+        ensures calls { MakesDocrootCalls (D.calls disk.old) (D.calls disk.new) }
     {
         the_files_hold_what_stands();
         let effect = self.take_step(alloc, disk, step)?;
         let notes = effect.into_notes()?;
         Ok(notes)
+    }
+
+    /// The least number of a flight in the air that isn't rendered. This takes no memory.
+    pub fn unrendered(&self) -> Option<FlightId>
+        ensures { (content : Content) (files : Option Files) (faults : ℕ) (w : RunState) → FrontStandsFor R.publishing content (at_disk self.now.board files faults) w → result ≡ option_map (λ (flying : model.Flying). flying.number) (find is_unrendered w.flights) }
+    {
+        self.board.cache.unrendered()
+    }
+
+    /// Whether a flush is unfinished. This takes no memory.
+    pub fn purging(&self) -> bool
+        ensures some { (content : Content) (files : Option Files) (faults : ℕ) (w : RunState) → FrontStandsFor R.publishing content (at_disk self.now.board files faults) w → IsTrue result → w.flushes ≢ [] }
+        ensures none { (content : Content) (files : Option Files) (faults : ℕ) (w : RunState) → FrontStandsFor R.publishing content (at_disk self.now.board files faults) w → result ≡ false → w.flushes ≡ [] }
+    {
+        self.board.cache.is_purging()
     }
 
     /// Loses each flight in the air, and gives the front up. Its publisher is given back.
@@ -93,7 +121,8 @@ impl<R: Renderer + Drop> Front<R> {
     }
 
     fn take_step<D: Disk>(&mut self, alloc: Global, disk: &mut D, step: &Step) -> Mem<Effect>
-        ensures { IfOk result (λ effect. MakesEvent (FrontStandsFor R.publishing (R.content self.old.renderer) (at_disk self.old.board (D.files disk.old) (D.faults disk.old))) (FrontStandsFor R.publishing (R.content self.new.renderer) (at_disk self.new.board (D.files disk.new) (D.faults disk.new))) step.now effect (D.faults disk.old) (D.faults disk.new)) }
+        ensures event { IfOk result (λ effect. MakesEvent (FrontStandsFor R.publishing (R.content self.old.renderer) (at_disk self.old.board (D.files disk.old) (D.faults disk.old))) (FrontStandsFor R.publishing (R.content self.new.renderer) (at_disk self.new.board (D.files disk.new) (D.faults disk.new))) step.now effect (D.faults disk.old) (D.faults disk.new)) }
+        ensures disk { UsesDisk (D.faults disk.old) (D.faults disk.new) (D.calls disk.old) (D.calls disk.new) }
     {
         match step {
             Step::Opened(c, peer) => self.board.open(alloc, *c, peer),

@@ -6,6 +6,7 @@ mod answered;
 mod asking;
 mod board;
 mod cache;
+mod clearing;
 mod connection;
 mod effect;
 mod endings;
@@ -19,6 +20,6 @@ mod ticketed;
 mod treat;
 
 pub use front::Front;
-pub use laws::a_front_stands_whatever_the_count;
+pub use laws::{a_front_stands_whatever_the_count, the_files_of_a_front_hold_its_log};
 pub use renderer::Renderer;
 pub use run_events::{Conditions, Failure, Flushing, Flying, Note, NoteList, Pick, Step};

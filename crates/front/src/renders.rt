@@ -1,5 +1,6 @@
 //! The renders of flights.
-ghost use Rattle.std.specs.Prelude.{◌≡◌, ◌<◌, ◌&&◌, IfOk, IsTrue, Some, length, position, slice_get, slice_set};
+ghost use Rattle.std.specs.List.{find};
+ghost use Rattle.std.specs.Prelude.{◌≡◌, ◌<◌, ◌&&◌, IfOk, IsTrue, Some, length, option_map, position, slice_get, slice_set};
 ghost use Rattle.sp_base.specs.MediaTypes.{is_kind};
 ghost use Rattle.dispatch_rules.specs.Asking.{publisher_ask};
 ghost use Rattle.run_events.specs.declared.flying.Flying as model;
@@ -21,6 +22,14 @@ impl Cache {
         ensures { result ≡ position (λ flying. events.is_picked pick.now flying && is_unrendered flying) self.now.flying }
     {
         first_unrendered(&self.flights, pick)
+    }
+
+    /// The number of the first flight that isn't rendered.
+    pub(crate) fn unrendered(&self) -> Option<FlightId>
+        ensures { result ≡ option_map (λ (flying : model.Flying). flying.number) (find is_unrendered self.now.flying) }
+    {
+        let at = first_unrendered(&self.flights, &Pick::First)?;
+        Some(self.flights[at].flying.number)
     }
 
     /// What the publisher is asked for the flight that stands there.

@@ -9,6 +9,7 @@ ghost use Rattle.run_events.specs.States.{RunState};
 ghost use Rattle.front.specs.Boards.{BoardMakesEvent, at_disk};
 ghost use Rattle.front.specs.Caches.{behind};
 ghost use Rattle.front.specs.Restarts.{AreKeys, IsReopened, LosesFlights, failed_notes, lost_notes, reopened_by};
+ghost use Rattle.front.specs.Uses.{UsesDisk};
 
 use crate::answered::{with_memory, without_memory};
 use crate::board::Board;
@@ -58,7 +59,8 @@ impl Cache {
     // Cuts off the flushes, and goes on in a new epoch, or goes down.
     fn restart<D: Disk>(&mut self, alloc: Global, disk: &mut D) -> Reopened
         requires { flights_of self.old.core ≡ [] }
-        ensures { IsReopened (behind self.old (D.files disk.old) (D.faults disk.old)) (behind self.new (D.files disk.new) (D.faults disk.new)) result }
+        ensures given { IsReopened (behind self.old (D.files disk.old) (D.faults disk.old)) (behind self.new (D.files disk.new) (D.faults disk.new)) result }
+        ensures disk { UsesDisk (D.faults disk.old) (D.faults disk.new) (D.calls disk.old) (D.calls disk.new) }
     {
         let opened = self.core.restart(alloc, disk);
         self.flushes.clear();
@@ -104,7 +106,8 @@ fn restart_end(opened: Result<u64, OpenFault>) -> Reopened
 impl Board {
     /// The cache and its connections begin anew.
     pub(crate) fn restart<D: Disk>(&mut self, alloc: Global, disk: &mut D) -> Mem<Effect>
-        ensures { IfOk result (λ effect. BoardMakesEvent (at_disk self.old (D.files disk.old) (D.faults disk.old)) (at_disk self.new (D.files disk.new) (D.faults disk.new)) Restart effect) }
+        ensures event { IfOk result (λ effect. BoardMakesEvent (at_disk self.old (D.files disk.old) (D.faults disk.old)) (at_disk self.new (D.files disk.new) (D.faults disk.new)) Restart effect) }
+        ensures disk { UsesDisk (D.faults disk.old) (D.faults disk.new) (D.calls disk.old) (D.calls disk.new) }
     {
         let mut notes = Vec::new(alloc);
         self.cache.lose_flights(&mut notes)?;

@@ -8,6 +8,7 @@ ghost use Rattle.front.specs.Caches.{Behind, GivesIn, HasNoteCause, behind, unde
 ghost use Rattle.front.specs.declared.connection.Connection.{Connection as KeptConnection};
 ghost use Rattle.front.specs.KeptConnections.{work_of};
 ghost use Rattle.front.specs.Serving.{NotesThen};
+ghost use Rattle.front.specs.Uses.{UsesDisk};
 
 use crate::answered::{Ended, local_reply, with_memory};
 use crate::cache::Cache;
@@ -51,6 +52,7 @@ fn serve_one<D: Disk>(
 ) -> Mem<Served>
     ensures served { IfOk result (λ served. (w : RunState) → OpenStandsFor w c connection.old (behind cache.old (D.files disk.old) (D.faults disk.old)) → ServedAs served w c connection.new (behind cache.old (D.files disk.old) (D.faults disk.old)) (behind cache.new (D.files disk.new) (D.faults disk.new))) }
     ensures less { IfOk result (λ served. IsLess served (work_of connection.new) (work_of connection.old)) }
+    ensures disk { UsesDisk (D.faults disk.old) (D.faults disk.new) (D.calls disk.old) (D.calls disk.new) }
 {
     match connection.send(alloc) {
         Some(sending) => Ok(Served::Said(
@@ -74,6 +76,7 @@ fn serve_turn<D: Disk>(
 ) -> Mem<Served>
     ensures served { IfOk result (λ served. (w : RunState) → OpenWithoutSending w c connection.old (behind cache.old (D.files disk.old) (D.faults disk.old)) → ServedAs served w c connection.new (behind cache.old (D.files disk.old) (D.faults disk.old)) (behind cache.new (D.files disk.new) (D.faults disk.new))) }
     ensures less { IfOk result (λ served. IsLess served (work_of connection.new) (work_of connection.old)) }
+    ensures disk { UsesDisk (D.faults disk.old) (D.faults disk.new) (D.calls disk.old) (D.calls disk.new) }
 {
     match connection.take() {
         Taken::Request(request) => {
@@ -122,6 +125,7 @@ fn push_first_slice<D: Disk>(
 ) -> Mem<()>
     ensures given { OnOk result ((w : RunState) (c : ids.ConnectionId) (old : Behind) → NotesThen true effect.old w c connection.old old (behind cache.old (D.files disk.old) (D.faults disk.old)) → NotesThen false effect.new w c connection.new old (behind cache.new (D.files disk.new) (D.faults disk.new))) }
     ensures work { work_of connection.new ≡ work_of connection.old }
+    ensures disk { UsesDisk (D.faults disk.old) (D.faults disk.new) (D.calls disk.old) (D.calls disk.new) }
 {
     let Some(ended) = cache.slice(alloc, disk) else {
         return Ok(());
@@ -145,7 +149,8 @@ pub(crate) fn serve_all<D: Disk>(
     connection: &mut Connection,
     cache: &mut Cache,
 ) -> Mem<AllServed>
-    ensures { IfOk result (λ all. (w : RunState) → OpenStandsFor w c connection.old (behind cache.old (D.files disk.old) (D.faults disk.old)) → AllGiven all.effect all.over w c connection.new (behind cache.old (D.files disk.old) (D.faults disk.old)) (behind cache.new (D.files disk.new) (D.faults disk.new))) }
+    ensures given { IfOk result (λ all. (w : RunState) → OpenStandsFor w c connection.old (behind cache.old (D.files disk.old) (D.faults disk.old)) → AllGiven all.effect all.over w c connection.new (behind cache.old (D.files disk.old) (D.faults disk.old)) (behind cache.new (D.files disk.new) (D.faults disk.new))) }
+    ensures disk { UsesDisk (D.faults disk.old) (D.faults disk.new) (D.calls disk.old) (D.calls disk.new) }
 {
     let mut effect = Effect::nothing(alloc);
     loop {

@@ -1,17 +1,14 @@
 //! Flights with their tickets.
-ghost use Rattle.std.specs.Prelude.{◌≡◌, ◌++◌, ◌∷◌, ◌&&◌, ◌<◌, [], IsSome, OnErr, OnOk, length, position};
-ghost use Rattle.flights.specs.Flights.{flight_at, without};
+ghost use Rattle.std.specs.Prelude.{◌≡◌, ◌&&◌, position};
 ghost use Rattle.run_events.specs.Events as events;
 ghost use Rattle.run_events.specs.Moves as spec;
 ghost use Rattle.run_events.specs.Events.{is_rendered, is_unrendered};
-ghost use Rattle.coherence_core.specs.Cores.{FlightsRise};
 ghost use Rattle.front.specs.Caches.{flying_of};
 
-use coherence_core::Core;
 use connections::{ConnectionId, FlightId};
 use flights::Ticket;
 use run_events::{Flying, Pick};
-use sp_base::{Mem, NoMemory, Req};
+use sp_base::Req;
 
 /// A flight in the air, with the ticket that takes it out.
 pub(crate) struct TicketedFlight {
@@ -28,29 +25,6 @@ pub(crate) fn new_flight(number: FlightId, connection: ConnectionId, request: Re
         connection,
         request,
         rendered: None,
-    }
-}
-
-/// Keeps a flight that was just asked. Where there is no room for it, the core loses it again.
-pub(crate) fn keep_flight(
-    core: &mut Core,
-    flights: &mut Vec<TicketedFlight>,
-    ticket: Ticket,
-    flying: Flying,
-) -> Mem<()>
-    requires { IsSome (flight_at ticket core.old.flights) }
-    ensures kept { OnOk result (flights.new.items ≡ flights.old.items ++ record { ticket = ticket; flying = flying } ∷ []) }
-    ensures core { OnOk result (core.new ≡ core.old) }
-    ensures lost { OnErr result ((flights.new.items ≡ flights.old.items) × (core.new.flights ≡ without ticket core.old.flights)) }
-    ensures rising { OnErr result (FlightsRise core.old → FlightsRise core.new) }
-{
-    match flights.push(TicketedFlight { ticket, flying }) {
-        Ok(()) => Ok(()),
-        Err(failed) => {
-            let TicketedFlight { ticket, flying: _ } = failed.value;
-            core.lose(ticket);
-            Err(NoMemory)
-        }
     }
 }
 

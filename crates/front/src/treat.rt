@@ -5,6 +5,7 @@ ghost use Rattle.run_events.specs.States.{RunState};
 ghost use Rattle.front.specs.Boards.{OwesRequest, TreatedAs};
 ghost use Rattle.front.specs.Caches.{Behind, behind};
 ghost use Rattle.front.specs.KeptConnections.{work_of};
+ghost use Rattle.front.specs.Uses.{UsesDisk};
 
 use crate::answered::{Answered, local_reply, with_memory};
 use crate::cache::Cache;
@@ -34,6 +35,7 @@ pub(crate) fn treat<D: Disk>(
 ) -> Mem<Treated>
     ensures given { IfOk result (λ it. (w : RunState) → OwesRequest w c connection.old (behind cache.old (D.files disk.old) (D.faults disk.old)) request → TreatedAs it w c connection.new (behind cache.old (D.files disk.old) (D.faults disk.old)) (behind cache.new (D.files disk.new) (D.faults disk.new))) }
     ensures work { OnOk result (work_of connection.new ≤ work_of connection.old + 1) }
+    ensures disk { UsesDisk (D.faults disk.old) (D.faults disk.new) (D.calls disk.old) (D.calls disk.new) }
 {
     if connection.is_crowded() {
         return turn_away(c, &request, connection);
@@ -45,7 +47,7 @@ pub(crate) fn treat<D: Disk>(
         closes,
         slices,
         conditions,
-    } = cache.request(alloc, disk, c, request, connection.peer())?;
+    } = cache.request(alloc, disk, c, request, connection.peer());
     connection.push(AnswerPlace {
         head_only: place.head_only,
         closes: closes || place.closes,

@@ -1,21 +1,25 @@
 -- The page at the handle is taken away.
-use Rattle.std.proofs.Common.{◌≡◌, inl, inr, List, Option, Some, Ok, Err, refl, sym, ◌∙◌, ap, arith}
+use Rattle.std.proofs.Common.{◌≡◌, inl, inr, ⊎_elim, List, Option, Some, None, Ok, Err, cond, refl, sym, ◌∙◌, ap, arith}
+use Rattle.std.specs.Cmp.{tied_itself}
+use Rattle.std.specs.Cmp.Lexicographic.{nat_list_cmp_total}
+use Rattle.std.specs.FinMap.{get-remove}
+use Rattle.std.specs.Ordering.{is_eq}
 use Rattle.std.specs.Prelude.{IfErr, IfSome, OnOk, Result}
+use Rattle.sp_base.specs.Texts.{Text}
 use Rattle.sp_outside.specs.Calls.{Call}
-use Rattle.sp_outside.specs.Files.{Files, without_file}
+use Rattle.sp_outside.specs.Files.{Files, file_at, without_file}
 use Rattle.cover_rules.specs.Coverage.{handle_of}
 use Rattle.cover_rules.specs.Pages.{IsPageKey, page_key_of, page_path}
 use Rattle.cover_rules.specs.declared.invalidation.Invalidation.{Invalidation}
 use Rattle.cover_rules.specs.declared.page.PageKey.{PageKey}
 use Rattle.docroot_format.specs.declared.fault.FileFault.{FileFault}
-use Rattle.cache_files.specs.Changes.{HasNoPage}
-use Rattle.cache_files.specs.Pages.{IsDropLeft, files_without_page, page_at, page_body_name, page_head_name, told_without_page}
+use Rattle.cache_files.specs.Pages.{IsDropLeft, files_without_page, page_body_name, page_head_name, told_without_page}
 use Rattle.docroot_changes.specs.Changes.{Told}
 use Rattle.docroot_changes.proofs.ToldFiles.{drop_keeps, told_drop, told_made}
 use Rattle.invalidation.specs.Slices.{IsHandlePage}
 use Rattle.invalidation.specs.Walks.{IsHandleGone, TakesFiles}
 use Rattle.invalidation.proofs.Chains.{either}
-use Rattle.invalidation.proofs.TakenFiles.{takes_as, takes_none, takes_one, takes_then}
+use Rattle.invalidation.proofs.TakenFiles.{stays_gone, takes_as, takes_none, takes_one, takes_then}
 
 -- the key is that of the page at the handle
 pub record IsHandleKey (inv : Invalidation) (key : PageKey) : Type 0 where
@@ -46,11 +50,18 @@ told_dropped inv key is r asked made x y ok err =
 same_key : (key other : PageKey) → Some other ≡ Some key → other ≡ key
 same_key key other e = cc (e)
 
-pub told_handle_gone : (inv : Invalidation) (key : PageKey) → IsHandleKey inv key → ((files : Files) → HasNoPage (files_without_page files key) key) → {T : Type 0} (r : Result T FileFault) (x y : Option Files) → OnOk r (y ≡ told_without_page x key)
-    → OnOk r (Told (λ a b. IsHandleGone inv b) x y)
-told_handle_gone inv key is dropped (Ok t) x y ok =
-    told_made (λ a b. IsHandleGone inv b) (λ files. files_without_page files key) x y
-    (λ old other page path.
-    let same = same_key key other (sym page.own ∙ ap page_key_of (path ∙ sym is.path) ∙ is.page.own) in
-    ap (page_at (files_without_page old key)) same ∙ (dropped old).page) ok
-told_handle_gone inv key is dropped (Err e) x y ok = ok
+itself_gone : (files : Files) (name : Text) → file_at (without_file files name) name ≡ None
+itself_gone files name = get-remove nat_list_cmp_total files name name ∙ ap (λ o. cond (is_eq o) None (file_at files name)) (tied_itself nat_list_cmp_total name)
+
+both_gone : (inv : Invalidation) (key : PageKey) → IsHandleKey inv key → (old : Files) → IsHandleGone inv (files_without_page old key)
+both_gone inv key is old name taken =
+    let half = without_file old (page_head_name key) in
+    let new = files_without_page old key in
+    let same = same_key key taken.0 (sym taken.1.0.own ∙ ap page_key_of (taken.1.1.0 ∙ sym is.path) ∙ is.page.own) in
+    let last = takes_one (IsHandlePage inv) half (page_body_name key) (key, (is.page, (is.path, inl refl))) in
+    ⊎_elim (λ e. ap (file_at new) (e ∙ ap page_body_name same) ∙ itself_gone half (page_body_name key))
+    (λ e. ap (file_at new) (e ∙ ap page_head_name same) ∙ stays_gone (IsHandlePage inv) 1 half new (page_head_name key) last (itself_gone old (page_head_name key))) taken.1.1.1
+
+pub told_handle_gone : (inv : Invalidation) (key : PageKey) → IsHandleKey inv key → {T : Type 0} (r : Result T FileFault) (x y : Option Files) → OnOk r (y ≡ told_without_page x key) → OnOk r (Told (λ a b. IsHandleGone inv b) x y)
+told_handle_gone inv key is (Ok t) x y ok = told_made (λ a b. IsHandleGone inv b) (λ files. files_without_page files key) x y (both_gone inv key is) ok
+told_handle_gone inv key is (Err e) x y ok = ok

@@ -2,9 +2,12 @@ mod HandleLemmas
 mod Chains
 mod TakenFiles
 mod LookedAt
+mod CountedFiles
 mod Passing
 mod PrefixLemmas
 mod Touching
 mod HandlePages
 mod SliceFacts
+mod LookedNames
+mod RemovedFiles
 mod SliceSteps

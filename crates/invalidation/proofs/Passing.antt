@@ -10,22 +10,24 @@ use Rattle.std.specs.declared.cmp.Ordering.{Ordering}
 use Rattle.std.specs.declared.cmp.Ordering.TheVariants.{Less, Equal, Greater}
 use Rattle.std.proofs.Math.Nat.{eq-or-lt_of_le}
 use Rattle.std.proofs.lemmas.Bool.{true≢false}
-use Rattle.std.proofs.lemmas.List.{drop_more, take_more}
+use Rattle.std.proofs.lemmas.List.{append-nil, drop_all, drop_more, take_more}
 use Rattle.std.proofs.lemmas.List.Elements.{All-contains}
 use Rattle.std.proofs.lemmas.List.Folds.{list_any-append, list_any_at}
 use Rattle.std.proofs.lemmas.Map.Keys.{Less-from_sorted}
-use Rattle.std.proofs.lemmas.Option.{get_or_from_slice_get}
+use Rattle.std.proofs.lemmas.Option.{get_or_from_slice_get, slice_get-get_or}
 use Rattle.sp_base.specs.Names.{by_name}
 use Rattle.sp_base.specs.Texts.{Text}
 use Rattle.sp_outside.specs.FileNames.{HasReached, IsNameAfter}
 use Rattle.sp_outside.specs.Files.{Files, IsListing, file_at, has_prefix, names_after}
 use Rattle.docroot_format.specs.Deletions.{begins_with_any}
 use Rattle.docroot_format.specs.Names.{is_page_file}
+use Rattle.docroot_format.proofs.NameCode.{is_begun}
 use Rattle.invalidation.specs.Slices.{IsListedPage, is_passed, is_to_look_at}
 use Rattle.invalidation.specs.Walks.{AreApart, AreGone, IsPageAmong, IsPlaceAfter, TakesFiles, Walked}
 use Rattle.invalidation.specs.declared.place.Place.{Place}
+use Rattle.invalidation.proofs.CountedFiles.{count_listed, count_parts, count_within}
 use Rattle.invalidation.proofs.LookedAt.{counted}
-use Rattle.invalidation.proofs.TakenFiles.{stays_gone, takes_as, takes_none, takes_then}
+use Rattle.invalidation.proofs.TakenFiles.{stays_gone, stays_there, takes_as, takes_none, takes_then}
 
 -- ---- truths
 
@@ -37,11 +39,11 @@ one_of : (a b : Bool) → a || b ≡ true → (a ≡ true) ⊎ (b ≡ true)
 one_of true b e = inl refl
 one_of false b e = inr e
 
-both_of : (a b : Bool) → a && b ≡ true → (a ≡ true) × (b ≡ true)
+pub both_of : (a b : Bool) → a && b ≡ true → (a ≡ true) × (b ≡ true)
 both_of true b e = (refl, e)
 both_of false b e = absurd (true≢false (sym e))
 
-or_left : (a b : Bool) → a ≡ true → a || b ≡ true
+pub or_left : (a b : Bool) → a ≡ true → a || b ≡ true
 or_left true b e = refl
 or_left false b e = absurd (true≢false (sym e))
 
@@ -49,11 +51,11 @@ or_right : (a b : Bool) → b ≡ true → a || b ≡ true
 or_right true b e = refl
 or_right false b e = e
 
-not_true : (b : Bool) → not b ≡ true → b ≡ false
+pub not_true : (b : Bool) → not b ≡ true → b ≡ false
 not_true true e = sym e
 not_true false e = refl
 
-is_not : (b : Bool) → b ≡ false → not b ≡ true
+pub is_not : (b : Bool) → b ≡ false → not b ≡ true
 is_not true e = sym e
 is_not false e = refl
 
@@ -97,6 +99,11 @@ later last name names rising has =
 rest_rises : (last : Text) (names : List Text) → IsStrictlySortedBy by_name (last ∷ names) → IsStrictlySortedBy by_name names
 unfolding IsStrictlySortedBy
 rest_rises last names rising = rising.1
+
+-- nothing begins the empty name but itself
+no_bytes : (prefix : Text) → has_prefix prefix [] ≡ true → prefix ≡ []
+no_bytes [] has = refl
+no_bytes (b ∷ prefix) has = absurd (true≢false (sym has))
 
 -- a name that nothing is before is empty, and so no page file's
 no_first : (name : Text) → is_page_file name ≡ true → is_lt (by_name [] name) ≡ false → ⊥
@@ -156,12 +163,18 @@ record Lists (prefixes : List Text) (prefix : Text) (start now : Place) (most : 
 abbrev Reached : Place → ℕ → List Text → Text → Type 0
 Reached now most names name = (length names < most) ⊎ (is_lt (by_name now.last name) ≡ false)
 
-now_is : (prefixes : List Text) (prefix : Text) (start now : Place) (most : ℕ) (names : List Text) → Lists prefixes prefix start now most names → (name : Text) → is_page_file name ≡ true → is_passed prefixes now name ≡ true
+-- the name is none that a place passes at the start of a prefix, before any of its names
+abbrev IsNotFirst : List Text → ℕ → Text → Type 0
+IsNotFirst prefixes n name = begins_with_any (take 1 (drop n prefixes)) name ≡ true → is_lt (by_name [] name) ≡ false → ⊥
+
+now_is : (prefixes : List Text) (prefix : Text) (start now : Place) (most : ℕ) (names : List Text) → Lists prefixes prefix start now most names → (name : Text) → IsNotFirst prefixes (start.prefix + 1) name → is_passed prefixes now name ≡ true
     → (begins_with_any (take start.prefix prefixes) name ≡ true) ⊎ ((has_prefix prefix name ≡ true) × Reached now most names name)
-now_is prefixes prefix start now most names l name page passed = ⊎_elim
+now_is prefixes prefix start now most names l name first passed = ⊎_elim
     (λ next. ⊎_elim
     (λ a. ⊎_elim (λ b. inl b) (λ b. inr (b, inl next.0)) (one_of _ _ (sym (goes_past prefixes start.prefix prefix name l.lt l.at) ∙ ap (λ n. begins_with_any (take n prefixes) name) (sym next.1) ∙ a)))
-    (λ b. absurd (no_first name page (ap (λ last. is_lt (by_name last name)) (sym next.2) ∙ not_true _ (both_of _ _ b).1)))
+    (λ b.
+    let w = both_of (begins_with_any (take 1 (drop now.prefix prefixes)) name) _ b in
+    absurd (first (ap (λ n. begins_with_any (take 1 (drop n prefixes)) name) (sym next.1) ∙ w.0) (ap (λ last. is_lt (by_name last name)) (sym next.2) ∙ not_true _ w.1)))
     (one_of (begins_with_any (take now.prefix prefixes) name) _ passed))
     (λ same.
     let at = subst (λ n. (n < length prefixes) × (slice_get prefixes n ≡ Some prefix)) (sym same.1) (l.lt, l.at) in
@@ -231,7 +244,7 @@ was_ahead prefixes prefix start now most names apart l name has =
     )) in
     (to_look _ _ (begins_some prefixes start.prefix prefix name l.lt l.at begins) none, looked (begins_with_any prefixes name) _ past)
 
--- ---- the walk past a list
+-- ---- the files of names that the walk goes past
 
 -- no file is passed over by a list that came to its name
 abbrev pub NothingIsPassedOver : Type 0
@@ -259,7 +272,40 @@ gone_or_passed prefixes prefix start now most names over l old new is takes gone
     (λ none. stays_gone (IsPageAmong names) (length names) old new name takes none)
     (λ some. gone name (over old prefix start.last name most names is (w.0, before _ less, some) (reaches prefixes prefix start now most names l name w.1), page)) (has_none (file_at old name))))
     (λ past. inl (is_passed_as prefixes prefix start name l.lt l.at (inr (w.0, past)))) (case (is_lt (by_name start.last name))))
-    (now_is prefixes prefix start now most names l name page passed)
+    (now_is prefixes prefix start now most names l name (λ begins none. no_first name page none) passed)
+
+-- ---- the list gives each name that the walk goes past
+
+-- An empty prefix stands alone: each other name begins with it, and so the prefix before it.
+not_first : (prefixes : List Text) (n : ℕ) (prefix name : Text) → AreApart prefixes → n < length prefixes → slice_get prefixes n ≡ Some prefix → IsNotFirst prefixes (n + 1) name
+not_first prefixes n prefix (b ∷ name) apart lt at begins none = true≢false none
+not_first prefixes n prefix [] apart lt at begins none = ⊎_elim
+    (λ end. true≢false (sym begins ∙ ap (λ (ps : List Text). begins_with_any (take 1 ps) []) (drop_all (n + 1) prefixes (omega (arith, end)))))
+    (λ less.
+    let next = get_or prefixes (n + 1) [] in
+    let empty = no_bytes next (sym (or_false (has_prefix next [])) ∙ sym (ap (λ (ps : List Text). begins_with_any (take 1 ps) []) (drop_more prefixes (n + 1) [] less)) ∙ begins) in
+    let behind = apart (n + 1) next prefix (slice_get-get_or prefixes (n + 1) [] less) (ap (λ p. has_prefix p prefix) empty) in
+    true≢false (sym (goes_past prefixes n prefix prefix lt at ∙ or_right (begins_with_any (take n prefixes) prefix) _ (is_begun prefix prefix [] (sym (append-nil prefix)))) ∙ behind))
+    (eq-or-lt_of_le (omega (arith, lt)))
+
+was_passed : (b p : Bool) → b ≡ true → b && not p ≡ false → p ≡ true
+was_passed true true e f = refl
+was_passed true false e f = sym f
+was_passed false p e f = absurd (true≢false (sym e))
+
+is_listed : (prefixes : List Text) (prefix : Text) (start now : Place) (most : ℕ) (names : List Text) → NothingIsPassedOver → AreApart prefixes → Lists prefixes prefix start now most names → (old : Files)
+    → names ≡ take most (names_after old prefix start.last) → (name : Text) → is_to_look_at prefixes (Some start) name ≡ true → is_to_look_at prefixes (Some now) name ≡ false → file_at old name ≢ None → Contains names name
+is_listed prefixes prefix start now most names over apart l old is name ahead behind held =
+    let was = both_of (begins_with_any prefixes name) (not (is_passed prefixes start name)) ahead in
+    let unpassed = not_true (is_passed prefixes start name) was.1 in
+    ⊎_elim
+    (λ a. absurd (true≢false (sym (is_passed_as prefixes prefix start name l.lt l.at (inl a)) ∙ unpassed)))
+    (λ w. ⊎_elim
+    (λ less. over old prefix start.last name most names is (w.0, before _ less, held) (reaches prefixes prefix start now most names l name w.1))
+    (λ past. absurd (true≢false (sym (is_passed_as prefixes prefix start name l.lt l.at (inr (w.0, past))) ∙ unpassed))) (case (is_lt (by_name start.last name))))
+    (now_is prefixes prefix start now most names l name (not_first prefixes start.prefix prefix name apart l.lt l.at) (was_passed (begins_with_any prefixes name) (is_passed prefixes now name) was.0 behind))
+
+-- ---- the walk past a list
 
 pub listed_pages : (prefixes : List Text) (n : ℕ) (prefix after : Text) (most few : ℕ) (names : List Text) → n < length prefixes → slice_get prefixes n ≡ Some prefix → IsListing prefix after most names → length names ≤ few → (old new : Files)
     → TakesFiles (IsPageAmong names) (length names) old new → TakesFiles (IsListedPage prefixes) few old new
@@ -278,10 +324,16 @@ walk_list prefixes prefix start now most names over apart lt at listing some aft
     (λ name has. was_ahead prefixes prefix start now most names apart l name (subst (λ (ns : List Text). Contains ns name) (sym is) has)) in
     let fewer = takes.names q in
     let long = ap length is in
+    let parts = count_parts p q old in
+    let ahead = count_within (λ name. p name && q name) q old new (λ name both held.
+    let still = (both_of (p name) (q name) both).1 in
+    (still, stays_there (IsPageAmong names) (length names) old new name takes (λ page. true≢false (sym still ∙ (was_ahead prefixes prefix start now most names apart l name page.0).1)) held)) in
+    let listed = count_listed (λ name. p name && not (q name)) old names (λ name both held.
+    let w = both_of (p name) (not (q name)) both in is_listed prefixes prefix start now most names over apart l old is name w.0 (not_true (q name) w.1) held) in
     record {
       takes = listed_pages prefixes start.prefix prefix start.last most (length names) names lt at listing (omega arith) old new takes;
       passed = gone_or_passed prefixes prefix start now most names over l old new is takes gone;
-      ahead = omega (arith, seen, fewer, long);
+      ahead = omega (arith, seen, fewer, long, parts, ahead, listed);
     }
 
 pub walked_then : (prefixes : List Text) (p q r : Place) (m n : ℕ) (a b c : Files) → Walked prefixes p q m a b → Walked prefixes q r n b c → Walked prefixes p r (m + n) a c

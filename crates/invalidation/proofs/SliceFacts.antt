@@ -8,9 +8,9 @@ use Rattle.sp_base.specs.Paths.{mangled_segs, name_of, pieces}
 use Rattle.sp_base.specs.Texts.{Segments, Text}
 use Rattle.sp_outside.specs.FileNames.{has_segments}
 use Rattle.sp_outside.specs.Files.{Files, file_at}
-use Rattle.cover_rules.specs.Coverage.{deletes}
+use Rattle.cover_rules.specs.Coverage.{deletes, handle_of}
 use Rattle.cover_rules.specs.Names.{file_name}
-use Rattle.cover_rules.specs.Pages.{IsPageKey, page_path}
+use Rattle.cover_rules.specs.Pages.{IsPageKey, page_key_of, page_path}
 use Rattle.cover_rules.specs.declared.invalidation.Invalidation.{Invalidation}
 use Rattle.cover_rules.specs.declared.page.PageKey.{PageKey}
 use Rattle.cover_rules.specs.declared.stamp.Stamp.{Stamp}
@@ -48,6 +48,7 @@ pub record NameLaws (inv : Invalidation) : Type 0 where
   pub body_page : (key : PageKey) → IsPageKey key → IsTrue (is_page_file (page_body_name key))
   pub head_page : (key : PageKey) → IsPageKey key → IsTrue (is_page_file (page_head_name key))
   pub epoch_page : is_page_file epoch_name ≡ false
+  pub mangled : page_key_of (handle_of inv) ≡ page_key_of inv.handle
 
 taken_page : (inv : Invalidation) (name : Text) → NameLaws inv → IsTakenFor inv name → is_page_file name ≡ true
 taken_page inv name laws taken = ⊎_elim
@@ -72,7 +73,7 @@ and_false true = refl
 and_false false = refl
 
 -- a .stat file is no page's
-stat_no_page : (folder : Segments) → is_page_file (stat_name folder) ≡ false
+pub stat_no_page : (folder : Segments) → is_page_file (stat_name folder) ≡ false
 stat_no_page folder =
     let last : name_of (pieces (stat_name folder)) ≡ codes ".stat" = ap name_of (pieces_body (mangled_segs folder) (codes ".stat") refl) ∙ last_of (map file_name (mangled_segs folder)) (codes ".stat") in
     ap (λ (piece : Text). has_segments (stat_name folder) && not (nat_eq (get_or piece 0 0) 46)) last ∙ and_false (has_segments (stat_name folder))

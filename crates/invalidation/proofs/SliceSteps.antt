@@ -1,11 +1,8 @@
 -- What a slice leaves, from its parts: the opening of the flush, where it is the first, and a walk.
-use Rattle.std.proofs.Common.{◌≡◌, ◌≤◌, ◌+◌, ◌⊎◌, inl, inr, ⊎_elim, ℕ, Bool, true, false, cond, ◌&&◌, ◌||◌, List, [], ◌∷◌, Option, Some, None, Ok, Err, drop, length, take, refl, sym, ◌∙◌, ap, arith, subst}
+use Rattle.std.proofs.Common.{◌≡◌, ◌≤◌, ◌+◌, ◌⊎◌, inl, inr, ⊎_elim, ℕ, Bool, true, false, ◌||◌, [], Option, Some, None, Ok, Err, refl, sym, ◌∙◌, ap, arith, subst}
 use Rattle.std.specs.Prelude.{IsTrue, IsSome, IfOk, Contains, Result}
-use Rattle.std.specs.FinMap.{keys}
-use Rattle.std.specs.List.{filter}
 use Rattle.std.specs.Result.{IsErr}
 use Rattle.std.proofs.lemmas.Bool.{true≢false}
-use Rattle.std.proofs.lemmas.List.{take_all}
 use Rattle.sp_base.specs.Texts.{Segments, Text}
 use Rattle.sp_outside.specs.Files.{Files}
 use Rattle.cover_rules.specs.Coverage.{deletes, handle_of, touched_of}
@@ -13,22 +10,22 @@ use Rattle.cover_rules.specs.Pages.{IsPageKey, page_path}
 use Rattle.cover_rules.specs.declared.invalidation.Invalidation.{Invalidation}
 use Rattle.cover_rules.specs.declared.page.PageKey.{PageKey}
 use Rattle.cover_rules.specs.declared.stamp.Stamp.{Stamp}
-use Rattle.docroot_format.specs.Deletions.{begins_with_any, deleted_prefixes}
-use Rattle.docroot_format.specs.Names.{is_page_file}
+use Rattle.docroot_format.specs.Deletions.{deleted_prefixes}
 use Rattle.docroot_format.specs.declared.fault.FileFault.{FileFault}
 use Rattle.docroot_format.specs.declared.fault.FileFault.TheVariants.{Disk, NoMemory as OutOfMemory}
 use Rattle.cache_files.specs.Changes.{KeepsPages}
 use Rattle.cache_files.specs.Pages.{page_at, page_body_name}
 use Rattle.stat_files.specs.Stamps.{stamp_at}
 use Rattle.docroot_changes.specs.Changes.{IsStampFolder, Told, count_names}
-use Rattle.invalidation.specs.Slices.{IsBehind, IsHandlePage, IsListedPage, IsSlice, IsTakenFor, Progress, SliceLeft, files_taken, folders_of, is_passed, is_to_look_at, most_added, slice_names, stamps_written}
-use Rattle.invalidation.specs.Walks.{AreTouched, IsBegun, SliceChange, TakesFiles, Walked, WalkedOn, handle_files, place_or_start, start_place, step_of}
+use Rattle.invalidation.specs.Slices.{IsBehind, IsHandlePage, IsListedPage, IsSlice, IsTakenFor, IsTakenFrom, Progress, SliceLeft, SliceLooked, SliceRemoves, files_taken, folders_of, is_passed, is_to_look_at, most_added, place_or_start, slice_names, stamps_written}
+use Rattle.invalidation.specs.Walks.{AreTouched, IsBegun, IsTakenFirst, SliceChange, TakesFiles, Walked, WalkedOn, handle_files, step_of}
 use Rattle.invalidation.specs.declared.place.Place.{Place}
 use Rattle.invalidation.specs.declared.purge.Purge.{Purge}
 use Rattle.invalidation.specs.declared.purge.PurgeStep.{PurgeStep}
 use Rattle.invalidation.specs.declared.purge.PurgeStep.TheVariants.{More, Done}
 use Rattle.invalidation.proofs.Chains.{told_as, told_both, told_then}
-use Rattle.invalidation.proofs.LookedAt.{count}
+use Rattle.invalidation.proofs.LookedNames.{end_passed, looked_done, looked_more}
+use Rattle.invalidation.proofs.RemovedFiles.{removed_all, removed_behind, starts_at_none}
 use Rattle.invalidation.proofs.SliceFacts.{NameLaws, head_left, number_left, order_left, page_gone, page_left, stamp_left}
 use Rattle.invalidation.proofs.TakenFiles.{takes_as, takes_then}
 use Rattle.invalidation.proofs.Touching.{touches_none}
@@ -52,15 +49,19 @@ first_of : (level : ℕ) (inv : Invalidation) (stamp : Stamp) (place : Option Pl
 first_of level inv stamp (Some place) old mid new pages same first = inl refl
 first_of level inv stamp None old mid new pages same first = inr (⊎_elim (λ t. inr (λ f ok has. same f ∙ t f ok has)) (λ e. inl (subst (KeepsPages old) (sym e) pages)) first)
 
+taken_from : (inv : Invalidation) (place : Option Place) (name : Text) → IsTakenFrom inv place name → IsTakenFor inv name
+taken_from inv None name taken = taken
+taken_from inv (Some place) name taken = inr taken
+
 -- a slice, from how it changed the files, and what it left
-pub slice_is : (before after : Purge) (step : PurgeStep) (old new : Files) → NameLaws before.inv → SliceChange (IsTakenFor before.inv) (folders_of before.level before.inv before.place) (most_added before) (files_taken before.place) before.stamp old new
-    → SliceLeft before after step old new → IsSlice before after step old new
+pub slice_is : (before after : Purge) (step : PurgeStep) (old new : Files) → NameLaws before.inv → SliceChange (IsTakenFrom before.inv before.place) (folders_of before.level before.inv before.place) (most_added before) (files_taken before.place) before.stamp old new
+    → SliceLeft before after step old new × (SliceLooked before after step old new × SliceRemoves before after step old new) → IsSlice before after step old new
 slice_is before after step old new laws change left =
     let inv = before.inv in
     let most = files_taken before.place in
     let mid = change.between in
     let t = change.touches in
-    let takes = change.takes in
+    let takes = takes_as (IsTakenFrom inv before.place) (IsTakenFor inv) most most mid new (omega arith) (taken_from inv before.place) change.takes in
     let stamps = stamp_left inv most mid new laws takes in
     let number = number_left inv most mid new laws takes in
     record {
@@ -71,14 +72,16 @@ slice_is before after step old new laws change left =
       heads = λ key page. ⊎_elim (λ e. inl (e ∙ (t.pages key page).head)) (λ w. inr w) (head_left inv most mid new laws takes key page);
       files = λ name. ⊎_elim
           (λ e. ⊎_elim (λ d. inl (e ∙ d)) (λ w. ⊎_elim (λ none. absurd none.0) (λ s. inr (inr (s.0, e ∙ s.1))) w) (t.files name))
-          (λ w. inr (inl w)) (takes.files name);
+          (λ w. inr (inl w)) (change.takes.files name);
       number = record { held = number.held ∙ t.number.held; next = number.next ∙ t.number.next };
       order = λ le held. order_left inv most mid new laws takes (t.order le held);
       later = λ begun f ok. ⊎_elim (λ e. stamps f ∙ e) (λ w. absurd (none_later before.level inv before.place f begun w.0)) (t.stamps f ok);
       stamps_first = first_of before.level inv before.stamp before.place old mid new t.pages stamps change.first;
       names = λ test. (let one = t.names test in let two = takes.names test in omega (arith, one, two));
       taken = λ test. (let one = t.loses test in let two = takes.loses test in omega (arith, one, two));
-      left = left;
+      left = left.0;
+      looked = left.1.0;
+      removed = left.1.1;
     }
 
 -- ---- how a slice changed the files
@@ -89,14 +92,18 @@ as_handle inv most few a b le takes = takes_as (IsHandlePage inv) (IsTakenFor in
 as_listed : (inv : Invalidation) (most few : ℕ) (a b : Files) → few ≤ most → TakesFiles (IsListedPage (deleted_prefixes inv)) few a b → TakesFiles (IsTakenFor inv) most a b
 as_listed inv most few a b le takes = takes_as (IsListedPage (deleted_prefixes inv)) (IsTakenFor inv) few most a b le (λ name l. inr l) takes
 
+opening_takes : (inv : Invalidation) (place : Option Place) (few : ℕ) (a b : Files) → few ≤ files_taken place → TakesFiles (IsTakenFirst inv place) few a b → TakesFiles (IsTakenFrom inv place) (files_taken place) a b
+opening_takes inv None few a b le takes = as_handle inv (files_taken None) few a b le takes
+opening_takes inv (Some place) few a b le takes = takes_as (λ name. ⊥) (IsListedPage (deleted_prefixes inv)) few (files_taken (Some place)) a b le (λ name none. absurd none) takes
+
 -- where it was stopped before the walk
-pub change_opening : (level : ℕ) (inv : Invalidation) (stamp : Stamp) (place : Option Place) (few : ℕ) (old new : Files) → few ≤ files_taken place → SliceChange (IsHandlePage inv) (folders_of level inv place) (stamps_written level place) few stamp old new
-    → SliceChange (IsTakenFor inv) (folders_of level inv place) (stamps_written level place) (files_taken place) stamp old new
-change_opening level inv stamp place few old new le c = record { between = c.between; touches = c.touches; takes = as_handle inv (files_taken place) few c.between new le c.takes; first = c.first }
+pub change_opening : (level : ℕ) (inv : Invalidation) (stamp : Stamp) (place : Option Place) (few : ℕ) (old new : Files) → few ≤ files_taken place → SliceChange (IsTakenFirst inv place) (folders_of level inv place) (stamps_written level place) few stamp old new
+    → SliceChange (IsTakenFrom inv place) (folders_of level inv place) (stamps_written level place) (files_taken place) stamp old new
+change_opening level inv stamp place few old new le c = record { between = c.between; touches = c.touches; takes = opening_takes inv place few c.between new le c.takes; first = c.first }
 
 -- after a walk, whether it was stopped or not
 pub change_walk : (level : ℕ) (inv : Invalidation) (stamp : Stamp) (place : Option Place) (old mid new : Files) → IsBegun level inv stamp place old mid → TakesFiles (IsListedPage (deleted_prefixes inv)) slice_names mid new
-    → SliceChange (IsTakenFor inv) (folders_of level inv place) (stamps_written level place) (files_taken place) stamp old new
+    → SliceChange (IsTakenFrom inv place) (folders_of level inv place) (stamps_written level place) (files_taken place) stamp old new
 change_walk level inv stamp None old mid new o takes = record {
   between = o.between;
   touches = o.touches;
@@ -107,7 +114,7 @@ change_walk level inv stamp None old mid new o takes = record {
 change_walk level inv stamp (Some place) old mid new same takes = record {
   between = old;
   touches = touches_none [] 0 stamp old;
-  takes = as_listed inv 64 64 old new (omega arith) (subst (λ f. TakesFiles (IsListedPage (deleted_prefixes inv)) 64 f new) same takes);
+  takes = subst (λ f. TakesFiles (IsListedPage (deleted_prefixes inv)) 64 f new) same takes;
   first = inl (λ f ok has. absurd (none_in f has));
 }
 
@@ -117,15 +124,6 @@ or_left : (a b : Bool) → a ≡ true → a || b ≡ true
 or_left true b e = refl
 or_left false b e = absurd (true≢false (sym e))
 
-none_of : (b : Bool) → b && false ≡ true → ⊥
-none_of true e = true≢false (sym e)
-none_of false e = true≢false (sym e)
-
--- a walk begins with nothing that it passed
-starts_at_none : (prefixes : List Text) (name : Text) → is_page_file name ≡ true → is_passed prefixes start_place name ≡ true → ⊥
-starts_at_none prefixes [] page passed = true≢false (sym page)
-starts_at_none prefixes (b ∷ name) page passed = none_of (begins_with_any (take 1 (drop 0 prefixes)) (b ∷ name)) passed
-
 record After (level : ℕ) (inv : Invalidation) (stamp : Stamp) (place : Option Place) (old mid : Files) : Type 0 where
   touched : (f : Segments) → IsStampFolder f → Contains (touched_of level inv) f → stamp_at mid f ≡ Some stamp
   gone : (key : PageKey) → IsPageKey key → deletes inv key ≡ true → (page_path key ≡ handle_of inv) ⊎ IsTrue (is_passed (deleted_prefixes inv) (place_or_start place) (page_body_name key)) → page_at mid key ≡ None
@@ -134,7 +132,7 @@ after_begun : (level : ℕ) (inv : Invalidation) (stamp : Stamp) (place : Option
     → Progress (record { level = level; inv = inv; stamp = stamp; place = place }) (page_at old) (stamp_at old) → After level inv stamp place old mid
 after_begun level inv stamp None old mid laws o progress = record {
   touched = λ f ok has. stamp_left inv 2 o.between mid laws (as_handle inv 2 2 o.between mid (omega arith) o.takes) f ∙ o.touched f ok has;
-  gone = λ key page del behind. ⊎_elim (λ path. o.gone key page path) (λ passed. absurd (starts_at_none (deleted_prefixes inv) (page_body_name key) (laws.body_page key page) passed)) behind;
+  gone = λ key page del behind. ⊎_elim (λ path. page_gone mid key (o.gone (page_body_name key) (key, (page, (path, inl refl))))) (λ passed. absurd (starts_at_none (deleted_prefixes inv) (page_body_name key) (laws.body_page key page) passed)) behind;
 }
 after_begun level inv stamp (Some place) old mid laws same progress = record {
   touched = λ f ok has. ap (λ files. stamp_at files f) same ∙ progress.touched refl f ok has;
@@ -154,33 +152,19 @@ walked_gone level inv stamp place seen old mid new now laws after walked key pag
 
 -- ---- how many names are to look at
 
-more_pass : (p q : Bool) (name : Text) (xs ys : List Text) → (p ≡ true → q ≡ true) → length xs ≤ length ys → length (cond p (name ∷ xs) xs) ≤ length (cond q (name ∷ ys) ys)
-more_pass true true name xs ys all le = omega (arith, le)
-more_pass true false name xs ys all le = absurd (true≢false (sym (all refl)))
-more_pass false true name xs ys all le = omega (arith, le)
-more_pass false false name xs ys all le = le
-
-fewer_pass : (p q : Text → Bool) → ((name : Text) → p name ≡ true → q name ≡ true) → (names : List Text) → count p names ≤ count q names
-fewer_pass p q all [] = omega arith
-fewer_pass p q all (name ∷ names) = more_pass (p name) (q name) name (filter p names) (filter q names) (all name) (fewer_pass p q all names)
-
-both_true : (a b : Bool) → a && b ≡ true → a ≡ true
-both_true true b e = refl
-both_true false b e = absurd (true≢false (sym e))
-
 ahead_of : (level : ℕ) (inv : Invalidation) (stamp : Stamp) (place : Option Place) (seen : ℕ) (old mid new : Files) (now : Place) → IsBegun level inv stamp place old mid → Walked (deleted_prefixes inv) (place_or_start place) now seen mid new
     → count_names (is_to_look_at (deleted_prefixes inv) (Some now)) new + seen ≤ count_names (is_to_look_at (deleted_prefixes inv) place) old + stamps_written level place
 ahead_of level inv stamp None seen old mid new now o walked =
     let prefixes = deleted_prefixes inv in
     let all = is_to_look_at prefixes None in
     let walk = walked.ahead in
-    let start = fewer_pass (is_to_look_at prefixes (Some start_place)) all (λ name e. both_true _ _ e) (keys mid) in
     let taken = o.takes.names all in
     let stamps = o.touches.names all in
-    omega (arith, walk, start, taken, stamps)
+    omega (arith, walk, taken, stamps)
 ahead_of level inv stamp (Some place) seen old mid new now same walked =
-    let walk = subst (λ files. count_names (is_to_look_at (deleted_prefixes inv) (Some now)) new + seen ≤ count_names (is_to_look_at (deleted_prefixes inv) (Some place)) files) same walked.ahead in
-    omega (arith, walk)
+    let walk = walked.ahead in
+    let old_ones = ap (count_names (is_to_look_at (deleted_prefixes inv) (Some place))) same in
+    omega (arith, walk, old_ones)
 
 -- ---- what it left
 
@@ -203,18 +187,17 @@ left_done level inv stamp place old mid new now laws begun walked = λ progress.
     let prefixes = deleted_prefixes inv in
     let seen = walked.0 in
     let walk = walked.1.0 in
-    let after = after_begun level inv stamp place old mid laws begun progress in
-    let all : (name : Text) → begins_with_any prefixes name ≡ true → is_passed prefixes now name ≡ true = λ name begins.
-    or_left _ _ (ap (λ (ps : List Text). begins_with_any ps name) (take_all now.prefix prefixes walked.1.1) ∙ begins) in (
+    let after = after_begun level inv stamp place old mid laws begun progress in (
       walked_touched level inv stamp place seen old mid new now laws after walk,
       λ key page del. walked_gone level inv stamp place seen old mid new now laws after walk key page del
-          (⊎_elim (λ path. inl path) (λ begins. inr (all (page_body_name key) begins)) ((laws.body_deleted key page).0 del)),
+          (⊎_elim (λ path. inl path) (λ begins. inr (end_passed prefixes now (page_body_name key) walked.1.1.0 begins)) ((laws.body_deleted key page).0 del)),
     )
 
 -- ---- a slice, by the files that the disk tells
 
 abbrev AfterSlice : Purge → ℕ → Invalidation → Stamp → Place → PurgeStep → Files → Files → Type 0
 AfterSlice before level inv stamp now step old new = SliceLeft before (record { level = level; inv = inv; stamp = stamp; place = Some now }) step old new
+    × (SliceLooked before (record { level = level; inv = inv; stamp = stamp; place = Some now }) step old new × SliceRemoves before (record { level = level; inv = inv; stamp = stamp; place = Some now }) step old new)
 
 same_left : (before : Purge) (level : ℕ) (inv : Invalidation) (stamp : Stamp) (now : Place) (step : PurgeStep) (old new : Files) → level ≡ before.level → inv ≡ before.inv → stamp ≡ before.stamp
     → AfterSlice before before.level before.inv before.stamp now step old new → AfterSlice before level inv stamp now step old new
@@ -225,12 +208,24 @@ same_left before level inv stamp now step old new a b d left =
 
 walk_left : (before : Purge) (level : ℕ) (inv : Invalidation) (stamp : Stamp) (now : Place) (more : Bool) (old mid new : Files) → level ≡ before.level → inv ≡ before.inv → stamp ≡ before.stamp → NameLaws before.inv
     → IsBegun before.level before.inv before.stamp before.place old mid → WalkedOn (deleted_prefixes before.inv) (place_or_start before.place) now more mid new → AfterSlice before level inv stamp now (step_of (Ok more)) old new
-walk_left before level inv stamp now true old mid new a b d laws begun walked = same_left before level inv stamp now More old new a b d (left_more before.level before.inv before.stamp before.place old mid new now laws begun walked)
-walk_left before level inv stamp now false old mid new a b d laws begun walked = same_left before level inv stamp now Done old new a b d (left_done before.level before.inv before.stamp before.place old mid new now laws begun walked)
+walk_left before level inv stamp now true old mid new a b d laws begun walked = same_left before level inv stamp now More old new a b d (
+  left_more before.level before.inv before.stamp before.place old mid new now laws begun walked,
+  (
+    looked_more before.level before.inv before.stamp before.place old mid new now laws begun walked,
+    removed_behind before.level before.inv before.stamp before.place slice_names old mid new now begun walked,
+  ),
+)
+walk_left before level inv stamp now false old mid new a b d laws begun walked = same_left before level inv stamp now Done old new a b d (
+  left_done before.level before.inv before.stamp before.place old mid new now laws begun walked,
+  (
+    looked_done before.level before.inv before.stamp before.place old mid new now laws begun walked,
+    removed_all before.level before.inv before.stamp before.place old mid new now begun walked,
+  ),
+)
 
-fault_left : (before after : Purge) (fault : FileFault) (old new : Files) → SliceLeft before after (step_of (Err fault)) old new
-fault_left before after Disk old new = tt
-fault_left before after OutOfMemory old new = tt
+fault_left : (before after : Purge) (fault : FileFault) (old new : Files) → SliceLeft before after (step_of (Err fault)) old new × (SliceLooked before after (step_of (Err fault)) old new × SliceRemoves before after (step_of (Err fault)) old new)
+fault_left before after Disk old new = (tt, (tt, tt))
+fault_left before after OutOfMemory old new = (tt, (tt, tt))
 
 pub told_slice : (before : Purge) (level : ℕ) (inv : Invalidation) (stamp : Stamp) (now : Place) → level ≡ before.level → inv ≡ before.inv → stamp ≡ before.stamp → NameLaws before.inv → (r : Result Bool FileFault) (x y z : Option Files)
     → Told (IsBegun before.level before.inv before.stamp before.place) x y → Told (TakesFiles (IsListedPage (deleted_prefixes before.inv)) slice_names) y z
@@ -255,13 +250,13 @@ few_taken (Some place) = omega arith
 
 -- where it was stopped before the walk
 told_stopped : (before after : Purge) → NameLaws before.inv → (fault : FileFault) (x y : Option Files)
-    → Told (SliceChange (IsHandlePage before.inv) (folders_of before.level before.inv before.place) (most_added before) (handle_files before.place) before.stamp) x y → Told (IsSlice before after (step_of (Err fault))) x y
+    → Told (SliceChange (IsTakenFirst before.inv before.place) (folders_of before.level before.inv before.place) (most_added before) (handle_files before.place) before.stamp) x y → Told (IsSlice before after (step_of (Err fault))) x y
 told_stopped before after laws fault x y changes =
-    told_as (SliceChange (IsHandlePage before.inv) (folders_of before.level before.inv before.place) (most_added before) (handle_files before.place) before.stamp) (IsSlice before after (step_of (Err fault))) x y
+    told_as (SliceChange (IsTakenFirst before.inv before.place) (folders_of before.level before.inv before.place) (most_added before) (handle_files before.place) before.stamp) (IsSlice before after (step_of (Err fault))) x y
     (λ old new change. slice_is before after (step_of (Err fault)) old new laws
     (change_opening before.level before.inv before.stamp before.place (handle_files before.place) old new (few_taken before.place) change) (fault_left before after fault old new)) changes
 
 pub told_given_up : (before after : Purge) → NameLaws before.inv → (r : Result Bool FileFault) → IsErr r → (x y : Option Files)
-    → Told (SliceChange (IsHandlePage before.inv) (folders_of before.level before.inv before.place) (most_added before) (handle_files before.place) before.stamp) x y → Told (IsSlice before after (step_of r)) x y
+    → Told (SliceChange (IsTakenFirst before.inv before.place) (folders_of before.level before.inv before.place) (most_added before) (handle_files before.place) before.stamp) x y → Told (IsSlice before after (step_of r)) x y
 told_given_up before after laws (Ok more) err x y changes = absurd (cc (err))
 told_given_up before after laws (Err fault) err x y changes = told_stopped before after laws fault x y changes

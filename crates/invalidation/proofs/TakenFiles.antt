@@ -1,5 +1,5 @@
 -- Files that are taken away, and what that makes of the pages, the stamps and the number of the session.
-use Rattle.std.proofs.Common.{◌≡◌, ◌≤◌, ◌+◌, ◌-◌, ◌⊎◌, inl, inr, ⊎_elim, ◌<◌, ℕ, zero, suc, Bool, true, false, cond, not, ◌++◌, take, List, [], ◌∷◌, Option, None, get_or, length, refl, sym, ◌∙◌, ap, subst, arith}
+use Rattle.std.proofs.Common.{◌≡◌, ◌≢◌, ◌≤◌, ◌+◌, ◌-◌, ◌⊎◌, inl, inr, ⊎_elim, ◌<◌, ℕ, zero, suc, Bool, true, false, cond, not, ◌++◌, take, List, [], ◌∷◌, Option, None, get_or, length, refl, sym, ◌∙◌, ap, subst, arith}
 use Rattle.std.specs.Prelude.{IsTrue, Contains, IfErr, OnOk, Result}
 use Rattle.std.specs.Cmp.Lexicographic.{nat_list_cmp_total}
 use Rattle.std.specs.FinMap.{contains_key, entries, get-remove, keys, len, len-entries, len-remove}
@@ -61,6 +61,9 @@ takes_as One Other m n a b le all takes = record {
 
 pub stays_gone : (IsTaken : Text → Type 0) (most : ℕ) (a b : Files) (name : Text) → TakesFiles IsTaken most a b → file_at a name ≡ None → file_at b name ≡ None
 stays_gone IsTaken most a b name takes none = ⊎_elim (λ e. e ∙ none) (λ w. w.1) (takes.files name)
+
+pub stays_there : (IsTaken : Text → Type 0) (most : ℕ) (a b : Files) (name : Text) → TakesFiles IsTaken most a b → (IsTaken name → ⊥) → file_at a name ≢ None → file_at b name ≢ None
+stays_there IsTaken most a b name takes other held none = ⊎_elim (λ e. held (sym e ∙ none)) (λ w. other w.0) (takes.files name)
 
 -- ---- one removal
 

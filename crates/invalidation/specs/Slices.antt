@@ -1,6 +1,6 @@
 -- A flush under way: how far it is among the names of the files, and what a slice of it does (Adobe Dispatcher manual, "Invalidating Cached
 -- Pages From AEM" and "Invalidating Files by Folder Level").
-use Rattle.std.specs.Prelude.{◌≡◌, ◌⊎◌, ◌≤◌, ◌+◌, ◌&&◌, ◌||◌, ℕ, Bool, true, not, List, [], Option, Some, None, IsTrue, IsSome, Contains, drop, take}
+use Rattle.std.specs.Prelude.{◌≡◌, ◌⊎◌, ◌≤◌, ◌<◌, ◌+◌, ◌&&◌, ◌||◌, ℕ, Bool, true, not, List, [], Option, Some, None, IsTrue, IsSome, Contains, drop, is_some, take}
 use Rattle.std.specs.Ordering.{is_lt}
 use Rattle.sp_base.specs.Names.{by_name}
 use Rattle.sp_base.specs.Texts.{Segments, Text}
@@ -62,14 +62,26 @@ abbrev pub is_passed : List Text → Place → Text → Bool
 is_passed prefixes place name = begins_with_any (take place.prefix prefixes) name
     || (begins_with_any (take 1 (drop place.prefix prefixes)) name && not (is_lt (by_name place.last name)))
 
+-- the start of a walk
+abbrev pub start_place : Place
+start_place = record { prefix = 0; last = [] }
+
+-- the place from which the next slice walks
+abbrev pub place_or_start : Option Place → Place
+place_or_start None = start_place
+place_or_start (Some place) = place
+
 -- a walk through these prefixes has still to look at the name
 abbrev pub is_to_look_at : List Text → Option Place → Text → Bool
-is_to_look_at prefixes None name = begins_with_any prefixes name
-is_to_look_at prefixes (Some place) name = begins_with_any prefixes name && not (is_passed prefixes place name)
+is_to_look_at prefixes place name = begins_with_any prefixes name && not (is_passed prefixes (place_or_start place) name)
 
 -- how many names of files the flush has still to look at
 abbrev pub names_ahead : Purge → Files → ℕ
 names_ahead purge files = count_names (is_to_look_at (deleted_prefixes purge.inv) purge.place) files
+
+-- how many names that the flush had still to look at before a slice got a file in it: names of .stat files that the first slice wrote
+abbrev pub names_written : Purge → Files → Files → ℕ
+names_written purge old new = count_names (λ name. is_to_look_at (deleted_prefixes purge.inv) purge.place name && not (is_some (file_at old name))) new
 
 -- the page stands behind the place of a flush that has begun: it is the one at the handle, or the name of its body was looked at
 abbrev pub IsBehind : Invalidation → Option Place → PageKey → Type 0
@@ -118,6 +130,21 @@ IsListedPage prefixes name = IsTrue (is_page_file name) × IsTrue (begins_with_a
 abbrev pub IsTakenFor : Invalidation → Text → Type 0
 IsTakenFor inv name = IsHandlePage inv name ⊎ IsListedPage (deleted_prefixes inv) name
 
+-- the same, of a slice from this place: only the first takes those of the page at the handle
+abbrev pub IsTakenFrom : Invalidation → Option Place → Text → Type 0
+IsTakenFrom inv None = IsTakenFor inv
+IsTakenFrom inv (Some place) = IsListedPage (deleted_prefixes inv)
+
+-- The name stands behind the place of a flush that has begun: it is that of a file of the page at the handle, or it was looked at, and is a page
+-- file's.
+abbrev pub IsFileBehind : Invalidation → Option Place → Text → Type 0
+IsFileBehind inv None name = ⊥
+IsFileBehind inv (Some place) name = IsHandlePage inv name ⊎ (IsTrue (is_page_file name) × IsTrue (is_passed (deleted_prefixes inv) place name))
+
+-- no file has the name, or it stood behind this place before, and its file is as it was
+abbrev pub IsGoneSince : Invalidation → Option Place → Files → Files → Text → Type 0
+IsGoneSince inv place old new name = (file_at new name ≡ None) ⊎ (IsFileBehind inv place name × (file_at new name ≡ file_at old name))
+
 -- the name is that of a folder's .stat file, of one of these
 abbrev pub IsStatOf : List Segments → Text → Type 0
 IsStatOf folders name = (folder : Segments) × (Contains folders folder × (name ≡ stat_name folder))
@@ -164,11 +191,27 @@ SliceLeft before after Done old new = Progress before (page_at old) (stamp_at ol
 SliceLeft before after DiskFailed old new = Unit {0}
 SliceLeft before after NoMemory old new = Unit {0}
 
+-- How many names a slice that didn't fail looked at, of those that were ahead of the flush and those that the slice wrote: after More exactly
+-- as many as a slice looks at, and the rest are ahead of it still; after Done fewer, and all of them.
+abbrev pub SliceLooked : Purge → Purge → PurgeStep → Files → Files → Type 0
+SliceLooked before after More old new = names_ahead before old + names_written before old new ≡ names_ahead after new + slice_names
+SliceLooked before after Done old new = (names_ahead before old + names_written before old new < slice_names) × (names_ahead after new ≡ 0)
+SliceLooked before after DiskFailed old new = Unit {0}
+SliceLooked before after NoMemory old new = Unit {0}
+
+-- The files that a slice removed, which didn't fail: after More each file behind the place that it came to is gone, unless it stood behind the one
+-- from which it set out; after Done each that the invalidation takes away.
+abbrev pub SliceRemoves : Purge → Purge → PurgeStep → Files → Files → Type 0
+SliceRemoves before after More old new = (name : Text) → IsFileBehind after.inv after.place name → IsGoneSince before.inv before.place old new name
+SliceRemoves before after Done old new = (name : Text) → IsTakenFor after.inv name → IsGoneSince before.inv before.place old new name
+SliceRemoves before after DiskFailed old new = Unit {0}
+SliceRemoves before after NoMemory old new = Unit {0}
+
 -- What a slice makes of the files. Only the first touches folders, and it does so before it takes a page away.
 pub record IsSlice (before after : Purge) (step : PurgeStep) (old new : Files) : Type 0 where
   pub sliced : Sliced before.level before.inv before.stamp (page_at old) (page_at new) (stamp_at old) (stamp_at new)
   pub heads : TakesHeads before.inv old new
-  pub files : ChangesFiles (IsTakenFor before.inv) (IsStatOf (folders_of before.level before.inv before.place)) before.stamp old new
+  pub files : ChangesFiles (IsTakenFrom before.inv before.place) (IsStatOf (folders_of before.level before.inv before.place)) before.stamp old new
   pub number : KeepsNumber old new
   pub order : before.stamp.epoch ≤ epoch_held old → KeepsOrder old new
   pub later : HasBegun before → (folder : Segments) → IsStampFolder folder → stamp_at new folder ≡ stamp_at old folder
@@ -176,6 +219,8 @@ pub record IsSlice (before after : Purge) (step : PurgeStep) (old new : Files) :
   pub names : AddsNames (most_added before) old new
   pub taken : LosesNames (files_taken before.place) old new
   pub left : SliceLeft before after step old new
+  pub looked : SliceLooked before after step old new
+  pub removed : SliceRemoves before after step old new
 
 -- DiskFailed comes only where the disk's count of faults rose, and any other answer leaves that count.
 abbrev pub HasSliceCause : ℕ → ℕ → PurgeStep → Type 0

@@ -3,11 +3,9 @@ use Rattle.std.specs.Prelude.{◌≡◌, ◌⊎◌, ◌<◌, ◌≤◌, ◌+◌,
 use Rattle.sp_base.specs.Paths.{is_path}
 use Rattle.sp_base.specs.Texts.{Segments, Text}
 use Rattle.sp_outside.specs.Files.{Files, file_at, has_prefix}
-use Rattle.cover_rules.specs.declared.page.PageKey.{PageKey}
 use Rattle.cover_rules.specs.declared.stamp.Stamp.{Stamp}
 use Rattle.cover_rules.specs.declared.invalidation.Invalidation.{Invalidation}
-use Rattle.cover_rules.specs.Coverage.{handle_of, touched_of}
-use Rattle.cover_rules.specs.Pages.{IsPageKey, page_path}
+use Rattle.cover_rules.specs.Coverage.{touched_of}
 use Rattle.docroot_format.specs.Deletions.{begins_with_any}
 use Rattle.docroot_format.specs.Names.{is_page_file}
 use Rattle.docroot_format.specs.declared.fault.FileFault.{FileFault}
@@ -15,7 +13,6 @@ use Rattle.docroot_format.specs.declared.fault.FileFault.TheVariants.{Disk, NoMe
 use Rattle.cache_files.specs.Changes.{KeepsPages}
 use Rattle.cache_files.specs.Epochs.{epoch_held}
 use Rattle.cache_files.specs.HeldStamps.{KeepsOrder}
-use Rattle.cache_files.specs.Pages.{page_at}
 use Rattle.stat_files.specs.Stamps.{stamp_at}
 use Rattle.docroot_changes.specs.Changes.{AddsNames, IsStampFolder, KeepsNumber, count_names}
 use Rattle.invalidation.specs.Slices.{ChangesFiles, IsHandlePage, IsListedPage, IsStatOf, LosesNames, is_passed, is_to_look_at, slice_names}
@@ -50,11 +47,11 @@ pub record TakenTo (names : List Text) (seen : ℕ) (old new : Files) : Type 0 w
 
 -- ---- a walk through the names that begin with one of several prefixes
 
--- The walk went on from a place to another, past so many names: the page files among them are gone.
+-- The walk went on from a place to another, past exactly so many names: the page files among them are gone.
 pub record Walked (prefixes : List Text) (start now : Place) (seen : ℕ) (old new : Files) : Type 0 where
   pub takes : TakesFiles (IsListedPage prefixes) seen old new
   pub passed : (name : Text) → IsTrue (is_page_file name) → IsTrue (is_passed prefixes now name) → IsTrue (is_passed prefixes start name) ⊎ (file_at new name ≡ None)
-  pub ahead : count_names (is_to_look_at prefixes (Some now)) new + seen ≤ count_names (is_to_look_at prefixes (Some start)) old
+  pub ahead : count_names (is_to_look_at prefixes (Some start)) old ≡ count_names (is_to_look_at prefixes (Some now)) new + seen
 
 -- The place after a list of at most so many names: at the last of them where the list was full, else at the start of the next prefix.
 abbrev pub IsPlaceAfter : Place → List Text → ℕ → Place → Type 0
@@ -69,16 +66,16 @@ IsNextPrefix place seen most now = ((seen < most) × (now.prefix ≡ place.prefi
 abbrev pub AreApart : List Text → Type 0
 AreApart prefixes = (n : ℕ) (prefix name : Text) → slice_get prefixes n ≡ Some prefix → IsTrue (has_prefix prefix name) → begins_with_any (take n prefixes) name ≡ false
 
--- The walk stopped at a place: past as many names as a slice looks at, or at its end.
+-- The walk stopped at a place: past as many names as a slice looks at, or past fewer, at its end.
 abbrev pub WalkedOn : List Text → Place → Place → Bool → Files → Files → Type 0
 WalkedOn prefixes start now true old new = Walked prefixes start now slice_names old new
-WalkedOn prefixes start now false old new = (seen : ℕ) × (Walked prefixes start now seen old new × (length prefixes ≤ now.prefix))
+WalkedOn prefixes start now false old new = (seen : ℕ) × (Walked prefixes start now seen old new × ((length prefixes ≤ now.prefix) × (seen < slice_names)))
 
 -- ---- the page at the handle
 
--- the page at the handle is gone
+-- no file of the page at the handle is there
 abbrev pub IsHandleGone : Invalidation → Files → Type 0
-IsHandleGone inv files = (key : PageKey) → IsPageKey key → page_path key ≡ handle_of inv → page_at files key ≡ None
+IsHandleGone inv files = (name : Text) → IsHandlePage inv name → file_at files name ≡ None
 
 -- ---- folders that are touched
 
@@ -115,15 +112,6 @@ pub record SliceChange (IsTaken : Text → Type 0) (folders : List Segments) (mo
   pub takes : TakesFiles IsTaken taken between new
   pub first : AreTouched folders stamp between ⊎ (new ≡ between)
 
--- the start of a walk
-abbrev pub start_place : Place
-start_place = record { prefix = 0; last = [] }
-
--- the place from which the next slice walks
-abbrev pub place_or_start : Option Place → Place
-place_or_start None = start_place
-place_or_start (Some place) = place
-
 -- the first part of a flush, that wasn't stopped: its folders were touched, and then the page at its handle went
 pub record Opened (level : ℕ) (inv : Invalidation) (stamp : Stamp) (old new : Files) : Type 0 where
   pub between : Files
@@ -136,6 +124,11 @@ pub record Opened (level : ℕ) (inv : Invalidation) (stamp : Stamp) (old new : 
 abbrev pub handle_files : Option Place → ℕ
 handle_files None = 2
 handle_files (Some place) = 0
+
+-- the name is that of a file which a slice from this place takes away before it walks
+abbrev pub IsTakenFirst : Invalidation → Option Place → Text → Type 0
+IsTakenFirst inv None = IsHandlePage inv
+IsTakenFirst inv (Some place) = λ name. ⊥
 
 -- the flush has begun: this slice opened it, or an earlier one
 abbrev pub IsBegun : ℕ → Invalidation → Stamp → Option Place → Files → Files → Type 0

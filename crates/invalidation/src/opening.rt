@@ -4,12 +4,15 @@ ghost use Rattle.sp_base.specs.Texts.{Segments};
 ghost use Rattle.cover_rules.specs.Coverage.{touched_of};
 ghost use Rattle.docroot_format.specs.Faults.{HasFileCause};
 ghost use Rattle.docroot_changes.specs.Changes.{IsStampFolder, Told};
+ghost use Rattle.docroot_changes.specs.DocrootCalls.{MakesDocrootCalls};
 ghost use Rattle.invalidation.specs.Slices.{IsHandlePage};
 ghost use Rattle.invalidation.specs.Walks.{AreTouched, IsHandleGone, IsTouchable, Opened, SliceChange, TakesFiles, Touches};
 
-use cache_files::{drop_page, pages_have_files_of_their_own};
+use cache_files::drop_page;
 use cover_rules::{Invalidation, Stamp, a_page_has_one_key, page_key, touched};
-use docroot_changes::what_a_touch_sets;
+use docroot_changes::{
+    docroot_calls_add_up, pages_take_docroot_calls, stamps_take_docroot_calls, what_a_touch_sets,
+};
 use docroot_format::{
     FileFault, folders_are_mangled, folders_of_stamps_are_paths, names_are_apart,
 };
@@ -29,7 +32,9 @@ pub(crate) fn open<D: Disk>(
     ensures changes { Told (SliceChange (IsHandlePage inv.now) (touched_of level inv.now) (level + 1) 2 stamp) (D.files disk.old) (D.files disk.new) }
     ensures opened { OnOk result (Told (Opened level inv.now stamp) (D.files disk.old) (D.files disk.new)) }
     ensures cause { HasFileCause (D.faults disk.old) (D.faults disk.new) result }
+    ensures calls { MakesDocrootCalls (D.calls disk.old) (D.calls disk.new) }
 {
+    docroot_calls_add_up();
     touch_folders(alloc, disk, level, inv, stamp)?;
     drop_at_handle(alloc, disk, inv)
 }
@@ -44,7 +49,9 @@ fn touch_folders<D: Disk>(
     ensures touches { Told (Touches (touched_of level inv.now) (level + 1) stamp) (D.files disk.old) (D.files disk.new) }
     ensures touched { OnOk result (Told (λ _ files. AreTouched (touched_of level inv.now) stamp files) (D.files disk.old) (D.files disk.new)) }
     ensures cause { HasFileCause (D.faults disk.old) (D.faults disk.new) result }
+    ensures calls { MakesDocrootCalls (D.calls disk.old) (D.calls disk.new) }
 {
+    docroot_calls_add_up();
     folders_are_mangled();
     folders_of_stamps_are_paths();
     a_path_has_bytes(&inv.handle);
@@ -63,7 +70,9 @@ fn touch_all<D: Disk>(
     ensures touches { Told (Touches folders.now (length folders.now) stamp) (D.files disk.old) (D.files disk.new) }
     ensures touched { OnOk result (Told (λ _ files. AreTouched folders.now stamp files) (D.files disk.old) (D.files disk.new)) }
     ensures cause { HasFileCause (D.faults disk.old) (D.faults disk.new) result }
+    ensures calls { MakesDocrootCalls (D.calls disk.old) (D.calls disk.new) }
 {
+    docroot_calls_add_up();
     for folder in folders {
         touch_folder(alloc, disk, folder, stamp)?;
     }
@@ -80,8 +89,10 @@ fn touch_folder<D: Disk>(
     ensures touches { Told (Touches (folder.now ∷ []) 1 stamp) (D.files disk.old) (D.files disk.new) }
     ensures touched { OnOk result (Told (λ _ files. AreTouched (folder.now ∷ []) stamp files) (D.files disk.old) (D.files disk.new)) }
     ensures cause { HasFileCause (D.faults disk.old) (D.faults disk.new) result }
+    ensures calls { MakesDocrootCalls (D.calls disk.old) (D.calls disk.new) }
 {
     what_a_touch_sets();
+    stamps_take_docroot_calls();
     folders_are_mangled();
     names_are_apart();
     numbers_fit(stamp.epoch, stamp.count);
@@ -99,9 +110,11 @@ fn drop_at_handle<D: Disk>(alloc: Global, disk: &mut D, inv: &Invalidation) -> R
     ensures takes { Told (TakesFiles (IsHandlePage inv.now) 2) (D.files disk.old) (D.files disk.new) }
     ensures gone { OnOk result (Told (λ _ files. IsHandleGone inv.now files) (D.files disk.old) (D.files disk.new)) }
     ensures cause { HasFileCause (D.faults disk.old) (D.faults disk.new) result }
+    ensures calls { MakesDocrootCalls (D.calls disk.old) (D.calls disk.new) }
 {
+    docroot_calls_add_up();
+    pages_take_docroot_calls();
     a_page_has_one_key();
-    pages_have_files_of_their_own();
     // The law speaks of paths, and that the handle is one is a clause of its depth.
     let _depth = inv.handle.depth();
     match page_key(alloc, &inv.handle)? {

@@ -1,7 +1,8 @@
 //! How far a walk over the names of files is.
 ghost use Rattle.std.specs.Prelude.{◌≡◌, ◌<◌, ◌≤◌, [], IfOk, length};
 ghost use Rattle.sp_base.specs.Limits.{greatest_u64};
-ghost use Rattle.invalidation.specs.Walks.{IsPlaceAfter, start_place};
+ghost use Rattle.invalidation.specs.Slices.{start_place};
+ghost use Rattle.invalidation.specs.Walks.{IsPlaceAfter};
 
 use sp_base::{Mem, NameList, TextBuf};
 use std::alloc::Global;

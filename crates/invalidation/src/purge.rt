@@ -2,14 +2,16 @@
 ghost use Rattle.std.specs.Prelude.{◌≡◌, None, OnOk, Some};
 ghost use Rattle.docroot_format.specs.Faults.{HasFileCause};
 ghost use Rattle.docroot_changes.specs.Changes.{Told};
-ghost use Rattle.invalidation.specs.Slices.{HasSliceCause, IsHandlePage, IsSamePurge, IsSlice, folders_of, inv_of, level_of, most_added, place_of, stamp_of};
-ghost use Rattle.invalidation.specs.Walks.{IsBegun, SliceChange, handle_files, place_or_start, step_of};
+ghost use Rattle.docroot_changes.specs.DocrootCalls.{MakesDocrootCalls};
+ghost use Rattle.invalidation.specs.Slices.{HasSliceCause, IsSamePurge, IsSlice, folders_of, inv_of, level_of, most_added, place_of, place_or_start, stamp_of};
+ghost use Rattle.invalidation.specs.Walks.{IsBegun, IsTakenFirst, SliceChange, handle_files, step_of};
 
 use crate::opening::open;
 use crate::place::Place;
 use crate::prefixes::{deleted_prefixes, prefixes_are_apart};
 use crate::walk::walk;
-use cover_rules::{Invalidation, Stamp};
+use cover_rules::{Invalidation, Stamp, a_page_has_one_key};
+use docroot_changes::docroot_calls_add_up;
 use docroot_format::{
     FileFault, deleted_pages_are_told_by_names, names_are_apart, names_tell_their_files,
 };
@@ -60,12 +62,13 @@ impl Purge {
         &self.inv
     }
 
-    /// Looks at the next names of files, 64 at most, and takes those of pages away. The first slice touches the folders before that, and
-    /// takes the page at the handle away.
+    /// Looks at the next 64 names of files, or at all where fewer are left, and takes those of pages away. The first slice touches the
+    /// folders before that, and takes the page at the handle away.
     pub fn slice<D: Disk>(&mut self, alloc: Global, disk: &mut D) -> PurgeStep
         ensures same { IsSamePurge self.old self.new }
         ensures slice { Told (IsSlice self.old self.new result) (D.files disk.old) (D.files disk.new) }
         ensures cause { HasSliceCause (D.faults disk.old) (D.faults disk.new) result }
+        ensures calls { MakesDocrootCalls (D.calls disk.old) (D.calls disk.new) }
     {
         match self.go_on(alloc, disk) {
             Ok(true) => PurgeStep::More,
@@ -80,7 +83,10 @@ impl Purge {
         ensures same { IsSamePurge self.old self.new }
         ensures slice { Told (IsSlice self.old self.new (step_of result)) (D.files disk.old) (D.files disk.new) }
         ensures cause { HasFileCause (D.faults disk.old) (D.faults disk.new) result }
+        ensures calls { MakesDocrootCalls (D.calls disk.old) (D.calls disk.new) }
     {
+        docroot_calls_add_up();
+        a_page_has_one_key();
         prefixes_are_apart();
         names_are_apart();
         names_tell_their_files();
@@ -99,11 +105,13 @@ impl Purge {
     // Opens the flush, where no slice has yet.
     fn begin_walk<D: Disk>(&mut self, alloc: Global, disk: &mut D) -> Result<(), FileFault>
         ensures same { IsSamePurge self.old self.new }
-        ensures changes { Told (SliceChange (IsHandlePage self.old.inv) (folders_of self.old.level self.old.inv self.old.place) (most_added self.old) (handle_files self.old.place) self.old.stamp) (D.files disk.old) (D.files disk.new) }
+        ensures changes { Told (SliceChange (IsTakenFirst self.old.inv self.old.place) (folders_of self.old.level self.old.inv self.old.place) (most_added self.old) (handle_files self.old.place) self.old.stamp) (D.files disk.old) (D.files disk.new) }
         ensures begun { OnOk result (Told (IsBegun self.old.level self.old.inv self.old.stamp self.old.place) (D.files disk.old) (D.files disk.new)) }
         ensures place { OnOk result (self.new.place ≡ Some (place_or_start self.old.place)) }
         ensures cause { HasFileCause (D.faults disk.old) (D.faults disk.new) result }
+        ensures calls { MakesDocrootCalls (D.calls disk.old) (D.calls disk.new) }
     {
+        docroot_calls_add_up();
         if self.place.is_some() {
             return Ok(());
         }

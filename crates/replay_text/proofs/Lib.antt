@@ -17,3 +17,4 @@ pub mod HandleLaws
 pub mod NoteLines
 pub mod Telling
 pub mod WordLemmas
+pub mod Runs

@@ -1,8 +1,8 @@
 -- Scaffolding: how the bytes of a quoted text are told from their spellings, for the private functions of the readers and for proofs
 -- alone. A reader of the theorem needs none of it.
 use Rattle.std.specs.Fmt.{decimal}
-use Rattle.std.specs.Prelude.{◌≢◌, ◌<◌, ◌+◌, ◌-◌, ◌*◌, ◌++◌, ◌==◌, ℕ, Bool, not, if◌then◌else◌, nat_lt, List, [], ◌∷◌, get_or, codes, IsTrue}
-use Rattle.sp_base.specs.Bytes.{AreBytes}
+use Rattle.std.specs.Prelude.{◌≡◌, ◌≢◌, ◌≤◌, ◌<◌, ◌&&◌, ◌+◌, ◌-◌, ◌*◌, ◌++◌, ◌==◌, ℕ, Bool, true, not, if◌then◌else◌, nat_lt, List, [], ◌∷◌, get_or, codes, IsTrue}
+use Rattle.sp_base.specs.Bytes.{AreBytes, is_printable_ascii}
 use Rattle.sp_outside.specs.declared.mem_disk.Way.{Way}
 use Rattle.cover_rules.specs.declared.invalidation.Action.{Action}
 use Rattle.replay_text.specs.Transcript.{quoted_byte, quotation, IsConnectionNumber}
@@ -21,6 +21,14 @@ escaped_byte letter high low = if letter == 34 then 34 else (if letter == 92 the
 -- the byte whose spelling begins the text, where one does
 unfoldable pub spelled_byte : List ℕ → ℕ
 spelled_byte text = if get_or text 0 0 == 92 then escaped_byte (get_or text 1 0) (get_or text 2 0) (get_or text 3 0) else get_or text 0 0
+
+-- the byte stands for itself within quotes
+abbrev pub is_plain : ℕ → Bool
+is_plain b = is_printable_ascii b && (not (b == 34) && not (b == 92))
+
+-- so does each byte from a place up to another
+abbrev pub ArePlain : List ℕ → ℕ → ℕ → Type 0
+ArePlain bytes from to = (k : ℕ) → from ≤ k → k < to → is_plain (get_or bytes k 0) ≡ true
 
 -- no byte's spelling begins the text
 abbrev pub BeginsNoByte : List ℕ → Type 0

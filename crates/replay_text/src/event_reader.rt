@@ -28,8 +28,8 @@ pub fn first_word(text: &[u8]) -> Option<(&[u8], &[u8])>
 // How many numbers a connection may have: 2^32.
 const CONNECTION_NUMBERS: u64 = 4_294_967_296;
 
-// The number that a word spells.
-fn number(alloc: Global, word: &[u8]) -> Mem<Option<u64>>
+/// The number that a word spells: decimal, without a sign or leading zeros.
+pub fn number(alloc: Global, word: &[u8]) -> Mem<Option<u64>>
     ensures some { IfOk result (λ o. IfSome o (λ n. word.now ≡ decimal n)) }
     ensures none { IfOk result (λ o. IfNone o ((n : ℕ) → n < 2 ^ 64 → word.now ≢ decimal n)) }
 {

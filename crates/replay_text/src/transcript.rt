@@ -2,9 +2,10 @@
 ghost use Rattle.std.specs.Prelude.{◌≡◌, ◌++◌, [], ◌<◌, Some, IfOk, OnOk, codes};
 ghost use Rattle.std.specs.Fmt.{decimal};
 ghost use Rattle.sp_base.specs.Paths.{mangled_segs, text_of};
-ghost use Rattle.replay_text.specs.Transcript.{hex, quoted_byte, quotation, quotation_or_dash, mark_text, answer_text, key_text, action_text, scope_word, invalidation_text, note_line, note_text, event_text};
+ghost use Rattle.replay_text.specs.Transcript.{hex, quotation, quotation_or_dash, mark_text, answer_text, key_text, action_text, scope_word, invalidation_text, note_line, note_text, event_text};
 
 use crate::handles::mangled_text;
+use crate::quoting::push_quoted;
 use connections::{ConnectionId, FlightId, FlushId};
 use cover_rules::{Action, Invalidation, PageKey};
 use run_events::Note;
@@ -30,32 +31,6 @@ pub fn hex_digit(n: u8) -> u8
     ensures { result ≡ hex n }
 {
     if n < 10 { b'0' + n } else { b'a' - 10 + n }
-}
-
-// A byte as it stands within quotes.
-fn push_escaped(out: &mut Vec<u8>, b: u8) -> Mem<()>
-    ensures { OnOk result (out.new.items ≡ out.old.items ++ quoted_byte b) }
-{
-    match b {
-        b'"' => push(out, b"\\\""),
-        b'\\' => push(out, b"\\\\"),
-        b'\r' => push(out, b"\\r"),
-        b'\n' => push(out, b"\\n"),
-        b'\t' => push(out, b"\\t"),
-        b' '..=b'~' => Ok(out.push(b)?),
-        _ => push(out, &[b'\\', b'x', hex_digit(b / 16), hex_digit(b % 16)]),
-    }
-}
-
-fn push_quoted(out: &mut Vec<u8>, bytes: &[u8]) -> Mem<()>
-    ensures { OnOk result (out.new.items ≡ out.old.items ++ quotation bytes.now) }
-{
-    out.reserve(bytes.len().saturating_add(2))?;
-    push(out, b"\"")?;
-    for b in bytes {
-        push_escaped(out, *b)?;
-    }
-    push(out, b"\"")
 }
 
 fn push_quoted_or_dash(out: &mut Vec<u8>, bytes: &[u8]) -> Mem<()>

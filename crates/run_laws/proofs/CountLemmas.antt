@@ -156,9 +156,9 @@ length-without c (d ∷ numbers) there = by_test (nat_eq d c) there (length-with
 
 -- ---- what changes the connections
 -- the same connections are there
-record SameThere (w v : RunState) : Type 0 where
-  there : (c : ℕ) → is_some (v.connection c) ≡ is_some (w.connection c)
-  count : v.connection_count ≡ w.connection_count
+pub record SameThere (w v : RunState) : Type 0 where
+  pub there : (c : ℕ) → is_some (v.connection c) ≡ is_some (w.connection c)
+  pub count : v.connection_count ≡ w.connection_count
 
 counted-same : (w v : RunState) → SameThere w v → AreConnectionsCounted w → AreConnectionsCounted v
 counted-same w v same counted = record { numbers = counted.numbers; rising = counted.rising; each = λ c. same.there c ∙ counted.each c; count = same.count ∙ counted.count }
@@ -167,7 +167,7 @@ some-map : {A B : Type 0} (f : A → B) (o : Option A) → is_some (option_map f
 some-map f None = refl
 some-map f (Some a) = refl
 
-there-map : (connection : ℕ → Option Connection) (c : ℕ) (f : Connection → Connection) (q : ℕ) → is_some (update nat_eq connection c (option_map f (connection c)) q) ≡ is_some (connection q)
+pub there-map : (connection : ℕ → Option Connection) (c : ℕ) (f : Connection → Connection) (q : ℕ) → is_some (update nat_eq connection c (option_map f (connection c)) q) ≡ is_some (connection q)
 there-map connection c f q = ⊎_elim
     (λ same. subst (λ x. is_some (update nat_eq connection c (option_map f (connection c)) x) ≡ is_some (connection x)) same (ap is_some (update_here connection c (option_map f (connection c))) ∙ some-map f (connection c)))
     (λ apart. ap is_some (update_apart connection c (option_map f (connection c)) q (λ e. apart (sym e))))
@@ -249,7 +249,7 @@ abbrev pub LeavesOpen : Note → Type 0
 LeavesOpen (Shut c) = ⊥
 LeavesOpen _ = Unit {0}
 
-note-there : (w : RunState) (note : Note) → LeavesOpen note → SameThere w (state_after_note w note)
+pub note-there : (w : RunState) (note : Note) → LeavesOpen note → SameThere w (state_after_note w note)
 note-there w (asked n c key) is = ask-there w n c key (treated_request (due_of_connection w c))
 note-there w (Hit c key) is = hit-there w c key (treated_request (due_of_connection w c))
 note-there w (Local c status) is = on-there w c _
@@ -358,14 +358,14 @@ purges-counted w e (flush ∷ flushes) counted to = leads-counted w e.conditions
 
 -- ---- a restart
 -- no connection is there, and none is counted
-record NoneThere (w : RunState) : Type 0 where
-  there : (c : ℕ) → is_some (w.connection c) ≡ false
-  count : w.connection_count ≡ 0
+pub record NoneThere (w : RunState) : Type 0 where
+  pub there : (c : ℕ) → is_some (w.connection c) ≡ false
+  pub count : w.connection_count ≡ 0
 
 none-same : (w v : RunState) → SameThere w v → NoneThere w → NoneThere v
 none-same w v same none = record { there = λ c. same.there c ∙ none.there c; count = same.count ∙ none.count }
 
-none-shut : (w : RunState) (c : ℕ) → NoneThere w → NoneThere (state_after_note w (Shut c))
+pub none-shut : (w : RunState) (c : ℕ) → NoneThere w → NoneThere (state_after_note w (Shut c))
 none-shut w c none = record {
   there = λ q. ⊎_elim
       (λ same. subst (λ x. is_some (update nat_eq w.connection c None x) ≡ false) same (ap is_some (update_here w.connection c None)))
@@ -382,7 +382,7 @@ cut-none w (Up epoch) is none = none-same w (state_after_note w (Up epoch)) (not
 cut-none w Down is none = none-same w (state_after_note w Down) (note-there w Down tt) none
 cut-none w note is none = absurd is
 
-cuts-none : (w : RunState) (notes : List Note) → AreCutNotes notes → NoneThere w → NoneThere (state_after_notes w notes)
+pub cuts-none : (w : RunState) (notes : List Note) → AreCutNotes notes → NoneThere w → NoneThere (state_after_notes w notes)
 cuts-none w [] are none = none
 cuts-none w (note ∷ notes) are none = cuts-none (state_after_note w note) notes are.1 (cut-none w note are.0 none)
 

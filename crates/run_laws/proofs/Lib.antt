@@ -30,3 +30,10 @@ pub mod OwnRunLemmas
 pub mod EntryLemmas
 pub mod RequestLemmas
 pub mod NamedLemmas
+pub mod EachNoteLemmas
+pub mod AddressLemmas
+pub mod DueLemmas
+pub mod DueEventLemmas
+pub mod FewLemmas
+pub mod RoundLemmas
+pub mod NothingDueLemmas

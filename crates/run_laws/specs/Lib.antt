@@ -5,3 +5,5 @@ pub mod Cuttings
 pub mod Renders
 pub mod Owned
 pub mod Named
+pub mod Rounds
+pub mod Addressed

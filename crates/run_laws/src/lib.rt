@@ -2,6 +2,7 @@
 #![tactic(auto)]
 
 mod laws;
+mod serving;
 
 pub use laws::{
     a_cutting_changes_no_byte, a_cutting_changes_no_turn, answers_are_of_their_own_requests,
@@ -9,4 +10,9 @@ pub use laws::{
     connections_are_answered_in_order, events_extend, kept_pages_are_served, logs_are_legal,
     notes_name_pages, renders_are_published, replies_in_flight_are_not_stored,
     runs_with_memory_are_determined, streams_with_memory_end_alike,
+};
+pub use serving::{
+    connections_that_go_are_gone, events_leave_nothing_due,
+    notes_are_of_connections_that_are_there, rounds_take_flights_out_of_the_air,
+    turns_are_treated_as_they_come,
 };

@@ -1,5 +1,5 @@
 -- The disk of a scenario fails in an event only where a line planned it, one act more or less.
-use Rattle.std.proofs.Common.{◌≡◌, ◌+◌, ◌-◌, ◌<◌, ◌++◌, ◌&&◌, ◌∙◌, ℕ, Bool, not, true, false, List, [], ◌∷◌, Option, Some, None, ap, sym, subst, refl, arith}
+use Rattle.std.proofs.Common.{◌≡◌, ◌-◌, ◌<◌, ◌++◌, ◌&&◌, ◌∙◌, ℕ, Bool, not, true, false, List, [], ◌∷◌, Option, Some, None, ap, subst, refl, arith}
 use Rattle.std.specs.Prelude.{IsTrue}
 use Rattle.std.proofs.lemmas.Bool.{false≢true}
 use Rattle.sp_base.specs.Limits.{greatest_u64}

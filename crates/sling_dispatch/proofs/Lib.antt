@@ -12,3 +12,10 @@ pub mod SessionLemmas
 pub mod MemoryLemmas
 pub mod NumberLemmas
 pub mod WritableLemmas
+pub mod ServingLemmas
+pub mod FormLemmas
+pub mod SoakLemmas
+pub mod InputLemmas
+pub mod Openings
+pub mod Servable
+pub mod Counting

@@ -1,5 +1,5 @@
 -- What an ending means for what was written, at each step of the program.
-use Rattle.std.proofs.Common.{◌≡◌, ◌≢◌, ◌≤◌, ◌+◌, ◌++◌, inl, inr, ⊎_elim, arith, ℕ, List, Option, Some, None, IfSome, IfOk, OnErr, Result, Ok, Err, false, length, take, sym, ◌∙◌, ap, subst}
+use Rattle.std.proofs.Common.{◌≡◌, ◌≢◌, ◌≤◌, ◌+◌, ◌++◌, ◌∷◌, [], inl, inr, ⊎_elim, arith, refl, ℕ, List, Option, Some, None, IfSome, IfOk, OnErr, Result, Ok, Err, false, length, take, sym, ◌∙◌, ap, subst}
 use Rattle.std.proofs.lemmas.List.{append-nil}
 use Rattle.std.proofs.lemmas.Bool.{cases_lt}
 use Rattle.sp_outside.specs.Told.{held_after, before_taking, IsAtEnd}
@@ -9,14 +9,15 @@ use Rattle.content_json.specs.declared.fault.ContentFault.TheVariants.{NoMemory 
 use Rattle.replay_text.specs.Languages.{IsRefusedWithin}
 use Rattle.sling_dispatch.specs.Streams.{IsReadOut}
 use Rattle.replay_text.specs.Scenario.{IsScenario, ReadsScenario, longest_scenario}
-use Rattle.sling_dispatch.specs.Endings.{StreamReport, RunCall, IsRunOf, Writing, Nothing, UsageLine, SourceLine, RefusalLine, ContentLine, FarmLine, Events, output_of, EndsIn, Whole, Broken, Means, IsDue, HasContent, IsReplay, HasNotFailed, IsUntouched}
+use Rattle.sling_dispatch.specs.Endings.{IsRunOf, Writing, Nothing, UsageLine, SourceLine, RefusalLine, ContentLine, FarmLine, Events, Generated, Summary, OfServing, output_of, EndsIn, Whole, Broken, Means, IsDue, HasContent, IsReplay}
+use Rattle.sling_dispatch.specs.Reports.{StreamReport, RunCall, HasNotFailed, IsUntouched, IsWorldUntouched}
 use Rattle.sling_dispatch.specs.InnerEndings.{IsDueIn, IsDueOf, IsContentOr, IsFarmOr, TellsText, IsDueAt}
 use Rattle.sling_dispatch.specs.Farms.{farm_in, farm_text, is_out_of_memory}
 use Rattle.sling_dispatch.specs.declared.farms.FarmRefusal.{FarmRefusal}
 use Rattle.replay_text.specs.declared.scenario.Scenario.{Scenario}
 use Rattle.sling_dispatch.proofs.Writing.{added-nothing}
 use Rattle.sling_dispatch.specs.declared.ending.Ending.{Ending}
-use Rattle.sling_dispatch.specs.declared.ending.Ending.TheVariants.{Done, Usage, SourceFailed, SinkFailed, Refused, ContentRefused, FarmRefused, NoMemory}
+use Rattle.sling_dispatch.specs.declared.ending.Ending.TheVariants.{Done, Usage, SourceFailed, SinkFailed, Refused, ContentRefused, FarmRefused, DocrootFailed, WorldFailed, InputFailed, NotOpened, NoMemory}
 
 -- what may be written here may be written there
 whole_weaker : (D E : Writing → Type 0) → ((w : Writing) → D w → E w) → (ending : Ending) (sink : StreamReport (List ℕ)) → Whole D ending sink → Whole E ending sink
@@ -34,6 +35,19 @@ means_weaker D E to SourceFailed sink m = whole_weaker D E to SourceFailed sink 
 means_weaker D E to Refused sink m = whole_weaker D E to Refused sink m
 means_weaker D E to ContentRefused sink m = whole_weaker D E to ContentRefused sink m
 means_weaker D E to FarmRefused sink m = whole_weaker D E to FarmRefused sink m
+means_weaker D E to DocrootFailed sink m = whole_weaker D E to DocrootFailed sink m
+means_weaker D E to WorldFailed sink m = whole_weaker D E to WorldFailed sink m
+means_weaker D E to InputFailed sink m = whole_weaker D E to InputFailed sink m
+means_weaker D E to NotOpened sink m = whole_weaker D E to NotOpened sink m
+
+none_taken : (text : List ℕ) → take 0 text ≡ []
+none_taken [] = refl
+none_taken (b ∷ text) = refl
+
+-- Of what is due nothing was written, and memory ran out.
+pub nothing_written : (D : Writing → Type 0) (w : Writing) → D w → (sink : StreamReport (List ℕ)) → sink.new ≡ sink.old → HasNotFailed sink → Means D NoMemory sink
+nothing_written D w due sink e not_failed =
+    (record { writing = w; due = due; wrote = (0, e ∙ sym (ap (held_after sink.old) (none_taken (output_of w)) ∙ added-nothing sink.old)) }, not_failed)
 
 -- Nothing was written, and memory ran out.
 pub out_of_memory : (D : Writing → Type 0) → D Nothing → (sink : StreamReport (List ℕ)) → sink.new ≡ sink.old → HasNotFailed sink → Means D NoMemory sink
@@ -51,11 +65,11 @@ told_line D w good ending text sink due ends whole e (inr (inr t)) =
 
 -- The same of a text for which memory may have run out.
 pub told_made : {T E : Type 0} (items : T → List ℕ) (D : Writing → Type 0) (w : Writing) (good ending : Ending) (line : Result T E)
-    (sink : StreamReport (List ℕ)) → D Nothing → D w → EndsIn w good → (Whole D good sink → Means D good sink) → IfOk line (λ t. items t ≡ output_of w)
+    (sink : StreamReport (List ℕ)) → D w → EndsIn w good → (Whole D good sink → Means D good sink) → IfOk line (λ t. items t ≡ output_of w)
     → IfOk line (λ t. TellsText good (items t) ending sink) → OnErr line ((ending ≡ NoMemory) × IsUntouched sink) → Means D ending sink
-told_made items D w good ending (Ok t) sink none due ends whole e told untold = told_line D w good ending (items t) sink due ends whole e told
-told_made items D w good ending (Err x) sink none due ends whole e told untold =
-    subst (λ n. Means D n sink) (sym untold.0) (out_of_memory D none sink untold.1.0 untold.1.1)
+told_made items D w good ending (Ok t) sink due ends whole e told untold = told_line D w good ending (items t) sink due ends whole e told
+told_made items D w good ending (Err x) sink due ends whole e told untold =
+    subst (λ n. Means D n sink) (sym untold.0) (nothing_written D w due sink untold.1.0 untold.1.1)
 
 pub due_content : (s : Scenario) (fault : ContentFault) → (fault ≢ no_memory → content_of s.content ≡ Err fault) → (w : Writing) → IsContentOr fault w → IsDueIn s w
 due_content s fault e Nothing d = tt
@@ -65,6 +79,9 @@ due_content s fault e (RefusalLine before) d = d
 due_content s fault e (ContentLine f) d = (e d.1 ∙ ap (λ x. Err x) (sym d.0), λ h. d.1 (sym d.0 ∙ h))
 due_content s fault e (FarmLine refusal) d = absurd d
 due_content s fault e (Events t events) d = absurd d
+due_content s fault e (Generated number) d = absurd d
+due_content s fault e (Summary number t events) d = absurd d
+due_content s fault e (OfServing w) d = absurd d
 
 pub due_farm : (s : Scenario) (refusal : FarmRefusal) → HasContent s → (is_out_of_memory refusal ≡ false → farm_in (farm_text s.farm) ≡ Err refusal)
     → (w : Writing) → IsFarmOr refusal w → IsDueIn s w
@@ -75,6 +92,9 @@ due_farm s refusal has e (RefusalLine before) d = d
 due_farm s refusal has e (ContentLine fault) d = absurd d
 due_farm s refusal has e (FarmLine r) d = (has, e d.1 ∙ ap (λ x. Err x) (sym d.0), ap is_out_of_memory d.0 ∙ d.1)
 due_farm s refusal has e (Events t events) d = absurd d
+due_farm s refusal has e (Generated number) d = absurd d
+due_farm s refusal has e (Summary number t events) d = absurd d
+due_farm s refusal has e (OfServing w) d = absurd d
 
 -- what is written of the acts is written of the scenario
 pub due_acts : (s : Scenario) (w : Writing) → IsDueOf s w → IsDueIn s w
@@ -85,6 +105,9 @@ due_acts s (RefusalLine before) d = d
 due_acts s (ContentLine fault) d = absurd d
 due_acts s (FarmLine refusal) d = absurd d
 due_acts s (Events t events) d = d
+due_acts s (Generated number) d = absurd d
+due_acts s (Summary number t events) d = absurd d
+due_acts s (OfServing w) d = absurd d
 
 pub content_told : (s : Scenario) (fault : ContentFault) (bytes : List ℕ) (ending : Ending) (sink : StreamReport (List ℕ)) → bytes ≡ s.content
     → (fault ≢ no_memory → content_of bytes ≡ Err fault) → Means (IsContentOr fault) ending sink → Means (IsDueIn s) ending sink
@@ -101,6 +124,9 @@ in_text text s reads (ContentLine fault) d = (d.1, s, reads, d.0)
 in_text text s reads (FarmLine refusal) d = (d.2, s, reads, d.0, d.1)
 in_text text s reads (Events t events) d =
     let same = sym d.0 in (subst (ReadsScenario text) same reads, subst (λ (x : Scenario). IsRunOf x events) same d.1)
+in_text text s reads (Generated number) d = absurd d
+in_text text s reads (Summary number t events) d = absurd d
+in_text text s reads (OfServing w) d = absurd d
 
 told_refused : (text : List ℕ) (before : ℕ) (old new : Option (List ℕ)) → old ≡ before_taking text new → (length text ≤ longest_scenario → IsAtEnd new)
     → IsDueAt text (RefusalLine before) → IfSome old (λ bytes. IsRefusedWithin longest_scenario IsScenario bytes before)
@@ -120,22 +146,25 @@ told Q text old (Some rest) e end q =
     subst (λ o. IfSome o Q) (sym (e ∙ ap Some whole)) q
 
 -- what may be written of the text that was read may be written by the call
-pub due_of_source : (c : RunCall) (text : List ℕ) → IsReplay c.words → HasNotFailed c.source
+pub due_of_source : (c : RunCall) (text : List ℕ) → IsReplay c.words → IsWorldUntouched c.world → HasNotFailed c.source
     → c.source.old ≡ before_taking text c.source.new → (length text ≤ longest_scenario → IsAtEnd c.source.new) → length text ≤ longest_scenario + 1 → (w : Writing) → IsDueAt text w → IsDue c w
-due_of_source c text is not_failed e end within Nothing d = tt
-due_of_source c text is not_failed e end within UsageLine d = absurd d
-due_of_source c text is not_failed e end within SourceLine d = absurd d
-due_of_source c text is not_failed e end within (RefusalLine before) d =
+due_of_source c text is apart not_failed e end within Nothing d = apart
+due_of_source c text is apart not_failed e end within UsageLine d = absurd d
+due_of_source c text is apart not_failed e end within SourceLine d = absurd d
+due_of_source c text is apart not_failed e end within (RefusalLine before) d =
     ((is, not_failed, told_refused text before c.source.old c.source.new e end d), read_out text c.source.old c.source.new e end within)
-due_of_source c text is not_failed e end within (ContentLine fault) d =
+due_of_source c text is apart not_failed e end within (ContentLine fault) d =
     let Q : List ℕ → Type 0 = λ bytes. (s : Scenario) × ReadsScenario bytes s × (content_of s.content ≡ Err fault) in
     let done = end d.2.1 in
-    ((is, not_failed, told Q text c.source.old c.source.new e done (d.1, d.2, d.3)), done, d.0)
-due_of_source c text is not_failed e end within (FarmLine refusal) d =
+    inl ((is, not_failed, told Q text c.source.old c.source.new e done (d.1, d.2, d.3)), done, d.0)
+due_of_source c text is apart not_failed e end within (FarmLine refusal) d =
     let Q : List ℕ → Type 0 = λ bytes. (s : Scenario) × ReadsScenario bytes s × HasContent s × (farm_in (farm_text s.farm) ≡ Err refusal) in
     let done = end d.2.1 in
-    ((is, not_failed, told Q text c.source.old c.source.new e done (d.1, d.2, d.3, d.4)), done, d.0)
-due_of_source c text is not_failed e end within (Events s events) d =
+    inl ((is, not_failed, told Q text c.source.old c.source.new e done (d.1, d.2, d.3, d.4)), done, d.0)
+due_of_source c text is apart not_failed e end within (Events s events) d =
     let Q : List ℕ → Type 0 = λ bytes. ReadsScenario bytes s in
     let done = end d.0.1 in
     ((is, not_failed, told Q text c.source.old c.source.new e done d.0), done, d.1)
+due_of_source c text is apart not_failed e end within (Generated number) d = absurd d
+due_of_source c text is apart not_failed e end within (Summary number s events) d = absurd d
+due_of_source c text is apart not_failed e end within (OfServing w) d = absurd d

@@ -1,5 +1,5 @@
 -- A session is a run that begins with an empty log and a session.
-use Rattle.std.proofs.Common.{◌≡◌, ◌++◌, List, [], ◌∷◌, true, false, refl}
+use Rattle.std.proofs.Common.{◌++◌, List, [], ◌∷◌, false, refl}
 use Rattle.resource_tree.specs.Content.{Content}
 use Rattle.any_config.specs.declared.farm.Farm.{Farm}
 use Rattle.cache_log.specs.Rules.{CallConditions}

@@ -12,7 +12,7 @@ use Rattle.resource_tree.specs.Content.{Content}
 use Rattle.content_json.specs.ContentOf.{content as content_of}
 use Rattle.any_config.specs.declared.farm.Farm.{Farm}
 use Rattle.sling_dispatch.specs.Farms.{farm_in, farm_text}
-use Rattle.run_events.specs.Events.{Event, FurtherEvent, Happens, Run, after_event, state_after_events, notes_of}
+use Rattle.run_events.specs.Events.{Event, Happens, Run, after_event, state_after_events, notes_of}
 use Rattle.run_events.specs.States.{RunState, start_of}
 use Rattle.run_events.specs.declared.note.Note.{Note}
 use Rattle.run_events.specs.declared.step.Step.{Step}
@@ -24,7 +24,8 @@ use Rattle.replay_text.specs.declared.event_line.EventLine.{EventLine}
 use Rattle.replay_text.specs.declared.scenario.Scenario.{Scenario}
 use Rattle.sling_dispatch.specs.Runs.{AreArmed, IsSession, asked_publisher_host, sling_start, step_of, told_of_events}
 use Rattle.sling_dispatch.specs.Fronts.{IsNext, IsPlayed, SessionStandsFor}
-use Rattle.sling_dispatch.specs.Endings.{Writing, Events, StreamReport, report_of, Broken, Whole}
+use Rattle.sling_dispatch.specs.Endings.{Events, Broken}
+use Rattle.sling_dispatch.specs.Reports.{StreamReport, report_of}
 use Rattle.sling_dispatch.specs.InnerEndings.{AreActLines, IsDueOf, TellsText, ending_by, PlaysAll}
 use Rattle.sling_dispatch.specs.declared.ending.Ending.{Ending}
 use Rattle.sling_dispatch.specs.declared.ending.Ending.TheVariants.{Done, NoMemory}
@@ -88,24 +89,27 @@ pub record Played (tree : Content) (farm : Farm) (acts rest : List ℕ) (s : Ses
   pub text_is : told_of_events events ≡ sent ++ gathered
 
 pub played_none : (tree : Content) (farm : Farm) (acts : List ℕ) (s : Session) (old : Option (List ℕ)) → AreActLines acts → SessionStandsFor s (start_of (sling_start farm tree))
-    → s.disk.spent ≡ true → s.event ≡ 0 → Played tree farm acts acts s old old []
-played_none tree farm acts s old are stands spent event = record {
-  made = [];
-  left = are.0;
-  acts_are = are.1;
-  left_are = are.1;
-  events = [];
-  steps = refl;
-  run = tt;
-  fit = tt;
-  armed = tt;
-  may_fail = sym (ap not spent);
-  count_is = sym event;
-  stands = stands;
-  sent = [];
-  written = sym (added-nothing old);
-  text_is = refl;
-}
+    → s.disk.spent ≡ true → s.event ≡ 0 → (q : Played tree farm acts acts s old old []) × (q.events ≡ [])
+played_none tree farm acts s old are stands spent event = (
+  record {
+    made = [];
+    left = are.0;
+    acts_are = are.1;
+    left_are = are.1;
+    events = [];
+    steps = refl;
+    run = tt;
+    fit = tt;
+    armed = tt;
+    may_fail = sym (ap not spent);
+    count_is = sym event;
+    stands = stands;
+    sent = [];
+    written = sym (added-nothing old);
+    text_is = refl;
+  },
+  refl,
+)
 
 -- how lines tell their acts
 abbrev pub FirstIsTold : Type 0
@@ -123,35 +127,37 @@ made_push host made act o e =
     filter_map-append (step_of host) made (act ∷ []) ∙ ap (λ (x : Option Step). filter_map (step_of host) made ++ cons_option x []) e
 
 -- the next line plans a failure
-played_plan : (tree : Content) (farm : Farm) (acts rest after : List ℕ) (s t : Session) (old new : Option (List ℕ)) (gathered text : List ℕ) (act : EventLine) (left : List EventLine)
+pub played_plan : (tree : Content) (farm : Farm) (acts rest after : List ℕ) (s t : Session) (old new : Option (List ℕ)) (gathered text : List ℕ) (act : EventLine) (left : List EventLine)
     → (p : Played tree farm acts rest s old new gathered) → step_of (asked_publisher_host farm) act ≡ None → p.left ≡ act ∷ left → IsActs after left → IsPlayed None s t text
-    → Played tree farm acts after t old new (gathered ++ text)
+    → (q : Played tree farm acts after t old new (gathered ++ text)) × (q.events ≡ p.events)
 played_plan tree farm acts rest after s t old new gathered text act left p step is left_are x =
     let host = asked_publisher_host farm in
     let w = start_of (sling_start farm tree) in
-    let steps = steps_push farm p.made act None step in
-    record {
-      made = p.made ++ act ∷ [];
-      left = left;
-      acts_are = subst (IsActs acts) (ap (λ t. p.made ++ t) is ∙ sym (list_assoc p.made (act ∷ []) left)) p.acts_are;
-      left_are = left_are;
-      events = p.events;
-      steps = p.steps ∙ sym (made_push host p.made act None step ∙ list_nil (filter_map (step_of host) p.made));
-      run = p.run;
-      fit = subst (λ (o : List (Option Step)). Fit o p.events) (sym steps) (fit_plan (steps_of farm p.made) p.events p.fit);
-      armed = subst (λ (o : List (Option Step)). AreArmed false w o p.events) (sym steps) (armed_plan false w (steps_of farm p.made) p.events p.fit p.armed);
-      may_fail = ap (λ (o : List (Option Step)). armed_after false o p.events) steps ∙ after_plan false (steps_of farm p.made) p.events p.fit ∙ sym (ap not x.1);
-      count_is = p.count_is ∙ sym x.2;
-      stands = x.0 (state_after_events w p.events) p.stands;
-      sent = p.sent;
-      written = p.written;
-      text_is = p.text_is ∙ ap (λ g. p.sent ++ g) (sym (ap (λ g. gathered ++ g) x.3 ∙ append-nil gathered));
-    }
+    let steps = steps_push farm p.made act None step in (
+      record {
+        made = p.made ++ act ∷ [];
+        left = left;
+        acts_are = subst (IsActs acts) (ap (λ t. p.made ++ t) is ∙ sym (list_assoc p.made (act ∷ []) left)) p.acts_are;
+        left_are = left_are;
+        events = p.events;
+        steps = p.steps ∙ sym (made_push host p.made act None step ∙ list_nil (filter_map (step_of host) p.made));
+        run = p.run;
+        fit = subst (λ (o : List (Option Step)). Fit o p.events) (sym steps) (fit_plan (steps_of farm p.made) p.events p.fit);
+        armed = subst (λ (o : List (Option Step)). AreArmed false w o p.events) (sym steps) (armed_plan false w (steps_of farm p.made) p.events p.fit p.armed);
+        may_fail = ap (λ (o : List (Option Step)). armed_after false o p.events) steps ∙ after_plan false (steps_of farm p.made) p.events p.fit ∙ sym (ap not x.1);
+        count_is = p.count_is ∙ sym x.2;
+        stands = x.0 (state_after_events w p.events) p.stands;
+        sent = p.sent;
+        written = p.written;
+        text_is = p.text_is ∙ ap (λ g. p.sent ++ g) (sym (ap (λ g. gathered ++ g) x.3 ∙ append-nil gathered));
+      },
+      refl,
+    )
 
 -- the next event was made, and its lines are to be gathered
-played_event : Goes → Leaves → (tree : Content) (farm : Farm) (acts rest after : List ℕ) (s t : Session) (old new : Option (List ℕ)) (gathered text : List ℕ) (act : EventLine) (left : List EventLine) (step : Step)
-    → (p : Played tree farm acts rest s old new gathered) → step_of (asked_publisher_host farm) act ≡ Some step → p.left ≡ act ∷ left → IsActs after left → IsPlayed (Some step) s t text
-    → Played tree farm acts after t old new (gathered ++ text)
+pub played_event : Goes → Leaves → (tree : Content) (farm : Farm) (acts rest after : List ℕ) (s t : Session) (old new : Option (List ℕ)) (gathered text : List ℕ) (act : EventLine) (left : List EventLine) (step : Step)
+    → (p : Played tree farm acts rest s old new gathered) → step_of (asked_publisher_host farm) act ≡ Some step → p.left ≡ act ∷ left → IsActs after left → (x : IsPlayed (Some step) s t text)
+    → (q : Played tree farm acts after t old new (gathered ++ text)) × (event : Event) × (q.events ≡ p.events ++ event ∷ []) × (x.0 ≡ notes_of event)
 played_event goes leaves tree farm acts rest after s t old new gathered text act left step p step_is is left_are x =
     let host = asked_publisher_host farm in
     let w = start_of (sling_start farm tree) in
@@ -163,25 +169,29 @@ played_event goes leaves tree farm acts rest after s t old new gathered text act
     let arms = armed_by s.disk.spent t.disk.spent (state_after_events w p.events) event (armed_after false (steps_of farm p.made) p.events) p.may_fail next.cause in
     let number : 1 + length (map notes_of p.events) ≡ t.event = omega (arith, p.count_is, length_map notes_of p.events, x.2) in
     let told : told_of_events events ≡ told_of_events p.events ++ event_text t.event notes = ap transcript (map_push notes_of p.events event) ∙ transcript_push 1 (map notes_of p.events) (notes_of event)
-    ∙ ap (λ k. told_of_events p.events ++ event_text k (notes_of event)) number ∙ ap (λ ns. told_of_events p.events ++ event_text t.event ns) next.notes_are in
-    record {
-      made = p.made ++ act ∷ [];
-      left = left;
-      acts_are = subst (IsActs acts) (ap (λ t. p.made ++ t) is ∙ sym (list_assoc p.made (act ∷ []) left)) p.acts_are;
-      left_are = left_are;
-      events = events;
-      steps = map_push (λ (y : Event). y.step) p.events event ∙ ap (λ t. t ++ event.step ∷ []) p.steps ∙ ap (λ u. filter_map (step_of host) p.made ++ u ∷ []) next.step_is
-          ∙ sym (made_push host p.made act (Some step) step_is);
-      run = goes w p.events event p.run next.happens;
-      fit = subst (λ (o : List (Option Step)). Fit o events) (sym steps) (fit_event (steps_of farm p.made) p.events step event p.fit);
-      armed = subst (λ (o : List (Option Step)). AreArmed false w o events) (sym steps) (armed_event false w (steps_of farm p.made) p.events step event p.fit p.armed arms.0);
-      may_fail = ap (λ (o : List (Option Step)). armed_after false o events) steps ∙ after_event_armed false (steps_of farm p.made) p.events step event p.fit ∙ arms.1;
-      count_is = omega (arith, p.count_is, length-append p.events (event ∷ []), x.2);
-      stands = subst (SessionStandsFor t) (sym (leaves w p.events event)) next.stands;
-      sent = p.sent;
-      written = p.written;
-      text_is = told ∙ ap (λ t. told_of_events p.events ++ t) (sym x.3) ∙ ap (λ t. t ++ text) p.text_is ∙ append_assoc p.sent gathered text;
-    }
+    ∙ ap (λ k. told_of_events p.events ++ event_text k (notes_of event)) number ∙ ap (λ ns. told_of_events p.events ++ event_text t.event ns) next.notes_are in (
+      record {
+        made = p.made ++ act ∷ [];
+        left = left;
+        acts_are = subst (IsActs acts) (ap (λ t. p.made ++ t) is ∙ sym (list_assoc p.made (act ∷ []) left)) p.acts_are;
+        left_are = left_are;
+        events = events;
+        steps = map_push (λ (y : Event). y.step) p.events event ∙ ap (λ t. t ++ event.step ∷ []) p.steps ∙ ap (λ u. filter_map (step_of host) p.made ++ u ∷ []) next.step_is
+            ∙ sym (made_push host p.made act (Some step) step_is);
+        run = goes w p.events event p.run next.happens;
+        fit = subst (λ (o : List (Option Step)). Fit o events) (sym steps) (fit_event (steps_of farm p.made) p.events step event p.fit);
+        armed = subst (λ (o : List (Option Step)). AreArmed false w o events) (sym steps) (armed_event false w (steps_of farm p.made) p.events step event p.fit p.armed arms.0);
+        may_fail = ap (λ (o : List (Option Step)). armed_after false o events) steps ∙ after_event_armed false (steps_of farm p.made) p.events step event p.fit ∙ arms.1;
+        count_is = omega (arith, p.count_is, length-append p.events (event ∷ []), x.2);
+        stands = subst (SessionStandsFor t) (sym (leaves w p.events event)) next.stands;
+        sent = p.sent;
+        written = p.written;
+        text_is = told ∙ ap (λ t. told_of_events p.events ++ t) (sym x.3) ∙ ap (λ t. t ++ text) p.text_is ∙ append_assoc p.sent gathered text;
+      },
+      event,
+      refl,
+      sym next.notes_are,
+    )
 
 -- the next line was played
 pub played_next : Goes → Leaves → FirstIsTold → (tree : Content) (farm : Farm) (acts rest after : List ℕ) (s t : Session) (old new : Option (List ℕ)) (gathered text : List ℕ)
@@ -192,8 +202,8 @@ played_next goes leaves told_first tree farm acts rest after s t old new gathere
   where
     by_step : (o : Option Step) → step_of (asked_publisher_host farm) x.act ≡ o → IsPlayed o s t text → ((left : List EventLine) × (p.left ≡ x.act ∷ left) × IsActs after left)
         → Played tree farm acts after t old new (gathered ++ text)
-    by_step None e played (left, is, are) = played_plan tree farm acts rest after s t old new gathered text x.act left p e is are played
-    by_step (Some step) e played (left, is, are) = played_event goes leaves tree farm acts rest after s t old new gathered text x.act left step p e is are played
+    by_step None e played (left, is, are) = (played_plan tree farm acts rest after s t old new gathered text x.act left p e is are played).0
+    by_step (Some step) e played (left, is, are) = (played_event goes leaves tree farm acts rest after s t old new gathered text x.act left step p e is are played).0
 
 -- the lines after an act's are shorter
 pub next_shorter : (host rest after : List ℕ) (s t : Session) (text : List ℕ) → IsNext host rest after s t text → length after + 1 ≤ length rest
@@ -220,7 +230,7 @@ played_sent tree farm acts rest s old mid new gathered sent left p e same = reco
   text_is = p.text_is ∙ ap (λ t. p.sent ++ t) (sym same) ∙ sym (append_assoc p.sent sent left);
 }
 
-session_of : (tree : Content) (farm : Farm) (acts rest : List ℕ) (t : Session) (old new : Option (List ℕ)) (gathered : List ℕ) (s : Scenario) → s.acts ≡ acts → content_of s.content ≡ Ok tree
+pub session_of : (tree : Content) (farm : Farm) (acts rest : List ℕ) (t : Session) (old new : Option (List ℕ)) (gathered : List ℕ) (s : Scenario) → s.acts ≡ acts → content_of s.content ≡ Ok tree
     → farm_in (farm_text s.farm) ≡ Ok farm → (p : Played tree farm acts rest t old new gathered) → IsSession s p.left p.events
 session_of tree farm acts rest t old new gathered s same reads farm_reads p = record {
   tree = tree;
@@ -276,7 +286,7 @@ no_bytes [] e = refl
 no_bytes (x ∷ xs) e = absurd (omega (arith, e))
 
 -- no act is left where no byte is
-none_left : (rest : List ℕ) (left : List EventLine) → IsActs rest left → rest ≡ [] → left ≡ []
+pub none_left : (rest : List ℕ) (left : List EventLine) → IsActs rest left → rest ≡ [] → left ≡ []
 none_left rest [] are e = refl
 none_left rest (act ∷ left) are e =
     absurd (omega (arith, ap length (sym are.bytes_are ∙ e), length-append (line_of act) (10 ∷ text_of_lines (map line_of left))))

@@ -2,7 +2,12 @@
 use Rattle.std.proofs.Common.{◌≡◌, ◌+◌, ◌++◌, ◌∙◌, ℕ, List, [], ◌∷◌, Option, Some, None, IfSome, take, get_or, slice_get, sym, ap, refl}
 use Rattle.std.proofs.lemmas.List.{take_more}
 use Rattle.std.proofs.lemmas.Option.{slice_get_within, slice_get-get_or}
-use Rattle.sling_dispatch.specs.Endings.{StreamReport, IsDue, Means, AreWordsOf, HasNotFailed, ending_status}
+use Rattle.sling_dispatch.specs.Endings.{IsDue, IsReplay, Means, AreWordsOf, ending_status}
+use Rattle.sling_dispatch.specs.Reports.{StreamReport, HasNotFailed, IsApart, IsUntouched, IsDiskUntouched, IsWorldUntouched, call_of}
+use Rattle.sling_dispatch.specs.Forms.{IsServe}
+use Rattle.sp_outside.specs.Calls.{Call}
+use Rattle.sp_outside.specs.Files.{Files}
+use Rattle.serve_loop.specs.Served.{DiskReport, WorldReport}
 use Rattle.sling_dispatch.specs.declared.ending.Ending.{Ending}
 use Rattle.sling_dispatch.specs.declared.ending.Ending.TheVariants.{NoMemory}
 use Rattle.sling_dispatch.proofs.Meanings.{out_of_memory}
@@ -26,9 +31,18 @@ some_words None = ([], tt)
 some_words (Some all) = (all, refl)
 
 -- nothing was done, since memory ran out
-pub words_unread : (told : Option (List (List ℕ))) (source sink : StreamReport (List ℕ)) (status : ℕ) → status ≡ ending_status NoMemory → sink.new ≡ sink.old
+pub words_unread : (told : Option (List (List ℕ))) (source : StreamReport (List ℕ)) (inputs : StreamReport Files) (disk : DiskReport) (world : WorldReport) (sink : StreamReport (List ℕ)) (status : ℕ) (calls : Option (List Call))
+    → status ≡ ending_status NoMemory → IsUntouched source → IsUntouched inputs → IsDiskUntouched disk → IsWorldUntouched world → sink.new ≡ sink.old
     → HasNotFailed sink → (words : List (List ℕ)) × AreWordsOf told words × (e : Ending) × (status ≡ ending_status e)
-    × Means (IsDue (record { words = words; source = source })) e sink
-words_unread told source sink status is same not_failed =
-    let w = some_words told in
-    (w.0, w.1, NoMemory, is, out_of_memory (IsDue (record { words = w.0; source = source })) tt sink same not_failed)
+    × Means (IsDue (call_of words source inputs disk world)) e sink × ((IsServe words → ⊥) → IsApart (call_of words source inputs disk world) × (calls ≡ calls))
+    × ((IsReplay words → ⊥) → IsUntouched source)
+words_unread told source inputs disk world sink status calls is source_is inputs_are disk_is world_is same not_failed =
+    let w = some_words told in (
+      w.0,
+      w.1,
+      NoMemory,
+      is,
+      out_of_memory (IsDue (call_of w.0 source inputs disk world)) world_is sink same not_failed,
+      (λ none. (record { inputs = inputs_are; disk = disk_is; world = world_is }, refl)),
+      (λ none. source_is),
+    )

@@ -1,50 +1,49 @@
 -- How a run may end, and what each ending says of the source and the sink.
-use Rattle.std.specs.Prelude.{false, ◌≡◌, ◌≢◌, ◌≤◌, ◌+◌, ◌++◌, ◌⊎◌, ℕ, List, [], ◌∷◌, Option, IfSome, Ok, Err, codes, take}
+use Rattle.std.specs.Prelude.{false, ◌≡◌, ◌≢◌, ◌+◌, ◌++◌, ◌⊎◌, ℕ, List, [], ◌∷◌, Option, IfSome, Ok, Err, codes, take}
 use Rattle.std.specs.Fmt.{decimal}
 use Rattle.sp_outside.specs.Told.{held_after, IsAtEnd}
-use Rattle.sp_outside.specs.Causes.{Rose}
 use Rattle.resource_tree.specs.Content.{Content}
 use Rattle.content_json.specs.ContentOf.{content as content_of}
 use Rattle.content_json.specs.declared.fault.ContentFault.{ContentFault}
 use Rattle.content_json.specs.declared.fault.ContentFault.TheVariants.{NoMemory as no_memory}
+use Rattle.cache_files.specs.declared.epoch.OpenFault.{OpenFault}
+use Rattle.cache_files.specs.declared.epoch.OpenFault.TheVariants as open_fault
+use Rattle.outside_world.specs.declared.inputs.InputFault.{InputFault}
+use Rattle.outside_world.specs.declared.inputs.InputFault.TheVariants as input_fault
+use Rattle.serve_loop.specs.declared.serving.ServeEnd.TheVariants as serve_end
+use Rattle.soak_scenarios.specs.Soaks.{generated_text}
 use Rattle.replay_text.specs.Languages.{IsRefusedWithin}
 use Rattle.replay_text.specs.Scenario.{IsScenario, ReadsScenario, longest_scenario}
+use Rattle.sling_dispatch.specs.Forms.{Asks, IsForm}
+use Rattle.sling_dispatch.specs.Reports.{HasFailed, HasNotFailed, IsUntouched, IsWorldUntouched, RunCall, StreamReport}
 use Rattle.sling_dispatch.specs.Runs.{IsSession, told_of_events}
+use Rattle.sling_dispatch.specs.Serving.{FailsToOpen, IsNotOpened, LacksContent, LacksFarm, LacksInput, Serves}
 use Rattle.sling_dispatch.specs.Streams.{IsReadOut}
+use Rattle.sling_dispatch.specs.Summaries.{summary_text}
 use Rattle.sling_dispatch.specs.Farms.{farm_in, farm_text, is_out_of_memory}
 use Rattle.sling_dispatch.specs.Faults.{fault_text, refusal_text}
 use Rattle.any_config.specs.declared.farm.Farm.{Farm}
 use Rattle.sling_dispatch.specs.declared.farms.FarmRefusal.{FarmRefusal}
+use Rattle.sling_dispatch.specs.declared.form.ServeWords.{ServeWords}
+use Rattle.sling_dispatch.specs.declared.form.Form.TheVariants as form
 use Rattle.replay_text.specs.declared.event_line.EventLine.{EventLine}
 use Rattle.replay_text.specs.declared.scenario.Scenario.{Scenario}
 use Rattle.run_events.specs.Events.{Event}
 use Rattle.sling_dispatch.specs.declared.ending.Ending.{Ending}
-use Rattle.sling_dispatch.specs.declared.ending.Ending.TheVariants.{Done, Usage, SourceFailed, SinkFailed, Refused, ContentRefused, FarmRefused, NoMemory}
+use Rattle.sling_dispatch.specs.declared.ending.Ending.TheVariants.{Done, Usage, SourceFailed, SinkFailed, Refused, ContentRefused, FarmRefused, DocrootFailed, WorldFailed, InputFailed, NotOpened, NoMemory}
 
--- an object of the outside over one call: what it told before and after, and its count of faults before and after
-pub record StreamReport (T : Type 0) : Type 0 where
-  pub old : Option T
-  pub new : Option T
-  pub faults_old : ℕ
-  pub faults_new : ℕ
+-- What a call that serves may be writing: how many turns were served; nothing more, where memory ran out in a turn; that the world or the
+-- docroot failed; why no session begins; why an input of this name wasn't read.
+pub data ServeWriting : Type 0 where
+  Served : ServeWords → ServeWriting
+  CutOff : ServeWriting
+  WorldLine : ServeWriting
+  DocrootLine : ServeWriting
+  OpeningLine : OpenFault → ServeWriting
+  InputLine : InputFault → (name : List ℕ) → ServeWriting
 
--- what an object told before and after a call, with its counts of faults
-abbrev pub report_of : {T : Type 0} → Option T → Option T → ℕ → ℕ → StreamReport T
-report_of old new faults_old faults_new = record { old = old; new = new; faults_old = faults_old; faults_new = faults_new }
-
--- no call of it failed
-abbrev pub HasNotFailed : {T : Type 0} → StreamReport T → Type 0
-HasNotFailed o = o.faults_new ≡ o.faults_old
-
--- a call of it failed
-abbrev pub HasFailed : {T : Type 0} → StreamReport T → Type 0
-HasFailed o = Rose o.faults_old o.faults_new
-
--- nothing was asked of it
-abbrev pub IsUntouched : {T : Type 0} → StreamReport T → Type 0
-IsUntouched o = (o.new ≡ o.old) × HasNotFailed o
-
--- what a call may be writing: of a refusal how many newlines stand before its place, of a content its fault, of a farm why there is none
+-- what a call may be writing: of a refusal how many newlines stand before its place, of a content its fault, of a farm why there is none; the
+-- scenario of a number, and the summary of its events
 pub data Writing : Type 0 where
   Nothing : Writing
   UsageLine : Writing
@@ -53,16 +52,44 @@ pub data Writing : Type 0 where
   ContentLine : ContentFault → Writing
   FarmLine : FarmRefusal → Writing
   Events : Scenario → List Event → Writing
+  Generated : (number : ℕ) → Writing
+  Summary : (number : ℕ) → Scenario → List Event → Writing
+  OfServing : ServeWriting → Writing
+
+-- why no session begins
+abbrev pub opening_text : OpenFault → List ℕ
+opening_text open_fault.Foreign = codes "docroot foreign"
+opening_text open_fault.EpochEnd = codes "epoch at its end"
+opening_text open_fault.Disk = []
+opening_text open_fault.NoMemory = []
+
+-- why an input wasn't read
+abbrev pub unread_text : InputFault → List ℕ → List ℕ
+unread_text input_fault.Failed name = codes "input failed: " ++ name
+unread_text input_fault.TooLong name = codes "input too long: " ++ name
+unread_text input_fault.NoMemory name = []
+
+-- the text of what is written of serving
+abbrev pub serving_output : ServeWriting → List ℕ
+serving_output (Served words) = codes "served " ++ decimal words.turns ++ 10 ∷ []
+serving_output CutOff = []
+serving_output WorldLine = codes "world failed" ++ 10 ∷ []
+serving_output DocrootLine = codes "docroot failed" ++ 10 ∷ []
+serving_output (OpeningLine fault) = opening_text fault ++ 10 ∷ []
+serving_output (InputLine fault name) = unread_text fault name ++ 10 ∷ []
 
 -- the text of what is written
 abbrev pub output_of : Writing → List ℕ
 output_of Nothing = []
-output_of UsageLine = codes "usage: replay" ++ 10 ∷ []
+output_of UsageLine = codes "usage: replay | soak N | scenario N | serve CONTENT ANY TURNS fresh|warm" ++ 10 ∷ []
 output_of SourceLine = codes "source failed" ++ 10 ∷ []
 output_of (RefusalLine before) = codes "scenario refused at line " ++ decimal (before + 1) ++ 10 ∷ []
 output_of (ContentLine fault) = codes "content refused: " ++ fault_text fault ++ 10 ∷ []
 output_of (FarmLine refusal) = codes "farm refused: " ++ refusal_text refusal ++ 10 ∷ []
 output_of (Events s events) = told_of_events events
+output_of (Generated number) = generated_text number
+output_of (Summary number s events) = summary_text events
+output_of (OfServing w) = serving_output w
 
 -- the whole text was written
 abbrev pub HasWritten : StreamReport (List ℕ) → Writing → Type 0
@@ -71,6 +98,15 @@ HasWritten sink w = (sink.new ≡ held_after sink.old (output_of w)) × HasNotFa
 -- a prefix of it was
 abbrev pub HasWrittenPrefix : StreamReport (List ℕ) → Writing → Type 0
 HasWrittenPrefix sink w = (n : ℕ) × (sink.new ≡ held_after sink.old (take n (output_of w)))
+
+-- A run that serves ends so where all of this was written; a turn that was cut off is no ending's.
+abbrev pub EndsServing : ServeWriting → Ending → Type 0
+EndsServing (Served words) ending = ending ≡ Done
+EndsServing CutOff ending = ⊥
+EndsServing WorldLine ending = ending ≡ WorldFailed
+EndsServing DocrootLine ending = ending ≡ DocrootFailed
+EndsServing (OpeningLine fault) ending = ending ≡ NotOpened
+EndsServing (InputLine fault name) ending = ending ≡ InputFailed
 
 -- The run ends so where all of this was written; nothing is no ending's.
 abbrev pub EndsIn : Writing → Ending → Type 0
@@ -81,6 +117,9 @@ EndsIn (RefusalLine before) ending = ending ≡ Refused
 EndsIn (ContentLine fault) ending = ending ≡ ContentRefused
 EndsIn (FarmLine refusal) ending = ending ≡ FarmRefused
 EndsIn (Events s events) ending = (ending ≡ Done) × IsSession s [] events
+EndsIn (Generated number) ending = ending ≡ Done
+EndsIn (Summary number s events) ending = (ending ≡ Done) × IsSession s [] events
+EndsIn (OfServing w) ending = EndsServing w ending
 
 -- what is due was written whole, and the run ends as after that
 pub record Whole (IsDue : Writing → Type 0) (ending : Ending) (sink : StreamReport (List ℕ)) : Type 0 where
@@ -121,26 +160,33 @@ IsReplay words = words ≡ codes "replay" ∷ []
 abbrev pub AreWordsOf : Option (List (List ℕ)) → List (List ℕ) → Type 0
 AreWordsOf told words = IfSome told (λ all. words ≡ all)
 
--- what is told of one call of `run`, beside the sink
-pub record RunCall : Type 0 where
-  pub words : List (List ℕ)
-  pub source : StreamReport (List ℕ)
-
 -- the call replays, no read failed, and of the source's bytes, where it tells them, this holds
 abbrev pub Replays : RunCall → (List ℕ → Type 0) → Type 0
 Replays c P = IsReplay c.words × HasNotFailed c.source × IfSome c.source.old P
 
+-- what may be written by a call that serves
+abbrev pub IsServingDue : RunCall → ServeWriting → Type 0
+IsServingDue c (Served words) = Serves c words serve_end.Turns
+IsServingDue c CutOff = (words : ServeWords) × Serves c words serve_end.NoMemory
+IsServingDue c WorldLine = (words : ServeWords) × Serves c words serve_end.WorldFailed
+IsServingDue c DocrootLine = FailsToOpen c
+IsServingDue c (OpeningLine fault) = IsNotOpened c fault
+IsServingDue c (InputLine fault name) = LacksInput c fault name
+
 -- What may be written by a call. Each line denies the causes of those before it.
 abbrev pub IsDue : RunCall → Writing → Type 0
-IsDue c Nothing = Unit {0}
-IsDue c UsageLine = (IsReplay c.words → ⊥) × IsUntouched c.source
+IsDue c Nothing = IsWorldUntouched c.world
+IsDue c UsageLine = (IsForm c.words → ⊥) × IsUntouched c.source
 IsDue c SourceLine = IsReplay c.words × HasFailed c.source
 IsDue c (RefusalLine before) = Replays c (λ bytes. IsRefusedWithin longest_scenario IsScenario bytes before) × IsReadOut (longest_scenario + 1) c.source.old c.source.new
-IsDue c (ContentLine fault) = Replays c (λ bytes. (s : Scenario) × ReadsScenario bytes s × (content_of s.content ≡ Err fault)) × IsAtEnd c.source.new
-    × (fault ≢ no_memory)
-IsDue c (FarmLine refusal) = Replays c (λ bytes. (s : Scenario) × ReadsScenario bytes s × HasContent s × (farm_in (farm_text s.farm) ≡ Err refusal))
-    × IsAtEnd c.source.new × (is_out_of_memory refusal ≡ false)
+IsDue c (ContentLine fault) = (Replays c (λ bytes. (s : Scenario) × ReadsScenario bytes s × (content_of s.content ≡ Err fault)) × IsAtEnd c.source.new
+    × (fault ≢ no_memory)) ⊎ LacksContent c fault
+IsDue c (FarmLine refusal) = (Replays c (λ bytes. (s : Scenario) × ReadsScenario bytes s × HasContent s × (farm_in (farm_text s.farm) ≡ Err refusal))
+    × IsAtEnd c.source.new × (is_out_of_memory refusal ≡ false)) ⊎ LacksFarm c refusal
 IsDue c (Events s events) = Replays c (λ bytes. ReadsScenario bytes s) × IsAtEnd c.source.new × IsRunOf s events
+IsDue c (Generated number) = Asks c.words (form.Scenario number) × IsUntouched c.source
+IsDue c (Summary number s events) = Asks c.words (form.Soak number) × IsUntouched c.source × ReadsScenario (generated_text number) s × IsRunOf s events
+IsDue c (OfServing w) = IsServingDue c w
 
 -- the exit status of an ending
 abbrev pub ending_status : Ending → ℕ
@@ -151,4 +197,8 @@ ending_status SinkFailed = 4
 ending_status Refused = 5
 ending_status ContentRefused = 6
 ending_status FarmRefused = 7
+ending_status DocrootFailed = 8
+ending_status WorldFailed = 9
+ending_status InputFailed = 10
+ending_status NotOpened = 11
 ending_status NoMemory = 70

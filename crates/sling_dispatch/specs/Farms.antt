@@ -1,5 +1,5 @@
 -- Which farm a scenario has.
-use Rattle.std.specs.Prelude.{◌≡◌, ℕ, Bool, true, false, List, Option, Some, None, Result, Ok, Err}
+use Rattle.std.specs.Prelude.{ℕ, Bool, true, false, List, Option, Some, None, Result, Ok, Err}
 use Rattle.any_config.specs.Farms.{farm_of}
 use Rattle.any_config.specs.Read.{any_of}
 use Rattle.any_config.specs.declared.standard.TheConstants.{STANDARD_FARM}

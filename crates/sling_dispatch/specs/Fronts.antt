@@ -1,5 +1,5 @@
 -- Scaffolding: what a front makes of a line, for the private functions of the run and for proofs alone.
-use Rattle.std.specs.Prelude.{◌≡◌, ◌+◌, ◌++◌, ◌∷◌, [], Bool, false, List, Option, Some, None, ℕ}
+use Rattle.std.specs.Prelude.{◌≡◌, ◌+◌, ◌++◌, ◌∷◌, [], false, List, Option, Some, None, ℕ}
 use Rattle.replay_text.specs.EventLines.{line_of, IsEventLine}
 use Rattle.replay_text.specs.Transcript.{event_text}
 use Rattle.replay_text.specs.declared.event_line.EventLine.{EventLine}
@@ -31,6 +31,24 @@ pub record IsNext (host lines rest : List ℕ) (old new : Session) (text : List 
   pub is_line : IsEventLine act
   pub lines_are : lines ≡ line_of act ++ 10 ∷ rest
   pub played : IsPlayed (step_of host act) old new text
+
+-- A line without a step has no event, and plans a failure. A step has one, with these notes.
+abbrev pub IsMade : Option Step → Session → Session → Option (List Note) → Type 0
+IsMade None old new None = ((w : RunState) → SessionStandsFor old w → SessionStandsFor new w) × (new.disk.spent ≡ false) × (new.event ≡ old.event)
+IsMade (Some step) old new (Some notes) = Extends (SessionStandsFor old) (SessionStandsFor new) (fault_count old.disk.spent) (fault_count new.disk.spent) step notes × (new.event ≡ old.event + 1)
+IsMade _ old new _ = ⊥
+
+-- An act stands first, and its event was made, if it has one: these are its notes, and the session stands then for what is left.
+pub record IsNextEvent (host lines rest : List ℕ) (old new : Session) (notes : Option (List Note)) : Type 0 where
+  pub act : EventLine
+  pub is_line : IsEventLine act
+  pub lines_are : lines ≡ line_of act ++ 10 ∷ rest
+  pub made : IsMade (step_of host act) old new notes
+
+-- the lines of an event, where there is one
+abbrev pub lines_of_event : ℕ → Option (List Note) → List ℕ
+lines_of_event event None = []
+lines_of_event event (Some notes) = event_text event notes
 
 -- the step that a task asks for, where it asks for one
 abbrev pub step_of_task : Task → Option Step

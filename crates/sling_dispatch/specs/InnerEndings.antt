@@ -10,7 +10,8 @@ use Rattle.content_json.specs.declared.fault.ContentFault.{ContentFault}
 use Rattle.content_json.specs.declared.fault.ContentFault.TheVariants.{NoMemory as no_memory}
 use Rattle.replay_text.specs.Languages.{IsRefusedWithin}
 use Rattle.replay_text.specs.Scenario.{IsActs, IsScenario, ReadsScenario, longest_scenario}
-use Rattle.sling_dispatch.specs.Endings.{StreamReport, HasNotFailed, HasFailed, Writing, Nothing, RefusalLine, ContentLine, FarmLine, Events, Means, HasContent, IsRunOf}
+use Rattle.sling_dispatch.specs.Reports.{StreamReport, HasNotFailed, HasFailed}
+use Rattle.sling_dispatch.specs.Endings.{Writing, Nothing, RefusalLine, ContentLine, FarmLine, Events, Means, HasContent, IsRunOf}
 use Rattle.sling_dispatch.specs.Farms.{farm_in, farm_text, is_out_of_memory}
 use Rattle.any_config.specs.declared.farm.Farm.{Farm}
 use Rattle.sling_dispatch.specs.declared.farms.FarmRefusal.{FarmRefusal}

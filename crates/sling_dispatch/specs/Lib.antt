@@ -9,3 +9,8 @@ pub mod Streams
 pub mod Faults
 pub mod Endings
 pub mod InnerEndings
+pub mod Forms
+pub mod Reports
+pub mod Serving
+pub mod Summaries
+pub mod InnerServing

@@ -1,40 +1,53 @@
 //! The whole program over a command line: the words that it is given, and the status that it ends with.
 ghost use Rattle.std.specs.Prelude.{◌≡◌, ◌+◌, ℕ, List, map, IfOk};
+ghost use Rattle.docroot_changes.specs.DocrootCalls.{MakesDocrootCalls};
+ghost use Rattle.serve_loop.specs.Served.{disk_report, world_report};
 ghost use Rattle.sling_dispatch.specs.declared.ending.Ending.{Ending};
 ghost use Rattle.replay_text.specs.Scenario.{longest_scenario};
 ghost use Rattle.sling_dispatch.specs.Streams.{HasTaken};
-ghost use Rattle.sling_dispatch.specs.Endings.{Means, IsDue, AreWordsOf, report_of, ending_status};
+ghost use Rattle.sling_dispatch.specs.Endings.{Means, IsDue, IsReplay, AreWordsOf, ending_status};
+ghost use Rattle.sling_dispatch.specs.Forms.{IsServe};
+ghost use Rattle.sling_dispatch.specs.Reports.{IsApart, IsUntouched, call_of, report_of};
 
 use crate::ending::Ending;
+use crate::outside::Outside;
 use crate::program::run;
+use docroot_changes::docroot_calls_add_up;
+use outside_world::{Inputs, World};
 use sp_base::{Items, Mem, NoMemory};
-use sp_outside::{CommandWords, Sink, Source, Words};
+use sp_outside::{CommandWords, Disk, Sink, Source, Words};
 use std::alloc::Global;
 use std::hash::RandomState;
 
 /// Reads the words of the command line, does what they say, and gives the exit status.
-pub fn command<W: Words, S: Source, K: Sink>(
+pub fn command<L: Words, S: Source, K: Sink, I: Inputs, D: Disk, W: World>(
     alloc: Global,
     seeds: RandomState,
-    line: &W,
-    source: &mut S,
-    sink: &mut K,
+    line: &L,
+    outside: &mut Outside<S, K, I, D, W>,
 ) -> u8
-    ensures taken { HasTaken (longest_scenario + 1) (S.left source.old) (S.left source.new) }
-    ensures ending { (words : List (List ℕ)) × AreWordsOf (W.told line.now) words × (e : Ending) × (result ≡ ending_status e) × Means
-        (IsDue (record {
-          words = words;
-          source = report_of (S.left source.old) (S.left source.new) (S.faults source.old) (S.faults source.new);
-        }))
-        e (report_of (K.held sink.old) (K.held sink.new) (K.faults sink.old) (K.faults sink.new)) }
+    ensures taken { HasTaken (longest_scenario + 1) (S.left outside.old.source) (S.left outside.new.source) }
+    ensures ending { (words : List (List ℕ)) × AreWordsOf (L.told line.now) words × (e : Ending) × (result ≡ ending_status e) × Means (IsDue (call_of words
+        (report_of (S.left outside.old.source) (S.left outside.new.source) (S.faults outside.old.source) (S.faults outside.new.source))
+        (report_of (I.contents outside.old.inputs) (I.contents outside.new.inputs) (I.faults outside.old.inputs) (I.faults outside.new.inputs))
+        (disk_report (D.files outside.old.disk) (D.files outside.new.disk) (D.faults outside.old.disk) (D.faults outside.new.disk))
+        (world_report (W.log outside.old.world) (W.log outside.new.world) (W.next_faults outside.old.world) (W.next_faults outside.new.world) (W.send_faults outside.old.world) (W.send_faults outside.new.world)))) e
+        (report_of (K.held outside.old.sink) (K.held outside.new.sink) (K.faults outside.old.sink) (K.faults outside.new.sink)) × ((IsServe words → ⊥) → IsApart (call_of words
+        (report_of (S.left outside.old.source) (S.left outside.new.source) (S.faults outside.old.source) (S.faults outside.new.source))
+        (report_of (I.contents outside.old.inputs) (I.contents outside.new.inputs) (I.faults outside.old.inputs) (I.faults outside.new.inputs))
+        (disk_report (D.files outside.old.disk) (D.files outside.new.disk) (D.faults outside.old.disk) (D.faults outside.new.disk))
+        (world_report (W.log outside.old.world) (W.log outside.new.world) (W.next_faults outside.old.world) (W.next_faults outside.new.world) (W.send_faults outside.old.world) (W.send_faults outside.new.world))) × (D.calls outside.new.disk ≡ D.calls outside.old.disk))
+        × ((IsReplay words → ⊥) → IsUntouched (report_of (S.left outside.old.source) (S.left outside.new.source) (S.faults outside.old.source) (S.faults outside.new.source))) }
+    ensures calls { MakesDocrootCalls (D.calls outside.old.disk) (D.calls outside.new.disk) }
 {
+    docroot_calls_add_up();
     let Ok(words) = words_of(alloc, line) else {
         return Ending::NoMemory.status();
     };
     let Ok(slices) = slices_of(alloc, &words) else {
         return Ending::NoMemory.status();
     };
-    run(alloc, seeds, &slices, source, sink)
+    run(alloc, seeds, &slices, outside)
 }
 
 // The words of the command line.

@@ -17,6 +17,14 @@ pub enum Ending {
     ContentRefused,
     /// The farm's text has no reading.
     FarmRefused,
+    /// The disk failed before the first turn.
+    DocrootFailed,
+    /// What comes next couldn't be asked.
+    WorldFailed,
+    /// An input couldn't be read.
+    InputFailed,
+    /// The number of the session is of another form, or at its end.
+    NotOpened,
     NoMemory,
 }
 
@@ -33,6 +41,10 @@ impl Ending {
             Ending::Refused => 5,
             Ending::ContentRefused => 6,
             Ending::FarmRefused => 7,
+            Ending::DocrootFailed => 8,
+            Ending::WorldFailed => 9,
+            Ending::InputFailed => 10,
+            Ending::NotOpened => 11,
             Ending::NoMemory => 70,
         }
     }

@@ -1,11 +1,12 @@
 //! How a refusal is written.
 ghost use Rattle.std.specs.Prelude.{◌≡◌, ◌+◌, ◌<◌, ◌^◌, ◌++◌, ◌↔◌, IfOk, OnOk, IsTrue};
 ghost use Rattle.sling_dispatch.specs.Faults.{fault_at_path, fault_at_byte, fault_text, file_fault_text, farm_fault_text, refusal_text};
-ghost use Rattle.sling_dispatch.specs.Endings.{output_of, RefusalLine, ContentLine, FarmLine};
+ghost use Rattle.sling_dispatch.specs.Endings.{output_of, RefusalLine, ContentLine, FarmLine, OfServing, InputLine};
 
 use crate::farms::FarmRefusal;
 use any_config::{AnyFault, FarmFault};
 use content_json::ContentFault;
+use outside_world::InputFault;
 use sp_base::{Mem, Path};
 use std::alloc::Global;
 
@@ -128,6 +129,20 @@ pub fn farm_line(alloc: Global, refusal: &FarmRefusal) -> Mem<Vec<u8>>
     let mut text = Vec::new(alloc);
     text.extend_from_slice(b"farm refused: ")?;
     push_refusal(alloc, &mut text, refusal)?;
+    text.extend_from_slice(b"\n")?;
+    Ok(text)
+}
+
+// The line of an input that wasn't read.
+pub fn unread_line(alloc: Global, fault: InputFault, name: &str) -> Mem<Vec<u8>>
+    ensures { IfOk result (λ text. text.items ≡ output_of (OfServing (InputLine fault name.now))) }
+{
+    let mut text = Vec::new(alloc);
+    match fault {
+        InputFault::Failed => push_member(&mut text, b"input failed: ", name)?,
+        InputFault::TooLong => push_member(&mut text, b"input too long: ", name)?,
+        InputFault::NoMemory => (),
+    }
     text.extend_from_slice(b"\n")?;
     Ok(text)
 }

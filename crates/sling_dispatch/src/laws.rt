@@ -13,9 +13,13 @@ ghost use Rattle.replay_text.specs.Scenario.{ReadsScenario};
 ghost use Rattle.replay_text.specs.Transcript.{told_notes};
 ghost use Rattle.sling_dispatch.specs.SessionLaws.{SessionHitsAreFresh, SessionLogsAreLegal, SessionRepliesInFlightAreNotStored, SessionsServeKeptPages};
 ghost use Rattle.sling_dispatch.specs.SessionsWithMemory.{SessionsWithMemoryAreOne};
-ghost use Rattle.sling_dispatch.specs.Endings.{StreamReport, RunCall, Means, IsDue, IsReplay, HasNotFailed, HasContent, HasFarm};
+ghost use Rattle.sling_dispatch.specs.Endings.{Means, IsDue, IsReplay, HasContent, HasFarm};
+ghost use Rattle.sling_dispatch.specs.Forms.{AsksNumber};
+ghost use Rattle.sling_dispatch.specs.Reports.{StreamReport, RunCall, HasFailed, HasNotFailed};
+ghost use Rattle.sling_dispatch.specs.Serving.{IsServable};
+ghost use Rattle.sling_dispatch.specs.declared.form.ServeWords.{ServeWords};
 ghost use Rattle.sling_dispatch.specs.declared.ending.Ending.{Ending};
-ghost use Rattle.sling_dispatch.specs.declared.ending.Ending.TheVariants.{Done, NoMemory};
+ghost use Rattle.sling_dispatch.specs.declared.ending.Ending.TheVariants.{Done, NoMemory, SinkFailed};
 ghost use Rattle.sling_dispatch.specs.FilterParts.{SeesParts};
 ghost use Rattle.sling_dispatch.specs.Runs.{IsSession, sling_publisher, told_of_events};
 ghost use Rattle.replay_text.specs.declared.event_line.EventLine.{EventLine};
@@ -34,13 +38,19 @@ pub fn spellings_are_answered_alike()
         → direct_answer sling_publisher farm content a ≡ direct_answer sling_publisher farm content b }
 {}
 
-/// Where the words are right, the source's bytes are a scenario whose content and farm have a reading, and neither the source nor the
-/// sink failed, the run is done, unless it ran out of memory.
+/// Where the words are right and nothing outside is in the way, the run is done, unless it ran out of memory. `replay`: the source's bytes
+/// are a scenario whose content and farm have a reading, and neither the source nor the sink failed. `serve`: the inputs have a reading, the
+/// number of the session is of its form and not at its end, and the inputs, what comes next and the sink didn't fail, nor the disk before the
+/// first turn. `scenario` and `soak`: the sink didn't fail.
 pub fn complete()
-    ensures { (c : RunCall) (sink : StreamReport (List ℕ)) (bytes : List ℕ) (s : Scenario) (ending : Ending) → Means (IsDue c) ending sink
+    ensures replay { (c : RunCall) (sink : StreamReport (List ℕ)) (bytes : List ℕ) (s : Scenario) (ending : Ending) → Means (IsDue c) ending sink
         → IsReplay c.words → c.source.old ≡ Some bytes → ReadsScenario bytes s → HasContent s → HasFarm s
         → c.source.faults_old < greatest_u64 → HasNotFailed c.source → sink.faults_old < greatest_u64 → HasNotFailed sink
         → (ending ≡ Done) ⊎ (ending ≡ NoMemory) }
+    ensures serve { (c : RunCall) (sink : StreamReport (List ℕ)) (words : ServeWords) (ending : Ending) → Means (IsDue c) ending sink → IsServable c words
+        → sink.faults_old < greatest_u64 → HasNotFailed sink → (ending ≡ Done) ⊎ (ending ≡ NoMemory) }
+    ensures numbered { (c : RunCall) (sink : StreamReport (List ℕ)) (ending : Ending) → Means (IsDue c) ending sink → AsksNumber c.words
+        → (ending ≡ Done) ⊎ ((ending ≡ NoMemory) ⊎ ((ending ≡ SinkFailed) × HasFailed sink)) }
 {
     one_reading();
 }

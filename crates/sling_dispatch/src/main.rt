@@ -1,33 +1,58 @@
-//! Replays a scenario: reads it from the standard input, and writes what happens to the standard output.
+//! The program: does what the words of its command line say, from the standard input, the files of the system and clients at a port to
+//! the standard output.
 #![tactic(auto)]
 
 mod command;
 mod ending;
 mod farms;
 mod faults;
+mod form;
 mod laws;
+mod opening;
+mod outside;
 mod play;
 mod program;
+mod refusals;
 mod renderer;
+mod replaying;
 mod scripted_disk;
+mod serving;
 mod session;
+mod soak;
 mod steps;
 mod streams;
+mod summary;
+mod telling;
 
 use command::command;
 use ending::Ending;
-use sp_outside::{RealSink, RealSource, RealWords};
+use outside::Outside;
+use outside_world::RealInputs;
+use sockets::RealWorld;
+use sp_outside::{RealDisk, RealSink, RealSource, RealWords};
 use std::hash::RandomState;
 use std::process::ExitCode;
 
+// The port that clients come to.
+const PORT: u16 = 8080;
+
 fn main(rt: HostRuntime) -> ExitCode {
     let words = RealWords::new(&rt);
-    let mut source = RealSource::new(rt.reader());
-    let mut sink = RealSink::new(&rt);
-    let status = match RandomState::new(&rt) {
-        Ok(seeds) => command(rt.alloc(), seeds, &words, &mut source, &mut sink),
-        // Without seeds the table of paths could be attacked.
-        Err(_) => Ending::NoMemory.status(),
+    let Ok(disk) = RealDisk::new(&rt) else {
+        return ExitCode::from(Ending::NoMemory.status());
     };
+    // Without seeds the table of paths could be attacked.
+    let Ok(seeds) = RandomState::new(&rt) else {
+        return ExitCode::from(Ending::NoMemory.status());
+    };
+    let mut outside = Outside {
+        source: RealSource::new(rt.reader()),
+        sink: RealSink::new(&rt),
+        inputs: RealInputs::new(&rt),
+        disk,
+        world: RealWorld::new(&rt, PORT),
+    };
+    let status = command(rt.alloc(), seeds, &words, &mut outside);
+    outside.world.finish();
     ExitCode::from(status)
 }

@@ -2,12 +2,13 @@
 ghost use Rattle.std.specs.Prelude.{◌≡◌, ◌++◌, ℕ, List, IfOk, OnOk, OnErr, take, true, false};
 ghost use Rattle.sp_outside.specs.Told.{held_after};
 ghost use Rattle.sp_outside.specs.Causes.{HasSinkCause};
-ghost use Rattle.sling_dispatch.specs.Endings.{report_of};
-ghost use Rattle.sling_dispatch.specs.InnerEndings.{AreActLines, TellsText, ending_by, PlaysAll};
+ghost use Rattle.sling_dispatch.specs.Reports.{report_of};
+ghost use Rattle.sling_dispatch.specs.InnerEndings.{AreActLines, PlaysAll};
 
 use crate::ending::Ending;
 use crate::session::Session;
 use crate::streams::write_all;
+use crate::telling::{ending_by, say};
 use any_config::Farm;
 use publisher::Publisher;
 use replay_text::acts_are_told_by_their_lines;
@@ -18,26 +19,6 @@ use std::mem::forget;
 
 // How many bytes are gathered before they are written.
 const GATHERED_BYTES: usize = 65_536;
-
-// Writes a text, after which the run ends so.
-pub fn say<K: Sink>(sink: &mut K, text: &[u8], good: Ending) -> Ending
-    ensures { TellsText good text.now result (report_of (K.held sink.old) (K.held sink.new) (K.faults sink.old) (K.faults sink.new)) }
-{
-    match write_all(sink, text) {
-        Ok(()) => good,
-        Err(fault) => ending_by(fault),
-    }
-}
-
-// How a run ends at a fault of its sink.
-fn ending_by(fault: SinkFault) -> Ending
-    ensures { result ≡ ending_by fault }
-{
-    match fault {
-        SinkFault::Failed => Ending::SinkFailed,
-        SinkFault::NoMemory => Ending::NoMemory,
-    }
-}
 
 // Makes the events of acts, and writes their transcript. What was gathered is written whatever the run ends with.
 pub fn play<K: Sink>(

@@ -1,65 +1,112 @@
-//! The run: what the words say is done, from the source to the sink.
-ghost use Rattle.std.specs.Prelude.{◌≡◌, ◌↔◌, ◌+◌, Ok, Err, false, map, IsTrue, IfOk, IfErr, OnErr};
+//! The run: what the words say is done, from the source, the inputs, the disk and the world to the sink.
+ghost use Rattle.std.specs.Prelude.{◌≡◌, ◌+◌, ℕ, List, map};
+ghost use Rattle.replay_text.specs.Scenario.{longest_scenario};
+ghost use Rattle.sp_outside.specs.Files.{Files};
+ghost use Rattle.docroot_changes.specs.DocrootCalls.{MakesDocrootCalls};
+ghost use Rattle.serve_loop.specs.Served.{DiskReport, WorldReport, disk_report, world_report};
 ghost use Rattle.sling_dispatch.specs.declared.ending.Ending.{Ending};
-ghost use Rattle.replay_text.specs.Scenario.{ReadsScenario, IsScenario, longest_scenario};
-ghost use Rattle.replay_text.specs.Languages.{RefusesWithin};
 ghost use Rattle.sling_dispatch.specs.Streams.{HasTaken};
-ghost use Rattle.sling_dispatch.specs.Endings.{Means, IsDue, IsReplay, IsUntouched, report_of, ending_status};
-ghost use Rattle.sling_dispatch.specs.InnerEndings.{AreActLines, IsDueAt, IsDueIn, IsContentOr, IsFarmOr, PlaysOn, TellsText};
-ghost use Rattle.sling_dispatch.specs.Farms as spec;
+ghost use Rattle.sling_dispatch.specs.Endings.{Means, IsDue, IsReplay, ending_status};
+ghost use Rattle.sling_dispatch.specs.Forms.{IsServe};
+ghost use Rattle.sling_dispatch.specs.InnerServing.{IsScenarioOr, IsSummaryOr};
+ghost use Rattle.sling_dispatch.specs.Reports.{IsApart, IsUntouched, IsWorldUntouched, StreamReport, call_of, report_of};
 
 use crate::ending::Ending;
-use crate::farms::{FarmRefusal, farm_in, farm_text, is_out_of_memory};
-use crate::faults::{content_line, farm_line, is_memory, refusal_line};
-use crate::play::{play, say};
+use crate::form::{Form, form_of};
+use crate::outside::Outside;
+use crate::replaying::replay;
+use crate::serving::serve_named;
+use crate::soak::summary_of;
 use crate::streams::{ReadFault, read_whole};
-use any_config::Farm;
-use content_json::{ContentFault, read_tree};
-use publisher::Publisher;
-use replay_text::{LONGEST_SCENARIO, Scenario, ScenarioFault, read_scenario};
-use sp_base::{ByteBuf, Mem};
-use sp_outside::{Sink, Source};
+use crate::telling::{say, say_line};
+use docroot_changes::docroot_calls_add_up;
+use outside_world::{Inputs, World};
+use replay_text::LONGEST_SCENARIO;
+use soak_scenarios::generated;
+use sp_outside::{Disk, Sink, Source};
 use std::alloc::Global;
 use std::hash::RandomState;
 
 /// Does what the words say, and gives the exit status.
 /// The seeds key the tables of paths, which authors of content pick.
-pub fn run<S: Source, K: Sink>(
+pub fn run<S: Source, K: Sink, I: Inputs, D: Disk, W: World>(
     alloc: Global,
     seeds: RandomState,
     words: &[&[u8]],
-    source: &mut S,
-    sink: &mut K,
+    outside: &mut Outside<S, K, I, D, W>,
 ) -> u8
-    ensures taken { HasTaken (longest_scenario + 1) (S.left source.old) (S.left source.new) }
-    ensures ending { (e : Ending) × (result ≡ ending_status e) × Means
-        (IsDue (record {
-          words = map (λ w. w.now) words.now;
-          source = report_of (S.left source.old) (S.left source.new) (S.faults source.old) (S.faults source.new);
-        }))
-        e (report_of (K.held sink.old) (K.held sink.new) (K.faults sink.old) (K.faults sink.new)) }
+    ensures taken { HasTaken (longest_scenario + 1) (S.left outside.old.source) (S.left outside.new.source) }
+    ensures ending { (e : Ending) × (result ≡ ending_status e) × Means (IsDue (call_of (map (λ w. w.now) words.now)
+        (report_of (S.left outside.old.source) (S.left outside.new.source) (S.faults outside.old.source) (S.faults outside.new.source))
+        (report_of (I.contents outside.old.inputs) (I.contents outside.new.inputs) (I.faults outside.old.inputs) (I.faults outside.new.inputs))
+        (disk_report (D.files outside.old.disk) (D.files outside.new.disk) (D.faults outside.old.disk) (D.faults outside.new.disk))
+        (world_report (W.log outside.old.world) (W.log outside.new.world) (W.next_faults outside.old.world) (W.next_faults outside.new.world) (W.send_faults outside.old.world) (W.send_faults outside.new.world)))) e
+        (report_of (K.held outside.old.sink) (K.held outside.new.sink) (K.faults outside.old.sink) (K.faults outside.new.sink)) }
+    ensures apart { (IsServe (map (λ w. w.now) words.now) → ⊥) → IsApart (call_of (map (λ w. w.now) words.now)
+        (report_of (S.left outside.old.source) (S.left outside.new.source) (S.faults outside.old.source) (S.faults outside.new.source))
+        (report_of (I.contents outside.old.inputs) (I.contents outside.new.inputs) (I.faults outside.old.inputs) (I.faults outside.new.inputs))
+        (disk_report (D.files outside.old.disk) (D.files outside.new.disk) (D.faults outside.old.disk) (D.faults outside.new.disk))
+        (world_report (W.log outside.old.world) (W.log outside.new.world) (W.next_faults outside.old.world) (W.next_faults outside.new.world) (W.send_faults outside.old.world) (W.send_faults outside.new.world))) }
+    ensures calls { MakesDocrootCalls (D.calls outside.old.disk) (D.calls outside.new.disk) }
+    ensures uncalled { (IsServe (map (λ w. w.now) words.now) → ⊥) → D.calls outside.new.disk ≡ D.calls outside.old.disk }
+    ensures source { (IsReplay (map (λ w. w.now) words.now) → ⊥) → IsUntouched (report_of (S.left outside.old.source) (S.left outside.new.source) (S.faults outside.old.source) (S.faults outside.new.source)) }
 {
-    ending(alloc, seeds, words, source, sink).status()
+    ending(alloc, seeds, words, outside).status()
 }
 
-fn ending<S: Source, K: Sink>(
+fn ending<S: Source, K: Sink, I: Inputs, D: Disk, W: World>(
     alloc: Global,
     seeds: RandomState,
     words: &[&[u8]],
+    outside: &mut Outside<S, K, I, D, W>,
+) -> Ending
+    ensures taken { HasTaken (longest_scenario + 1) (S.left outside.old.source) (S.left outside.new.source) }
+    ensures ending { Means (IsDue (call_of (map (λ w. w.now) words.now)
+        (report_of (S.left outside.old.source) (S.left outside.new.source) (S.faults outside.old.source) (S.faults outside.new.source))
+        (report_of (I.contents outside.old.inputs) (I.contents outside.new.inputs) (I.faults outside.old.inputs) (I.faults outside.new.inputs))
+        (disk_report (D.files outside.old.disk) (D.files outside.new.disk) (D.faults outside.old.disk) (D.faults outside.new.disk))
+        (world_report (W.log outside.old.world) (W.log outside.new.world) (W.next_faults outside.old.world) (W.next_faults outside.new.world) (W.send_faults outside.old.world) (W.send_faults outside.new.world)))) result
+        (report_of (K.held outside.old.sink) (K.held outside.new.sink) (K.faults outside.old.sink) (K.faults outside.new.sink)) }
+    ensures apart { (IsServe (map (λ w. w.now) words.now) → ⊥) → IsApart (call_of (map (λ w. w.now) words.now)
+        (report_of (S.left outside.old.source) (S.left outside.new.source) (S.faults outside.old.source) (S.faults outside.new.source))
+        (report_of (I.contents outside.old.inputs) (I.contents outside.new.inputs) (I.faults outside.old.inputs) (I.faults outside.new.inputs))
+        (disk_report (D.files outside.old.disk) (D.files outside.new.disk) (D.faults outside.old.disk) (D.faults outside.new.disk))
+        (world_report (W.log outside.old.world) (W.log outside.new.world) (W.next_faults outside.old.world) (W.next_faults outside.new.world) (W.send_faults outside.old.world) (W.send_faults outside.new.world))) }
+    ensures calls { MakesDocrootCalls (D.calls outside.old.disk) (D.calls outside.new.disk) }
+    ensures uncalled { (IsServe (map (λ w. w.now) words.now) → ⊥) → D.calls outside.new.disk ≡ D.calls outside.old.disk }
+    ensures source { (IsReplay (map (λ w. w.now) words.now) → ⊥) → IsUntouched (report_of (S.left outside.old.source) (S.left outside.new.source) (S.faults outside.old.source) (S.faults outside.new.source)) }
+{
+    docroot_calls_add_up();
+    let Ok(asked) = form_of(alloc, words) else {
+        return Ending::NoMemory;
+    };
+    let Some(form) = asked else {
+        return say(
+            &mut outside.sink,
+            b"usage: replay | soak N | scenario N | serve CONTENT ANY TURNS fresh|warm\n",
+            Ending::Usage,
+        );
+    };
+    match form {
+        Form::Replay => { replay_source(alloc, seeds, &mut outside.source, &mut outside.sink) }
+        Form::Scenario(number) => write_scenario(alloc, number, &mut outside.sink),
+        Form::Soak(number) => soak(alloc, seeds, number, &mut outside.sink),
+        Form::Serve(words) => serve_named(alloc, seeds, words, outside),
+    }
+}
+
+// Runs the scenario that a source holds.
+fn replay_source<S: Source, K: Sink>(
+    alloc: Global,
+    seeds: RandomState,
     source: &mut S,
     sink: &mut K,
 ) -> Ending
     ensures taken { HasTaken (longest_scenario + 1) (S.left source.old) (S.left source.new) }
-    ensures ending { Means
-        (IsDue (record {
-          words = map (λ w. w.now) words.now;
-          source = report_of (S.left source.old) (S.left source.new) (S.faults source.old) (S.faults source.new);
-        }))
+    ensures ending { (asked : List (List ℕ)) (inputs : StreamReport Files) (disk : DiskReport) (world : WorldReport) → IsReplay asked → IsWorldUntouched world → Means
+        (IsDue (call_of asked (report_of (S.left source.old) (S.left source.new) (S.faults source.old) (S.faults source.new)) inputs disk world))
         result (report_of (K.held sink.old) (K.held sink.new) (K.faults sink.old) (K.faults sink.new)) }
 {
-    if !is_replay(words) {
-        return say(sink, b"usage: replay\n", Ending::Usage);
-    }
     match read_whole(alloc, source, LONGEST_SCENARIO) {
         Ok(text) => replay(alloc, seeds, text, sink),
         Err(ReadFault::Failed) => say(sink, b"source failed\n", Ending::SourceFailed),
@@ -67,118 +114,16 @@ fn ending<S: Source, K: Sink>(
     }
 }
 
-fn is_same(a: &[u8], b: &[u8]) -> bool
-    ensures { IsTrue result ↔ (a.now ≡ b.now) }
+// Writes the scenario that is made from a number.
+fn write_scenario<K: Sink>(alloc: Global, number: u32, sink: &mut K) -> Ending
+    ensures { Means (IsScenarioOr number) result (report_of (K.held sink.old) (K.held sink.new) (K.faults sink.old) (K.faults sink.new)) }
 {
-    a == b
+    say_line(sink, generated(alloc, number), Ending::Done)
 }
 
-fn is_replay(words: &[&[u8]]) -> bool
-    ensures { IsTrue result ↔ IsReplay (map (λ w. w.now) words.now) }
+// Runs the scenario that is made from a number, and writes the summary of its events.
+fn soak<K: Sink>(alloc: Global, seeds: RandomState, number: u32, sink: &mut K) -> Ending
+    ensures { Means (IsSummaryOr number) result (report_of (K.held sink.old) (K.held sink.new) (K.faults sink.old) (K.faults sink.new)) }
 {
-    match words {
-        [word] => is_same(word, b"replay"),
-        _ => false,
-    }
-}
-
-// Writes a line, where memory was there to make it, after which the run ends so.
-fn say_line<K: Sink>(sink: &mut K, line: Mem<Vec<u8>>, good: Ending) -> Ending
-    ensures made { IfOk line (λ text. TellsText good text.items result (report_of (K.held sink.old) (K.held sink.new) (K.faults sink.old) (K.faults sink.new))) }
-    ensures not_made { OnErr line ((result ≡ Ending.NoMemory) × IsUntouched (report_of (K.held sink.old) (K.held sink.new) (K.faults sink.old) (K.faults sink.new))) }
-{
-    match line {
-        Ok(text) => say(sink, &text, good),
-        Err(_) => Ending::NoMemory,
-    }
-}
-
-// Runs the scenario that a text spells. The text is given up before the content is read.
-fn replay<K: Sink>(alloc: Global, seeds: RandomState, text: Vec<u8>, sink: &mut K) -> Ending
-    ensures { Means (IsDueAt text.items) result (report_of (K.held sink.old) (K.held sink.new) (K.faults sink.old) (K.faults sink.new)) }
-{
-    match scenario_of(alloc, text) {
-        Ok(scenario) => session(alloc, seeds, scenario, sink),
-        Err(ScenarioFault::Line(before)) => {
-            say_line(sink, refusal_line(alloc, before), Ending::Refused)
-        }
-        Err(ScenarioFault::NoMemory) => Ending::NoMemory,
-    }
-}
-
-// The scenario that a text spells, which is given up.
-fn scenario_of(alloc: Global, text: Vec<u8>) -> Result<Scenario, ScenarioFault>
-    ensures ok { IfOk result (λ s. ReadsScenario text.items s) }
-    ensures err { IfErr result (RefusesWithin longest_scenario IsScenario text.items) }
-{
-    read_scenario(alloc, &text)
-}
-
-// Runs a scenario. The bytes of its content are given up before the run begins.
-fn session<K: Sink>(alloc: Global, seeds: RandomState, scenario: Scenario, sink: &mut K) -> Ending
-    requires { AreActLines scenario.acts }
-    ensures { Means (IsDueIn scenario) result (report_of (K.held sink.old) (K.held sink.new) (K.faults sink.old) (K.faults sink.new)) }
-{
-    let Scenario {
-        content,
-        farm,
-        acts,
-    } = scenario;
-    let read = read_tree(alloc, seeds, content.bytes());
-    drop(content);
-    match read {
-        Ok(tree) => run_on(
-            alloc,
-            Publisher::new(alloc, seeds, tree),
-            farm,
-            acts.bytes(),
-            sink,
-        ),
-        Err(fault) => refuse_content(alloc, &fault, sink),
-    }
-}
-
-// The farm that a text gives, or the standard one. The text is given up.
-fn farm_given(alloc: Global, given: Option<ByteBuf>) -> Result<Farm, FarmRefusal>
-    ensures ok { IfOk result (λ farm. spec.farm_in (spec.farm_text given) ≡ Ok farm) }
-    ensures err { IfErr result (λ refusal. spec.is_out_of_memory refusal ≡ false → spec.farm_in (spec.farm_text given) ≡ Err refusal) }
-{
-    farm_in(alloc, farm_text(&given))
-}
-
-// Makes the events of acts on a content, before the farm that a text gives.
-fn run_on<K: Sink>(
-    alloc: Global,
-    publisher: Publisher,
-    given: Option<ByteBuf>,
-    acts: &[u8],
-    sink: &mut K,
-) -> Ending
-    requires { AreActLines acts.now }
-    ensures { PlaysOn publisher given acts.now result (report_of (K.held sink.old) (K.held sink.new) (K.faults sink.old) (K.faults sink.new)) }
-{
-    match farm_given(alloc, given) {
-        Ok(farm) => play(alloc, publisher, farm, acts, sink),
-        Err(refusal) => refuse_farm(alloc, &refusal, sink),
-    }
-}
-
-// Says why the content is refused.
-fn refuse_content<K: Sink>(alloc: Global, fault: &ContentFault, sink: &mut K) -> Ending
-    ensures { Means (IsContentOr fault.now) result (report_of (K.held sink.old) (K.held sink.new) (K.faults sink.old) (K.faults sink.new)) }
-{
-    if is_memory(fault) {
-        return Ending::NoMemory;
-    }
-    say_line(sink, content_line(alloc, fault), Ending::ContentRefused)
-}
-
-// Says why the farm is refused.
-fn refuse_farm<K: Sink>(alloc: Global, refusal: &FarmRefusal, sink: &mut K) -> Ending
-    ensures { Means (IsFarmOr refusal.now) result (report_of (K.held sink.old) (K.held sink.new) (K.faults sink.old) (K.faults sink.new)) }
-{
-    if is_out_of_memory(refusal) {
-        return Ending::NoMemory;
-    }
-    say_line(sink, farm_line(alloc, refusal), Ending::FarmRefused)
+    say_line(sink, summary_of(alloc, seeds, number), Ending::Done)
 }

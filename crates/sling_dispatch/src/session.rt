@@ -1,7 +1,7 @@
 //! A scenario's session: a front before the publisher, the disk of its cache, and what was played so far.
 ghost use Rattle.std.specs.Prelude.{◌≡◌, ◌≢◌, ◌+◌, ◌≤◌, ◌<◌, ◌^◌, [], Some, IfOk, OnOk, length, true};
 ghost use Rattle.run_events.specs.States.{start_of};
-ghost use Rattle.sling_dispatch.specs.Fronts.{IsNext, IsPlayed, SessionStandsFor};
+ghost use Rattle.sling_dispatch.specs.Fronts.{IsMade, IsNext, IsNextEvent, SessionStandsFor, lines_of_event};
 ghost use Rattle.sling_dispatch.specs.InnerEndings.{AreActLines};
 ghost use Rattle.sling_dispatch.specs.Runs.{asked_publisher_host, sling_start};
 
@@ -11,7 +11,7 @@ use crate::steps::{Task, asked_host, task_of};
 use any_config::Farm;
 use cache_files::empty_files_hold_no_page;
 use coherence_core::no_files_hold_the_empty_log;
-use front::{Front, Step, a_front_stands_whatever_the_count};
+use front::{Front, NoteList, Step, a_front_stands_whatever_the_count};
 use publisher::Publisher;
 use replay_text::{acts_are_told_by_their_lines, first_act, write_notes};
 use sp_base::{Mem, NoMemory};
@@ -58,30 +58,46 @@ impl Session {
         ensures host { self.new.host.items ≡ self.old.host.items }
         ensures counted { OnOk result (self.new.event ≤ self.old.event + 1) }
     {
+        let (notes, rest) = self.play_next(alloc, lines)?;
+        let text = event_lines(alloc, self.event, &notes)?;
+        Ok((text, rest))
+    }
+
+    /// Plays the act whose line stands first: the notes of its event, where it has one, and the lines after that one.
+    pub fn play_next<'a>(
+        &mut self,
+        alloc: Global,
+        lines: &'a [u8],
+    ) -> Mem<(Option<NoteList>, &'a [u8])>
+        requires acts { AreActLines lines.now × (lines.now ≢ []) }
+        requires room { self.old.event + length lines.now < 2 ^ 64 }
+        ensures next { IfOk result (λ p. IsNextEvent self.old.host.items lines.now p.1.now self.old self.new p.0) }
+        ensures host { self.new.host.items ≡ self.old.host.items }
+        ensures counted { OnOk result (self.new.event ≤ self.old.event + 1) }
+    {
         acts_are_told_by_their_lines();
         a_front_stands_whatever_the_count();
         let Some((act, rest)) = first_act(alloc, lines)? else {
             unreachable!();
         };
         match task_of(alloc, &self.host, act)? {
-            Task::Step(step) => Ok((self.event_of(alloc, &step)?, rest)),
+            Task::Step(step) => Ok((Some(self.event_of(alloc, &step)?), rest)),
             Task::Fail(n, way) => {
                 self.disk.fail(n, way);
-                Ok((Vec::new(alloc), rest))
+                Ok((None, rest))
             }
         }
     }
 
-    // The lines of a step's event.
-    fn event_of(&mut self, alloc: Global, step: &Step) -> Mem<Vec<u8>>
+    // The notes of a step's event.
+    fn event_of(&mut self, alloc: Global, step: &Step) -> Mem<NoteList>
         requires { self.old.event + 1 < 2 ^ 64 }
-        ensures played { IfOk result (λ text. IsPlayed (Some step.now) self.old self.new text.items) }
+        ensures made { IfOk result (λ notes. IsMade (Some step.now) self.old self.new (Some notes)) }
         ensures host { self.new.host.items ≡ self.old.host.items }
     {
         let notes = self.front.step(alloc, &mut self.disk, step)?;
         self.event += 1;
-        let text = write_notes(alloc, self.event, notes.as_slice())?;
-        Ok(text)
+        Ok(notes)
     }
 
     /// Gives the publisher back.
@@ -94,5 +110,15 @@ impl Session {
         } = self;
         let PublisherRenderer { publisher } = front.end();
         publisher
+    }
+}
+
+// The lines of an event with this number, where there is one.
+fn event_lines(alloc: Global, event: u64, notes: &Option<NoteList>) -> Mem<Vec<u8>>
+    ensures { IfOk result (λ text. text.items ≡ lines_of_event event notes.now) }
+{
+    match notes {
+        Some(notes) => write_notes(alloc, event, notes.as_slice()),
+        None => Ok(Vec::new(alloc)),
     }
 }

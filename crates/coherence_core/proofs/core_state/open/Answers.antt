@@ -1,4 +1,5 @@
 use Rattle.std.specs.Prelude.{Err, Ok}
+use Rattle.coherence_core.proofs.OpeningLemmas.{opens, unopened}
 use Rattle.coherence_core.proofs.StartLemmas.{begins, keeps_told}
 use Rattle.coherence_core.proofs.core_state.open.Goals as goal
 
@@ -7,3 +8,9 @@ returns-in-Ok-clause-log g c = λ farm core fresh. begins farm (c.coverage_by_th
 
 pub returns-in-Err-clause-left : goal.returns-in-Err-clause-left
 returns-in-Err-clause-left g c = λ farm. keeps_told farm (c.coverage_by_three_facts.ensures farm) _ _ (g.D.Disk.files c.args.disk.now) (g.D.Disk.files c.open_epoch.new.disk) c.in-Err.fault (c.what_an_opening_sets.ensures.stopped (Err c.in-Err.fault) _ _ _ _ c.in-Err.ensures.left) c.in-Err.ensures.left c.a_failed_opening_leaves_the_old_number_or_the_next.ensures.beside c.names_are_apart.ensures.epoch_stat
+
+pub returns-in-Ok-clause-opens : goal.returns-in-Ok-clause-opens
+returns-in-Ok-clause-opens g c = opens c.in-Ok.epoch (g.D.Disk.files c.args.disk.now) (g.D.Disk.files c.open_epoch.new.disk) (c.what_an_opening_sets.ensures.opened (Ok c.in-Ok.epoch) _ _ c.in-Ok.ensures.ok c.in-Ok.ensures.after)
+
+pub returns-in-Err-clause-unopened : goal.returns-in-Err-clause-unopened
+returns-in-Err-clause-unopened g c = unopened _ _ (g.D.Disk.files c.args.disk.now) (g.D.Disk.files c.open_epoch.new.disk) c.in-Err.fault c.in-Err.ensures.left

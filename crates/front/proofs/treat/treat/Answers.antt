@@ -12,9 +12,9 @@ returns-then-is_crowded-clause-given g c =
 
 pub returns-clause-given : goal.returns-clause-given
 returns-clause-given g c = λ w owes.
-    let answered = c.in_ok-note.field-0 in
+    let answered = c.request-note.result in
     let room = sym (c.is_crowded.ensures owes.connection owes.owes.answers) ∙ c.if-is_crowded.false in
-    let is = c.in_ok-note.ensures w (asks-cache w c.args.c c.args.connection.now _ c.args.request c.peer.result.now owes room c.peer.ensures) in
+    let is = c.request-note.ensures.given w (asks-cache w c.args.c c.args.connection.now _ c.args.request c.peer.result.now owes room c.peer.ensures) in
     let closing : c.if-closes.push ≡ (answered.closes || c.of_request-place.result.closes) =
     elim c.if-closes.branch [ then-closes v ↦ rw (v.push-is, v.if-closes.true) refl | else-closes v ↦ rw (v.push-is, v.if-closes.false) refl ] in
     given-answer w c.args.c c.args.connection.now c.push.new.self _ _ c.args.request answered owes is

@@ -18,4 +18,4 @@ returns-in-Some-clause-gone g c =
       page = subst (λ o. IfSome o IsPageKey) c.in-Some.is c.in_ok-key.ensures.page;
       path = c.a_page_has_one_key.ensures.path c.args.inv.now.handle c.in-Some.key c.depth-depth.ensures.valid (sym c.in_ok-key.ensures.key ∙ c.in-Some.is);
     } in
-    told_handle_gone c.args.inv.now c.in-Some.key is (λ files. c.pages_have_files_of_their_own.ensures.dropped files c.in-Some.key) c.drop_page.result (g.D.Disk.files c.args.disk.now) (g.D.Disk.files c.drop_page.new.disk) c.drop_page.ensures.ok
+    told_handle_gone c.args.inv.now c.in-Some.key is c.drop_page.result (g.D.Disk.files c.args.disk.now) (g.D.Disk.files c.drop_page.new.disk) c.drop_page.ensures.ok

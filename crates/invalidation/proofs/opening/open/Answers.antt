@@ -41,3 +41,7 @@ returns-clause-opened g c =
     on_ok c.drop_at_handle.result (Told gone y z) (Told (Opened c.args.level inv stamp) x z)
     (λ went. told_then step taken (Opened c.args.level inv stamp) x y z (λ a b d p q. record { between = b; touches = p.0; touched = p.1; takes = q.0; gone = q.1 }) touched
     (told_both (TakesFiles (IsHandlePage inv) 2) gone taken y z (λ a b p q. (p, q)) c.drop_at_handle.ensures.takes went)) c.drop_at_handle.ensures.gone
+
+pub returns-clause-calls : goal.returns-clause-calls
+returns-clause-calls g c =
+    c.docroot_calls_add_up.ensures.more (g.D.Disk.calls c.args.disk.now) (g.D.Disk.calls c.touch_folders.new.disk) (g.D.Disk.calls c.drop_at_handle.new.disk) c.in_ok-touch_folders.ensures.calls c.drop_at_handle.ensures.calls

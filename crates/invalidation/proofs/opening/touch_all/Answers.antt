@@ -18,6 +18,7 @@ loop-folder-preserved g c =
       touched = told_then (TouchedTo folders i stamp) step (TouchedTo folders (i + 1) stamp) (g.D.Disk.files c.args.disk.now) before after
           (λ a b d. touched_more folders i folder stamp c.loop-folder-test.true (sym c.folder-item.is) a b d) c.loop-folder.invariant.touched one;
       faults = c.in_ok-touch_folder.ensures.cause ∙ c.loop-folder.invariant.faults;
+      calls = c.docroot_calls_add_up.ensures.more (g.D.Disk.calls c.args.disk.now) (g.D.Disk.calls c.loop-folder.disk) (g.D.Disk.calls c.touch_folder.new.disk) c.loop-folder.invariant.calls c.in_ok-touch_folder.ensures.calls;
     }
 
 pub returns-in_err-touch_folder-clause-touches : goal.returns-in_err-touch_folder-clause-touches
@@ -40,3 +41,10 @@ returns-clause-touched g c =
     let folders = c.args.folders.now in
     let i = c.loop-folder.folder-index in
     told_as (TouchedTo folders i c.args.stamp) (λ a b. AreTouched folders c.args.stamp b) _ _ (λ a b done. (touched_all folders i c.args.stamp (omega (arith, c.loop-folder-test.false, c.loop-folder.auto.folder-index-end)) a b done).1) c.loop-folder.invariant.touched
+
+pub returns-in_err-touch_folder-clause-calls : goal.returns-in_err-touch_folder-clause-calls
+returns-in_err-touch_folder-clause-calls g c =
+    c.docroot_calls_add_up.ensures.more (g.D.Disk.calls c.args.disk.now) (g.D.Disk.calls c.loop-folder.disk) (g.D.Disk.calls c.touch_folder.new.disk) c.loop-folder.invariant.calls c.touch_folder.ensures.calls
+
+pub returns-clause-calls : goal.returns-clause-calls
+returns-clause-calls g c = c.loop-folder.invariant.calls

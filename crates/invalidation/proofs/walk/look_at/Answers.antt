@@ -1,7 +1,11 @@
-use Rattle.std.proofs.Common.{◌≡◌, Some, List, ℕ, sym, ◌∙◌, ap, arith, length, subst, take}
-use Rattle.std.specs.Prelude.{IfSome}
+use Rattle.std.proofs.Common.{◌≡◌, [], ◌∷◌, Bool, Option, Some, List, ℕ, sym, ◌∙◌, ap, arith, length, subst, take}
+use Rattle.std.specs.Prelude.{Contains, IfSome, ◌<◌, is_ok, slice_get}
+use Rattle.std.proofs.lemmas.Option.{get_or_from_slice_get}
+use Rattle.sp_base.specs.Texts.{Text}
+use Rattle.sp_outside.specs.Calls.{Call, Names, told_call}
 use Rattle.sp_outside.specs.Files.{IsListing, names_after}
 use Rattle.docroot_changes.specs.Changes.{Told}
+use Rattle.docroot_changes.specs.DocrootCalls.{IsListedPrefix, MakesDocrootCalls}
 use Rattle.invalidation.specs.Slices.{IsListedPage}
 use Rattle.invalidation.specs.Walks.{AreGone, IsPageAmong, TakesFiles, Walked}
 use Rattle.invalidation.proofs.Chains.{Relation, told_as, told_both, told_known}
@@ -51,3 +55,31 @@ returns-clause-walked g c =
     (λ a b is w. walk_list prefixes prefix start c.in_ok-next.next most names c.nothing_is_passed_over.ensures c.requires.apart c.requires.place (sym c.in-Some.ensures ∙ ap Some (sym c.text.ensures))
     listing c.requires.most c.in_ok-next.ensures a b is w.0 w.1) value takes in
     subst (λ n. Told (Walked prefixes start c.in_ok-next.next n) before after) (sym c.len.ensures) walked
+
+-- one list of names that begin with one of the prefixes
+listed_call : (prefixes : List Text) (n : ℕ) (prefix after : Text) (most : ℕ) (answered : Bool) (asked made : Option (List Call)) → ((p : Text) → Contains prefixes p → IsListedPrefix p) → n < length prefixes → slice_get prefixes n ≡ Some prefix
+    → made ≡ told_call asked (Names prefix after most answered) → MakesDocrootCalls asked made
+listed_call prefixes n prefix after most answered asked made all lt at e =
+    (Names prefix after most answered ∷ [], ((all prefix (n, lt, get_or_from_slice_get prefixes n prefix prefix at), tt), e))
+
+pub returns-in_err-names-clause-calls : goal.returns-in_err-names-clause-calls
+returns-in_err-names-clause-calls g c =
+    listed_call c.args.prefixes.now c.args.place.now.prefix c.text.result.now c.text-2.result.now c.args.most (is_ok c.list.result) (g.D.Disk.calls c.args.disk.now) (g.D.Disk.calls c.list.new.self) c.requires.listed c.requires.place
+    (sym c.in-Some.ensures ∙ ap Some (sym c.text.ensures)) c.list.ensures.made
+
+pub returns-in_err-next-clause-calls : goal.returns-in_err-next-clause-calls
+returns-in_err-next-clause-calls g c =
+    listed_call c.args.prefixes.now c.args.place.now.prefix c.text.result.now c.text-2.result.now c.args.most (is_ok c.list.result) (g.D.Disk.calls c.args.disk.now) (g.D.Disk.calls c.list.new.self) c.requires.listed c.requires.place
+    (sym c.in-Some.ensures ∙ ap Some (sym c.text.ensures)) c.list.ensures.made
+
+pub returns-in_err-take_pages-clause-calls : goal.returns-in_err-take_pages-clause-calls
+returns-in_err-take_pages-clause-calls g c =
+    c.docroot_calls_add_up.ensures.more (g.D.Disk.calls c.args.disk.now) (g.D.Disk.calls c.list.new.self) (g.D.Disk.calls c.take_pages.new.disk)
+    (listed_call c.args.prefixes.now c.args.place.now.prefix c.text.result.now c.text-2.result.now c.args.most (is_ok c.list.result) (g.D.Disk.calls c.args.disk.now) (g.D.Disk.calls c.list.new.self) c.requires.listed c.requires.place
+    (sym c.in-Some.ensures ∙ ap Some (sym c.text.ensures)) c.list.ensures.made) c.take_pages.ensures.calls
+
+pub returns-clause-calls : goal.returns-clause-calls
+returns-clause-calls g c =
+    c.docroot_calls_add_up.ensures.more (g.D.Disk.calls c.args.disk.now) (g.D.Disk.calls c.list.new.self) (g.D.Disk.calls c.take_pages.new.disk)
+    (listed_call c.args.prefixes.now c.args.place.now.prefix c.text.result.now c.text-2.result.now c.args.most (is_ok c.list.result) (g.D.Disk.calls c.args.disk.now) (g.D.Disk.calls c.list.new.self) c.requires.listed c.requires.place
+    (sym c.in-Some.ensures ∙ ap Some (sym c.text.ensures)) c.list.ensures.made) c.take_pages.ensures.calls

@@ -20,4 +20,12 @@ loop-name-preserved g c =
     record {
       taken = told_then (TakenTo names i) step (TakenTo names (i + 1)) start before after (λ a b d. taken_more names i name c.loop-name-test.true (ap (get_or names i) c.text.ensures ∙ sym c.name-item.is ∙ sym c.text.ensures) a b d) c.loop-name.invariant.taken one;
       faults = c.in_ok-take_page.ensures.cause ∙ c.loop-name.invariant.faults;
+      calls = c.docroot_calls_add_up.ensures.more (g.D.Disk.calls c.args.disk.now) (g.D.Disk.calls c.loop-name.disk) (g.D.Disk.calls c.take_page.new.disk) c.loop-name.invariant.calls c.in_ok-take_page.ensures.calls;
     }
+
+pub returns-in_err-take_page-clause-calls : goal.returns-in_err-take_page-clause-calls
+returns-in_err-take_page-clause-calls g c =
+    c.docroot_calls_add_up.ensures.more (g.D.Disk.calls c.args.disk.now) (g.D.Disk.calls c.loop-name.disk) (g.D.Disk.calls c.take_page.new.disk) c.loop-name.invariant.calls c.take_page.ensures.calls
+
+pub returns-clause-calls : goal.returns-clause-calls
+returns-clause-calls g c = c.loop-name.invariant.calls

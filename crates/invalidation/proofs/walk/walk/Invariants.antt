@@ -1,5 +1,6 @@
 use Rattle.std.proofs.Common.{◌≡◌, ◌<◌, ◌≤◌, ◌-◌, length}
 use Rattle.docroot_changes.specs.Changes.{Told}
+use Rattle.docroot_changes.specs.DocrootCalls.{MakesDocrootCalls}
 use Rattle.invalidation.specs.Walks.{Walked}
 use Rattle.invalidation.proofs.walk.walk.Given as goal
 
@@ -9,6 +10,7 @@ invariant-loop-place g l = record {
   some : 0 < l.left;
   most : l.left ≤ 64;
   faults : g.D.Disk.faults l.disk ≡ g.D.Disk.faults l.initial.disk;
+  calls : MakesDocrootCalls (g.D.Disk.calls l.initial.disk) (g.D.Disk.calls l.disk);
 }
 
 abbrev pub decreases-loop-place : goal.decreases-loop-place

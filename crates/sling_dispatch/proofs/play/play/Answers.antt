@@ -1,7 +1,8 @@
-use Rattle.std.proofs.Common.{rules, ◌≡◌, ◌∙◌, ◌++◌, ◌+◌, Err, length, ap, sym, subst, take, arith, refl}
+use Rattle.std.proofs.Common.{rules, ◌≡◌, ◌∙◌, ◌++◌, Err, length, ap, sym, subst, take, arith, refl}
 use Rattle.sp_outside.specs.Told.{held_after}
 use Rattle.sp_outside.specs.Causes.{HasSinkCause}
-use Rattle.sling_dispatch.specs.Endings.{report_of, Nothing}
+use Rattle.sling_dispatch.specs.Endings.{Nothing}
+use Rattle.sling_dispatch.specs.Reports.{report_of}
 use Rattle.sling_dispatch.specs.InnerEndings.{PlaysAll}
 use Rattle.sling_dispatch.specs.declared.ending.Ending.TheVariants.{Done, NoMemory}
 use Rattle.sling_dispatch.proofs.Writing.{added-nothing}
@@ -16,7 +17,7 @@ loop-rest-init g c =
     let session = c.in-Ok.session in
     record {
       played = subst (Played c.args.publisher c.args.farm c.args.acts.now c.args.acts.now session held held) (sym c.new-gathered.ensures.items)
-          (played_none c.args.publisher c.args.farm c.args.acts.now session held c.requires c.in-Ok.ensures.stands c.in-Ok.ensures.spent c.in-Ok.ensures.event);
+          (played_none c.args.publisher c.args.farm c.args.acts.now session held c.requires c.in-Ok.ensures.stands c.in-Ok.ensures.spent c.in-Ok.ensures.event).0;
       not_failed = refl;
       counted = omega (arith, c.in-Ok.ensures.event);
       asked = c.in-Ok.ensures.host;

@@ -4,10 +4,10 @@ use Rattle.front.proofs.EventLemmas.{lost-none, lost}
 use Rattle.front.proofs.FrontLemmas.{ok-map-two}
 use Rattle.front.proofs.board.Board.lose.Goals as goal
 
-pub returns-in_default : goal.returns-in_default
-returns-in_default g c = ok-map-two c.idle.result c.idle.ensures.notes c.idle.ensures.conditions (λ effect notes under w tied. lost-none (at_disk c.args.self.now (g.D.Disk.files c.args.disk.now) (g.D.Disk.faults c.args.disk.now)) (at_disk (record { open_connections = c.args.self.now.open_connections; cache = c.lose.new.self }) (g.D.Disk.files c.args.disk.now) (g.D.Disk.faults c.args.disk.now)) w c.args.pick.now effect tied (rw c.in_default.ensures.same refl) c.in_default.ensures.none notes under)
+pub returns-in_default-clause-event : goal.returns-in_default-clause-event
+returns-in_default-clause-event g c = ok-map-two c.idle.result c.idle.ensures.notes c.idle.ensures.conditions (λ effect notes under w tied. lost-none (at_disk c.args.self.now (g.D.Disk.files c.args.disk.now) (g.D.Disk.faults c.args.disk.now)) (at_disk (record { open_connections = c.args.self.now.open_connections; cache = c.lose.new.self }) (g.D.Disk.files c.args.disk.now) (g.D.Disk.faults c.args.disk.now)) w c.args.pick.now effect tied (rw c.in_default.ensures.same refl) c.in_default.ensures.none notes under)
 
-pub returns : goal.returns
-returns g c = λ w tied.
+pub returns-clause-event : goal.returns-clause-event
+returns-clause-event g c = λ w tied.
     let ends = (c.in-Some.ensures.loss (g.D.Disk.files c.args.disk.now) (g.D.Disk.faults c.args.disk.now) w tied.behind_is tied.slicing_is) in
-    lost (at_disk c.args.self.now (g.D.Disk.files c.args.disk.now) (g.D.Disk.faults c.args.disk.now)) (at_disk c.finish.new.self (g.D.Disk.files c.finish.new.disk) (g.D.Disk.faults c.finish.new.disk)) _ _ w c.args.pick.now c.in-Some.ended c.in_ok-effect.effect ends (c.in_ok-effect.ensures w (g.D.Disk.faults c.args.disk.now) (record { open_connections = tied.open_connections; ending = ends.ending }))
+    lost (at_disk c.args.self.now (g.D.Disk.files c.args.disk.now) (g.D.Disk.faults c.args.disk.now)) (at_disk c.finish.new.self (g.D.Disk.files c.finish.new.disk) (g.D.Disk.faults c.finish.new.disk)) _ _ w c.args.pick.now c.in-Some.ended c.in_ok-effect.effect ends (c.in_ok-effect.ensures.given w (g.D.Disk.faults c.args.disk.now) (record { open_connections = tied.open_connections; ending = ends.ending }))

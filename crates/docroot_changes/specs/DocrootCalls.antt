@@ -1,0 +1,34 @@
+-- Which calls of a disk the cache makes. Each is of one of its files, and none leads out of the document root.
+use Rattle.std.specs.Prelude.{◌≡◌, ◌⊎◌, [], Bool, Contains, IsTrue, List, Option}
+use Rattle.std.specs.List.{AllByRecursion, list_all}
+use Rattle.sp_base.specs.Paths.{is_path, parent_of, pieces}
+use Rattle.sp_base.specs.Texts.{Text}
+use Rattle.sp_outside.specs.Calls.{Call, Get, Put, Remove, Names, told_calls}
+use Rattle.sp_outside.specs.FileNames.{is_inner}
+use Rattle.cover_rules.specs.declared.invalidation.Invalidation.{Invalidation}
+use Rattle.docroot_format.specs.Deletions.{deleted_prefixes}
+use Rattle.docroot_format.specs.Names.{epoch_name, is_docroot_name, is_page_file, is_stat_file}
+
+-- the name is that of the session's number, of a page's file or of a folder's stamp
+abbrev pub IsCacheFile : Text → Type 0
+IsCacheFile name = (name ≡ epoch_name) ⊎ (IsTrue (is_page_file name) ⊎ IsTrue (is_stat_file name))
+
+-- what the names begin with that are listed: anything, or what names begin with that the invalidation of a path deletes
+abbrev pub IsListedPrefix : Text → Type 0
+IsListedPrefix prefix = (prefix ≡ []) ⊎ ((inv : Invalidation) × (IsTrue (is_path inv.handle) × Contains (deleted_prefixes inv) prefix))
+
+-- A call that the cache may make: what is read or written is a file of the cache, whose name lies in the docroot; what is taken away has
+-- the name of a page's file or of a folder's stamp.
+abbrev pub IsDocrootCall : Call → Type 0
+IsDocrootCall (Get name answered) = IsCacheFile name × IsTrue (is_docroot_name name)
+IsDocrootCall (Put name bytes answered) = IsCacheFile name × IsTrue (is_docroot_name name)
+IsDocrootCall (Remove name answered) = IsTrue (is_page_file name) ⊎ IsTrue (is_stat_file name)
+IsDocrootCall (Names prefix after most answered) = IsListedPrefix prefix
+
+-- Between two moments the cache made some calls of a disk, or none, each one that it may make, and no other was made.
+abbrev pub MakesDocrootCalls : Option (List Call) → Option (List Call) → Type 0
+MakesDocrootCalls before after = (made : List Call) × (AllByRecursion IsDocrootCall made × (after ≡ told_calls before made))
+
+-- each piece of the beginning of names but the one after its last slash leads into a folder, so that it begins with no slash either
+abbrev pub leads_in : Text → Bool
+leads_in prefix = list_all is_inner (parent_of (pieces prefix))

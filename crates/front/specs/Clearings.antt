@@ -1,0 +1,51 @@
+-- How the files of a cache are cleared away before a front's first step. (Of the theorem's reader this file is no concern.)
+use Rattle.std.specs.Prelude.{◌≡◌, ◌≢◌, ◌⊎◌, ◌<◌, ◌≤◌, ◌||◌, Bool, List, Option, Some, None, Contains, IsTrue, length}
+use Rattle.std.specs.declared.cmp.Ordering.TheVariants.{Less}
+use Rattle.sp_base.specs.Names.{by_name}
+use Rattle.sp_base.specs.Texts.{Text}
+use Rattle.sp_outside.specs.FileNames.{names_left}
+use Rattle.sp_outside.specs.Files.{Files, file_at, longest_file_name}
+use Rattle.docroot_format.specs.Names.{is_page_file, is_stat_file}
+use Rattle.coherence_core.specs.Holds.{files_counted}
+use Rattle.front.specs.declared.clearing.FileKind.{FileKind}
+use Rattle.front.specs.declared.clearing.FileKind.TheVariants.{Page, Stamp}
+
+-- the name is that of a file of this kind
+abbrev pub is_of_kind : FileKind → Text → Bool
+is_of_kind Page name = is_page_file name
+is_of_kind Stamp name = is_stat_file name
+
+-- the name is that of a page file or of a .stat file
+abbrev pub is_page_or_stamp : Text → Bool
+is_page_or_stamp name = is_page_file name || is_stat_file name
+
+-- each file is as it was, or has a name that passes the test, and is gone; and there are no more files
+pub record ClearsFiles (is_gone : Text → Bool) (old new : Files) : Type 0 where
+  pub each : (name : Text) → (file_at new name ≡ file_at old name) ⊎ (IsTrue (is_gone name) × (file_at new name ≡ None))
+  pub fewer : files_counted new ≤ files_counted old
+
+-- no file of this kind is there
+abbrev pub HasNone : FileKind → Files → Type 0
+HasNone kind files = (name : Text) → IsTrue (is_of_kind kind name) → file_at files name ≡ None
+
+-- the files of this kind are gone whose names aren't after this one
+abbrev pub HasNoneUpTo : FileKind → Text → Files → Type 0
+HasNoneUpTo kind last files = (name : Text) → IsTrue (is_of_kind kind name) → by_name last name ≢ Less → file_at files name ≡ None
+
+-- those of this kind are gone that are among these names
+abbrev pub HasNoneAmong : FileKind → List Text → Files → Type 0
+HasNoneAmong kind names files = (name : Text) → Contains names name → IsTrue (is_of_kind kind name) → file_at files name ≡ None
+
+-- the name isn't after that of which the names after it are left, if any are
+abbrev pub IsReached : Option Text → Text → Type 0
+IsReached None name = Unit {0}
+IsReached (Some next) name = by_name next name ≢ Less
+
+-- the files of this kind are gone that are after this name, up to the next one, or to the end
+abbrev pub HasNoneBetween : FileKind → Text → Option Text → Files → Type 0
+HasNoneBetween kind last next files = (name : Text) → IsTrue (is_of_kind kind name) → by_name last name ≡ Less → IsReached next name → file_at files name ≡ None
+
+-- the walk comes nearer to its end with this name
+pub record IsNearer (last next : Text) : Type 0 where
+  pub fits : length next ≤ longest_file_name
+  pub fewer : names_left next < names_left last

@@ -1,0 +1,4 @@
+pub mod Openings
+pub mod News
+pub mod ComingLemmas
+pub mod Opened

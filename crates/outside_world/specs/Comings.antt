@@ -1,0 +1,36 @@
+-- Which happenings may come one after the other, and which connections a world in memory keeps room for.
+use Rattle.std.specs.Prelude.{◌≡◌, ◌≤◌, ◌++◌, ◌==◌, ◌+◌, ℕ, Bool, List, [], ◌∷◌, Some, length, map}
+use Rattle.std.specs.List.{flat_map, list_any}
+use Rattle.outside_world.specs.declared.world.Happening.{Happening}
+use Rattle.outside_world.specs.declared.world.WorldEntry.{WorldEntry}
+use Rattle.outside_world.specs.declared.world.WorldEntry.TheVariants.{Came, Sent, Unsent, Shut}
+use Rattle.outside_world.specs.Worlds.{IsNewsTo, is_open}
+
+-- After these happenings those may come: each is news after all before it, of which no connection was shut.
+abbrev pub MayComeAfter : List Happening → List Happening → Type 0
+MayComeAfter before [] = Unit {0}
+MayComeAfter before (happening ∷ later) = IsNewsTo (Some (map Came before)) happening × MayComeAfter (before ++ happening ∷ []) later
+
+-- these happenings may come
+abbrev pub MayCome : List Happening → Type 0
+MayCome happenings = MayComeAfter [] happenings
+
+-- what an entry says that came
+abbrev pub news_of_entry : WorldEntry → List Happening
+news_of_entry (Came happening) = happening ∷ []
+news_of_entry (Sent c bytes) = []
+news_of_entry (Unsent c) = []
+news_of_entry (Shut c) = []
+
+-- what came, of all that a log tells
+abbrev pub news_of : List WorldEntry → List Happening
+news_of log = flat_map news_of_entry log
+
+-- a number is among these
+abbrev pub is_among : ℕ → List ℕ → Bool
+is_among c numbers = list_any (λ d. d == c) numbers
+
+-- The numbers are those of the connections that are open after a log, and there is room for one more entry for each.
+pub record KeepsRoom (capacity : ℕ) (log : List WorldEntry) (numbers : List ℕ) : Type 0 where
+  pub listed : (c : ℕ) → is_open log c ≡ is_among c numbers
+  pub room : length log + length numbers ≤ capacity

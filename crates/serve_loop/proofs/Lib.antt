@@ -1,0 +1,9 @@
+pub mod LogLemmas
+pub mod HandingLemmas
+pub mod OpenLemmas
+pub mod ChainLemmas
+pub mod StepLemmas
+pub mod ResultLemmas
+pub mod RoundLemmas
+pub mod TurnLemmas
+pub mod HappeningLemmas

@@ -1,0 +1,21 @@
+-- The log of a world, and which connections are open after it.
+use Rattle.std.proofs.Common.{◌≡◌, ◌++◌, ℕ, Bool, false, List, [], ◌∷◌, Option, Some, None, ap, refl, append_assoc}
+use Rattle.std.proofs.lemmas.List.{append-nil}
+use Rattle.outside_world.specs.Worlds.{is_open, open_after, open_after_all, told_more}
+use Rattle.outside_world.specs.declared.world.WorldEntry.{WorldEntry}
+
+pub open_append : (c : ℕ) (was : Bool) (log more : List WorldEntry) → open_after_all c was (log ++ more) ≡ open_after_all c (open_after_all c was log) more
+open_append c was [] more = refl
+open_append c was (e ∷ log) more = open_append c (open_after c was e) log more
+
+-- a connection after one entry more
+pub open_more : (log : List WorldEntry) (c : ℕ) (e : WorldEntry) → is_open (log ++ e ∷ []) c ≡ open_after c (is_open log c) e
+open_more log c e = open_append c false log (e ∷ [])
+
+pub told_nothing : (told : Option (List WorldEntry)) → told_more told [] ≡ told
+told_nothing None = refl
+told_nothing (Some log) = ap Some (append-nil log)
+
+pub told_twice : (told : Option (List WorldEntry)) (one two : List WorldEntry) → told_more (told_more told one) two ≡ told_more told (one ++ two)
+told_twice None one two = refl
+told_twice (Some log) one two = ap Some (append_assoc log one two)

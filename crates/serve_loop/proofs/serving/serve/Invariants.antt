@@ -1,0 +1,16 @@
+use Rattle.std.proofs.Common.{◌≡◌}
+use Rattle.docroot_changes.specs.DocrootCalls.{MakesDocrootCalls}
+use Rattle.front.specs.Boards.{at_disk}
+use Rattle.run_events.specs.States.{RunState}
+use Rattle.serve_loop.specs.Steps.{RestsAt, TakesTurns, server_at}
+use Rattle.serve_loop.proofs.serving.serve.Given as goal
+
+abbrev pub invariant-loop-made : goal.invariant-loop-made
+invariant-loop-made g l = record {
+  turns : (w : RunState)
+      → RestsAt (server_at g.R.Renderer.publishing (g.R.Renderer.content l.initial.front.renderer) (at_disk l.initial.front.board (g.D.Disk.files l.initial.disk) (g.D.Disk.faults l.initial.disk)) (g.W.World.log l.initial.world) (g.W.World.send_faults l.initial.world)) w
+      → TakesTurns (server_at g.R.Renderer.publishing (g.R.Renderer.content l.initial.front.renderer) (at_disk l.initial.front.board (g.D.Disk.files l.initial.disk) (g.D.Disk.faults l.initial.disk)) (g.W.World.log l.initial.world) (g.W.World.send_faults l.initial.world))
+      (server_at g.R.Renderer.publishing (g.R.Renderer.content l.front.renderer) (at_disk l.front.board (g.D.Disk.files l.disk) (g.D.Disk.faults l.disk)) (g.W.World.log l.world) (g.W.World.send_faults l.world)) l.made w;
+  next_count : g.W.World.next_faults l.world ≡ g.W.World.next_faults l.initial.world;
+  calls : MakesDocrootCalls (g.D.Disk.calls l.initial.disk) (g.D.Disk.calls l.disk);
+}

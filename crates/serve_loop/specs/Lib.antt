@@ -1,0 +1,4 @@
+pub mod Turns
+pub mod Served
+pub mod Hands
+pub mod Steps

@@ -1,0 +1,79 @@
+//! What a turn does after the step of what came.
+ghost use Rattle.std.specs.Prelude.{◌≡◌, OnErr, OnOk};
+ghost use Rattle.docroot_changes.specs.DocrootCalls.{MakesDocrootCalls};
+ghost use Rattle.front.specs.Boards.{at_disk};
+ghost use Rattle.serve_loop.specs.Steps.{CutsEnd, CutsLanding, CutsLandings, EndsTurn, LandsAll, LandsFirst, server_at};
+
+use crate::steps::make;
+use docroot_changes::docroot_calls_add_up;
+use front::{Front, Renderer};
+use outside_world::World;
+use run_events::{Pick, Step};
+use run_laws::rounds_take_flights_out_of_the_air;
+use sp_base::Mem;
+use sp_outside::Disk;
+use std::alloc::Global;
+
+/// The most flights in the air.
+const MOST_FLIGHTS: usize = 256;
+
+// Renders and lands each flight, one after another. None was rendered before.
+pub(crate) fn land_all<R: Renderer + Drop, D: Disk, W: World>(
+    alloc: Global,
+    front: &mut Front<R>,
+    disk: &mut D,
+    world: &mut W,
+) -> Mem<()>
+    ensures ok { OnOk result (LandsAll (server_at R.publishing (R.content front.old.renderer) (at_disk front.old.board (D.files disk.old) (D.faults disk.old)) (W.log world.old) (W.send_faults world.old)) (server_at R.publishing (R.content front.new.renderer) (at_disk front.new.board (D.files disk.new) (D.faults disk.new)) (W.log world.new) (W.send_faults world.new))) }
+    ensures err { OnErr result (CutsLandings (server_at R.publishing (R.content front.old.renderer) (at_disk front.old.board (D.files disk.old) (D.faults disk.old)) (W.log world.old) (W.send_faults world.old)) (server_at R.publishing (R.content front.new.renderer) (at_disk front.new.board (D.files disk.new) (D.faults disk.new)) (W.log world.new) (W.send_faults world.new))) }
+    ensures next_count { W.next_faults world.new ≡ W.next_faults world.old }
+    ensures calls { MakesDocrootCalls (D.calls disk.old) (D.calls disk.new) }
+{
+    docroot_calls_add_up();
+    for round in 0..MOST_FLIGHTS {
+        if front.unrendered().is_none() {
+            return Ok(());
+        }
+        land_first(alloc, front, disk, world)?;
+    }
+    Ok(())
+}
+
+// Renders the first flight, and lands it.
+fn land_first<R: Renderer + Drop, D: Disk, W: World>(
+    alloc: Global,
+    front: &mut Front<R>,
+    disk: &mut D,
+    world: &mut W,
+) -> Mem<()>
+    ensures ok { OnOk result (LandsFirst (server_at R.publishing (R.content front.old.renderer) (at_disk front.old.board (D.files disk.old) (D.faults disk.old)) (W.log world.old) (W.send_faults world.old)) (server_at R.publishing (R.content front.new.renderer) (at_disk front.new.board (D.files disk.new) (D.faults disk.new)) (W.log world.new) (W.send_faults world.new))) }
+    ensures err { OnErr result (CutsLanding (server_at R.publishing (R.content front.old.renderer) (at_disk front.old.board (D.files disk.old) (D.faults disk.old)) (W.log world.old) (W.send_faults world.old)) (server_at R.publishing (R.content front.new.renderer) (at_disk front.new.board (D.files disk.new) (D.faults disk.new)) (W.log world.new) (W.send_faults world.new))) }
+    ensures next_count { W.next_faults world.new ≡ W.next_faults world.old }
+    ensures calls { MakesDocrootCalls (D.calls disk.old) (D.calls disk.new) }
+{
+    rounds_take_flights_out_of_the_air();
+    docroot_calls_add_up();
+    make(alloc, front, disk, world, &Step::Render(Pick::First))?;
+    make(alloc, front, disk, world, &Step::Deliver(Pick::First))
+}
+
+// Gives an unfinished flush one slice.
+pub(crate) fn purge_once<R: Renderer + Drop, D: Disk, W: World>(
+    alloc: Global,
+    front: &mut Front<R>,
+    disk: &mut D,
+    world: &mut W,
+) -> Mem<()>
+    ensures ok { OnOk result (EndsTurn (server_at R.publishing (R.content front.old.renderer) (at_disk front.old.board (D.files disk.old) (D.faults disk.old)) (W.log world.old) (W.send_faults world.old)) (server_at R.publishing (R.content front.new.renderer) (at_disk front.new.board (D.files disk.new) (D.faults disk.new)) (W.log world.new) (W.send_faults world.new))) }
+    ensures err { OnErr result (CutsEnd (server_at R.publishing (R.content front.old.renderer) (at_disk front.old.board (D.files disk.old) (D.faults disk.old)) (W.log world.old) (W.send_faults world.old)) (server_at R.publishing (R.content front.new.renderer) (at_disk front.new.board (D.files disk.new) (D.faults disk.new)) (W.log world.new) (W.send_faults world.new))) }
+    ensures next_count { W.next_faults world.new ≡ W.next_faults world.old }
+    ensures calls { MakesDocrootCalls (D.calls disk.old) (D.calls disk.new) }
+{
+    rounds_take_flights_out_of_the_air();
+    docroot_calls_add_up();
+    if front.purging() {
+        make(alloc, front, disk, world, &Step::Purge)
+    } else {
+        Ok(())
+    }
+}

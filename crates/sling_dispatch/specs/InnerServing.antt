@@ -1,0 +1,132 @@
+-- Scaffolding: what the private functions of a run that serves or counts promise, for proofs alone. A reader of the theorem needs none of it.
+use Rattle.std.specs.Prelude.{◌≡◌, ◌≢◌, ◌++◌, ◌∷◌, ℕ, List, [], Option, Some, None, Ok}
+use Rattle.sp_outside.specs.Files.{Files}
+use Rattle.resource_tree.specs.Content.{Content}
+use Rattle.any_config.specs.declared.farm.Farm.{Farm}
+use Rattle.cache_files.specs.declared.epoch.OpenFault.{OpenFault}
+use Rattle.cache_files.specs.declared.epoch.OpenFault.TheVariants as open_fault
+use Rattle.cache_log.specs.Entries.{LogEntry}
+use Rattle.docroot_format.specs.declared.fault.FileFault.{FileFault}
+use Rattle.docroot_format.specs.declared.fault.FileFault.TheVariants as file_fault
+use Rattle.front.specs.Boards.{BoardAt}
+use Rattle.front.specs.Fronts.{FrontStandsFor, epoch_of_board}
+use Rattle.outside_world.specs.declared.inputs.InputFault.{InputFault}
+use Rattle.outside_world.specs.declared.inputs.InputFault.TheVariants as input_fault
+use Rattle.replay_text.specs.Scenario.{ReadsScenario}
+use Rattle.replay_text.specs.declared.scenario.Scenario.{Scenario}
+use Rattle.content_json.specs.ContentOf.{content as content_of}
+use Rattle.run_events.specs.Events.{Event, notes_of}
+use Rattle.run_events.specs.declared.note.Note.{Note}
+use Rattle.run_events.specs.States.{start_of}
+use Rattle.serve_loop.specs.declared.serving.ServeEnd.{ServeEnd}
+use Rattle.serve_loop.specs.declared.serving.ServeEnd.TheVariants as serve_end
+use Rattle.soak_scenarios.specs.Soaks.{generated_text}
+use Rattle.sling_dispatch.specs.Endings.{Writing, Nothing, Generated, Summary, OfServing, ServeWriting, Served, CutOff, WorldLine, DocrootLine, OpeningLine, InputLine}
+use Rattle.sling_dispatch.specs.Forms.{Asks}
+use Rattle.sling_dispatch.specs.Reports.{IsUntouched, StreamReport}
+use Rattle.sling_dispatch.specs.Runs.{IsSession, sling_publisher}
+use Rattle.sling_dispatch.specs.Serving.{MayGoOn, OfInput, served_start}
+use Rattle.sling_dispatch.specs.Farms.{farm_in, farm_text}
+use Rattle.sling_dispatch.specs.Fronts.{IsNextEvent}
+use Rattle.sling_dispatch.specs.Summaries.{counts_of, summary_text}
+use Rattle.sling_dispatch.specs.declared.session.Session.{Session}
+use Rattle.sling_dispatch.specs.declared.summary.Counts.{Counts}
+use Rattle.sling_dispatch.specs.declared.form.Beginning.{Beginning}
+use Rattle.sling_dispatch.specs.declared.form.Form.TheVariants.{Serve}
+use Rattle.sling_dispatch.specs.declared.form.ServeWords.{ServeWords}
+
+-- the text is the summary of all events of the scenario that was made from the number
+pub record IsSummaryOf (number : ℕ) (text : List ℕ) : Type 0 where
+  pub scenario : Scenario
+  pub events : List Event
+  pub reads : ReadsScenario (generated_text number) scenario
+  pub session : IsSession scenario [] events
+  pub text_is : text ≡ summary_text events
+
+-- nothing, or the scenario that is made from the number
+abbrev pub IsScenarioOr : ℕ → Writing → Type 0
+IsScenarioOr number Nothing = Unit {0}
+IsScenarioOr number (Generated n) = n ≡ number
+IsScenarioOr number _ = ⊥
+
+-- nothing, or the summary of all events of that scenario
+abbrev pub IsSummaryOr : ℕ → Writing → Type 0
+IsSummaryOr number Nothing = Unit {0}
+IsSummaryOr number (Summary n s events) = (n ≡ number) × ReadsScenario (generated_text number) s × IsSession s [] events
+IsSummaryOr number _ = ⊥
+
+-- the text is the summary of all events of a scenario that was read
+pub record IsSummaryIn (s : Scenario) (text : List ℕ) : Type 0 where
+  pub events : List Event
+  pub session : IsSession s [] events
+  pub text_is : text ≡ summary_text events
+
+-- what an event adds to counts, where there is one
+abbrev pub CountsNotes : Option (List Note) → Counts → Counts → Type 0
+CountsNotes None before after = after ≡ before
+CountsNotes (Some notes) before after = (events : List Event) (event : Event) → before ≡ counts_of events → notes ≡ notes_of event → after ≡ counts_of (events ++ event ∷ [])
+
+-- an act stands first, its event was made, if it has one, and was counted
+pub record CountsOn (host lines rest : List ℕ) (old new : Session) (before after : Counts) : Type 0 where
+  pub notes : Option (List Note)
+  pub next : IsNextEvent host lines rest old new notes
+  pub counted : CountsNotes notes before after
+
+-- these are the counts of all events, where acts are played on a content by a farm, whichever scenario has them
+abbrev pub CountsAll : Content → Farm → List ℕ → Counts → Type 0
+CountsAll tree farm acts c = (s : Scenario) → s.acts ≡ acts → content_of s.content ≡ Ok tree → farm_in (farm_text s.farm) ≡ Ok farm
+    → (events : List Event) × IsSession s [] events × (c ≡ counts_of events)
+
+-- the call is to serve these words, and both inputs were read: this content and this farm's file
+pub record AreReadAs (asked : List (List ℕ)) (source : StreamReport (List ℕ)) (inputs : StreamReport Files) (words : ServeWords) (content any : List ℕ) : Type 0 where
+  pub asks : Asks asked (Serve words)
+  pub source_is : IsUntouched source
+  pub inputs_are : IsUntouched inputs
+  pub content_is : OfInput inputs words.content (λ bytes. bytes ≡ content)
+  pub any_is : OfInput inputs words.any (λ bytes. bytes ≡ any)
+
+-- a line about an input
+abbrev pub IsInputLine : InputFault → List ℕ → ServeWriting → Type 0
+IsInputLine fault name (InputLine f n) = (f ≡ fault) × (n ≡ name) × (fault ≢ input_fault.NoMemory)
+IsInputLine fault name _ = ⊥
+
+-- nothing, or that line
+abbrev pub IsInputOr : InputFault → List ℕ → Writing → Type 0
+IsInputOr fault name Nothing = Unit {0}
+IsInputOr fault name (OfServing w) = IsInputLine fault name w
+IsInputOr fault name _ = ⊥
+
+-- a line about an opening
+abbrev pub IsOpeningLine : OpenFault → ServeWriting → Type 0
+IsOpeningLine fault DocrootLine = fault ≡ open_fault.Disk
+IsOpeningLine fault (OpeningLine f) = (f ≡ fault) × (fault ≢ open_fault.Disk) × (fault ≢ open_fault.NoMemory)
+IsOpeningLine fault _ = ⊥
+
+-- nothing, or that line
+abbrev pub IsOpeningOr : OpenFault → Writing → Type 0
+IsOpeningOr fault Nothing = Unit {0}
+IsOpeningOr fault (OfServing w) = IsOpeningLine fault w
+IsOpeningOr fault _ = ⊥
+
+-- what is written at an end of serving
+abbrev pub IsEndLine : ServeEnd → ServeWords → ServeWriting → Type 0
+IsEndLine end words (Served s) = (s ≡ words) × (end ≡ serve_end.Turns)
+IsEndLine end words CutOff = end ≡ serve_end.NoMemory
+IsEndLine end words WorldLine = end ≡ serve_end.WorldFailed
+IsEndLine end words _ = ⊥
+
+-- that, and nothing else
+abbrev pub IsOfEnd : ServeEnd → ServeWords → Writing → Type 0
+IsOfEnd end words (OfServing w) = IsEndLine end words w
+IsOfEnd end words _ = ⊥
+
+-- the fault of an opening where files couldn't be cleared away
+abbrev pub open_fault_of : FileFault → OpenFault
+open_fault_of file_fault.Disk = open_fault.Disk
+open_fault_of file_fault.NoMemory = open_fault.NoMemory
+
+-- An opened front stands for the states in which runs begin over these files, with each log that they may go on from.
+abbrev pub OpensRun : Beginning → Farm → Content → Option Files → BoardAt → Content → Type 0
+OpensRun beginning farm tree None b now = Unit {0}
+OpensRun beginning farm tree (Some files) b now =
+    (log : List LogEntry) → MayGoOn beginning farm files log → FrontStandsFor sling_publisher now b (start_of (served_start farm tree (epoch_of_board b) files log))

@@ -1,0 +1,57 @@
+-- What a call of `run` made of the objects of the outside.
+use Rattle.std.specs.Prelude.{◌≡◌, ℕ, List, Option}
+use Rattle.sp_outside.specs.Files.{Files}
+use Rattle.sp_outside.specs.Causes.{Rose}
+use Rattle.serve_loop.specs.Served.{DiskReport, WorldReport}
+
+-- an object of the outside over one call: what it told before and after, and its count of faults before and after
+pub record StreamReport (T : Type 0) : Type 0 where
+  pub old : Option T
+  pub new : Option T
+  pub faults_old : ℕ
+  pub faults_new : ℕ
+
+-- what an object told before and after a call, with its counts of faults
+abbrev pub report_of : {T : Type 0} → Option T → Option T → ℕ → ℕ → StreamReport T
+report_of old new faults_old faults_new = record { old = old; new = new; faults_old = faults_old; faults_new = faults_new }
+
+-- no call of it failed
+abbrev pub HasNotFailed : {T : Type 0} → StreamReport T → Type 0
+HasNotFailed o = o.faults_new ≡ o.faults_old
+
+-- a call of it failed
+abbrev pub HasFailed : {T : Type 0} → StreamReport T → Type 0
+HasFailed o = Rose o.faults_old o.faults_new
+
+-- nothing was asked of it
+abbrev pub IsUntouched : {T : Type 0} → StreamReport T → Type 0
+IsUntouched o = (o.new ≡ o.old) × HasNotFailed o
+
+-- what is told of one call of `run`, beside the sink
+pub record RunCall : Type 0 where
+  pub words : List (List ℕ)
+  pub source : StreamReport (List ℕ)
+  pub inputs : StreamReport Files
+  pub disk : DiskReport
+  pub world : WorldReport
+
+-- one call of `run`
+abbrev pub call_of : List (List ℕ) → StreamReport (List ℕ) → StreamReport Files → DiskReport → WorldReport → RunCall
+call_of words source inputs disk world = record { words = words; source = source; inputs = inputs; disk = disk; world = world }
+
+-- the disk's files and its count of faults are as before
+pub record IsDiskUntouched (disk : DiskReport) : Type 0 where
+  pub files : disk.new ≡ disk.old
+  pub count : disk.faults_new ≡ disk.faults_old
+
+-- the world's log and its counts of faults are as before
+pub record IsWorldUntouched (world : WorldReport) : Type 0 where
+  pub log : world.new ≡ world.old
+  pub next_count : world.next_new ≡ world.next_old
+  pub send_count : world.send_new ≡ world.send_old
+
+-- what only `serve` asks anything of is as before
+pub record IsApart (c : RunCall) : Type 0 where
+  pub inputs : IsUntouched c.inputs
+  pub disk : IsDiskUntouched c.disk
+  pub world : IsWorldUntouched c.world

@@ -1,0 +1,8 @@
+use Rattle.std.proofs.Common.{codes}
+use Rattle.std.proofs.lemmas.Result.{on_ok_weaker}
+use Rattle.soak_scenarios.proofs.Texts.{three_texts}
+use Rattle.soak_scenarios.proofs.site.push_page_member.Goals as goal
+
+pub returns : goal.returns
+returns c =
+    on_ok_weaker _ (three_texts (codes ",\"p") _ (codes "\":{\"n\":0,\"sling:resourceType\":\"site/page\"}") _ _ _ _ c.in_ok-push.ensures c.in_ok-push_number.ensures) c.push-2.ensures

@@ -2,6 +2,7 @@
 
 import atexit
 import collections
+import ctypes
 import functools
 import json
 import os
@@ -186,3 +187,34 @@ PAGES_PROGRAM = f"{PLACE}/crates/pages_program/out/pages_program"
 
 def build_pages_program():
     build("pages_program", ["sp_base", "sp_outside"], ["list", "0", "1"])
+
+
+def own_network():
+    """A network of this process's own, with 127.0.0.1 alone, so that a port that others listen at is free; where that isn't allowed, nothing
+    changes."""
+    new_network = 0x40000000
+    if ctypes.CDLL(None, use_errno=True).unshare(new_network) == 0:
+        subprocess.run(["ip", "link", "set", "lo", "up"], check=True)
+
+
+def own_mounts():
+    """Mounts of this process's own."""
+    new_mounts = 0x20000
+    if ctypes.CDLL(None, use_errno=True).unshare(new_mounts) != 0:
+        sys.exit("mounts of its own aren't allowed: run it as root")
+    subprocess.run(["mount", "--make-rprivate", "/"], check=True)
+
+
+class Violations(list):
+    """What isn't as it should be. The first are printed as they come."""
+
+    MOST_SHOWN = 20
+
+    def append(self, found):
+        super().append(found)
+        if len(self) <= self.MOST_SHOWN:
+            print(f"  {found}", flush=True)
+
+    def extend(self, found):
+        for one in found:
+            self.append(one)

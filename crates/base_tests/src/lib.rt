@@ -6,6 +6,8 @@ mod mem_disk;
 #[cfg(test)]
 mod real_disk;
 #[cfg(test)]
+mod real_docroot;
+#[cfg(test)]
 mod streams;
 #[cfg(test)]
 mod values;

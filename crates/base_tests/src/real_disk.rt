@@ -5,12 +5,12 @@ use std::alloc::Global;
 use std::fs::{self, Files};
 
 // The disk of a folder that isn't there yet.
-fn fresh<'a>(rt: &'a HostRuntime, folder: &str) -> Mem<RealDisk<&'a HostRuntime>> {
+pub(crate) fn fresh<'a>(rt: &'a HostRuntime, folder: &str) -> Mem<RealDisk<&'a HostRuntime>> {
     let _ = fs::remove_dir_all(rt, folder);
     RealDisk::below(rt, folder)
 }
 
-fn puts<D: Disk>(disk: &mut D, files: &[(&str, &str)]) -> bool {
+pub(crate) fn puts<D: Disk>(disk: &mut D, files: &[(&str, &str)]) -> bool {
     for (name, bytes) in files {
         if name.is_empty()
             || name.len() > LONGEST_FILE_NAME
@@ -22,7 +22,7 @@ fn puts<D: Disk>(disk: &mut D, files: &[(&str, &str)]) -> bool {
     true
 }
 
-fn holds<D: Disk>(alloc: Global, disk: &mut D, files: &[(&str, &str)]) -> bool {
+pub(crate) fn holds<D: Disk>(alloc: Global, disk: &mut D, files: &[(&str, &str)]) -> bool {
     for (name, bytes) in files {
         match disk.get(alloc, name) {
             Ok(Some(found)) if found.bytes() == bytes.as_bytes() => {}
@@ -33,7 +33,7 @@ fn holds<D: Disk>(alloc: Global, disk: &mut D, files: &[(&str, &str)]) -> bool {
 }
 
 // No file has such a name, and a removal of it is one of nothing.
-fn lacks<D: Disk>(alloc: Global, disk: &mut D, names: &[&str]) -> bool {
+pub(crate) fn lacks<D: Disk>(alloc: Global, disk: &mut D, names: &[&str]) -> bool {
     for name in names {
         if !matches!(disk.get(alloc, name), Ok(None)) || disk.remove(name).is_err() {
             return false;
@@ -42,7 +42,7 @@ fn lacks<D: Disk>(alloc: Global, disk: &mut D, names: &[&str]) -> bool {
     true
 }
 
-fn refuses<D: Disk>(disk: &mut D, names: &[&str]) -> bool {
+pub(crate) fn refuses<D: Disk>(disk: &mut D, names: &[&str]) -> bool {
     for name in names {
         if name.is_empty() || name.len() > LONGEST_FILE_NAME || disk.put(name, b"x").is_ok() {
             return false;
@@ -52,7 +52,7 @@ fn refuses<D: Disk>(disk: &mut D, names: &[&str]) -> bool {
 }
 
 // Some names from a prefix and a name on, and what is listed.
-type Rows<'a> = &'a [(&'a str, &'a str, usize, &'a [&'a str])];
+pub(crate) type Rows<'a> = &'a [(&'a str, &'a str, usize, &'a [&'a str])];
 
 fn are(found: Result<sp_base::NameList, DiskFault>, wanted: &[&str]) -> bool {
     match found {
@@ -64,7 +64,7 @@ fn are(found: Result<sp_base::NameList, DiskFault>, wanted: &[&str]) -> bool {
     }
 }
 
-fn lists<D: Disk>(alloc: Global, disk: &mut D, rows: Rows<'_>) -> bool {
+pub(crate) fn lists<D: Disk>(alloc: Global, disk: &mut D, rows: Rows<'_>) -> bool {
     for (prefix, after, most, wanted) in rows {
         if !are(disk.list(alloc, prefix, after, *most), wanted) {
             return false;
@@ -73,7 +73,7 @@ fn lists<D: Disk>(alloc: Global, disk: &mut D, rows: Rows<'_>) -> bool {
     true
 }
 
-const FILES: &[(&str, &str)] = &[
+pub(crate) const FILES: &[(&str, &str)] = &[
     (".epoch", "e"),
     ("a.html", "2"),
     ("a/.stat", "s"),
@@ -87,7 +87,7 @@ const LISTED: Rows<'_> = &[
     ("b", "", 9, &[]),
 ];
 
-const NOTHING: Rows<'_> = &[("", "", 9, &[])];
+pub(crate) const NOTHING: Rows<'_> = &[("", "", 9, &[])];
 
 fn keeps_files<D: Disk>(alloc: Global, disk: &mut D) -> bool {
     lists(alloc, disk, NOTHING)
@@ -115,7 +115,7 @@ fn leaves_files(rt: &HostRuntime) -> bool {
     }
 }
 
-fn is_absent(rt: &HostRuntime, name: &str) -> bool {
+pub(crate) fn is_absent(rt: &HostRuntime, name: &str) -> bool {
     matches!(fs::exists(rt, name), Ok(false))
 }
 
@@ -302,7 +302,7 @@ fn a_failed_change_leaves_what_is_held(rt: HostRuntime) {
     assert!(rt; leaves_what_is_held(&rt));
 }
 
-const ONE: &[(&str, &str)] = &[("a/x", "1")];
+pub(crate) const ONE: &[(&str, &str)] = &[("a/x", "1")];
 
 fn puts_one(rt: &HostRuntime) -> bool {
     match fresh(rt, "disk_of_a_slash") {

@@ -50,10 +50,11 @@ keeps_page files new name stamp beside heads rises before held =
 keeps_folder : (files new : Files) (name : List ℕ) (stamp : Stamp) → Beside files new name → StatsKept new name → epoch_held files ≤ epoch_held new → HasNoLaterStamp files → IsFolderStamp new stamp → stamp.epoch ≤ epoch_held new
 keeps_folder files new name stamp beside stats rises before held =
     let folder = held.0 in
-    let text = held.1.0 in
-    let at = held.1.1 in
+    let path = held.1.0 in
+    let text = held.1.1.0 in
+    let at = held.1.1.1 in
     ⊎_elim (λ e. stats folder text e stamp at)
-    (λ differ. omega (arith, rises, before stamp (inr (folder, (text, ap (option_and_then stat_of) (sym (beside (stat_name folder) differ)) ∙ at)))))
+    (λ differ. omega (arith, rises, before stamp (inr (folder, (path, (text, ap (option_and_then stat_of) (sym (beside (stat_name folder) differ)) ∙ at))))))
     (decide (stat_name folder) name)
 
 keeps : (files new : Files) (name : List ℕ) → Beside files new name → HeadsKept new name → StatsKept new name → epoch_held files ≤ epoch_held new → HasNoLaterStamp files → HasNoLaterStamp new

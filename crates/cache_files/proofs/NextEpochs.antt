@@ -5,7 +5,7 @@ use Rattle.std.proofs.lemmas.Bool.Decides.{nat_tests}
 use Rattle.sp_outside.specs.Files.{Files, file_at}
 use Rattle.docroot_format.specs.Names.{epoch_name}
 use Rattle.docroot_format.specs.Readings.{epoch_of}
-use Rattle.cache_files.specs.Epochs.{after_epoch, epoch_after, epoch_held, last_epoch, next_epoch}
+use Rattle.cache_files.specs.Epochs.{after_epoch, epoch_after, epoch_held, greatest_epoch, next_epoch}
 use Rattle.cache_files.specs.declared.epoch.OpenFault.TheVariants.{EpochEnd}
 
 value : (b : Bool) (held epoch : ℕ) → cond b (Err EpochEnd) (Ok (held + 1)) ≡ Ok epoch → held + 1 ≡ epoch
@@ -14,7 +14,7 @@ value false held epoch e = cc
 
 after : (read : Option ℕ) (epoch before : ℕ) → after_epoch read ≡ Ok epoch → before ≤ unwrap_or read 0 → before < epoch
 after None epoch before e small = absurd cc
-after (Some held) epoch before e small = omega (arith, small, value (nat_eq held last_epoch) held epoch e)
+after (Some held) epoch before e small = omega (arith, small, value (nat_eq held greatest_epoch) held epoch e)
 
 above_held : (found : Option (List ℕ)) (epoch before : ℕ) → epoch_after found ≡ Ok epoch → before ≤ unwrap_or (option_and_then epoch_of found) 0 → before < epoch
 above_held None epoch before e small =
@@ -31,14 +31,14 @@ not_end : (b : Bool) (held epoch : ℕ) → cond b (Err EpochEnd) (Ok (held + 1)
 not_end true held epoch e = absurd cc
 not_end false held epoch e = refl
 
-before_last : (held : ℕ) → held < 2 ^ 64 → nat_eq held last_epoch ≡ false → held < last_epoch
+before_last : (held : ℕ) → held < 2 ^ 64 → nat_eq held greatest_epoch ≡ false → held < greatest_epoch
 before_last held small differ = grind (arith, nat_tests)
 
 small_after : (read : Option ℕ) (epoch : ℕ) → ((held : ℕ) → read ≡ Some held → held < 2 ^ 64) → after_epoch read ≡ Ok epoch → epoch < 2 ^ 64
 small_after None epoch small e = absurd cc
 small_after (Some held) epoch small e =
-    let less : held < last_epoch = before_last held (small held refl) (not_end (nat_eq held last_epoch) held epoch e) in
-    omega (arith, less, value (nat_eq held last_epoch) held epoch e)
+    let less : held < greatest_epoch = before_last held (small held refl) (not_end (nat_eq held greatest_epoch) held epoch e) in
+    omega (arith, less, value (nat_eq held greatest_epoch) held epoch e)
 
 small_next : (found : Option (List ℕ)) (epoch : ℕ) → ((text : List ℕ) (held : ℕ) → epoch_of text ≡ Some held → (0 < held) × (held < 2 ^ 64)) → epoch_after found ≡ Ok epoch → epoch < 2 ^ 64
 small_next None epoch fits e =

@@ -18,13 +18,13 @@ open_fault Failed = Disk
 open_fault no_room = NoMemory
 
 -- the greatest number of a session
-abbrev pub last_epoch : ℕ
-last_epoch = greatest_u64
+abbrev pub greatest_epoch : ℕ
+greatest_epoch = greatest_u64
 
 -- the number after one that was read
 abbrev pub after_epoch : Option ℕ → Result ℕ OpenFault
 after_epoch None = Err Foreign
-after_epoch (Some epoch) = if epoch == last_epoch then Err EpochEnd else Ok (epoch + 1)
+after_epoch (Some epoch) = if epoch == greatest_epoch then Err EpochEnd else Ok (epoch + 1)
 
 -- the number of the session after the one that the file holds: 1 where there is none
 abbrev pub epoch_after : Option (List ℕ) → Result ℕ OpenFault

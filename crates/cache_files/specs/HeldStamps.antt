@@ -1,7 +1,8 @@
 -- The stamps that the files of the docroot hold, beside the number of the session.
-use Rattle.std.specs.Prelude.{◌≡◌, ◌⊎◌, ◌≤◌, ◌<◌, ◌^◌, Some, option_and_then}
+use Rattle.std.specs.Prelude.{◌≡◌, ◌⊎◌, ◌≤◌, ◌<◌, ◌^◌, IsTrue, Some, option_and_then}
 use Rattle.std.specs.List.{AllByRecursion}
 use Rattle.sp_base.specs.Bytes.{AreBytes}
+use Rattle.sp_base.specs.Paths.{is_path}
 use Rattle.sp_base.specs.Texts.{Segments}
 use Rattle.sp_base.specs.declared.answer.Answer.{Answer}
 use Rattle.sp_outside.specs.Files.{Files, file_at}
@@ -18,9 +19,9 @@ use Rattle.cache_files.specs.Pages.{IsPagePut, head_at}
 abbrev pub IsPageStamp : Files → Stamp → Type 0
 IsPageStamp files stamp = (key : PageKey) × (IsPageKey key × ((head : HeadNote) × ((head_at files key ≡ Some head) × (head.stamp ≡ stamp))))
 
--- the .stat file of a folder is of the form, and has this stamp
+-- the .stat file of a folder, which is a path, is of the form, and has this stamp
 abbrev pub IsFolderStamp : Files → Stamp → Type 0
-IsFolderStamp files stamp = (folder : Segments) × (AllByRecursion AreBytes folder × (option_and_then stat_of (file_at files (stat_name folder)) ≡ Some (stamp.epoch, stamp.count)))
+IsFolderStamp files stamp = (folder : Segments) × (IsTrue (is_path folder) × (AllByRecursion AreBytes folder × (option_and_then stat_of (file_at files (stat_name folder)) ≡ Some (stamp.epoch, stamp.count))))
 
 -- the files hold a stamp
 abbrev pub HoldsStamp : Files → Stamp → Type 0

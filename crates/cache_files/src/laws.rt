@@ -11,7 +11,7 @@ ghost use Rattle.cover_rules.specs.Pages.{IsPageKey};
 ghost use Rattle.cover_rules.specs.declared.page.PageKey.{PageKey};
 ghost use Rattle.cover_rules.specs.declared.stamp.Stamp.{Stamp};
 ghost use Rattle.cache_files.specs.Changes.{HasNoPage, HasPage, HasSamePage, IsOldNoneOrNew, IsOldOrNone, KeepsFiles, KeepsOtherPages, KeepsPages, KeepsStamps, LeftByDrop, LeftByDryPut, LeftByPut};
-ghost use Rattle.cache_files.specs.Epochs.{epoch_held, last_epoch, next_epoch};
+ghost use Rattle.cache_files.specs.Epochs.{epoch_held, greatest_epoch, next_epoch};
 ghost use Rattle.cache_files.specs.Pages.{IsPagePut, files_with_page, files_without_page, head_at, known_at, page_at, page_body_name, page_head_name};
 
 use docroot_format::{names_are_apart, texts_are_read_back};
@@ -114,7 +114,7 @@ pub fn a_failed_drop_leaves_whole_pages()
 
 /// Each session has a number above that of the last one, and so above every number up to it.
 pub fn epochs_rise()
-    ensures next { (files : Files) (epoch : ℕ) → 0 < epoch → epoch < last_epoch → next_epoch (with_file files epoch_name (epoch_text epoch)) ≡ Ok (epoch + 1) }
+    ensures next { (files : Files) (epoch : ℕ) → 0 < epoch → epoch < greatest_epoch → next_epoch (with_file files epoch_name (epoch_text epoch)) ≡ Ok (epoch + 1) }
     ensures above { (files : Files) (epoch before : ℕ) → next_epoch files ≡ Ok epoch → before ≤ epoch_held files → before < epoch }
 {
     files_have_names();

@@ -4,7 +4,7 @@ use Rattle.std.proofs.lemmas.List.Elements.{Contains-append_cases, Contains-appe
 use Rattle.sp_base.specs.declared.answer.Answer.{Answer}
 use Rattle.cover_rules.specs.declared.page.PageKey.{PageKey}
 use Rattle.cover_rules.specs.declared.invalidation.Invalidation.{Invalidation}
-use Rattle.cache_log.specs.Entries.{Fate, Outcome, Done, LogEntry, Asked, Landed, Lost, Begun, Ended}
+use Rattle.cache_log.specs.Entries.{Fate, FlushOutcome, Done, LogEntry, Asked, Landed, Lost, Begun, Ended}
 use Rattle.cache_log.specs.Hits.{HasDone, InAir, Unfinished}
 use Rattle.cache_log.specs.Flown.{IsDoneFlush, IsFlight, IsFlying, IsUnfinishedFlush}
 
@@ -28,7 +28,7 @@ rest-within y ys x h = Contains-append_right (y ∷ []) ys x h
 
 -- ---- unfinished flushes
 
-more-unfinished : (e : LogEntry) (log : List LogEntry) (v : ℕ) (inv : Invalidation) → ((o : Outcome) → e ≢ Ended v o) → IsUnfinishedFlush log v inv → IsUnfinishedFlush (e ∷ log) v inv
+more-unfinished : (e : LogEntry) (log : List LogEntry) (v : ℕ) (inv : Invalidation) → ((o : FlushOutcome) → e ≢ Ended v o) → IsUnfinishedFlush log v inv → IsUnfinishedFlush (e ∷ log) v inv
 more-unfinished e log v inv not u = record {
   since = e ∷ u.since;
   before = u.before;
@@ -43,7 +43,7 @@ unfinished-placed (Begun w b ∷ log) v inv (inr u) = more-unfinished (Begun w b
 unfinished-placed (Ended w p ∷ log) v inv u = more-unfinished (Ended w p) log v inv (λ o is. u.0 (cc is)) (unfinished-placed log v inv u.1)
 unfinished-placed (e ∷ log) v inv u = more-unfinished e log v inv (λ o is. cc is) (unfinished-placed log v inv u)
 
-unfinished-since : (v : ℕ) (inv : Invalidation) (before since : List LogEntry) → ((o : Outcome) → Contains since (Ended v o) → ⊥) → Unfinished (since ++ Begun v inv ∷ before) v inv
+unfinished-since : (v : ℕ) (inv : Invalidation) (before since : List LogEntry) → ((o : FlushOutcome) → Contains since (Ended v o) → ⊥) → Unfinished (since ++ Begun v inv ∷ before) v inv
 unfinished-since v inv before [] none = inl (refl, refl)
 unfinished-since v inv before (Begun w b ∷ since) none = inr (unfinished-since v inv before since (λ o h. none o (rest-within (Begun w b) since (Ended v o) h)))
 unfinished-since v inv before (Ended w p ∷ since) none = ((λ same. none p (subst (λ (x : ℕ). Contains (Ended w p ∷ since) (Ended x p)) same (first-within (Ended w p) since))), unfinished-since v inv before since (λ o h. none o (rest-within (Ended w p) since (Ended v o) h)))

@@ -14,9 +14,9 @@ pub data Fate : Type 0 where
   Passed : Fate
 
 -- how a flush ended: all that it deletes is gone and all that it touches is touched (done), or maybe not (failed)
-pub data Outcome : Type 0 where
-  Done : Outcome
-  Failed : Outcome
+pub data FlushOutcome : Type 0 where
+  Done : FlushOutcome
+  Failed : FlushOutcome
 
 -- An entry. A flight is asked, for a page if it has a key, and lands with an answer or is lost. A flush begins with its invalidation, and
 -- each slice of it leaves more to do (sliced) or ends it. A page is answered from the store (hit). A restart comes up with an epoch, or goes
@@ -27,7 +27,7 @@ pub data LogEntry : Type 0 where
   Lost : (number : FlightId) → LogEntry
   Begun : (number : FlushId) (inv : Invalidation) → LogEntry
   Sliced : (number : FlushId) → LogEntry
-  Ended : (number : FlushId) (outcome : Outcome) → LogEntry
+  Ended : (number : FlushId) (outcome : FlushOutcome) → LogEntry
   Hit : (key : PageKey) → LogEntry
   Up : (epoch : ℕ) → LogEntry
   Down : LogEntry

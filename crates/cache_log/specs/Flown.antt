@@ -6,7 +6,7 @@ use Rattle.any_config.specs.declared.farm.Farm.{Farm}
 use Rattle.cover_rules.specs.declared.page.PageKey.{PageKey}
 use Rattle.cover_rules.specs.declared.invalidation.Invalidation.{Invalidation}
 use Rattle.cache_log.specs.Ids.{FlightId, FlushId}
-use Rattle.cache_log.specs.Entries.{Fate, Kept, Unkept, Passed, Outcome, Done, LogEntry, Asked, Landed, Lost, Begun, Ended, Up, Session}
+use Rattle.cache_log.specs.Entries.{Fate, Kept, Unkept, Passed, FlushOutcome, Done, LogEntry, Asked, Landed, Lost, Begun, Ended, Up, Session}
 use Rattle.cache_log.specs.Hits.{Covers, stored}
 
 -- a restart of the log came up with this epoch, or a session of it began with it
@@ -18,7 +18,7 @@ pub record IsUnfinishedFlush (log : List LogEntry) (flush : FlushId) (inv : Inva
   pub since : List LogEntry
   pub before : List LogEntry
   pub place : log ≡ since ++ Begun flush inv ∷ before
-  pub none_ended : (outcome : Outcome) → Contains since (Ended flush outcome) → ⊥
+  pub none_ended : (outcome : FlushOutcome) → Contains since (Ended flush outcome) → ⊥
 
 -- A flush that ended done: it ended so at a place of the log, and was unfinished before.
 pub record IsDoneFlush (log : List LogEntry) (inv : Invalidation) : Type 0 where

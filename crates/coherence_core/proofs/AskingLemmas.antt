@@ -20,14 +20,15 @@ use Rattle.cache_log.specs.Entries.{LogEntry, Asked, Begun, Hit, flushes_begun, 
 use Rattle.cache_log.specs.Hits.{Covers, Unfinished}
 use Rattle.cache_log.specs.Rules.{AllAllowed, CallConditions, IsOwed}
 use Rattle.coherence_core.specs.Asking.{HasBegunFlush, core_asking, is_barred, next_flight}
-use Rattle.coherence_core.specs.Cores.{StandsOver, call_conditions, drawn_of, most_stamps}
+use Rattle.coherence_core.specs.Cores.{StandsOver, conditions_of_call, drawn_of}
 use Rattle.coherence_core.specs.Facts.{CoverageFacts}
-use Rattle.coherence_core.specs.Served.{serves}
-use Rattle.coherence_core.specs.Stands.{AreLogFlushes, HasFlush, Stands, stamp}
+use Rattle.coherence_core.specs.Served.{serves_page}
+use Rattle.coherence_core.specs.Stands.{AreLogFlushes, HasFlush, CoreStands, stamp}
 use Rattle.coherence_core.specs.declared.core_state.Core.{Core}
 use Rattle.coherence_core.specs.declared.pending.Pending.{Pending}
 use Rattle.coherence_core.proofs.RequestSteps.{begin, hit, launch}
 use Rattle.coherence_core.proofs.SliceBounds.{adds_none, names_begin, names_stay}
+use Rattle.cache_log.specs.Limits.{most_stamps}
 
 -- ---- what an unfinished flush covers
 
@@ -57,7 +58,7 @@ module _ (found : ℕ) (core : Core) (up : core.down ≡ false) where
       go true e = refl
       go false e = absurd (cc e)
 
-  pub hit_over : (under : CallConditions) (key : PageKey) (answer : Answer) (files : Files) (log : List LogEntry) → IsPageKey key → serves core.farm (page_at files) (stamp_at files) key ≡ Some answer → StandsOver found files core log → AllAllowed core.farm under (Hit key ∷ []) log × StandsOver found files core (Hit key ∷ log)
+  pub hit_over : (under : CallConditions) (key : PageKey) (answer : Answer) (files : Files) (log : List LogEntry) → IsPageKey key → serves_page core.farm (page_at files) (stamp_at files) key ≡ Some answer → StandsOver found files core log → AllAllowed core.farm under (Hit key ∷ []) log × StandsOver found files core (Hit key ∷ log)
   hit_over under key answer files log page is s = (
     ((is_up_now files log s, (answer, s.stands.holds.may key answer page is)), tt),
     record {
@@ -88,11 +89,11 @@ module _ (found : ℕ) (core : Core) (up : core.down ≡ false) where
         let h = any_on core.farm auto k (page_at files) log core.begun (stamp core.epoch (drawn_of core)) core.queue.items s.stands.flushing.each (ap (λ (o : Option PageKey). is_barred core.farm.level auto o core.queue.items) (sym is) ∙ on) in
         (h.0, h.1, h.2, ap (λ (b : Bool). covers core.farm.level b h.1 k) (sym (auto_is k is)) ∙ h.3)
 
-    pub ask_over : (disk_failed : Bool) (files : Files) (log : List LogEntry) → drawn_of core < most_stamps → (IsOwed core.farm log key → disk_failed ≡ true) → StandsOver found files core log → AllAllowed core.farm (call_conditions disk_failed false) (Asked (core.asked + 1) key ∷ []) log × StandsOver found files (core_asking core key auto) (Asked (core.asked + 1) key ∷ log)
+    pub ask_over : (disk_failed : Bool) (files : Files) (log : List LogEntry) → drawn_of core < most_stamps → (IsOwed core.farm log key → disk_failed ≡ true) → StandsOver found files core log → AllAllowed core.farm (conditions_of_call disk_failed false) (Asked (core.asked + 1) key ∷ []) log × StandsOver found files (core_asking core key auto) (Asked (core.asked + 1) key ∷ log)
     ask_over disk_failed files log left owed s = (
       ((is_up_now files log s, ap (λ (n : ℕ). n + 1) s.stands.counts.flights, owed), tt),
       record {
-        stands = subst (λ (d : ℕ). Stands core.farm (page_at files) (stamp_at files) (epoch_held files) (core.flights ++ flight ∷ []) core.queue.items (core.asked + 1) core.begun core.epoch d (Asked (core.asked + 1) key ∷ log)) (omega arith)
+        stands = subst (λ (d : ℕ). CoreStands core.farm (page_at files) (stamp_at files) (epoch_held files) (core.flights ++ flight ∷ []) core.queue.items (core.asked + 1) core.begun core.epoch d (Asked (core.asked + 1) key ∷ log)) (omega arith)
             (launch core.farm (page_at files) (stamp_at files) (epoch_held files) core.flights core.queue.items core.asked core.begun core.epoch (drawn_of core) log s.stands facts flight refl refl
             (rise 0 core.asked flight core.flights s.stands.flying.rising (omega arith)) (λ k is. (page_of_key k is, auto_is k is)) (free files log) (bar files log s));
         numbered = s.numbered;
@@ -107,14 +108,14 @@ module _ (found : ℕ) (core : Core) (up : core.down ≡ false) where
 
   module _ (next : Core) (flush : ℕ) (inv : Invalidation) (b : HasBegunFlush core next flush inv)
       (rise : (least most level : ℕ) (inv : Invalidation) (flights : List Flight) → AreRising least flights most → AreRising least (map (after_invalidation level inv) flights) most) where
-    begin_stands : (files : Files) (log : List LogEntry) → StandsOver found files core log → Stands core.farm (page_at files) (stamp_at files) (epoch_held files) (map (after_invalidation core.farm.level inv) core.flights) (core.queue.items ++ b.last ∷ []) core.asked (core.begun + 1) core.epoch (core.asked + (core.begun + 1)) (Begun flush inv ∷ log)
+    begin_stands : (files : Files) (log : List LogEntry) → StandsOver found files core log → CoreStands core.farm (page_at files) (stamp_at files) (epoch_held files) (map (after_invalidation core.farm.level inv) core.flights) (core.queue.items ++ b.last ∷ []) core.asked (core.begun + 1) core.epoch (core.asked + (core.begun + 1)) (Begun flush inv ∷ log)
     begin_stands files log s =
-        subst (λ (v : ℕ). Stands core.farm (page_at files) (stamp_at files) (epoch_held files) (map (after_invalidation core.farm.level inv) core.flights) (core.queue.items ++ b.last ∷ []) core.asked (core.begun + 1) core.epoch (core.asked + (core.begun + 1)) (Begun v inv ∷ log)) (sym b.next)
-        (subst (λ (d : ℕ). Stands core.farm (page_at files) (stamp_at files) (epoch_held files) (map (after_invalidation core.farm.level inv) core.flights) (core.queue.items ++ b.last ∷ []) core.asked (core.begun + 1) core.epoch d (Begun (core.begun + 1) inv ∷ log)) (omega arith)
-        (subst (λ (i : Invalidation). Stands core.farm (page_at files) (stamp_at files) (epoch_held files) (map (after_invalidation core.farm.level i) core.flights) (core.queue.items ++ b.last ∷ []) core.asked (core.begun + 1) core.epoch (drawn_of core + 1) (Begun (core.begun + 1) i ∷ log)) b.inv_is
+        subst (λ (v : ℕ). CoreStands core.farm (page_at files) (stamp_at files) (epoch_held files) (map (after_invalidation core.farm.level inv) core.flights) (core.queue.items ++ b.last ∷ []) core.asked (core.begun + 1) core.epoch (core.asked + (core.begun + 1)) (Begun v inv ∷ log)) (sym b.next)
+        (subst (λ (d : ℕ). CoreStands core.farm (page_at files) (stamp_at files) (epoch_held files) (map (after_invalidation core.farm.level inv) core.flights) (core.queue.items ++ b.last ∷ []) core.asked (core.begun + 1) core.epoch d (Begun (core.begun + 1) inv ∷ log)) (omega arith)
+        (subst (λ (i : Invalidation). CoreStands core.farm (page_at files) (stamp_at files) (epoch_held files) (map (after_invalidation core.farm.level i) core.flights) (core.queue.items ++ b.last ∷ []) core.asked (core.begun + 1) core.epoch (drawn_of core + 1) (Begun (core.begun + 1) i ∷ log)) b.inv_is
         (begin core.farm (page_at files) (stamp_at files) (epoch_held files) core.flights core.queue.items core.asked core.begun core.epoch (drawn_of core) log s.stands b.last (b.number ∙ b.next) b.stamp b.place b.level (rise 0 core.asked core.farm.level b.last.purge.inv core.flights s.stands.flying.rising))))
 
-    pub begin_over : (files : Files) (log : List LogEntry) → drawn_of core < most_stamps → StandsOver found files core log → AllAllowed core.farm (call_conditions false false) (Begun flush inv ∷ []) log × StandsOver found files next (Begun flush inv ∷ log)
+    pub begin_over : (files : Files) (log : List LogEntry) → drawn_of core < most_stamps → StandsOver found files core log → AllAllowed core.farm (conditions_of_call false false) (Begun flush inv ∷ []) log × StandsOver found files next (Begun flush inv ∷ log)
     begin_over files log left s =
         let counted : core.begun ≡ flushes_begun log = s.stands.counts.flushes in
         let one : flush ≡ flushes_begun log + 1 = b.next ∙ ap (λ (n : ℕ). n + 1) counted in (
@@ -131,7 +132,7 @@ module _ (found : ℕ) (core : Core) (up : core.down ≡ false) where
 
 -- ---- what isn't served isn't owed
 
-pub not_owed : (found : ℕ) (core : Core) (key : PageKey) (disk_failed : Bool) (files : Files) (log : List LogEntry) → IsPageKey key → (disk_failed ≡ false → serves core.farm (page_at files) (stamp_at files) key ≡ None) → StandsOver found files core log → IsOwed core.farm log (Some key) → disk_failed ≡ true
+pub not_owed : (found : ℕ) (core : Core) (key : PageKey) (disk_failed : Bool) (files : Files) (log : List LogEntry) → IsPageKey key → (disk_failed ≡ false → serves_page core.farm (page_at files) (stamp_at files) key ≡ None) → StandsOver found files core log → IsOwed core.farm log (Some key) → disk_failed ≡ true
 not_owed found core key disk_failed files log page none s owed = ⊎_elim
     (λ (on : disk_failed ≡ true). on)
     (λ (off : disk_failed ≡ false). absurd (cc (s.stands.holds.must key owed.0 page owed.1, none off)))

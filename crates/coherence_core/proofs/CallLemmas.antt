@@ -9,7 +9,7 @@ use Rattle.docroot_changes.specs.Changes.{KeepsNumber, Told}
 use Rattle.cache_log.specs.Entries.{LogEntry}
 use Rattle.cache_log.specs.Rules.{AllAllowed, Allowed, CallConditions}
 use Rattle.coherence_core.specs.Asking.{IsSameCore}
-use Rattle.coherence_core.specs.Cores.{Extends, StandsFor, StandsOver}
+use Rattle.coherence_core.specs.Cores.{ExtendsLogs, StandsFor, StandsOver}
 use Rattle.coherence_core.specs.Holds.{IsNumbered}
 use Rattle.coherence_core.specs.declared.core_state.Core.{Core}
 
@@ -53,7 +53,7 @@ numbered_same f g kept is = kept.next ∙ is ∙ ap (λ (e : ℕ). after_epoch (
 -- ---- extensions
 
 -- an extension, from one function
-pub extends : {farm : Farm} {old new : List LogEntry → Type 0} {under : CallConditions} {entries : List LogEntry} → ((log : List LogEntry) → old log → AllAllowed farm under entries log × new (entries ++ log)) → Extends farm old new under entries
+pub extends : {farm : Farm} {old new : List LogEntry → Type 0} {under : CallConditions} {entries : List LogEntry} → ((log : List LogEntry) → old log → AllAllowed farm under entries log × new (entries ++ log)) → ExtendsLogs farm old new under entries
 extends both = record { allowed = λ log s. (both log s).0; stands = λ log s. (both log s).1 }
 
 -- the entries of two calls
@@ -76,7 +76,7 @@ pub stands_same : (found : ℕ) (told : Option Files) (old new : Core) (log : Li
 stands_same found None old new log same s = s
 stands_same found (Some files) old new log same s = over_same found files old new log same s
 
-pub adds_nothing : (farm : Farm) (found : ℕ) (told : Option Files) (old new : Core) (under : CallConditions) → IsSameCore old new → Extends farm (StandsFor found told old) (StandsFor found told new) under []
+pub adds_nothing : (farm : Farm) (found : ℕ) (told : Option Files) (old new : Core) (under : CallConditions) → IsSameCore old new → ExtendsLogs farm (StandsFor found told old) (StandsFor found told new) under []
 adds_nothing farm found told old new under same = extends (λ log s. (tt, stands_same found told old new log same s))
 
 pub same_core : (old new : Core) → new ≡ old → IsSameCore old new

@@ -3,7 +3,7 @@ use Rattle.std.proofs.Common.{◌≡◌, ◌↔◌, ◌&&◌, ◌||◌, ℕ, Boo
 use Rattle.std.specs.List.{AllByRecursion, list_all}
 use Rattle.std.proofs.lemmas.Bool.{or_cases}
 use Rattle.sp_base.specs.Bytes.{AreBytes}
-use Rattle.sp_base.specs.Paths.{is_under, parent_of}
+use Rattle.sp_base.specs.Paths.{is_path, is_under, parent_of}
 use Rattle.sp_base.specs.Texts.{Segments}
 use Rattle.any_config.specs.declared.farm.Farm.{Farm}
 use Rattle.cover_rules.specs.Pages.{IsPageKey, is_folder_segment, page_key_of, page_path}
@@ -34,9 +34,10 @@ pub facts_of : (farm : Farm)
     → ((level : ℕ) (inv : Invalidation) (key : PageKey) → IsTrue (list_all is_folder_segment key.folder) → (outdates level true inv key ≡ true) ↔ Contains (touched_of level inv) (stat_folder level key))
     → ((key : PageKey) → IsPageKey key → IsTrue (list_all is_folder_segment key.folder))
     → ((level : ℕ) (path : Segments) (key : PageKey) → page_key_of path ≡ Some key → IsFolder (stat_folder level key))
+    → ((level : ℕ) (key : PageKey) → IsPageKey key → IsTrue (is_path (stat_folder level key)))
     → ((level : ℕ) (key : PageKey) → IsPageKey key → AllByRecursion AreBytes (stat_folder level key))
     → CoverageFacts farm
-facts_of farm law segments folders bytes = record {
+facts_of farm law segments folders paths bytes = record {
   deleted = λ inv key is. true_or (deletes inv key) (outdates farm.level (is_auto farm key) inv key) is;
   touched = λ inv key page auto there.
       let out : outdates farm.level true inv key ≡ true = (law farm.level inv key (segments key page)).1 there in
@@ -47,5 +48,5 @@ facts_of farm law segments folders bytes = record {
       let parts = outdates_parts farm.level (is_auto farm key) inv key h in
       inr (parts.0, (law farm.level inv key (segments key page)).0 parts.1))
       (or_cases (deletes inv key) (outdates farm.level (is_auto farm key) inv key) cov);
-  folder = λ key page. record { docroot = folders farm.level (page_path key) key page.own; bytes = bytes farm.level key page };
+  folder = λ key page. record { path = paths farm.level key page; docroot = folders farm.level (page_path key) key page.own; bytes = bytes farm.level key page };
 }

@@ -29,11 +29,11 @@ use Rattle.cache_log.specs.Entries.{LogEntry, Kept, Landed, Lost, Passed, Unkept
 use Rattle.cache_log.specs.Hits.{InAir, IsClear, stored}
 use Rattle.cache_log.specs.Rules.{CallConditions, MayStore}
 use Rattle.coherence_core.specs.Bounds.{BoundsSlices, most_files}
-use Rattle.coherence_core.specs.Cores.{Extends, StandsFor, StandsOver, call_conditions, drawn_of}
+use Rattle.coherence_core.specs.Cores.{ExtendsLogs, StandsFor, StandsOver, conditions_of_call, drawn_of}
 use Rattle.coherence_core.specs.Facts.{CoverageFacts}
 use Rattle.coherence_core.specs.Landings.{DeliveredAs, IsKeptAs, IsKeptFrom, IsStored, fate_of, landed_under}
 use Rattle.coherence_core.specs.Served.{Before, IsFresh, stat_for}
-use Rattle.coherence_core.specs.Stands.{IsLogFlight, Stands, stamp}
+use Rattle.coherence_core.specs.Stands.{IsLogFlight, CoreStands, stamp}
 use Rattle.coherence_core.specs.declared.answers.Landed.{Landed as LandedAs}
 use Rattle.coherence_core.specs.declared.answers.Landed.TheVariants as landed
 use Rattle.coherence_core.specs.declared.core_state.Core.{Core}
@@ -91,7 +91,7 @@ module _ (found : ℕ) (core : Core) (n : ℕ) (f : Flight) (at : flight_at n co
   rising : (files : Files) (log : List LogEntry) → StandsOver found files core log → AreRising 0 (without n core.flights) core.asked
   rising files log s = left 0 n core.asked core.flights s.stands.flying.rising
 
-  pub gone_lost : (told : Option Files) (under : CallConditions) → Extends core.farm (StandsFor found told core) (StandsFor found told (record core { flights = next })) under (Lost n ∷ [])
+  pub gone_lost : (told : Option Files) (under : CallConditions) → ExtendsLogs core.farm (StandsFor found told core) (StandsFor found told (record core { flights = next })) under (Lost n ∷ [])
   gone_lost None under = extends (λ log s. absurd s)
   gone_lost (Some files) under = extends (λ log s. (
     ((f.key, air files log s), tt),
@@ -106,7 +106,7 @@ module _ (found : ℕ) (core : Core) (n : ℕ) (f : Flight) (at : flight_at n co
   ))
 
   -- a landing that isn't stored, since it may not be
-  gone_passed : (told : Option Files) (under : CallConditions) (a : Answer) → ((files : Files) (log : List LogEntry) → StandsOver found files core log → MayStore core.farm log n f.key a → ⊥) → Extends core.farm (StandsFor found told core) (StandsFor found told (record core { flights = next })) under (Landed n f.key a Passed ∷ [])
+  gone_passed : (told : Option Files) (under : CallConditions) (a : Answer) → ((files : Files) (log : List LogEntry) → StandsOver found files core log → MayStore core.farm log n f.key a → ⊥) → ExtendsLogs core.farm (StandsFor found told core) (StandsFor found told (record core { flights = next })) under (Landed n f.key a Passed ∷ [])
   gone_passed None under a why = extends (λ log s. absurd s)
   gone_passed (Some files) under a why = extends (λ log s. (
     ((air files log s, why files log s), tt),
@@ -120,10 +120,10 @@ module _ (found : ℕ) (core : Core) (n : ℕ) (f : Flight) (at : flight_at n co
     }),
   ))
 
-  unkeyed : (told : Option Files) (under : CallConditions) (a : Answer) → f.key ≡ None → Extends core.farm (StandsFor found told core) (StandsFor found told (record core { flights = next })) under (Landed n f.key a Passed ∷ [])
+  unkeyed : (told : Option Files) (under : CallConditions) (a : Answer) → f.key ≡ None → ExtendsLogs core.farm (StandsFor found told core) (StandsFor found told (record core { flights = next })) under (Landed n f.key a Passed ∷ [])
   unkeyed told under a none = gone_passed told under a (λ files log s may. subst (λ (k : Option PageKey). MayStore core.farm log n k a) none may)
 
-  voided : (told : Option Files) (under : CallConditions) (a : Answer) (key : PageKey) → (f.voided ≡ true) × (f.key ≡ Some key) → Extends core.farm (StandsFor found told core) (StandsFor found told (record core { flights = next })) under (Landed n f.key a Passed ∷ [])
+  voided : (told : Option Files) (under : CallConditions) (a : Answer) (key : PageKey) → (f.voided ≡ true) × (f.key ≡ Some key) → ExtendsLogs core.farm (StandsFor found told core) (StandsFor found told (record core { flights = next })) under (Landed n f.key a Passed ∷ [])
   voided told under a key h = gone_passed told under a (λ files log s may.
       let k = known files log s in
       let clear : IsClear core.farm log n key = (subst (λ (x : Option PageKey). MayStore core.farm log n x a) h.1 may).1 in
@@ -149,9 +149,9 @@ module _ (found : ℕ) (core : Core) (n : ℕ) (f : Flight) (at : flight_at n co
 
       -- what stands over the files by their number and their stamps, stands over those after
       over : (next_log : List LogEntry) → core.down ≡ not (is_up next_log) → BesidePage c.key files after → (c.stamp.epoch ≤ epoch_held files → KeepsOrder files after) → BoundsSlices core.farm found after core.queue.items next_log
-          → Stands core.farm (page_at after) (stamp_at files) (epoch_held files) (without n core.flights) core.queue.items core.asked core.begun core.epoch (drawn_of core) next_log → StandsOver found after (record core { flights = next }) next_log
+          → CoreStands core.farm (page_at after) (stamp_at files) (epoch_held files) (without n core.flights) core.queue.items core.asked core.begun core.epoch (drawn_of core) next_log → StandsOver found after (record core { flights = next }) next_log
       over next_log down beside order slices stands = subst (λ (l : List Flight). StandsOver found after (record core { flights = l }) next_log) (sym is) (record {
-        stands = subst (λ (e : ℕ). Stands core.farm (page_at after) (stamp_at after) e (without n core.flights) core.queue.items core.asked core.begun core.epoch (drawn_of core) next_log) (sym beside.number.held)
+        stands = subst (λ (e : ℕ). CoreStands core.farm (page_at after) (stamp_at after) e (without n core.flights) core.queue.items core.asked core.begun core.epoch (drawn_of core) next_log) (sym beside.number.held)
             (same_files core.farm facts (page_at after) (page_at after) (stamp_at files) (stamp_at after) (λ k good. refl) (λ g good. beside.stamps g good.bytes) (epoch_held files) (without n core.flights) core.queue.items core.asked core.begun core.epoch (drawn_of core) next_log stands);
         numbered = numbered_same files after beside.number s.numbered;
         order = order low_here s.order;
@@ -185,32 +185,32 @@ module _ (found : ℕ) (core : Core) (n : ℕ) (f : Flight) (at : flight_at n co
           (names_stay core.farm found 2 files after core.queue.items log (Landed n (Some c.key) a Unkept ∷ log) t.names (two_more core.farm found log (landings_stored log + 1) refl (flushes_begun log) refl) (λ v. refl) refl s.slices)
           (unkept core.farm (page_at files) (stamp_at files) (epoch_held files) core.flights core.queue.items core.asked core.begun core.epoch (drawn_of core) log s.stands n (rising files log s) c.key a (page_of c.stamp a.kind a.body) (stored_is c.stamp a storable) (page_at after) (put_may fault t) clear_here own_here facts)
 
-    for_key : (told new : Option Files) (out : LandedAs) → IsStored c.key c.stamp a out told new → Extends core.farm (StandsFor found told core) (StandsFor found new (record core { flights = next })) (landed_under out) (Landed n (Some c.key) a (fate_of out) ∷ [])
+    for_key : (told new : Option Files) (out : LandedAs) → IsStored c.key c.stamp a out told new → ExtendsLogs core.farm (StandsFor found told core) (StandsFor found new (record core { flights = next })) (landed_under out) (Landed n (Some c.key) a (fate_of out) ∷ [])
     for_key None new out t = extends (λ log s. absurd s)
     for_key (Some files) None (landed.Kept k) t = absurd t.1
     for_key (Some files) None landed.Passed t = absurd (cc t.1)
     for_key (Some files) None landed.DiskFailed t = absurd t.1
     for_key (Some files) None landed.NoMemory t = absurd t.1
     for_key (Some files) (Some after) (landed.Kept k) t = extends (λ log s. (((air_here files after log s, (t.0, clear_here files after log s)), tt), whole files after log s t.0 t.1))
-    for_key (Some files) (Some after) landed.Passed t = subst (λ (told : Option Files). Extends core.farm (StandsOver found files core) (StandsFor found told (record core { flights = next })) (landed_under landed.Passed) (Landed n (Some c.key) a Passed ∷ [])) (sym t.1)
-        (subst (λ (x : Option PageKey). Extends core.farm (StandsOver found files core) (StandsOver found files (record core { flights = next })) (landed_under landed.Passed) (Landed n x a Passed ∷ [])) clear.1
+    for_key (Some files) (Some after) landed.Passed t = subst (λ (told : Option Files). ExtendsLogs core.farm (StandsOver found files core) (StandsFor found told (record core { flights = next })) (landed_under landed.Passed) (Landed n (Some c.key) a Passed ∷ [])) (sym t.1)
+        (subst (λ (x : Option PageKey). ExtendsLogs core.farm (StandsOver found files core) (StandsOver found files (record core { flights = next })) (landed_under landed.Passed) (Landed n x a Passed ∷ [])) clear.1
         (gone_passed (Some files) (landed_under landed.Passed) a (λ fs log s may. let is_so : is_storable a ≡ true = (subst (λ (x : Option PageKey). MayStore core.farm log n x a) clear.1 may).0 in absurd (cc (is_so, t.0)))))
     for_key (Some files) (Some after) landed.DiskFailed t = extends (λ log s. (((air_here files after log s, (t.0, clear_here files after log s), inl refl), tt), part files after log s Disk t.0 t.1))
     for_key (Some files) (Some after) landed.NoMemory t = extends (λ log s. (((air_here files after log s, (t.0, clear_here files after log s), inr refl), tt), part files after log s NoMemory t.0 t.1))
 
-    gone_stored : (told new : Option Files) (out : LandedAs) → IsStored c.key c.stamp a out told new → Extends core.farm (StandsFor found told core) (StandsFor found new (record core { flights = next })) (landed_under out) (Landed n f.key a (fate_of out) ∷ [])
-    gone_stored told new out t = subst (λ (x : Option PageKey). Extends core.farm (StandsFor found told core) (StandsFor found new (record core { flights = next })) (landed_under out) (Landed n x a (fate_of out) ∷ [])) (sym clear.1) (for_key told new out t)
+    gone_stored : (told new : Option Files) (out : LandedAs) → IsStored c.key c.stamp a out told new → ExtendsLogs core.farm (StandsFor found told core) (StandsFor found new (record core { flights = next })) (landed_under out) (Landed n f.key a (fate_of out) ∷ [])
+    gone_stored told new out t = subst (λ (x : Option PageKey). ExtendsLogs core.farm (StandsFor found told core) (StandsFor found new (record core { flights = next })) (landed_under out) (Landed n x a (fate_of out) ∷ [])) (sym clear.1) (for_key told new out t)
 
 -- ---- what a landing came to
 
 module _ (core : Core) (n : ℕ) (f : Flight) (at : flight_at n core.flights ≡ Some f) (next : List Flight) (is : next ≡ without n core.flights)
     (left : (least number most : ℕ) (flights : List Flight) → AreRising least flights most → AreRising least (without number flights) most) (facts : CoverageFacts core.farm) (a : Answer) (told new : Option Files) where
-  passed_on : (found : ℕ) (out : LandedAs) → out ≡ landed.Passed → new ≡ told → Extends core.farm (StandsFor found told core) (StandsFor found told (record core { flights = next })) (call_conditions false false) (Landed n f.key a Passed ∷ []) → Extends core.farm (StandsFor found told core) (StandsFor found new (record core { flights = next })) (landed_under out) (Landed n f.key a (fate_of out) ∷ [])
+  passed_on : (found : ℕ) (out : LandedAs) → out ≡ landed.Passed → new ≡ told → ExtendsLogs core.farm (StandsFor found told core) (StandsFor found told (record core { flights = next })) (conditions_of_call false false) (Landed n f.key a Passed ∷ []) → ExtendsLogs core.farm (StandsFor found told core) (StandsFor found new (record core { flights = next })) (landed_under out) (Landed n f.key a (fate_of out) ∷ [])
   passed_on found out out_is same e = rw (out_is, same) e
 
-  pub landing_owes : (landing : Landing) (out : LandedAs) → LandsAs f landing → IsKeptFrom landing a out told new → (found : ℕ) → Extends core.farm (StandsFor found told core) (StandsFor found new (record core { flights = next })) (landed_under out) (Landed n f.key a (fate_of out) ∷ [])
-  landing_owes Unkeyed out lands kept found = passed_on found out kept.0 kept.1 (unkeyed found core n f at next is left told (call_conditions false false) a lands)
-  landing_owes (Voided key) out lands kept found = passed_on found out kept.0 kept.1 (voided found core n f at next is left told (call_conditions false false) a key lands)
+  pub landing_owes : (landing : Landing) (out : LandedAs) → LandsAs f landing → IsKeptFrom landing a out told new → (found : ℕ) → ExtendsLogs core.farm (StandsFor found told core) (StandsFor found new (record core { flights = next })) (landed_under out) (Landed n f.key a (fate_of out) ∷ [])
+  landing_owes Unkeyed out lands kept found = passed_on found out kept.0 kept.1 (unkeyed found core n f at next is left told (conditions_of_call false false) a lands)
+  landing_owes (Voided key) out lands kept found = passed_on found out kept.0 kept.1 (voided found core n f at next is left told (conditions_of_call false false) a key lands)
   landing_owes (Clear c) out lands kept found = gone_stored found core n f at next is left facts c lands a told new out kept.0
 
 -- the same without a log

@@ -16,7 +16,7 @@ use Rattle.coherence_core.specs.Cores.{StandsOver, drawn_of, flushes_of}
 use Rattle.coherence_core.specs.Facts.{CoverageFacts}
 use Rattle.coherence_core.specs.Holds.{HoldsClosed}
 use Rattle.coherence_core.specs.Sessions.{closing_entries, failed_entries, lost_entries}
-use Rattle.coherence_core.specs.Stands.{Stands}
+use Rattle.coherence_core.specs.Stands.{CoreStands}
 use Rattle.coherence_core.specs.declared.core_state.Core.{Core}
 use Rattle.coherence_core.specs.declared.pending.Pending.{Pending}
 use Rattle.coherence_core.proofs.CallLemmas.{allowed_append}
@@ -33,11 +33,11 @@ without_first f fs = (rw (eq-eqb f.number f.number refl))
 module _ (found : ℕ) (farm : Farm) (files : Files) (queue : List Pending) (asked begun epoch drawn : ℕ) (under : CallConditions)
     (left : (least number most : ℕ) (flights : List Flight) → AreRising least flights most → AreRising least (without number flights) most) where
   abbrev StandsFlying : List Flight → List LogEntry → Type 0
-  StandsFlying flights log = Stands farm (page_at files) (stamp_at files) (epoch_held files) flights queue asked begun epoch drawn log × BoundsSlices farm found files queue log
+  StandsFlying flights log = CoreStands farm (page_at files) (stamp_at files) (epoch_held files) flights queue asked begun epoch drawn log × BoundsSlices farm found files queue log
 
   one_lost : (f : Flight) (fs : List Flight) (log : List LogEntry) → StandsFlying (f ∷ fs) log → StandsFlying fs (Lost f.number ∷ log)
   one_lost f fs log s = (
-    subst (λ (l : List Flight). Stands farm (page_at files) (stamp_at files) (epoch_held files) l queue asked begun epoch drawn (Lost f.number ∷ log)) (without_first f fs)
+    subst (λ (l : List Flight). CoreStands farm (page_at files) (stamp_at files) (epoch_held files) l queue asked begun epoch drawn (Lost f.number ∷ log)) (without_first f fs)
         (lost farm (page_at files) (stamp_at files) (epoch_held files) (f ∷ fs) queue asked begun epoch drawn log s.0 f.number (left 0 f.number asked (f ∷ fs) s.0.flying.rising)),
     names_stay farm found 0 files files queue log (Lost f.number ∷ log) (adds_none files) (omega arith) (λ v. refl) refl s.1,
   )
@@ -62,10 +62,10 @@ module _ (found : ℕ) (files : Files) (core : Core) (log : List LogEntry) (s : 
   failed_of = failed_entries (flushes_of core)
 
   abbrev StandsClosed : List LogEntry → Type 0
-  StandsClosed l = Stands core.farm (page_at files) (stamp_at files) (epoch_held files) [] [] core.asked core.begun core.epoch (drawn_of core) l
+  StandsClosed l = CoreStands core.farm (page_at files) (stamp_at files) (epoch_held files) [] [] core.asked core.begun core.epoch (drawn_of core) l
 
   module _ (under : CallConditions) (restarts : under.restarts ≡ true) where
-    landed : AllAllowed core.farm under lost_of log × (Stands core.farm (page_at files) (stamp_at files) (epoch_held files) [] core.queue.items core.asked core.begun core.epoch (drawn_of core) (lost_of ++ log) × BoundsSlices core.farm found files core.queue.items (lost_of ++ log))
+    landed : AllAllowed core.farm under lost_of log × (CoreStands core.farm (page_at files) (stamp_at files) (epoch_held files) [] core.queue.items core.asked core.begun core.epoch (drawn_of core) (lost_of ++ log) × BoundsSlices core.farm found files core.queue.items (lost_of ++ log))
     landed = all_lost found core.farm files core.queue.items core.asked core.begun core.epoch (drawn_of core) under left core.flights log (s.stands, s.slices)
 
     pub closing_allowed : AllAllowed core.farm under (closing_entries core) log

@@ -8,7 +8,7 @@ use Rattle.docroot_changes.specs.Changes.{IsStampFolder}
 use Rattle.invalidation.specs.declared.place.Place.{Place}
 use Rattle.invalidation.specs.declared.purge.Purge.{Purge}
 use Rattle.invalidation.specs.Slices.{IsBehind, Progress}
-use Rattle.cache_log.specs.Entries.{LogEntry, Begun, Ended, Outcome}
+use Rattle.cache_log.specs.Entries.{LogEntry, Begun, Ended, FlushOutcome}
 use Rattle.cache_log.specs.Hits.{Unfinished}
 use Rattle.coherence_core.specs.Served.{Before, Pages, Stamps}
 use Rattle.coherence_core.specs.Stands.{AreLater, AreLogFlushes, HasFlush, HasHeadAtWork, IsAtWork, IsLogFlush, stamp}
@@ -40,7 +40,7 @@ module _ (farm : Farm) where
       )
 
   -- those that are left once the head has ended
-  pub tail_queue : (page : Pages) (log : List LogEntry) (outcome : Outcome) (b : ℕ) (s : Stamp) (p : Pending) (ps : List Pending) → AreLater p ps → AreLogFlushes farm page log b s ps → AreLogFlushes farm page (Ended p.number outcome ∷ log) b s ps
+  pub tail_queue : (page : Pages) (log : List LogEntry) (outcome : FlushOutcome) (b : ℕ) (s : Stamp) (p : Pending) (ps : List Pending) → AreLater p ps → AreLogFlushes farm page log b s ps → AreLogFlushes farm page (Ended p.number outcome ∷ log) b s ps
   tail_queue page log outcome b s p [] later all = tt
   tail_queue page log outcome b s p (q ∷ qs) later all =
       let ok = all.0 in

@@ -11,14 +11,14 @@ use Rattle.invalidation.specs.declared.purge.PurgeStep.{PurgeStep}
 use Rattle.invalidation.specs.declared.purge.PurgeStep.TheVariants.{More, Done as step_done, DiskFailed, NoMemory}
 use Rattle.invalidation.specs.Slices.{IsSamePurge, IsSlice, Progress}
 use Rattle.cache_log.specs.Ids.{FlushId}
-use Rattle.cache_log.specs.Entries.{LogEntry, Done, Ended, Failed, Outcome, Sliced, is_up}
+use Rattle.cache_log.specs.Entries.{LogEntry, Done, Ended, Failed, FlushOutcome, Sliced, is_up}
 use Rattle.cache_log.specs.Rules.{AllAllowed, IsOldest}
 use Rattle.coherence_core.specs.Bounds.{BoundsSlices}
-use Rattle.coherence_core.specs.Cores.{Extends, StandsFor, StandsOver, drawn_of, flush_numbers, most_stamps}
+use Rattle.coherence_core.specs.Cores.{ExtendsLogs, StandsFor, StandsOver, drawn_of, flush_numbers}
 use Rattle.coherence_core.specs.Facts.{CoverageFacts}
-use Rattle.coherence_core.specs.Flushes.{IsFirstSliced, PurgedAs, left_by, outcome_of, purged_entries, purged_under}
+use Rattle.coherence_core.specs.Flushes.{IsFirstSliced, PurgedAs, flushes_left_by, outcome_of, purged_entries, purged_under}
 use Rattle.coherence_core.specs.Holds.{IsNumbered}
-use Rattle.coherence_core.specs.Stands.{Stands}
+use Rattle.coherence_core.specs.Stands.{CoreStands}
 use Rattle.coherence_core.specs.declared.answers.Purged.{Purged}
 use Rattle.coherence_core.specs.declared.core_state.Core.{Core}
 use Rattle.coherence_core.specs.declared.pending.Pending.{Pending}
@@ -27,6 +27,7 @@ use Rattle.coherence_core.proofs.FlushLemmas.{oldest}
 use Rattle.coherence_core.proofs.SliceBounds.{names_end, names_go_on}
 use Rattle.coherence_core.proofs.SliceSteps.{done, failed, sliced, went_on}
 use Rattle.coherence_core.proofs.CallLemmas.{extends, numbered_same}
+use Rattle.cache_log.specs.Limits.{most_stamps}
 
 -- the queue after it
 abbrev pub queue_after : PurgeStep → FlushId → Purge → List Pending → List Pending
@@ -46,7 +47,7 @@ pub record KeepsBeside (old new : Core) : Type 0 where
 
 -- a core with these parts stands for the log
 pub stands_with : (found : ℕ) (files : Files) (old new : Core) (queue : List Pending) (log : List LogEntry) → KeepsBeside old new → new.queue.items ≡ queue
-    → Stands old.farm (page_at files) (stamp_at files) (epoch_held files) old.flights queue old.asked old.begun old.epoch (drawn_of old) log → IsNumbered files → HasNoLaterStamp files → old.down ≡ not (is_up log) → drawn_of old ≤ most_stamps → BoundsSlices old.farm found files queue log → StandsOver found files new log
+    → CoreStands old.farm (page_at files) (stamp_at files) (epoch_held files) old.flights queue old.asked old.begun old.epoch (drawn_of old) log → IsNumbered files → HasNoLaterStamp files → old.down ≡ not (is_up log) → drawn_of old ≤ most_stamps → BoundsSlices old.farm found files queue log → StandsOver found files new log
 stands_with found files old new queue log kept is stands numbered order down few slices = record {
   stands = rw (kept.farm, kept.flights, is, kept.asked, kept.begun, kept.epoch) stands;
   numbered = numbered;
@@ -57,8 +58,8 @@ stands_with found files old new queue log kept is stands numbered order down few
 }
 
 module _ (found : ℕ) (core next : Core) (facts : CoverageFacts core.farm) (p : Pending) (rest : List Pending) (items : core.queue.items ≡ p ∷ rest) (kept : KeepsBeside core next) (q : Purge) (same : IsSamePurge p.purge q) (files after : Files) (log : List LogEntry) (s : StandsOver found files core log) where
-  here : Stands core.farm (page_at files) (stamp_at files) (epoch_held files) core.flights (p ∷ rest) core.asked core.begun core.epoch (drawn_of core) log
-  here = subst (λ (l : List Pending). Stands core.farm (page_at files) (stamp_at files) (epoch_held files) core.flights l core.asked core.begun core.epoch (drawn_of core) log) items s.stands
+  here : CoreStands core.farm (page_at files) (stamp_at files) (epoch_held files) core.flights (p ∷ rest) core.asked core.begun core.epoch (drawn_of core) log
+  here = subst (λ (l : List Pending). CoreStands core.farm (page_at files) (stamp_at files) (epoch_held files) core.flights l core.asked core.begun core.epoch (drawn_of core) log) items s.stands
 
   bounds : BoundsSlices core.farm found files (p ∷ rest) log
   bounds = subst (λ (l : List Pending). BoundsSlices core.farm found files l log) items s.slices
@@ -70,8 +71,8 @@ module _ (found : ℕ) (core next : Core) (facts : CoverageFacts core.farm) (p :
   first = ((p.purge.inv, here.flushing.each.0.unfinished), λ w inv u. oldest p rest w inv here.flushing.each.1 (here.flushing.all w inv u))
 
   -- the files after a slice, whatever came of it, for a flush that is as far as this
-  moved : (step : PurgeStep) → IsSlice p.purge q step files after → (r : Purge) → IsSamePurge p.purge r → Progress r (page_at after) (stamp_at after) → Stands core.farm (page_at after) (stamp_at after) (epoch_held after) core.flights (record { number = p.number; purge = r } ∷ rest) core.asked core.begun core.epoch (drawn_of core) log
-  moved step slice r one progress = subst (λ (e : ℕ). Stands core.farm (page_at after) (stamp_at after) e core.flights (record { number = p.number; purge = r } ∷ rest) core.asked core.begun core.epoch (drawn_of core) log) (sym slice.number.held)
+  moved : (step : PurgeStep) → IsSlice p.purge q step files after → (r : Purge) → IsSamePurge p.purge r → Progress r (page_at after) (stamp_at after) → CoreStands core.farm (page_at after) (stamp_at after) (epoch_held after) core.flights (record { number = p.number; purge = r } ∷ rest) core.asked core.begun core.epoch (drawn_of core) log
+  moved step slice r one progress = subst (λ (e : ℕ). CoreStands core.farm (page_at after) (stamp_at after) e core.flights (record { number = p.number; purge = r } ∷ rest) core.asked core.begun core.epoch (drawn_of core) log) (sym slice.number.held)
       (sliced core.farm facts (page_at files) (stamp_at files) (epoch_held files) core.flights p rest core.asked core.begun core.epoch (drawn_of core) log here (page_at after) (stamp_at after) r one slice.sliced progress)
 
   -- of a flush that failed it isn't said how far it is
@@ -81,7 +82,7 @@ module _ (found : ℕ) (core next : Core) (facts : CoverageFacts core.farm) (p :
   none_behind : Progress forgotten (page_at after) (stamp_at after)
   none_behind = record { touched = λ begun. absurd (cc begun); gone = λ k good del behind. absurd behind }
 
-  ended : (step : PurgeStep) (outcome : Outcome) → IsSlice p.purge q step files after → next.queue.items ≡ rest → Stands core.farm (page_at after) (stamp_at after) (epoch_held after) core.flights rest core.asked core.begun core.epoch (drawn_of core) (Ended p.number outcome ∷ log) → StandsOver found after next (Ended p.number outcome ∷ log)
+  ended : (step : PurgeStep) (outcome : FlushOutcome) → IsSlice p.purge q step files after → next.queue.items ≡ rest → CoreStands core.farm (page_at after) (stamp_at after) (epoch_held after) core.flights rest core.asked core.begun core.epoch (drawn_of core) (Ended p.number outcome ∷ log) → StandsOver found after next (Ended p.number outcome ∷ log)
   ended step outcome slice is stands = stands_with found after core next rest (Ended p.number outcome ∷ log) kept is stands (numbered_same files after slice.number s.numbered) (slice.order low s.order) s.down_is s.few (names_end core.farm found files after p rest log slice.names bounds here.flushing.each.1 outcome)
 
   fell : (step : PurgeStep) → IsSlice p.purge q step files after → next.queue.items ≡ rest → StandsOver found after next (Ended p.number Failed ∷ log)
@@ -107,14 +108,14 @@ module _ (found : ℕ) (core next : Core) (facts : CoverageFacts core.farm) (p :
   purged_over NoMemory slice is = (((first, inl (inr refl)), tt), fell NoMemory slice is)
 
 pub purged_told : (found : ℕ) (core next : Core) (facts : CoverageFacts core.farm) (p : Pending) (rest : List Pending) (items : core.queue.items ≡ p ∷ rest) (kept : KeepsBeside core next) (q : Purge) (same : IsSamePurge p.purge q) (step : PurgeStep) (told new : Option Files)
-    → Told (IsSlice p.purge q step) told new → next.queue.items ≡ queue_after step p.number q rest → Extends core.farm (StandsFor found told core) (StandsFor found new next) (purged_under (outcome_of p.number step)) (purged_entries (outcome_of p.number step))
+    → Told (IsSlice p.purge q step) told new → next.queue.items ≡ queue_after step p.number q rest → ExtendsLogs core.farm (StandsFor found told core) (StandsFor found new next) (purged_under (outcome_of p.number step)) (purged_entries (outcome_of p.number step))
 purged_told found core next facts p rest items kept q same step None new t is = extends (λ log s. absurd s)
 purged_told found core next facts p rest items kept q same step (Some files) None t is = absurd t
 purged_told found core next facts p rest items kept q same step (Some files) (Some after) t is = extends (λ log s. purged_over found core next facts p rest items kept q same files after log s step t is)
 
 -- ---- the whole call
 
-queue_left : (step : PurgeStep) (flush : FlushId) (q : Purge) (rest queue : List Pending) → queue ≡ left_by (outcome_of flush step) (record { number = flush; purge = q } ∷ rest) → queue ≡ queue_after step flush q rest
+queue_left : (step : PurgeStep) (flush : FlushId) (q : Purge) (rest queue : List Pending) → queue ≡ flushes_left_by (outcome_of flush step) (record { number = flush; purge = q } ∷ rest) → queue ≡ queue_after step flush q rest
 queue_left More flush q rest queue is = is
 queue_left step_done flush q rest queue is = is
 queue_left DiskFailed flush q rest queue is = is
@@ -126,12 +127,12 @@ numbers_left step_done p q rest = refl
 numbers_left DiskFailed p q rest = refl
 numbers_left NoMemory p q rest = refl
 
-module _ (core next : Core) (told new : Option Files) (queue : List Pending) (result : Purged) (kept : KeepsBeside core next) (made : IsFirstSliced told new core.queue.items queue result) (left : next.queue.items ≡ left_by result queue) where
+module _ (core next : Core) (told new : Option Files) (queue : List Pending) (result : Purged) (kept : KeepsBeside core next) (made : IsFirstSliced told new core.queue.items queue result) (left : next.queue.items ≡ flushes_left_by result queue) where
   next_is : next.queue.items ≡ queue_after made.step made.first.number made.purge made.rest
-  next_is = queue_left made.step made.first.number made.purge made.rest next.queue.items (left ∙ (λ i. left_by (made.result_is i) (made.after_is i)))
+  next_is = queue_left made.step made.first.number made.purge made.rest next.queue.items (left ∙ (λ i. flushes_left_by (made.result_is i) (made.after_is i)))
 
-  pub step_log : CoverageFacts core.farm → (found : ℕ) → Extends core.farm (StandsFor found told core) (StandsFor found new next) (purged_under result) (purged_entries result)
-  step_log facts found = subst (λ (r : Purged). Extends core.farm (StandsFor found told core) (StandsFor found new next) (purged_under r) (purged_entries r)) (sym made.result_is)
+  pub step_log : CoverageFacts core.farm → (found : ℕ) → ExtendsLogs core.farm (StandsFor found told core) (StandsFor found new next) (purged_under result) (purged_entries result)
+  step_log facts found = subst (λ (r : Purged). ExtendsLogs core.farm (StandsFor found told core) (StandsFor found new next) (purged_under r) (purged_entries r)) (sym made.result_is)
       (purged_told found core next facts made.first made.rest made.queue_is kept made.purge made.same made.step told new made.slice next_is)
 
   pub step_flushes : PurgedAs result (flush_numbers core.queue.items) (flush_numbers next.queue.items)

@@ -14,8 +14,8 @@ use Rattle.cache_log.specs.Entries.{LogEntry, Fate, Kept, Landed, Lost, Passed, 
 use Rattle.cache_log.specs.Hits.{Covers, IsClear, NoneDoneSince, stored}
 use Rattle.cache_log.proofs.HitLemmas.{clear-none-done, clear-unfinished}
 use Rattle.coherence_core.specs.Facts.{CoverageFacts}
-use Rattle.coherence_core.specs.Served.{Before, IsFresh, Pages, Stamps, served, serves, stat_for}
-use Rattle.coherence_core.specs.Stands.{AreBefore, AreLogFlushes, HasHeadAtWork, HoldsFlights, HoldsFlushes, Stands, stamp}
+use Rattle.coherence_core.specs.Served.{Before, IsFresh, Pages, Stamps, served, serves_page, stat_for}
+use Rattle.coherence_core.specs.Stands.{AreBefore, AreLogFlushes, HasHeadAtWork, HoldsFlights, HoldsFlushes, CoreStands, stamp}
 use Rattle.coherence_core.specs.declared.pending.Pending.{Pending}
 use Rattle.coherence_core.proofs.StampLemmas.{served_page, serves_fresh}
 use Rattle.coherence_core.proofs.FlightLemmas.{has_without, same_ok, without_to}
@@ -24,8 +24,8 @@ use Rattle.coherence_core.proofs.FlushLemmas.{flushes_to, spared}
 same_some : {A : Type 0} {k l : A} → Some k ≡ Some l → k ≡ l
 same_some e = cc e
 
-module _ (farm : Farm) (page : Pages) (stat : Stamps) (held : ℕ) (flights : List Flight) (queue : List Pending) (asked begun epoch drawn : ℕ) (log : List LogEntry) (s : Stands farm page stat held flights queue asked begun epoch drawn log) (n : ℕ) (rising : AreRising 0 (without n flights) asked) where
-  pub lost : Stands farm page stat held (without n flights) queue asked begun epoch drawn (Lost n ∷ log)
+module _ (farm : Farm) (page : Pages) (stat : Stamps) (held : ℕ) (flights : List Flight) (queue : List Pending) (asked begun epoch drawn : ℕ) (log : List LogEntry) (s : CoreStands farm page stat held flights queue asked begun epoch drawn log) (n : ℕ) (rising : AreRising 0 (without n flights) asked) where
+  pub lost : CoreStands farm page stat held (without n flights) queue asked begun epoch drawn (Lost n ∷ log)
   lost = record {
     holds = record { may = s.holds.may; must = s.holds.must; touched = s.holds.touched };
     before = s.before;
@@ -50,7 +50,7 @@ module _ (farm : Farm) (page : Pages) (stat : Stamps) (held : ℕ) (flights : Li
     rising = rising;
   }
 
-  pub passed : (key : Option PageKey) (b : Answer) → Stands farm page stat held (without n flights) queue asked begun epoch drawn (Landed n key b Passed ∷ log)
+  pub passed : (key : Option PageKey) (b : Answer) → CoreStands farm page stat held (without n flights) queue asked begun epoch drawn (Landed n key b Passed ∷ log)
   passed key b = record {
     holds = record { may = s.holds.may; must = s.holds.must; touched = s.holds.touched };
     before = s.before;
@@ -80,7 +80,7 @@ module _ (farm : Farm) (page : Pages) (stat : Stamps) (held : ℕ) (flights : Li
       stats = s.before.stats;
     }
 
-    put_serves : (k : PageKey) (a : Answer) → IsPageKey k → serves farm after stat k ≡ Some a → (serves farm page stat k ≡ Some a) ⊎ ((key ≡ k) × (stored b ≡ a))
+    put_serves : (k : PageKey) (a : Answer) → IsPageKey k → serves_page farm after stat k ≡ Some a → (serves_page farm page stat k ≡ Some a) ⊎ ((key ≡ k) × (stored b ≡ a))
     put_serves k a good is =
         let q = served_page (is_auto farm k) (stat_for farm stat k) (after k) a is in
         ⊎_elim
@@ -118,11 +118,11 @@ module _ (farm : Farm) (page : Pages) (stat : Stamps) (held : ℕ) (flights : Li
       head = put_head facts.deleted queue s.flushing.each s.flushing.head;
     }
 
-    pub unkept : CoverageFacts farm → Stands farm after stat held (without n flights) queue asked begun epoch drawn (Landed n (Some key) b Unkept ∷ log)
+    pub unkept : CoverageFacts farm → CoreStands farm after stat held (without n flights) queue asked begun epoch drawn (Landed n (Some key) b Unkept ∷ log)
     unkept facts = record {
       holds = record {
         may = λ k a good is. ⊎_elim
-            (λ (old : serves farm page stat k ≡ Some a). inr (s.holds.may k a good old))
+            (λ (old : serves_page farm page stat k ≡ Some a). inr (s.holds.may k a good old))
             (λ (h : (key ≡ k) × (stored b ≡ a)). inl (ap (λ (l : PageKey). Some l) h.0, h.1, subst (λ (l : PageKey). NoneDoneSince farm log n l) h.0 (clear-none-done farm log n key clear)))
             (put_serves k a good is);
         must = λ k a good must. ⊎_elim
@@ -138,15 +138,15 @@ module _ (farm : Farm) (page : Pages) (stat : Stamps) (held : ℕ) (flights : Li
       flushing = put_flushing facts Unkept;
     }
 
-    pub kept : CoverageFacts farm → ((k l : PageKey) → (k ≡ l) ⊎ (k ≢ l)) → after key ≡ Some p → IsFresh (is_auto farm key) (stat_for farm stat key) p.stamp → Stands farm after stat held (without n flights) queue asked begun epoch drawn (Landed n (Some key) b Kept ∷ log)
+    pub kept : CoverageFacts farm → ((k l : PageKey) → (k ≡ l) ⊎ (k ≢ l)) → after key ≡ Some p → IsFresh (is_auto farm key) (stat_for farm stat key) p.stamp → CoreStands farm after stat held (without n flights) queue asked begun epoch drawn (Landed n (Some key) b Kept ∷ log)
     kept facts key_cases there fresh = record {
       holds = record {
         may = λ k a good is. ⊎_elim
-            (λ (same : key ≡ k). let one : stored b ≡ a = same_some (sym here ∙ ap (λ (l : PageKey). serves farm after stat l) same ∙ is) in inl (ap (λ (l : PageKey). Some l) same, one, subst (λ (l : PageKey). NoneDoneSince farm log n l) same (clear-none-done farm log n key clear)))
-            (λ (ne : key ≢ k). ⊎_elim (λ (old : serves farm page stat k ≡ Some a). inr ((λ e. ne (same_some e)), s.holds.may k a good old)) (λ (h : (key ≡ k) × (stored b ≡ a)). absurd (ne h.0)) (put_serves k a good is))
+            (λ (same : key ≡ k). let one : stored b ≡ a = same_some (sym here ∙ ap (λ (l : PageKey). serves_page farm after stat l) same ∙ is) in inl (ap (λ (l : PageKey). Some l) same, one, subst (λ (l : PageKey). NoneDoneSince farm log n l) same (clear-none-done farm log n key clear)))
+            (λ (ne : key ≢ k). ⊎_elim (λ (old : serves_page farm page stat k ≡ Some a). inr ((λ e. ne (same_some e)), s.holds.may k a good old)) (λ (h : (key ≡ k) × (stored b ≡ a)). absurd (ne h.0)) (put_serves k a good is))
             (key_cases key k);
         must = λ k a good must. ⊎_elim
-            (λ h. ap (λ (l : PageKey). serves farm after stat l) (sym (same_some h.0)) ∙ here ∙ ap (λ (x : Answer). Some x) h.1)
+            (λ h. ap (λ (l : PageKey). serves_page farm after stat l) (sym (same_some h.0)) ∙ here ∙ ap (λ (x : Answer). Some x) h.1)
             (λ h. ⊎_elim
             (λ (same : after k ≡ page k). ap (λ (o : Option Page). served (is_auto farm k) (stat_for farm stat k) o) same ∙ s.holds.must k a good h.1)
             (λ (g : (key ≡ k) × ((after k ≡ Some p) ⊎ (after k ≡ None))). absurd (h.0 (ap (λ (l : PageKey). Some l) g.0)))
@@ -161,5 +161,5 @@ module _ (farm : Farm) (page : Pages) (stat : Stamps) (held : ℕ) (flights : Li
       flushing = put_flushing facts Kept;
     }
       where
-        here : serves farm after stat key ≡ Some (stored b)
+        here : serves_page farm after stat key ≡ Some (stored b)
         here = ap (λ (o : Option Page). served (is_auto farm key) (stat_for farm stat key) o) there ∙ serves_fresh (is_auto farm key) (stat_for farm stat key) p fresh ∙ ap (λ (x : Answer). Some x) answer_is

@@ -17,3 +17,4 @@ mod RequestLemmas
 mod StartLemmas
 mod EndLemmas
 mod OpeningLemmas
+mod LegalLemmas

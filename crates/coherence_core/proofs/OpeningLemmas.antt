@@ -1,21 +1,15 @@
 -- A session that was just opened, and what stands where there is no page and no stamp.
-use Rattle.std.proofs.Common.{◌≡◌, ◌≢◌, ◌≤◌, ◌+◌, ◌-◌, ◌&&◌, ◌++◌, ℕ, Bool, true, List, [], ◌∷◌, Option, Some, None, IsSome, IsTrue, inl, inr, refl, sym, ◌∙◌, ap, subst, arith, ⊎_elim, codes, get_or, length, map, nat_eq, option_map, unwrap_or}
-use Rattle.std.specs.Cmp.Lexicographic.{pointwise}
+use Rattle.std.proofs.Common.{◌≡◌, ◌≢◌, ◌≤◌, ◌+◌, ℕ, List, [], ◌∷◌, Option, Some, None, IsTrue, inl, inr, refl, sym, ◌∙◌, ap, subst, arith, ⊎_elim, option_map, unwrap_or}
 use Rattle.std.specs.Option.{option_and_then}
-use Rattle.std.proofs.lemmas.List.{length-append}
-use Rattle.std.proofs.Math.Seq.{get_or-append_seam}
-use Rattle.sp_base.specs.Paths.{mangled_segs, name_of}
+use Rattle.sp_base.specs.Paths.{is_path}
 use Rattle.sp_base.specs.Texts.{Segments, Text}
 use Rattle.sp_outside.specs.Calls.{Call}
-use Rattle.sp_outside.specs.FileNames.{has_segments}
 use Rattle.sp_outside.specs.Files.{Files, file_at}
-use Rattle.cover_rules.specs.Names.{file_name}
 use Rattle.cover_rules.specs.Pages.{IsPageKey}
 use Rattle.cover_rules.specs.declared.page.PageKey.{PageKey}
 use Rattle.dispatch_rules.specs.Caching.{is_auto}
 use Rattle.docroot_format.specs.Names.{body_name, epoch_name, head_name, is_page_file, is_stat_file, stat_name}
 use Rattle.docroot_format.specs.Readings.{HeadLine, epoch_of, head_of, stat_of}
-use Rattle.docroot_format.proofs.Apart.{pieces_body}
 use Rattle.cache_files.specs.declared.epoch.OpenFault.{OpenFault}
 use Rattle.cache_files.specs.declared.epoch.OpenFault.TheVariants as open_fault
 use Rattle.cache_files.specs.declared.page.Page.{Page}
@@ -28,10 +22,10 @@ use Rattle.cache_log.specs.Entries.{Session}
 use Rattle.coherence_core.specs.Bounds.{BoundsSlices}
 use Rattle.coherence_core.specs.Cores.{StandsOver}
 use Rattle.coherence_core.specs.Holds.{files_counted}
-use Rattle.coherence_core.specs.Openings.{IsCleared, IsCoreOpened, LieInside, OpensCore}
+use Rattle.coherence_core.specs.Openings.{IsCleared, IsCoreOpened, OpensCore}
 use Rattle.coherence_core.specs.Served.{served, stat_for}
-use Rattle.coherence_core.specs.Sessions.{IsFresh}
-use Rattle.coherence_core.specs.Stands.{Stands}
+use Rattle.coherence_core.specs.Sessions.{IsNewCore}
+use Rattle.coherence_core.specs.Stands.{CoreStands}
 use Rattle.coherence_core.specs.declared.core_state.Core.{Core}
 use Rattle.coherence_core.proofs.CallLemmas.{told_map}
 use Rattle.coherence_core.proofs.SessionLemmas.{numbered_next}
@@ -39,7 +33,7 @@ use Rattle.coherence_core.proofs.SliceBounds.{counted_adds}
 
 -- ---- a session that is opened
 
-opened : (f g : Files) (e : ℕ) (core : Core) → NumberSet e f g → IsFresh core.farm e core → IsCoreOpened (files_counted f) g core
+opened : (f g : Files) (e : ℕ) (core : Core) → NumberSet e f g → IsNewCore core.farm e core → IsCoreOpened (files_counted f) g core
 opened f g e core set fresh = record {
   held = set.here.held ∙ sym fresh.epoch_is;
   first = let is : core.epoch ≡ e = fresh.epoch_is in let more : e ≡ epoch_held f + 1 = set.here.more in omega (arith, is, more);
@@ -52,7 +46,7 @@ opened f g e core set fresh = record {
   few = counted_adds 1 f g set.names;
 }
 
-pub opens : (e : ℕ) (told new : Option Files) → Told (NumberSet e) told new → (core : Core) → IsFresh core.farm e core → OpensCore told new core
+pub opens : (e : ℕ) (told new : Option Files) → Told (NumberSet e) told new → (core : Core) → IsNewCore core.farm e core → OpensCore told new core
 opens e told new t core fresh = told_map (NumberSet e) (λ old g. IsCoreOpened (files_counted old) g core) told new (λ f g set. opened f g e core set fresh) t
 
 -- an opening that failed, but by the disk, leaves the files
@@ -75,48 +69,30 @@ stays_opened found files after core o same fewer = record {
   few = omega (arith, fewer, o.few);
 }
 
--- ---- names of .stat files
-
-last_of : (xs : List Text) (x : Text) → name_of (xs ++ x ∷ []) ≡ x
-last_of xs x =
-    let place : length (xs ++ x ∷ []) - 1 ≡ length xs = omega (arith, length-append xs (x ∷ [])) in
-    ap (λ n. get_or (xs ++ x ∷ []) n []) place ∙ get_or-append_seam xs x [] []
-
-both : (a b : Bool) → a ≡ true → b ≡ true → (a && b) ≡ true
-both a b is there = ap (λ (x : Bool). x && b) is ∙ there
-
--- where a folder's .stat name leads nowhere out, it is told as that of a .stat file
-stat_told : (folder : Segments) → IsTrue (has_segments (stat_name folder)) → IsTrue (is_stat_file (stat_name folder))
-stat_told folder inside = both _ _ inside
-    (ap (λ (piece : Text). pointwise nat_eq piece (codes ".stat")) (ap name_of (pieces_body (mangled_segs folder) (codes ".stat") refl) ∙ last_of (map file_name (mangled_segs folder)) (codes ".stat")))
-
 -- ---- no page and no stamp
 
-module _ (files : Files) (inside : LieInside files) (cleared : IsCleared files)
+module _ (files : Files) (cleared : IsCleared files)
     (body_told : (key : PageKey) → IsPageKey key → IsTrue (is_page_file (body_name key.folder key.file)))
-    (head_told : (key : PageKey) → IsPageKey key → IsTrue (is_page_file (head_name key.folder key.file))) where
+    (head_told : (key : PageKey) → IsPageKey key → IsTrue (is_page_file (head_name key.folder key.file)))
+    (stat_told : (folder : Segments) → IsTrue (is_path folder) → IsTrue (is_stat_file (stat_name folder))) where
   no_page : (k : PageKey) → IsPageKey k → page_at files k ≡ None
   no_page k good = ap (λ (head : Option Text). option_and_then (λ (line : HeadLine). option_and_then (stored_page line) (file_at files (page_body_name k))) (option_and_then head_of head)) (cleared.pages (page_head_name k) (head_told k good))
 
   no_head : (k : PageKey) → IsPageKey k → head_at files k ≡ None
   no_head k good = ap (λ (head : Option Text). option_map note_of (option_and_then head_of head)) (cleared.pages (page_head_name k) (head_told k good))
 
-  no_stat : (folder : Segments) → file_at files (stat_name folder) ≡ None
-  no_stat folder = go (file_at files (stat_name folder)) refl
-    where
-      go : (o : Option Text) → file_at files (stat_name folder) ≡ o → file_at files (stat_name folder) ≡ None
-      go None is = is
-      go (Some bytes) is = cleared.stats (stat_name folder) (stat_told folder (inside (stat_name folder) (subst (λ (o : Option Text). IsSome o) (sym is) refl)))
+  no_stat : (folder : Segments) → IsTrue (is_path folder) → file_at files (stat_name folder) ≡ None
+  no_stat folder path = cleared.stats (stat_name folder) (stat_told folder path)
 
-  no_stamp : (folder : Segments) → stamp_at files folder ≡ None
-  no_stamp folder = ap (option_map stamp_in) (no_stat folder)
+  no_stamp : (folder : Segments) → IsTrue (is_path folder) → stamp_at files folder ≡ None
+  no_stamp folder path = ap (option_map stamp_in) (no_stat folder path)
 
   none_later : HasNoLaterStamp files
   none_later stamp (inl page) = absurd (cc (page.1.1.1.0, no_head page.0 page.1.0))
-  none_later stamp (inr folder) = absurd (cc (folder.1.1, ap (option_and_then stat_of) (no_stat folder.0)))
+  none_later stamp (inr folder) = absurd (cc (folder.1.1.1, ap (option_and_then stat_of) (no_stat folder.0 folder.1.0)))
 
   module _ (found : ℕ) (core : Core) (o : IsCoreOpened found files core) where
-    log_stands : Stands core.farm (page_at files) (stamp_at files) (epoch_held files) [] [] 0 0 core.epoch 0 (Session core.epoch ∷ [])
+    log_stands : CoreStands core.farm (page_at files) (stamp_at files) (epoch_held files) [] [] 0 0 core.epoch 0 (Session core.epoch ∷ [])
     log_stands = record {
       holds = record {
         may = λ k a good is. absurd (cc (is, ap (λ (p : Option Page). served (is_auto core.farm k) (stat_for core.farm (stamp_at files) k) p) (no_page k good)));
@@ -125,7 +101,7 @@ module _ (files : Files) (inside : LieInside files) (cleared : IsCleared files)
       };
       before = record {
         pages = λ k p good is. absurd (cc (is, no_page k good));
-        stats = λ folder t good is. absurd (cc (is, no_stamp folder));
+        stats = λ folder t good is. absurd (cc (is, no_stamp folder good.path));
       };
       epochs = record { first = o.first; last = refl; current = omega (arith, o.held); risen = omega (arith, o.held); above = (omega (arith, o.held), tt) };
       counts = record { flights = refl; flushes = refl; stamps = refl };

@@ -19,8 +19,8 @@ use Rattle.cache_log.specs.Ids.{FlightId, FlushId}
 use Rattle.cache_log.specs.Entries.{LogEntry, Asked}
 use Rattle.cache_log.specs.Hits.{MayHit}
 use Rattle.cache_log.specs.Rules.{IsOwed}
-use Rattle.coherence_core.specs.Asking.{AskedAs, FlushedAs, HasBegunFlush, IsSameCore, IsServed, KeyedAs, RequestedAs, core_asking, next_flight}
-use Rattle.coherence_core.specs.Cores.{Extends, FlightsRise, KeepsFarm, StandsFor, call_conditions, drawn_of, flight_labels, flush_numbers, most_stamps}
+use Rattle.coherence_core.specs.Asking.{AskedAs, FlushedAs, HasBegunFlush, IsSameCore, IsLookedUp, KeyedAs, RequestedAs, core_asking, next_flight}
+use Rattle.coherence_core.specs.Cores.{ExtendsLogs, FlightsRise, KeepsFarm, StandsFor, conditions_of_call, drawn_of, flight_labels, flush_numbers}
 use Rattle.coherence_core.specs.Facts.{CoverageFacts}
 use Rattle.coherence_core.specs.Requests.{GotAs, IsNotOwed, ReachesCache, got_entries, got_flights, got_flushes, got_labels, is_got_dry}
 use Rattle.coherence_core.specs.Served.{stat_for}
@@ -32,6 +32,7 @@ use Rattle.coherence_core.specs.declared.pending.Pending.{Pending}
 use Rattle.coherence_core.proofs.AskingLemmas.{ask_over, begin_over, hit_over, not_owed}
 use Rattle.coherence_core.proofs.CallLemmas.{adds_nothing, extends, same_core}
 use Rattle.coherence_core.proofs.LookupLemmas.{served_storable}
+use Rattle.cache_log.specs.Limits.{most_stamps}
 
 -- ---- lists
 
@@ -54,7 +55,7 @@ flushes_push (p ∷ ps) q = ap (λ l. p.number ∷ l) (flushes_push ps q)
 -- ---- what is owed
 
 pub record Owes (told : Option Files) (old new : Core) (req : Request) (peer : Text) (got : Got) (disk_failed : Bool) : Type 0 where
-  pub log : (found : ℕ) → Extends old.farm (StandsFor found told old) (StandsFor found told new) (call_conditions disk_failed (is_got_dry got)) (got_entries got)
+  pub log : (found : ℕ) → ExtendsLogs old.farm (StandsFor found told old) (StandsFor found told new) (conditions_of_call disk_failed (is_got_dry got)) (got_entries got)
   pub cause : (found : ℕ) (log : List LogEntry) → StandsFor found told old log → GotAs old log req peer disk_failed got
   pub flights : numbers_of new.flights ≡ numbers_of old.flights ++ got_flights got
   pub labels : flight_labels new.flights ≡ flight_labels old.flights ++ got_labels got
@@ -69,7 +70,7 @@ AddsNone got = (got_entries got ≡ []) × (got_flights got ≡ []) × (got_labe
 module _ (told : Option Files) (old new : Core) (req : Request) (peer : Text) where
   same_owes : (got : Got) (disk_failed : Bool) → AddsNone got → IsSameCore old new → ((found : ℕ) (log : List LogEntry) → StandsFor found told old log → GotAs old log req peer disk_failed got) → Owes told old new req peer got disk_failed
   same_owes got disk_failed none same cause = record {
-    log = λ found. subst (λ (es : List LogEntry). Extends old.farm (StandsFor found told old) (StandsFor found told new) (call_conditions disk_failed (is_got_dry got)) es) (sym none.0) (adds_nothing old.farm found told old new (call_conditions disk_failed (is_got_dry got)) same);
+    log = λ found. subst (λ (es : List LogEntry). ExtendsLogs old.farm (StandsFor found told old) (StandsFor found told new) (conditions_of_call disk_failed (is_got_dry got)) es) (sym none.0) (adds_nothing old.farm found told old new (conditions_of_call disk_failed (is_got_dry got)) same);
     cause = cause;
     flights = ap numbers_of same.flights ∙ sym (append-nil (numbers_of old.flights)) ∙ ap (λ (l : List FlightId). numbers_of old.flights ++ l) (sym none.1);
     labels = ap flight_labels same.flights ∙ sym (append-nil (flight_labels old.flights)) ∙ ap (λ (l : List (FlightId × Option PageKey)). flight_labels old.flights ++ l) (sym none.2);
@@ -96,7 +97,7 @@ module _ (told : Option Files) (old new : Core) (req : Request) (peer : Text) wh
       kept = record { farm = refl; down = refl };
     }
       where
-        extended : (found : ℕ) (t : Option Files) → ((found : ℕ) (log : List LogEntry) → StandsFor found t old log → IsOwed old.farm log key → disk_failed ≡ true) → Extends old.farm (StandsFor found t old) (StandsFor found t (core_asking old key auto)) (call_conditions disk_failed false) (Asked (old.asked + 1) key ∷ [])
+        extended : (found : ℕ) (t : Option Files) → ((found : ℕ) (log : List LogEntry) → StandsFor found t old log → IsOwed old.farm log key → disk_failed ≡ true) → ExtendsLogs old.farm (StandsFor found t old) (StandsFor found t (core_asking old key auto)) (conditions_of_call disk_failed false) (Asked (old.asked + 1) key ∷ [])
         extended found None o = extends (λ log s. absurd s)
         extended found (Some files) o = extends (λ log s. ask_over found old reach.up facts key auto good auto_is rise disk_failed files log left (o found log s) s)
 
@@ -126,7 +127,7 @@ module _ (told : Option Files) (old new : Core) (req : Request) (peer : Text) wh
     -- ---- a page that may be kept
 
     module _ (law : (files : Files) (key : PageKey) → page_at files key ≡ option_and_then (known_at files key) (head_at files key)) (reach : ReachesCache old req) (key : PageKey) (key_is : cache_key old.farm req ≡ Some key) (page : IsPageKey key) where
-      hit_owes : (own : PageKey) (answer : Answer) (disk_failed : Bool) → new ≡ old → own ≡ key → IsServed told old.farm key (Some answer) → Owes told old new req peer (got.Hit own answer) disk_failed
+      hit_owes : (own : PageKey) (answer : Answer) (disk_failed : Bool) → new ≡ old → own ≡ key → IsLookedUp told old.farm key (Some answer) → Owes told old new req peer (got.Hit own answer) disk_failed
       hit_owes own answer disk_failed same one is = rw (same, one) (record {
         log = λ found. extended found told is;
         cause = λ found log s. let c = caused found told log is s in (reach, key_is, c.0, c.1);
@@ -137,16 +138,16 @@ module _ (told : Option Files) (old new : Core) (req : Request) (peer : Text) wh
         kept = record { farm = refl; down = refl };
       })
         where
-          extended : (found : ℕ) (t : Option Files) → IsServed t old.farm key (Some answer) → Extends old.farm (StandsFor found t old) (StandsFor found t old) (call_conditions disk_failed false) (got_entries (got.Hit key answer))
+          extended : (found : ℕ) (t : Option Files) → IsLookedUp t old.farm key (Some answer) → ExtendsLogs old.farm (StandsFor found t old) (StandsFor found t old) (conditions_of_call disk_failed false) (got_entries (got.Hit key answer))
           extended found None h = extends (λ log s. absurd s)
-          extended found (Some files) h = extends (λ log s. hit_over found old reach.up (call_conditions disk_failed false) key answer files log page h s)
+          extended found (Some files) h = extends (λ log s. hit_over found old reach.up (conditions_of_call disk_failed false) key answer files log page h s)
 
-          caused : (found : ℕ) (t : Option Files) (log : List LogEntry) → IsServed t old.farm key (Some answer) → StandsFor found t old log → MayHit old.farm log key answer × IsTrue (is_storable answer)
+          caused : (found : ℕ) (t : Option Files) (log : List LogEntry) → IsLookedUp t old.farm key (Some answer) → StandsFor found t old log → MayHit old.farm log key answer × IsTrue (is_storable answer)
           caused found None log h s = absurd s
           caused found (Some files) log h s = (s.stands.holds.may key answer page h, served_storable files key (is_auto old.farm key) (stat_for old.farm (stamp_at files) key) answer (law files key) h)
 
-      module _ (disk_failed : Bool) (none : disk_failed ≡ false → IsServed told old.farm key None) where
-        owed_here : (found : ℕ) (t : Option Files) (log : List LogEntry) → (disk_failed ≡ false → IsServed t old.farm key None) → StandsFor found t old log → IsOwed old.farm log (Some key) → disk_failed ≡ true
+      module _ (disk_failed : Bool) (none : disk_failed ≡ false → IsLookedUp told old.farm key None) where
+        owed_here : (found : ℕ) (t : Option Files) (log : List LogEntry) → (disk_failed ≡ false → IsLookedUp t old.farm key None) → StandsFor found t old log → IsOwed old.farm log (Some key) → disk_failed ≡ true
         owed_here found None log h s = absurd s
         owed_here found (Some files) log h s = not_owed found old key disk_failed files log page h s
 
@@ -182,7 +183,7 @@ module _ (told : Option Files) (old new : Core) (req : Request) (peer : Text) wh
       kept = record { farm = b.farm; down = b.down };
     }
       where
-        extended : (found : ℕ) (t : Option Files) → Extends old.farm (StandsFor found t old) (StandsFor found t new) (call_conditions false false) (got_entries (got.Flush flush inv))
+        extended : (found : ℕ) (t : Option Files) → ExtendsLogs old.farm (StandsFor found t old) (StandsFor found t new) (conditions_of_call false false) (got_entries (got.Flush flush inv))
         extended found None = extends (λ log s. absurd s)
         extended found (Some files) = extends (λ log s. begin_over found old up new flush inv b stay files log left s)
 

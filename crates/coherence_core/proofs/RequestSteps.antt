@@ -13,15 +13,15 @@ use Rattle.cache_log.specs.Entries.{LogEntry, Asked, Begun, Hit, flights_asked, 
 use Rattle.cache_log.specs.Hits.{Covers, Unfinished}
 use Rattle.coherence_core.specs.Facts.{CoverageFacts}
 use Rattle.coherence_core.specs.Served.{Before, Pages, Stamps, stat_for}
-use Rattle.coherence_core.specs.Stands.{HasFlush, Stands, stamp}
+use Rattle.coherence_core.specs.Stands.{HasFlush, CoreStands, stamp}
 use Rattle.coherence_core.specs.declared.pending.Pending.{Pending}
 use Rattle.coherence_core.proofs.StampLemmas.{before_next, drawn_next, fresh_from}
 use Rattle.coherence_core.proofs.FlightLemmas.{asked_flying, begun_flying, flights_to, has_first, has_last, has_map, same_ok}
 use Rattle.coherence_core.proofs.FlushLemmas.{begun_queue, flush_first, flush_last, flushes_to, push_head, spared}
 
-module _ (farm : Farm) (page : Pages) (stat : Stamps) (held : ℕ) (flights : List Flight) (queue : List Pending) (asked begun epoch drawn : ℕ) (log : List LogEntry) (s : Stands farm page stat held flights queue asked begun epoch drawn log) where
+module _ (farm : Farm) (page : Pages) (stat : Stamps) (held : ℕ) (flights : List Flight) (queue : List Pending) (asked begun epoch drawn : ℕ) (log : List LogEntry) (s : CoreStands farm page stat held flights queue asked begun epoch drawn log) where
   -- an answer from the store
-  pub hit : (key : PageKey) → Stands farm page stat held flights queue asked begun epoch drawn (Hit key ∷ log)
+  pub hit : (key : PageKey) → CoreStands farm page stat held flights queue asked begun epoch drawn (Hit key ∷ log)
   hit key = record {
     holds = record { may = s.holds.may; must = s.holds.must; touched = s.holds.touched };
     before = s.before;
@@ -44,7 +44,7 @@ module _ (farm : Farm) (page : Pages) (stat : Stamps) (held : ℕ) (flights : Li
       → ((k : PageKey) → f.key ≡ Some k → IsPageKey k × (f.auto ≡ is_auto farm k))
       → (f.voided ≡ false → (k : PageKey) → f.key ≡ Some k → (v : ℕ) (inv : Invalidation) → HasFlush queue v inv → Covers farm inv k → ⊥)
       → (f.voided ≡ true → (k : PageKey) → f.key ≡ Some k → (v : ℕ) × (inv : Invalidation) × Unfinished log v inv × Covers farm inv k)
-      → Stands farm page stat held (flights ++ f ∷ []) queue (asked + 1) begun epoch (drawn + 1) (Asked (asked + 1) f.key ∷ log)
+      → CoreStands farm page stat held (flights ++ f ∷ []) queue (asked + 1) begun epoch (drawn + 1) (Asked (asked + 1) f.key ∷ log)
   launch facts f num st rising good free bar = record {
     holds = record { may = s.holds.may; must = s.holds.must; touched = s.holds.touched };
     before = record {
@@ -78,7 +78,7 @@ module _ (farm : Farm) (page : Pages) (stat : Stamps) (held : ℕ) (flights : Li
 
   -- a flush
   pub begin : (q : Pending) → q.number ≡ begun + 1 → q.purge.stamp ≡ stamp epoch drawn → q.purge.place ≡ None → q.purge.level ≡ farm.level → AreRising 0 (map (after_invalidation farm.level q.purge.inv) flights) asked
-      → Stands farm page stat held (map (after_invalidation farm.level q.purge.inv) flights) (queue ++ q ∷ []) asked (begun + 1) epoch (drawn + 1) (Begun (begun + 1) q.purge.inv ∷ log)
+      → CoreStands farm page stat held (map (after_invalidation farm.level q.purge.inv) flights) (queue ++ q ∷ []) asked (begun + 1) epoch (drawn + 1) (Begun (begun + 1) q.purge.inv ∷ log)
   begin q num st not level rising = record {
     holds = record { may = s.holds.may; must = λ k a good must. s.holds.must k a good must.1; touched = s.holds.touched };
     before = record {

@@ -11,8 +11,8 @@ use Rattle.docroot_changes.specs.Changes.{IsStampFolder}
 use Rattle.flights.specs.declared.flight.Flight.{Flight}
 use Rattle.cache_log.specs.Entries.{LogEntry, Down, Up}
 use Rattle.coherence_core.specs.Facts.{CoverageFacts}
-use Rattle.coherence_core.specs.Served.{IsFresh, Pages, Stamps, served, serves}
-use Rattle.coherence_core.specs.Stands.{AreLogFlushes, HasHeadAtWork, HoldsPages, Stands, stamp}
+use Rattle.coherence_core.specs.Served.{IsFresh, Pages, Stamps, served, serves_page}
+use Rattle.coherence_core.specs.Stands.{AreLogFlushes, HasHeadAtWork, HoldsPages, CoreStands, stamp}
 use Rattle.coherence_core.specs.declared.pending.Pending.{Pending}
 use Rattle.cache_log.proofs.LegalLemmas.{above-more}
 use Rattle.coherence_core.proofs.StampLemmas.{before_epoch}
@@ -20,9 +20,9 @@ use Rattle.coherence_core.proofs.FlightLemmas.{flights_to}
 use Rattle.coherence_core.proofs.FlushLemmas.{flushes_to}
 
 -- a restart, with nothing in the air and nothing unfinished
-module _ (farm : Farm) (page : Pages) (stat : Stamps) (held : ℕ) (asked begun epoch drawn : ℕ) (log : List LogEntry) (s : Stands farm page stat held [] [] asked begun epoch drawn log) where
+module _ (farm : Farm) (page : Pages) (stat : Stamps) (held : ℕ) (asked begun epoch drawn : ℕ) (log : List LogEntry) (s : CoreStands farm page stat held [] [] asked begun epoch drawn log) where
   -- it comes up with the number after that of the files
-  pub up : Stands farm page stat (held + 1) [] [] asked begun (held + 1) drawn (Up (held + 1) ∷ log)
+  pub up : CoreStands farm page stat (held + 1) [] [] asked begun (held + 1) drawn (Up (held + 1) ∷ log)
   up = record {
     holds = record { may = s.holds.may; must = s.holds.must; touched = s.holds.touched };
     before = record {
@@ -36,7 +36,7 @@ module _ (farm : Farm) (page : Pages) (stat : Stamps) (held : ℕ) (asked begun 
   }
 
   -- it goes down, and the number may have been raised
-  pub down : (now : ℕ) → held ≤ now → now ≤ held + 1 → Stands farm page stat now [] [] asked begun epoch drawn (Down ∷ log)
+  pub down : (now : ℕ) → held ≤ now → now ≤ held + 1 → CoreStands farm page stat now [] [] asked begun epoch drawn (Down ∷ log)
   down now le most = record {
     holds = record { may = s.holds.may; must = s.holds.must; touched = s.holds.touched };
     before = s.before;
@@ -48,7 +48,7 @@ module _ (farm : Farm) (page : Pages) (stat : Stamps) (held : ℕ) (asked begun 
 
 -- files that hold the same pages and stamps, of page keys and of folders that may have one
 module _ (farm : Farm) (facts : CoverageFacts farm) (page after : Pages) (stat now : Stamps) (pages : (k : PageKey) → IsPageKey k → after k ≡ page k) (stats : (f : Segments) → IsStampFolder f → now f ≡ stat f) where
-  same_serves : (k : PageKey) → IsPageKey k → serves farm after now k ≡ serves farm page stat k
+  same_serves : (k : PageKey) → IsPageKey k → serves_page farm after now k ≡ serves_page farm page stat k
   same_serves k good = (λ i. served (is_auto farm k) (stats (stat_folder farm.level k) (facts.folder k good) i) (pages k good i))
 
   pub same_pages : (log : List LogEntry) → HoldsPages farm page stat log → HoldsPages farm after now log
@@ -68,7 +68,7 @@ module _ (farm : Farm) (facts : CoverageFacts farm) (page after : Pages) (stat n
     progress = record { touched = λ begun f good there. stats f good ∙ head.progress.touched begun f good there; gone = λ k good del behind. pages k good ∙ head.progress.gone k good del behind };
   }
 
-  pub same_files : (held : ℕ) (flights : List Flight) (queue : List Pending) (asked begun epoch drawn : ℕ) (log : List LogEntry) → Stands farm page stat held flights queue asked begun epoch drawn log → Stands farm after now held flights queue asked begun epoch drawn log
+  pub same_files : (held : ℕ) (flights : List Flight) (queue : List Pending) (asked begun epoch drawn : ℕ) (log : List LogEntry) → CoreStands farm page stat held flights queue asked begun epoch drawn log → CoreStands farm after now held flights queue asked begun epoch drawn log
   same_files held flights queue asked begun epoch drawn log s = record {
     holds = same_pages log s.holds;
     before = record {

@@ -7,7 +7,7 @@ use Rattle.sp_outside.specs.Files.{Files}
 use Rattle.any_config.specs.declared.farm.Farm.{Farm}
 use Rattle.cache_files.specs.declared.epoch.OpenFault.{OpenFault}
 use Rattle.cache_files.specs.declared.epoch.OpenFault.TheVariants as open_fault
-use Rattle.cache_files.specs.Epochs.{after_epoch, epoch_held, last_epoch as greatest_epoch, next_epoch}
+use Rattle.cache_files.specs.Epochs.{after_epoch, epoch_held, greatest_epoch as greatest_epoch, next_epoch}
 use Rattle.cache_files.specs.HeldStamps.{HasNoLaterStamp}
 use Rattle.cache_files.specs.Pages.{page_at}
 use Rattle.stat_files.specs.Stamps.{stamp_at}
@@ -16,11 +16,11 @@ use Rattle.flights.specs.declared.flight.Flight.{Flight}
 use Rattle.cache_log.specs.Entries.{LogEntry, Down, Ended, Failed, Up, downs_since, is_up, last_epoch}
 use Rattle.cache_log.specs.Rules.{AllAllowed, CallConditions, HasFallenShort, IsAboveAll, IsIdle}
 use Rattle.coherence_core.specs.Bounds.{BoundsSlices}
-use Rattle.coherence_core.specs.Cores.{Extends, StandsFor, StandsOver, drawn_of, flush_numbers}
+use Rattle.coherence_core.specs.Cores.{ExtendsLogs, StandsFor, StandsOver, drawn_of, flush_numbers}
 use Rattle.coherence_core.specs.Facts.{CoverageFacts}
 use Rattle.coherence_core.specs.Holds.{IsNumbered}
 use Rattle.coherence_core.specs.Sessions.{failed_entries, restarted_entries, restarted_under}
-use Rattle.coherence_core.specs.Stands.{Stands}
+use Rattle.coherence_core.specs.Stands.{CoreStands}
 use Rattle.coherence_core.specs.declared.core_state.Core.{Core}
 use Rattle.coherence_core.specs.declared.pending.Pending.{Pending}
 use Rattle.coherence_core.proofs.FlushLemmas.{oldest}
@@ -36,7 +36,7 @@ some_added n files = λ is_counted. omega arith
 
 module _ (found : ℕ) (farm : Farm) (facts : CoverageFacts farm) (files : Files) (asked begun epoch drawn : ℕ) (under : CallConditions) (restarts : under.restarts ≡ true) where
   abbrev StandsWith : List Pending → List LogEntry → Type 0
-  StandsWith queue log = Stands farm (page_at files) (stamp_at files) (epoch_held files) [] queue asked begun epoch drawn log × BoundsSlices farm found files queue log
+  StandsWith queue log = CoreStands farm (page_at files) (stamp_at files) (epoch_held files) [] queue asked begun epoch drawn log × BoundsSlices farm found files queue log
 
   pub all_failed : (ps : List Pending) (log : List LogEntry) → StandsWith ps log → AllAllowed farm under (failed_entries (flush_numbers ps)) log × StandsWith [] (failed_entries (flush_numbers ps) ++ log) × (is_up (failed_entries (flush_numbers ps) ++ log) ≡ is_up log)
   all_failed [] log s = (tt, s, refl)
@@ -81,14 +81,14 @@ module _ (found : ℕ) (core next : Core) (facts : CoverageFacts core.farm) (air
   LastLog = failed_entries (flush_numbers core.queue.items) ++ log
 
   module _ (under : CallConditions) (restarts : under.restarts ≡ true) where
-    quiet : AllAllowed core.farm under (failed_entries (flush_numbers core.queue.items)) log × (Stands core.farm (page_at f) (stamp_at f) (epoch_held f) [] [] core.asked core.begun core.epoch (drawn_of core) LastLog × BoundsSlices core.farm found f [] LastLog) × (is_up LastLog ≡ is_up log)
+    quiet : AllAllowed core.farm under (failed_entries (flush_numbers core.queue.items)) log × (CoreStands core.farm (page_at f) (stamp_at f) (epoch_held f) [] [] core.asked core.begun core.epoch (drawn_of core) LastLog × BoundsSlices core.farm found f [] LastLog) × (is_up LastLog ≡ is_up log)
     quiet = all_failed found core.farm facts f core.asked core.begun core.epoch (drawn_of core) under restarts core.queue.items log
-        (subst (λ (l : List Flight). Stands core.farm (page_at f) (stamp_at f) (epoch_held f) l core.queue.items core.asked core.begun core.epoch (drawn_of core) log) air s.stands, s.slices)
+        (subst (λ (l : List Flight). CoreStands core.farm (page_at f) (stamp_at f) (epoch_held f) l core.queue.items core.asked core.begun core.epoch (drawn_of core) log) air s.stands, s.slices)
 
     idle : IsIdle LastLog
     idle = (λ n k a. quiet.1.0.flying.all n k a, λ v inv u. quiet.1.0.flushing.all v inv u)
 
-  over : (epoch : ℕ) (last : List LogEntry) → next.epoch ≡ epoch → Stands core.farm (page_at g) (stamp_at g) (epoch_held g) [] [] core.asked core.begun epoch (drawn_of core) last → IsNumbered g → HasNoLaterStamp g → next.down ≡ not (is_up last) → BoundsSlices core.farm found g [] last → StandsOver found g next last
+  over : (epoch : ℕ) (last : List LogEntry) → next.epoch ≡ epoch → CoreStands core.farm (page_at g) (stamp_at g) (epoch_held g) [] [] core.asked core.begun epoch (drawn_of core) last → IsNumbered g → HasNoLaterStamp g → next.down ≡ not (is_up last) → BoundsSlices core.farm found g [] last → StandsOver found g next last
   over epoch last epoch_is stands numbered order down slices = record {
     stands = rw (kept.farm, kept.flights ∙ air, kept.queue, kept.asked, kept.begun, epoch_is) stands;
     numbered = numbered;
@@ -104,9 +104,9 @@ module _ (found : ℕ) (core next : Core) (facts : CoverageFacts core.farm) (air
       let q = quiet (restarted_under (Ok e)) refl in
       let risen = up core.farm (page_at f) (stamp_at f) (epoch_held f) core.asked core.begun core.epoch (drawn_of core) LastLog q.1.0 in
       let moved = same_files core.farm facts (page_at f) (page_at g) (stamp_at f) (stamp_at g) (λ k good. (set.beside.pages k good).page) (λ d good. set.beside.stamps d good.bytes) (epoch_held f + 1) [] [] core.asked core.begun (epoch_held f + 1) (drawn_of core) (Up (epoch_held f + 1) ∷ LastLog) risen in
-      let at_e : Stands core.farm (page_at g) (stamp_at g) (epoch_held g) [] [] core.asked core.begun e (drawn_of core) (Up e ∷ LastLog) =
-      subst (λ (x : ℕ). Stands core.farm (page_at g) (stamp_at g) x [] [] core.asked core.begun e (drawn_of core) (Up e ∷ LastLog)) (sym set.here.held)
-      (subst (λ (x : ℕ). Stands core.farm (page_at g) (stamp_at g) x [] [] core.asked core.begun x (drawn_of core) (Up x ∷ LastLog)) (sym set.here.more) moved) in
+      let at_e : CoreStands core.farm (page_at g) (stamp_at g) (epoch_held g) [] [] core.asked core.begun e (drawn_of core) (Up e ∷ LastLog) =
+      subst (λ (x : ℕ). CoreStands core.farm (page_at g) (stamp_at g) x [] [] core.asked core.begun e (drawn_of core) (Up e ∷ LastLog)) (sym set.here.held)
+      (subst (λ (x : ℕ). CoreStands core.farm (page_at g) (stamp_at g) x [] [] core.asked core.begun x (drawn_of core) (Up x ∷ LastLog)) (sym set.here.more) moved) in
       let a : last_epoch LastLog ≡ core.epoch = q.1.0.epochs.last in
       let b : core.epoch ≤ epoch_held f = q.1.0.epochs.current in
       let c : epoch_held f ≤ core.epoch + downs_since LastLog = q.1.0.epochs.risen in
@@ -152,13 +152,13 @@ module _ (found : ℕ) (core next : Core) (facts : CoverageFacts core.farm) (air
 
 -- ---- the same of a disk
 
-pub comes_up : (found : ℕ) (core next : Core) → CoverageFacts core.farm → core.flights ≡ [] → KeepsCounts core next → (e : ℕ) → next.epoch ≡ e → next.down ≡ false → (told new : Option Files) → Told (NumberSet e) told new → Extends core.farm (StandsFor found told core) (StandsFor found new next) (restarted_under (Ok e)) (restarted_entries (flush_numbers core.queue.items) (Ok e))
+pub comes_up : (found : ℕ) (core next : Core) → CoverageFacts core.farm → core.flights ≡ [] → KeepsCounts core next → (e : ℕ) → next.epoch ≡ e → next.down ≡ false → (told new : Option Files) → Told (NumberSet e) told new → ExtendsLogs core.farm (StandsFor found told core) (StandsFor found new next) (restarted_under (Ok e)) (restarted_entries (flush_numbers core.queue.items) (Ok e))
 comes_up found core next facts air kept e epoch_is down_is None new t = extends (λ log s. absurd s)
 comes_up found core next facts air kept e epoch_is down_is (Some f) None t = absurd t
 comes_up found core next facts air kept e epoch_is down_is (Some f) (Some g) t = extends (λ log s. up_over found core next facts air kept f g log s e t epoch_is down_is)
 
 pub goes_down : (found : ℕ) (core next : Core) → CoverageFacts core.farm → core.flights ≡ [] → KeepsCounts core next → (fault : OpenFault) → next.epoch ≡ core.epoch → next.down ≡ true → (told new : Option Files) → Told (MayOpen fault) told new
-    → (fault ≢ open_fault.NoMemory → fault ≢ open_fault.Disk → IfSome told (λ f. next_epoch f ≡ Err fault)) → Extends core.farm (StandsFor found told core) (StandsFor found new next) (restarted_under (Err fault)) (restarted_entries (flush_numbers core.queue.items) (Err fault))
+    → (fault ≢ open_fault.NoMemory → fault ≢ open_fault.Disk → IfSome told (λ f. next_epoch f ≡ Err fault)) → ExtendsLogs core.farm (StandsFor found told core) (StandsFor found new next) (restarted_under (Err fault)) (restarted_entries (flush_numbers core.queue.items) (Err fault))
 goes_down found core next facts air kept fault epoch_is down_is None new t known = extends (λ log s. absurd s)
 goes_down found core next facts air kept fault epoch_is down_is (Some f) None t known = absurd t
 goes_down found core next facts air kept fault epoch_is down_is (Some f) (Some g) t known = extends (λ log s. down_over found core next facts air kept f g log s fault t known epoch_is down_is)

@@ -11,7 +11,7 @@ use Rattle.docroot_changes.specs.Changes.{AddsNames}
 use Rattle.invalidation.specs.declared.place.Place.{Place}
 use Rattle.invalidation.specs.declared.purge.Purge.{Purge}
 use Rattle.invalidation.specs.Slices.{HasBegun, most_added, names_ahead, stamps_written}
-use Rattle.cache_log.specs.Entries.{LogEntry, Begun, Ended, Outcome, Session, Sliced, flushes_begun, landings_stored, slices_made}
+use Rattle.cache_log.specs.Entries.{LogEntry, Begun, Ended, FlushOutcome, Session, Sliced, flushes_begun, landings_stored, slices_made}
 use Rattle.coherence_core.specs.Bounds.{BoundsSlices, HasBegunInLog, HasNamesLeft, most_files, names_to_come}
 use Rattle.coherence_core.specs.Holds.{files_counted}
 use Rattle.coherence_core.specs.Stands.{AreLater}
@@ -146,7 +146,7 @@ module _ (farm : Farm) (found : ℕ) (old new : Files) (p : Pending) (queue : Li
   )
 
   -- it ended
-  pub names_end : AreLater p queue → (outcome : Outcome) → BoundsSlices farm found new queue (Ended p.number outcome ∷ log)
+  pub names_end : AreLater p queue → (outcome : FlushOutcome) → BoundsSlices farm found new queue (Ended p.number outcome ∷ log)
   names_end later outcome = record {
     bound = b.bound;
     files_left = counted;

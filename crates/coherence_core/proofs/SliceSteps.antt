@@ -14,12 +14,12 @@ use Rattle.cache_files.specs.declared.page.Page.{Page}
 use Rattle.flights.specs.declared.flight.Flight.{Flight}
 use Rattle.invalidation.specs.declared.purge.Purge.{Purge}
 use Rattle.invalidation.specs.Slices.{AllGone, AllTouched, IsSamePurge, Progress, Sliced as SlicedPages}
-use Rattle.cache_log.specs.Entries.{LogEntry, Done, Ended, Failed, Outcome, Sliced}
+use Rattle.cache_log.specs.Entries.{LogEntry, Done, Ended, Failed, FlushOutcome, Sliced}
 use Rattle.cache_log.specs.Hits.{Covers, IsClear, MustHit, Unfinished}
 use Rattle.cache_log.proofs.HitLemmas.{clear-unfinished, must-unfinished}
 use Rattle.coherence_core.specs.Facts.{CoverageFacts}
-use Rattle.coherence_core.specs.Served.{Before, IsFresh, Pages, Stamps, served, serves, stat_for}
-use Rattle.coherence_core.specs.Stands.{AreLater, HasFlush, HoldsFlights, HoldsFlushes, Stands, stamp}
+use Rattle.coherence_core.specs.Served.{Before, IsFresh, Pages, Stamps, served, serves_page, stat_for}
+use Rattle.coherence_core.specs.Stands.{AreLater, HasFlush, HoldsFlights, HoldsFlushes, CoreStands, stamp}
 use Rattle.coherence_core.specs.declared.pending.Pending.{Pending}
 use Rattle.coherence_core.proofs.StampLemmas.{before_not, before_trans, fresh_at, served_older, served_page, served_unasked}
 use Rattle.coherence_core.proofs.FlightLemmas.{flights_to, same_ok}
@@ -28,9 +28,9 @@ use Rattle.coherence_core.proofs.FlushLemmas.{flushes_to, later_apart, spared, t
 same_some : {A : Type 0} {k l : A} → Some k ≡ Some l → k ≡ l
 same_some e = cc e
 
-module _ (farm : Farm) (facts : CoverageFacts farm) (page : Pages) (stat : Stamps) (held : ℕ) (flights : List Flight) (p : Pending) (queue : List Pending) (asked begun epoch drawn : ℕ) (log : List LogEntry) (s : Stands farm page stat held flights (p ∷ queue) asked begun epoch drawn log) where
+module _ (farm : Farm) (facts : CoverageFacts farm) (page : Pages) (stat : Stamps) (held : ℕ) (flights : List Flight) (p : Pending) (queue : List Pending) (asked begun epoch drawn : ℕ) (log : List LogEntry) (s : CoreStands farm page stat held flights (p ∷ queue) asked begun epoch drawn log) where
   -- a slice left more to do
-  pub went_on : Stands farm page stat held flights (p ∷ queue) asked begun epoch drawn (Sliced p.number ∷ log)
+  pub went_on : CoreStands farm page stat held flights (p ∷ queue) asked begun epoch drawn (Sliced p.number ∷ log)
   went_on = record {
     holds = record { may = s.holds.may; must = s.holds.must; touched = s.holds.touched };
     before = s.before;
@@ -53,7 +53,7 @@ module _ (farm : Farm) (facts : CoverageFacts farm) (page : Pages) (stat : Stamp
   asked_folder k good auto there = facts.touched p.purge.inv k good auto (subst (λ (l : ℕ). Contains (touched_of l p.purge.inv) (stat_folder farm.level k)) s.flushing.each.0.level_is there)
 
   -- A slice: only pages that it deletes are gone, and only folders that it touches have its stamp.
-  pub sliced : (after : Pages) (now : Stamps) (q : Purge) → IsSamePurge p.purge q → SlicedPages p.purge.level p.purge.inv p.purge.stamp page after stat now → Progress q after now → Stands farm after now held flights (record { number = p.number; purge = q } ∷ queue) asked begun epoch drawn log
+  pub sliced : (after : Pages) (now : Stamps) (q : Purge) → IsSamePurge p.purge q → SlicedPages p.purge.level p.purge.inv p.purge.stamp page after stat now → Progress q after now → CoreStands farm after now held flights (record { number = p.number; purge = q } ∷ queue) asked begun epoch drawn log
   sliced after now q same change progress =
       let ok = s.flushing.each.0 in
       record {
@@ -124,7 +124,7 @@ module _ (farm : Farm) (facts : CoverageFacts farm) (page : Pages) (stat : Stamp
       later_same (r ∷ rs) later = (later.0, subst (λ (x : Stamp). Before x r.purge.stamp) (sym same.stamp) later.1, later.2, later_same rs later.3)
 
       -- what is served now was served before
-      was_served : (k : PageKey) (a : Answer) → IsPageKey k → serves farm after now k ≡ Some a → serves farm page stat k ≡ Some a
+      was_served : (k : PageKey) (a : Answer) → IsPageKey k → serves_page farm after now k ≡ Some a → serves_page farm page stat k ≡ Some a
       was_served k a good is = ⊎_elim
           (λ (e : after k ≡ page k).
           let still : served (is_auto farm k) (stat_for farm now k) (page k) ≡ Some a = ap (λ (o : Option Page). served (is_auto farm k) (stat_for farm now k) o) (sym e) ∙ is in
@@ -136,7 +136,7 @@ module _ (farm : Farm) (facts : CoverageFacts farm) (page : Pages) (stat : Stamp
           (change.drops k good)
 
       -- what is owed is served still
-      still_served : (k : PageKey) (a : Answer) → IsPageKey k → MustHit farm log k a → after k ≡ page k → serves farm after now k ≡ Some a
+      still_served : (k : PageKey) (a : Answer) → IsPageKey k → MustHit farm log k a → after k ≡ page k → serves_page farm after now k ≡ Some a
       still_served k a good must e = ⊎_elim
           (λ (auto : is_auto farm k ≡ true). ⊎_elim
           (λ (was : now (stat_folder farm.level k) ≡ stat (stat_folder farm.level k)). (λ i. served (is_auto farm k) (was i) (e i)) ∙ s.holds.must k a good must)
@@ -160,14 +160,14 @@ module _ (farm : Farm) (facts : CoverageFacts farm) (page : Pages) (stat : Stamp
   rest_there v i ne (inl h) = absurd (ne h.0)
   rest_there v i ne (inr h) = h
 
-  ended_flying : (outcome : Outcome) → HoldsFlights farm (Ended p.number outcome ∷ log) stat asked (stamp epoch drawn) flights
+  ended_flying : (outcome : FlushOutcome) → HoldsFlights farm (Ended p.number outcome ∷ log) stat asked (stamp epoch drawn) flights
   ended_flying outcome = record {
     each = flights_to farm log (Ended p.number outcome ∷ log) stat stat asked asked (stamp epoch drawn) (stamp epoch drawn) flights (λ f ok. same_ok farm log (Ended p.number outcome ∷ log) stat asked (stamp epoch drawn) (stamp epoch drawn) f (λ h. h) (λ h. h) (λ k h. h) (λ k h. h) ok) s.flying.each;
     all = s.flying.all;
     rising = s.flying.rising;
   }
 
-  ended_flushing : (outcome : Outcome) → HoldsFlushes farm page stat (Ended p.number outcome ∷ log) begun (stamp epoch drawn) queue
+  ended_flushing : (outcome : FlushOutcome) → HoldsFlushes farm page stat (Ended p.number outcome ∷ log) begun (stamp epoch drawn) queue
   ended_flushing outcome = record {
     each = tail_queue farm page log outcome begun (stamp epoch drawn) p queue s.flushing.each.1 s.flushing.each.2;
     all = λ v i h. rest_there v i h.0 (s.flushing.all v i h.1);
@@ -175,7 +175,7 @@ module _ (farm : Farm) (facts : CoverageFacts farm) (page : Pages) (stat : Stamp
   }
 
   -- it failed, or was cut off
-  pub failed : Stands farm page stat held flights queue asked begun epoch drawn (Ended p.number Failed ∷ log)
+  pub failed : CoreStands farm page stat held flights queue asked begun epoch drawn (Ended p.number Failed ∷ log)
   failed = record {
     holds = record { may = s.holds.may; must = s.holds.must; touched = s.holds.touched };
     before = s.before;
@@ -186,7 +186,7 @@ module _ (farm : Farm) (facts : CoverageFacts farm) (page : Pages) (stat : Stamp
   }
 
   -- no page that it covers is served, once none that it deletes is there and each folder that it touches has its stamp
-  none_served : AllTouched p.purge stat → AllGone p.purge page → (k : PageKey) (a : Answer) → IsPageKey k → serves farm page stat k ≡ Some a → Covers farm p.purge.inv k → ⊥
+  none_served : AllTouched p.purge stat → AllGone p.purge page → (k : PageKey) (a : Answer) → IsPageKey k → serves_page farm page stat k ≡ Some a → Covers farm p.purge.inv k → ⊥
   none_served all_touched gone k a good is cov =
       let q = served_page (is_auto farm k) (stat_for farm stat k) (page k) a is in
       ⊎_elim
@@ -199,7 +199,7 @@ module _ (farm : Farm) (facts : CoverageFacts farm) (page : Pages) (stat : Stamp
       before_not p.purge.stamp (before_trans p.purge.stamp q.0.stamp p.purge.stamp newer older))
       (facts.either p.purge.inv k good cov)
 
-  pub done : AllTouched p.purge stat → AllGone p.purge page → Stands farm page stat held flights queue asked begun epoch drawn (Ended p.number Done ∷ log)
+  pub done : AllTouched p.purge stat → AllGone p.purge page → CoreStands farm page stat held flights queue asked begun epoch drawn (Ended p.number Done ∷ log)
   done all_touched gone = record {
     holds = record {
       may = λ k a good is. (

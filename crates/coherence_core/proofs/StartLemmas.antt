@@ -26,18 +26,19 @@ use Rattle.stat_files.specs.Stamps.{IsHeldOrGreatest, greatest_stamp, stamp_at, 
 use Rattle.docroot_changes.specs.Changes.{IsStampFolder, MayOpen, NumberSet, Told}
 use Rattle.cache_log.specs.Entries.{LogEntry, Session}
 use Rattle.cache_log.proofs.LegalLemmas.{above-more}
-use Rattle.coherence_core.specs.Cores.{StandsOver, drawn_of, most_stamps}
+use Rattle.coherence_core.specs.Cores.{StandsOver, drawn_of}
 use Rattle.coherence_core.specs.Facts.{CoverageFacts}
 use Rattle.coherence_core.specs.Holds.{AreStatsFormed, Holds, HoldsClosed, files_counted}
 use Rattle.coherence_core.specs.Served.{Before, served, stat_for}
-use Rattle.coherence_core.specs.Sessions.{BeginsSession, IsFresh, KeepsHolds}
-use Rattle.coherence_core.specs.Stands.{AreBefore, Stands, stamp}
+use Rattle.coherence_core.specs.Sessions.{BeginsSession, IsNewCore, KeepsHolds}
+use Rattle.coherence_core.specs.Stands.{AreBefore, CoreStands, stamp}
 use Rattle.coherence_core.specs.declared.core_state.Core.{Core}
 use Rattle.coherence_core.proofs.StampLemmas.{low_epoch}
 use Rattle.coherence_core.proofs.RestartSteps.{same_pages}
 use Rattle.coherence_core.proofs.SessionLemmas.{numbered_next}
 use Rattle.coherence_core.proofs.SliceBounds.{names_found}
 use Rattle.coherence_core.proofs.CallLemmas.{numbered_same}
+use Rattle.cache_log.specs.Limits.{most_stamps}
 
 -- ---- .stat files of their form
 
@@ -48,7 +49,7 @@ stat_there (Some bytes) t is = (bytes, refl, cc is)
 
 -- where it is of its form, the stamp is one that the files hold
 held_stamp : (files : Files) (folder : Segments) (t : Stamp) → IsStampFolder folder → AreStatsFormed files → stamp_at files folder ≡ Some t → IsHeldOrGreatest files folder t → HoldsStamp files t
-held_stamp files folder t good formed there (inl held) = inr (folder, (good.bytes, held))
+held_stamp files folder t good formed there (inl held) = inr (folder, (good.path, (good.bytes, held)))
 held_stamp files folder t good formed there (inr foreign) =
     let h = stat_there (file_at files (stat_name folder)) t there in
     let read : IsSome (stat_of h.0) = formed folder h.0 good h.1 in
@@ -73,7 +74,7 @@ module _ (farm : Farm) (facts : CoverageFacts farm) (f g : Files) (e : ℕ) (log
     stats = λ d t good is. let was : stamp_at f d ≡ Some t = sym (same_stat d good) ∙ is in low_epoch t e 0 (above f e t h.holds.order next (held_stamp f d t good h.holds.formed was (stat_held f d t was)));
   }
 
-  session_stands : Stands farm (page_at g) (stamp_at g) (epoch_held g) [] [] 0 0 e 0 (Session e ∷ log)
+  session_stands : CoreStands farm (page_at g) (stamp_at g) (epoch_held g) [] [] 0 0 e 0 (Session e ∷ log)
   session_stands =
       let pages = same_pages farm facts (page_at f) (page_at g) (stamp_at f) (stamp_at g) same_page same_stat log h.holds.pages in
       let held : epoch_held g ≡ e = set.here.held in
@@ -101,7 +102,7 @@ pub begins : (farm : Farm) → CoverageFacts farm → (told new : Option Files) 
     → ((files : Files) (epoch : ℕ) (t : Stamp) → HasNoLaterStamp files → next_epoch files ≡ Ok epoch → HoldsStamp files t → t.epoch < epoch)
     → ((files : Files) (key : PageKey) (page : Page) → IsPageKey key → page_at files key ≡ Some page → IsPageStamp files page.stamp)
     → ((files : Files) (folder : Segments) (t : Stamp) → stamp_at files folder ≡ Some t → IsHeldOrGreatest files folder t)
-    → (core : Core) → IsFresh farm e core → BeginsSession farm told new core
+    → (core : Core) → IsNewCore farm e core → BeginsSession farm told new core
 begins farm facts None new e t next above page_held stat_held core fresh = tt
 begins farm facts (Some f) None e t next above page_held stat_held core fresh = absurd t
 begins farm facts (Some f) (Some g) e t next above page_held stat_held core fresh = λ log h. session_over farm facts f g e log h t next above page_held stat_held core fresh.farm_is fresh.flights fresh.queue fresh.asked fresh.begun fresh.epoch_is fresh.up

@@ -21,14 +21,15 @@ use Rattle.invalidation.specs.Invalidations.{invalidation_of, is_invalidation}
 use Rattle.invalidation.specs.declared.inv_fault.InvFault.{InvFault}
 use Rattle.invalidation.specs.declared.inv_fault.InvFault.TheVariants as inv_fault
 use Rattle.coherence_core.specs.Requests.{ReachesCache}
-use Rattle.coherence_core.specs.Served.{serves}
+use Rattle.coherence_core.specs.Served.{serves_page}
 use Rattle.coherence_core.specs.declared.answers.Requested.{Requested}
 use Rattle.cache_log.specs.Ids.{FlushId}
-use Rattle.coherence_core.specs.Cores.{drawn_of, most_flushes, most_stamps}
+use Rattle.coherence_core.specs.Cores.{drawn_of}
 use Rattle.coherence_core.specs.declared.answers.Got.{Got}
 use Rattle.coherence_core.specs.declared.answers.Got.TheVariants as got
 use Rattle.coherence_core.specs.declared.core_state.Core.{Core}
 use Rattle.coherence_core.specs.declared.pending.Pending.{Pending}
+use Rattle.cache_log.specs.Limits.{most_flushes, most_stamps}
 
 -- nothing that a core stands for has changed
 pub record IsSameCore (old new : Core) : Type 0 where
@@ -110,15 +111,15 @@ refusal fault = got.FlushRefused fault
 -- ---- pages
 
 -- the answer that the files of a disk give for a page, where it tells them, is this
-abbrev pub IsServed : Option Files → Farm → PageKey → Option Answer → Type 0
-IsServed told farm key answer = IfSome told (λ files. serves farm (page_at files) (stamp_at files) key ≡ answer)
+abbrev pub IsLookedUp : Option Files → Farm → PageKey → Option Answer → Type 0
+IsLookedUp told farm key answer = IfSome told (λ files. serves_page farm (page_at files) (stamp_at files) key ≡ answer)
 
 -- What a request for a page that may be kept came to: a hit with the answer that the files give; memory ran out; or the publisher is asked,
 -- where the files give none or the disk failed.
 abbrev pub KeyedAs : Option Files → Core → Core → PageKey → Got → Bool → Type 0
-KeyedAs told old new key (got.Hit own answer) disk_failed = (new ≡ old) × (own ≡ key) × (disk_failed ≡ false) × IsServed told old.farm key (Some answer)
+KeyedAs told old new key (got.Hit own answer) disk_failed = (new ≡ old) × (own ≡ key) × (disk_failed ≡ false) × IsLookedUp told old.farm key (Some answer)
 KeyedAs told old new key got.NoMemory disk_failed = new ≡ old
-KeyedAs told old new key other disk_failed = AskedAs old new (Some key) (is_auto old.farm key) other × (disk_failed ≡ false → IsServed told old.farm key None)
+KeyedAs told old new key other disk_failed = AskedAs old new (Some key) (is_auto old.farm key) other × (disk_failed ≡ false → IsLookedUp told old.farm key None)
 
 -- ---- requests
 

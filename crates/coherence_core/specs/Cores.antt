@@ -15,19 +15,10 @@ use Rattle.cache_log.specs.Entries.{LogEntry, is_up}
 use Rattle.cache_log.specs.Rules.{AllAllowed, CallConditions}
 use Rattle.coherence_core.specs.Bounds.{BoundsSlices}
 use Rattle.coherence_core.specs.Holds.{IsNumbered}
-use Rattle.coherence_core.specs.Stands.{Stands}
+use Rattle.coherence_core.specs.Stands.{CoreStands}
 use Rattle.coherence_core.specs.declared.pending.Pending.{Pending}
 use Rattle.coherence_core.specs.declared.core_state.Core.{Core}
-
--- ---- limits
-
--- the most unfinished flushes
-abbrev pub most_flushes : ℕ
-most_flushes = 256
-
--- the most stamps of a session
-abbrev pub most_stamps : ℕ
-most_stamps = 2 ^ 63
+use Rattle.cache_log.specs.Limits.{most_stamps}
 
 -- ---- what a core stands for
 
@@ -37,7 +28,7 @@ drawn_of core = core.asked + core.begun
 
 -- The core and the files stand for this log, in a session that found this many files.
 pub record StandsOver (found : ℕ) (files : Files) (core : Core) (log : List LogEntry) : Type 0 where
-  pub stands : Stands core.farm (page_at files) (stamp_at files) (epoch_held files) core.flights core.queue.items core.asked core.begun core.epoch (drawn_of core) log
+  pub stands : CoreStands core.farm (page_at files) (stamp_at files) (epoch_held files) core.flights core.queue.items core.asked core.begun core.epoch (drawn_of core) log
   pub numbered : IsNumbered files
   pub order : HasNoLaterStamp files
   pub down_is : core.down ≡ not (is_up log)
@@ -51,24 +42,19 @@ StandsFor found (Some files) core log = StandsOver found files core log
 
 -- For each log that was stood for, the log with these entries, the newest first, is stood for, and they are allowed in a call under these
 -- conditions.
-pub record Extends (farm : Farm) (Old New : List LogEntry → Type 0) (under : CallConditions) (entries : List LogEntry) : Type 0 where
+pub record ExtendsLogs (farm : Farm) (Old New : List LogEntry → Type 0) (under : CallConditions) (entries : List LogEntry) : Type 0 where
   pub allowed : (log : List LogEntry) → Old log → AllAllowed farm under entries log
   pub stands : (log : List LogEntry) → Old log → New (entries ++ log)
 
 -- the same of a core and a disk before and after a call, in each session
 abbrev pub ExtendsCore : Option Files → Core → Option Files → Core → CallConditions → List LogEntry → Type 0
-ExtendsCore told core after next under entries = (found : ℕ) → Extends core.farm (StandsFor found told core) (StandsFor found after next) under entries
+ExtendsCore told core after next under entries = (found : ℕ) → ExtendsLogs core.farm (StandsFor found told core) (StandsFor found after next) under entries
 
 -- ---- conditions
 
--- the disk failed in a call exactly where it says so
-abbrev pub IsDiskTold : ℕ → ℕ → Bool → Type 0
-IsDiskTold before after true = Rose before after
-IsDiskTold before after false = after ≡ before
-
 -- the conditions of a call that was no restart's: whether the disk failed, and whether memory ran out
-abbrev pub call_conditions : Bool → Bool → CallConditions
-call_conditions disk_failed out_of_memory = record { disk_failed = disk_failed; out_of_memory = out_of_memory; restarts = false }
+abbrev pub conditions_of_call : Bool → Bool → CallConditions
+conditions_of_call disk_failed out_of_memory = record { disk_failed = disk_failed; out_of_memory = out_of_memory; restarts = false }
 
 -- ---- what callers see of a core beside its log
 

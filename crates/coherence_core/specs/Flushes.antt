@@ -9,7 +9,7 @@ use Rattle.invalidation.specs.Slices.{IsSamePurge, IsSlice}
 use Rattle.cache_log.specs.Ids.{FlushId}
 use Rattle.cache_log.specs.Entries.{LogEntry, Sliced, Ended, Done, Failed}
 use Rattle.cache_log.specs.Rules.{CallConditions}
-use Rattle.coherence_core.specs.Cores.{call_conditions}
+use Rattle.coherence_core.specs.Cores.{conditions_of_call}
 use Rattle.coherence_core.specs.declared.answers.Purged.{Purged}
 use Rattle.coherence_core.specs.declared.answers.Purged.TheVariants as purged
 use Rattle.coherence_core.specs.declared.pending.Pending.{Pending}
@@ -24,11 +24,11 @@ purged_entries (purged.NoMemory flush) = Ended flush Failed ∷ []
 
 -- what the call ran under
 abbrev pub purged_under : Purged → CallConditions
-purged_under purged.Idle = call_conditions false false
-purged_under (purged.More flush) = call_conditions false false
-purged_under (purged.Done flush) = call_conditions false false
-purged_under (purged.Failed flush) = call_conditions true false
-purged_under (purged.NoMemory flush) = call_conditions false true
+purged_under purged.Idle = conditions_of_call false false
+purged_under (purged.More flush) = conditions_of_call false false
+purged_under (purged.Done flush) = conditions_of_call false false
+purged_under (purged.Failed flush) = conditions_of_call true false
+purged_under (purged.NoMemory flush) = conditions_of_call false true
 
 -- Which flush it was of, and which are unfinished before and after: none was; the oldest, which is the oldest still; or the oldest, which ended.
 abbrev pub PurgedAs : Purged → List FlushId → List FlushId → Type 0
@@ -60,7 +60,7 @@ pub record IsFirstSliced (told new : Option Files) (queue after : List Pending) 
   pub slice : Told (IsSlice first.purge purge step) told new
 
 -- the queue without its oldest flush, where that has ended
-abbrev pub left_by : Purged → List Pending → List Pending
-left_by purged.Idle queue = queue
-left_by (purged.More flush) queue = queue
-left_by _ queue = drop 1 queue
+abbrev pub flushes_left_by : Purged → List Pending → List Pending
+flushes_left_by purged.Idle queue = queue
+flushes_left_by (purged.More flush) queue = queue
+flushes_left_by _ queue = drop 1 queue

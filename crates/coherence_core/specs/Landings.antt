@@ -12,7 +12,7 @@ use Rattle.flights.specs.declared.landing.Landing.{Landing}
 use Rattle.flights.specs.declared.landing.Landing.TheVariants.{Clear, Voided, Unkeyed}
 use Rattle.cache_log.specs.Entries.{Fate, Kept, Unkept, Passed}
 use Rattle.cache_log.specs.Rules.{CallConditions}
-use Rattle.coherence_core.specs.Cores.{call_conditions}
+use Rattle.coherence_core.specs.Cores.{conditions_of_call}
 use Rattle.coherence_core.specs.declared.answers.Landed.{Landed}
 use Rattle.coherence_core.specs.declared.answers.Landed.TheVariants as landed
 
@@ -25,10 +25,10 @@ fate_of landed.NoMemory = Unkept
 
 -- what the call ran under
 abbrev pub landed_under : Landed → CallConditions
-landed_under (landed.Kept key) = call_conditions false false
-landed_under landed.Passed = call_conditions false false
-landed_under landed.DiskFailed = call_conditions true false
-landed_under landed.NoMemory = call_conditions false true
+landed_under (landed.Kept key) = conditions_of_call false false
+landed_under landed.Passed = conditions_of_call false false
+landed_under landed.DiskFailed = conditions_of_call true false
+landed_under landed.NoMemory = conditions_of_call false true
 
 -- a page that was kept is that of the flight
 abbrev pub IsKeptAs : Option PageKey → Landed → Type 0

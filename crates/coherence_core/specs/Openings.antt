@@ -1,7 +1,6 @@
 -- A session that was just opened, over files that may hold anything, and files without a page and without a stamp.
-use Rattle.std.specs.Prelude.{◌≡◌, ◌<◌, ◌≤◌, ◌+◌, ℕ, false, [], Option, None, IsSome, IsTrue}
+use Rattle.std.specs.Prelude.{◌≡◌, ◌<◌, ◌≤◌, ◌+◌, ℕ, false, [], Option, None, IsTrue}
 use Rattle.sp_base.specs.Texts.{Text}
-use Rattle.sp_outside.specs.FileNames.{has_segments}
 use Rattle.sp_outside.specs.Files.{Files, file_at}
 use Rattle.docroot_format.specs.Names.{is_page_file, is_stat_file}
 use Rattle.cache_files.specs.Epochs.{epoch_held}
@@ -25,10 +24,6 @@ pub record IsCoreOpened (found : ℕ) (files : Files) (core : Core) : Type 0 whe
 -- A session was opened over the files of a disk, where it tells them, whatever these held.
 abbrev pub OpensCore : Option Files → Option Files → Core → Type 0
 OpensCore told after core = Told (λ old new. IsCoreOpened (files_counted old) new core) told after
-
--- each file's name leads into folders of the docroot, and nowhere out
-abbrev pub LieInside : Files → Type 0
-LieInside files = (name : Text) → IsSome (file_at files name) → IsTrue (has_segments name)
 
 -- no file is a page file, and none is a .stat file
 pub record IsCleared (files : Files) : Type 0 where

@@ -13,11 +13,12 @@ use Rattle.cache_log.specs.Ids.{FlightId, FlushId}
 use Rattle.cache_log.specs.Entries.{LogEntry, Asked, Begun, Hit as hit_entry}
 use Rattle.cache_log.specs.Hits.{MayHit}
 use Rattle.cache_log.specs.Rules.{CallConditions, IsOwed}
-use Rattle.coherence_core.specs.Cores.{call_conditions, drawn_of, most_flushes, most_stamps}
+use Rattle.coherence_core.specs.Cores.{conditions_of_call, drawn_of}
 use Rattle.coherence_core.specs.declared.core_state.Core.{Core}
 use Rattle.coherence_core.specs.declared.answers.Got.{Got}
 use Rattle.coherence_core.specs.declared.answers.Got.TheVariants as got
 use Rattle.coherence_core.specs.declared.answers.Requested.{Requested}
+use Rattle.cache_log.specs.Limits.{most_flushes, most_stamps}
 
 -- what a request adds to the log
 abbrev pub got_entries : Got → List LogEntry
@@ -48,7 +49,7 @@ is_got_dry _ = false
 
 -- what the call ran under
 abbrev pub requested_under : Requested → CallConditions
-requested_under requested = call_conditions requested.disk_failed (is_got_dry requested.got)
+requested_under requested = conditions_of_call requested.disk_failed (is_got_dry requested.got)
 
 -- a request that reaches the cache: the cache is up, no invalidation is asked for, and the farm admits the request
 pub record ReachesCache (core : Core) (req : Request) : Type 0 where

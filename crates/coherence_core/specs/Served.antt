@@ -28,8 +28,8 @@ abbrev pub stat_for : Farm → Stamps → PageKey → Option Stamp
 stat_for farm stat key = stat (stat_folder farm.level key)
 
 -- the answer that the files give for a key: that of its page, where its .stat file doesn't outdate it
-abbrev pub serves : Farm → Pages → Stamps → PageKey → Option Answer
-serves farm page stat key = served (is_auto farm key) (stat_for farm stat key) (page key)
+abbrev pub serves_page : Farm → Pages → Stamps → PageKey → Option Answer
+serves_page farm page stat key = served (is_auto farm key) (stat_for farm stat key) (page key)
 
 -- one stamp is before another
 abbrev pub Before : Stamp → Stamp → Type 0

@@ -52,7 +52,7 @@ BeginsSession farm None after core = Unit {0}
 BeginsSession farm (Some files) after core = (log : List LogEntry) → HoldsClosed farm files log → StandsFor (files_counted files) after core (Session core.epoch ∷ log)
 
 -- a core of this epoch in which nothing was done yet
-pub record IsFresh (farm : Farm) (epoch : ℕ) (core : Core) : Type 0 where
+pub record IsNewCore (farm : Farm) (epoch : ℕ) (core : Core) : Type 0 where
   pub farm_is : core.farm ≡ farm
   pub flights : core.flights ≡ []
   pub queue : core.queue.items ≡ []
@@ -63,7 +63,7 @@ pub record IsFresh (farm : Farm) (epoch : ℕ) (core : Core) : Type 0 where
 
 -- With each fresh core of the epoch a session begins.
 abbrev pub OpensSession : Option Files → Option Files → ℕ → Type 0
-OpensSession told after epoch = (farm : Farm) (core : Core) → IsFresh farm epoch core → BeginsSession farm told after core
+OpensSession told after epoch = (farm : Farm) (core : Core) → IsNewCore farm epoch core → BeginsSession farm told after core
 
 -- what log the files held they hold still
 abbrev pub KeepsHolds : Farm → Files → Files → Type 0

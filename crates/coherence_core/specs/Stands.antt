@@ -19,7 +19,7 @@ use Rattle.cache_log.specs.Ids.{FlightId, FlushId}
 use Rattle.cache_log.specs.Entries.{LogEntry, downs_since, flights_asked, flushes_begun, last_epoch, stamps_drawn}
 use Rattle.cache_log.specs.Hits.{Covers, HasDone, InAir, IsClear, MayHit, MustHit, Unfinished}
 use Rattle.cache_log.specs.Rules.{IsAboveAll}
-use Rattle.coherence_core.specs.Served.{Before, IsFresh, Pages, Stamps, serves, stat_for}
+use Rattle.coherence_core.specs.Served.{Before, IsFresh, Pages, Stamps, serves_page, stat_for}
 use Rattle.coherence_core.specs.declared.pending.Pending.{Pending}
 
 -- the stamp of this epoch and count
@@ -31,8 +31,8 @@ stamp epoch count = record { epoch = epoch; count = count }
 -- The pages and the stamps hold the log: what they answer is permitted, what is owed they answer, and each folder has a stamp that a flush
 -- touched which ended done.
 pub record HoldsPages (farm : Farm) (page : Pages) (stat : Stamps) (log : List LogEntry) : Type 0 where
-  pub may : (key : PageKey) (answer : Answer) → IsPageKey key → serves farm page stat key ≡ Some answer → MayHit farm log key answer
-  pub must : (key : PageKey) (answer : Answer) → IsPageKey key → MustHit farm log key answer → serves farm page stat key ≡ Some answer
+  pub may : (key : PageKey) (answer : Answer) → IsPageKey key → serves_page farm page stat key ≡ Some answer → MayHit farm log key answer
+  pub must : (key : PageKey) (answer : Answer) → IsPageKey key → MustHit farm log key answer → serves_page farm page stat key ≡ Some answer
   pub touched : (inv : Invalidation) (folder : Segments) → HasDone log inv → IsStampFolder folder → Contains (touched_of farm.level inv) folder → IsSome (stat folder)
 
 -- each page and each folder has a stamp before this one
@@ -139,7 +139,7 @@ pub record HoldsCounts (asked begun drawn : ℕ) (log : List LogEntry) : Type 0 
 -- ---- the whole
 
 -- the parts of a core and of its files stand for the log
-pub record Stands (farm : Farm) (page : Pages) (stat : Stamps) (held : ℕ) (flights : List Flight) (queue : List Pending) (asked begun epoch drawn : ℕ) (log : List LogEntry) : Type 0 where
+pub record CoreStands (farm : Farm) (page : Pages) (stat : Stamps) (held : ℕ) (flights : List Flight) (queue : List Pending) (asked begun epoch drawn : ℕ) (log : List LogEntry) : Type 0 where
   pub holds : HoldsPages farm page stat log
   pub before : AreBefore page stat (stamp epoch drawn)
   pub epochs : HoldsEpoch held epoch log

@@ -2,7 +2,8 @@
 ghost use Rattle.std.specs.Prelude.{◌≡◌, ◌<◌};
 ghost use Rattle.coherence_core.specs.Asking as spec;
 ghost use Rattle.coherence_core.specs.Asking.{BegunAs, FlushedAs};
-ghost use Rattle.coherence_core.specs.Cores.{drawn_of, most_stamps};
+ghost use Rattle.coherence_core.specs.Cores.{drawn_of};
+ghost use Rattle.cache_log.specs.Limits.{most_stamps};
 
 use crate::answers::Got;
 use crate::core_state::{Core, MOST_STAMPS};

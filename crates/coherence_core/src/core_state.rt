@@ -5,10 +5,11 @@ ghost use Rattle.cache_files.specs.Epochs.{HasOpenCause, next_epoch, told_with_e
 ghost use Rattle.docroot_changes.specs.Changes.{Told};
 ghost use Rattle.docroot_changes.specs.DocrootCalls.{MakesDocrootCalls};
 ghost use Rattle.coherence_core.specs.Asking.{next_stamp};
-ghost use Rattle.coherence_core.specs.Cores.{FlightsRise, drawn_of, most_stamps};
+ghost use Rattle.coherence_core.specs.Cores.{FlightsRise, drawn_of};
 ghost use Rattle.coherence_core.specs.Openings.{OpensCore};
-ghost use Rattle.coherence_core.specs.Sessions.{BeginsSession, IsFresh, KeepsHolds, OpensSession};
+ghost use Rattle.coherence_core.specs.Sessions.{BeginsSession, IsNewCore, KeepsHolds, OpensSession};
 ghost use Rattle.coherence_core.specs.declared.core_state.Core.{Core};
+ghost use Rattle.cache_log.specs.Limits.{most_stamps};
 
 use crate::laws::coverage_by_three_facts;
 use crate::pending::Pending;
@@ -114,7 +115,7 @@ fn open<D: Disk>(alloc: Global, disk: &mut D) -> Result<Opened, OpenFault>
     ensures left { IfErr result (λ fault. (farm : Farm) → Told (KeepsHolds farm) (D.files disk.old) (D.files disk.new)) }
     ensures err { IfErr result (λ e. e ≢ OpenFault.NoMemory → e ≢ OpenFault.Disk → IfSome (D.files disk.old) (λ files. next_epoch files ≡ Err e)) }
     ensures epoch { IfOk result (λ opened. IfSome (D.files disk.old) (λ files. next_epoch files ≡ Ok opened.epoch)) }
-    ensures opens { IfOk result (λ opened. (core : Core) → IsFresh core.farm opened.epoch core → OpensCore (D.files disk.old) (D.files disk.new) core) }
+    ensures opens { IfOk result (λ opened. (core : Core) → IsNewCore core.farm opened.epoch core → OpensCore (D.files disk.old) (D.files disk.new) core) }
     ensures after { IfOk result (λ opened. D.files disk.new ≡ told_with_epoch (D.files disk.old) opened.epoch) }
     ensures unopened { IfErr result (λ e. e ≢ OpenFault.Disk → D.files disk.new ≡ D.files disk.old) }
     ensures empty { IfOk result (λ opened. opened.flights ≡ []) }

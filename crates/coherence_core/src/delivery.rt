@@ -6,8 +6,9 @@ ghost use Rattle.docroot_changes.specs.DocrootCalls.{MakesDocrootCalls};
 ghost use Rattle.flights.specs.Flights.{flight_at, without};
 ghost use Rattle.cache_log.specs.Entries.{Landed as landed_entry, Lost};
 ghost use Rattle.cache_log.specs.Rules.{CallConditions};
-ghost use Rattle.coherence_core.specs.Cores.{ExtendsCore, FlightsRise, IsDiskTold, KeepsFarm};
+ghost use Rattle.coherence_core.specs.Cores.{ExtendsCore, FlightsRise, KeepsFarm};
 ghost use Rattle.coherence_core.specs.Landings.{DeliveredAs, IsKeptAs, IsKeptFrom, IsStored, fate_of, landed_under};
+ghost use Rattle.sp_outside.specs.Causes.{IsDiskFailure};
 
 use crate::answers::Landed;
 use crate::core_state::Core;
@@ -36,7 +37,7 @@ impl Core {
         ensures log { IfSome (flight_at ticket self.old.flights) (λ flight. ExtendsCore (D.files disk.old) self.old (D.files disk.new) self.new (landed_under result) (landed_entry ticket flight.key answer.now (fate_of result) ∷ [])) }
         ensures delivered { IfSome (flight_at ticket self.old.flights) (λ flight. DeliveredAs flight answer.now result (D.files disk.old) (D.files disk.new)) }
         ensures key { IfSome (flight_at ticket self.old.flights) (λ flight. IsKeptAs flight.key result) }
-        ensures disk_failed { IsDiskTold (D.faults disk.old) (D.faults disk.new) (landed_under result).disk_failed }
+        ensures disk_failed { IsDiskFailure (D.faults disk.old) (D.faults disk.new) (landed_under result).disk_failed }
         ensures calls { MakesDocrootCalls (D.calls disk.old) (D.calls disk.new) }
         ensures flights { self.new.flights ≡ without ticket self.old.flights }
         ensures queue { self.new.queue ≡ self.old.queue }
@@ -67,7 +68,7 @@ impl Core {
 fn keep<D: Disk>(alloc: Global, disk: &mut D, landing: Landing, answer: &Answer) -> Landed
     requires { IsTrue (is_kind answer.now.kind) }
     ensures kept { IsKeptFrom landing answer.now result (D.files disk.old) (D.files disk.new) }
-    ensures disk_failed { IsDiskTold (D.faults disk.old) (D.faults disk.new) (landed_under result).disk_failed }
+    ensures disk_failed { IsDiskFailure (D.faults disk.old) (D.faults disk.new) (landed_under result).disk_failed }
     ensures calls { MakesDocrootCalls (D.calls disk.old) (D.calls disk.new) }
 {
     docroot_calls_add_up();
@@ -83,7 +84,7 @@ fn store<D: Disk>(alloc: Global, disk: &mut D, clear: Clear, answer: &Answer) ->
     requires { IsTrue (is_kind answer.now.kind) }
     ensures stored { IsStored clear.key clear.stamp answer.now result (D.files disk.old) (D.files disk.new) }
     ensures key { IsKeptAs (Some clear.key) result }
-    ensures disk_failed { IsDiskTold (D.faults disk.old) (D.faults disk.new) (landed_under result).disk_failed }
+    ensures disk_failed { IsDiskFailure (D.faults disk.old) (D.faults disk.new) (landed_under result).disk_failed }
     ensures calls { MakesDocrootCalls (D.calls disk.old) (D.calls disk.new) }
 {
     what_a_put_sets();

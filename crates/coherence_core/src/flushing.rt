@@ -1,8 +1,9 @@
 //! The work on flushes, slice by slice.
 ghost use Rattle.std.specs.Prelude.{◌≡◌, ◌<◌, length};
 ghost use Rattle.docroot_changes.specs.DocrootCalls.{MakesDocrootCalls};
-ghost use Rattle.coherence_core.specs.Cores.{ExtendsCore, IsDiskTold, KeepsFarm, flush_numbers};
-ghost use Rattle.coherence_core.specs.Flushes.{IsFirstSliced, PurgedAs, left_by, purged_entries, purged_under};
+ghost use Rattle.coherence_core.specs.Cores.{ExtendsCore, KeepsFarm, flush_numbers};
+ghost use Rattle.coherence_core.specs.Flushes.{IsFirstSliced, PurgedAs, flushes_left_by, purged_entries, purged_under};
+ghost use Rattle.sp_outside.specs.Causes.{IsDiskFailure};
 
 use crate::answers::Purged;
 use crate::core_state::Core;
@@ -19,7 +20,7 @@ impl Core {
         ensures log { ExtendsCore (D.files disk.old) self.old (D.files disk.new) self.new (purged_under result) (purged_entries result) }
         ensures flushes { PurgedAs result (flush_numbers self.old.queue.items) (flush_numbers self.new.queue.items) }
         ensures idle { result ≡ Purged.Idle → (self.new ≡ self.old) × (D.files disk.new ≡ D.files disk.old) }
-        ensures disk_failed { IsDiskTold (D.faults disk.old) (D.faults disk.new) (purged_under result).disk_failed }
+        ensures disk_failed { IsDiskFailure (D.faults disk.old) (D.faults disk.new) (purged_under result).disk_failed }
         ensures calls { MakesDocrootCalls (D.calls disk.old) (D.calls disk.new) }
         ensures flights { self.new.flights ≡ self.old.flights }
         ensures asked { self.new.asked ≡ self.old.asked }
@@ -40,7 +41,7 @@ impl Core {
 fn slice_first<D: Disk>(queue: &mut Vec<Pending>, alloc: Global, disk: &mut D) -> Purged
     requires { 0 < length queue.old.items }
     ensures sliced { IsFirstSliced (D.files disk.old) (D.files disk.new) queue.old.items queue.new.items result }
-    ensures disk_failed { IsDiskTold (D.faults disk.old) (D.faults disk.new) (purged_under result).disk_failed }
+    ensures disk_failed { IsDiskFailure (D.faults disk.old) (D.faults disk.new) (purged_under result).disk_failed }
     ensures calls { MakesDocrootCalls (D.calls disk.old) (D.calls disk.new) }
 {
     let number = queue[0].number;
@@ -55,7 +56,7 @@ fn slice_first<D: Disk>(queue: &mut Vec<Pending>, alloc: Global, disk: &mut D) -
 // Takes the oldest flush out of the queue, where it has ended.
 fn retire(queue: &mut Vec<Pending>, purged: Purged)
     requires { 0 < length queue.old.items }
-    ensures { queue.new.items ≡ left_by purged queue.old.items }
+    ensures { queue.new.items ≡ flushes_left_by purged queue.old.items }
 {
     match purged {
         Purged::Idle | Purged::More(_) => {}

@@ -1,16 +1,17 @@
 //! What the core takes of the layers below, and what follows from what a core stands for: laws, on functions that do nothing but to call
 //! others.
-ghost use Rattle.std.specs.Prelude.{◌≡◌, ◌≤◌, ◌++◌, ℕ, IsTrue, List, [], ◌∷◌};
+ghost use Rattle.std.specs.Prelude.{◌≡◌, ◌≤◌, ◌++◌, ℕ, IsTrue, List, [], ◌∷◌, Ok};
 ghost use Rattle.std.specs.FinMap.{empty};
 ghost use Rattle.sp_outside.specs.Files.{Files, file_at};
 ghost use Rattle.any_config.specs.declared.farm.Farm.{Farm};
 ghost use Rattle.docroot_format.specs.Names.{epoch_name};
+ghost use Rattle.cache_files.specs.Epochs.{next_epoch};
 ghost use Rattle.cache_log.specs.Entries.{LogEntry, Session};
-ghost use Rattle.cache_log.specs.Rules.{AllAllowed, CallConditions, KeepsBound};
+ghost use Rattle.cache_log.specs.Rules.{AllAllowed, CallConditions, IsLegal, KeepsBound};
 ghost use Rattle.coherence_core.specs.Cores.{StandsOver, flushes_of};
 ghost use Rattle.coherence_core.specs.Facts.{CoverageFacts};
 ghost use Rattle.coherence_core.specs.Holds.{Holds, HoldsClosed, files_counted};
-ghost use Rattle.coherence_core.specs.Openings.{IsCleared, IsCoreOpened, LieInside};
+ghost use Rattle.coherence_core.specs.Openings.{IsCleared, IsCoreOpened};
 ghost use Rattle.coherence_core.specs.Sessions.{closing_entries, failed_entries};
 ghost use Rattle.coherence_core.specs.declared.core_state.Core.{Core};
 
@@ -56,11 +57,18 @@ pub fn a_session_may_end_at_any_time()
 /// Where a session was just opened, and no file is a page file or a .stat file, the core and the files stand for the log of this session alone.
 /// It stays one that was just opened as files go, but for that of the number.
 pub fn a_session_begins_without_pages()
-    ensures stands { (found : ℕ) (files : Files) (core : Core) → IsCoreOpened found files core → LieInside files → IsCleared files → StandsOver found files core (Session core.epoch ∷ []) }
+    ensures stands { (found : ℕ) (files : Files) (core : Core) → IsCoreOpened found files core → IsCleared files → StandsOver found files core (Session core.epoch ∷ []) }
     ensures kept { (found : ℕ) (files after : Files) (core : Core) → IsCoreOpened found files core → file_at after epoch_name ≡ file_at files epoch_name → files_counted after ≤ files_counted files → IsCoreOpened found after core }
 {
     names_tell_their_files();
 }
+
+/// A session that goes on from a legal log begins in a legal one: over files that hold the log, closed, with the number after the one that they
+/// hold (`over`), and from the empty log with any number (`first`).
+pub fn a_session_begins_in_a_legal_log()
+    ensures over { (farm : Farm) (files : Files) (log : List LogEntry) (epoch : ℕ) → HoldsClosed farm files log → IsLegal farm log → next_epoch files ≡ Ok epoch → IsLegal farm (Session epoch ∷ log) }
+    ensures first { (farm : Farm) (epoch : ℕ) → IsLegal farm (Session epoch ∷ []) }
+{}
 
 /// No files hold the empty log.
 pub fn no_files_hold_the_empty_log()

@@ -5,8 +5,9 @@ ghost use Rattle.docroot_changes.specs.DocrootCalls.{MakesDocrootCalls};
 ghost use Rattle.flights.specs.Flights.{numbers_of};
 ghost use Rattle.cache_log.specs.Entries.{LogEntry};
 ghost use Rattle.coherence_core.specs.Asking.{KeyedAs, RequestedAs};
-ghost use Rattle.coherence_core.specs.Cores.{ExtendsCore, FlightsRise, IsDiskTold, KeepsFarm, StandsFor, flight_labels, flush_numbers};
+ghost use Rattle.coherence_core.specs.Cores.{ExtendsCore, FlightsRise, KeepsFarm, StandsFor, flight_labels, flush_numbers};
 ghost use Rattle.coherence_core.specs.Requests.{GotAs, got_entries, got_flights, got_flushes, got_labels, requested_under};
+ghost use Rattle.sp_outside.specs.Causes.{IsDiskFailure};
 
 use crate::answers::{Got, Requested};
 use crate::core_state::Core;
@@ -36,7 +37,7 @@ impl Core {
         ensures cause { (found : ℕ) (log : List LogEntry) → StandsFor found (D.files disk.old) self.old log → GotAs self.old log req.now peer.now result.disk_failed result.got }
         ensures came { RequestedAs (D.files disk.old) self.old self.new req.now peer.now result }
         ensures files { D.files disk.new ≡ D.files disk.old }
-        ensures disk_failed { IsDiskTold (D.faults disk.old) (D.faults disk.new) result.disk_failed }
+        ensures disk_failed { IsDiskFailure (D.faults disk.old) (D.faults disk.new) result.disk_failed }
         ensures calls { MakesDocrootCalls (D.calls disk.old) (D.calls disk.new) }
         ensures flights { numbers_of self.new.flights ≡ numbers_of self.old.flights ++ got_flights result.got }
         ensures labels { flight_labels self.new.flights ≡ flight_labels self.old.flights ++ got_labels result.got }
@@ -54,7 +55,7 @@ impl Core {
     fn answer<D: Disk>(&mut self, alloc: Global, disk: &mut D, req: &Req, peer: &str) -> Requested
         ensures came { RequestedAs (D.files disk.old) self.old self.new req.now peer.now result }
         ensures files { D.files disk.new ≡ D.files disk.old }
-        ensures disk_failed { IsDiskTold (D.faults disk.old) (D.faults disk.new) result.disk_failed }
+        ensures disk_failed { IsDiskFailure (D.faults disk.old) (D.faults disk.new) result.disk_failed }
         ensures calls { MakesDocrootCalls (D.calls disk.old) (D.calls disk.new) }
     {
         docroot_calls_add_up();
@@ -81,7 +82,7 @@ impl Core {
         requires { IsPageKey key }
         ensures keyed { KeyedAs (D.files disk.old) self.old self.new key result.got result.disk_failed }
         ensures files { D.files disk.new ≡ D.files disk.old }
-        ensures disk_failed { IsDiskTold (D.faults disk.old) (D.faults disk.new) result.disk_failed }
+        ensures disk_failed { IsDiskFailure (D.faults disk.old) (D.faults disk.new) result.disk_failed }
         ensures calls { MakesDocrootCalls (D.calls disk.old) (D.calls disk.new) }
     {
         docroot_calls_add_up();

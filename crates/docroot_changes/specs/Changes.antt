@@ -1,8 +1,9 @@
 -- What a call on the files of the docroot makes of the pages, the stamps of folders and the number of the session that they hold.
-use Rattle.std.specs.Prelude.{◌≡◌, ◌≢◌, ◌⊎◌, ◌≤◌, ◌<◌, ◌+◌, ℕ, Bool, Option, Some, None, length}
+use Rattle.std.specs.Prelude.{◌≡◌, ◌≢◌, ◌⊎◌, ◌≤◌, ◌<◌, ◌+◌, ℕ, Bool, IsTrue, Option, Some, None, length}
 use Rattle.std.specs.FinMap.{keys}
 use Rattle.std.specs.List.{AllByRecursion, filter}
 use Rattle.sp_base.specs.Bytes.{AreBytes}
+use Rattle.sp_base.specs.Paths.{is_path}
 use Rattle.sp_base.specs.Texts.{Segments, Text}
 use Rattle.sp_base.specs.declared.answer.Answer.{Answer}
 use Rattle.sp_outside.specs.Files.{Files}
@@ -24,8 +25,9 @@ Told P None after = after ≡ None
 Told P (Some old) None = ⊥
 Told P (Some old) (Some new) = P old new
 
--- a folder that may have a stamp, spelled as its .stat file's name is: a mangled path of bytes, whose segments have file names
+-- a folder that may have a stamp, spelled as its .stat file's name is: a path of bytes, mangled, whose segments have file names
 pub record IsStampFolder (folder : Segments) : Type 0 where
+  pub path : IsTrue (is_path folder)
   pub docroot : IsFolder folder
   pub bytes : AllByRecursion AreBytes folder
 

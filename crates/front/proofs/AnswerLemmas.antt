@@ -1,7 +1,7 @@
 -- Whole answers of the cache to a request.
 use Rattle.std.proofs.Common.{◌≡◌, ℕ, ◌+◌, ◌<◌, ◌≤◌, ◌++◌, ◌||◌, Bool, true, false, suc, List, [], ◌∷◌, Option, Some, None, Result, Ok, Err, length, map, refl, ap, sym, subst, ◌∙◌, arith, ◌⊎◌, inl, inr}
 use Rattle.std.specs.Prelude.{◌==◌, IsTrue, nat_eq, nat_le, not, remove, slice_get}
-use Rattle.flights.specs.Flights.{AreRising as AreRisingFlights, numbers_of, without as flights_without}
+use Rattle.flights.specs.Flights.{AreRising as AreRisingFlights, numbers_of, without as flights_without, most_flights}
 use Rattle.flights.specs.declared.flight.Flight.{Flight}
 use Rattle.std.specs.Option.{option_map}
 use Rattle.std.proofs.lemmas.List.{length-map}
@@ -20,7 +20,7 @@ use Rattle.invalidation.specs.Invalidations.{invalidation_of, is_invalidation}
 use Rattle.invalidation.specs.declared.inv_fault.InvFault.{InvFault}
 use Rattle.cache_log.specs.Entries.{LogEntry, flights_asked, flushes_begun, is_up, stamps_drawn}
 use Rattle.cache_log.specs.Rules.{IsOwed}
-use Rattle.coherence_core.specs.Cores.{ExtendsCore, FlightsRise, IsDiskTold, KeepsFarm, StandsFor, drawn_of, flight_labels, flights_of, flush_numbers, flushes_of}
+use Rattle.coherence_core.specs.Cores.{ExtendsCore, FlightsRise, KeepsFarm, StandsFor, drawn_of, flight_labels, flights_of, flush_numbers, flushes_of}
 use Rattle.coherence_core.specs.Requests.{GotAs, HasRoomToFlush, MayFlush, ReachesCache, ReachesPublisher, got_entries, got_flights, got_flushes, got_labels, requested_under}
 use Rattle.coherence_core.specs.declared.answers.Got.{Got}
 use Rattle.coherence_core.specs.declared.answers.Requested.{Requested}
@@ -33,10 +33,10 @@ use Rattle.run_events.specs.declared.flying.Flying.{Flying}
 use Rattle.run_events.specs.declared.flying.Flushing.{Flushing}
 use Rattle.run_events.specs.declared.note.Note.{Note}
 use Rattle.run_events.specs.declared.note.Note.TheVariants.{Ask as asked, Flush, Hit, Local}
-use Rattle.run_events.specs.Causes.{IsDiskFailure, IsHitOwedTo, Spoils}
-use Rattle.run_events.specs.Points.{AnswersFlush, AnswersInvalidation, BeginsFlush, Crowded, Fallen, Invalidating, Hidden, Held, Full, Free, IsFirstPoint, IsHitOwed, are_stamps_drawn, is_crowded_if_open, is_front_full, is_full_of_flushes, IsPermitted, key_of, most_flights, most_flushes, most_stamps, peer_of, points}
+use Rattle.run_events.specs.Causes.{IsHitOwedTo, Spoils}
+use Rattle.run_events.specs.Points.{AnswersFlush, AnswersInvalidation, BeginsFlush, Crowded, Fallen, Invalidating, Hidden, Held, Full, Free, IsFirstPoint, IsHitOwed, are_stamps_drawn, is_crowded_if_open, is_front_full, is_full_of_flushes, IsPermitted, key_of, peer_of, points}
 use Rattle.run_events.specs.Moves.{GivesDue, GivesNext, due_if_open, due_of_connection, local_slot, new_flight, state_after_ask, state_after_flush, state_after_hit, state_after_note, treated_request, with_turn_slot}
-use Rattle.run_events.specs.States.{AreRising, RunState}
+use Rattle.run_events.specs.States.{AirRises, RunState}
 use Rattle.connections.specs.AnswerQueues.{ReplyStandsFor}
 use Rattle.connections.specs.Slots.{Awaits as Awaits_response, Cached, IsHit, local_response, request_slot}
 use Rattle.connections.specs.declared.awaited.Awaited.TheVariants.{Flight as flight_awaited, Flush as flush_awaited}
@@ -46,6 +46,8 @@ use Rattle.front.specs.Caches.{Allows, AreTicketed, AreFlushesRising, AsksCache,
 use Rattle.front.specs.declared.answered.Answered.{Answered}
 use Rattle.front.proofs.FlightListLemmas.{rising-push}
 use Rattle.front.proofs.RequestLemmas.{CoreGot, IsNoteOf, Reaches, append-nil, behind-after, core-got, crowd-is, down-is, down-note, drawn-is, fallen-is, farm-key, flights-many, flush-note, flushes-many, free-of, full-note, full-of, hidden-note, local-spoils, owed-from, owed-is, past-crowded, past-fallen, past-flush, past-hidden, queue-length, reaches, told-failure, up-from, up-is}
+use Rattle.cache_log.specs.Limits.{most_flushes, most_stamps}
+use Rattle.sp_outside.specs.Causes.{IsDiskFailure}
 
 -- ---- whole answers
 -- what an answer of the front itself leaves
@@ -223,7 +225,7 @@ is-asked old core files faults w c n request peer disk_failed key answered flyin
       behind_is = subst (BehindStandsFor (behind (record { core = core; flying = flying; flushes = old.cache.flushes }) files faults)) (sym after)
           (behind-after old core files faults request peer disk_failed (got.Asked n key) g w (state_after_ask w n c key (Some request)) flying old.cache.flushes b refl refl refl
           (added ∙ ap (λ fs. fs ++ new_flight n c request ∷ []) b.flying_is)
-          (rw added (subst (AreRising 0 (old.cache.flying ++ new_flight n c request ∷ [])) number (rising-push 0 old.cache.flying (flights_asked w.log) (new_flight n c request) b.rising (omega (arith, number)))))
+          (rw added (subst (AirRises 0 (old.cache.flying ++ new_flight n c request ∷ [])) number (rising-push 0 old.cache.flying (flights_asked w.log) (new_flight n c request) b.rising (omega (arith, number)))))
           (rw added (labels-push w.farm old.cache.flying (new_flight n c request) ∙ ap (λ k. flying_labels w.farm old.cache.flying ++ (n, k) ∷ []) (sym page)))
           b.flushing_is b.flushes_rise (sym (append-nil (flushing_numbers old.cache.flushes))));
       slicing_is = ap (λ (v : RunState). v.slicing) after ∙ asks.slicing_is;

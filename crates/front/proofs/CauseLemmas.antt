@@ -2,10 +2,10 @@
 use Rattle.std.proofs.Common.{◌≡◌, ℕ, ◌+◌, ◌-◌, ◌<◌, ◌≤◌, ◌++◌, ◌||◌, Bool, true, false, List, [], ◌∷◌, refl, ap, sym, subst, ◌∙◌, arith, ◌⊎◌, inl, inr}
 use Rattle.std.specs.Prelude.{IsTrue, min}
 use Rattle.sp_base.specs.Limits.{greatest_u64}
-use Rattle.sp_outside.specs.Causes.{Rose, next}
+use Rattle.sp_outside.specs.Causes.{Rose, next, IsDiskFailure}
 use Rattle.run_events.specs.declared.conditions.Conditions.{Conditions}
 use Rattle.run_events.specs.declared.note.Note.{Note}
-use Rattle.run_events.specs.Causes.{IsDiskFailure, ShowsOutOfMemory, SomeShowsOutOfMemory, SpoilAtMost, Spoils}
+use Rattle.run_events.specs.Causes.{ShowsOutOfMemory, SomeShowsOutOfMemory, SpoilAtMost, Spoils}
 use Rattle.run_events.specs.Moves.{state_after_note, state_after_notes}
 use Rattle.run_events.specs.States.{RunState}
 use Rattle.front.specs.Boards.{HaveCause}

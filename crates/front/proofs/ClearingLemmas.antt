@@ -21,7 +21,7 @@ use Rattle.docroot_changes.specs.Changes.{Told}
 use Rattle.docroot_changes.specs.DocrootCalls.{IsDocrootCall}
 use Rattle.coherence_core.specs.Holds.{files_counted}
 use Rattle.coherence_core.specs.Openings.{IsCleared}
-use Rattle.front.specs.Clearings.{ClearsFiles, HasNone, HasNoneAmong, HasNoneBetween, HasNoneUpTo, IsNearer, IsReached, is_of_kind, is_page_or_stamp}
+use Rattle.front.specs.Clearings.{ClearsFiles, ClearsPagesFirst, HasNoFile, HasNoneAmong, HasNoneBetween, HasNoneUpTo, IsNearer, IsClearedTo, is_of_kind, is_page_or_stamp}
 use Rattle.front.specs.declared.clearing.FileKind.{FileKind}
 use Rattle.front.specs.declared.clearing.FileKind.TheVariants.{Page, Stamp}
 
@@ -144,7 +144,7 @@ clears-to-more kind names i name lt at a b c first then = record {
 -- the files of this kind are gone that the list came to
 pub cleared-between : (kind : FileKind) (last : Text) (next : Option Text) (most : ℕ) (names : List Text) (a b : Files)
     → ((name : Text) → IsNameAfter a [] last name → HasReached names most name → Contains names name)
-    → ((name : Text) → IsReached next name → HasReached names most name) → ClearsFiles (is_of_kind kind) a b × HasNoneAmong kind names b → HasNoneBetween kind last next b
+    → ((name : Text) → IsClearedTo next name → HasReached names most name) → ClearsFiles (is_of_kind kind) a b × HasNoneAmong kind names b → HasNoneBetween kind last next b
 cleared-between kind last next most names a b contains reached left name is after here = by_file (file_at a name) refl
   where
     by_file : (o : Option Text) → file_at a name ≡ o → file_at b name ≡ None
@@ -168,7 +168,7 @@ up-to-next kind last next a b c so_far one = record {
   none = λ name is up_to. ⊎_elim (λ after. one.1 name is after up_to) (λ before. stays-gone (is_of_kind kind) b c name one.0 (so_far.none name is before)) (less-or-not (by_name last name));
 }
 
-pub up-to-end : (kind : FileKind) (last : Text) (a b c : Files) → ClearsUpTo kind last a b → ClearsFiles (is_of_kind kind) b c × HasNoneBetween kind last None c → ClearsFiles (is_of_kind kind) a c × HasNone kind c
+pub up-to-end : (kind : FileKind) (last : Text) (a b c : Files) → ClearsUpTo kind last a b → ClearsFiles (is_of_kind kind) b c × HasNoneBetween kind last None c → ClearsFiles (is_of_kind kind) a c × HasNoFile kind c
 up-to-end kind last a b c so_far one =
     (clears-then (is_of_kind kind) a b c so_far.clears one.0, λ name is. ⊎_elim (λ after. one.1 name is after tt) (λ before. stays-gone (is_of_kind kind) b c name one.0 (so_far.none name is before)) (less-or-not (by_name last name)))
 
@@ -201,11 +201,19 @@ pub record ClearsAll (old new : Files) : Type 0 where
   pub clears : ClearsFiles is_page_or_stamp old new
   pub none : IsCleared new
 
-pub clears-all : (a b c : Files) → ClearsFiles (is_of_kind Page) a b × HasNone Page b → ClearsFiles (is_of_kind Stamp) b c × HasNone Stamp c → ClearsAll a c
+pub clears-all : (a b c : Files) → ClearsFiles (is_of_kind Page) a b × HasNoFile Page b → ClearsFiles (is_of_kind Stamp) b c × HasNoFile Stamp c → ClearsAll a c
 clears-all a b c first then = record {
   clears = clears-then is_page_or_stamp a b c (clears-either Page a b first.0) (clears-either Stamp b c then.0);
   none = record { pages = λ name is. stays-gone (is_of_kind Stamp) b c name then.0 (first.1 name is); stats = λ name is. then.1 name is };
 }
+
+-- only page files went: each .stat file is as it was
+pub pages-first : ((name : Text) → IsTrue (is_page_file name) → is_stat_file name ≡ false) → (a b : Files) → ClearsFiles (is_of_kind Page) a b → ClearsPagesFirst a b
+pages-first apart a b clears = inl (λ name is. ⊎_elim (λ e. e) (λ w. absurd (let no : true ≡ false = sym is ∙ apart name w.0 in cc no)) (clears.each name))
+
+-- no page file was left, and then only .stat files went
+pub pages-gone : (a b c : Files) → ClearsFiles (is_of_kind Page) a b × HasNoFile Page b → ClearsFiles (is_of_kind Stamp) b c → ClearsPagesFirst a c
+pages-gone a b c first then = inr (λ name is. stays-gone (is_of_kind Stamp) b c name then (first.1 name is))
 
 -- the number of the session is no file of these kinds
 pub number-stays : (a b : Files) → is_page_file epoch_name ≡ false → is_stat_file epoch_name ≡ false → ClearsFiles is_page_or_stamp a b → file_at b epoch_name ≡ file_at a epoch_name

@@ -21,7 +21,7 @@ use Rattle.flights.specs.declared.flight.Flight.{Flight}
 use Rattle.cache_log.specs.Entries.{Fate, Kept, Landed, LogEntry, Lost as lost_entry, Passed, Unkept, flights_asked, flushes_begun}
 use Rattle.cache_log.specs.Ids.{FlightId}
 use Rattle.cache_log.specs.Rules.{CallConditions, HasFallenShort, MayStore}
-use Rattle.coherence_core.specs.Cores.{ExtendsCore, FlightsRise, IsDiskTold, KeepsFarm, StandsFor, farm_of, flight_labels, flights_of, flush_numbers, flushes_of}
+use Rattle.coherence_core.specs.Cores.{ExtendsCore, FlightsRise, KeepsFarm, StandsFor, farm_of, flight_labels, flights_of, flush_numbers, flushes_of}
 use Rattle.coherence_core.specs.Landings.{IsKeptAs, fate_of, landed_under}
 use Rattle.coherence_core.specs.declared.answers.Landed.{Landed as LandedAs}
 use Rattle.coherence_core.specs.declared.answers.Landed.TheVariants as landed
@@ -47,11 +47,12 @@ use Rattle.run_events.specs.Moves as moves
 use Rattle.run_events.specs.Points.{key_of}
 use Rattle.run_events.specs.States as states
 use Rattle.run_events.specs.States.{RunState}
-use Rattle.front.specs.Caches.{AreTicketed, Behind, BehindStandsFor, HasNoteCause, HaveKinds, IsEnding, IsLanding, IsLoss, RepliesFor, behind, flying_labels, flying_of, landing_end_of, only_disk, tickets_of, with_end_if}
+use Rattle.front.specs.Caches.{AreTicketed, Behind, BehindStandsFor, HasNoteCause, HaveKinds, IsEnding, IsDelivery, IsLoss, RepliesFor, behind, flying_labels, flying_of, landing_end_of, only_disk, tickets_of, with_end_if}
 use Rattle.front.specs.declared.answered.Ended.{Ended}
 use Rattle.front.specs.declared.ticketed.TicketedFlight.{TicketedFlight}
 use Rattle.front.proofs.FlightListLemmas.{found-passes, found-some, get-within, got, place, rising-remove}
 use Rattle.front.proofs.PositionLemmas.{map-remove}
+use Rattle.sp_outside.specs.Causes.{IsDiskFailure}
 
 pub no-false : {P : Type 0} → IsTrue false → P
 no-false is = absurd (let no : false ≡ true = is in let none : ⊥ = cc in none)
@@ -167,9 +168,9 @@ pub record IsAt (core : Core) (ts : List TicketedFlight) (w : RunState) (i : ℕ
   pub found : flight_at t.ticket (flights_of core) ≡ Some flight
   pub key : flight.key ≡ key_of w t.flying.request
   pub labels : flight_labels (without t.ticket (flights_of core)) ≡ flying_labels w.farm (flying_of (remove ts i))
-  pub at : moves.flight_at t.flying.number w.flights ≡ Some t.flying
-  pub left : moves.without t.flying.number w.flights ≡ flying_of (remove ts i)
-  pub rising : states.AreRising 0 (flying_of (remove ts i)) (flights_asked w.log)
+  pub at : moves.flying_at t.flying.number w.flights ≡ Some t.flying
+  pub left : moves.air_without t.flying.number w.flights ≡ flying_of (remove ts i)
+  pub rising : states.AirRises 0 (flying_of (remove ts i)) (flights_asked w.log)
 
 pub is-at : (core : Core) (ts : List TicketedFlight) (fs : List Flushing) (files : Option Files) (faults : ℕ) (w : RunState) (i : ℕ) (t : TicketedFlight) → AreTicketed core ts → BehindStandsFor (behind (record { core = core; flying = flying_of ts; flushes = fs }) files faults) w
     → slice_get ts i ≡ Some t → IsAt core ts w i t
@@ -185,9 +186,9 @@ is-at core ts fs files faults w i t ticketed stands at =
       found = one.found;
       key = same.1;
       labels = one.left ∙ ap (λ ls. remove ls i) stands.flights_are ∙ sym (map-remove (λ (f : Flying). (f.number, cache_key w.farm f.request)) (flying_of ts) i) ∙ ap (flying_labels w.farm) (sym (map-remove (λ (u : TicketedFlight). u.flying) ts i));
-      at = ap (moves.flight_at t.flying.number) (sym stands.flying_is) ∙ there.at;
-      left = ap (moves.without t.flying.number) (sym stands.flying_is) ∙ there.left ∙ sym (map-remove (λ (u : TicketedFlight). u.flying) ts i);
-      rising = subst (λ fs. states.AreRising 0 fs (flights_asked w.log)) (sym (map-remove (λ (u : TicketedFlight). u.flying) ts i)) (rising-remove 0 (flying_of ts) (flights_asked w.log) i stands.rising);
+      at = ap (moves.flying_at t.flying.number) (sym stands.flying_is) ∙ there.at;
+      left = ap (moves.air_without t.flying.number) (sym stands.flying_is) ∙ there.left ∙ sym (map-remove (λ (u : TicketedFlight). u.flying) ts i);
+      rising = subst (λ fs. states.AirRises 0 fs (flights_asked w.log)) (sym (map-remove (λ (u : TicketedFlight). u.flying) ts i)) (rising-remove 0 (flying_of ts) (flights_asked w.log) i stands.rising);
     }
   where
     labels-same : (a b : ℕ) (k l : Option PageKey) → ◌≡◌ {A = Option (ℕ × Option PageKey)} (Some (a, k)) (Some (b, l)) → (a ≡ b) × (k ≡ l)
@@ -256,8 +257,8 @@ loss-ends core after_ ts fs files faults w i t pick ticketed stands at found fli
     }
 
 -- ---- a flight lands
-landed-state : (w : RunState) (f : Flying) (answer : Answer) (fate : Fate) → moves.flight_at f.number w.flights ≡ Some f → f.rendered ≡ Some answer
-    → state_after_landing w f.number fate (moves.flight_at f.number w.flights) ≡ over_with w f.number answer (Landed f.number (key_of w f.request) answer fate) (Some f)
+landed-state : (w : RunState) (f : Flying) (answer : Answer) (fate : Fate) → moves.flying_at f.number w.flights ≡ Some f → f.rendered ≡ Some answer
+    → state_after_landing w f.number fate (moves.flying_at f.number w.flights) ≡ over_with w f.number answer (Landed f.number (key_of w f.request) answer fate) (Some f)
 landed-state w f answer fate at rendered =
     ap (state_after_landing w f.number fate) at ∙ ap (λ a. over_with w f.number a (Landed f.number (key_of w f.request) a fate) (Some f)) (ap (λ r. unwrap_or r fixed_answer) rendered)
 
@@ -274,8 +275,8 @@ pub landing-ends : (core after_ : Core) (ts : List TicketedFlight) (fs : List Fl
     → BehindStandsFor (behind (record { core = core; flying = flying_of ts; flushes = fs }) files faults) w → slice_get ts i ≡ Some t → Some i ≡ position (λ flying. is_picked pick flying && is_rendered flying) (flying_of ts) → t.flying.rendered ≡ Some answer
     → flights_of after_ ≡ without t.ticket (flights_of core) → after_.queue ≡ core.queue → KeepsFarm core after_
     → IfSome (flight_at t.ticket (flights_of core)) (λ flight. ExtendsCore files core later after_ (landed_under out) (Landed t.ticket flight.key answer (fate_of out) ∷ [])) → IfSome (flight_at t.ticket (flights_of core)) (λ flight. IsKeptAs flight.key out)
-    → IsDiskTold faults after_faults (landed_under out).disk_failed → w.slicing ≡ None
-    → IsLanding w pick (landing_end_of t.flying.number t.flying.connection answer out) (behind (record { core = core; flying = flying_of ts; flushes = fs }) files faults) (behind (record { core = after_; flying = flying_of (remove ts i); flushes = fs }) later after_faults)
+    → IsDiskFailure faults after_faults (landed_under out).disk_failed → w.slicing ≡ None
+    → IsDelivery w pick (landing_end_of t.flying.number t.flying.connection answer out) (behind (record { core = core; flying = flying_of ts; flushes = fs }) files faults) (behind (record { core = after_; flying = flying_of (remove ts i); flushes = fs }) later after_faults)
 landing-ends core after_ ts fs files later faults after_faults w i t pick answer out ticketed stands at found rendered flights queue farm log kept told quiet = by_out out log kept told
   where
     is : IsAt core ts w i t
@@ -291,7 +292,7 @@ landing-ends core after_ ts fs files later faults after_faults w i t pick answer
     stored key may = subst (λ farm. MayStore farm w.log t.flying.number key answer) (sym stands.farm_is) may
 
     by_out : (o : LandedAs) → IfSome (flight_at t.ticket (flights_of core)) (λ flight. ExtendsCore files core later after_ (landed_under o) (Landed t.ticket flight.key answer (fate_of o) ∷ [])) → IfSome (flight_at t.ticket (flights_of core)) (λ flight. IsKeptAs flight.key o)
-        → IsDiskTold faults after_faults (landed_under o).disk_failed → IsLanding w pick (landing_end_of t.flying.number t.flying.connection answer o) (behind (record { core = core; flying = flying_of ts; flushes = fs }) files faults) new
+        → IsDiskFailure faults after_faults (landed_under o).disk_failed → IsDelivery w pick (landing_end_of t.flying.number t.flying.connection answer o) (behind (record { core = core; flying = flying_of ts; flushes = fs }) files faults) new
     by_out (landed.Kept key) log kept told =
         let extends = landed-log core after_ ts files later w i t answer (landed.Kept key) is log w.found in
         let own : is.flight.key ≡ Some key = subst (λ o. IfSome o (λ (flight : Flight). flight.key ≡ Some key)) is.found kept in

@@ -22,7 +22,7 @@ use Rattle.run_events.specs.Events.{DeliverAs, DeliverTo, Event, LeadsNotes, Los
 use Rattle.run_events.specs.Moves.{state_after_note, state_after_notes, Settles, on_connection}
 use Rattle.run_events.specs.States.{RunState}
 use Rattle.front.specs.Boards.{BoardAt, BoardMakesEvent, BoardStandsFor, FirstThen, HasEnded, HaveCause, IsEventOf, ReadAt, SettlesIn, at_disk, behind_board, event_of}
-use Rattle.front.specs.Caches.{Allows, Behind, BehindStandsFor, IsLanding, IsLoss, IsSlice, behind, under_nothing}
+use Rattle.front.specs.Caches.{Allows, Behind, BehindStandsFor, IsDelivery, IsLoss, IsPurging, behind, under_nothing}
 use Rattle.front.specs.KeptConnections.{ConnectionStandsFor}
 use Rattle.front.specs.declared.answered.Ended.{Ended as EndedAs}
 use Rattle.front.specs.declared.board.Board.{Board}
@@ -238,7 +238,7 @@ sliced-none b h w effect none tied faults notes under =
 leads : (w : RunState) (ended : EndedAs) (effect : Effect) (before : ℕ) (h : BoardAt) (c : ℕ) → ended.connection ≡ c → FirstThen ended w effect before h → LeadsNotes w effect.conditions ended.note c effect.notes.items
 leads w ended effect before h c same led = record { rest = led.rest; begins = led.begins; settles = subst (λ q. Settles effect.conditions (state_after_note w ended.note) q led.rest) same (led.settles effect.conditions (allows-self effect.conditions)) }
 
-pub landed : (b h : BoardAt) (old new : Behind) (w : RunState) (pick : Pick) (ended : EndedAs) (effect : Effect) → IsLanding w pick ended old new → FirstThen ended w effect b.faults h → IsEventOf (BoardStandsFor h) w (Deliver pick) effect b.faults h.faults
+pub landed : (b h : BoardAt) (old new : Behind) (w : RunState) (pick : Pick) (ended : EndedAs) (effect : Effect) → IsDelivery w pick ended old new → FirstThen ended w effect b.faults h → IsEventOf (BoardStandsFor h) w (Deliver pick) effect b.faults h.faults
 landed b h old new w pick ended effect lands led =
     let e : Event = event_of (Deliver pick) effect [] Waits in
     let lands_as : DeliverAs w e lands.flying (Some lands.answer) = (ended.note, lands.lands effect.conditions led.first, leads w ended effect b.faults h lands.flying.connection lands.waits led) in
@@ -261,7 +261,7 @@ lost b h old new w pick ended effect loss led =
       stands = led.board_is;
     }
 
-pub sliced : (b h : BoardAt) (old new : Behind) (w : RunState) (ended : EndedAs) (effect : Effect) → IsSlice w ended old new → FirstThen ended w effect b.faults h → IsEventOf (BoardStandsFor h) w Purge effect b.faults h.faults
+pub sliced : (b h : BoardAt) (old new : Behind) (w : RunState) (ended : EndedAs) (effect : Effect) → IsPurging w ended old new → FirstThen ended w effect b.faults h → IsEventOf (BoardStandsFor h) w Purge effect b.faults h.faults
 sliced b h old new w ended effect slice led =
     let e : Event = event_of Purge effect [] Waits in
     record {

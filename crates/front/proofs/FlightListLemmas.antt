@@ -5,8 +5,8 @@ use Rattle.std.specs.List.{find, position_or_len}
 use Rattle.std.proofs.lemmas.List.Folds.{find_at}
 use Rattle.sp_base.specs.declared.answer.Answer.{Answer}
 use Rattle.run_events.specs.declared.flying.Flying.{Flying}
-use Rattle.run_events.specs.States.{AreRising}
-use Rattle.run_events.specs.Moves.{flight_at, with_rendered, with_rendered_at, without}
+use Rattle.run_events.specs.States.{AirRises}
+use Rattle.run_events.specs.Moves.{flying_at, with_rendered, with_rendered_at, air_without}
 
 -- ---- the first that is asked for
 pub get-none : {A : Type 0} (xs : List A) (i : ℕ) → length xs ≤ i → slice_get xs i ≡ None
@@ -55,16 +55,16 @@ found-passes test (y ∷ xs) x e = by_test (test y) refl (found-passes test xs x
     by_test false passes rest = rest (rw passes at e)
 
 -- ---- numbers that rise
-pub rising-lower : (a b : ℕ) (flights : List Flying) (most : ℕ) → b ≤ a → AreRising a flights most → AreRising b flights most
+pub rising-lower : (a b : ℕ) (flights : List Flying) (most : ℕ) → b ≤ a → AirRises a flights most → AirRises b flights most
 rising-lower a b [] most l rising = omega (arith, l, rising)
 rising-lower a b (f ∷ flights) most l rising = (omega (arith, l, rising.0), rising.1)
 
-pub rising-above : (least : ℕ) (flights : List Flying) (most i : ℕ) (f : Flying) → AreRising least flights most → slice_get flights i ≡ Some f → least < f.number
+pub rising-above : (least : ℕ) (flights : List Flying) (most i : ℕ) (f : Flying) → AirRises least flights most → slice_get flights i ≡ Some f → least < f.number
 rising-above least [] most i f rising at = absurd (let no : ⊥ = cc in no)
 rising-above least (g ∷ flights) most zero f rising at = let same : g ≡ f = cc in subst (λ (h : Flying). least < h.number) same rising.0
 rising-above least (g ∷ flights) most (suc i) f rising at = omega (arith, rising.0, rising-above g.number flights most i f rising.1 at)
 
-none-numbered : (n least : ℕ) (flights : List Flying) (most : ℕ) → n ≤ least → AreRising least flights most → (without n flights ≡ flights) × ((answer : Answer) → map (with_rendered_at n answer) flights ≡ flights)
+none-numbered : (n least : ℕ) (flights : List Flying) (most : ℕ) → n ≤ least → AirRises least flights most → (air_without n flights ≡ flights) × ((answer : Answer) → map (with_rendered_at n answer) flights ≡ flights)
 none-numbered n least [] most l rising = (refl, λ answer. refl)
 none-numbered n least (f ∷ flights) most l rising =
     let above : n < f.number = omega (arith, l, rising.0) in
@@ -74,11 +74,11 @@ none-numbered n least (f ∷ flights) most l rising =
 
 -- the flight with this number stands at this place, and there alone
 pub record IsPlace (f : Flying) (flights : List Flying) (i : ℕ) : Type 0 where
-  pub at : flight_at f.number flights ≡ Some f
-  pub left : without f.number flights ≡ remove flights i
+  pub at : flying_at f.number flights ≡ Some f
+  pub left : air_without f.number flights ≡ remove flights i
   pub set : (answer : Answer) → map (with_rendered_at f.number answer) flights ≡ slice_set flights i (with_rendered answer f)
 
-place-first : (f : Flying) (flights : List Flying) (most : ℕ) → AreRising f.number flights most → IsPlace f (f ∷ flights) 0
+place-first : (f : Flying) (flights : List Flying) (most : ℕ) → AirRises f.number flights most → IsPlace f (f ∷ flights) 0
 place-first f flights most rising =
     let here : nat_eq f.number f.number ≡ true = grind arith in
     let rest = none-numbered f.number f.number flights most (omega arith) rising in
@@ -88,11 +88,11 @@ place-first f flights most rising =
       set = λ answer. rw here (ap (λ gs. with_rendered answer f ∷ gs) (rest.1 answer));
     }
 
-pub place : (least : ℕ) (flights : List Flying) (most i : ℕ) (f : Flying) → AreRising least flights most → slice_get flights i ≡ Some f → IsPlace f flights i
+pub place : (least : ℕ) (flights : List Flying) (most i : ℕ) (f : Flying) → AirRises least flights most → slice_get flights i ≡ Some f → IsPlace f flights i
 place least [] most i f rising at = absurd (let no : ⊥ = cc in no)
 place least (g ∷ flights) most zero f rising at =
     let same : g ≡ f = cc in
-    let here : AreRising f.number flights most = subst (λ (h : Flying). AreRising h.number flights most) same rising.1 in
+    let here : AirRises f.number flights most = subst (λ (h : Flying). AirRises h.number flights most) same rising.1 in
     subst (λ h. IsPlace f (h ∷ flights) 0) (sym same) (place-first f flights most here)
 place least (g ∷ flights) most (suc i) f rising at =
     let above : g.number < f.number = rising-above g.number flights most i f rising.1 at in
@@ -105,17 +105,17 @@ place least (g ∷ flights) most (suc i) f rising at =
     }
 
 -- ---- what keeps them rising
-pub rising-push : (least : ℕ) (flights : List Flying) (most : ℕ) (f : Flying) → AreRising least flights most → most < f.number → AreRising least (flights ++ f ∷ []) f.number
+pub rising-push : (least : ℕ) (flights : List Flying) (most : ℕ) (f : Flying) → AirRises least flights most → most < f.number → AirRises least (flights ++ f ∷ []) f.number
 rising-push least [] most f rising above = (omega (arith, rising, above), omega arith)
 rising-push least (g ∷ flights) most f rising above = (rising.0, rising-push g.number flights most f rising.1 above)
 
-pub rising-remove : (least : ℕ) (flights : List Flying) (most i : ℕ) → AreRising least flights most → AreRising least (remove flights i) most
+pub rising-remove : (least : ℕ) (flights : List Flying) (most i : ℕ) → AirRises least flights most → AirRises least (remove flights i) most
 rising-remove least [] most zero rising = rising
 rising-remove least [] most (suc i) rising = rising
 rising-remove least (g ∷ flights) most zero rising = rising-lower g.number least flights most (omega (arith, rising.0)) rising.1
 rising-remove least (g ∷ flights) most (suc i) rising = (rising.0, rising-remove g.number flights most i rising.1)
 
-pub rising-set : (least : ℕ) (flights : List Flying) (most i : ℕ) (f : Flying) (answer : Answer) → AreRising least flights most → slice_get flights i ≡ Some f → AreRising least (slice_set flights i (with_rendered answer f)) most
+pub rising-set : (least : ℕ) (flights : List Flying) (most i : ℕ) (f : Flying) (answer : Answer) → AirRises least flights most → slice_get flights i ≡ Some f → AirRises least (slice_set flights i (with_rendered answer f)) most
 rising-set least [] most i f answer rising at = absurd (let no : ⊥ = cc in no)
-rising-set least (g ∷ flights) most zero f answer rising at = let same : g ≡ f = cc in subst (λ (h : Flying). (least < h.number) × AreRising h.number flights most) same rising
+rising-set least (g ∷ flights) most zero f answer rising at = let same : g ≡ f = cc in subst (λ (h : Flying). (least < h.number) × AirRises h.number flights most) same rising
 rising-set least (g ∷ flights) most (suc i) f answer rising at = (rising.0, rising-set g.number flights most i f answer rising.1 at)

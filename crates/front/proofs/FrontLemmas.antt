@@ -28,12 +28,12 @@ use Rattle.run_events.specs.declared.step.Pick.{Pick}
 use Rattle.run_events.specs.declared.step.Step.{Step}
 use Rattle.run_events.specs.declared.step.Step.TheVariants.{Direct, Render}
 use Rattle.run_events.specs.Events.{Event, Extends, HasCause, IsOrFixed, RenderTo, after_event, is_picked, is_unrendered, condition_notes, picked_flight}
-use Rattle.run_events.specs.Moves.{state_after_note, state_after_notes, content_rendered, flight_at, published_for, with_rendered, with_rendered_at}
+use Rattle.run_events.specs.Moves.{state_after_note, state_after_notes, content_rendered, flying_at, published_for, with_rendered, with_rendered_at}
 use Rattle.run_events.specs.Publishers.{Publication, Publishing, direct_answer}
 use Rattle.run_events.specs.States.{RunState}
 use Rattle.front.specs.Boards.{BoardAt, BoardMakesEvent, BoardStandsFor, HaveCause, IsEventOf, ReadAt, at_disk, behind_board, event_of}
 use Rattle.front.specs.Caches.{Behind, BehindStandsFor, CacheParts, behind, flying_labels, under_nothing}
-use Rattle.front.specs.Fronts.{BeginsRun, FrontStandsFor, IsGiven, MakesEvent}
+use Rattle.front.specs.Fronts.{BeginsRun, FrontStandsFor, IsRenderGiven, MakesEvent}
 use Rattle.front.specs.KeptConnections.{ConnectionStandsFor, ConnectionReads}
 use Rattle.front.specs.declared.board.Board.{Board}
 use Rattle.front.specs.declared.connection.Connection.{Connection as KeptConnection}
@@ -74,7 +74,7 @@ read-at b open_connections c bytes k j here writes reads =
     }
 
 -- ---- an answer past the connections
-pub either : {E : Type 0} (r : Result Answer E) (answer wanted : Answer) (out_of_memory : Bool) → IsGiven r answer out_of_memory → IfOk r (λ a. a ≡ wanted) → IsOrFixed (if_dry out_of_memory) answer wanted
+pub either : {E : Type 0} (r : Result Answer E) (answer wanted : Answer) (out_of_memory : Bool) → IsRenderGiven r answer out_of_memory → IfOk r (λ a. a ≡ wanted) → IsOrFixed (if_dry out_of_memory) answer wanted
 either (Ok a) answer wanted out_of_memory given ok = inl (given.0 ∙ ok, given.1)
 either (Err e) answer wanted out_of_memory given ok = inr given
 
@@ -137,7 +137,7 @@ pub record Renders (given : Publication) (content later : Content) (answer : Ans
   pub answer_is : IsOrFixed (if_dry out_of_memory) answer given.answer
   pub content_is : later ≡ (if answer.status == 507 then content else given.content)
 
-pub renders : {E : Type 0} (r : Result Answer E) (given : Publication) (content later : Content) (answer : Answer) (out_of_memory : Bool) → IsGiven r answer out_of_memory → IfOk r (λ a. a ≡ given.answer) → IfOk r (λ a. a.status ≢ 507) → OnOk r (later ≡ given.content)
+pub renders : {E : Type 0} (r : Result Answer E) (given : Publication) (content later : Content) (answer : Answer) (out_of_memory : Bool) → IsRenderGiven r answer out_of_memory → IfOk r (λ a. a ≡ given.answer) → IfOk r (λ a. a.status ≢ 507) → OnOk r (later ≡ given.content)
     → OnErr r (later ≡ content) → Renders given content later answer out_of_memory
 renders (Ok a) given content later answer out_of_memory gives ok status moves stays =
     let other : (answer.status == 507) ≡ false = rw gives.0 (ne_eqb a.status 507 status) in
@@ -185,7 +185,7 @@ render-event p content later b mid h pick at n answer copy out_of_memory effect 
     let set : h.board.cache.flying ≡ slice_set b.board.cache.flying at (with_rendered answer f) =
     added f here ∙ ap (λ a. slice_set mid.board.cache.flying at (with_rendered a f)) copied ∙ ap (λ (x : BoardAt). slice_set x.board.cache.flying at (with_rendered answer f)) same_board in
     let same_lines : h.board.open_connections ≡ b.board.open_connections = open_connections ∙ ap (λ (x : BoardAt). x.board.open_connections) same_board in
-    let number_is : flight_at f.number w.flights ≡ Some f = ap (flight_at f.number) (sym tied.flying_is) ∙ (place 0 b.board.cache.flying (flights_asked w.log) at f tied.rising there.1).at in
+    let number_is : flying_at f.number w.flights ≡ Some f = ap (flying_at f.number) (sym tied.flying_is) ∙ (place 0 b.board.cache.flying (flights_asked w.log) at f tied.rising there.1).at in
     let behind_is : BehindStandsFor (behind h.board.cache b.files b.faults) (state_after_note w (Rendered f.number answer)) = behind-rendered (behind_board b) h.board.cache w at f answer tied there.1 set (core ∙ ap (λ (x : BoardAt). x.board.cache.core) same_board) (flushes ∙ ap (λ (x : BoardAt). x.board.cache.flushes) same_board) in
     record {
       turns = [];

@@ -12,7 +12,7 @@ use Rattle.cover_rules.specs.declared.invalidation.Invalidation.{Invalidation}
 use Rattle.http_front.specs.declared.turn.Turn.TheVariants.{Continue, Whole}
 use Rattle.invalidation.specs.Invalidations.{invalidation_of}
 use Rattle.invalidation.specs.declared.inv_fault.InvFault.{InvFault}
-use Rattle.cache_log.specs.Entries.{LogEntry, Outcome}
+use Rattle.cache_log.specs.Entries.{LogEntry, FlushOutcome}
 use Rattle.connections.specs.Connections.{Connection, Due, Send, Treat, Refuse, Close, Nothing, fresh}
 use Rattle.connections.specs.Slots.{Response}
 use Rattle.run_events.specs.declared.conditions.Conditions.{Conditions}
@@ -22,7 +22,7 @@ use Rattle.run_events.specs.declared.note.Failure.TheVariants.{Disk, Memory}
 use Rattle.run_events.specs.declared.note.Note.{Note}
 use Rattle.run_events.specs.declared.note.Note.TheVariants.{Answer as answered, Ask as asked, Hit, Local, Flush, Sliced, Done, Failed, Rendered, Kept, Unkept, Passed, Lost, Sent, Shut, Refused, Idle, Up, Down}
 use Rattle.run_events.specs.Points.{AnswersPoint, AnswersFlush, AnswersInvalidation, BeginsFlush, Crowded, Fallen, Invalidating, Hidden, Held, Full, Free, IsFirstPoint, Point, is_full_of_flushes, peer_of, points}
-use Rattle.run_events.specs.Moves.{GivesDue, GivesNext, GivesSlice, Serves, state_after_ask, state_after_ending, state_after_flush, state_after_hit, state_after_landing, state_after_note, state_after_notes, due_of_connection, flight_at, flush_at, over_with, treated_request}
+use Rattle.run_events.specs.Moves.{GivesDue, GivesNext, GivesSlice, Serves, state_after_ask, state_after_ending, state_after_flush, state_after_hit, state_after_landing, state_after_note, state_after_notes, due_of_connection, flying_at, flush_at, over_with, treated_request}
 use Rattle.run_events.specs.States.{RunState}
 
 pub afters-push : (w : RunState) (notes : List Note) (note : Note) → state_after_notes w (notes ++ note ∷ []) ≡ state_after_note (state_after_notes w notes) note
@@ -114,7 +114,7 @@ over-same : (w : RunState) (number : ℕ) (answer : Answer) (entry : LogEntry) (
 over-same w number answer entry None = same w
 over-same w number answer entry (Some flying) = record { publishing = refl; farm = refl; content = refl; found = refl }
 
-ending-same : (w : RunState) (number : ℕ) (outcome : Outcome) (response : Response) (flush : Option Flushing) → SameContent w (state_after_ending w number outcome response flush)
+ending-same : (w : RunState) (number : ℕ) (outcome : FlushOutcome) (response : Response) (flush : Option Flushing) → SameContent w (state_after_ending w number outcome response flush)
 ending-same w number outcome response None = same w
 ending-same w number outcome response (Some flush) = record { publishing = refl; farm = refl; content = refl; found = refl }
 
@@ -132,10 +132,10 @@ after-same w (Sliced number) is = record { publishing = refl; farm = refl; conte
 after-same w (Done number) is = ending-same w number _ _ (flush_at number w.flushes)
 after-same w (Failed number failure) is = ending-same w number _ _ (flush_at number w.flushes)
 after-same w (Rendered number answer) is = absurd is
-after-same w (Kept number key) is = over-same w number _ _ (flight_at number w.flights)
-after-same w (Unkept number) is = over-same w number _ _ (flight_at number w.flights)
-after-same w (Passed number) is = over-same w number _ _ (flight_at number w.flights)
-after-same w (Lost number) is = over-same w number _ _ (flight_at number w.flights)
+after-same w (Kept number key) is = over-same w number _ _ (flying_at number w.flights)
+after-same w (Unkept number) is = over-same w number _ _ (flying_at number w.flights)
+after-same w (Passed number) is = over-same w number _ _ (flying_at number w.flights)
+after-same w (Lost number) is = over-same w number _ _ (flying_at number w.flights)
 after-same w (Sent c bytes) is = record { publishing = refl; farm = refl; content = refl; found = refl }
 after-same w (Shut c) is = record { publishing = refl; farm = refl; content = refl; found = refl }
 after-same w (Up epoch) is = record { publishing = refl; farm = refl; content = refl; found = refl }
@@ -232,7 +232,7 @@ gift-frame w c note own (inr (inr shut)) = inl shut
 own-flush : (flush c : ℕ) → flush_at flush (record { number = flush; connection = c } ∷ []) ≡ Some (record { number = flush; connection = c })
 own-flush flush c = let here : nat_eq flush flush ≡ true = grind arith in rw here refl
 
-ended-frame : (w : RunState) (flush c : ℕ) (outcome : Outcome) (response : Response) → w.flushes ≡ record { number = flush; connection = c } ∷ []
+ended-frame : (w : RunState) (flush c : ℕ) (outcome : FlushOutcome) (response : Response) → w.flushes ≡ record { number = flush; connection = c } ∷ []
     → Frame c w (state_after_ending w flush outcome response (flush_at flush w.flushes)) × IsOwnSlice c (state_after_ending w flush outcome response (flush_at flush w.flushes)) (state_after_ending w flush outcome response (flush_at flush w.flushes)).slicing
 ended-frame w flush c outcome response is =
     let found : flush_at flush w.flushes ≡ Some (record { number = flush; connection = c }) = ap (flush_at flush) is ∙ own-flush flush c in

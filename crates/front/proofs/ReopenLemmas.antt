@@ -21,7 +21,7 @@ use Rattle.run_events.specs.declared.flying.Flushing.{Flushing}
 use Rattle.run_events.specs.declared.note.Note.TheVariants.{Failed}
 use Rattle.run_events.specs.declared.note.Failure.TheVariants.{Restart as cut_off}
 use Rattle.run_events.specs.Moves.{failure_status, flush_at, state_after_ending, state_after_note, state_after_notes, without_flush}
-use Rattle.run_events.specs.States.{AreRising, RunState}
+use Rattle.run_events.specs.States.{AirRises, RunState}
 use Rattle.front.specs.Caches.{AreFlushesRising, BehindStandsFor, behind, flushing_numbers, flying_labels}
 use Rattle.front.specs.Restarts.{IsReopened, IsShut, failed_notes, reopened_by}
 use Rattle.front.proofs.EndingLemmas.{no-false, updated-with}
@@ -81,7 +81,7 @@ added core after_ gs fs files later faults after_faults under entry empty flight
         core_is = subst (λ n. StandsFor n later after_ (entry ∷ s.log)) (sym cut.found) (subst (λ l. StandsFor w.found later after_ (entry ∷ l)) log_is (extends.stands w.log stands.core_is));
         farm_is = cut.farm ∙ stands.farm_is ∙ sym farm;
         flying_is = stands.flying_is ∙ sym cut.flights;
-        rising = subst (λ hs. AreRising 0 hs (flights_asked (entry ∷ s.log))) (sym none) (omega arith);
+        rising = subst (λ hs. AirRises 0 hs (flights_asked (entry ∷ s.log))) (sym none) (omega arith);
         flights_are = ap flight_labels flights ∙ sym (ap (flying_labels s.farm) none);
         flushing_is = sym cut.flushes;
         flushes_are = flushes;

@@ -1,7 +1,7 @@
 -- What a request gets of the cache.
 use Rattle.std.proofs.Common.{◌≡◌, ℕ, ◌+◌, ◌<◌, ◌≤◌, ◌++◌, ◌||◌, Bool, true, false, suc, List, [], ◌∷◌, Option, Some, None, Result, Ok, Err, length, map, refl, ap, sym, subst, ◌∙◌, arith, ◌⊎◌, inl, inr}
 use Rattle.std.specs.Prelude.{◌==◌, IsTrue, nat_eq, nat_le, not, remove, slice_get}
-use Rattle.flights.specs.Flights.{AreRising as AreRisingFlights, numbers_of, without as flights_without}
+use Rattle.flights.specs.Flights.{AreRising as AreRisingFlights, numbers_of, without as flights_without, most_flights}
 use Rattle.flights.specs.declared.flight.Flight.{Flight}
 use Rattle.std.specs.Option.{option_map}
 use Rattle.std.proofs.lemmas.List.{length-map}
@@ -20,7 +20,7 @@ use Rattle.invalidation.specs.Invalidations.{invalidation_of, is_invalidation}
 use Rattle.invalidation.specs.declared.inv_fault.InvFault.{InvFault}
 use Rattle.cache_log.specs.Entries.{LogEntry, flights_asked, flushes_begun, is_up, stamps_drawn}
 use Rattle.cache_log.specs.Rules.{IsOwed}
-use Rattle.coherence_core.specs.Cores.{ExtendsCore, FlightsRise, IsDiskTold, KeepsFarm, StandsFor, drawn_of, flight_labels, flights_of, flush_numbers, flushes_of}
+use Rattle.coherence_core.specs.Cores.{ExtendsCore, FlightsRise, KeepsFarm, StandsFor, drawn_of, flight_labels, flights_of, flush_numbers, flushes_of}
 use Rattle.coherence_core.specs.Requests.{GotAs, HasRoomToFlush, MayFlush, ReachesCache, ReachesPublisher, got_entries, got_flights, got_flushes, got_labels, requested_under}
 use Rattle.coherence_core.specs.declared.answers.Got.{Got}
 use Rattle.coherence_core.specs.declared.answers.Requested.{Requested}
@@ -33,10 +33,10 @@ use Rattle.run_events.specs.declared.flying.Flying.{Flying}
 use Rattle.run_events.specs.declared.flying.Flushing.{Flushing}
 use Rattle.run_events.specs.declared.note.Note.{Note}
 use Rattle.run_events.specs.declared.note.Note.TheVariants.{Ask as asked, Flush, Hit, Local}
-use Rattle.run_events.specs.Causes.{IsDiskFailure, IsHitOwedTo, Spoils}
-use Rattle.run_events.specs.Points.{AnswersFlush, AnswersInvalidation, BeginsFlush, Crowded, Fallen, Invalidating, Hidden, Held, Full, Free, IsFirstPoint, IsHitOwed, are_stamps_drawn, is_crowded_if_open, is_front_full, is_full_of_flushes, IsPermitted, key_of, most_flights, most_flushes, most_stamps, peer_of, points}
+use Rattle.run_events.specs.Causes.{IsHitOwedTo, Spoils}
+use Rattle.run_events.specs.Points.{AnswersFlush, AnswersInvalidation, BeginsFlush, Crowded, Fallen, Invalidating, Hidden, Held, Full, Free, IsFirstPoint, IsHitOwed, are_stamps_drawn, is_crowded_if_open, is_front_full, is_full_of_flushes, IsPermitted, key_of, peer_of, points}
 use Rattle.run_events.specs.Moves.{GivesDue, GivesNext, due_if_open, due_of_connection, local_slot, new_flight, state_after_ask, state_after_flush, state_after_hit, state_after_note, treated_request, with_turn_slot}
-use Rattle.run_events.specs.States.{AreRising, RunState}
+use Rattle.run_events.specs.States.{AirRises, RunState}
 use Rattle.connections.specs.AnswerQueues.{ReplyStandsFor}
 use Rattle.connections.specs.Slots.{Awaits as Awaits_response, Cached, IsHit, local_response, request_slot}
 use Rattle.connections.specs.declared.awaited.Awaited.TheVariants.{Flight as flight_awaited, Flush as flush_awaited}
@@ -45,12 +45,14 @@ use Rattle.front.specs.declared.ticketed.TicketedFlight.{TicketedFlight}
 use Rattle.front.specs.Caches.{Allows, AreTicketed, AreFlushesRising, AsksCache, Behind, BehindStandsFor, GivesIn, IsAnswered, IsSlicing, behind, HaveKinds, flushing_numbers, flying_labels, flying_of, local_reply, only_disk, tickets_of}
 use Rattle.front.specs.declared.answered.Answered.{Answered}
 use Rattle.front.proofs.FlightListLemmas.{rising-push}
+use Rattle.cache_log.specs.Limits.{most_flushes, most_stamps}
+use Rattle.sp_outside.specs.Causes.{IsDiskFailure}
 
 -- what the core's answer says of it
 pub record CoreGot (old : Behind) (core : Core) (files : Option Files) (faults : ℕ) (request : Request) (peer : List ℕ) (disk_failed : Bool) (out : Got) : Type 0 where
   pub log : ExtendsCore old.files old.cache.core files core (requested_under (record { got = out; disk_failed = disk_failed })) (got_entries out)
   pub cause : (found : ℕ) (log : List LogEntry) → StandsFor found old.files old.cache.core log → GotAs old.cache.core log request peer disk_failed out
-  pub disk : IsDiskTold old.faults faults disk_failed
+  pub disk : IsDiskFailure old.faults faults disk_failed
   pub labels : flight_labels (flights_of core) ≡ flight_labels (flights_of old.cache.core) ++ got_labels out
   pub flushes : flushes_of core ≡ flushes_of old.cache.core ++ got_flushes out
   pub kept : KeepsFarm old.cache.core core
@@ -58,7 +60,7 @@ pub record CoreGot (old : Behind) (core : Core) (files : Option Files) (faults :
 pub core-got : (old : Behind) (core : Core) (files : Option Files) (faults : ℕ) (request : Request) (peer : List ℕ) (r : Requested) (out : Got) → r.got ≡ out
     → ExtendsCore old.files old.cache.core files core (requested_under r) (got_entries r.got)
     → ((found : ℕ) (log : List LogEntry) → StandsFor found old.files old.cache.core log → GotAs old.cache.core log request peer r.disk_failed r.got)
-    → IsDiskTold old.faults faults r.disk_failed → flight_labels (flights_of core) ≡ flight_labels (flights_of old.cache.core) ++ got_labels r.got → flushes_of core ≡ flushes_of old.cache.core ++ got_flushes r.got → KeepsFarm old.cache.core core
+    → IsDiskFailure old.faults faults r.disk_failed → flight_labels (flights_of core) ≡ flight_labels (flights_of old.cache.core) ++ got_labels r.got → flushes_of core ≡ flushes_of old.cache.core ++ got_flushes r.got → KeepsFarm old.cache.core core
     → CoreGot old core files faults request peer r.disk_failed out
 core-got old core files faults request peer r out is log cause disk labels flushes kept = subst (CoreGot old core files faults request peer r.disk_failed) is (record { log = log; cause = cause; disk = disk; labels = labels; flushes = flushes; kept = kept })
 
@@ -66,7 +68,7 @@ pub append-nil : {A : Type 0} (xs : List A) → xs ++ [] ≡ xs
 append-nil [] = refl
 append-nil (x ∷ xs) = ap (λ ys. x ∷ ys) (append-nil xs)
 
-pub told-failure : (before after : ℕ) (disk_failed : Bool) → IsDiskTold before after disk_failed → IsDiskFailure before after disk_failed
+pub told-failure : (before after : ℕ) (disk_failed : Bool) → IsDiskFailure before after disk_failed → IsDiskFailure before after disk_failed
 told-failure before after true rose = rose
 told-failure before after false same = same
 
@@ -101,7 +103,7 @@ flushes-many b w tied = sym (queue-length b.cache.core.queue.items) ∙ ap lengt
 -- ---- what is behind the connections then
 pub behind-after : (old : Behind) (core : Core) (files : Option Files) (faults : ℕ) (request : Request) (peer : List ℕ) (disk_failed : Bool) (out : Got) → CoreGot old core files faults request peer disk_failed out → (w v : RunState) (flying : List Flying) (flushes : List Flushing)
     → BehindStandsFor old w → v.found ≡ w.found → v.farm ≡ w.farm → v.log ≡ got_entries out ++ w.log
-    → flying ≡ v.flights → AreRising 0 flying (flights_asked v.log) → flying_labels w.farm flying ≡ flying_labels w.farm old.cache.flying ++ got_labels out
+    → flying ≡ v.flights → AirRises 0 flying (flights_asked v.log) → flying_labels w.farm flying ≡ flying_labels w.farm old.cache.flying ++ got_labels out
     → flushes ≡ v.flushes → AreFlushesRising 0 flushes (flushes_begun v.log) → flushing_numbers flushes ≡ flushing_numbers old.cache.flushes ++ got_flushes out
     → BehindStandsFor (behind (record { core = core; flying = flying; flushes = flushes }) files faults) v
 behind-after old core files faults request peer disk_failed out g w v flying flushes tied found farm log flying_is rising labels flushing_is rise numbers = record {

@@ -9,7 +9,7 @@ use Rattle.std.proofs.lemmas.Map.{update_apart, update_here}
 use Rattle.std.proofs.lemmas.Bool.{cases_eq}
 use Rattle.http_front.specs.Turns.{Waits}
 use Rattle.error_answers.specs.Errors.{error_answer}
-use Rattle.cache_log.specs.Entries.{Outcome, Failed as failed_outcome, Up as up_entry, Down as down_entry}
+use Rattle.cache_log.specs.Entries.{FlushOutcome, Failed as failed_outcome, Up as up_entry, Down as down_entry}
 use Rattle.cache_log.specs.Rules.{Allowed}
 use Rattle.connections.specs.declared.awaited.Awaited.TheVariants.{Flush as flush_awaited}
 use Rattle.connections.specs.Slots.{Response, Says}
@@ -21,7 +21,7 @@ use Rattle.run_events.specs.declared.note.Failure.TheVariants.{Restart as cut_of
 use Rattle.run_events.specs.declared.note.Note.{Note}
 use Rattle.run_events.specs.declared.note.Note.TheVariants.{Failed, Shut}
 use Rattle.run_events.specs.declared.step.Step.TheVariants.{Restart}
-use Rattle.run_events.specs.Causes.{IsDiskFailure, SomeShowsOutOfMemory, Spoils, SpoilAtMost}
+use Rattle.run_events.specs.Causes.{SomeShowsOutOfMemory, Spoils, SpoilAtMost}
 use Rattle.run_events.specs.Moves.{failure_status, flush_at, state_after_ending, state_after_note, state_after_notes}
 use Rattle.run_events.specs.Restarts.{EndsRestart, cut_notes, without_connections}
 use Rattle.run_events.specs.Points.{call_conditions}
@@ -35,6 +35,7 @@ use Rattle.front.specs.declared.restarts.Reopened.{Reopened}
 use Rattle.front.proofs.BoardLemmas.{behind-same}
 use Rattle.front.proofs.CauseLemmas.{shows-push}
 use Rattle.front.proofs.MoveLemmas.{afters-append}
+use Rattle.sp_outside.specs.Causes.{IsDiskFailure}
 
 -- ---- connections that are shut
 -- what notes of shut connections leave
@@ -70,7 +71,7 @@ shuts-none v [] open_none = open_none
 shuts-none v (c ∷ cs) open_none = shuts-none (state_after_note v (Shut c)) cs (shut-none v c open_none)
 
 -- ---- flushes that are cut off
-ending-none : (v : RunState) (number : ℕ) (outcome : Outcome) (response : Response) (flush : Option Flushing) → NoneOpen v → v.slicing ≡ None → NoneOpen (state_after_ending v number outcome response flush) × ((state_after_ending v number outcome response flush).slicing ≡ None)
+ending-none : (v : RunState) (number : ℕ) (outcome : FlushOutcome) (response : Response) (flush : Option Flushing) → NoneOpen v → v.slicing ≡ None → NoneOpen (state_after_ending v number outcome response flush) × ((state_after_ending v number outcome response flush).slicing ≡ None)
 ending-none v number outcome response None open_none quiet = (open_none, quiet)
 ending-none v number outcome response (Some flush) open_none quiet = (record { connections = λ q. by_place q (cases_eq flush.connection q); count = open_none.count }, refl)
   where

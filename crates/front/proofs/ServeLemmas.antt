@@ -28,7 +28,7 @@ use Rattle.run_events.specs.Moves.{GivesDue, GivesNext, GivesSlice, due_if_open,
 use Rattle.run_events.specs.Points.{is_crowded_if_open}
 use Rattle.run_events.specs.States.{RunState}
 use Rattle.front.specs.Boards.{OpenAfterNote, OpenStandsFor, OpenWithoutSending, OwesFault, OwesRequest, ServedAs, TreatedAs}
-use Rattle.front.specs.Caches.{Allows, AsksCache, Behind, BehindStandsFor, GivesIn, HasNoteCause, IsAnswered, IsSlice, IsSlicing, RepliesFor, local_reply, under_nothing, with_end_if}
+use Rattle.front.specs.Caches.{Allows, AsksCache, Behind, BehindStandsFor, GivesIn, HasNoteCause, IsAnswered, IsPurging, IsSlicing, RepliesFor, local_reply, under_nothing, with_end_if}
 use Rattle.front.specs.KeptConnections.{AnswersStandFor, ConnectionStandsFor, Owes}
 use Rattle.front.specs.declared.answered.Answered.{Answered}
 use Rattle.front.specs.declared.answered.Ended.{Ended}
@@ -178,7 +178,7 @@ same-number : (c : ℕ) → nat_eq c c ≡ true
 same-number c = grind (arith, nat_tests)
 
 -- the connection that waits for the one flush
-slice-waits : (w : RunState) (c : ℕ) (flush : FlushId) (ended : Ended) (old new : Behind) (slice : IsSlice w ended old new) → w.flushes ≡ record { number = flush; connection = c } ∷ [] → (ended.connection ≡ c) × (slice.flush.number ≡ flush)
+slice-waits : (w : RunState) (c : ℕ) (flush : FlushId) (ended : Ended) (old new : Behind) (slice : IsPurging w ended old new) → w.flushes ≡ record { number = flush; connection = c } ∷ [] → (ended.connection ≡ c) × (slice.flush.number ≡ flush)
 slice-waits w c flush ended old new slice one =
     let same : slice.flush ≡ record { number = flush; connection = c } = first-same _ _ _ _ (sym slice.flushes_are ∙ one) in
     (slice.waits ∙ ap (λ (f : Flushing). f.connection) same, ap (λ (f : Flushing). f.number) same)
@@ -186,7 +186,7 @@ slice-waits w c flush ended old new slice one =
     first-same : (f g : Flushing) (fs gs : List Flushing) → f ∷ fs ≡ g ∷ gs → f ≡ g
     first-same f g fs gs e = cc
 
-pub given-slice : (w : RunState) (c : ℕ) (k j : KeptConnection) (old new : Behind) (ended : Ended) → OpenAfterNote true w c k old → IsSlice w ended old new
+pub given-slice : (w : RunState) (c : ℕ) (k j : KeptConnection) (old new : Behind) (ended : Ended) → OpenAfterNote true w c k old → IsPurging w ended old new
     → ((m : Connection) (response : Option Response) → RepliesFor ended.reply response → ConnectionStandsFor k m → ConnectionStandsFor j (with_end_if ended.awaited response m))
     → GivesIn ended.conditions w c ended.note × HasNoteCause old.faults new.faults ended.conditions w ended.note × OpenAfterNote false (state_after_note w ended.note) c j new
 given-slice w c k j old new ended meets slice fills =

@@ -6,10 +6,10 @@ use Rattle.std.proofs.lemmas.Bool.Decides.{nat_tests}
 use Rattle.error_answers.specs.Errors.{error_answer}
 use Rattle.http_front.specs.Faults.{insufficient_storage}
 use Rattle.sp_outside.specs.Files.{Files}
-use Rattle.cache_log.specs.Entries.{Done as done_outcome, Ended as ended_entry, Failed as failed_outcome, LogEntry, Outcome, Sliced as sliced_entry, flights_asked, flushes_begun}
+use Rattle.cache_log.specs.Entries.{Done as done_outcome, Ended as ended_entry, Failed as failed_outcome, LogEntry, FlushOutcome, Sliced as sliced_entry, flights_asked, flushes_begun}
 use Rattle.cache_log.specs.Ids.{FlushId}
 use Rattle.cache_log.specs.Rules.{CallConditions}
-use Rattle.coherence_core.specs.Cores.{ExtendsCore, IsDiskTold, KeepsFarm, StandsFor, flight_labels, flights_of, flushes_of}
+use Rattle.coherence_core.specs.Cores.{ExtendsCore, KeepsFarm, StandsFor, flight_labels, flights_of, flushes_of}
 use Rattle.coherence_core.specs.Flushes.{PurgedAs, purged_entries, purged_under}
 use Rattle.coherence_core.specs.declared.answers.Purged.{Purged}
 use Rattle.coherence_core.specs.declared.answers.Purged.TheVariants as purged
@@ -28,9 +28,10 @@ use Rattle.run_events.specs.declared.note.Note.{Note}
 use Rattle.run_events.specs.declared.note.Note.TheVariants as note
 use Rattle.run_events.specs.Moves.{GivesSlice, flush_at, state_after_ending, state_after_note, without_flush}
 use Rattle.run_events.specs.States.{RunState}
-use Rattle.front.specs.Caches.{Allows, AreFlushesRising, Behind, BehindStandsFor, HasNoteCause, IsEnding, IsSlice, behind, flushing_numbers, left_after, only_disk, slice_end_of, with_end_if}
+use Rattle.front.specs.Caches.{Allows, AreFlushesRising, Behind, BehindStandsFor, HasNoteCause, IsEnding, IsPurging, behind, flushing_numbers, left_after, only_disk, slice_end_of, with_end_if}
 use Rattle.front.specs.declared.answered.Ended.{Ended}
 use Rattle.front.proofs.EndingLemmas.{ending-in, no-false, updated-with}
+use Rattle.sp_outside.specs.Causes.{IsDiskFailure}
 
 -- ---- numbers of flushes
 same-number : (n : ℕ) → nat_eq n n ≡ true
@@ -67,7 +68,7 @@ record IsSliced (core after_ : Core) (gs : List Flying) (f : Flushing) (fs : Lis
 -- the flush goes on
 slice-more : (core after_ : Core) (gs : List Flying) (f : Flushing) (fs : List Flushing) (files later : Option Files) (faults after_faults : ℕ) (w : RunState) (v : ℕ) → IsSliced core after_ gs f fs files later faults w
     → PurgedAs (purged.More v) (flushes_of core) (flushes_of after_) → ExtendsCore files core later after_ (purged_under (purged.More v)) (sliced_entry v ∷ []) → after_faults ≡ faults
-    → IsSlice w (record { note = note.Sliced f.number; conditions = only_disk false; connection = f.connection; awaited = flush_awaited f.number; reply = None })
+    → IsPurging w (record { note = note.Sliced f.number; conditions = only_disk false; connection = f.connection; awaited = flush_awaited f.number; reply = None })
     (behind (record { core = core; flying = gs; flushes = f ∷ fs }) files faults) (behind (record { core = after_; flying = gs; flushes = f ∷ fs }) later after_faults)
 slice-more core after_ gs f fs files later faults after_faults w v is purge log told =
     let stands = is.stands in
@@ -100,10 +101,10 @@ slice-more core after_ gs f fs files later faults after_faults w v is purge log 
     unchanged false o = refl
 
 -- the flush has ended, and its connection has the answer of this status
-slice-last : (core after_ : Core) (gs : List Flying) (f : Flushing) (fs : List Flushing) (files later : Option Files) (faults after_faults : ℕ) (w : RunState) (v status : ℕ) (outcome : Outcome) (under : CallConditions) (told : Conditions) (n : Note) → IsSliced core after_ gs f fs files later faults w
+slice-last : (core after_ : Core) (gs : List Flying) (f : Flushing) (fs : List Flushing) (files later : Option Files) (faults after_faults : ℕ) (w : RunState) (v status : ℕ) (outcome : FlushOutcome) (under : CallConditions) (told : Conditions) (n : Note) → IsSliced core after_ gs f fs files later faults w
     → flushes_of core ≡ v ∷ flushes_of after_ → ExtendsCore files core later after_ under (ended_entry v outcome ∷ []) → HasNoteCause faults after_faults told w n
     → state_after_note w n ≡ state_after_ending w f.number outcome (model.Says (error_answer status)) (flush_at f.number w.flushes) → ((m : Conditions) → Allows told m → GivesSlice m f.number n)
-    → IsSlice w (record { note = n; conditions = told; connection = f.connection; awaited = flush_awaited f.number; reply = Some (Own status) })
+    → IsPurging w (record { note = n; conditions = told; connection = f.connection; awaited = flush_awaited f.number; reply = Some (Own status) })
     (behind (record { core = core; flying = gs; flushes = f ∷ fs }) files faults) (behind (record { core = after_; flying = gs; flushes = fs }) later after_faults)
 slice-last core after_ gs f fs files later faults after_faults w v status outcome under told n is purge log cause state gives =
     let stands = is.stands in
@@ -135,8 +136,8 @@ slice-last core after_ gs f fs files later faults after_faults w v status outcom
 
 -- a slice of the oldest flush
 by-purged : (core after_ : Core) (gs : List Flying) (f : Flushing) (fs : List Flushing) (files later : Option Files) (faults after_faults : ℕ) (w : RunState) (out : Purged) → IsSliced core after_ gs f fs files later faults w
-    → PurgedAs out (flushes_of core) (flushes_of after_) → ExtendsCore files core later after_ (purged_under out) (purged_entries out) → IsDiskTold faults after_faults (purged_under out).disk_failed
-    → IfSome (slice_end_of f out) (λ ended. IsSlice w ended (behind (record { core = core; flying = gs; flushes = f ∷ fs }) files faults) (behind (record { core = after_; flying = gs; flushes = left_after out (f ∷ fs) }) later after_faults))
+    → PurgedAs out (flushes_of core) (flushes_of after_) → ExtendsCore files core later after_ (purged_under out) (purged_entries out) → IsDiskFailure faults after_faults (purged_under out).disk_failed
+    → IfSome (slice_end_of f out) (λ ended. IsPurging w ended (behind (record { core = core; flying = gs; flushes = f ∷ fs }) files faults) (behind (record { core = after_; flying = gs; flushes = left_after out (f ∷ fs) }) later after_faults))
 by-purged core after_ gs f fs files later faults after_faults w purged.Idle is purge log told = tt
 by-purged core after_ gs f fs files later faults after_faults w (purged.More v) is purge log told = slice-more core after_ gs f fs files later faults after_faults w v is purge log told
 by-purged core after_ gs f fs files later faults after_faults w (purged.Done v) is purge log told =
@@ -150,20 +151,20 @@ by-purged core after_ gs f fs files later faults after_faults w (purged.NoMemory
 
 -- of each state that is stood for
 pub slice-ends : (core after_ : Core) (gs : List Flying) (flushes : List Flushing) (f : Flushing) (files later : Option Files) (faults after_faults : ℕ) (out : Purged) → f ≡ get_or flushes 0 f → (flushes ≡ [] → ⊥) → flights_of after_ ≡ flights_of core → KeepsFarm core after_
-    → PurgedAs out (flushes_of core) (flushes_of after_) → ExtendsCore files core later after_ (purged_under out) (purged_entries out) → IsDiskTold faults after_faults (purged_under out).disk_failed
-    → IfSome (slice_end_of f out) (λ ended. (w : RunState) → BehindStandsFor (behind (record { core = core; flying = gs; flushes = flushes }) files faults) w → IsSlice w ended (behind (record { core = core; flying = gs; flushes = flushes }) files faults) (behind (record { core = after_; flying = gs; flushes = left_after out flushes }) later after_faults))
+    → PurgedAs out (flushes_of core) (flushes_of after_) → ExtendsCore files core later after_ (purged_under out) (purged_entries out) → IsDiskFailure faults after_faults (purged_under out).disk_failed
+    → IfSome (slice_end_of f out) (λ ended. (w : RunState) → BehindStandsFor (behind (record { core = core; flying = gs; flushes = flushes }) files faults) w → IsPurging w ended (behind (record { core = core; flying = gs; flushes = flushes }) files faults) (behind (record { core = after_; flying = gs; flushes = left_after out flushes }) later after_faults))
 slice-ends core after_ gs [] f files later faults after_faults out first some flights farm purge log told = absurd (some refl)
 slice-ends core after_ gs (g ∷ fs) f files later faults after_faults out first some flights farm purge log told = by_end (slice_end_of f out) refl
   where
     one : (w : RunState) → BehindStandsFor (behind (record { core = core; flying = gs; flushes = g ∷ fs }) files faults) w
-        → IfSome (slice_end_of f out) (λ ended. IsSlice w ended (behind (record { core = core; flying = gs; flushes = g ∷ fs }) files faults) (behind (record { core = after_; flying = gs; flushes = left_after out (g ∷ fs) }) later after_faults))
-    one w stands = subst (λ h. IfSome (slice_end_of h out) (λ ended. IsSlice w ended (behind (record { core = core; flying = gs; flushes = g ∷ fs }) files faults) (behind (record { core = after_; flying = gs; flushes = left_after out (g ∷ fs) }) later after_faults))) (sym first)
+        → IfSome (slice_end_of f out) (λ ended. IsPurging w ended (behind (record { core = core; flying = gs; flushes = g ∷ fs }) files faults) (behind (record { core = after_; flying = gs; flushes = left_after out (g ∷ fs) }) later after_faults))
+    one w stands = subst (λ h. IfSome (slice_end_of h out) (λ ended. IsPurging w ended (behind (record { core = core; flying = gs; flushes = g ∷ fs }) files faults) (behind (record { core = after_; flying = gs; flushes = left_after out (g ∷ fs) }) later after_faults))) (sym first)
         (by-purged core after_ gs g fs files later faults after_faults w out (record { stands = stands; flights = flights; farm = farm }) purge log told)
 
     by_end : (o : Option Ended) → slice_end_of f out ≡ o
-        → IfSome o (λ ended. (w : RunState) → BehindStandsFor (behind (record { core = core; flying = gs; flushes = g ∷ fs }) files faults) w → IsSlice w ended (behind (record { core = core; flying = gs; flushes = g ∷ fs }) files faults) (behind (record { core = after_; flying = gs; flushes = left_after out (g ∷ fs) }) later after_faults))
+        → IfSome o (λ ended. (w : RunState) → BehindStandsFor (behind (record { core = core; flying = gs; flushes = g ∷ fs }) files faults) w → IsPurging w ended (behind (record { core = core; flying = gs; flushes = g ∷ fs }) files faults) (behind (record { core = after_; flying = gs; flushes = left_after out (g ∷ fs) }) later after_faults))
     by_end None is = tt
-    by_end (Some ended) is = λ w stands. subst (λ o. IfSome o (λ (e : Ended). IsSlice w e (behind (record { core = core; flying = gs; flushes = g ∷ fs }) files faults) (behind (record { core = after_; flying = gs; flushes = left_after out (g ∷ fs) }) later after_faults))) is (one w stands)
+    by_end (Some ended) is = λ w stands. subst (λ o. IfSome o (λ (e : Ended). IsPurging w e (behind (record { core = core; flying = gs; flushes = g ∷ fs }) files faults) (behind (record { core = after_; flying = gs; flushes = left_after out (g ∷ fs) }) later after_faults))) is (one w stands)
 
 pub some-flushes : (flushes : List Flushing) → (length flushes == 0) ≡ false → flushes ≡ [] → ⊥
 some-flushes flushes some none = let empty : (length flushes == 0) ≡ true = rw none refl in let no : ⊥ = cc in no

@@ -2,12 +2,11 @@
 use Rattle.std.proofs.Common.{◌≡◌, ◌≤◌, ◌<◌, ◌+◌, ◌++◌, ◌∙◌, ℕ, Bool, true, false, List, [], ◌∷◌, Option, Result, Ok, Err, refl, sym, ap, subst, arith}
 use Rattle.std.specs.List.{AllByRecursion}
 use Rattle.sp_outside.specs.Calls.{Call, told_call, told_calls}
-use Rattle.sp_outside.specs.Causes.{Rose}
+use Rattle.sp_outside.specs.Causes.{Rose, IsDiskFailure}
 use Rattle.cache_files.specs.Epochs.{HasOpenCause}
 use Rattle.cache_files.specs.declared.epoch.OpenFault.{OpenFault}
 use Rattle.cache_files.specs.declared.epoch.OpenFault.TheVariants as open_fault
 use Rattle.docroot_changes.specs.DocrootCalls.{IsDocrootCall, MakesDocrootCalls}
-use Rattle.coherence_core.specs.Cores.{IsDiskTold}
 use Rattle.front.specs.Uses.{UsesDisk}
 
 -- ---- which calls are made
@@ -38,11 +37,11 @@ uses-then f g h x y z first then = record {
   calls = calls-then x y z first.calls then.calls;
 }
 
-told-count : (before after : ℕ) (failed : Bool) → IsDiskTold before after failed → before ≤ after
+told-count : (before after : ℕ) (failed : Bool) → IsDiskFailure before after failed → before ≤ after
 told-count before after true rose = rose.0
 told-count before after false same = omega (arith, same)
 
-pub uses-told : (before after : ℕ) (failed : Bool) (x y : Option (List Call)) → IsDiskTold before after failed → MakesDocrootCalls x y → UsesDisk before after x y
+pub uses-told : (before after : ℕ) (failed : Bool) (x y : Option (List Call)) → IsDiskFailure before after failed → MakesDocrootCalls x y → UsesDisk before after x y
 uses-told before after failed x y told calls = record { count = told-count before after failed told; calls = calls }
 
 open-count : {T : Type 0} (before after : ℕ) (opened : Result T OpenFault) → HasOpenCause before after opened → before ≤ after

@@ -16,7 +16,7 @@ use Rattle.connections.specs.Ids.{ConnectionId}
 use Rattle.run_events.specs.declared.conditions.Conditions.{Conditions}
 use Rattle.run_events.specs.declared.note.Note.{Note}
 use Rattle.run_events.specs.declared.step.Step.{Step}
-use Rattle.run_events.specs.Causes.{IsDiskFailure, ShowsIfOutOfMemory, SpoilAtMost}
+use Rattle.run_events.specs.Causes.{ShowsIfOutOfMemory, SpoilAtMost}
 use Rattle.run_events.specs.Events.{Event, HappensBy, HasCause, after_event, state_before_notes}
 use Rattle.run_events.specs.Moves.{Serves, Settles, state_after_note, state_after_notes, due_of_connection}
 use Rattle.run_events.specs.States.{RunState}
@@ -29,6 +29,7 @@ use Rattle.front.specs.declared.treat.Treated.{Treated}
 use Rattle.front.specs.declared.effect.Effect.{Effect}
 use Rattle.front.specs.Caches.{Allows, Behind, BehindStandsFor, GivesIn, HasNoteCause, IsEnding, IsSlicing, behind}
 use Rattle.front.specs.KeptConnections.{AnswersStandFor, ConnectionStandsFor, Owes, ConnectionReads}
+use Rattle.sp_outside.specs.Causes.{IsDiskFailure}
 
 -- ---- connections
 

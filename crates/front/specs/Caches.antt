@@ -35,13 +35,14 @@ use Rattle.run_events.specs.declared.note.Note.{Note}
 use Rattle.run_events.specs.declared.note.Failure.TheVariants.{Disk, Memory}
 use Rattle.run_events.specs.declared.note.Note.TheVariants.{Done, Failed, Kept, Lost, Passed, Sliced, Unkept}
 use Rattle.run_events.specs.declared.step.Pick.{Pick}
-use Rattle.run_events.specs.Causes.{IsDiskFailure, ShowsOutOfMemory, Spoils}
+use Rattle.run_events.specs.Causes.{ShowsOutOfMemory, Spoils}
 use Rattle.run_events.specs.Events.{MayLand, is_any, is_rendered, picked_flight}
 use Rattle.run_events.specs.Moves.{GivesNext, GivesSlice, state_after_note, with_turn_slot}
-use Rattle.run_events.specs.States.{AreRising, RunState}
+use Rattle.run_events.specs.States.{AirRises, RunState}
 use Rattle.front.specs.declared.answered.Answered.{Answered}
 use Rattle.front.specs.declared.answered.Ended.{Ended}
 use Rattle.front.specs.declared.ticketed.TicketedFlight.{TicketedFlight}
+use Rattle.sp_outside.specs.Causes.{IsDiskFailure}
 
 -- ---- a cache and its tickets
 
@@ -99,7 +100,7 @@ pub record BehindStandsFor (b : Behind) (w : RunState) : Type 0 where
   pub core_is : StandsFor w.found b.files b.cache.core w.log
   pub farm_is : w.farm ≡ farm_of b.cache.core
   pub flying_is : b.cache.flying ≡ w.flights
-  pub rising : AreRising 0 b.cache.flying (flights_asked w.log)
+  pub rising : AirRises 0 b.cache.flying (flights_asked w.log)
   pub flights_are : flight_labels (flights_of b.cache.core) ≡ flying_labels w.farm b.cache.flying
   pub flushing_is : b.cache.flushes ≡ w.flushes
   pub flushes_are : flushes_of b.cache.core ≡ flushing_numbers b.cache.flushes
@@ -220,7 +221,7 @@ abbrev pub left_after : Purged → List Flushing → List Flushing
 left_after purged flushes = if is_ending purged then drop 1 flushes else flushes
 
 -- the flight that is asked for lands
-pub record IsLanding (w : RunState) (pick : Pick) (ended : Ended) (old new : Behind) : Type 0 where
+pub record IsDelivery (w : RunState) (pick : Pick) (ended : Ended) (old new : Behind) : Type 0 where
   pub flying : Flying
   pub answer : Answer
   pub picked : picked_flight pick is_rendered w.flights ≡ Some flying
@@ -238,7 +239,7 @@ pub record IsLoss (w : RunState) (pick : Pick) (ended : Ended) (old new : Behind
   pub ending : IsEnding w ended old.faults new
 
 -- the oldest flush had a slice
-pub record IsSlice (w : RunState) (ended : Ended) (old new : Behind) : Type 0 where
+pub record IsPurging (w : RunState) (ended : Ended) (old new : Behind) : Type 0 where
   pub flush : Flushing
   pub later : List Flushing
   pub flushes_are : w.flushes ≡ flush ∷ later

@@ -24,9 +24,13 @@ pub record ClearsFiles (is_gone : Text → Bool) (old new : Files) : Type 0 wher
   pub each : (name : Text) → (file_at new name ≡ file_at old name) ⊎ (IsTrue (is_gone name) × (file_at new name ≡ None))
   pub fewer : files_counted new ≤ files_counted old
 
+-- The order of a clearing: each .stat file is as it was, or no page file is there. So no page is left without the .stat file that outdated it.
+abbrev pub ClearsPagesFirst : Files → Files → Type 0
+ClearsPagesFirst old new = ((name : Text) → IsTrue (is_stat_file name) → file_at new name ≡ file_at old name) ⊎ ((name : Text) → IsTrue (is_page_file name) → file_at new name ≡ None)
+
 -- no file of this kind is there
-abbrev pub HasNone : FileKind → Files → Type 0
-HasNone kind files = (name : Text) → IsTrue (is_of_kind kind name) → file_at files name ≡ None
+abbrev pub HasNoFile : FileKind → Files → Type 0
+HasNoFile kind files = (name : Text) → IsTrue (is_of_kind kind name) → file_at files name ≡ None
 
 -- the files of this kind are gone whose names aren't after this one
 abbrev pub HasNoneUpTo : FileKind → Text → Files → Type 0
@@ -37,13 +41,13 @@ abbrev pub HasNoneAmong : FileKind → List Text → Files → Type 0
 HasNoneAmong kind names files = (name : Text) → Contains names name → IsTrue (is_of_kind kind name) → file_at files name ≡ None
 
 -- the name isn't after that of which the names after it are left, if any are
-abbrev pub IsReached : Option Text → Text → Type 0
-IsReached None name = Unit {0}
-IsReached (Some next) name = by_name next name ≢ Less
+abbrev pub IsClearedTo : Option Text → Text → Type 0
+IsClearedTo None name = Unit {0}
+IsClearedTo (Some next) name = by_name next name ≢ Less
 
 -- the files of this kind are gone that are after this name, up to the next one, or to the end
 abbrev pub HasNoneBetween : FileKind → Text → Option Text → Files → Type 0
-HasNoneBetween kind last next files = (name : Text) → IsTrue (is_of_kind kind name) → by_name last name ≡ Less → IsReached next name → file_at files name ≡ None
+HasNoneBetween kind last next files = (name : Text) → IsTrue (is_of_kind kind name) → by_name last name ≡ Less → IsClearedTo next name → file_at files name ≡ None
 
 -- the walk comes nearer to its end with this name
 pub record IsNearer (last next : Text) : Type 0 where

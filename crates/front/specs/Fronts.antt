@@ -9,7 +9,7 @@ use Rattle.any_config.specs.declared.farm.Farm.{Farm}
 use Rattle.cache_log.specs.Entries.{LogEntry, Session}
 use Rattle.docroot_changes.specs.Changes.{Told}
 use Rattle.coherence_core.specs.Holds.{HoldsClosed, files_counted}
-use Rattle.coherence_core.specs.Openings.{IsCoreOpened, LieInside}
+use Rattle.coherence_core.specs.Openings.{IsCoreOpened}
 use Rattle.connections.specs.Ids.{ConnectionId}
 use Rattle.connections.specs.Slots.{fixed_answer}
 use Rattle.run_events.specs.declared.step.Step.{Step}
@@ -50,18 +50,18 @@ pub record IsFrontOpened (farm : Farm) (found : ℕ) (files : Files) (board : Bo
 abbrev pub OpensFront : Farm → Option Files → Option Files → Board → Type 0
 OpensFront farm told after board = Told (λ old new. IsFrontOpened farm (files_counted old) new board) told after
 
--- A front that was just opened over such files, none of which has a name that leads out of the docroot, stands for the state in which a run
--- begins with the log of its session alone, with this board before its disk.
+-- A front that was just opened over such files stands for the state in which a run begins with the log of its session alone, with this board
+-- before its disk.
 abbrev pub BeginsFresh : Publishing → Content → Option Files → BoardAt → Type 0
 BeginsFresh publishing content None b = Unit {0}
 BeginsFresh publishing content (Some files) b =
-    (farm : Farm) (found : ℕ) → LieInside files → IsFrontOpened farm found files b.board → FrontStandsFor publishing content b (start_of (record { publishing = publishing; farm = farm; content = content; log = Session (epoch_of_board b) ∷ []; found = found }))
+    (farm : Farm) (found : ℕ) → IsFrontOpened farm found files b.board → FrontStandsFor publishing content b (start_of (record { publishing = publishing; farm = farm; content = content; log = Session (epoch_of_board b) ∷ []; found = found }))
 
 -- what was brought about is an event of this step, of each state that was stood for
 abbrev pub MakesEvent : (Before After : RunState → Type 0) → Step → Effect → (before after : ℕ) → Type 0
 MakesEvent Before After step effect before after = (w : RunState) → Before w → IsEventOf After w step effect before after
 
 -- the answer that was made, or the fixed one where memory ran out
-abbrev pub IsGiven : {E : Type 0} → Result Answer E → Answer → Bool → Type 0
-IsGiven (Ok made) answer out_of_memory = (answer ≡ made) × (out_of_memory ≡ false)
-IsGiven (Err fault) answer out_of_memory = (answer ≡ fixed_answer) × (out_of_memory ≡ true)
+abbrev pub IsRenderGiven : {E : Type 0} → Result Answer E → Answer → Bool → Type 0
+IsRenderGiven (Ok made) answer out_of_memory = (answer ≡ made) × (out_of_memory ≡ false)
+IsRenderGiven (Err fault) answer out_of_memory = (answer ≡ fixed_answer) × (out_of_memory ≡ true)

@@ -6,3 +6,4 @@ pub mod Restarts
 pub mod Fronts
 pub mod Clearings
 pub mod Uses
+pub mod Endings

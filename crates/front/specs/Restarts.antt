@@ -11,13 +11,14 @@ use Rattle.run_events.specs.declared.flying.Flushing.{Flushing}
 use Rattle.run_events.specs.declared.note.Failure.TheVariants.{Restart as cut_off}
 use Rattle.run_events.specs.declared.note.Note.{Note}
 use Rattle.run_events.specs.declared.note.Note.TheVariants.{Down, Failed, Lost, Up}
-use Rattle.run_events.specs.Causes.{IsDiskFailure, ShowsOutOfMemory}
+use Rattle.run_events.specs.Causes.{ShowsOutOfMemory}
 use Rattle.run_events.specs.Moves.{state_after_note, state_after_notes}
 use Rattle.run_events.specs.Restarts.{EndsRestart}
 use Rattle.run_events.specs.States.{AreNumbersRising, RunState, is_among}
 use Rattle.front.specs.Caches.{Behind, BehindStandsFor, CacheParts, behind, only_disk}
 use Rattle.front.specs.declared.connection.Connection.{Connection as KeptConnection}
 use Rattle.front.specs.declared.restarts.Reopened.{Reopened}
+use Rattle.sp_outside.specs.Causes.{IsDiskFailure}
 
 -- each of these flights is lost
 abbrev pub lost_notes : List Flying → List Note

@@ -6,7 +6,7 @@ ghost use Rattle.docroot_changes.specs.DocrootCalls.{MakesDocrootCalls};
 ghost use Rattle.docroot_format.specs.Faults.{HasFileCause};
 ghost use Rattle.front.specs.Boards.{at_disk};
 ghost use Rattle.front.specs.Clearings as spec;
-ghost use Rattle.front.specs.Clearings.{ClearsFiles, HasNone, HasNoneAmong, HasNoneBetween, IsNearer, is_page_or_stamp};
+ghost use Rattle.front.specs.Clearings.{ClearsFiles, ClearsPagesFirst, HasNoFile, HasNoneAmong, HasNoneBetween, IsNearer, is_page_or_stamp};
 ghost use Rattle.front.specs.Fronts.{BeginsFresh};
 ghost use Rattle.sp_outside.specs.Causes.{HasDiskCause};
 ghost use Rattle.sp_outside.specs.Files.{file_at, longest_file_name};
@@ -31,10 +31,12 @@ pub(crate) enum FileKind {
 
 impl<R: Renderer + Drop> Front<R> {
     /// Clears each page file away, and then each .stat file, so that a front that `new` gave begins with no page of a session before. It is to be
-    /// called before the first step. (The .stat files go last, since pages are outdated by them.)
+    /// called before the first step. The .stat files go last (`order`), since pages are outdated by them: a call that fails half-way leaves no page
+    /// that was outdated and isn't any more.
     pub fn fresh<D: Disk>(&self, alloc: Global, disk: &mut D) -> Result<(), FileFault>
         ensures stands { OnOk result (BeginsFresh R.publishing (R.content self.now.renderer) (D.files disk.old) (at_disk self.now.board (D.files disk.new) (D.faults disk.new))) }
         ensures left { Told (ClearsFiles is_page_or_stamp) (D.files disk.old) (D.files disk.new) }
+        ensures order { Told ClearsPagesFirst (D.files disk.old) (D.files disk.new) }
         ensures cleared { OnOk result (Told (λ _ files. IsCleared files) (D.files disk.old) (D.files disk.new)) }
         ensures cause { HasFileCause (D.faults disk.old) (D.faults disk.new) result }
         ensures calls { MakesDocrootCalls (D.calls disk.old) (D.calls disk.new) }
@@ -49,7 +51,7 @@ impl<R: Renderer + Drop> Front<R> {
 // Clears the files of this kind away.
 fn clear<D: Disk>(alloc: Global, disk: &mut D, kind: FileKind) -> Result<(), FileFault>
     ensures left { Told (ClearsFiles (spec.is_of_kind kind)) (D.files disk.old) (D.files disk.new) }
-    ensures none { OnOk result (Told (λ _ files. HasNone kind files) (D.files disk.old) (D.files disk.new)) }
+    ensures none { OnOk result (Told (λ _ files. HasNoFile kind files) (D.files disk.old) (D.files disk.new)) }
     ensures cause { HasFileCause (D.faults disk.old) (D.faults disk.new) result }
     ensures calls { MakesDocrootCalls (D.calls disk.old) (D.calls disk.new) }
 {

@@ -7,7 +7,7 @@ ghost use Rattle.run_events.specs.declared.step.Pick.TheVariants.{First};
 ghost use Rattle.run_events.specs.Events as events;
 ghost use Rattle.run_events.specs.Events.{is_any, is_rendered};
 ghost use Rattle.run_events.specs.States.{RunState};
-ghost use Rattle.front.specs.Caches.{BehindStandsFor, IsLanding, IsLoss, IsSlice, behind, is_ending, landing_end_of, left_after, slice_end_of};
+ghost use Rattle.front.specs.Caches.{BehindStandsFor, IsDelivery, IsLoss, IsPurging, behind, is_ending, landing_end_of, left_after, slice_end_of};
 ghost use Rattle.front.specs.Uses.{UsesDisk};
 
 use crate::answered::{Ended, with_memory, without_memory};
@@ -30,7 +30,7 @@ impl Cache {
         disk: &mut D,
         pick: &Pick,
     ) -> Option<Ended>
-        ensures landing { IfSome result (λ ended. (w : RunState) → BehindStandsFor (behind self.old (D.files disk.old) (D.faults disk.old)) w → w.slicing ≡ None → IsLanding w pick.now ended (behind self.old (D.files disk.old) (D.faults disk.old)) (behind self.new (D.files disk.new) (D.faults disk.new))) }
+        ensures landing { IfSome result (λ ended. (w : RunState) → BehindStandsFor (behind self.old (D.files disk.old) (D.faults disk.old)) w → w.slicing ≡ None → IsDelivery w pick.now ended (behind self.old (D.files disk.old) (D.faults disk.old)) (behind self.new (D.files disk.new) (D.faults disk.new))) }
         ensures none { IfNone result (position (λ flying. events.is_picked pick.now flying && is_rendered flying) self.old.flying ≡ None) }
         ensures same { IfNone result ((self.new ≡ self.old) × (D.files disk.new ≡ D.files disk.old) × (D.faults disk.new ≡ D.faults disk.old)) }
         ensures disk { UsesDisk (D.faults disk.old) (D.faults disk.new) (D.calls disk.old) (D.calls disk.new) }
@@ -77,7 +77,7 @@ impl Cache {
 
     /// The oldest unfinished flush gets a slice.
     pub(crate) fn slice<D: Disk>(&mut self, alloc: Global, disk: &mut D) -> Option<Ended>
-        ensures slice { IfSome result (λ ended. (w : RunState) → BehindStandsFor (behind self.old (D.files disk.old) (D.faults disk.old)) w → IsSlice w ended (behind self.old (D.files disk.old) (D.faults disk.old)) (behind self.new (D.files disk.new) (D.faults disk.new))) }
+        ensures slice { IfSome result (λ ended. (w : RunState) → BehindStandsFor (behind self.old (D.files disk.old) (D.faults disk.old)) w → IsPurging w ended (behind self.old (D.files disk.old) (D.faults disk.old)) (behind self.new (D.files disk.new) (D.faults disk.new))) }
         ensures none { IfNone result ((w : RunState) → BehindStandsFor (behind self.old (D.files disk.old) (D.faults disk.old)) w → (w.flushes ≡ []) × BehindStandsFor (behind self.new (D.files disk.new) (D.faults disk.new)) w) }
         ensures quiet { IfNone result (D.faults disk.new ≡ D.faults disk.old) }
         ensures disk { UsesDisk (D.faults disk.old) (D.faults disk.new) (D.calls disk.old) (D.calls disk.new) }

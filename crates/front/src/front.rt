@@ -17,7 +17,7 @@ ghost use Rattle.run_events.specs.Events.{Extends, is_unrendered};
 ghost use Rattle.run_events.specs.Publishers.{direct_answer};
 ghost use Rattle.run_events.specs.States.{RunState};
 ghost use Rattle.front.specs.Boards.{at_disk};
-ghost use Rattle.front.specs.Fronts.{BeginsRun, FrontStandsFor, IsGiven, MakesEvent, OpensFront, epoch_of_board};
+ghost use Rattle.front.specs.Fronts.{BeginsRun, FrontStandsFor, IsRenderGiven, MakesEvent, OpensFront, epoch_of_board};
 ghost use Rattle.front.specs.Uses.{UsesDisk};
 
 use crate::asking::{fixed_answer, get_of, shared};
@@ -204,7 +204,7 @@ impl<R: Renderer + Drop> Front<R> {
 
 // The answer, or the fixed one where memory ran out.
 fn or_fixed(alloc: Global, answer: Mem<Answer>) -> OrFixed
-    ensures { IsGiven answer result.answer result.out_of_memory }
+    ensures { IsRenderGiven answer result.answer result.out_of_memory }
 {
     match answer {
         Ok(answer) => OrFixed {

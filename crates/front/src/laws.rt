@@ -1,7 +1,8 @@
-//! What follows for a front, on a function that does nothing.
-ghost use Rattle.std.specs.Prelude.{◌≡◌, ◌++◌, [], ℕ, Option, Some, map};
+//! What follows for a front, on functions that do nothing.
+ghost use Rattle.std.specs.Prelude.{◌≡◌, ◌++◌, [], ℕ, IsTrue, Option, Some, map};
 ghost use Rattle.sp_outside.specs.Files.{Files};
 ghost use Rattle.resource_tree.specs.Content.{Content};
+ghost use Rattle.cache_log.specs.Rules.{AllAllowed, CallConditions, KeepsBound};
 ghost use Rattle.coherence_core.specs.Holds.{HoldsClosed};
 ghost use Rattle.coherence_core.specs.Sessions.{failed_entries};
 ghost use Rattle.run_events.specs.declared.flying.Flushing.{Flushing};
@@ -9,20 +10,27 @@ ghost use Rattle.run_events.specs.Publishers.{Publishing};
 ghost use Rattle.run_events.specs.States.{RunState};
 ghost use Rattle.front.specs.declared.board.Board.{Board};
 ghost use Rattle.front.specs.Boards.{at_disk};
+ghost use Rattle.front.specs.Endings.{closed_log, closing_entries_of};
 ghost use Rattle.front.specs.Fronts.{FrontStandsFor};
 
-use coherence_core::a_session_may_end_at_any_time;
+use coherence_core::{a_session_may_end_at_any_time, the_files_hold_what_stands};
 
 /// A front stands for the same states however often its disk is said to have failed: the count is told by the calls.
 pub fn a_front_stands_whatever_the_count()
     ensures { (publishing : Publishing) (content : Content) (board : Board) (files : Option Files) (before after : ℕ) (w : RunState) → FrontStandsFor publishing content (at_disk board files before) w → FrontStandsFor publishing content (at_disk board files after) w }
 {}
 
-/// Where no flight is in the air, the files hold the log of the state that a front stands for, once each unfinished flush is cut off: a session
-/// that ends there leaves files with which the next can go on.
+/// Wherever a session ends, its files hold the log of each state that the front stands for, closed (`holds`): each flight in the air is lost, and
+/// then each unfinished flush is cut off, which a restart may do (`allowed`). Where no flight is in the air the flushes alone are (`landed`). So the
+/// next session can go on with that log. And the slices of each flush keep the bound of the log (`bound`).
 pub fn the_files_of_a_front_hold_its_log()
-    ensures { (publishing : Publishing) (content : Content) (board : Board) (files : Files) (faults : ℕ) (w : RunState) → FrontStandsFor publishing content (at_disk board (Some files) faults) w → w.flights ≡ []
+    ensures holds { (publishing : Publishing) (content : Content) (board : Board) (files : Files) (faults : ℕ) (w : RunState) → FrontStandsFor publishing content (at_disk board (Some files) faults) w → HoldsClosed w.farm files (closed_log w) }
+    ensures allowed { (publishing : Publishing) (content : Content) (board : Board) (files : Files) (faults : ℕ) (w : RunState) (under : CallConditions) → FrontStandsFor publishing content (at_disk board (Some files) faults) w → IsTrue under.restarts
+        → AllAllowed w.farm under (closing_entries_of w) w.log }
+    ensures bound { (publishing : Publishing) (content : Content) (board : Board) (files : Files) (faults : ℕ) (w : RunState) → FrontStandsFor publishing content (at_disk board (Some files) faults) w → KeepsBound w.farm w.found w.log }
+    ensures landed { (publishing : Publishing) (content : Content) (board : Board) (files : Files) (faults : ℕ) (w : RunState) → FrontStandsFor publishing content (at_disk board (Some files) faults) w → w.flights ≡ []
         → HoldsClosed w.farm files (failed_entries (map (λ (flush : Flushing). flush.number) w.flushes) ++ w.log) }
 {
     a_session_may_end_at_any_time();
+    the_files_hold_what_stands();
 }

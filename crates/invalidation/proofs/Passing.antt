@@ -23,7 +23,7 @@ use Rattle.docroot_format.specs.Deletions.{begins_with_any}
 use Rattle.docroot_format.specs.Names.{is_page_file}
 use Rattle.docroot_format.proofs.NameCode.{is_begun}
 use Rattle.invalidation.specs.Slices.{IsListedPage, is_passed, is_to_look_at}
-use Rattle.invalidation.specs.Walks.{AreApart, AreGone, IsPageAmong, IsPlaceAfter, TakesFiles, Walked}
+use Rattle.invalidation.specs.Walks.{AreNamesApart, AreGone, IsPageAmong, IsPlaceAfter, TakesFiles, Walked}
 use Rattle.invalidation.specs.declared.place.Place.{Place}
 use Rattle.invalidation.proofs.CountedFiles.{count_listed, count_parts, count_within}
 use Rattle.invalidation.proofs.LookedAt.{counted}
@@ -227,7 +227,7 @@ begun true true false e mono = absurd (true≢false (sym (mono refl)))
 begun true false q e mono = refl
 begun false p q e mono = e
 
-was_ahead : (prefixes : List Text) (prefix : Text) (start now : Place) (most : ℕ) (names : List Text) → AreApart prefixes → Lists prefixes prefix start now most names → (name : Text) → Contains names name
+was_ahead : (prefixes : List Text) (prefix : Text) (start now : Place) (most : ℕ) (names : List Text) → AreNamesApart prefixes → Lists prefixes prefix start now most names → (name : Text) → Contains names name
     → (is_to_look_at prefixes (Some start) name ≡ true) × (is_to_look_at prefixes (Some now) name ≡ false)
 was_ahead prefixes prefix start now most names apart l name has =
     let begins = All-contains (λ n. IsTrue (has_prefix prefix n)) names name l.listing.prefixed has in
@@ -277,7 +277,7 @@ gone_or_passed prefixes prefix start now most names over l old new is takes gone
 -- ---- the list gives each name that the walk goes past
 
 -- An empty prefix stands alone: each other name begins with it, and so the prefix before it.
-not_first : (prefixes : List Text) (n : ℕ) (prefix name : Text) → AreApart prefixes → n < length prefixes → slice_get prefixes n ≡ Some prefix → IsNotFirst prefixes (n + 1) name
+not_first : (prefixes : List Text) (n : ℕ) (prefix name : Text) → AreNamesApart prefixes → n < length prefixes → slice_get prefixes n ≡ Some prefix → IsNotFirst prefixes (n + 1) name
 not_first prefixes n prefix (b ∷ name) apart lt at begins none = true≢false none
 not_first prefixes n prefix [] apart lt at begins none = ⊎_elim
     (λ end. true≢false (sym begins ∙ ap (λ (ps : List Text). begins_with_any (take 1 ps) []) (drop_all (n + 1) prefixes (omega (arith, end)))))
@@ -293,7 +293,7 @@ was_passed true true e f = refl
 was_passed true false e f = sym f
 was_passed false p e f = absurd (true≢false (sym e))
 
-is_listed : (prefixes : List Text) (prefix : Text) (start now : Place) (most : ℕ) (names : List Text) → NothingIsPassedOver → AreApart prefixes → Lists prefixes prefix start now most names → (old : Files)
+is_listed : (prefixes : List Text) (prefix : Text) (start now : Place) (most : ℕ) (names : List Text) → NothingIsPassedOver → AreNamesApart prefixes → Lists prefixes prefix start now most names → (old : Files)
     → names ≡ take most (names_after old prefix start.last) → (name : Text) → is_to_look_at prefixes (Some start) name ≡ true → is_to_look_at prefixes (Some now) name ≡ false → file_at old name ≢ None → Contains names name
 is_listed prefixes prefix start now most names over apart l old is name ahead behind held =
     let was = both_of (begins_with_any prefixes name) (not (is_passed prefixes start name)) ahead in
@@ -312,7 +312,7 @@ pub listed_pages : (prefixes : List Text) (n : ℕ) (prefix after : Text) (most 
 listed_pages prefixes n prefix after most few names lt at listing le old new takes =
     takes_as (IsPageAmong names) (IsListedPage prefixes) (length names) few old new le (λ name is. (is.1, begins_some prefixes n prefix name lt at (All-contains (λ x. IsTrue (has_prefix prefix x)) names name listing.prefixed is.0))) takes
 
-pub walk_list : (prefixes : List Text) (prefix : Text) (start now : Place) (most : ℕ) (names : List Text) → NothingIsPassedOver → AreApart prefixes → start.prefix < length prefixes → slice_get prefixes start.prefix ≡ Some prefix
+pub walk_list : (prefixes : List Text) (prefix : Text) (start now : Place) (most : ℕ) (names : List Text) → NothingIsPassedOver → AreNamesApart prefixes → start.prefix < length prefixes → slice_get prefixes start.prefix ≡ Some prefix
     → IsListing prefix start.last most names → 0 < most → IsPlaceAfter start names most now → (old new : Files) → names ≡ take most (names_after old prefix start.last) → TakesFiles (IsPageAmong names) (length names) old new → AreGone names new
     → Walked prefixes start now (length names) old new
 walk_list prefixes prefix start now most names over apart lt at listing some after old new is takes gone =

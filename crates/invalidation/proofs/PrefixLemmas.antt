@@ -20,7 +20,7 @@ use Rattle.docroot_format.proofs.Inside.{not_true}
 use Rattle.docroot_format.proofs.NameCode.{begins_is}
 use Rattle.docroot_format.proofs.NameLemmas.{append_both}
 use Rattle.cache_files.specs.Pages.{page_body_name, page_head_name}
-use Rattle.invalidation.specs.Walks.{AreApart}
+use Rattle.invalidation.specs.Walks.{AreNamesApart}
 
 -- ---- the name of a folder
 
@@ -97,14 +97,14 @@ two_apart front rest prefix name (suc zero) at has =
     false_or _ (λ dot. both_begin front rest name dot (ap (λ p. has_prefix p name) is ∙ has))
 two_apart front rest prefix name (suc (suc n)) at has = absurd (cc (at))
 
-apart_handle : (b : Bool) (handle : Segments) → AreApart (rendering_prefixes handle ++ folder_name (cond b handle (handle ++ codes "_jcr_content" ∷ [])) ∷ [])
+apart_handle : (b : Bool) (handle : Segments) → AreNamesApart (rendering_prefixes handle ++ folder_name (cond b handle (handle ++ codes "_jcr_content" ∷ [])) ∷ [])
 apart_handle b [] n prefix name at has = one_apart _ prefix name n at
 apart_handle b (seg ∷ segs) n prefix name at has =
     let front = body_name (parent_of (seg ∷ segs)) (name_of (seg ∷ segs)) in
     subst (λ (d : Text). slice_get ((front ++ codes ".") ∷ d ∷ []) n ≡ Some prefix → begins_with_any (take n ((front ++ codes ".") ∷ d ∷ [])) name ≡ false) (sym (folder_is b seg segs))
     (λ there. two_apart front (below_handle b) prefix name n there has) at
 
-pub prefixes_apart : (inv : Invalidation) → AreApart (deleted_prefixes inv)
+pub prefixes_apart : (inv : Invalidation) → AreNamesApart (deleted_prefixes inv)
 prefixes_apart inv = apart_handle (takes_below inv.action) (handle_of inv)
 
 -- ---- the files of the page at the handle are none of these

@@ -123,7 +123,7 @@ held_left inv most old new laws takes stamp holds = ⊎_elim
     (λ p. ⊎_elim
     (λ same. inl (p.0, (p.1.0, (p.1.1.0, (sym same ∙ p.1.1.1.0, p.1.1.1.1)))))
     (λ w. absurd (some_none p.1.1.0 (sym p.1.1.1.0 ∙ w.1))) (head_left inv most old new laws takes p.0 p.1.0))
-    (λ f. inr (f.0, (f.1.0, ap (option_and_then stat_of) (sym (other_left inv most old new laws takes (stat_name f.0) (stat_no_page f.0))) ∙ f.1.1)))
+    (λ f. inr (f.0, (f.1.0, (f.1.1.0, ap (option_and_then stat_of) (sym (other_left inv most old new laws takes (stat_name f.0) (stat_no_page f.0))) ∙ f.1.1.1))))
     holds
 
 pub order_left : (inv : Invalidation) (most : ℕ) (old new : Files) → NameLaws inv → TakesFiles (IsTakenFor inv) most old new → KeepsOrder old new

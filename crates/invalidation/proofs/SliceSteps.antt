@@ -18,7 +18,7 @@ use Rattle.cache_files.specs.Pages.{page_at, page_body_name}
 use Rattle.stat_files.specs.Stamps.{stamp_at}
 use Rattle.docroot_changes.specs.Changes.{IsStampFolder, Told, count_names}
 use Rattle.invalidation.specs.Slices.{IsBehind, IsHandlePage, IsListedPage, IsSlice, IsTakenFor, IsTakenFrom, Progress, SliceLeft, SliceLooked, SliceRemoves, files_taken, folders_of, is_passed, is_to_look_at, most_added, place_or_start, slice_names, stamps_written}
-use Rattle.invalidation.specs.Walks.{AreTouched, IsBegun, IsTakenFirst, SliceChange, TakesFiles, Walked, WalkedOn, handle_files, step_of}
+use Rattle.invalidation.specs.Walks.{AreTouched, IsBegun, IsTakenFirst, SliceChange, TakesFiles, Walked, WalkedOn, handle_files, purge_step_of}
 use Rattle.invalidation.specs.declared.place.Place.{Place}
 use Rattle.invalidation.specs.declared.purge.Purge.{Purge}
 use Rattle.invalidation.specs.declared.purge.PurgeStep.{PurgeStep}
@@ -207,7 +207,7 @@ same_left before level inv stamp now step old new a b d left =
     (subst (λ s. AfterSlice before before.level before.inv s now step old new) (sym d) left))
 
 walk_left : (before : Purge) (level : ℕ) (inv : Invalidation) (stamp : Stamp) (now : Place) (more : Bool) (old mid new : Files) → level ≡ before.level → inv ≡ before.inv → stamp ≡ before.stamp → NameLaws before.inv
-    → IsBegun before.level before.inv before.stamp before.place old mid → WalkedOn (deleted_prefixes before.inv) (place_or_start before.place) now more mid new → AfterSlice before level inv stamp now (step_of (Ok more)) old new
+    → IsBegun before.level before.inv before.stamp before.place old mid → WalkedOn (deleted_prefixes before.inv) (place_or_start before.place) now more mid new → AfterSlice before level inv stamp now (purge_step_of (Ok more)) old new
 walk_left before level inv stamp now true old mid new a b d laws begun walked = same_left before level inv stamp now More old new a b d (
   left_more before.level before.inv before.stamp before.place old mid new now laws begun walked,
   (
@@ -223,26 +223,26 @@ walk_left before level inv stamp now false old mid new a b d laws begun walked =
   ),
 )
 
-fault_left : (before after : Purge) (fault : FileFault) (old new : Files) → SliceLeft before after (step_of (Err fault)) old new × (SliceLooked before after (step_of (Err fault)) old new × SliceRemoves before after (step_of (Err fault)) old new)
+fault_left : (before after : Purge) (fault : FileFault) (old new : Files) → SliceLeft before after (purge_step_of (Err fault)) old new × (SliceLooked before after (purge_step_of (Err fault)) old new × SliceRemoves before after (purge_step_of (Err fault)) old new)
 fault_left before after Disk old new = (tt, (tt, tt))
 fault_left before after OutOfMemory old new = (tt, (tt, tt))
 
 pub told_slice : (before : Purge) (level : ℕ) (inv : Invalidation) (stamp : Stamp) (now : Place) → level ≡ before.level → inv ≡ before.inv → stamp ≡ before.stamp → NameLaws before.inv → (r : Result Bool FileFault) (x y z : Option Files)
     → Told (IsBegun before.level before.inv before.stamp before.place) x y → Told (TakesFiles (IsListedPage (deleted_prefixes before.inv)) slice_names) y z
     → IfOk r (λ more. Told (WalkedOn (deleted_prefixes before.inv) (place_or_start before.place) now more) y z)
-    → Told (IsSlice before (record { level = level; inv = inv; stamp = stamp; place = Some now }) (step_of r)) x z
+    → Told (IsSlice before (record { level = level; inv = inv; stamp = stamp; place = Some now }) (purge_step_of r)) x z
 told_slice before level inv stamp now a b d laws (Ok more) x y z begun takes walked =
     let prefixes = deleted_prefixes before.inv in
     let after : Purge = record { level = level; inv = inv; stamp = stamp; place = Some now } in
     let walk = TakesFiles (IsListedPage prefixes) slice_names in
     let on = WalkedOn prefixes (place_or_start before.place) now more in
-    told_then (IsBegun before.level before.inv before.stamp before.place) (λ m n. walk m n × on m n) (IsSlice before after (step_of (Ok more))) x y z
-    (λ old mid new p q. slice_is before after (step_of (Ok more)) old new laws (change_walk before.level before.inv before.stamp before.place old mid new p q.0)
+    told_then (IsBegun before.level before.inv before.stamp before.place) (λ m n. walk m n × on m n) (IsSlice before after (purge_step_of (Ok more))) x y z
+    (λ old mid new p q. slice_is before after (purge_step_of (Ok more)) old new laws (change_walk before.level before.inv before.stamp before.place old mid new p q.0)
     (walk_left before level inv stamp now more old mid new a b d laws p q.1)) begun (told_both walk on (λ m n. walk m n × on m n) y z (λ m n p q. (p, q)) takes walked)
 told_slice before level inv stamp now a b d laws (Err fault) x y z begun takes walked =
     let after : Purge = record { level = level; inv = inv; stamp = stamp; place = Some now } in
-    told_then (IsBegun before.level before.inv before.stamp before.place) (TakesFiles (IsListedPage (deleted_prefixes before.inv)) slice_names) (IsSlice before after (step_of (Err fault))) x y z
-    (λ old mid new p q. slice_is before after (step_of (Err fault)) old new laws (change_walk before.level before.inv before.stamp before.place old mid new p q) (fault_left before after fault old new)) begun takes
+    told_then (IsBegun before.level before.inv before.stamp before.place) (TakesFiles (IsListedPage (deleted_prefixes before.inv)) slice_names) (IsSlice before after (purge_step_of (Err fault))) x y z
+    (λ old mid new p q. slice_is before after (purge_step_of (Err fault)) old new laws (change_walk before.level before.inv before.stamp before.place old mid new p q) (fault_left before after fault old new)) begun takes
 
 few_taken : (place : Option Place) → handle_files place ≤ files_taken place
 few_taken None = omega arith
@@ -250,13 +250,13 @@ few_taken (Some place) = omega arith
 
 -- where it was stopped before the walk
 told_stopped : (before after : Purge) → NameLaws before.inv → (fault : FileFault) (x y : Option Files)
-    → Told (SliceChange (IsTakenFirst before.inv before.place) (folders_of before.level before.inv before.place) (most_added before) (handle_files before.place) before.stamp) x y → Told (IsSlice before after (step_of (Err fault))) x y
+    → Told (SliceChange (IsTakenFirst before.inv before.place) (folders_of before.level before.inv before.place) (most_added before) (handle_files before.place) before.stamp) x y → Told (IsSlice before after (purge_step_of (Err fault))) x y
 told_stopped before after laws fault x y changes =
-    told_as (SliceChange (IsTakenFirst before.inv before.place) (folders_of before.level before.inv before.place) (most_added before) (handle_files before.place) before.stamp) (IsSlice before after (step_of (Err fault))) x y
-    (λ old new change. slice_is before after (step_of (Err fault)) old new laws
+    told_as (SliceChange (IsTakenFirst before.inv before.place) (folders_of before.level before.inv before.place) (most_added before) (handle_files before.place) before.stamp) (IsSlice before after (purge_step_of (Err fault))) x y
+    (λ old new change. slice_is before after (purge_step_of (Err fault)) old new laws
     (change_opening before.level before.inv before.stamp before.place (handle_files before.place) old new (few_taken before.place) change) (fault_left before after fault old new)) changes
 
 pub told_given_up : (before after : Purge) → NameLaws before.inv → (r : Result Bool FileFault) → IsErr r → (x y : Option Files)
-    → Told (SliceChange (IsTakenFirst before.inv before.place) (folders_of before.level before.inv before.place) (most_added before) (handle_files before.place) before.stamp) x y → Told (IsSlice before after (step_of r)) x y
+    → Told (SliceChange (IsTakenFirst before.inv before.place) (folders_of before.level before.inv before.place) (most_added before) (handle_files before.place) before.stamp) x y → Told (IsSlice before after (purge_step_of r)) x y
 told_given_up before after laws (Ok more) err x y changes = absurd (cc (err))
 told_given_up before after laws (Err fault) err x y changes = told_stopped before after laws fault x y changes

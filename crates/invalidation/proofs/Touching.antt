@@ -23,11 +23,11 @@ use Rattle.docroot_format.specs.Texts.{stat_text}
 use Rattle.docroot_format.specs.declared.fault.FileFault.{FileFault}
 use Rattle.cache_files.specs.Changes.{KeepsPages}
 use Rattle.stat_files.specs.Stamps.{files_with_stamp, stamp_at, told_with_stamp}
-use Rattle.docroot_changes.specs.Changes.{StampSet, Told}
+use Rattle.docroot_changes.specs.Changes.{IsStampFolder, StampSet, Told}
 use Rattle.docroot_changes.proofs.CountedNames.{kept_file, more_names, same_files}
 use Rattle.docroot_changes.proofs.ToldFiles.{told_made}
 use Rattle.invalidation.specs.Slices.{IsStatOf}
-use Rattle.invalidation.specs.Walks.{AreTouched, IsTouchable, TouchedTo, Touches}
+use Rattle.invalidation.specs.Walks.{AreTouched, TouchedTo, Touches}
 use Rattle.invalidation.proofs.Chains.{either, told_same}
 use Rattle.invalidation.proofs.TakenFiles.{last_or_before}
 
@@ -58,12 +58,12 @@ written old folder text name true e =
     inr (inr ((folder, (first folder, same_name name (stat_name folder) (equal (by_name name (stat_name folder)) e))), get-insert nat_list_cmp_total old (stat_name folder) text name ∙ ap (λ b. cond b (Some text) (file_at old name)) e))
 written old folder text name false e = inl (get-insert nat_list_cmp_total old (stat_name folder) text name ∙ ap (λ b. cond b (Some text) (file_at old name)) e)
 
-touched_one : StatsApart → (old : Files) (folder : Segments) (stamp : Stamp) → IsTouchable folder → StampSet folder stamp old (files_with_stamp old folder stamp) → Touches (folder ∷ []) 1 stamp old (files_with_stamp old folder stamp)
+touched_one : StatsApart → (old : Files) (folder : Segments) (stamp : Stamp) → IsStampFolder folder → StampSet folder stamp old (files_with_stamp old folder stamp) → Touches (folder ∷ []) 1 stamp old (files_with_stamp old folder stamp)
 touched_one apart old folder stamp may set = record {
   pages = set.beside.pages;
   stamps = λ other ok. ⊎_elim
       (λ same.
-      let is : other ≡ folder = sym ok.docroot.0 ∙ apart other folder ok.bytes may.stamped.bytes same ∙ may.stamped.docroot.0 in
+      let is : other ≡ folder = sym ok.docroot.0 ∙ apart other folder ok.bytes may.bytes same ∙ may.docroot.0 in
       inr (subst (λ f. Contains (folder ∷ []) f) (sym is) (first folder), ap (stamp_at (files_with_stamp old folder stamp)) is ∙ set.here))
       (λ differ. inl (set.beside.stamps other ok (λ e. differ (ap stat_name e)))) (same_or_other (stat_name other) (stat_name folder));
   files = λ name. written old folder (stat_text stamp.epoch stamp.count) name (eq_by_cmp by_name name (stat_name folder)) refl;
@@ -88,7 +88,7 @@ touches_none folders most stamp files = record {
 abbrev pub TouchSets : Segments → Stamp → Type 0
 TouchSets folder stamp = (old : Files) → StampSet folder stamp old (files_with_stamp old folder stamp)
 
-pub told_touches : StatsApart → (folder : Segments) (stamp : Stamp) → IsTouchable folder → TouchSets folder stamp → {T : Type 0} (r : Result T FileFault) (x y : Option Files) → OnOk r (y ≡ told_with_stamp x folder stamp)
+pub told_touches : StatsApart → (folder : Segments) (stamp : Stamp) → IsStampFolder folder → TouchSets folder stamp → {T : Type 0} (r : Result T FileFault) (x y : Option Files) → OnOk r (y ≡ told_with_stamp x folder stamp)
     → IfErr r (IsLeftByFault x (told_with_stamp x folder stamp) y) → Told (Touches (folder ∷ []) 1 stamp) x y
 told_touches apart folder stamp may sets r x y ok err =
     let P = Touches (folder ∷ []) 1 stamp in

@@ -1,6 +1,5 @@
 -- What the parts of a slice make of the files. Only private functions and proofs need these.
 use Rattle.std.specs.Prelude.{◌≡◌, ◌⊎◌, ◌<◌, ◌≤◌, ◌+◌, ◌-◌, ℕ, Bool, true, false, List, [], Option, Some, None, Result, Ok, Err, Contains, IsTrue, length, slice_get, take}
-use Rattle.sp_base.specs.Paths.{is_path}
 use Rattle.sp_base.specs.Texts.{Segments, Text}
 use Rattle.sp_outside.specs.Files.{Files, file_at, has_prefix}
 use Rattle.cover_rules.specs.declared.stamp.Stamp.{Stamp}
@@ -63,8 +62,8 @@ abbrev pub IsNextPrefix : Place → ℕ → ℕ → Place → Type 0
 IsNextPrefix place seen most now = ((seen < most) × (now.prefix ≡ place.prefix + 1)) ⊎ ((seen ≡ most) × (now.prefix ≡ place.prefix))
 
 -- a name that begins with one of the prefixes begins with none of those before it
-abbrev pub AreApart : List Text → Type 0
-AreApart prefixes = (n : ℕ) (prefix name : Text) → slice_get prefixes n ≡ Some prefix → IsTrue (has_prefix prefix name) → begins_with_any (take n prefixes) name ≡ false
+abbrev pub AreNamesApart : List Text → Type 0
+AreNamesApart prefixes = (n : ℕ) (prefix name : Text) → slice_get prefixes n ≡ Some prefix → IsTrue (has_prefix prefix name) → begins_with_any (take n prefixes) name ≡ false
 
 -- The walk stopped at a place: past as many names as a slice looks at, or past fewer, at its end.
 abbrev pub WalkedOn : List Text → Place → Place → Bool → Files → Files → Type 0
@@ -78,11 +77,6 @@ abbrev pub IsHandleGone : Invalidation → Files → Type 0
 IsHandleGone inv files = (name : Text) → IsHandlePage inv name → file_at files name ≡ None
 
 -- ---- folders that are touched
-
--- a folder of the docroot that may have a stamp
-pub record IsTouchable (folder : Segments) : Type 0 where
-  pub stamped : IsStampFolder folder
-  pub path : IsTrue (is_path folder)
 
 -- Folders got a stamp, at most so many of these; all else that the files hold is as it was.
 pub record Touches (folders : List Segments) (most : ℕ) (stamp : Stamp) (old new : Files) : Type 0 where
@@ -136,8 +130,8 @@ IsBegun level inv stamp None old new = Opened level inv stamp old new
 IsBegun level inv stamp (Some place) old new = new ≡ old
 
 -- how a slice ended, by the answer of the call that makes it
-abbrev pub step_of : Result Bool FileFault → PurgeStep
-step_of (Ok true) = More
-step_of (Ok false) = PurgeDone
-step_of (Err Disk) = DiskFailed
-step_of (Err NoMemory) = PurgeNoMemory
+abbrev pub purge_step_of : Result Bool FileFault → PurgeStep
+purge_step_of (Ok true) = More
+purge_step_of (Ok false) = PurgeDone
+purge_step_of (Err Disk) = DiskFailed
+purge_step_of (Err NoMemory) = PurgeNoMemory

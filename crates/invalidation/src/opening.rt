@@ -6,7 +6,7 @@ ghost use Rattle.docroot_format.specs.Faults.{HasFileCause};
 ghost use Rattle.docroot_changes.specs.Changes.{IsStampFolder, Told};
 ghost use Rattle.docroot_changes.specs.DocrootCalls.{MakesDocrootCalls};
 ghost use Rattle.invalidation.specs.Slices.{IsHandlePage};
-ghost use Rattle.invalidation.specs.Walks.{AreTouched, IsHandleGone, IsTouchable, Opened, SliceChange, TakesFiles, Touches};
+ghost use Rattle.invalidation.specs.Walks.{AreTouched, IsHandleGone, Opened, SliceChange, TakesFiles, Touches};
 
 use cache_files::drop_page;
 use cover_rules::{Invalidation, Stamp, a_page_has_one_key, page_key, touched};
@@ -66,7 +66,7 @@ fn touch_all<D: Disk>(
     folders: &[Path],
     stamp: Stamp,
 ) -> Result<(), FileFault>
-    requires { (folder : Segments) → Contains folders.now folder → IsTouchable folder }
+    requires { (folder : Segments) → Contains folders.now folder → IsStampFolder folder }
     ensures touches { Told (Touches folders.now (length folders.now) stamp) (D.files disk.old) (D.files disk.new) }
     ensures touched { OnOk result (Told (λ _ files. AreTouched folders.now stamp files) (D.files disk.old) (D.files disk.new)) }
     ensures cause { HasFileCause (D.faults disk.old) (D.faults disk.new) result }
@@ -85,7 +85,7 @@ fn touch_folder<D: Disk>(
     folder: &Path,
     stamp: Stamp,
 ) -> Result<(), FileFault>
-    requires { IsTouchable folder.now }
+    requires { IsStampFolder folder.now }
     ensures touches { Told (Touches (folder.now ∷ []) 1 stamp) (D.files disk.old) (D.files disk.new) }
     ensures touched { OnOk result (Told (λ _ files. AreTouched (folder.now ∷ []) stamp files) (D.files disk.old) (D.files disk.new)) }
     ensures cause { HasFileCause (D.faults disk.old) (D.faults disk.new) result }

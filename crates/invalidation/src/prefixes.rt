@@ -6,7 +6,7 @@ ghost use Rattle.cover_rules.specs.declared.invalidation.Invalidation.{Invalidat
 ghost use Rattle.cover_rules.specs.Coverage.{takes_below};
 ghost use Rattle.docroot_format.specs.Deletions as spec;
 ghost use Rattle.docroot_format.specs.Names.{folder_name};
-ghost use Rattle.invalidation.specs.Walks.{AreApart};
+ghost use Rattle.invalidation.specs.Walks.{AreNamesApart};
 
 use cover_rules::{Action, Invalidation};
 use docroot_format::stat_name;
@@ -15,7 +15,7 @@ use std::alloc::Global;
 
 /// No name begins with two of the prefixes of a flush.
 pub(crate) fn prefixes_are_apart()
-    ensures { (inv : Invalidation) → AreApart (spec.deleted_prefixes inv) }
+    ensures { (inv : Invalidation) → AreNamesApart (spec.deleted_prefixes inv) }
 {}
 
 /// The prefixes of the names of the files that a flush takes away, but for those of the page at exactly the handle.

@@ -4,7 +4,7 @@ ghost use Rattle.docroot_format.specs.Faults.{HasFileCause};
 ghost use Rattle.docroot_changes.specs.Changes.{Told};
 ghost use Rattle.docroot_changes.specs.DocrootCalls.{MakesDocrootCalls};
 ghost use Rattle.invalidation.specs.Slices.{HasSliceCause, IsSamePurge, IsSlice, folders_of, inv_of, level_of, most_added, place_of, place_or_start, stamp_of};
-ghost use Rattle.invalidation.specs.Walks.{IsBegun, IsTakenFirst, SliceChange, handle_files, step_of};
+ghost use Rattle.invalidation.specs.Walks.{IsBegun, IsTakenFirst, SliceChange, handle_files, purge_step_of};
 
 use crate::opening::open;
 use crate::place::Place;
@@ -81,7 +81,7 @@ impl Purge {
     // The same: `true` where there may be more names.
     fn go_on<D: Disk>(&mut self, alloc: Global, disk: &mut D) -> Result<bool, FileFault>
         ensures same { IsSamePurge self.old self.new }
-        ensures slice { Told (IsSlice self.old self.new (step_of result)) (D.files disk.old) (D.files disk.new) }
+        ensures slice { Told (IsSlice self.old self.new (purge_step_of result)) (D.files disk.old) (D.files disk.new) }
         ensures cause { HasFileCause (D.faults disk.old) (D.faults disk.new) result }
         ensures calls { MakesDocrootCalls (D.calls disk.old) (D.calls disk.new) }
     {

@@ -8,7 +8,7 @@ ghost use Rattle.docroot_format.specs.Names as spec;
 ghost use Rattle.docroot_changes.specs.Changes.{Told};
 ghost use Rattle.docroot_changes.specs.DocrootCalls.{IsListedPrefix, MakesDocrootCalls};
 ghost use Rattle.invalidation.specs.Slices.{IsListedPage, slice_names};
-ghost use Rattle.invalidation.specs.Walks.{AreApart, AreGone, IsNextPrefix, IsPageAmong, IsThisPage, TakesFiles, Walked, WalkedOn};
+ghost use Rattle.invalidation.specs.Walks.{AreNamesApart, AreGone, IsNextPrefix, IsPageAmong, IsThisPage, TakesFiles, Walked, WalkedOn};
 
 use crate::place::Place;
 use docroot_changes::docroot_calls_add_up;
@@ -28,7 +28,7 @@ pub(crate) fn walk<D: Disk>(
     prefixes: &NameList,
     place: &mut Place,
 ) -> Result<bool, FileFault>
-    requires apart { AreApart prefixes.now }
+    requires apart { AreNamesApart prefixes.now }
     requires listed { (prefix : Text) → Contains prefixes.now prefix → IsListedPrefix prefix }
     ensures takes { Told (TakesFiles (IsListedPage prefixes.now) slice_names) (D.files disk.old) (D.files disk.new) }
     ensures walked { IfOk result (λ more. Told (WalkedOn prefixes.now place.old place.new more) (D.files disk.old) (D.files disk.new)) }
@@ -57,7 +57,7 @@ fn look_at<D: Disk>(
 ) -> Result<usize, FileFault>
     requires most { 0 < most }
     requires place { place.old.prefix < length prefixes.now }
-    requires apart { AreApart prefixes.now }
+    requires apart { AreNamesApart prefixes.now }
     requires listed { (prefix : Text) → Contains prefixes.now prefix → IsListedPrefix prefix }
     ensures takes { Told (TakesFiles (IsListedPage prefixes.now) most) (D.files disk.old) (D.files disk.new) }
     ensures walked { IfOk result (λ seen. Told (Walked prefixes.now place.old place.new seen) (D.files disk.old) (D.files disk.new)) }

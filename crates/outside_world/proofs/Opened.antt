@@ -5,14 +5,14 @@ use Rattle.std.specs.List.{list_any}
 use Rattle.outside_world.specs.declared.world.Happening.TheVariants.{Opened, Piece, Gone, Quiet}
 use Rattle.outside_world.specs.declared.world.WorldEntry.{WorldEntry}
 use Rattle.outside_world.specs.declared.world.WorldEntry.TheVariants.{Came, Sent, Unsent, Shut}
-use Rattle.outside_world.specs.Worlds.{HasOpening, is_end, is_open, open_after, open_after_all}
+use Rattle.outside_world.specs.Worlds.{HasOpening, ends_connection, is_connected, open_after, open_after_all}
 
 -- no end of the connection stands in the log, and it was open before
 abbrev StayedOpen : ℕ → Bool → List WorldEntry → Type 0
-StayedOpen c was log = (was ≡ true) × (list_any (is_end c) log ≡ false)
+StayedOpen c was log = (was ≡ true) × (list_any (ends_connection c) log ≡ false)
 
 -- where it opens, or else was open and goes on
-opens : (c d : ℕ) (was : Bool) (peer : List ℕ) (log : List WorldEntry) → cond (d == c) true was ≡ true → list_any (is_end c) log ≡ false
+opens : (c d : ℕ) (was : Bool) (peer : List ℕ) (log : List WorldEntry) → cond (d == c) true was ≡ true → list_any (ends_connection c) log ≡ false
     → HasOpening (Came (Opened d peer) ∷ log) c ⊎ StayedOpen c was (Came (Opened d peer) ∷ log)
 opens c d was peer log w endless =
     elim (d == c) as (λ t. (d == c) ≡ t → cond t true was ≡ true → HasOpening (Came (Opened d peer) ∷ log) c ⊎ StayedOpen c was (Came (Opened d peer) ∷ log)) [
@@ -20,9 +20,9 @@ opens c d was peer log w endless =
       | false ↦ λ other w. inr (w, endless)
     ] refl w
 
-not_ended : (c d : ℕ) (was : Bool) (log : List WorldEntry) → cond (d == c) false was ≡ true → list_any (is_end c) log ≡ false → (was ≡ true) × ((d == c || list_any (is_end c) log) ≡ false)
+not_ended : (c d : ℕ) (was : Bool) (log : List WorldEntry) → cond (d == c) false was ≡ true → list_any (ends_connection c) log ≡ false → (was ≡ true) × ((d == c || list_any (ends_connection c) log) ≡ false)
 not_ended c d was log w endless =
-    elim (d == c) as (λ t. cond t false was ≡ true → (was ≡ true) × ((t || list_any (is_end c) log) ≡ false)) [
+    elim (d == c) as (λ t. cond t false was ≡ true → (was ≡ true) × ((t || list_any (ends_connection c) log) ≡ false)) [
       | true ↦ λ w. absurd (true≢false (sym w))
       | false ↦ λ w. (w, endless)
     ] w
@@ -47,21 +47,21 @@ opened_or_stayed c was (entry ∷ log) h =
       | inr stayed ↦ one_entry c was entry log stayed
     ]
 
-pub has_opening : (log : List WorldEntry) (c : ℕ) → is_open log c ≡ true → HasOpening log c
+pub has_opening : (log : List WorldEntry) (c : ℕ) → is_connected log c ≡ true → HasOpening log c
 has_opening log c h = elim (opened_or_stayed c false log h) [ inl o ↦ o | inr stayed ↦ absurd (true≢false (sym stayed.0)) ]
 
-stays_open : (c : ℕ) (log : List WorldEntry) → list_any (is_end c) log ≡ false → open_after_all c true log ≡ true
+stays_open : (c : ℕ) (log : List WorldEntry) → list_any (ends_connection c) log ≡ false → open_after_all c true log ≡ true
 stays_open c [] h = refl
 stays_open c (Came (Opened d peer) ∷ log) h =
     elim (d == c) as (λ t. open_after_all c (cond t true true) log ≡ true) [ true ↦ stays_open c log h | false ↦ stays_open c log h ]
 stays_open c (Came (Piece d bytes) ∷ log) h = stays_open c log h
 stays_open c (Came (Gone d) ∷ log) h =
-    elim (d == c) as (λ t. (t || list_any (is_end c) log) ≡ false → open_after_all c (cond t false true) log ≡ true) [ true ↦ λ h. absurd (true≢false h) | false ↦ stays_open c log ] h
+    elim (d == c) as (λ t. (t || list_any (ends_connection c) log) ≡ false → open_after_all c (cond t false true) log ≡ true) [ true ↦ λ h. absurd (true≢false h) | false ↦ stays_open c log ] h
 stays_open c (Came Quiet ∷ log) h = stays_open c log h
 stays_open c (Sent d bytes ∷ log) h = stays_open c log h
 stays_open c (Unsent d ∷ log) h = stays_open c log h
 stays_open c (Shut d ∷ log) h =
-    elim (d == c) as (λ t. (t || list_any (is_end c) log) ≡ false → open_after_all c (cond t false true) log ≡ true) [ true ↦ λ h. absurd (true≢false h) | false ↦ stays_open c log ] h
+    elim (d == c) as (λ t. (t || list_any (ends_connection c) log) ≡ false → open_after_all c (cond t false true) log ≡ true) [ true ↦ λ h. absurd (true≢false h) | false ↦ stays_open c log ] h
 
 open_after_both : (c : ℕ) (was : Bool) (log later : List WorldEntry) → open_after_all c was (log ++ later) ≡ open_after_all c (open_after_all c was log) later
 open_after_both c was [] later = refl
@@ -70,9 +70,9 @@ open_after_both c was (entry ∷ log) later = open_after_both c (open_after c wa
 itself : (c : ℕ) → (c == c) ≡ true
 itself c = grind arith
 
-pub is_open-from_opening : (log : List WorldEntry) (c : ℕ) → HasOpening log c → is_open log c ≡ true
-is_open-from_opening log c o =
-    ap (λ l. is_open l c) o.is
+pub is_connected-from_opening : (log : List WorldEntry) (c : ℕ) → HasOpening log c → is_connected log c ≡ true
+is_connected-from_opening log c o =
+    ap (λ l. is_connected l c) o.is
     ∙ open_after_both c false o.before (Came (Opened c o.peer) ∷ o.later)
     ∙ ap (λ t. open_after_all c (cond t true (open_after_all c false o.before)) o.later) (itself c)
     ∙ stays_open c o.later o.endless

@@ -6,8 +6,8 @@ use Rattle.std.proofs.lemmas.Map.Views.{any-filter_same}
 use Rattle.std.specs.List.{filter}
 use Rattle.outside_world.specs.declared.world.WorldEntry.{WorldEntry}
 use Rattle.outside_world.specs.declared.world.WorldEntry.TheVariants.{Shut}
-use Rattle.outside_world.specs.Worlds.{open_after, open_after_all, is_open}
-use Rattle.outside_world.specs.Comings.{is_among, KeepsRoom}
+use Rattle.outside_world.specs.Worlds.{open_after, open_after_all, is_connected}
+use Rattle.outside_world.specs.Comings.{has_connection, KeepsRoom}
 
 -- the numbers but for one
 abbrev pub others : ℕ → List ℕ → List ℕ
@@ -26,12 +26,12 @@ few_others d (e ∷ numbers) =
       | false ↦ omega arith
     ]
 
-pub fewer_others : (d : ℕ) (numbers : List ℕ) → IsTrue (is_among d numbers) → length (others d numbers) < length numbers
+pub fewer_others : (d : ℕ) (numbers : List ℕ) → IsTrue (has_connection d numbers) → length (others d numbers) < length numbers
 fewer_others d [] h = absurd (true≢false (sym h))
 fewer_others d (e ∷ numbers) h =
     let few = few_others d numbers in
     let rest = fewer_others d numbers in
-    elim (e == d) as (λ b. IsTrue (b || is_among d numbers) → length (cond (not b) (e ∷ others d numbers) (others d numbers)) < length (e ∷ numbers)) [
+    elim (e == d) as (λ b. IsTrue (b || has_connection d numbers) → length (cond (not b) (e ∷ others d numbers) (others d numbers)) < length (e ∷ numbers)) [
       | true ↦ λ h. omega arith
       | false ↦ λ h. let less = rest h in omega arith
     ] h
@@ -43,26 +43,26 @@ not_turned false was = refl
 turned : (c d : ℕ) → (c == d) ≡ (d == c)
 turned c d = grind arith
 
-pub among_others : (c d : ℕ) (numbers : List ℕ) → is_among c (others d numbers) ≡ cond (d == c) false (is_among c numbers)
+pub among_others : (c d : ℕ) (numbers : List ℕ) → has_connection c (others d numbers) ≡ cond (d == c) false (has_connection c numbers)
 among_others c d numbers =
     any-filter_same (λ e. e == c) (λ e. not (e == d)) (not (c == d)) (λ e h. ap (λ x. not (x == d)) (eqb-true e c h)) numbers
-    ∙ not_turned (c == d) (is_among c numbers)
-    ∙ ap (λ b. cond b false (is_among c numbers)) (turned c d)
+    ∙ not_turned (c == d) (has_connection c numbers)
+    ∙ ap (λ b. cond b false (has_connection c numbers)) (turned c d)
 
 -- room for an entry of each number is kept where an entry is added and the numbers follow it
 pub keeps_pushed : (capacity most : ℕ) (log after : List WorldEntry) (entry : WorldEntry) (numbers left : List ℕ) → KeepsRoom capacity log numbers
     → after ≡ log ++ entry ∷ [] → length log + (length numbers + 2) ≤ most → length left ≤ length numbers + 1
-    → ((c : ℕ) → is_among c left ≡ open_after c (is_among c numbers) entry) → KeepsRoom most after left
+    → ((c : ℕ) → has_connection c left ≡ open_after c (has_connection c numbers) entry) → KeepsRoom most after left
 keeps_pushed capacity most log after entry numbers left keeps is room few follows = record {
-  listed = λ c. ap (λ l. is_open l c) is ∙ open_more c false log entry ∙ ap (λ b. open_after c b entry) (keeps.listed c) ∙ sym (follows c);
+  listed = λ c. ap (λ l. is_connected l c) is ∙ open_more c false log entry ∙ ap (λ b. open_after c b entry) (keeps.listed c) ∙ sym (follows c);
   room = let longer = ap length is ∙ length-append log (entry ∷ []) in omega arith;
 }
 
 -- where the number of an open connection is taken out, its room is used
 pub keeps_shut : (capacity most c : ℕ) (log after : List WorldEntry) (numbers left : List ℕ) → KeepsRoom capacity log numbers
     → after ≡ log ++ Shut c ∷ [] → most ≡ capacity → length left < length numbers
-    → ((d : ℕ) → is_among d left ≡ cond (c == d) false (is_among d numbers)) → KeepsRoom most after left
+    → ((d : ℕ) → has_connection d left ≡ cond (c == d) false (has_connection d numbers)) → KeepsRoom most after left
 keeps_shut capacity most c log after numbers left keeps is same fewer follows = record {
-  listed = λ d. ap (λ l. is_open l d) is ∙ open_more d false log (Shut c) ∙ ap (λ b. cond (c == d) false b) (keeps.listed d) ∙ sym (follows d);
+  listed = λ d. ap (λ l. is_connected l d) is ∙ open_more d false log (Shut c) ∙ ap (λ b. cond (c == d) false b) (keeps.listed d) ∙ sym (follows d);
   room = let longer = ap length is ∙ length-append log (Shut c ∷ []) in let before = keeps.room in omega arith;
 }

@@ -4,7 +4,7 @@ use Rattle.std.specs.List.{flat_map, list_any}
 use Rattle.outside_world.specs.declared.world.Happening.{Happening}
 use Rattle.outside_world.specs.declared.world.WorldEntry.{WorldEntry}
 use Rattle.outside_world.specs.declared.world.WorldEntry.TheVariants.{Came, Sent, Unsent, Shut}
-use Rattle.outside_world.specs.Worlds.{IsNewsTo, is_open}
+use Rattle.outside_world.specs.Worlds.{IsNewsTo, is_connected}
 
 -- After these happenings those may come: each is news after all before it, of which no connection was shut.
 abbrev pub MayComeAfter : List Happening → List Happening → Type 0
@@ -27,10 +27,10 @@ abbrev pub news_of : List WorldEntry → List Happening
 news_of log = flat_map news_of_entry log
 
 -- a number is among these
-abbrev pub is_among : ℕ → List ℕ → Bool
-is_among c numbers = list_any (λ d. d == c) numbers
+abbrev pub has_connection : ℕ → List ℕ → Bool
+has_connection c numbers = list_any (λ d. d == c) numbers
 
 -- The numbers are those of the connections that are open after a log, and there is room for one more entry for each.
 pub record KeepsRoom (capacity : ℕ) (log : List WorldEntry) (numbers : List ℕ) : Type 0 where
-  pub listed : (c : ℕ) → is_open log c ≡ is_among c numbers
+  pub listed : (c : ℕ) → is_connected log c ≡ has_connection c numbers
   pub room : length log + length numbers ≤ capacity

@@ -9,13 +9,13 @@ abbrev pub longest_input : ℕ
 longest_input = 67108864
 
 -- a file is there, and is longer than that
-abbrev pub IsTooLong : Option (List ℕ) → Type 0
-IsTooLong (Some bytes) = longest_input < length bytes
-IsTooLong None = ⊥
+abbrev pub IsLongInput : Option (List ℕ) → Type 0
+IsLongInput (Some bytes) = longest_input < length bytes
+IsLongInput None = ⊥
 
 -- What is answered for a name where these are the files: the file's bytes, or that it is too long.
 abbrev pub IsAnswerFor : Files → List ℕ → Result (List ℕ) InputFault → Type 0
 IsAnswerFor files name (Ok bytes) = file_at files name ≡ Some bytes
-IsAnswerFor files name (Err TooLong) = IsTooLong (file_at files name)
+IsAnswerFor files name (Err TooLong) = IsLongInput (file_at files name)
 IsAnswerFor files name (Err Failed) = Unit {0}
 IsAnswerFor files name (Err NoMemory) = Unit {0}

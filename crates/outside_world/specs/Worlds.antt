@@ -28,18 +28,18 @@ open_after_all c was [] = was
 open_after_all c was (entry ∷ log) = open_after_all c (open_after c was entry) log
 
 -- a connection is open after a log: it was opened, and has neither gone nor been shut since
-abbrev pub is_open : List WorldEntry → ℕ → Bool
-is_open log c = open_after_all c false log
+abbrev pub is_connected : List WorldEntry → ℕ → Bool
+is_connected log c = open_after_all c false log
 
 -- whether an entry is the end of a connection
-abbrev pub is_end : ℕ → WorldEntry → Bool
-is_end c (Came (Opened d peer)) = false
-is_end c (Came (Piece d bytes)) = false
-is_end c (Came (Gone d)) = d == c
-is_end c (Came Quiet) = false
-is_end c (Sent d bytes) = false
-is_end c (Unsent d) = false
-is_end c (Shut d) = d == c
+abbrev pub ends_connection : ℕ → WorldEntry → Bool
+ends_connection c (Came (Opened d peer)) = false
+ends_connection c (Came (Piece d bytes)) = false
+ends_connection c (Came (Gone d)) = d == c
+ends_connection c (Came Quiet) = false
+ends_connection c (Sent d bytes) = false
+ends_connection c (Unsent d) = false
+ends_connection c (Shut d) = d == c
 
 -- An opening of a connection stands in the log, and no end of it after that.
 pub record HasOpening (log : List WorldEntry) (c : ℕ) : Type 0 where
@@ -47,7 +47,7 @@ pub record HasOpening (log : List WorldEntry) (c : ℕ) : Type 0 where
   pub peer : List ℕ
   pub later : List WorldEntry
   pub is : log ≡ before ++ Came (Opened c peer) ∷ later
-  pub endless : list_any (is_end c) later ≡ false
+  pub endless : list_any (ends_connection c) later ≡ false
 
 -- the most bytes of a piece
 abbrev pub longest_piece : ℕ
@@ -62,7 +62,7 @@ HasSize Quiet = Unit {0}
 
 -- a connection that opens after a log has a number that none has which is open
 abbrev pub HasFreeNumber : List WorldEntry → Happening → Type 0
-HasFreeNumber log (Opened c peer) = is_open log c ≡ false
+HasFreeNumber log (Opened c peer) = is_connected log c ≡ false
 HasFreeNumber log (Piece c bytes) = Unit {0}
 HasFreeNumber log (Gone c) = Unit {0}
 HasFreeNumber log Quiet = Unit {0}
@@ -92,7 +92,7 @@ told_after_send told c bytes result = told_more told (send_entries c bytes resul
 
 -- what a shutting adds to a log: nothing where the connection isn't open
 abbrev pub shut_entries : List WorldEntry → ℕ → List WorldEntry
-shut_entries log c = if is_open log c then Shut c ∷ [] else []
+shut_entries log c = if is_connected log c then Shut c ∷ [] else []
 
 -- the log after a shutting, where the world tells it
 abbrev pub told_shut : Option (List WorldEntry) → ℕ → Option (List WorldEntry)

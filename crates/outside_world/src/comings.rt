@@ -2,7 +2,7 @@
 ghost use Rattle.std.specs.Prelude.{◌≡◌, ◌↔◌, IsTrue, Some, map};
 ghost use Rattle.outside_world.specs.declared.world.WorldEntry.TheVariants.{Came};
 ghost use Rattle.outside_world.specs.Comings.{MayCome};
-ghost use Rattle.outside_world.specs.Worlds.{HasSize, IsNewsTo, is_open, open_after_news};
+ghost use Rattle.outside_world.specs.Worlds.{HasSize, IsNewsTo, is_connected, open_after_news};
 
 use crate::{Happening, HappeningList, LONGEST_PIECE};
 
@@ -40,7 +40,7 @@ fn is_news(before: &[Happening], happening: &Happening) -> bool
 }
 
 fn is_open_after(before: &[Happening], conn: u32) -> bool
-    ensures { result ≡ is_open (map Came before.now) conn }
+    ensures { result ≡ is_connected (map Came before.now) conn }
 {
     let mut is_open = false;
     for happening in before {

@@ -6,7 +6,7 @@ ghost use Rattle.outside_world.specs.declared.world.WorldEntry.{WorldEntry};
 ghost use Rattle.outside_world.specs.declared.world.WorldEntry.TheVariants.{Came};
 ghost use Rattle.outside_world.specs.Comings.{MayCome};
 ghost use Rattle.outside_world.specs.Faults.{HasRisenBy};
-ghost use Rattle.outside_world.specs.Worlds.{HasOpening, HasSize, is_open, told_more};
+ghost use Rattle.outside_world.specs.Worlds.{HasOpening, HasSize, is_connected, told_more};
 ghost use Rattle.sp_outside.specs.Causes.{Rose};
 
 /// Rises of a count add up, and one failure is a rise by one.
@@ -24,11 +24,11 @@ pub fn entries_add_up()
 
 /// A connection is open after a log exactly where an `Opened` of it stands in the log and nothing after it has closed it.
 pub fn openings_stand_in_the_log()
-    ensures { (log : List WorldEntry) (c : ℕ) → IsTrue (is_open log c) ↔ HasOpening log c }
+    ensures { (log : List WorldEntry) (c : ℕ) → IsTrue (is_connected log c) ↔ HasOpening log c }
 {}
 
 /// Of happenings that may come each has its size, and one that opens a connection has a number that no connection has which opened before and isn't gone.
 pub fn happenings_that_may_come()
     ensures sizes { (before later : List Happening) (happening : Happening) → MayCome (before ++ happening ∷ later) → HasSize happening }
-    ensures numbers { (before later : List Happening) (c : ℕ) (peer : List ℕ) → MayCome (before ++ Opened c peer ∷ later) → is_open (map Came before) c ≡ false }
+    ensures numbers { (before later : List Happening) (c : ℕ) (peer : List ℕ) → MayCome (before ++ Opened c peer ∷ later) → is_connected (map Came before) c ≡ false }
 {}

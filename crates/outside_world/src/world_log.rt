@@ -1,6 +1,6 @@
 //! The log of a world in memory.
 ghost use Rattle.std.specs.Prelude.{◌≡◌, ◌≤◌, ◌<◌, ◌==◌, ◌+◌, ◌++◌, ◌∷◌, [], ℕ, false, if◌then◌else◌, IsTrue, OnErr, OnOk, length, option_copied, slice_get, vec_capacity};
-ghost use Rattle.outside_world.specs.Comings.{is_among};
+ghost use Rattle.outside_world.specs.Comings.{has_connection};
 ghost use Rattle.outside_world.specs.Worlds.{open_after, shut_entries};
 
 use crate::{Happening, WorldEntry};
@@ -82,7 +82,7 @@ impl WorldLog {
 
 // Makes the numbers of open connections those after an entry.
 fn follow(opened: &mut Vec<u32>, entry: &WorldEntry) -> Mem<()>
-    ensures ok { OnOk result ((c : ℕ) → is_among c opened.new.items ≡ open_after c (is_among c opened.old.items) entry.now) }
+    ensures ok { OnOk result ((c : ℕ) → has_connection c opened.new.items ≡ open_after c (has_connection c opened.old.items) entry.now) }
     ensures few { OnOk result (length opened.new.items ≤ length opened.old.items + 1) }
     ensures err { OnErr result (opened.new.items ≡ opened.old.items) }
 {
@@ -97,9 +97,9 @@ fn follow(opened: &mut Vec<u32>, entry: &WorldEntry) -> Mem<()>
 
 // Takes a number out.
 fn take_out(opened: &mut Vec<u32>, conn: u32)
-    ensures left { (c : ℕ) → is_among c opened.new.items ≡ (if conn == c then false else is_among c opened.old.items) }
+    ensures left { (c : ℕ) → has_connection c opened.new.items ≡ (if conn == c then false else has_connection c opened.old.items) }
     ensures few { length opened.new.items ≤ length opened.old.items }
-    ensures fewer { IsTrue (is_among conn opened.old.items) → length opened.new.items < length opened.old.items }
+    ensures fewer { IsTrue (has_connection conn opened.old.items) → length opened.new.items < length opened.old.items }
 {
     opened.retain(|number| *number != conn);
 }

@@ -11,3 +11,4 @@ pub mod SeenAloneLemmas
 pub mod GoodLemmas
 pub mod CauseLemmas
 mod KindLemmas
+pub mod CaseLemmas

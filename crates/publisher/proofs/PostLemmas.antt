@@ -49,7 +49,7 @@ posted_keeps : (tree : Content) (ask : Ask) (answer : MapAnswer) → (posted_ans
 posted_keeps tree ask (Inside text) one other = outcome_keeps tree (posting tree ask text) one other
 posted_keeps tree ask (Away status target) one other = refl
 
-post_is : (tree : Content) (ask : Ask) → is_post ask.method ≡ true → answer_to_request tree ask ≡ posted_answer tree ask (mapping tree ask)
+pub post_is : (tree : Content) (ask : Ask) → is_post ask.method ≡ true → answer_to_request tree ask ≡ posted_answer tree ask (mapping tree ask)
 unfolding answer_to_request
 post_is tree ask post =
     ap (λ b. cond b (mapped_answer tree (mapping tree ask)) (cond (is_post ask.method) (posted_answer tree ask (mapping tree ask)) (error_answer 405))) (post_is_no_read ask.method post)

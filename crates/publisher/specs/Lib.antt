@@ -8,3 +8,4 @@ pub mod Rendering
 pub mod Kept
 pub mod SeenAlone
 pub mod PostLaws
+pub mod Cases

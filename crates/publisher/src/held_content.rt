@@ -16,7 +16,6 @@ use sp_base::{Answer, Ask, Mem};
 use std::alloc::Global;
 use std::hash::RandomState;
 use std::marker::Model;
-use std::mem;
 use url_maps::{MapAnswer, MapIndex};
 use url_split::Parts;
 
@@ -50,16 +49,6 @@ impl HeldContent {
             templates: Templates::new(alloc, seeds),
             index: None,
         }
-    }
-
-    /// Puts another tree in the place of the one that is held, which is given back. What was kept beside the old one is forgotten.
-    pub(crate) fn replace(&mut self, tree: Tree) -> Tree
-        ensures old { result ≡ self.old.tree }
-        ensures new { self.new.tree ≡ tree }
-    {
-        self.templates.forget_all();
-        self.index = None;
-        mem::replace(&mut self.tree, tree)
     }
 
     pub(crate) fn tree(&self) -> &Tree

@@ -3,6 +3,7 @@ ghost use Rattle.std.specs.Prelude.{◌≡◌, ◌≢◌, ◌≤◌, ◌<◌, �
 ghost use Rattle.sp_base.specs.Limits.{most_rendered_bytes};
 ghost use Rattle.sp_base.specs.MediaTypes.{is_kind};
 ghost use Rattle.sp_base.specs.Paths.{text_of};
+ghost use Rattle.sp_base.specs.declared.answer.Answer.{Answer};
 ghost use Rattle.sp_base.specs.declared.answer.Ask.{Ask};
 ghost use Rattle.resource_tree.specs.Content.{Content, IsGood};
 ghost use Rattle.overlay_merge.specs.Merged.{has_resource};
@@ -17,12 +18,13 @@ ghost use Rattle.htl_text.specs.declared.piece.TemplatePiece.{TemplatePiece};
 ghost use Rattle.htl_text.specs.Spelling.{SpellsTemplate};
 ghost use Rattle.htl_text.specs.Template.{template_output as written_by};
 ghost use Rattle.error_answers.specs.Errors.{error_answer};
+ghost use Rattle.publisher.specs.Cases.{IsAnswer};
 ghost use Rattle.publisher.specs.Errors.{redirect};
 ghost use Rattle.publisher.specs.PostLaws.{PostsAreRefusedForCauses, RequestsKeepContentGood};
 ghost use Rattle.publisher.specs.Rendering.{content_after_request, is_post, is_read, answer_to_request, scope_of, seen_resources};
 
 use form_input::forms_are_refused_for_causes;
-use get_servlet::streams_have_media_types;
+use get_servlet::{over_is_the_greatest_depth, streams_have_media_types};
 use htl_text::the_pieces_are_the_text;
 use post_apply::{operations_keep_content_good, refusals_have_causes};
 use post_plan::operations_name_paths;
@@ -112,4 +114,18 @@ pub fn a_script_writes_its_pieces()
     search_finds_the_first();
     one_script_is_first();
     the_pieces_are_the_text();
+}
+
+/// The answer to a request is the one of the cases of `specs/Cases.antt` that applies, and none of the others applies with another answer:
+/// what the publisher answers, by relations alone.
+pub fn an_answer_is_one_of_the_cases()
+    ensures is { (tree : Content) (ask : Ask) → IsGood tree → IsAnswer tree ask (answer_to_request tree ask) }
+    ensures only { (tree : Content) (ask : Ask) (answer : Answer) → IsGood tree → IsAnswer tree ask answer → answer ≡ answer_to_request tree ask }
+{
+    the_answer_is_mapped();
+    the_split_is_the_longest();
+    search_finds_the_first();
+    one_script_is_first();
+    the_pieces_are_the_text();
+    over_is_the_greatest_depth();
 }

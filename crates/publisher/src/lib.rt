@@ -20,9 +20,9 @@ mod targets;
 mod templates;
 
 pub use laws::{
-    a_script_writes_its_pieces, kinds_are_short, posts_are_refused_for_causes,
-    reads_change_nothing, reads_depend_on_host_port_and_path, refusals_change_nothing,
-    representations_fit, requests_keep_content_good, statuses_are_short,
+    a_script_writes_its_pieces, an_answer_is_one_of_the_cases, kinds_are_short,
+    posts_are_refused_for_causes, reads_change_nothing, reads_depend_on_host_port_and_path,
+    refusals_change_nothing, representations_fit, requests_keep_content_good, statuses_are_short,
     what_leads_away_is_a_redirect,
 };
 pub use serving::Publisher;

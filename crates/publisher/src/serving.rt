@@ -35,14 +35,6 @@ impl Publisher {
         }
     }
 
-    /// Puts another tree in the place of the publisher's, which is given back. What was kept beside the old one is forgotten.
-    pub fn replace(&mut self, tree: Tree) -> Tree
-        ensures old { result ≡ self.old }
-        ensures new { self.new ≡ tree }
-    {
-        self.held.replace(tree)
-    }
-
     pub fn tree(&self) -> &Tree
         ensures { result.now ≡ self.now }
     {

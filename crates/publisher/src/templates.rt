@@ -1,4 +1,4 @@
-// The templates of scripts, each read once and kept until a POST changes its text, or another tree comes.
+// The templates of scripts, each read once and kept until a POST changes its text.
 ghost use Rattle.std.specs.Prelude.{◌≡◌, ◌⊎◌, cond, List, ℕ, [], Some, None, IfOk, option_copied};
 ghost use Rattle.resource_tree.specs.Content.{same_path};
 ghost use Rattle.publisher.specs.declared.templates.Reading.{Reading};
@@ -65,12 +65,6 @@ impl Templates {
         ensures { (path : List (List ℕ)) → reading_at self.new path ≡ cond (same_path script.now path) None (reading_at self.old path) }
     {
         drop(self.readings.remove(script));
-    }
-
-    pub(crate) fn forget_all(&mut self)
-        ensures { self.new ≡ [] }
-    {
-        self.readings.clear();
     }
 }
 

@@ -12,7 +12,7 @@ use Rattle.cover_rules.specs.declared.invalidation.Action.{Action}
 use Rattle.cover_rules.specs.declared.invalidation.Action.TheVariants.{Activate, Deactivate, Delete}
 use Rattle.replay_text.specs.Lines.{newlines}
 use Rattle.replay_text.specs.Transcript.{hex, quoted_byte, quotation, action_text, IsConnectionNumber}
-use Rattle.replay_text.specs.EventLines.{is_target, flight_text, scope_text, flushed_text, way_text, line_of, IsFlight, IsEventLine}
+use Rattle.replay_text.specs.EventLines.{is_target, flight_text, scope_text, flushed_text, way_text, line_of, IsFlightText, IsEventLine}
 use Rattle.replay_text.specs.declared.event_line.EventLine.{EventLine}
 use Rattle.replay_text.specs.declared.event_line.EventLine.TheVariants.{Direct, Open, Close, Bytes, Get, Post, Flush, Render, Deliver, Lose, Purge, Restart, Fail}
 use Rattle.replay_text.specs.declared.event_line.Flight.{Flight}
@@ -79,7 +79,7 @@ newlines-quotation bytes = omega (arith, newlines-append (flat_map quoted_byte b
 newlines-connection : (c : ℕ) (rest : List ℕ) → IsConnectionNumber c → newlines rest ≡ 0 → newlines (decimal c ++ 32 ∷ rest) ≡ 0
 newlines-connection c rest is none = newlines-append (decimal c) (32 ∷ rest) ∙ omega (arith, newlines-decimal c (omega (arith, is)), none)
 
-newlines-flight : (f : Flight) → IsFlight f → newlines (flight_text f) ≡ 0
+newlines-flight : (f : Flight) → IsFlightText f → newlines (flight_text f) ≡ 0
 newlines-flight First is = refl
 newlines-flight (Numbered n) is = newlines-decimal n (omega (arith, is.1))
 
@@ -130,7 +130,7 @@ newlines-line_of (Fail n way) is = omega (arith, newlines-failing n way is.1)
 one_connection : (c d : ℕ) (r s : List ℕ) → IsConnectionNumber c → IsConnectionNumber d → decimal c ++ 32 ∷ r ≡ decimal d ++ 32 ∷ s → (c ≡ d) × (r ≡ s)
 one_connection c d r s p q e = one_number 32 c d r s refl (omega (arith, p)) (omega (arith, q)) e
 
-one_flight : (f g : Flight) → IsFlight f → IsFlight g → flight_text f ≡ flight_text g → f ≡ g
+one_flight : (f g : Flight) → IsFlightText f → IsFlightText g → flight_text f ≡ flight_text g → f ≡ g
 one_flight First First p q e = refl
 one_flight First (Numbered n) p q e = absurd (decimal_not_first n (omega (arith, q.1)) e)
 one_flight (Numbered n) First p q e = absurd (decimal_not_first n (omega (arith, p.1)) (sym e))

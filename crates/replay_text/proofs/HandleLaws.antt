@@ -5,7 +5,7 @@ use Rattle.std.proofs.lemmas.Grind.{flat_map-append}
 use Rattle.std.proofs.lemmas.List.{append-nil, take_all, take_more}
 use Rattle.sp_base.specs.Paths.{is_namespaced, is_path, mangled_seg, mangled_segs, text_of, unmangled_segs}
 use Rattle.sp_base.specs.PathTexts.{spelling_of, lack_slashes, segs_in}
-use Rattle.replay_text.specs.Transcript.{IsHandle}
+use Rattle.run_events.specs.Named.{IsHandle}
 
 -- two handles of requests have two texts
 abbrev pub HandlesTell : Type 0

@@ -9,13 +9,14 @@ use Rattle.cover_rules.specs.Pages.{page_text}
 use Rattle.cover_rules.specs.declared.page.PageKey.{PageKey}
 use Rattle.cover_rules.specs.declared.invalidation.Action.{Action}
 use Rattle.cover_rules.specs.declared.invalidation.Invalidation.{Invalidation}
-use Rattle.replay_text.specs.Transcript.{quotation, quotation_or_dash, mark_text, answer_text, key_text, action_text, scope_word, invalidation_text, IsHandle, IsPage}
+use Rattle.replay_text.specs.Transcript.{quotation, quotation_or_dash, mark_text, answer_text, key_text, action_text, scope_word, invalidation_text}
 use Rattle.replay_text.proofs.Escapes.{one_quoted}
 use Rattle.replay_text.proofs.EventLaws.{action_no_blank, one_action}
 use Rattle.replay_text.proofs.HandleLaws.{HandlesTell}
 use Rattle.replay_text.proofs.NumberLemmas.{one_number}
 use Rattle.replay_text.proofs.PageLaws.{KeysTell}
 use Rattle.replay_text.proofs.WordLemmas.{one_first_word}
+use Rattle.run_events.specs.Named.{IsPage, IsHandle}
 
 -- a text that stands for another, or a dash where that is empty
 abbrev dash_or : List ℕ → List ℕ → List ℕ

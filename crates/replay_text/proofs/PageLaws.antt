@@ -6,8 +6,8 @@ use Rattle.sp_base.specs.Paths.{is_path, mangled_segs, name_of, parent_of, piece
 use Rattle.sp_base.specs.PathTexts.{spelling_of, lack_slashes, segs_in}
 use Rattle.cover_rules.specs.Pages.{is_page, key_at, page_key_of, page_path, page_text}
 use Rattle.cover_rules.specs.declared.page.PageKey.{PageKey}
-use Rattle.replay_text.specs.Transcript.{IsPage}
 use Rattle.replay_text.proofs.NumberLemmas.{both_true}
+use Rattle.run_events.specs.Named.{IsPage}
 
 -- two keys of pages have two texts
 abbrev pub KeysTell : Type 0

@@ -14,7 +14,7 @@ use Rattle.std.specs.Fmt.{decimal}
 use Rattle.replay_text.specs.Transcript.{IsConnectionNumber}
 use Rattle.sp_base.specs.Bytes.{is_visible_ascii}
 use Rattle.replay_text.specs.Quoting.{not_blank, connection_text}
-use Rattle.replay_text.specs.EventLines.{is_target, flight_text, IsFlight}
+use Rattle.replay_text.specs.EventLines.{is_target, flight_text, IsFlightText}
 use Rattle.replay_text.specs.declared.event_line.Flight.{Flight}
 use Rattle.replay_text.specs.declared.event_line.Flight.TheVariants.{First, Numbered}
 
@@ -55,7 +55,7 @@ one_first_word (x ∷ a) (y ∷ b) r s p q e =
 
 -- a word names no flight
 pub no_flight : (word : List ℕ) → (word ≡ codes "first" → ⊥) → ((n : ℕ) → 1 ≤ n → n < 18446744073709551616 → word ≡ decimal n → ⊥)
-    → (f : Flight) → IsFlight f → word ≡ flight_text f → ⊥
+    → (f : Flight) → IsFlightText f → word ≡ flight_text f → ⊥
 no_flight word not_first none First is e = not_first e
 no_flight word not_first none (Numbered n) is e = none n is.0 is.1 e
 

@@ -56,9 +56,9 @@ abbrev pub IsCallNumber : ℕ → Type 0
 IsCallNumber n = (1 ≤ n) × (n < 18446744073709551616)
 
 -- flights are numbered from 1, in 64 bits
-abbrev pub IsFlight : Flight → Type 0
-IsFlight First = Unit {0}
-IsFlight (Numbered n) = (1 ≤ n) × IsFlightNumber n
+abbrev pub IsFlightText : Flight → Type 0
+IsFlightText First = Unit {0}
+IsFlightText (Numbered n) = (1 ≤ n) × IsFlightNumber n
 
 -- what it asks for can be asked for: peers, targets and handles are visible bytes, and a piece has some bytes
 abbrev pub IsEventLine : EventLine → Type 0
@@ -69,9 +69,9 @@ IsEventLine (Bytes c bytes) = IsConnectionNumber c × AreBytes bytes × (bytes �
 IsEventLine (Get c target) = IsConnectionNumber c × IsTrue (is_target target)
 IsEventLine (Post c target body) = IsConnectionNumber c × IsTrue (is_target target) × AreBytes body
 IsEventLine (Flush c action handle only) = IsConnectionNumber c × IsTrue (is_target handle)
-IsEventLine (Render flight) = IsFlight flight
-IsEventLine (Deliver flight) = IsFlight flight
-IsEventLine (Lose flight) = IsFlight flight
+IsEventLine (Render flight) = IsFlightText flight
+IsEventLine (Deliver flight) = IsFlightText flight
+IsEventLine (Lose flight) = IsFlightText flight
 IsEventLine Purge = Unit {0}
 IsEventLine Restart = Unit {0}
 IsEventLine (Fail n way) = IsCallNumber n

@@ -6,7 +6,7 @@ use Rattle.sp_base.specs.Bytes.{AreBytes, is_printable_ascii}
 use Rattle.sp_outside.specs.declared.mem_disk.Way.{Way}
 use Rattle.cover_rules.specs.declared.invalidation.Action.{Action}
 use Rattle.replay_text.specs.Transcript.{quoted_byte, quotation, IsConnectionNumber}
-use Rattle.replay_text.specs.EventLines.{is_target, IsFlight, IsCallNumber, flight_text, flushed_text, way_text}
+use Rattle.replay_text.specs.EventLines.{is_target, IsFlightText, IsCallNumber, flight_text, flushed_text, way_text}
 use Rattle.replay_text.specs.declared.event_line.Flight.{Flight}
 
 -- the number that a hexadecimal digit stands for
@@ -82,7 +82,7 @@ IsNoFail line = (n : ℕ) (way : Way) → IsCallNumber n → line ≢ connection
 
 -- a word and a flight
 abbrev pub IsNoFlightOf : List ℕ → List ℕ → Type 0
-IsNoFlightOf word line = (flight : Flight) → IsFlight flight → line ≢ word ++ flight_text flight
+IsNoFlightOf word line = (flight : Flight) → IsFlightText flight → line ≢ word ++ flight_text flight
 
 -- the line is of no connection
 pub record IsOfNoConnection (line : List ℕ) : Type 0 where

@@ -14,6 +14,7 @@ use Rattle.cover_rules.specs.declared.invalidation.Action.TheVariants.{Activate,
 use Rattle.run_events.specs.declared.note.Failure.TheVariants.{Disk}
 use Rattle.run_events.specs.declared.note.Note.{Note}
 use Rattle.run_events.specs.declared.note.Note.TheVariants.{Answer as answered, Ask, Hit, Local, Flush, Sliced, Done, Failed, Rendered, Kept, Unkept, Passed, Lost, Sent, Shut, Refused, Idle, Up, Down, Hurt, Dry}
+use Rattle.run_events.specs.Named.{IsPage, IsHandle}
 
 -- a hexadecimal digit, in lower case
 abbrev pub hex : ℕ → ℕ
@@ -124,15 +125,6 @@ connection_numbers = 4294967296
 -- numbers of connections have 32 bits
 abbrev pub IsConnectionNumber : ℕ → Type 0
 IsConnectionNumber c = c < connection_numbers
-
--- a key is that of the page at some path
-abbrev pub IsPage : Option PageKey → Type 0
-IsPage None = Unit {0}
-IsPage (Some key) = (path : List (List ℕ)) × IsTrue (is_path path) × (page_key_of path ≡ Some key)
-
--- the handle is that of a request: a path with its namespace prefixes as they stand in the repository
-abbrev pub IsHandle : List (List ℕ) → Type 0
-IsHandle handle = (path : List (List ℕ)) × IsTrue (is_path path) × (handle ≡ unmangled_segs path)
 
 -- The numbers of the note fit, its key is one of a page, and its handle one of a request. Without the second two keys may have one text: a file `b/c.html` in
 -- `/a`, and a file `c.html` in `/a/b`.

@@ -3,7 +3,7 @@ ghost use Rattle.std.specs.Prelude.{◌≡◌, ◌≢◌, ◌≤◌, ◌<◌, �
 ghost use Rattle.std.specs.List.{list_all};
 ghost use Rattle.std.specs.Fmt.{decimal};
 ghost use Rattle.replay_text.specs.Transcript.{IsConnectionNumber};
-ghost use Rattle.replay_text.specs.EventLines.{flight_text, IsFlight};
+ghost use Rattle.replay_text.specs.EventLines.{flight_text, IsFlightText};
 ghost use Rattle.replay_text.specs.Quoting.{not_blank, connection_text};
 
 use crate::event_line::Flight;
@@ -75,8 +75,8 @@ pub fn number_from_one(alloc: Global, word: &[u8]) -> Mem<Option<u64>>
 
 // The flight that a word names.
 fn flight(alloc: Global, word: &[u8]) -> Mem<Option<Flight>>
-    ensures some { IfOk result (λ o. IfSome o (λ f. IsFlight f × (word.now ≡ flight_text f))) }
-    ensures none { IfOk result (λ o. IfNone o ((f : Flight) → IsFlight f → word.now ≢ flight_text f)) }
+    ensures some { IfOk result (λ o. IfSome o (λ f. IsFlightText f × (word.now ≡ flight_text f))) }
+    ensures none { IfOk result (λ o. IfNone o ((f : Flight) → IsFlightText f → word.now ≢ flight_text f)) }
 {
     if same(word, b"first") {
         return Ok(Some(Flight::First));
@@ -97,8 +97,8 @@ pub fn after_word<'a>(line: &'a [u8], word: &[u8]) -> Option<&'a [u8]>
 
 // A flight after a word that is the line's beginning.
 pub fn flight_after(alloc: Global, line: &[u8], word: &[u8]) -> Mem<Option<Flight>>
-    ensures some { IfOk result (λ o. IfSome o (λ f. IsFlight f × (line.now ≡ word.now ++ flight_text f))) }
-    ensures none { IfOk result (λ o. IfNone o ((f : Flight) → IsFlight f → line.now ≢ word.now ++ flight_text f)) }
+    ensures some { IfOk result (λ o. IfSome o (λ f. IsFlightText f × (line.now ≡ word.now ++ flight_text f))) }
+    ensures none { IfOk result (λ o. IfNone o ((f : Flight) → IsFlightText f → line.now ≢ word.now ++ flight_text f)) }
 {
     match after_word(line, word) {
         Some(rest) => flight(alloc, rest),

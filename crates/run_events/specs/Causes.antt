@@ -55,8 +55,3 @@ Spoils w _ = ⊥
 abbrev pub SpoilAtMost : ℕ → RunState → List Note → Type 0
 SpoilAtMost n w [] = Unit {0}
 SpoilAtMost n w (note ∷ notes) = ((Spoils w note → ⊥) × SpoilAtMost n (state_after_note w note) notes) ⊎ ((m : ℕ) × (n ≡ m + 1) × SpoilAtMost m (state_after_note w note) notes)
-
--- the disk is said to have failed exactly where its count of faults rose
-abbrev pub IsDiskFailure : ℕ → ℕ → Bool → Type 0
-IsDiskFailure before after true = Rose before after
-IsDiskFailure before after false = after ≡ before

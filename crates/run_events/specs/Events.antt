@@ -25,7 +25,8 @@ use Rattle.run_events.specs.States.{RunState}
 use Rattle.run_events.specs.Points.{call_conditions, key_of}
 use Rattle.run_events.specs.Moves.{GivesSlice, Settles, state_after_note, state_after_notes, on_connection, has_number, published_for}
 use Rattle.run_events.specs.Restarts.{Restarts, without_connections}
-use Rattle.run_events.specs.Causes.{IsDiskFailure, ShowsIfOutOfMemory, SpoilAtMost}
+use Rattle.run_events.specs.Causes.{ShowsIfOutOfMemory, SpoilAtMost}
+use Rattle.sp_outside.specs.Causes.{IsDiskFailure}
 
 -- An event: its step, its notes but for those that name what it ran under, and that. Of a piece it tells which further turns its
 -- connection's stream now spells, and how they end.

@@ -1,6 +1,7 @@
 pub mod Publishers
 pub mod States
 pub mod Points
+pub mod Named
 pub mod Moves
 pub mod Restarts
 pub mod Causes

@@ -14,7 +14,7 @@ use Rattle.http_front.specs.Answers.{fixed_507}
 use Rattle.http_front.specs.Faults.{fault_status, insufficient_storage}
 use Rattle.http_front.specs.declared.turn.Turn.{Turn}
 use Rattle.http_front.specs.declared.turn.Turn.TheVariants.{Continue, Whole}
-use Rattle.cache_log.specs.Entries.{LogEntry, Asked, Landed, Lost as lost_entry, Begun, Sliced as sliced_entry, Ended, Hit as hit_entry, Up as up_entry, Down as down_entry, Fate, Kept as kept_fate, Unkept as unkept_fate, Passed as passed_fate, Outcome, Done as done_outcome, Failed as failed_outcome}
+use Rattle.cache_log.specs.Entries.{LogEntry, Asked, Landed, Lost as lost_entry, Begun, Sliced as sliced_entry, Ended, Hit as hit_entry, Up as up_entry, Down as down_entry, Fate, Kept as kept_fate, Unkept as unkept_fate, Passed as passed_fate, FlushOutcome, Done as done_outcome, Failed as failed_outcome}
 use Rattle.cache_log.specs.Ids.{FlightId, FlushId}
 use Rattle.connections.specs.declared.awaited.Awaited.TheVariants.{Flight as flight_awaited, Flush as flush_awaited}
 use Rattle.connections.specs.Slots.{Slot, Response, Awaits, Cached, Says, IsWritten, local_response, request_slot, fault_slot, fixed_answer}
@@ -39,12 +39,12 @@ abbrev pub has_number : FlightId → Flying → Bool
 has_number number flying = nat_eq flying.number number
 
 -- the flight with this number
-abbrev pub flight_at : FlightId → List Flying → Option Flying
-flight_at number flights = find (has_number number) flights
+abbrev pub flying_at : FlightId → List Flying → Option Flying
+flying_at number flights = find (has_number number) flights
 
 -- the flights but for that one
-abbrev pub without : FlightId → List Flying → List Flying
-without number flights = filter (λ flying. not (has_number number flying)) flights
+abbrev pub air_without : FlightId → List Flying → List Flying
+air_without number flights = filter (λ flying. not (has_number number flying)) flights
 
 -- the flight is rendered
 abbrev pub with_rendered : Answer → Flying → Flying
@@ -169,7 +169,7 @@ state_after_flush w number c inv (Some request) =
     }
 
 -- a flush has ended, and its connection has this response
-abbrev pub state_after_ending : RunState → FlushId → Outcome → Response → Option Flushing → RunState
+abbrev pub state_after_ending : RunState → FlushId → FlushOutcome → Response → Option Flushing → RunState
 state_after_ending w number outcome response None = w
 state_after_ending w number outcome response (Some flush) =
     record w {
@@ -192,7 +192,7 @@ over_with w number answer entry None = w
 over_with w number answer entry (Some flying) =
     record w {
       connection = update nat_eq w.connection flying.connection (option_map (with_end (flight_awaited number) (Says answer)) (w.connection flying.connection));
-      flights = without number w.flights;
+      flights = air_without number w.flights;
       log = entry ∷ w.log;
     }
 
@@ -227,11 +227,11 @@ state_after_note w (Flush number c inv) = state_after_flush w number c inv (trea
 state_after_note w (Sliced number) = record w { slicing = None; log = sliced_entry number ∷ w.log }
 state_after_note w (Done number) = state_after_ending w number done_outcome (Says (error_answer 200)) (flush_at number w.flushes)
 state_after_note w (Failed number failure) = state_after_ending w number failed_outcome (Says (error_answer (failure_status failure))) (flush_at number w.flushes)
-state_after_note w (Rendered number answer) = record w { content = content_rendered w answer (flight_at number w.flights); flights = map (with_rendered_at number answer) w.flights }
-state_after_note w (Kept number key) = state_after_landing w number kept_fate (flight_at number w.flights)
-state_after_note w (Unkept number) = state_after_landing w number unkept_fate (flight_at number w.flights)
-state_after_note w (Passed number) = state_after_landing w number passed_fate (flight_at number w.flights)
-state_after_note w (Lost number) = over_with w number (error_answer 502) (lost_entry number) (flight_at number w.flights)
+state_after_note w (Rendered number answer) = record w { content = content_rendered w answer (flying_at number w.flights); flights = map (with_rendered_at number answer) w.flights }
+state_after_note w (Kept number key) = state_after_landing w number kept_fate (flying_at number w.flights)
+state_after_note w (Unkept number) = state_after_landing w number unkept_fate (flying_at number w.flights)
+state_after_note w (Passed number) = state_after_landing w number passed_fate (flying_at number w.flights)
+state_after_note w (Lost number) = over_with w number (error_answer 502) (lost_entry number) (flying_at number w.flights)
 state_after_note w (Sent c bytes) = on_connection w c (with_sent bytes)
 state_after_note w (Shut c) = record w { connection = update nat_eq w.connection c None; connection_count = w.connection_count - 1 }
 state_after_note w (Up epoch) = record w { log = up_entry epoch ∷ w.log }

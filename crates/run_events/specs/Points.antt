@@ -18,6 +18,8 @@ use Rattle.run_events.specs.declared.conditions.Conditions.{Conditions}
 use Rattle.run_events.specs.declared.note.Note.{Note}
 use Rattle.run_events.specs.declared.note.Note.TheVariants.{Ask as asked, Hit, Local, Flush}
 use Rattle.run_events.specs.States.{RunState}
+use Rattle.cache_log.specs.Limits.{most_flushes, most_stamps}
+use Rattle.flights.specs.Flights.{most_flights}
 
 -- a call of the cache that ran under all of it, and whether it is a restart's
 abbrev pub call_conditions : Conditions → Bool → CallConditions
@@ -45,18 +47,6 @@ points = Crowded ∷ Fallen ∷ Invalidating ∷ Hidden ∷ Held ∷ Full ∷ Fr
 abbrev pub is_crowded_if_open : Option Connection → Bool
 is_crowded_if_open None = false
 is_crowded_if_open (Some c) = is_crowded c
-
--- the most flights in the air
-abbrev pub most_flights : ℕ
-most_flights = 256
-
--- the most unfinished flushes
-abbrev pub most_flushes : ℕ
-most_flushes = 256
-
--- the most stamps that are drawn in a session, one for each flight and one for each flush
-abbrev pub most_stamps : ℕ
-most_stamps = 2 ^ 63
 
 -- no further stamp is drawn
 abbrev pub are_stamps_drawn : RunState → Bool

@@ -53,13 +53,13 @@ start_of s = record {
 -- ---- what is so in every run
 
 -- the numbers of the flights rise, all above the one and none above the other
-abbrev pub AreRising : ℕ → List Flying → ℕ → Type 0
-AreRising least [] most = least ≤ most
-AreRising least (flying ∷ flights) most = (least < flying.number) × AreRising flying.number flights most
+abbrev pub AirRises : ℕ → List Flying → ℕ → Type 0
+AirRises least [] most = least ≤ most
+AirRises least (flying ∷ flights) most = (least < flying.number) × AirRises flying.number flights most
 
 -- the flights in the air rise by number, and none has a higher number than were asked
 abbrev pub AreFlightsRising : RunState → Type 0
-AreFlightsRising w = AreRising 0 w.flights (flights_asked w.log)
+AreFlightsRising w = AirRises 0 w.flights (flights_asked w.log)
 
 -- the numbers rise, all above this one
 abbrev pub AreAbove : ConnectionId → List ConnectionId → Type 0

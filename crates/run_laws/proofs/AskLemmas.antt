@@ -8,7 +8,7 @@ use Rattle.sp_base.specs.Requests.{Request}
 use Rattle.cover_rules.specs.declared.page.PageKey.{PageKey}
 use Rattle.cover_rules.specs.declared.invalidation.Invalidation.{Invalidation}
 use Rattle.error_answers.specs.Errors.{error_answer}
-use Rattle.cache_log.specs.Entries.{Fate, LogEntry, Landed, Lost as lost_entry, Outcome, Done as done_outcome, Failed as failed_outcome, flights_asked}
+use Rattle.cache_log.specs.Entries.{Fate, LogEntry, Landed, Lost as lost_entry, FlushOutcome, Done as done_outcome, Failed as failed_outcome, flights_asked}
 use Rattle.connections.specs.Connections.{Connection, fresh, with_piece}
 use Rattle.connections.specs.Slots.{Response}
 use Rattle.run_events.specs.declared.conditions.Conditions.{Conditions}
@@ -18,8 +18,8 @@ use Rattle.run_events.specs.declared.note.Note.{Note}
 use Rattle.run_events.specs.declared.note.Note.TheVariants.{Ask as asked, Hit, Local, Flush, Sliced, Done, Failed, Rendered, Kept, Unkept, Passed, Lost, Sent, Shut, Refused, Idle, Up, Down}
 use Rattle.run_events.specs.declared.step.Step.{Step}
 use Rattle.run_events.specs.declared.step.Step.TheVariants as step
-use Rattle.run_events.specs.States.{AreFlightsRising, AreRising, RunState, Start, start_of}
-use Rattle.run_events.specs.Moves.{Serves, answer_in, due_of_connection, flight_at, flush_at, key_in, new_flight, on_connection, over_with, state_after_ask, state_after_ending, state_after_flush, state_after_hit, state_after_landing, state_after_note, state_after_notes, treated_request}
+use Rattle.run_events.specs.States.{AreFlightsRising, AirRises, RunState, Start, start_of}
+use Rattle.run_events.specs.Moves.{Serves, answer_in, due_of_connection, flying_at, flush_at, key_in, new_flight, on_connection, over_with, state_after_ask, state_after_ending, state_after_flush, state_after_hit, state_after_landing, state_after_note, state_after_notes, treated_request}
 use Rattle.run_events.specs.Restarts.{without_connections}
 use Rattle.run_events.specs.Events.{DeliverAs, DeliverTo, Event, HappensBy, LeadsNotes, LoseTo, PieceTo, PurgeTo, RenderTo, Run, after_event, going, is_any, is_rendered, is_unrendered, most_connections, opening, picked_flight, state_after_events, state_after_going, state_after_opening, state_before_notes}
 use Rattle.run_laws.proofs.NumberedLemmas.{Rising, rising-but, rising-push}
@@ -52,7 +52,7 @@ flush-numbered : (w : RunState) (v c : ℕ) (inv : Invalidation) (request : Opti
 flush-numbered w v c inv None numbered = numbered
 flush-numbered w v c inv (Some request) numbered = numbered
 
-ending-numbered : (w : RunState) (v : ℕ) (outcome : Outcome) (response : Response) (at : Option Flushing) → Numbered w → Numbered (state_after_ending w v outcome response at)
+ending-numbered : (w : RunState) (v : ℕ) (outcome : FlushOutcome) (response : Response) (at : Option Flushing) → Numbered w → Numbered (state_after_ending w v outcome response at)
 ending-numbered w v outcome response None numbered = numbered
 ending-numbered w v outcome response (Some f) numbered = numbered
 
@@ -72,10 +72,10 @@ note-numbered w (Sliced v) next numbered = numbered
 note-numbered w (Done v) next numbered = ending-numbered w v done_outcome _ (flush_at v w.flushes) numbered
 note-numbered w (Failed v failure) next numbered = ending-numbered w v failed_outcome _ (flush_at v w.flushes) numbered
 note-numbered w (Rendered n answer) next numbered = rendered-rising n answer 0 w.flights (flights_asked w.log) numbered
-note-numbered w (Kept n key) next numbered = landing-numbered w n _ (flight_at n w.flights) numbered
-note-numbered w (Unkept n) next numbered = landing-numbered w n _ (flight_at n w.flights) numbered
-note-numbered w (Passed n) next numbered = landing-numbered w n _ (flight_at n w.flights) numbered
-note-numbered w (Lost n) next numbered = over-numbered w n (error_answer 502) (lost_entry n) (flight_at n w.flights) refl numbered
+note-numbered w (Kept n key) next numbered = landing-numbered w n _ (flying_at n w.flights) numbered
+note-numbered w (Unkept n) next numbered = landing-numbered w n _ (flying_at n w.flights) numbered
+note-numbered w (Passed n) next numbered = landing-numbered w n _ (flying_at n w.flights) numbered
+note-numbered w (Lost n) next numbered = over-numbered w n (error_answer 502) (lost_entry n) (flying_at n w.flights) refl numbered
 note-numbered w (Sent c bytes) next numbered = numbered
 note-numbered w (Shut c) next numbered = numbered
 note-numbered w (Up epoch) next numbered = numbered
@@ -200,11 +200,11 @@ run-numbered w [] numbered run = numbered
 run-numbered w (e ∷ events) numbered run = run-numbered (after_event w e) events (step-numbered w e e.step numbered run.0.0) run.1
 
 -- the flight that is picked is the one with its number
-pub picked-there : (w : RunState) (test : Flying → Bool) (f : Flying) → Numbered w → find test w.flights ≡ Some f → flight_at f.number w.flights ≡ Some f
+pub picked-there : (w : RunState) (test : Flying → Bool) (f : Flying) → Numbered w → find test w.flights ≡ Some f → flying_at f.number w.flights ≡ Some f
 picked-there w test f numbered found = (picked-at w.flights 0 (flights_asked w.log) test f numbered found).0
 
 -- ---- the law
-pub are-rising : (least : ℕ) (flights : List Flying) (most : ℕ) → Rising flight_number least flights most → AreRising least flights most
+pub are-rising : (least : ℕ) (flights : List Flying) (most : ℕ) → Rising flight_number least flights most → AirRises least flights most
 are-rising least [] most rising = rising
 are-rising least (f ∷ flights) most rising = (rising.0, are-rising f.number flights most rising.1)
 

@@ -20,7 +20,7 @@ use Rattle.run_events.specs.declared.note.Note.{Note}
 use Rattle.run_events.specs.declared.note.Note.TheVariants.{Ask as asked, Hit, Flush, Sliced, Done, Failed, Kept, Unkept, Passed, Lost, Up, Down}
 use Rattle.run_events.specs.States.{RunState}
 use Rattle.run_events.specs.Points.{AnswersFlush, AnswersInvalidation, BeginsFlush, IsFirstPoint, IsPermitted, call_conditions, is_full_of_flushes, key_of, peer_of, points}
-use Rattle.run_events.specs.Moves.{GivesDue, GivesNext, GivesSlice, due_of_connection, flight_at, state_after_note, treated_request}
+use Rattle.run_events.specs.Moves.{GivesDue, GivesNext, GivesSlice, due_of_connection, flying_at, state_after_note, treated_request}
 use Rattle.run_laws.proofs.SoundLemmas.{IsSlicing, Sound}
 
 -- the state of the run is sound
@@ -68,14 +68,14 @@ pub record FlushComes (w : RunState) (v c : ℕ) (inv : Invalidation) : Type 0 w
 -- a flight that was rendered lands
 pub record LandingComes (w : RunState) (n : ℕ) (May : Option PageKey → Answer → Type 0) : Type 0 where
   pub flight : Flying
-  pub at : flight_at n w.flights ≡ Some flight
+  pub at : flying_at n w.flights ≡ Some flight
   pub answer : Answer
   pub rendered : flight.rendered ≡ Some answer
   pub may : May (key_of w flight.request) answer
 
 pub record LossComes (w : RunState) (n : ℕ) : Type 0 where
   pub flight : Flying
-  pub at : flight_at n w.flights ≡ Some flight
+  pub at : flying_at n w.flights ≡ Some flight
 
 abbrev pub Comes : Conditions → RunState → Note → Type 0
 Comes m w (asked number c key) = AskComes m w number c key × (w.slicing ≡ None)

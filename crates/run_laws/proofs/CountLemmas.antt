@@ -10,7 +10,7 @@ use Rattle.sp_base.specs.Requests.{Request}
 use Rattle.cover_rules.specs.declared.page.PageKey.{PageKey}
 use Rattle.cover_rules.specs.declared.invalidation.Invalidation.{Invalidation}
 use Rattle.http_front.specs.declared.turn.Turn.TheVariants.{Continue, Whole}
-use Rattle.cache_log.specs.Entries.{LogEntry, Outcome}
+use Rattle.cache_log.specs.Entries.{LogEntry, FlushOutcome}
 use Rattle.connections.specs.Slots.{Response}
 use Rattle.connections.specs.Connections.{Close, Connection, Due, Nothing, Refuse, Send, Treat, fresh, with_piece}
 use Rattle.run_events.specs.declared.conditions.Conditions.{Conditions}
@@ -20,7 +20,7 @@ use Rattle.run_events.specs.declared.note.Note.{Note}
 use Rattle.run_events.specs.declared.note.Note.TheVariants.{Ask as asked, Hit, Local, Flush, Sliced, Done, Failed, Rendered, Kept, Unkept, Passed, Lost, Sent, Shut, Refused, Idle, Up, Down}
 use Rattle.run_events.specs.declared.step.Step.{Step}
 use Rattle.run_events.specs.declared.step.Step.TheVariants as step
-use Rattle.run_events.specs.Moves.{GivesDue, GivesNext, Serves, due_if_open, due_of_connection, flight_at, flush_at, on_connection, over_with, state_after_ask, state_after_ending, state_after_flush, state_after_hit, state_after_note, state_after_notes, treated_request}
+use Rattle.run_events.specs.Moves.{GivesDue, GivesNext, Serves, due_if_open, due_of_connection, flying_at, flush_at, on_connection, over_with, state_after_ask, state_after_ending, state_after_flush, state_after_hit, state_after_note, state_after_notes, treated_request}
 use Rattle.run_events.specs.Restarts.{without_connections}
 use Rattle.run_events.specs.Events.{DeliverAs, DeliverTo, Event, HappensBy, LeadsNotes, LoseTo, PieceTo, PurgeTo, RenderTo, Run, after_event, going, is_any, is_rendered, is_unrendered, most_connections, opening, picked_flight, state_after_events, state_after_going, state_after_opening, state_before_notes}
 use Rattle.run_events.specs.States.{AreAbove, AreConnectionsCounted, AreNumbersRising, RunState, Start, is_among, start_of}
@@ -239,7 +239,7 @@ flush-there : (w : RunState) (v c : ℕ) (inv : Invalidation) (request : Option 
 flush-there w v c inv None = same-there w
 flush-there w v c inv (Some request) = record { there = there-map w.connection c _; count = refl }
 
-ending-there : (w : RunState) (v : ℕ) (outcome : Outcome) (response : Response) (at : Option Flushing) → SameThere w (state_after_ending w v outcome response at)
+ending-there : (w : RunState) (v : ℕ) (outcome : FlushOutcome) (response : Response) (at : Option Flushing) → SameThere w (state_after_ending w v outcome response at)
 ending-there w v outcome response None = same-there w
 ending-there w v outcome response (Some f) = record { there = there-map w.connection f.connection _; count = refl }
 
@@ -258,10 +258,10 @@ note-there w (Sliced v) is = record { there = λ c. refl; count = refl }
 note-there w (Done v) is = ending-there w v _ _ (flush_at v w.flushes)
 note-there w (Failed v failure) is = ending-there w v _ _ (flush_at v w.flushes)
 note-there w (Rendered n answer) is = record { there = λ c. refl; count = refl }
-note-there w (Kept n key) is = over-there w n _ _ (flight_at n w.flights)
-note-there w (Unkept n) is = over-there w n _ _ (flight_at n w.flights)
-note-there w (Passed n) is = over-there w n _ _ (flight_at n w.flights)
-note-there w (Lost n) is = over-there w n _ _ (flight_at n w.flights)
+note-there w (Kept n key) is = over-there w n _ _ (flying_at n w.flights)
+note-there w (Unkept n) is = over-there w n _ _ (flying_at n w.flights)
+note-there w (Passed n) is = over-there w n _ _ (flying_at n w.flights)
+note-there w (Lost n) is = over-there w n _ _ (flying_at n w.flights)
 note-there w (Sent c bytes) is = on-there w c _
 note-there w (Shut c) is = absurd is
 note-there w (Up epoch) is = record { there = λ c. refl; count = refl }

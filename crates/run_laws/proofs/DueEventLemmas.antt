@@ -3,7 +3,7 @@ use Rattle.std.proofs.Common.{◌≡◌, ◌≢◌, ◌+◌, ◌∙◌, ℕ, Boo
 use Rattle.std.specs.Prelude.{if◌then◌else◌, is_some, nat_eq, nat_le}
 use Rattle.std.specs.Map.{update}
 use Rattle.sp_base.specs.declared.answer.Answer.{Answer}
-use Rattle.cache_log.specs.Entries.{LogEntry, Outcome}
+use Rattle.cache_log.specs.Entries.{LogEntry, FlushOutcome}
 use Rattle.connections.specs.Connections.{Connection, Nothing, fresh, with_piece}
 use Rattle.connections.specs.Slots.{Response}
 use Rattle.run_events.specs.declared.conditions.Conditions.{Conditions}
@@ -14,7 +14,7 @@ use Rattle.run_events.specs.declared.note.Note.TheVariants.{Failed, Lost, Shut, 
 use Rattle.run_events.specs.declared.step.Step.{Step}
 use Rattle.run_events.specs.declared.step.Step.TheVariants as step
 use Rattle.run_events.specs.States.{RunState}
-use Rattle.run_events.specs.Moves.{due_if_open, flight_at, flush_at, on_connection, over_with, state_after_ending, state_after_landing, state_after_note, state_after_notes}
+use Rattle.run_events.specs.Moves.{due_if_open, flying_at, flush_at, on_connection, over_with, state_after_ending, state_after_landing, state_after_note, state_after_notes}
 use Rattle.run_events.specs.Restarts.{without_connections}
 use Rattle.run_events.specs.Events.{DeliverAs, DeliverTo, Event, HappensBy, LeadsNotes, LoseTo, PieceTo, PurgeTo, RenderTo, going, is_any, is_rendered, is_unrendered, most_connections, opening, picked_flight, state_after_going, state_after_opening, state_before_notes}
 use Rattle.run_laws.proofs.AskLemmas.{Numbered, picked-there}
@@ -48,20 +48,20 @@ given-render w e (Some f) to given = rw to.2 (record { connections = given.conne
 given-leads : (w : RunState) (m : Conditions) (first : Note) (c : ℕ) (notes : List Note) → LeadsNotes w m first c notes → ServesOne (state_after_note w first) c → IsGiven (state_after_notes w notes)
 given-leads w m first c notes leads one = rw leads.begins (settles-given m (state_after_note w first) c leads.rest leads.settles one)
 
-one-landing : (w : RunState) (f : Flying) (note : Note) → flight_at f.number w.flights ≡ Some f → IsGiven w → IsLandingNote f.number note → ServesOne (state_after_note w note) f.connection
+one-landing : (w : RunState) (f : Flying) (note : Note) → flying_at f.number w.flights ≡ Some f → IsGiven w → IsLandingNote f.number note → ServesOne (state_after_note w note) f.connection
 one-landing w f note at given (inl kept) = rw (kept.1, at) (one-over w f.number _ _ f given)
 one-landing w f note at given (inr (inl unkept)) = rw (unkept, at) (one-over w f.number _ _ f given)
 one-landing w f note at given (inr (inr passed)) = rw (passed, at) (one-over w f.number _ _ f given)
 
-given-deliver : (w : RunState) (e : Event) (f : Flying) (answer : Option Answer) → flight_at f.number w.flights ≡ Some f → DeliverAs w e f answer → IsGiven w → IsGiven (state_after_notes w e.body)
+given-deliver : (w : RunState) (e : Event) (f : Flying) (answer : Option Answer) → flying_at f.number w.flights ≡ Some f → DeliverAs w e f answer → IsGiven w → IsGiven (state_after_notes w e.body)
 given-deliver w e f None at to given = given-idle w e.body to given
 given-deliver w e f (Some answer) at to given = given-leads w e.conditions to.0 f.connection e.body to.2 (one-landing w f to.0 at given (landing-form w e.conditions f answer to.0 to.1))
 
-given-delivers : (w : RunState) (e : Event) (flying : Option Flying) → ((f : Flying) → flying ≡ Some f → flight_at f.number w.flights ≡ Some f) → DeliverTo w e flying → IsGiven w → IsGiven (state_after_notes w e.body)
+given-delivers : (w : RunState) (e : Event) (flying : Option Flying) → ((f : Flying) → flying ≡ Some f → flying_at f.number w.flights ≡ Some f) → DeliverTo w e flying → IsGiven w → IsGiven (state_after_notes w e.body)
 given-delivers w e None at to given = given-idle w e.body to given
 given-delivers w e (Some f) at to given = given-deliver w e f f.rendered (at f refl) to given
 
-given-loses : (w : RunState) (e : Event) (flying : Option Flying) → ((f : Flying) → flying ≡ Some f → flight_at f.number w.flights ≡ Some f) → LoseTo w e flying → IsGiven w → IsGiven (state_after_notes w e.body)
+given-loses : (w : RunState) (e : Event) (flying : Option Flying) → ((f : Flying) → flying ≡ Some f → flying_at f.number w.flights ≡ Some f) → LoseTo w e flying → IsGiven w → IsGiven (state_after_notes w e.body)
 given-loses w e None at to given = given-idle w e.body to given
 given-loses w e (Some f) at to given = given-leads w e.conditions (Lost f.number) f.connection e.body to (rw (at f refl) (one-over w f.number _ _ f given))
 
@@ -82,12 +82,12 @@ over-slicing : (w : RunState) (n : ℕ) (answer : Answer) (entry : LogEntry) (at
 over-slicing w n answer entry None = refl
 over-slicing w n answer entry (Some f) = refl
 
-ending-slicing : (w : RunState) (v : ℕ) (outcome : Outcome) (response : Response) (at : Option Flushing) → w.slicing ≡ None → (state_after_ending w v outcome response at).slicing ≡ None
+ending-slicing : (w : RunState) (v : ℕ) (outcome : FlushOutcome) (response : Response) (at : Option Flushing) → w.slicing ≡ None → (state_after_ending w v outcome response at).slicing ≡ None
 ending-slicing w v outcome response None none = none
 ending-slicing w v outcome response (Some f) none = refl
 
 cut-slicing : (w : RunState) (note : Note) → IsCutNote note → w.slicing ≡ None → (state_after_note w note).slicing ≡ None
-cut-slicing w (Lost n) is none = over-slicing w n _ _ (flight_at n w.flights) ∙ none
+cut-slicing w (Lost n) is none = over-slicing w n _ _ (flying_at n w.flights) ∙ none
 cut-slicing w (Failed v failure) is none = ending-slicing w v _ _ (flush_at v w.flushes) none
 cut-slicing w (Shut c) is none = none
 cut-slicing w (Up epoch) is none = none

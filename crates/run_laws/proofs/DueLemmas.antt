@@ -11,7 +11,7 @@ use Rattle.sp_base.specs.Requests.{Request}
 use Rattle.cover_rules.specs.declared.page.PageKey.{PageKey}
 use Rattle.cover_rules.specs.declared.invalidation.Invalidation.{Invalidation}
 use Rattle.http_front.specs.declared.turn.Turn.TheVariants.{Continue, Whole}
-use Rattle.cache_log.specs.Entries.{LogEntry, Outcome}
+use Rattle.cache_log.specs.Entries.{LogEntry, FlushOutcome}
 use Rattle.connections.specs.declared.awaited.Awaited.{Awaited}
 use Rattle.connections.specs.Slots.{Response, Slot, is_answered}
 use Rattle.connections.specs.Connections.{Close, Connection, Due, Nothing, Refuse, Send, Treat, due, due_at_slot, due_at_turn, due_without_sending, fresh, next_turn, slots_with_end, with_end, with_piece, with_sent}
@@ -21,7 +21,7 @@ use Rattle.run_events.specs.declared.flying.Flushing.{Flushing}
 use Rattle.run_events.specs.declared.note.Note.{Note}
 use Rattle.run_events.specs.declared.note.Note.TheVariants.{Ask as asked, Hit, Local, Flush, Sliced, Done, Failed, Rendered, Kept, Unkept, Passed, Lost, Sent, Shut, Refused, Idle, Up, Down}
 use Rattle.run_events.specs.States.{RunState}
-use Rattle.run_events.specs.Moves.{GivesDue, GivesNext, Serves, Settles, due_if_open, due_of_connection, first_sliced, flight_at, flush_at, on_connection, over_with, state_after_ask, state_after_ending, state_after_flush, state_after_hit, state_after_note, state_after_notes, treated_request}
+use Rattle.run_events.specs.Moves.{GivesDue, GivesNext, Serves, Settles, due_if_open, due_of_connection, first_sliced, flying_at, flush_at, on_connection, over_with, state_after_ask, state_after_ending, state_after_flush, state_after_hit, state_after_note, state_after_notes, treated_request}
 use Rattle.run_laws.proofs.EachLemmas.{length-filled}
 use Rattle.run_laws.proofs.FormLemmas.{IsDueNote, IsRequestNote, IsSliceNote, next-form}
 
@@ -115,7 +115,7 @@ pub over-turns : (w : RunState) (n : ℕ) (answer : Answer) (entry : LogEntry) (
 over-turns w n answer entry None none = none
 over-turns w n answer entry (Some f) none = changed-turns w f.connection _ (λ k has. ended-no-turn _ _ k has) none
 
-pub ending-turns : (w : RunState) (v : ℕ) (outcome : Outcome) (response : Response) (at : Option Flushing) → HasNoTurns w → HasNoTurns (state_after_ending w v outcome response at)
+pub ending-turns : (w : RunState) (v : ℕ) (outcome : FlushOutcome) (response : Response) (at : Option Flushing) → HasNoTurns w → HasNoTurns (state_after_ending w v outcome response at)
 ending-turns w v outcome response None none = none
 ending-turns w v outcome response (Some f) none = changed-turns w f.connection _ (λ k has. ended-no-turn _ _ k has) none
 
@@ -195,7 +195,7 @@ one-flush : (w : RunState) (v c : ℕ) (inv : Invalidation) (request : Option Re
 one-flush w v c inv None one = one
 one-flush w v c inv (Some request) one = record { others = other-due w c _ one.others; slices = λ n f is at. first-slice w.flushes v c n f is at }
 
-one-ending : (w : RunState) (v c : ℕ) (outcome : Outcome) (response : Response) (at : Option Flushing) → ((f : Flushing) → at ≡ Some f → f.connection ≡ c) → ServesOne w c → ServesOne (state_after_ending w v outcome response at) c
+one-ending : (w : RunState) (v c : ℕ) (outcome : FlushOutcome) (response : Response) (at : Option Flushing) → ((f : Flushing) → at ≡ Some f → f.connection ≡ c) → ServesOne w c → ServesOne (state_after_ending w v outcome response at) c
 one-ending w v c outcome response None is one = one
 one-ending w v c outcome response (Some f) is one = record {
   others = λ q apart. other-due w f.connection _ (λ p away. one.others p (λ same. away (same ∙ sym (is f refl)))) q (λ same. apart (same ∙ is f refl));

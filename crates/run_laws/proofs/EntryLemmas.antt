@@ -7,7 +7,7 @@ use Rattle.sp_base.specs.declared.answer.Answer.{Answer}
 use Rattle.sp_base.specs.Requests.{Request}
 use Rattle.cover_rules.specs.declared.page.PageKey.{PageKey}
 use Rattle.cover_rules.specs.declared.invalidation.Invalidation.{Invalidation}
-use Rattle.cache_log.specs.Entries.{LogEntry, Asked, Begun, Ended, Hit as hit_entry, Sliced as sliced_entry, Up as up_entry, Down as down_entry, Outcome}
+use Rattle.cache_log.specs.Entries.{LogEntry, Asked, Begun, Ended, Hit as hit_entry, Sliced as sliced_entry, Up as up_entry, Down as down_entry, FlushOutcome}
 use Rattle.cache_log.proofs.PlaceLemmas.{none-within, within}
 use Rattle.connections.specs.Connections.{Connection, fresh}
 use Rattle.connections.specs.Slots.{Response}
@@ -18,7 +18,7 @@ use Rattle.run_events.specs.declared.note.Note.{Note}
 use Rattle.run_events.specs.declared.note.Note.TheVariants.{Ask as asked, Hit, Local, Flush, Sliced, Done, Failed, Rendered, Kept, Unkept, Passed, Lost, Sent, Shut, Up, Down}
 use Rattle.run_events.specs.declared.step.Step.{Step}
 use Rattle.run_events.specs.declared.step.Step.TheVariants as step
-use Rattle.run_events.specs.Moves.{due_of_connection, flight_at, flush_at, over_with, state_after_ask, state_after_ending, state_after_flush, state_after_hit, state_after_note, state_after_notes, treated_request}
+use Rattle.run_events.specs.Moves.{due_of_connection, flying_at, flush_at, over_with, state_after_ask, state_after_ending, state_after_flush, state_after_hit, state_after_note, state_after_notes, treated_request}
 use Rattle.run_events.specs.Events.{Event, HappensBy, Run, after_event, most_connections, state_after_events, state_after_going, state_after_opening, state_before_notes}
 use Rattle.run_events.specs.States.{RunState, start_of}
 use Rattle.run_laws.specs.Histories.{opens_connection}
@@ -48,7 +48,7 @@ grows-flush : (w : RunState) (v c : ℕ) (inv : Invalidation) (request : Option 
 grows-flush w v c inv None = grows-same w w refl
 grows-flush w v c inv (Some request) = record { more = Begun v inv ∷ []; is = refl }
 
-grows-ending : (w : RunState) (v : ℕ) (outcome : Outcome) (response : Response) (at : Option Flushing) → Grows w (state_after_ending w v outcome response at)
+grows-ending : (w : RunState) (v : ℕ) (outcome : FlushOutcome) (response : Response) (at : Option Flushing) → Grows w (state_after_ending w v outcome response at)
 grows-ending w v outcome response None = grows-same w w refl
 grows-ending w v outcome response (Some f) = record { more = Ended v outcome ∷ []; is = refl }
 
@@ -65,10 +65,10 @@ grows-note w (Sliced v) = record { more = sliced_entry v ∷ []; is = refl }
 grows-note w (Done v) = grows-ending w v _ _ (flush_at v w.flushes)
 grows-note w (Failed v failure) = grows-ending w v _ _ (flush_at v w.flushes)
 grows-note w (Rendered n answer) = record { more = []; is = refl }
-grows-note w (Kept n key) = grows-over w n _ _ (flight_at n w.flights)
-grows-note w (Unkept n) = grows-over w n _ _ (flight_at n w.flights)
-grows-note w (Passed n) = grows-over w n _ _ (flight_at n w.flights)
-grows-note w (Lost n) = grows-over w n _ _ (flight_at n w.flights)
+grows-note w (Kept n key) = grows-over w n _ _ (flying_at n w.flights)
+grows-note w (Unkept n) = grows-over w n _ _ (flying_at n w.flights)
+grows-note w (Passed n) = grows-over w n _ _ (flying_at n w.flights)
+grows-note w (Lost n) = grows-over w n _ _ (flying_at n w.flights)
 grows-note w (Sent c bytes) = record { more = []; is = refl }
 grows-note w (Shut c) = record { more = []; is = refl }
 grows-note w (Up epoch) = record { more = up_entry epoch ∷ []; is = refl }

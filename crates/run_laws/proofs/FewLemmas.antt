@@ -11,7 +11,7 @@ use Rattle.cover_rules.specs.declared.invalidation.Invalidation.{Invalidation}
 use Rattle.invalidation.specs.Invalidations.{invalidation_of}
 use Rattle.invalidation.specs.declared.inv_fault.InvFault.{InvFault}
 use Rattle.http_front.specs.declared.turn.Turn.TheVariants.{Continue, Whole}
-use Rattle.cache_log.specs.Entries.{LogEntry, Outcome}
+use Rattle.cache_log.specs.Entries.{LogEntry, FlushOutcome}
 use Rattle.connections.specs.Connections.{Close, Connection, Due, Nothing, Refuse, Send, Treat, fresh}
 use Rattle.connections.specs.Slots.{Response}
 use Rattle.run_events.specs.declared.conditions.Conditions.{Conditions}
@@ -22,11 +22,12 @@ use Rattle.run_events.specs.declared.note.Note.TheVariants.{Ask as asked, Hit, L
 use Rattle.run_events.specs.declared.step.Step.{Step}
 use Rattle.run_events.specs.declared.step.Step.TheVariants as step
 use Rattle.run_events.specs.States.{RunState}
-use Rattle.run_events.specs.Points.{AnswersFlush, AnswersInvalidation, BeginsFlush, IsFirstPoint, are_stamps_drawn, is_front_full, is_full_of_flushes, most_flights, peer_of, points}
-use Rattle.run_events.specs.Moves.{GivesDue, GivesNext, due_of_connection, flight_at, flush_at, has_number, over_with, state_after_ask, state_after_ending, state_after_flush, state_after_hit, state_after_note, state_after_notes, treated_request, without}
+use Rattle.run_events.specs.Points.{AnswersFlush, AnswersInvalidation, BeginsFlush, IsFirstPoint, are_stamps_drawn, is_front_full, is_full_of_flushes, peer_of, points}
+use Rattle.run_events.specs.Moves.{GivesDue, GivesNext, due_of_connection, flying_at, flush_at, has_number, over_with, state_after_ask, state_after_ending, state_after_flush, state_after_hit, state_after_note, state_after_notes, treated_request, air_without}
 use Rattle.run_events.specs.Events.{Event, HappensBy, most_connections, state_after_going, state_after_opening, state_before_notes}
 use Rattle.run_laws.proofs.EachNoteLemmas.{AllIn, IsOfEach, step-all}
 use Rattle.run_laws.proofs.FormLemmas.{IsCutNote, IsLandingNote, IsSliceNote, slice-form}
+use Rattle.flights.specs.Flights.{most_flights}
 
 -- a flight is asked only where there is room
 abbrev HasRoom : RunState → Note → Type 0
@@ -107,11 +108,11 @@ each-room s = record {
 abbrev pub AreFew : RunState → Type 0
 AreFew w = length w.flights ≤ most_flights
 
-length-without : (n : ℕ) (flights : List Flying) → length (without n flights) ≤ length flights
-length-without n [] = omega arith
-length-without n (f ∷ flights) = by_test (not (has_number n f)) (length-without n flights)
+length-air_without : (n : ℕ) (flights : List Flying) → length (air_without n flights) ≤ length flights
+length-air_without n [] = omega arith
+length-air_without n (f ∷ flights) = by_test (not (has_number n f)) (length-air_without n flights)
   where
-    by_test : (b : Bool) → length (without n flights) ≤ length flights → length (if b then f ∷ without n flights else without n flights) ≤ length (f ∷ flights)
+    by_test : (b : Bool) → length (air_without n flights) ≤ length flights → length (if b then f ∷ air_without n flights else air_without n flights) ≤ length (f ∷ flights)
     by_test true less = omega (arith, less)
     by_test false less = omega (arith, less)
 
@@ -121,7 +122,7 @@ ask-few w n c key (Some request) room few = omega (arith, room, length-append w.
 
 over-few : (w : RunState) (n : ℕ) (answer : Answer) (entry : LogEntry) (at : Option Flying) → AreFew w → AreFew (over_with w n answer entry at)
 over-few w n answer entry None few = few
-over-few w n answer entry (Some f) few = omega (arith, few, length-without n w.flights)
+over-few w n answer entry (Some f) few = omega (arith, few, length-air_without n w.flights)
 
 hit-few : (w : RunState) (c : ℕ) (key : PageKey) (request : Option Request) → AreFew w → AreFew (state_after_hit w c key request)
 hit-few w c key None few = few
@@ -131,7 +132,7 @@ flush-few : (w : RunState) (v c : ℕ) (inv : Invalidation) (request : Option Re
 flush-few w v c inv None few = few
 flush-few w v c inv (Some request) few = few
 
-ending-few : (w : RunState) (v : ℕ) (outcome : Outcome) (response : Response) (at : Option Flushing) → AreFew w → AreFew (state_after_ending w v outcome response at)
+ending-few : (w : RunState) (v : ℕ) (outcome : FlushOutcome) (response : Response) (at : Option Flushing) → AreFew w → AreFew (state_after_ending w v outcome response at)
 ending-few w v outcome response None few = few
 ending-few w v outcome response (Some f) few = few
 
@@ -144,10 +145,10 @@ note-few w (Sliced v) room few = few
 note-few w (Done v) room few = ending-few w v _ _ (flush_at v w.flushes) few
 note-few w (Failed v failure) room few = ending-few w v _ _ (flush_at v w.flushes) few
 note-few w (Rendered n answer) room few = subst (λ n. n ≤ most_flights) (sym (length-map w.flights _)) few
-note-few w (Kept n key) room few = over-few w n _ _ (flight_at n w.flights) few
-note-few w (Unkept n) room few = over-few w n _ _ (flight_at n w.flights) few
-note-few w (Passed n) room few = over-few w n _ _ (flight_at n w.flights) few
-note-few w (Lost n) room few = over-few w n _ _ (flight_at n w.flights) few
+note-few w (Kept n key) room few = over-few w n _ _ (flying_at n w.flights) few
+note-few w (Unkept n) room few = over-few w n _ _ (flying_at n w.flights) few
+note-few w (Passed n) room few = over-few w n _ _ (flying_at n w.flights) few
+note-few w (Lost n) room few = over-few w n _ _ (flying_at n w.flights) few
 note-few w (Sent c bytes) room few = few
 note-few w (Shut c) room few = few
 note-few w (Up epoch) room few = few

@@ -13,7 +13,7 @@ use Rattle.error_answers.specs.Errors.{error_answer}
 use Rattle.http_front.specs.Faults.{fault_status}
 use Rattle.http_front.specs.declared.fault.InFault.{InFault}
 use Rattle.http_front.specs.declared.turn.Turn.TheVariants.{Continue, Whole}
-use Rattle.cache_log.specs.Entries.{LogEntry, Outcome, Done as done_outcome, Failed as failed_outcome, flights_asked, flushes_begun}
+use Rattle.cache_log.specs.Entries.{LogEntry, FlushOutcome, Done as done_outcome, Failed as failed_outcome, flights_asked, flushes_begun}
 use Rattle.connections.specs.declared.awaited.Awaited.{Awaited}
 use Rattle.connections.specs.declared.awaited.Awaited.TheVariants.{Flight as flight_awaited, Flush as flush_awaited}
 use Rattle.connections.specs.Slots.{Slot, Awaits, Cached, Fixed, Response, Says, local_response, request_slot}
@@ -162,7 +162,7 @@ pub over-held : (w : RunState) (c n : ℕ) (answer : Answer) (entry : LogEntry) 
 over-held w c n answer entry came sent None held = held-silent w w c came sent refl held
 over-held w c n answer entry came sent (Some f) held = ended-held w (over_with w n answer entry (Some f)) c f.connection (flight_awaited n) (Says answer) came sent (λ e. cc e) refl held
 
-ending-held : (w : RunState) (c v : ℕ) (outcome : Outcome) (answer : Answer) (came : List ℕ) (sent : List Sending) (at : Option Flushing) → Held w c came sent → Held (state_after_ending w v outcome (Says answer) at) c came (sent ++ [])
+ending-held : (w : RunState) (c v : ℕ) (outcome : FlushOutcome) (answer : Answer) (came : List ℕ) (sent : List Sending) (at : Option Flushing) → Held w c came sent → Held (state_after_ending w v outcome (Says answer) at) c came (sent ++ [])
 ending-held w c v outcome answer came sent None held = held-silent w w c came sent refl held
 ending-held w c v outcome answer came sent (Some f) held = ended-held w (state_after_ending w v outcome (Says answer) (Some f)) c f.connection (flush_awaited v) (Says answer) came sent (λ e. cc e) refl held
 

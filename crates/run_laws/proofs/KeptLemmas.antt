@@ -12,7 +12,7 @@ use Rattle.cover_rules.specs.declared.page.PageKey.{PageKey}
 use Rattle.cover_rules.specs.declared.invalidation.Invalidation.{Invalidation}
 use Rattle.error_answers.specs.Errors.{error_answer}
 use Rattle.http_front.specs.Turns.{SpellsTurns}
-use Rattle.cache_log.specs.Entries.{LogEntry, Outcome, Done as done_outcome, Failed as failed_outcome, flights_asked, flushes_begun}
+use Rattle.cache_log.specs.Entries.{LogEntry, FlushOutcome, Done as done_outcome, Failed as failed_outcome, flights_asked, flushes_begun}
 use Rattle.connections.specs.Slots.{Response, Says}
 use Rattle.connections.specs.Connections.{Connection, Due, Send, Treat, Refuse, Close, Nothing, with_piece, fresh, is_crowded, with_end, with_sent}
 use Rattle.connections.specs.Connections as model
@@ -26,7 +26,7 @@ use Rattle.run_events.specs.declared.note.Note.TheVariants.{Sliced, Rendered, Re
 use Rattle.run_events.specs.declared.step.Step.{Step}
 use Rattle.run_events.specs.declared.step.Step.TheVariants as step
 use Rattle.run_events.specs.States.{RunState}
-use Rattle.run_events.specs.Moves.{first_sliced, Serves, Settles, due_if_open, due_of_connection, failure_status, flight_at, flush_at, on_connection, over_with, state_after_ask, state_after_ending, state_after_flush, state_after_hit, state_after_note, state_after_notes, treated_request}
+use Rattle.run_events.specs.Moves.{first_sliced, Serves, Settles, due_if_open, due_of_connection, failure_status, flying_at, flush_at, on_connection, over_with, state_after_ask, state_after_ending, state_after_flush, state_after_hit, state_after_note, state_after_notes, treated_request}
 use Rattle.run_events.specs.Events.{Event, LeadsNotes, PieceTo, RenderTo, going, most_connections, opening, state_after_going, state_after_opening}
 use Rattle.run_laws.specs.Histories.{brought_by, is_idle, opens_connection, sent_by, sent_in}
 use Rattle.run_laws.proofs.AskLemmas.{Numbered, note-numbered}
@@ -64,7 +64,7 @@ owns-flush w v c inv (Some request) owns = by_flushes w.flushes
         ap (λ (x : Flushing). x.connection) (sym is)
     by_flushes (g ∷ flushes) u f slicing at = absurd (cc slicing)
 
-owns-ending : (w : RunState) (v : ℕ) (outcome : Outcome) (response : Response) (at : Option Flushing) (d : ℕ) → Owns w d → Owns (state_after_ending w v outcome response at) d
+owns-ending : (w : RunState) (v : ℕ) (outcome : FlushOutcome) (response : Response) (at : Option Flushing) (d : ℕ) → Owns w d → Owns (state_after_ending w v outcome response at) d
 owns-ending w v outcome response None d owns = owns
 owns-ending w v outcome response (Some f) d owns = owns-none (state_after_ending w v outcome response (Some f)) d refl
 
@@ -99,7 +99,7 @@ flush-apart : (w : RunState) (c v d : ℕ) (inv : Invalidation) (request : Optio
 flush-apart w c v d inv None apart = refl
 flush-apart w c v d inv (Some request) apart = update_apart w.connection d _ c apart
 
-pub ending-apart : (w : RunState) (c v d : ℕ) (outcome : Outcome) (response : Response) (at : Option Flushing) → c ≢ d → ((f : Flushing) → at ≡ Some f → f.connection ≡ d) → (state_after_ending w v outcome response at).connection c ≡ w.connection c
+pub ending-apart : (w : RunState) (c v d : ℕ) (outcome : FlushOutcome) (response : Response) (at : Option Flushing) → c ≢ d → ((f : Flushing) → at ≡ Some f → f.connection ≡ d) → (state_after_ending w v outcome response at).connection c ≡ w.connection c
 ending-apart w c v d outcome response None apart owns = refl
 ending-apart w c v d outcome response (Some f) apart owns = update_apart w.connection f.connection _ c (λ same. apart (same ∙ owns f refl))
 
@@ -337,7 +337,7 @@ over-slicing w n answer entry (Some f) = refl
 pub record TakesOut (w : RunState) (n : ℕ) (note : Note) : Type 0 where
   pub answer : Answer
   pub entry : LogEntry
-  pub is : state_after_note w note ≡ over_with w n answer entry (flight_at n w.flights)
+  pub is : state_after_note w note ≡ over_with w n answer entry (flying_at n w.flights)
   pub silent : (c : ℕ) (m : Conditions) → sent_by c m note ≡ []
 
 pub landing-takes : (w : RunState) (n : ℕ) (note : Note) → IsLandingNote n note → TakesOut w n note
@@ -345,18 +345,18 @@ landing-takes w n note (inl kept) = rw kept.1 (record { answer = _; entry = _; i
 landing-takes w n note (inr (inl unkept)) = rw unkept (record { answer = _; entry = _; is = refl; silent = λ c m. refl })
 landing-takes w n note (inr (inr passed)) = rw passed (record { answer = _; entry = _; is = refl; silent = λ c m. refl })
 
-pub takes-kept : (m : Conditions) (w : RunState) (first : Note) (c : ℕ) (came : List ℕ) (sent : List Sending) (f : Flying) (notes : List Note) → TakesOut w f.number first → flight_at f.number w.flights ≡ Some f → Kept w c came sent → Numbered (state_after_notes w notes) → LeadsNotes w m first f.connection notes
+pub takes-kept : (m : Conditions) (w : RunState) (first : Note) (c : ℕ) (came : List ℕ) (sent : List Sending) (f : Flying) (notes : List Note) → TakesOut w f.number first → flying_at f.number w.flights ≡ Some f → Kept w c came sent → Numbered (state_after_notes w notes) → LeadsNotes w m first f.connection notes
     → Kept (state_after_notes w notes) c came (sent ++ sent_in c m notes)
 takes-kept m w first c came sent f notes takes at kept numbered leads = leads-kept m w first c f.connection came sent notes held still none numbered leads
   where
     o : RunState
-    o = over_with w f.number takes.answer takes.entry (flight_at f.number w.flights)
+    o = over_with w f.number takes.answer takes.entry (flying_at f.number w.flights)
 
     held : Held (state_after_note w first) c came (sent ++ sent_by c m first)
-    held = rw (takes.silent c m) (subst (λ u. Held u c came (sent ++ [])) (sym takes.is) (over-held w c f.number takes.answer takes.entry came sent (flight_at f.number w.flights) kept.held))
+    held = rw (takes.silent c m) (subst (λ u. Held u c came (sent ++ [])) (sym takes.is) (over-held w c f.number takes.answer takes.entry came sent (flying_at f.number w.flights) kept.held))
 
     still : c ≢ f.connection → IsStill (state_after_note w first) c
-    still apart = subst (λ u. IsStill u c) (sym takes.is) (still-same w o c (over-apart w c f.number f.connection takes.answer takes.entry (flight_at f.number w.flights) apart (λ g is. let same : Some f ≡ Some g = sym at ∙ is in let one : f ≡ g = cc same in ap (λ (x : Flying). x.connection) (sym one))) kept.still)
+    still apart = subst (λ u. IsStill u c) (sym takes.is) (still-same w o c (over-apart w c f.number f.connection takes.answer takes.entry (flying_at f.number w.flights) apart (λ g is. let same : Some f ≡ Some g = sym at ∙ is in let one : f ≡ g = cc same in ap (λ (x : Flying). x.connection) (sym one))) kept.still)
 
     none : (state_after_note w first).slicing ≡ None
-    none = ap (λ (u : RunState). u.slicing) takes.is ∙ over-slicing w f.number takes.answer takes.entry (flight_at f.number w.flights) ∙ kept.unsliced
+    none = ap (λ (u : RunState). u.slicing) takes.is ∙ over-slicing w f.number takes.answer takes.entry (flying_at f.number w.flights) ∙ kept.unsliced

@@ -8,7 +8,7 @@ use Rattle.sp_base.specs.Requests.{Request}
 use Rattle.any_config.specs.declared.farm.Farm.{Farm}
 use Rattle.cover_rules.specs.declared.page.PageKey.{PageKey}
 use Rattle.cover_rules.specs.declared.invalidation.Invalidation.{Invalidation}
-use Rattle.cache_log.specs.Entries.{Fate, Kept as kept_fate, Unkept as unkept_fate, Passed as passed_fate, Outcome, Done as done_outcome, LogEntry, Asked, Landed, Begun, Ended, Hit as hit_entry, Session}
+use Rattle.cache_log.specs.Entries.{Fate, Kept as kept_fate, Unkept as unkept_fate, Passed as passed_fate, FlushOutcome, Done as done_outcome, LogEntry, Asked, Landed, Begun, Ended, Hit as hit_entry, Session}
 use Rattle.cache_log.specs.Flown.{IsLanding, IsPermittedBy, IsPermittedHit, IsUnfinishedFlush, since_asking}
 use Rattle.cache_log.specs.Hits.{Covers, IsClear, MayHit}
 use Rattle.cache_log.specs.Rules.{Allowed, CallConditions, IsIdle, IsLegal, KeepsBound}
@@ -23,7 +23,7 @@ use Rattle.run_events.specs.declared.note.Note.TheVariants.{Ask as asked, Hit, L
 use Rattle.run_events.specs.declared.step.Step.{Step}
 use Rattle.run_events.specs.declared.step.Step.TheVariants as step
 use Rattle.run_events.specs.States.{RunState, Start, start_of}
-use Rattle.run_events.specs.Moves.{due_of_connection, flight_at, flush_at, over_with, state_after_ask, state_after_ending, state_after_flush, state_after_hit, state_after_note, state_after_notes, treated_request}
+use Rattle.run_events.specs.Moves.{due_of_connection, flying_at, flush_at, over_with, state_after_ask, state_after_ending, state_after_flush, state_after_hit, state_after_note, state_after_notes, treated_request}
 use Rattle.run_events.specs.Events.{Event, Run, after_event, most_connections, state_after_events, state_after_going, state_after_opening, state_before_notes}
 use Rattle.run_laws.specs.Logs.{HitsAreFresh, IsBeginning, RepliesInFlightAreNotStored, log_after}
 use Rattle.run_laws.proofs.SoundLemmas.{sound-begins}
@@ -53,7 +53,7 @@ flush-farm : (w : RunState) (v c : ℕ) (inv : Invalidation) (request : Option R
 flush-farm w v c inv None = same w
 flush-farm w v c inv (Some request) = record { farm = refl; found = refl }
 
-ending-farm : (w : RunState) (v : ℕ) (outcome : Outcome) (response : Response) (flush : Option Flushing) → SameFarm w (state_after_ending w v outcome response flush)
+ending-farm : (w : RunState) (v : ℕ) (outcome : FlushOutcome) (response : Response) (flush : Option Flushing) → SameFarm w (state_after_ending w v outcome response flush)
 ending-farm w v outcome response None = same w
 ending-farm w v outcome response (Some f) = record { farm = refl; found = refl }
 
@@ -70,10 +70,10 @@ note-farm w (Sliced v) = record { farm = refl; found = refl }
 note-farm w (Done v) = ending-farm w v _ _ (flush_at v w.flushes)
 note-farm w (Failed v failure) = ending-farm w v _ _ (flush_at v w.flushes)
 note-farm w (Rendered n answer) = record { farm = refl; found = refl }
-note-farm w (Kept n key) = over-farm w n _ _ (flight_at n w.flights)
-note-farm w (Unkept n) = over-farm w n _ _ (flight_at n w.flights)
-note-farm w (Passed n) = over-farm w n _ _ (flight_at n w.flights)
-note-farm w (Lost n) = over-farm w n _ _ (flight_at n w.flights)
+note-farm w (Kept n key) = over-farm w n _ _ (flying_at n w.flights)
+note-farm w (Unkept n) = over-farm w n _ _ (flying_at n w.flights)
+note-farm w (Passed n) = over-farm w n _ _ (flying_at n w.flights)
+note-farm w (Lost n) = over-farm w n _ _ (flying_at n w.flights)
 note-farm w (Sent c bytes) = record { farm = refl; found = refl }
 note-farm w (Shut c) = record { farm = refl; found = refl }
 note-farm w (Up epoch) = record { farm = refl; found = refl }

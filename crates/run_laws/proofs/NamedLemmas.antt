@@ -16,7 +16,7 @@ use Rattle.invalidation.specs.declared.inv_fault.InvFault.{InvFault}
 use Rattle.http_front.specs.Turns.{End, SpellsTurns, Waits, Breaks}
 use Rattle.http_front.specs.declared.turn.Turn.{Turn}
 use Rattle.http_front.specs.declared.turn.Turn.TheVariants.{Continue, Whole}
-use Rattle.cache_log.specs.Entries.{LogEntry, Outcome, flights_asked, flushes_begun}
+use Rattle.cache_log.specs.Entries.{LogEntry, FlushOutcome, flights_asked, flushes_begun}
 use Rattle.connections.specs.Slots.{Response, Slot, interim_slot, is_answered}
 use Rattle.connections.specs.Connections.{Close, Connection, Due, Nothing, Refuse, Send, Treat, after_turn, due_at_end, due_at_slot, due_at_turn, due_without_sending, fresh, next_turn, with_due_continue, with_piece, with_slot}
 use Rattle.connections.specs.Connections as model
@@ -28,13 +28,14 @@ use Rattle.run_events.specs.declared.note.Note.TheVariants.{Answer as answered, 
 use Rattle.run_events.specs.declared.step.Step.{Step}
 use Rattle.run_events.specs.declared.step.Step.TheVariants as step
 use Rattle.run_events.specs.Points.{AnswersFlush, AnswersInvalidation, BeginsFlush, IsFirstPoint, is_full_of_flushes, key_of, peer_of, points}
-use Rattle.run_events.specs.Moves.{GivesDue, GivesNext, Serves, due_if_open, due_of_connection, flight_at, flush_at, has_number, on_connection, over_with, state_after_ask, state_after_ending, state_after_flush, state_after_hit, state_after_note, state_after_notes, treated_request, with_rendered_at, with_turn_slot, without}
+use Rattle.run_events.specs.Moves.{GivesDue, GivesNext, Serves, due_if_open, due_of_connection, flying_at, flush_at, has_number, on_connection, over_with, state_after_ask, state_after_ending, state_after_flush, state_after_hit, state_after_note, state_after_notes, treated_request, with_rendered_at, with_turn_slot, air_without}
 use Rattle.run_events.specs.Restarts.{without_connections}
 use Rattle.run_events.specs.Events.{DeliverAs, DeliverTo, Event, HappensBy, LeadsNotes, LoseTo, MayLand, PieceTo, PurgeTo, RenderTo, Run, after_event, condition_notes, going, is_any, is_picked, is_rendered, is_unrendered, most_connections, notes_of, opening, picked_flight, state_after_going, state_after_opening, state_before_notes}
 use Rattle.run_events.specs.States.{RunState, Start, start_of}
-use Rattle.run_laws.specs.Named.{EventsNamePages, IsHandle, NamePages, NamesPage}
+use Rattle.run_laws.specs.Named.{EventsNamePages, NamePages, NamesPage}
 use Rattle.run_laws.proofs.FormLemmas.{AreCutNotes, IsCutNote, IsSliceNote, restart-cut, slice-form}
 use Rattle.run_laws.proofs.RequestLemmas.{HasPath, HavePaths, KeysAreOfPaths, ReadsPaths, handle-of-request, key-of-page, turns-have-paths}
+use Rattle.run_events.specs.Named.{IsHandle}
 
 -- ---- lists
 both-named : (a b : List Note) → NamePages a → NamePages b → NamePages (a ++ b)
@@ -59,11 +60,11 @@ push-named : (flights : List Flying) (f : Flying) → FlightsHavePaths flights �
 push-named [] f all has = (has, tt)
 push-named (g ∷ flights) f all has = (all.0, push-named flights f all.1 has)
 
-without-named : (n : ℕ) (flights : List Flying) → FlightsHavePaths flights → FlightsHavePaths (without n flights)
-without-named n [] all = tt
-without-named n (f ∷ flights) all = by_test (has_number n f) (without-named n flights all.1)
+air_without-named : (n : ℕ) (flights : List Flying) → FlightsHavePaths flights → FlightsHavePaths (air_without n flights)
+air_without-named n [] all = tt
+air_without-named n (f ∷ flights) all = by_test (has_number n f) (air_without-named n flights all.1)
   where
-    by_test : (b : Bool) → FlightsHavePaths (without n flights) → FlightsHavePaths (cond (not b) (f ∷ without n flights) (without n flights))
+    by_test : (b : Bool) → FlightsHavePaths (air_without n flights) → FlightsHavePaths (cond (not b) (f ∷ air_without n flights) (air_without n flights))
     by_test true rest = rest
     by_test false rest = (all.0, rest)
 
@@ -156,13 +157,13 @@ flush-named : (w : RunState) (v c : ℕ) (inv : Invalidation) (at : Option Reque
 flush-named w v c inv None named = named
 flush-named w v c inv (Some request) named = record { turns = map-named w.connection c _ (turn-slot-keeps _) named.turns; flights = named.flights }
 
-ending-named : (w : RunState) (v : ℕ) (outcome : Outcome) (response : Response) (at : Option Flushing) → Named w → Named (state_after_ending w v outcome response at)
+ending-named : (w : RunState) (v : ℕ) (outcome : FlushOutcome) (response : Response) (at : Option Flushing) → Named w → Named (state_after_ending w v outcome response at)
 ending-named w v outcome response None named = named
 ending-named w v outcome response (Some flush) named = record { turns = map-named w.connection flush.connection _ (λ j e. (e, refl)) named.turns; flights = named.flights }
 
 over-named : (w : RunState) (n : ℕ) (answer : Answer) (entry : LogEntry) (at : Option Flying) → Named w → Named (over_with w n answer entry at)
 over-named w n answer entry None named = named
-over-named w n answer entry (Some f) named = record { turns = map-named w.connection f.connection _ (λ j e. (e, refl)) named.turns; flights = without-named n w.flights named.flights }
+over-named w n answer entry (Some f) named = record { turns = map-named w.connection f.connection _ (λ j e. (e, refl)) named.turns; flights = air_without-named n w.flights named.flights }
 
 -- the note asks for nothing
 abbrev AsksNothing : Note → Type 0
@@ -178,10 +179,10 @@ rest-named w (Sliced v) is named = record { turns = named.turns; flights = named
 rest-named w (Done v) is named = ending-named w v _ _ (flush_at v w.flushes) named
 rest-named w (Failed v failure) is named = ending-named w v _ _ (flush_at v w.flushes) named
 rest-named w (Rendered n answer) is named = record { turns = named.turns; flights = rendered-named n answer w.flights named.flights }
-rest-named w (Kept n key) is named = over-named w n _ _ (flight_at n w.flights) named
-rest-named w (Unkept n) is named = over-named w n _ _ (flight_at n w.flights) named
-rest-named w (Passed n) is named = over-named w n _ _ (flight_at n w.flights) named
-rest-named w (Lost n) is named = over-named w n _ _ (flight_at n w.flights) named
+rest-named w (Kept n key) is named = over-named w n _ _ (flying_at n w.flights) named
+rest-named w (Unkept n) is named = over-named w n _ _ (flying_at n w.flights) named
+rest-named w (Passed n) is named = over-named w n _ _ (flying_at n w.flights) named
+rest-named w (Lost n) is named = over-named w n _ _ (flying_at n w.flights) named
 rest-named w (Sent c bytes) is named = record { turns = map-named w.connection c _ (λ j e. (e, refl)) named.turns; flights = named.flights }
 rest-named w (Shut c) is named = record { turns = none-named w.connection c named.turns; flights = named.flights }
 rest-named w (Up epoch) is named = record { turns = named.turns; flights = named.flights }

@@ -7,7 +7,7 @@ use Rattle.run_events.specs.declared.flying.Flying.{Flying}
 use Rattle.run_events.specs.declared.step.Pick.TheVariants.{First}
 use Rattle.run_events.specs.declared.step.Step.{Step}
 use Rattle.run_events.specs.declared.step.Step.TheVariants.{Deliver, Render}
-use Rattle.run_events.specs.States.{AreRising, RunState, Start, start_of}
+use Rattle.run_events.specs.States.{AirRises, RunState, Start, start_of}
 use Rattle.run_events.specs.Moves.{state_after_notes, with_rendered}
 use Rattle.run_events.specs.Events.{Event, Happens, HappensBy, Run, after_event, state_after_events, state_before_notes}
 use Rattle.run_laws.specs.Rounds.{BringsBytes, HasNothingDue, LandsTheFirst, LeavesFlights, RendersTheFirst, TreatsNoTurn}
@@ -19,7 +19,7 @@ use Rattle.run_laws.proofs.NumberedLemmas.{Rising}
 use Rattle.run_laws.proofs.RoundLemmas.{lands-first, renders-first, step-leaves, step-treats}
 use Rattle.run_laws.proofs.SoundLemmas.{flight_number}
 
-rising-are : (least : ℕ) (flights : List Flying) (most : ℕ) → AreRising least flights most → Rising flight_number least flights most
+rising-are : (least : ℕ) (flights : List Flying) (most : ℕ) → AirRises least flights most → Rising flight_number least flights most
 rising-are least [] most rising = rising
 rising-are least (f ∷ flights) most rising = (rising.0, rising-are f.number flights most rising.1)
 

@@ -8,18 +8,18 @@ use Rattle.sp_base.specs.Requests.{Request}
 use Rattle.connections.specs.declared.awaited.Awaited.TheVariants.{Flight, Flush}
 use Rattle.connections.specs.Slots.{Awaits, Cached, Fixed, Interim, Response, Says, local_response}
 use Rattle.run_events.specs.declared.flying.Flying.{Flying}
-use Rattle.run_events.specs.States.{AreRising}
-use Rattle.run_events.specs.Moves.{flight_at, new_flight, with_rendered, with_rendered_at, without}
-use Rattle.run_laws.specs.Owned.{ByFlight, ByFlush, ByHit, ByStatus, FlushEnding, HasEnded, IsOfFlight, IsOfFlush, IsOfRequest, Outcomes, Treating, WasLost, WasRendered}
+use Rattle.run_events.specs.States.{AirRises}
+use Rattle.run_events.specs.Moves.{flying_at, new_flight, with_rendered, with_rendered_at, air_without}
+use Rattle.run_laws.specs.Owned.{ByFlight, ByFlush, ByHit, ByStatus, FlushEnding, HasFlushEnding, IsOfFlight, IsOfFlush, IsOfRequest, Outcomes, Treating, WasLost, WasRendered}
 use Rattle.run_laws.specs.Renders.{Rendering}
 use Rattle.run_laws.proofs.NumberedLemmas.{at-number}
 use Rattle.run_laws.proofs.SoundLemmas.{flight_number}
 
 -- ---- the flight with a number
-at-first : (n : ℕ) (f : Flying) (flights : List Flying) → nat_eq f.number n ≡ true → flight_at n (f ∷ flights) ≡ Some f
+at-first : (n : ℕ) (f : Flying) (flights : List Flying) → nat_eq f.number n ≡ true → flying_at n (f ∷ flights) ≡ Some f
 at-first n f flights here = rw here refl
 
-at-later : (n : ℕ) (f : Flying) (flights : List Flying) → nat_eq f.number n ≡ false → flight_at n (f ∷ flights) ≡ flight_at n flights
+at-later : (n : ℕ) (f : Flying) (flights : List Flying) → nat_eq f.number n ≡ false → flying_at n (f ∷ flights) ≡ flying_at n flights
 at-later n f flights other = rw other refl
 
 number-rendered : (m : ℕ) (answer : Answer) (f : Flying) → (with_rendered_at m answer f).number ≡ f.number
@@ -29,29 +29,29 @@ number-rendered m answer f = by_test (nat_eq f.number m)
     by_test true = refl
     by_test false = refl
 
-at-push : (n : ℕ) (flights : List Flying) (g : Flying) → nat_eq g.number n ≡ false → flight_at n (flights ++ g ∷ []) ≡ flight_at n flights
+at-push : (n : ℕ) (flights : List Flying) (g : Flying) → nat_eq g.number n ≡ false → flying_at n (flights ++ g ∷ []) ≡ flying_at n flights
 at-push n [] g other = rw other refl
 at-push n (f ∷ flights) g other = by_test (nat_eq f.number n) refl (at-push n flights g other)
   where
-    by_test : (b : Bool) → nat_eq f.number n ≡ b → flight_at n (flights ++ g ∷ []) ≡ flight_at n flights → flight_at n ((f ∷ flights) ++ g ∷ []) ≡ flight_at n (f ∷ flights)
+    by_test : (b : Bool) → nat_eq f.number n ≡ b → flying_at n (flights ++ g ∷ []) ≡ flying_at n flights → flying_at n ((f ∷ flights) ++ g ∷ []) ≡ flying_at n (f ∷ flights)
     by_test true e rest = rw e refl
     by_test false e rest = rw e rest
 
-at-new : (n : ℕ) (flights : List Flying) (g : Flying) → flight_at n flights ≡ None → nat_eq g.number n ≡ true → flight_at n (flights ++ g ∷ []) ≡ Some g
+at-new : (n : ℕ) (flights : List Flying) (g : Flying) → flying_at n flights ≡ None → nat_eq g.number n ≡ true → flying_at n (flights ++ g ∷ []) ≡ Some g
 at-new n [] g none is = rw is refl
 at-new n (f ∷ flights) g none is = by_test (nat_eq f.number n) refl (at-new n flights g)
   where
-    by_test : (b : Bool) → nat_eq f.number n ≡ b → (flight_at n flights ≡ None → nat_eq g.number n ≡ true → flight_at n (flights ++ g ∷ []) ≡ Some g) → flight_at n ((f ∷ flights) ++ g ∷ []) ≡ Some g
+    by_test : (b : Bool) → nat_eq f.number n ≡ b → (flying_at n flights ≡ None → nat_eq g.number n ≡ true → flying_at n (flights ++ g ∷ []) ≡ Some g) → flying_at n ((f ∷ flights) ++ g ∷ []) ≡ Some g
     by_test true e rest = absurd (let some : Some f ≡ None = rw e at none in let no : ⊥ = cc in no)
     by_test false e rest =
-        let left : flight_at n flights ≡ None = rw e at none in
+        let left : flying_at n flights ≡ None = rw e at none in
         rw e (rest left is)
 
-rising-most : (least : ℕ) (flights : List Flying) (most : ℕ) → AreRising least flights most → least ≤ most
+rising-most : (least : ℕ) (flights : List Flying) (most : ℕ) → AirRises least flights most → least ≤ most
 rising-most least [] most rising = rising
 rising-most least (g ∷ flights) most rising = omega (arith, rising.0, rising-most g.number flights most rising.1)
 
-at-none : (n least : ℕ) (flights : List Flying) (most : ℕ) → AreRising least flights most → most < n → flight_at n flights ≡ None
+at-none : (n least : ℕ) (flights : List Flying) (most : ℕ) → AirRises least flights most → most < n → flying_at n flights ≡ None
 at-none n least [] most rising above = refl
 at-none n least (f ∷ flights) most rising above =
     let under : f.number ≤ most = rising-most f.number flights most rising.1 in
@@ -60,21 +60,21 @@ at-none n least (f ∷ flights) most rising above =
     rw no rest
 
 -- as many were asked as its number says, or more
-pub at-within : (n least : ℕ) (flights : List Flying) (most : ℕ) (f : Flying) → AreRising least flights most → flight_at n flights ≡ Some f → n ≤ most
+pub at-within : (n least : ℕ) (flights : List Flying) (most : ℕ) (f : Flying) → AirRises least flights most → flying_at n flights ≡ Some f → n ≤ most
 at-within n least [] most f rising there = absurd (let no : ⊥ = cc in no)
 at-within n least (g ∷ flights) most f rising there = by_test (nat_eq g.number n) refl (at-within n g.number flights most f rising.1)
   where
-    by_test : (b : Bool) → nat_eq g.number n ≡ b → (flight_at n flights ≡ Some f → n ≤ most) → n ≤ most
+    by_test : (b : Bool) → nat_eq g.number n ≡ b → (flying_at n flights ≡ Some f → n ≤ most) → n ≤ most
     by_test true e rest =
         let same : g.number ≡ n = grind (arith, e) in
         omega (arith, same, rising-most g.number flights most rising.1)
     by_test false e rest = rest (rw e at there)
 
-at-without-other : (n m : ℕ) (flights : List Flying) → n ≢ m → flight_at n (without m flights) ≡ flight_at n flights
-at-without-other n m [] apart = refl
-at-without-other n m (g ∷ flights) apart = by_test (nat_eq g.number m) (nat_eq g.number n) refl refl (at-without-other n m flights apart)
+at-air_without-other : (n m : ℕ) (flights : List Flying) → n ≢ m → flying_at n (air_without m flights) ≡ flying_at n flights
+at-air_without-other n m [] apart = refl
+at-air_without-other n m (g ∷ flights) apart = by_test (nat_eq g.number m) (nat_eq g.number n) refl refl (at-air_without-other n m flights apart)
   where
-    by_test : (p q : Bool) → nat_eq g.number m ≡ p → nat_eq g.number n ≡ q → flight_at n (without m flights) ≡ flight_at n flights → flight_at n (without m (g ∷ flights)) ≡ flight_at n (g ∷ flights)
+    by_test : (p q : Bool) → nat_eq g.number m ≡ p → nat_eq g.number n ≡ q → flying_at n (air_without m flights) ≡ flying_at n flights → flying_at n (air_without m (g ∷ flights)) ≡ flying_at n (g ∷ flights)
     by_test true true is there rest =
         let one : g.number ≡ m = grind (arith, is) in
         let two : g.number ≡ n = grind (arith, there) in
@@ -83,31 +83,31 @@ at-without-other n m (g ∷ flights) apart = by_test (nat_eq g.number m) (nat_eq
     by_test false true is there rest = rw (is, there) refl
     by_test false false is there rest = rw (is, there) rest
 
-at-without-same : (n : ℕ) (flights : List Flying) → flight_at n (without n flights) ≡ None
-at-without-same n [] = refl
-at-without-same n (g ∷ flights) = by_test (nat_eq g.number n) refl (at-without-same n flights)
+at-air_without-same : (n : ℕ) (flights : List Flying) → flying_at n (air_without n flights) ≡ None
+at-air_without-same n [] = refl
+at-air_without-same n (g ∷ flights) = by_test (nat_eq g.number n) refl (at-air_without-same n flights)
   where
-    by_test : (b : Bool) → nat_eq g.number n ≡ b → flight_at n (without n flights) ≡ None → flight_at n (without n (g ∷ flights)) ≡ None
+    by_test : (b : Bool) → nat_eq g.number n ≡ b → flying_at n (air_without n flights) ≡ None → flying_at n (air_without n (g ∷ flights)) ≡ None
     by_test true e rest =
-        let left : without n (g ∷ flights) ≡ without n flights = rw e refl in
-        ap (flight_at n) left ∙ rest
+        let left : air_without n (g ∷ flights) ≡ air_without n flights = rw e refl in
+        ap (flying_at n) left ∙ rest
     by_test false e rest =
-        let left : without n (g ∷ flights) ≡ g ∷ without n flights = rw e refl in
-        let past : flight_at n (g ∷ without n flights) ≡ flight_at n (without n flights) = rw e refl in
-        ap (flight_at n) left ∙ past ∙ rest
+        let left : air_without n (g ∷ flights) ≡ g ∷ air_without n flights = rw e refl in
+        let past : flying_at n (g ∷ air_without n flights) ≡ flying_at n (air_without n flights) = rw e refl in
+        ap (flying_at n) left ∙ past ∙ rest
 
-at-without : (n m : ℕ) (flights : List Flying) (f : Flying) → flight_at n (without m flights) ≡ Some f → flight_at n flights ≡ Some f
-at-without n m flights f there = ⊎_elim same apart (cases_eq n m)
+at-air_without : (n m : ℕ) (flights : List Flying) (f : Flying) → flying_at n (air_without m flights) ≡ Some f → flying_at n flights ≡ Some f
+at-air_without n m flights f there = ⊎_elim same apart (cases_eq n m)
   where
-    same : n ≡ m → flight_at n flights ≡ Some f
+    same : n ≡ m → flying_at n flights ≡ Some f
     same e =
-        let none : flight_at n (without m flights) ≡ None = subst (λ k. flight_at n (without k flights) ≡ None) e (at-without-same n flights) in
+        let none : flying_at n (air_without m flights) ≡ None = subst (λ k. flying_at n (air_without k flights) ≡ None) e (at-air_without-same n flights) in
         absurd (let no : ⊥ = cc in no)
 
-    apart : n ≢ m → flight_at n flights ≡ Some f
-    apart other = sym (at-without-other n m flights other) ∙ there
+    apart : n ≢ m → flying_at n flights ≡ Some f
+    apart other = sym (at-air_without-other n m flights other) ∙ there
 
-at-rendered : (n m : ℕ) (answer : Answer) (flights : List Flying) → flight_at n (map (with_rendered_at m answer) flights) ≡ option_map (with_rendered_at m answer) (flight_at n flights)
+at-rendered : (n m : ℕ) (answer : Answer) (flights : List Flying) → flying_at n (map (with_rendered_at m answer) flights) ≡ option_map (with_rendered_at m answer) (flying_at n flights)
 at-rendered n m answer [] = refl
 at-rendered n m answer (g ∷ flights) = by_test (nat_eq g.number n) refl (at-rendered n m answer flights)
   where
@@ -117,36 +117,36 @@ at-rendered n m answer (g ∷ flights) = by_test (nat_eq g.number n) refl (at-re
     number : nat_eq h.number n ≡ nat_eq g.number n
     number = ap (λ k. nat_eq k n) (number-rendered m answer g)
 
-    by_test : (b : Bool) → nat_eq g.number n ≡ b → flight_at n (map (with_rendered_at m answer) flights) ≡ option_map (with_rendered_at m answer) (flight_at n flights)
-        → flight_at n (h ∷ map (with_rendered_at m answer) flights) ≡ option_map (with_rendered_at m answer) (flight_at n (g ∷ flights))
+    by_test : (b : Bool) → nat_eq g.number n ≡ b → flying_at n (map (with_rendered_at m answer) flights) ≡ option_map (with_rendered_at m answer) (flying_at n flights)
+        → flying_at n (h ∷ map (with_rendered_at m answer) flights) ≡ option_map (with_rendered_at m answer) (flying_at n (g ∷ flights))
     by_test true e rest =
-        let first : flight_at n (h ∷ map (with_rendered_at m answer) flights) ≡ Some h = at-first n h (map (with_rendered_at m answer) flights) (number ∙ e) in
+        let first : flying_at n (h ∷ map (with_rendered_at m answer) flights) ≡ Some h = at-first n h (map (with_rendered_at m answer) flights) (number ∙ e) in
         first ∙ ap (option_map (with_rendered_at m answer)) (sym (at-first n g flights e))
     by_test false e rest =
-        let past : flight_at n (h ∷ map (with_rendered_at m answer) flights) ≡ flight_at n (map (with_rendered_at m answer) flights) = at-later n h (map (with_rendered_at m answer) flights) (number ∙ e) in
+        let past : flying_at n (h ∷ map (with_rendered_at m answer) flights) ≡ flying_at n (map (with_rendered_at m answer) flights) = at-later n h (map (with_rendered_at m answer) flights) (number ∙ e) in
         past ∙ rest ∙ ap (option_map (with_rendered_at m answer)) (sym (at-later n g flights e))
 
-pub number-at : (n : ℕ) (flights : List Flying) (f : Flying) → flight_at n flights ≡ Some f → f.number ≡ n
+pub number-at : (n : ℕ) (flights : List Flying) (f : Flying) → flying_at n flights ≡ Some f → f.number ≡ n
 number-at n flights f there = at-number flight_number n flights f there
 
 -- ---- the request that a flight is for
 -- `most` flights were asked, the one with number `n` among them; and if it is in the air, it is for this request
 pub record IsAskedFor (flights : List Flying) (most n : ℕ) (request : Request) : Type 0 where
   pub within : n ≤ most
-  pub same : (f : Flying) → flight_at n flights ≡ Some f → f.request ≡ request
+  pub same : (f : Flying) → flying_at n flights ≡ Some f → f.request ≡ request
 
 -- the flight with this number was asked, and is out of the air
 pub record IsOver (flights : List Flying) (most n : ℕ) : Type 0 where
   pub within : n ≤ most
-  pub out : flight_at n flights ≡ None
+  pub out : flying_at n flights ≡ None
 
 -- each flight in the air that is rendered has what was rendered for it, and each that was lost is out of the air
 pub record Agrees (outcomes : Outcomes) (flights : List Flying) (most : ℕ) : Type 0 where
-  pub rendered : (n : ℕ) (f : Flying) (answer : Answer) → flight_at n flights ≡ Some f → f.rendered ≡ Some answer → WasRendered outcomes.renders n f.request answer
+  pub rendered : (n : ℕ) (f : Flying) (answer : Answer) → flying_at n flights ≡ Some f → f.rendered ≡ Some answer → WasRendered outcomes.renders n f.request answer
   pub lost : (n : ℕ) → WasLost outcomes.losses n → IsOver flights most n
 
 -- a flight in the air was not lost
-pub flying-unlost : (outcomes : Outcomes) (flights : List Flying) (most n : ℕ) (f : Flying) → Agrees outcomes flights most → flight_at n flights ≡ Some f → WasLost outcomes.losses n → ⊥
+pub flying-unlost : (outcomes : Outcomes) (flights : List Flying) (most n : ℕ) (f : Flying) → Agrees outcomes flights most → flying_at n flights ≡ Some f → WasLost outcomes.losses n → ⊥
 flying-unlost outcomes flights most n f are there was =
     let out = (are.lost n was).out in
     let no : ⊥ = cc in
@@ -181,14 +181,14 @@ lost-before losses n k apart was = by_before losses was.before was.is
         let rest = by_before losses before tail in
         record { before = x ∷ rest.before; later = rest.later; is = ap (λ ys. x ∷ ys) rest.is }
 
-pub later-ended : (endings more : List FlushEnding) (v status : ℕ) → HasEnded endings v status → HasEnded (endings ++ more) v status
+pub later-ended : (endings more : List FlushEnding) (v status : ℕ) → HasFlushEnding endings v status → HasFlushEnding (endings ++ more) v status
 later-ended endings more v status was = record { before = was.before; later = was.later ++ more; is = ap (λ xs. xs ++ more) was.is ∙ append_assoc was.before (record { number = v; status = status } ∷ was.later) more }
 
 -- what was rendered, lost or ended stays so
 pub record AreMore (outcomes all : Outcomes) : Type 0 where
   pub rendered : (n : ℕ) (request : Request) (answer : Answer) → WasRendered outcomes.renders n request answer → WasRendered all.renders n request answer
   pub lost : (n : ℕ) → WasLost outcomes.losses n → WasLost all.losses n
-  pub ended : (v status : ℕ) → HasEnded outcomes.endings v status → HasEnded all.endings v status
+  pub ended : (v status : ℕ) → HasFlushEnding outcomes.endings v status → HasFlushEnding all.endings v status
 
 pub more-same : (outcomes : Outcomes) → AreMore outcomes outcomes
 more-same outcomes = record { rendered = λ n request answer was. was; lost = λ n was. was; ended = λ v status was. was }
@@ -234,7 +234,7 @@ moved-ended flights most outcomes more are = record {
   air_is = record { rendered = are.rendered; lost = are.lost };
 }
 
-pub moved-asked : (flights : List Flying) (most c : ℕ) (request : Request) (outcomes : Outcomes) → AreRising 0 flights most → Agrees outcomes flights most → Moved flights most outcomes (flights ++ new_flight (most + 1) c request ∷ []) (most + 1) outcomes
+pub moved-asked : (flights : List Flying) (most c : ℕ) (request : Request) (outcomes : Outcomes) → AirRises 0 flights most → Agrees outcomes flights most → Moved flights most outcomes (flights ++ new_flight (most + 1) c request ∷ []) (most + 1) outcomes
 moved-asked flights most c request outcomes rising are = record {
   asked = λ n other is. record {
     within = omega (arith, is.within);
@@ -255,12 +255,12 @@ moved-asked flights most c request outcomes rising are = record {
         let no : nat_eq (most + 1) n ≡ false = grind (arith, below) in
         record { within = omega (arith, below); out = at-push n flights (new_flight (most + 1) c request) no ∙ is.out }
 
-    old : (n : ℕ) (f : Flying) (answer : Answer) → flight_at n (flights ++ new_flight (most + 1) c request ∷ []) ≡ Some f → f.rendered ≡ Some answer → (most + 1) ≢ n → WasRendered outcomes.renders n f.request answer
+    old : (n : ℕ) (f : Flying) (answer : Answer) → flying_at n (flights ++ new_flight (most + 1) c request ∷ []) ≡ Some f → f.rendered ≡ Some answer → (most + 1) ≢ n → WasRendered outcomes.renders n f.request answer
     old n f answer there has apart = are.rendered n f answer (sym (at-push n flights (new_flight (most + 1) c request) (ne_eqb (most + 1) n apart)) ∙ there) has
 
-    fresh : (n : ℕ) (f : Flying) (answer : Answer) → flight_at n (flights ++ new_flight (most + 1) c request ∷ []) ≡ Some f → f.rendered ≡ Some answer → (most + 1) ≡ n → WasRendered outcomes.renders n f.request answer
+    fresh : (n : ℕ) (f : Flying) (answer : Answer) → flying_at n (flights ++ new_flight (most + 1) c request ∷ []) ≡ Some f → f.rendered ≡ Some answer → (most + 1) ≡ n → WasRendered outcomes.renders n f.request answer
     fresh n f answer there has same =
-        let none : flight_at n flights ≡ None = subst (λ k. flight_at k flights ≡ None) same (at-none (most + 1) 0 flights most rising (omega arith)) in
+        let none : flying_at n flights ≡ None = subst (λ k. flying_at k flights ≡ None) same (at-none (most + 1) 0 flights most rising (omega arith)) in
         let is : nat_eq (most + 1) n ≡ true = grind (arith, same) in
         let new : Some (new_flight (most + 1) c request) ≡ Some f = sym (at-new n flights (new_flight (most + 1) c request) none is) ∙ there in
         let eq : new_flight (most + 1) c request ≡ f = cc in
@@ -268,7 +268,7 @@ moved-asked flights most c request outcomes rising are = record {
         absurd (let no : ⊥ = cc in no)
 
 -- the flight that was just asked is for its request
-pub asked-new : (flights : List Flying) (most c : ℕ) (request : Request) → AreRising 0 flights most → IsAskedFor (flights ++ new_flight (most + 1) c request ∷ []) (most + 1) (most + 1) request
+pub asked-new : (flights : List Flying) (most c : ℕ) (request : Request) → AirRises 0 flights most → IsAskedFor (flights ++ new_flight (most + 1) c request ∷ []) (most + 1) (most + 1) request
 asked-new flights most c request rising = record {
   within = omega arith;
   same = λ f there.
@@ -278,39 +278,39 @@ asked-new flights most c request rising = record {
       ap (λ (g : Flying). g.request) (sym eq);
 }
 
-over-without : (flights : List Flying) (most n k : ℕ) → IsOver flights most k → IsOver (without n flights) most k
-over-without flights most n k is = record { within = is.within; out = ⊎_elim (λ same. subst (λ i. flight_at i (without n flights) ≡ None) same (at-without-same n flights)) (λ apart. at-without-other k n flights (λ e. apart (sym e)) ∙ is.out) (cases_eq n k) }
+over-air_without : (flights : List Flying) (most n k : ℕ) → IsOver flights most k → IsOver (air_without n flights) most k
+over-air_without flights most n k is = record { within = is.within; out = ⊎_elim (λ same. subst (λ i. flying_at i (air_without n flights) ≡ None) same (at-air_without-same n flights)) (λ apart. at-air_without-other k n flights (λ e. apart (sym e)) ∙ is.out) (cases_eq n k) }
 
 -- a flight that was asked is out of the air
-pub over-now : (flights : List Flying) (most n : ℕ) → n ≤ most → IsOver (without n flights) most n
-over-now flights most n within = record { within = within; out = at-without-same n flights }
+pub over-now : (flights : List Flying) (most n : ℕ) → n ≤ most → IsOver (air_without n flights) most n
+over-now flights most n within = record { within = within; out = at-air_without-same n flights }
 
 -- a flight has landed
-pub moved-over : (flights : List Flying) (most n : ℕ) (outcomes : Outcomes) → Agrees outcomes flights most → Moved flights most outcomes (without n flights) most outcomes
+pub moved-over : (flights : List Flying) (most n : ℕ) (outcomes : Outcomes) → Agrees outcomes flights most → Moved flights most outcomes (air_without n flights) most outcomes
 moved-over flights most n outcomes are = record {
-  asked = λ k request is. record { within = is.within; same = λ f there. is.same f (at-without k n flights f there) };
+  asked = λ k request is. record { within = is.within; same = λ f there. is.same f (at-air_without k n flights f there) };
   grown = more-same outcomes;
-  over = over-without flights most n;
+  over = over-air_without flights most n;
   unlost = λ k is was. was;
-  air_is = record { rendered = λ k f answer there has. are.rendered k f answer (at-without k n flights f there) has; lost = λ k was. over-without flights most n k (are.lost k was) };
+  air_is = record { rendered = λ k f answer there has. are.rendered k f answer (at-air_without k n flights f there) has; lost = λ k was. over-air_without flights most n k (are.lost k was) };
 }
 
 -- a flight is lost
-pub moved-lost : (flights : List Flying) (most n : ℕ) (f : Flying) (outcomes : Outcomes) → flight_at n flights ≡ Some f → n ≤ most → Agrees outcomes flights most → Moved flights most outcomes (without n flights) most (with_losses outcomes (n ∷ []))
+pub moved-lost : (flights : List Flying) (most n : ℕ) (f : Flying) (outcomes : Outcomes) → flying_at n flights ≡ Some f → n ≤ most → Agrees outcomes flights most → Moved flights most outcomes (air_without n flights) most (with_losses outcomes (n ∷ []))
 moved-lost flights most n f outcomes here within are = record {
-  asked = λ k request is. record { within = is.within; same = λ g there. is.same g (at-without k n flights g there) };
+  asked = λ k request is. record { within = is.within; same = λ g there. is.same g (at-air_without k n flights g there) };
   grown = record { rendered = λ k request answer was. was; lost = later-lost outcomes.losses (n ∷ []); ended = λ v status was. was };
-  over = over-without flights most n;
+  over = over-air_without flights most n;
   unlost = λ k is was. lost-before outcomes.losses n k (λ same. flies k is same) was;
   air_is = record {
-    rendered = λ k g answer there has. are.rendered k g answer (at-without k n flights g there) has;
-    lost = λ k was. ⊎_elim (λ same. subst (IsOver (without n flights) most) same (over-now flights most n within)) (λ apart. over-without flights most n k (are.lost k (lost-before outcomes.losses n k apart was))) (cases_eq n k);
+    rendered = λ k g answer there has. are.rendered k g answer (at-air_without k n flights g there) has;
+    lost = λ k was. ⊎_elim (λ same. subst (IsOver (air_without n flights) most) same (over-now flights most n within)) (λ apart. over-air_without flights most n k (are.lost k (lost-before outcomes.losses n k apart was))) (cases_eq n k);
   };
 }
   where
     flies : (k : ℕ) → IsOver flights most k → n ≡ k → ⊥
     flies k is same =
-        let there : flight_at k flights ≡ Some f = subst (λ i. flight_at i flights ≡ Some f) same here in
+        let there : flying_at k flights ≡ Some f = subst (λ i. flying_at i flights ≡ Some f) same here in
         let out = is.out in
         let never : ⊥ = cc in
         never
@@ -327,13 +327,13 @@ request-rendered m answer f = by_test (nat_eq f.number m)
     by_test true = refl
     by_test false = refl
 
-pub moved-rendered : (flights : List Flying) (most : ℕ) (g : Flying) (answer : Answer) (out_of_memory : Bool) (outcomes : Outcomes) → flight_at g.number flights ≡ Some g → Agrees outcomes flights most
+pub moved-rendered : (flights : List Flying) (most : ℕ) (g : Flying) (answer : Answer) (out_of_memory : Bool) (outcomes : Outcomes) → flying_at g.number flights ≡ Some g → Agrees outcomes flights most
     → Moved flights most outcomes (map (with_rendered_at g.number answer) flights) most (with_renders outcomes (record { number = g.number; request = g.request; answer = answer; out_of_memory = out_of_memory } ∷ []))
 moved-rendered flights most g answer out_of_memory outcomes here are = record {
   asked = λ n request is. record {
     within = is.within;
     same = λ f there.
-        let from = some-map (with_rendered_at g.number answer) (flight_at n flights) f (sym (at-rendered n g.number answer flights) ∙ there) in
+        let from = some-map (with_rendered_at g.number answer) (flying_at n flights) f (sym (at-rendered n g.number answer flights) ∙ there) in
         ap (λ (h : Flying). h.request) (sym from.2) ∙ request-rendered g.number answer from.0 ∙ is.same from.0 from.1;
   };
   grown = record { rendered = later-rendered outcomes.renders (rendering ∷ []); lost = λ n was. was; ended = λ v status was. was };
@@ -341,7 +341,7 @@ moved-rendered flights most g answer out_of_memory outcomes here are = record {
   unlost = λ n is was. was;
   air_is = record {
     rendered = λ n f other there has.
-        let from = some-map (with_rendered_at g.number answer) (flight_at n flights) f (sym (at-rendered n g.number answer flights) ∙ there) in
+        let from = some-map (with_rendered_at g.number answer) (flying_at n flights) f (sym (at-rendered n g.number answer flights) ∙ there) in
         by_number n f other from.0 from.1 from.2 has (nat_eq from.0.number g.number) refl;
     lost = λ n was. still n (are.lost n was);
   };
@@ -353,10 +353,10 @@ moved-rendered flights most g answer out_of_memory outcomes here are = record {
     rendering : Rendering
     rendering = record { number = g.number; request = g.request; answer = answer; out_of_memory = out_of_memory }
 
-    by_number : (n : ℕ) (f : Flying) (other : Answer) (h : Flying) → flight_at n flights ≡ Some h → with_rendered_at g.number answer h ≡ f → f.rendered ≡ Some other → (b : Bool) → nat_eq h.number g.number ≡ b → WasRendered (outcomes.renders ++ rendering ∷ []) n f.request other
+    by_number : (n : ℕ) (f : Flying) (other : Answer) (h : Flying) → flying_at n flights ≡ Some h → with_rendered_at g.number answer h ≡ f → f.rendered ≡ Some other → (b : Bool) → nat_eq h.number g.number ≡ b → WasRendered (outcomes.renders ++ rendering ∷ []) n f.request other
     by_number n f other h there is has true same =
         let number : n ≡ g.number = sym (number-at n flights h there) ∙ (let e : h.number ≡ g.number = grind (arith, same) in e) in
-        let found : flight_at n flights ≡ Some g = subst (λ k. flight_at k flights ≡ Some g) (sym number) here in
+        let found : flying_at n flights ≡ Some g = subst (λ k. flying_at k flights ≡ Some g) (sym number) here in
         let eq : h ≡ g = let both : Some h ≡ Some g = sym there ∙ found in cc in
         let made : with_rendered answer h ≡ f = rw same at is in
         let gives : Some answer ≡ Some other = ap (λ (x : Flying). x.rendered) made ∙ has in

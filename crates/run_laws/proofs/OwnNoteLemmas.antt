@@ -7,7 +7,7 @@ use Rattle.std.proofs.lemmas.Bool.{cases_eq, ne_eqb}
 use Rattle.sp_base.specs.declared.answer.Answer.{Answer}
 use Rattle.sp_base.specs.Requests.{Request}
 use Rattle.error_answers.specs.Errors.{error_answer}
-use Rattle.cache_log.specs.Entries.{LogEntry, Lost as lost_entry, Outcome, Done as done_outcome, Failed as failed_outcome, flights_asked, flushes_begun}
+use Rattle.cache_log.specs.Entries.{LogEntry, Lost as lost_entry, FlushOutcome, Done as done_outcome, Failed as failed_outcome, flights_asked, flushes_begun}
 use Rattle.connections.specs.declared.awaited.Awaited.TheVariants.{Flight as flight_awaited, Flush as flush_awaited}
 use Rattle.connections.specs.Slots.{Says, fixed_answer}
 use Rattle.connections.specs.Connections.{Connection, with_end}
@@ -17,11 +17,11 @@ use Rattle.run_events.specs.declared.flying.Flying.{Flying}
 use Rattle.run_events.specs.declared.flying.Flushing.{Flushing}
 use Rattle.run_events.specs.declared.note.Note.{Note}
 use Rattle.run_events.specs.declared.note.Note.TheVariants.{Sliced, Done, Failed, Rendered, Kept as kept_note, Unkept, Passed, Lost}
-use Rattle.run_events.specs.Moves.{GivesDue, GivesNext, Serves, answer_in, due_of_connection, failure_status, flight_at, flush_at, over_with, state_after_ending, state_after_note, state_after_notes, treated_request, without}
+use Rattle.run_events.specs.Moves.{GivesDue, GivesNext, Serves, answer_in, due_of_connection, failure_status, flying_at, flush_at, over_with, state_after_ending, state_after_note, state_after_notes, treated_request, air_without}
 use Rattle.run_events.specs.States.{RunState}
 use Rattle.run_laws.specs.Histories.{sent_by, sent_in}
 use Rattle.run_laws.specs.Renders.{Rendering, rendered_by, rendering_of, renders_in}
-use Rattle.run_laws.specs.Owned.{FlushEnding, HasEnded, IsOfFlight, Outcomes, Treating, WasLost, WasRendered, ended_by, ended_in, lost_by, lost_in, treated_by, treated_in}
+use Rattle.run_laws.specs.Owned.{FlushEnding, HasFlushEnding, IsOfFlight, Outcomes, Treating, WasLost, WasRendered, ended_by, ended_in, lost_by, lost_in, treated_by, treated_in}
 use Rattle.run_laws.proofs.AskLemmas.{Numbered, are-rising, due-asks, note-numbered}
 use Rattle.run_laws.proofs.FormLemmas.{IsDueNote, IsLandingNote, IsRequestNote, IsSliceNote, next-form, slice-form}
 use Rattle.run_laws.proofs.HistoryLemmas.{Held, held-same, next-held}
@@ -68,7 +68,7 @@ pub own-silent : (v : RunState) (c : ℕ) (os ps : Outcomes) (treatings : List T
 own-silent v c os ps treatings came sent same own = own-as v c os ps treatings (treatings ++ []) came sent (sent ++ []) same (sym (append-nil treatings)) (sym (append-nil sent)) own
 
 -- ---- a flush ends
-pub ending-own : (w : RunState) (c u status : ℕ) (outcome : Outcome) (outcomes : Outcomes) (treatings : List Treating) (came : List ℕ) (sent : List Sending) (at : Option Flushing) → Own w c outcomes treatings came sent
+pub ending-own : (w : RunState) (c u status : ℕ) (outcome : FlushOutcome) (outcomes : Outcomes) (treatings : List Treating) (came : List ℕ) (sent : List Sending) (at : Option Flushing) → Own w c outcomes treatings came sent
     → Own (state_after_ending w u outcome (Says (error_answer status)) at) c (with_endings outcomes (record { number = u; status = status } ∷ [])) treatings came sent
 ending-own w c u status outcome outcomes treatings came sent None own = own-moved w w c outcomes (with_endings outcomes (record { number = u; status = status } ∷ [])) treatings came sent refl (ending-moves w u outcome (Says (error_answer status)) outcomes (record { number = u; status = status } ∷ []) None own.air_is) own
 ending-own w c u status outcome outcomes treatings came sent (Some f) own = ⊎_elim (here (w.connection f.connection) refl) apart (cases_eq f.connection c)
@@ -82,7 +82,7 @@ ending-own w c u status outcome outcomes treatings came sent (Some f) own = ⊎_
     moves : Moves w outcomes v all
     moves = ending-moves w u outcome (Says (error_answer status)) outcomes (record { number = u; status = status } ∷ []) (Some f) own.air_is
 
-    ended : HasEnded all.endings u status
+    ended : HasFlushEnding all.endings u status
     ended = record { before = outcomes.endings; later = []; is = refl }
 
     here : (at : Option Connection) → w.connection f.connection ≡ at → f.connection ≡ c → Own v c all treatings came sent
@@ -201,7 +201,7 @@ serves-own m w c d outcomes treatings came sent (note ∷ notes) held numbered o
     (serves-own m (state_after_note w note) c d (outcomes_by w m.out_of_memory outcomes note) (treatings ++ treated_by w c note) came (sent ++ sent_by c m note) notes (held-next m w c d came sent note held owns serves.0 form) (note-numbered w note (due-asks w d note form) numbered) (owns-due w d note owns form) one serves.1)
 
 -- ---- a flight is over
-over-own : (w : RunState) (c n : ℕ) (outcomes all : Outcomes) (treatings : List Treating) (came : List ℕ) (sent : List Sending) (f : Flying) (answer : Answer) (entry : LogEntry) → flights_asked (entry ∷ w.log) ≡ flights_asked w.log → Moved w.flights (flights_asked w.log) outcomes (without n w.flights) (flights_asked w.log) all
+over-own : (w : RunState) (c n : ℕ) (outcomes all : Outcomes) (treatings : List Treating) (came : List ℕ) (sent : List Sending) (f : Flying) (answer : Answer) (entry : LogEntry) → flights_asked (entry ∷ w.log) ≡ flights_asked w.log → Moved w.flights (flights_asked w.log) outcomes (air_without n w.flights) (flights_asked w.log) all
     → ((k : ℕ) (request : Request) → n ≡ k → IsAskedFor w.flights (flights_asked w.log) k request → IsOfFlight all k request (Says answer)) → Own w c outcomes treatings came sent → Own (over_with w n answer entry (Some f)) c all treatings came sent
 over-own w c n outcomes all treatings came sent f answer entry same flies good own = ⊎_elim (here (w.connection f.connection) refl) apart (cases_eq f.connection c)
   where
@@ -213,7 +213,7 @@ over-own w c n outcomes all treatings came sent f answer entry same flies good o
 
     lands : (k : ℕ) (request : Request) → n ≡ k → IsAskedFor w.flights (flights_asked w.log) k request → IsOfFlight all k request (Says answer) × IsOver v.flights (flights_asked v.log) k
     lands k request number asked_for =
-        let over : IsOver v.flights (flights_asked w.log) k = subst (λ i. IsOver (without i w.flights) (flights_asked w.log) k) (sym number) (over-now w.flights (flights_asked w.log) k asked_for.within) in
+        let over : IsOver v.flights (flights_asked w.log) k = subst (λ i. IsOver (air_without i w.flights) (flights_asked w.log) k) (sym number) (over-now w.flights (flights_asked w.log) k asked_for.within) in
         (good k request number asked_for, subst (λ most. IsOver v.flights most k) (sym same) over)
 
     here : (at : Option Connection) → w.connection f.connection ≡ at → f.connection ≡ c → Own v c all treatings came sent
@@ -226,7 +226,7 @@ over-own w c n outcomes all treatings came sent f answer entry same flies good o
     apart : f.connection ≢ c → Own v c all treatings came sent
     apart other = own-moved w v c outcomes all treatings came sent (update_apart w.connection f.connection _ c (λ x. other (sym x))) moves own
 
-pub lost-own : (m : Conditions) (w : RunState) (c n : ℕ) (outcomes : Outcomes) (treatings : List Treating) (came : List ℕ) (sent : List Sending) (f : Flying) → flight_at n w.flights ≡ Some f → Numbered w → Own w c outcomes treatings came sent → OwnAfter w m c outcomes treatings came sent (Lost n)
+pub lost-own : (m : Conditions) (w : RunState) (c n : ℕ) (outcomes : Outcomes) (treatings : List Treating) (came : List ℕ) (sent : List Sending) (f : Flying) → flying_at n w.flights ≡ Some f → Numbered w → Own w c outcomes treatings came sent → OwnAfter w m c outcomes treatings came sent (Lost n)
 lost-own m w c n outcomes treatings came sent f at numbered own =
     let all : Outcomes = with_losses outcomes (n ∷ []) in
     let moves = moved-lost w.flights (flights_asked w.log) n f outcomes at (at-within n 0 w.flights (flights_asked w.log) f (are-rising 0 w.flights (flights_asked w.log) numbered) at) own.air_is in
@@ -235,29 +235,29 @@ lost-own m w c n outcomes treatings came sent f at numbered own =
     own-silent (state_after_note w (Lost n)) c all (plus outcomes [] (n ∷ []) []) treatings came sent (sym (plus-lost outcomes (n ∷ []))) (subst (λ u. Own u c all treatings came sent) (sym (ap (over_with w n (error_answer 502) (lost_entry n)) at)) done)
 
 -- a landing gives the answer that was rendered
-pub landed-own : (w : RunState) (c n : ℕ) (outcomes : Outcomes) (treatings : List Treating) (came : List ℕ) (sent : List Sending) (f : Flying) (answer : Answer) (entry : LogEntry) → flights_asked (entry ∷ w.log) ≡ flights_asked w.log → flight_at n w.flights ≡ Some f → f.rendered ≡ Some answer → Own w c outcomes treatings came sent
-    → Own (over_with w n (answer_in (flight_at n w.flights)) entry (flight_at n w.flights)) c outcomes treatings came sent
+pub landed-own : (w : RunState) (c n : ℕ) (outcomes : Outcomes) (treatings : List Treating) (came : List ℕ) (sent : List Sending) (f : Flying) (answer : Answer) (entry : LogEntry) → flights_asked (entry ∷ w.log) ≡ flights_asked w.log → flying_at n w.flights ≡ Some f → f.rendered ≡ Some answer → Own w c outcomes treatings came sent
+    → Own (over_with w n (answer_in (flying_at n w.flights)) entry (flying_at n w.flights)) c outcomes treatings came sent
 landed-own w c n outcomes treatings came sent f answer entry same at has own =
-    subst (λ o. Own (over_with w n (answer_in (flight_at n w.flights)) entry o) c outcomes treatings came sent) (sym at)
-    (over-own w c n outcomes outcomes treatings came sent f (answer_in (flight_at n w.flights)) entry same (moved-over w.flights (flights_asked w.log) n outcomes own.air_is) good own)
+    subst (λ o. Own (over_with w n (answer_in (flying_at n w.flights)) entry o) c outcomes treatings came sent) (sym at)
+    (over-own w c n outcomes outcomes treatings came sent f (answer_in (flying_at n w.flights)) entry same (moved-over w.flights (flights_asked w.log) n outcomes own.air_is) good own)
   where
-    given : answer_in (flight_at n w.flights) ≡ answer
+    given : answer_in (flying_at n w.flights) ≡ answer
     given = ap answer_in at ∙ ap (λ o. unwrap_or o fixed_answer) has
 
-    good : (k : ℕ) (request : Request) → n ≡ k → IsAskedFor w.flights (flights_asked w.log) k request → IsOfFlight outcomes k request (Says (answer_in (flight_at n w.flights)))
+    good : (k : ℕ) (request : Request) → n ≡ k → IsAskedFor w.flights (flights_asked w.log) k request → IsOfFlight outcomes k request (Says (answer_in (flying_at n w.flights)))
     good k request number asked_for =
-        let there : flight_at k w.flights ≡ Some f = subst (λ i. flight_at i w.flights ≡ Some f) number at in
+        let there : flying_at k w.flights ≡ Some f = subst (λ i. flying_at i w.flights ≡ Some f) number at in
         let was : WasRendered outcomes.renders k f.request answer = own.air_is.rendered k f answer there has in
         subst (λ a. IsOfFlight outcomes k request (Says a)) (sym given) (inl (subst (λ r. WasRendered outcomes.renders k r answer) (asked_for.same f there) was, flying-unlost outcomes w.flights (flights_asked w.log) k f own.air_is there))
 
-pub landing-own : (m : Conditions) (w : RunState) (c n : ℕ) (outcomes : Outcomes) (treatings : List Treating) (came : List ℕ) (sent : List Sending) (f : Flying) (answer : Answer) (note : Note) → flight_at n w.flights ≡ Some f → f.rendered ≡ Some answer → Own w c outcomes treatings came sent → IsLandingNote n note
+pub landing-own : (m : Conditions) (w : RunState) (c n : ℕ) (outcomes : Outcomes) (treatings : List Treating) (came : List ℕ) (sent : List Sending) (f : Flying) (answer : Answer) (note : Note) → flying_at n w.flights ≡ Some f → f.rendered ≡ Some answer → Own w c outcomes treatings came sent → IsLandingNote n note
     → OwnAfter w m c outcomes treatings came sent note
 landing-own m w c n outcomes treatings came sent f answer note at has own (inl kept) = rw kept.1 (own-silent (state_after_note w (kept_note n kept.0)) c outcomes (plus outcomes [] [] []) treatings came sent (sym (plus-none outcomes)) (landed-own w c n outcomes treatings came sent f answer _ refl at has own))
 landing-own m w c n outcomes treatings came sent f answer note at has own (inr (inl unkept)) = rw unkept (own-silent (state_after_note w (Unkept n)) c outcomes (plus outcomes [] [] []) treatings came sent (sym (plus-none outcomes)) (landed-own w c n outcomes treatings came sent f answer _ refl at has own))
 landing-own m w c n outcomes treatings came sent f answer note at has own (inr (inr passed)) = rw passed (own-silent (state_after_note w (Passed n)) c outcomes (plus outcomes [] [] []) treatings came sent (sym (plus-none outcomes)) (landed-own w c n outcomes treatings came sent f answer _ refl at has own))
 
 -- a flight is rendered
-pub rendered-own : (m : Conditions) (w : RunState) (c : ℕ) (outcomes : Outcomes) (treatings : List Treating) (came : List ℕ) (sent : List Sending) (f : Flying) (answer : Answer) → flight_at f.number w.flights ≡ Some f → Own w c outcomes treatings came sent → OwnAfter w m c outcomes treatings came sent (Rendered f.number answer)
+pub rendered-own : (m : Conditions) (w : RunState) (c : ℕ) (outcomes : Outcomes) (treatings : List Treating) (came : List ℕ) (sent : List Sending) (f : Flying) (answer : Answer) → flying_at f.number w.flights ≡ Some f → Own w c outcomes treatings came sent → OwnAfter w m c outcomes treatings came sent (Rendered f.number answer)
 rendered-own m w c outcomes treatings came sent f answer at own =
     let rendering : Rendering = record { number = f.number; request = f.request; answer = answer; out_of_memory = m.out_of_memory } in
     let adds : rendered_by w m.out_of_memory (Rendered f.number answer) ≡ rendering ∷ [] = ap (rendering_of answer m.out_of_memory) at in

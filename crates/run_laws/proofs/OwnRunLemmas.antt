@@ -20,7 +20,7 @@ use Rattle.run_events.specs.declared.note.Note.{Note}
 use Rattle.run_events.specs.declared.note.Note.TheVariants.{Answer as answered, Rendered, Failed, Lost, Shut, Refused, Idle, Up, Down}
 use Rattle.run_events.specs.declared.step.Step.{Step}
 use Rattle.run_events.specs.declared.step.Step.TheVariants as step
-use Rattle.run_events.specs.Moves.{flight_at, on_connection, over_with, state_after_note, state_after_notes}
+use Rattle.run_events.specs.Moves.{flying_at, on_connection, over_with, state_after_note, state_after_notes}
 use Rattle.run_events.specs.Restarts.{EndsRestart, Restarts, cut_notes, without_connections}
 use Rattle.run_events.specs.Events.{DeliverAs, DeliverTo, Event, HappensBy, LeadsNotes, LoseTo, PieceTo, PurgeTo, RenderTo, Run, after_event, going, is_any, is_picked, is_rendered, is_unrendered, most_connections, opening, picked_flight, state_after_events, state_after_going, state_after_opening, state_before_notes}
 use Rattle.run_events.specs.States.{RunState, Start, start_of}
@@ -157,10 +157,10 @@ leads-own m w first c d outcomes treatings came sent notes own held numbered non
     subst (OwnAfterAll w m c outcomes treatings came sent) (sym leads.begins) (all-more w m c outcomes treatings came sent first leads.rest (serves-own m (state_after_note w first) c d _ _ came _ leads.rest held numbered (owns-none (state_after_note w first) d none) own leads.settles.serves))
 
 takes-held : (m : Conditions) (w : RunState) (n : ℕ) (first : Note) (c : ℕ) (came : List ℕ) (sent : List Sending) → TakesOut w n first → Held w c came sent → Held (state_after_note w first) c came (sent ++ sent_by c m first)
-takes-held m w n first c came sent takes held = rw (takes.silent c m) (subst (λ u. Held u c came (sent ++ [])) (sym takes.is) (over-held w c n takes.answer takes.entry came sent (flight_at n w.flights) held))
+takes-held m w n first c came sent takes held = rw (takes.silent c m) (subst (λ u. Held u c came (sent ++ [])) (sym takes.is) (over-held w c n takes.answer takes.entry came sent (flying_at n w.flights) held))
 
 takes-slicing : (w : RunState) (n : ℕ) (first : Note) → TakesOut w n first → w.slicing ≡ None → (state_after_note w first).slicing ≡ None
-takes-slicing w n first takes none = ap (λ (u : RunState). u.slicing) takes.is ∙ over-slicing w n takes.answer takes.entry (flight_at n w.flights) ∙ none
+takes-slicing w n first takes none = ap (λ (u : RunState). u.slicing) takes.is ∙ over-slicing w n takes.answer takes.entry (flying_at n w.flights) ∙ none
 
 landing-numbered : (w : RunState) (n : ℕ) (note : Note) → IsLandingNote n note → Numbered w → Numbered (state_after_note w note)
 landing-numbered w n note form numbered = note-numbered w note (landing-asks w n note form) numbered
@@ -168,7 +168,7 @@ landing-numbered w n note form numbered = note-numbered w note (landing-asks w n
 slice-numbered : (w : RunState) (v : ℕ) (note : Note) → IsSliceNote v note → Numbered w → Numbered (state_after_note w note)
 slice-numbered w v note form numbered = note-numbered w note (slice-asks w v note form) numbered
 
-deliver-own : (w : RunState) (e : Event) (c : ℕ) (outcomes : Outcomes) (treatings : List Treating) (came : List ℕ) (sent : List Sending) (f : Flying) (answer : Option Answer) → f.rendered ≡ answer → flight_at f.number w.flights ≡ Some f → Kept w c came sent → Own w c outcomes treatings came sent → DeliverAs w e f answer
+deliver-own : (w : RunState) (e : Event) (c : ℕ) (outcomes : Outcomes) (treatings : List Treating) (came : List ℕ) (sent : List Sending) (f : Flying) (answer : Option Answer) → f.rendered ≡ answer → flying_at f.number w.flights ≡ Some f → Kept w c came sent → Own w c outcomes treatings came sent → DeliverAs w e f answer
     → OwnAfterAll w e.conditions c outcomes treatings came sent e.body
 deliver-own w e c outcomes treatings came sent f None has at kept own is = idle-all e.conditions w c outcomes treatings came sent e.body own is
 deliver-own w e c outcomes treatings came sent f (Some answer) has at kept own to =
@@ -176,12 +176,12 @@ deliver-own w e c outcomes treatings came sent f (Some answer) has at kept own t
     let takes = landing-takes w f.number to.0 form in
     leads-own e.conditions w to.0 c f.connection outcomes treatings came sent e.body (landing-own e.conditions w c f.number outcomes treatings came sent f answer to.0 at has own form) (takes-held e.conditions w f.number to.0 c came sent takes kept.held) (landing-numbered w f.number to.0 form kept.numbered) (takes-slicing w f.number to.0 takes kept.unsliced) to.2
 
-delivers-own : (w : RunState) (e : Event) (c : ℕ) (outcomes : Outcomes) (treatings : List Treating) (came : List ℕ) (sent : List Sending) (flying : Option Flying) → ((f : Flying) → flying ≡ Some f → flight_at f.number w.flights ≡ Some f) → Kept w c came sent → Own w c outcomes treatings came sent → DeliverTo w e flying
+delivers-own : (w : RunState) (e : Event) (c : ℕ) (outcomes : Outcomes) (treatings : List Treating) (came : List ℕ) (sent : List Sending) (flying : Option Flying) → ((f : Flying) → flying ≡ Some f → flying_at f.number w.flights ≡ Some f) → Kept w c came sent → Own w c outcomes treatings came sent → DeliverTo w e flying
     → OwnAfterAll w e.conditions c outcomes treatings came sent e.body
 delivers-own w e c outcomes treatings came sent None there kept own is = idle-all e.conditions w c outcomes treatings came sent e.body own is
 delivers-own w e c outcomes treatings came sent (Some f) there kept own to = deliver-own w e c outcomes treatings came sent f f.rendered refl (there f refl) kept own to
 
-loses-own : (w : RunState) (e : Event) (c : ℕ) (outcomes : Outcomes) (treatings : List Treating) (came : List ℕ) (sent : List Sending) (flying : Option Flying) → ((f : Flying) → flying ≡ Some f → flight_at f.number w.flights ≡ Some f) → Kept w c came sent → Own w c outcomes treatings came sent → LoseTo w e flying
+loses-own : (w : RunState) (e : Event) (c : ℕ) (outcomes : Outcomes) (treatings : List Treating) (came : List ℕ) (sent : List Sending) (flying : Option Flying) → ((f : Flying) → flying ≡ Some f → flying_at f.number w.flights ≡ Some f) → Kept w c came sent → Own w c outcomes treatings came sent → LoseTo w e flying
     → OwnAfterAll w e.conditions c outcomes treatings came sent e.body
 loses-own w e c outcomes treatings came sent None there kept own is = idle-all e.conditions w c outcomes treatings came sent e.body own is
 loses-own w e c outcomes treatings came sent (Some f) there kept own to =
@@ -194,7 +194,7 @@ purges-own w e c outcomes treatings came sent (flush ∷ flushes) kept own to =
     let form = slice-form e.conditions flush.number to.0 to.1 in
     leads-own e.conditions w to.0 c flush.connection outcomes treatings came sent e.body (slice-own e.conditions w c flush.number outcomes treatings came sent to.0 own form) (slice-held e.conditions w c flush.number came sent to.0 kept.held form) (slice-numbered w flush.number to.0 form kept.numbered) (slice-slicing w flush.number to.0 kept.unsliced form) to.2
 
-render-own : (w : RunState) (e : Event) (c : ℕ) (outcomes : Outcomes) (treatings : List Treating) (came : List ℕ) (sent : List Sending) (flying : Option Flying) → ((f : Flying) → flying ≡ Some f → flight_at f.number w.flights ≡ Some f) → Own w c outcomes treatings came sent → RenderTo w e flying
+render-own : (w : RunState) (e : Event) (c : ℕ) (outcomes : Outcomes) (treatings : List Treating) (came : List ℕ) (sent : List Sending) (flying : Option Flying) → ((f : Flying) → flying ≡ Some f → flying_at f.number w.flights ≡ Some f) → Own w c outcomes treatings came sent → RenderTo w e flying
     → OwnAfterAll w e.conditions c outcomes treatings came sent e.body
 render-own w e c outcomes treatings came sent None there own is = idle-all e.conditions w c outcomes treatings came sent e.body own is
 render-own w e c outcomes treatings came sent (Some f) there own to =
@@ -206,7 +206,7 @@ direct-own w e c outcomes treatings came sent answer own is = rw is (own-silent 
 -- ---- a restart
 -- a flight that is lost is there
 abbrev CutFits : RunState → Note → Type 0
-CutFits w (Lost n) = (f : Flying) × (flight_at n w.flights ≡ Some f)
+CutFits w (Lost n) = (f : Flying) × (flying_at n w.flights ≡ Some f)
 CutFits w _ = Unit {0}
 
 abbrev AllCutFit : RunState → List Note → Type 0
@@ -220,7 +220,7 @@ fit-append w (note ∷ notes) more fit rest = (fit.0, fit-append (state_after_no
 losses-fit : (w : RunState) (flights : List Flying) → Numbered w → w.flights ≡ flights → AllCutFit w (map (λ (f : Flying). Lost f.number) flights)
 losses-fit w [] numbered is = tt
 losses-fit w (f ∷ flights) numbered is =
-    let at : flight_at f.number w.flights ≡ Some f = ap (flight_at f.number) is ∙ at-here flight_number f flights in
+    let at : flying_at f.number w.flights ≡ Some f = ap (flying_at f.number) is ∙ at-here flight_number f flights in
     let rising : Rising flight_number 0 (f ∷ flights) (flights_asked w.log) = subst (λ fs. Rising flight_number 0 fs (flights_asked w.log)) is numbered in
     let left : (state_after_note w (Lost f.number)).flights ≡ flights = ap (λ o. (over_with w f.number (error_answer 502) (lost_entry f.number) o).flights) at ∙ ap (all_but flight_number f.number) is ∙ but-first flight_number f flights (flights_asked w.log) rising.1 in
     ((f, at), losses-fit (state_after_note w (Lost f.number)) flights (note-numbered w (Lost f.number) tt numbered) left)
@@ -291,7 +291,7 @@ restart-own w e c outcomes treatings came sent kept own restarts =
 step-own : (w : RunState) (e : Event) (c : ℕ) (outcomes : Outcomes) (treatings : List Treating) (came : List ℕ) (sent : List Sending) (s : Step) → Kept w c came sent → Own w c outcomes treatings came sent → HappensBy w e s → OwnThen w e c outcomes treatings came sent s
 step-own w e c outcomes treatings came sent s kept own happens = by_kind s happens
   where
-    there : (test : Flying → Bool) (f : Flying) → find test w.flights ≡ Some f → flight_at f.number w.flights ≡ Some f
+    there : (test : Flying → Bool) (f : Flying) → find test w.flights ≡ Some f → flying_at f.number w.flights ≡ Some f
     there test f found = picked-there w test f kept.numbered found
 
     quiet : (v : RunState) (os : Outcomes) (ts : List Treating) (xs : List Sending) → Own v c os ts came xs → Own v c os ts (came ++ []) xs

@@ -14,7 +14,7 @@ use Rattle.http_front.specs.Turns.{Breaks, End, Waits}
 use Rattle.http_front.specs.declared.fault.InFault.{InFault}
 use Rattle.http_front.specs.declared.turn.Turn.{Turn}
 use Rattle.http_front.specs.declared.turn.Turn.TheVariants.{Continue, Whole}
-use Rattle.cache_log.specs.Entries.{Outcome, flights_asked, flushes_begun}
+use Rattle.cache_log.specs.Entries.{FlushOutcome, flights_asked, flushes_begun}
 use Rattle.connections.specs.declared.awaited.Awaited.TheVariants.{Flight as flight_awaited, Flush as flush_awaited}
 use Rattle.connections.specs.Slots.{Awaits, Cached, Response, Says, Slot, interim_slot, is_answered, is_awaiting, local_response, request_slot}
 use Rattle.connections.specs.Connections.{Close, Connection, Due, Nothing, Refuse, Send, Treat, with_due_continue, after_turn, due_at_slot, due_at_turn, due_without_sending, with_end, with_piece, next_turn, with_sent, with_slot}
@@ -29,7 +29,7 @@ use Rattle.run_events.specs.declared.note.Note.TheVariants.{Ask as asked, Hit, L
 use Rattle.run_events.specs.Moves.{GivesDue, due_if_open, due_of_connection, local_slot, new_flight, state_after_ask, state_after_ending, state_after_flush, state_after_hit, state_after_note, treated_request, with_turn_slot}
 use Rattle.run_events.specs.States.{RunState}
 use Rattle.run_laws.specs.Histories.{sent_by}
-use Rattle.run_laws.specs.Owned.{AreEach, ByFlight, ByFlush, ByHit, ByStatus, FlushEnding, HasEnded, IsOfFlight, Outcomes, Treating, treated_by}
+use Rattle.run_laws.specs.Owned.{AreEach, ByFlight, ByFlush, ByHit, ByStatus, FlushEnding, HasFlushEnding, IsOfFlight, Outcomes, Treating, treated_by}
 use Rattle.run_laws.proofs.AskLemmas.{Numbered, are-rising}
 use Rattle.run_laws.proofs.EachLemmas.{each-fault, each-filled, each-interim, each-map, each-more, each-push, length-filled, local-answered, some-within}
 use Rattle.run_laws.proofs.FormLemmas.{IsRequestNote, treated-form}
@@ -239,7 +239,7 @@ pub flush-moves : (w : RunState) (v d : ℕ) (inv : Invalidation) (outcomes : Ou
 flush-moves w v d inv outcomes None air_is = moved-same w.flights (flights_asked w.log) outcomes air_is
 flush-moves w v d inv outcomes (Some request) air_is = moved-same w.flights (flights_asked w.log) outcomes air_is
 
-pub ending-moves : (w : RunState) (v : ℕ) (outcome : Outcome) (response : Response) (outcomes : Outcomes) (more : List FlushEnding) (at : Option Flushing) → Agrees outcomes w.flights (flights_asked w.log) → Moves w outcomes (state_after_ending w v outcome response at) (with_endings outcomes more)
+pub ending-moves : (w : RunState) (v : ℕ) (outcome : FlushOutcome) (response : Response) (outcomes : Outcomes) (more : List FlushEnding) (at : Option Flushing) → Agrees outcomes w.flights (flights_asked w.log) → Moves w outcomes (state_after_ending w v outcome response at) (with_endings outcomes more)
 ending-moves w v outcome response outcomes more None air_is = moved-ended w.flights (flights_asked w.log) outcomes more air_is
 ending-moves w v outcome response outcomes more (Some f) air_is = moved-ended w.flights (flights_asked w.log) outcomes more air_is
 
@@ -323,7 +323,7 @@ owns-landed w v outcomes all treatings n answer d moves good owns = record {
     lands (ByFlight k) request is = good k request is.0 is.1
 
 -- ---- a flush has ended
-pub owns-flushed : (w v : RunState) (outcomes all : Outcomes) (treatings : List Treating) (u status : ℕ) (d : Connection) → Moves w outcomes v all → HasEnded all.endings u status → Owns w outcomes treatings d → Owns v all treatings (with_end (flush_awaited u) (Says (error_answer status)) d)
+pub owns-flushed : (w v : RunState) (outcomes all : Outcomes) (treatings : List Treating) (u status : ℕ) (d : Connection) → Moves w outcomes v all → HasFlushEnding all.endings u status → Owns w outcomes treatings d → Owns v all treatings (with_end (flush_awaited u) (Says (error_answer status)) d)
 owns-flushed w v outcomes all treatings u status d moves ended owns = record {
   each = each-filled (IsOfAir w.flights (flights_asked w.log) outcomes) (IsOfAir v.flights (flights_asked v.log) all) (flush_awaited u) (Says (error_answer status))
       (flights-moved w.flights (flights_asked w.log) outcomes v.flights (flights_asked v.log) all moves) ends treatings d.turns d.slots owns.each;
@@ -336,7 +336,7 @@ owns-flushed w v outcomes all treatings u status d moves ended owns = record {
     ends : (treating : Treating) (request : Request) → IsOfAir w.flights (flights_asked w.log) outcomes treating request (Awaits (flush_awaited u)) → IsOfAir v.flights (flights_asked v.log) all treating request (Says (error_answer status))
     ends (ByStatus other) request is = absurd (let waits : true ≡ false = sym self ∙ ap (is_awaiting (flush_awaited u)) is ∙ local-answered (flush_awaited u) other in let never : ⊥ = cc in never)
     ends (ByHit farm log key) request is = absurd (cc is)
-    ends (ByFlush k) request is = (status, subst (λ x. HasEnded all.endings x status) is ended, refl)
+    ends (ByFlush k) request is = (status, subst (λ x. HasFlushEnding all.endings x status) is ended, refl)
     ends (ByFlight k) request is = absurd is
 
 -- ---- more bytes

@@ -20,7 +20,7 @@ use Rattle.run_events.specs.declared.note.Note.TheVariants.{Ask as asked, Hit, L
 use Rattle.run_events.specs.declared.step.Step.{Step}
 use Rattle.run_events.specs.declared.step.Step.TheVariants as step
 use Rattle.run_events.specs.States.{RunState}
-use Rattle.run_events.specs.Moves.{answer_in, due_of_connection, failure_status, flight_at, flush_at, key_in, local_slot, over_with, state_after_ask, state_after_ending, state_after_note, state_after_notes, treated_request}
+use Rattle.run_events.specs.Moves.{answer_in, due_of_connection, failure_status, flying_at, flush_at, key_in, local_slot, over_with, state_after_ask, state_after_ending, state_after_note, state_after_notes, treated_request}
 use Rattle.run_events.specs.Events.{Event, after_event, most_connections, state_after_going, state_after_opening, state_before_notes}
 use Rattle.run_laws.specs.Determined.{LeavesNoChoice}
 use Rattle.run_laws.proofs.PlainLemmas.{ArePlain, IsPlain, plain-ended, plain-fed, plain-treated}
@@ -87,10 +87,10 @@ quiet-note w (Sliced v) none quiet = record { flushes = quiet.flushes; slicing =
 quiet-note w (Done v) none quiet = subst (λ o. Quiet (state_after_ending w v done_outcome (Says (error_answer 200)) o)) (sym (ap (flush_at v) quiet.flushes)) quiet
 quiet-note w (Failed v failure) none quiet = subst (λ o. Quiet (state_after_ending w v failed_outcome (Says (error_answer (failure_status failure))) o)) (sym (ap (flush_at v) quiet.flushes)) quiet
 quiet-note w (Rendered n answer) none quiet = record { flushes = quiet.flushes; slicing = quiet.slicing; downs = quiet.downs; plain = quiet.plain }
-quiet-note w (Kept n key) none quiet = quiet-over w n (answer_in (flight_at n w.flights)) (Landed n (key_in w (flight_at n w.flights)) (answer_in (flight_at n w.flights)) _) (flight_at n w.flights) refl quiet
-quiet-note w (Unkept n) none quiet = quiet-over w n (answer_in (flight_at n w.flights)) (Landed n (key_in w (flight_at n w.flights)) (answer_in (flight_at n w.flights)) _) (flight_at n w.flights) refl quiet
-quiet-note w (Passed n) none quiet = quiet-over w n (answer_in (flight_at n w.flights)) (Landed n (key_in w (flight_at n w.flights)) (answer_in (flight_at n w.flights)) _) (flight_at n w.flights) refl quiet
-quiet-note w (Lost n) none quiet = quiet-over w n (error_answer 502) (lost_entry n) (flight_at n w.flights) refl quiet
+quiet-note w (Kept n key) none quiet = quiet-over w n (answer_in (flying_at n w.flights)) (Landed n (key_in w (flying_at n w.flights)) (answer_in (flying_at n w.flights)) _) (flying_at n w.flights) refl quiet
+quiet-note w (Unkept n) none quiet = quiet-over w n (answer_in (flying_at n w.flights)) (Landed n (key_in w (flying_at n w.flights)) (answer_in (flying_at n w.flights)) _) (flying_at n w.flights) refl quiet
+quiet-note w (Passed n) none quiet = quiet-over w n (answer_in (flying_at n w.flights)) (Landed n (key_in w (flying_at n w.flights)) (answer_in (flying_at n w.flights)) _) (flying_at n w.flights) refl quiet
+quiet-note w (Lost n) none quiet = quiet-over w n (error_answer 502) (lost_entry n) (flying_at n w.flights) refl quiet
 quiet-note w (Sent c bytes) none quiet = record { flushes = quiet.flushes; slicing = quiet.slicing; downs = quiet.downs; plain = plain-update w c (with_sent bytes) (λ k are. are) quiet.plain }
 quiet-note w (Shut c) none quiet = record { flushes = quiet.flushes; slicing = quiet.slicing; downs = quiet.downs; plain = plain-gone w c quiet.plain }
 quiet-note w (Up epoch) none quiet = record { flushes = quiet.flushes; slicing = quiet.slicing; downs = refl; plain = quiet.plain }

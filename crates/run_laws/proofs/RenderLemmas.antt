@@ -11,7 +11,7 @@ use Rattle.run_events.specs.declared.note.Note.TheVariants.{Rendered}
 use Rattle.run_events.specs.declared.step.Step.{Step}
 use Rattle.run_events.specs.declared.step.Step.TheVariants as step
 use Rattle.run_events.specs.Events.{Event, HappensBy, IsOrFixed, RenderTo, Run, after_event, is_unrendered, picked_flight, state_after_events, state_before_notes}
-use Rattle.run_events.specs.Moves.{content_rendered, flight_at, published_for, state_after_note, state_after_notes}
+use Rattle.run_events.specs.Moves.{content_rendered, flying_at, published_for, state_after_note, state_after_notes}
 use Rattle.run_events.specs.States.{RunState, Start, start_of}
 use Rattle.run_laws.specs.Renders.{ArePublished, IsNeverFixed, Rendering, rendered_by, rendering_of, renders_in, renders_of}
 use Rattle.run_laws.proofs.AskLemmas.{Numbered, picked-there, step-numbered}
@@ -37,7 +37,7 @@ from-still : (w : RunState) (e : Event) (s : Step) (renders : List Rendering) (l
 from-still w e s renders last still happens from = rw (still-renders (state_before_notes w e s) e.conditions.out_of_memory e.body (step-still w e s still happens)) (from-same w (state_after_notes (state_before_notes w e s) e.body) renders last (step-same w e s still happens) from)
 
 -- ---- an event with one
-render-from : (w : RunState) (disk_failed out_of_memory : Bool) (f : Flying) (answer : Answer) (renders : List Rendering) (last : Content) → IsNeverFixed w.publishing → flight_at f.number w.flights ≡ Some f → IsOrFixed (record { disk_failed = disk_failed; out_of_memory = out_of_memory }) answer (published_for w f.request).answer
+render-from : (w : RunState) (disk_failed out_of_memory : Bool) (f : Flying) (answer : Answer) (renders : List Rendering) (last : Content) → IsNeverFixed w.publishing → flying_at f.number w.flights ≡ Some f → IsOrFixed (record { disk_failed = disk_failed; out_of_memory = out_of_memory }) answer (published_for w f.request).answer
     → From (state_after_note w (Rendered f.number answer)) renders last → From w (record { number = f.number; request = f.request; answer = answer; out_of_memory = out_of_memory } ∷ renders) last
 render-from w disk_failed out_of_memory f answer renders last never there (inl is) from =
     let other : (answer.status == 507) ≡ false = rw is.0 (ne_eqb (published_for w f.request).answer.status 507 (never w.content (publisher_ask w.farm f.request))) in
@@ -48,7 +48,7 @@ render-from w disk_failed out_of_memory f answer renders last never there (inr f
     let stays : (state_after_note w (Rendered f.number answer)).content ≡ w.content = ap (content_rendered w answer) there ∙ rw same refl in
     inr (fixed.0, fixed.1, subst (λ x. ArePublished w.publishing w.farm x renders last) stays from)
 
-from-render : (w : RunState) (e : Event) (flying : Option Flying) (renders : List Rendering) (last : Content) → IsNeverFixed w.publishing → ((f : Flying) → flying ≡ Some f → flight_at f.number w.flights ≡ Some f) → RenderTo w e flying
+from-render : (w : RunState) (e : Event) (flying : Option Flying) (renders : List Rendering) (last : Content) → IsNeverFixed w.publishing → ((f : Flying) → flying ≡ Some f → flying_at f.number w.flights ≡ Some f) → RenderTo w e flying
     → From (state_after_notes w e.body) renders last → From w (renders_in w e.conditions.out_of_memory e.body ++ renders) last
 from-render w e None renders last never there to from =
     let stays : From w renders last = rw to at from in

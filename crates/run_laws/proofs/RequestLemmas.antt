@@ -24,7 +24,7 @@ use Rattle.http_front.specs.declared.turn.Turn.TheVariants.{Continue, Whole}
 use Rattle.http_front.specs.Targets.{begins_with_slash, path_bytes, path_of_bytes, target_of, utf8_text, with_path, without_slash}
 use Rattle.http_front.specs.Heads.{Asked, HeadParts, asked_host, asked_of, asked_with, body_length, heads, parts_of}
 use Rattle.http_front.specs.Turns.{BeginsWithRequest, End, SpellsTurns}
-use Rattle.run_laws.specs.Named.{IsHandle, IsPage}
+use Rattle.run_events.specs.Named.{IsPage, IsHandle}
 
 -- a text that reads as a path reads as one
 abbrev pub ReadsPaths : Type 0

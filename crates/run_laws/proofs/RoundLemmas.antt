@@ -7,7 +7,7 @@ use Rattle.sp_base.specs.declared.answer.Answer.{Answer}
 use Rattle.sp_base.specs.Requests.{Request}
 use Rattle.cover_rules.specs.declared.page.PageKey.{PageKey}
 use Rattle.cover_rules.specs.declared.invalidation.Invalidation.{Invalidation}
-use Rattle.cache_log.specs.Entries.{LogEntry, Outcome}
+use Rattle.cache_log.specs.Entries.{LogEntry, FlushOutcome}
 use Rattle.connections.specs.Connections.{Connection, fresh}
 use Rattle.connections.specs.Slots.{Response}
 use Rattle.run_events.specs.declared.conditions.Conditions.{Conditions}
@@ -19,8 +19,8 @@ use Rattle.run_events.specs.declared.step.Pick.{Pick}
 use Rattle.run_events.specs.declared.step.Pick.TheVariants.{First}
 use Rattle.run_events.specs.declared.step.Step.{Step}
 use Rattle.run_events.specs.declared.step.Step.TheVariants as step
-use Rattle.run_events.specs.States.{AreRising, RunState}
-use Rattle.run_events.specs.Moves.{due_of_connection, flight_at, flush_at, has_number, new_flight, over_with, state_after_ask, state_after_ending, state_after_flush, state_after_hit, state_after_note, state_after_notes, treated_request, with_rendered, with_rendered_at, without}
+use Rattle.run_events.specs.States.{AirRises, RunState}
+use Rattle.run_events.specs.Moves.{due_of_connection, flying_at, flush_at, has_number, new_flight, over_with, state_after_ask, state_after_ending, state_after_flush, state_after_hit, state_after_note, state_after_notes, treated_request, with_rendered, with_rendered_at, air_without}
 use Rattle.run_events.specs.Events.{DeliverAs, DeliverTo, Event, HappensBy, LeadsNotes, LoseTo, PurgeTo, RenderTo, going, is_any, is_rendered, is_unrendered, most_connections, opening, picked_flight, state_after_going, state_after_opening, state_before_notes}
 use Rattle.run_laws.specs.Rounds.{AreUnrendered, BringsBytes, LeavesFlights, LeavesUnrendered, TreatsNoTurn}
 use Rattle.run_laws.proofs.DueLemmas.{HasNoTurns, IsSendingNote, OnlySend, ending-turns, over-turns, serves-send}
@@ -28,38 +28,38 @@ use Rattle.run_laws.proofs.FormLemmas.{AreCutNotes, IsCutNote, IsLandingNote, Is
 use Rattle.run_laws.proofs.StillLemmas.{AreStillNotes, IsStillNote, IsStillStep, step-still}
 
 -- ---- the first flight
-others-stay : (n least : ℕ) (flights : List Flying) (most : ℕ) → n ≤ least → AreRising least flights most → without n flights ≡ flights
+others-stay : (n least : ℕ) (flights : List Flying) (most : ℕ) → n ≤ least → AirRises least flights most → air_without n flights ≡ flights
 others-stay n least [] most less rising = refl
 others-stay n least (f ∷ flights) most less rising =
     let over = rising.0 in
     let other : nat_eq f.number n ≡ false = grind (arith, less, over) in
     rw other (ap (λ (fs : List Flying). f ∷ fs) (others-stay n f.number flights most (omega (arith, less, over)) rising.1))
 
-others-unrendered : (n : ℕ) (answer : Answer) (least : ℕ) (flights : List Flying) (most : ℕ) → n ≤ least → AreRising least flights most → map (with_rendered_at n answer) flights ≡ flights
+others-unrendered : (n : ℕ) (answer : Answer) (least : ℕ) (flights : List Flying) (most : ℕ) → n ≤ least → AirRises least flights most → map (with_rendered_at n answer) flights ≡ flights
 others-unrendered n answer least [] most less rising = refl
 others-unrendered n answer least (f ∷ flights) most less rising =
     let over = rising.0 in
     let other : nat_eq f.number n ≡ false = grind (arith, less, over) in
     rw other (ap (λ (fs : List Flying). f ∷ fs) (others-unrendered n answer f.number flights most (omega (arith, less, over)) rising.1))
 
-first-out : (f : Flying) (later : List Flying) (most : ℕ) → AreRising 0 (f ∷ later) most → without f.number (f ∷ later) ≡ later
+first-out : (f : Flying) (later : List Flying) (most : ℕ) → AirRises 0 (f ∷ later) most → air_without f.number (f ∷ later) ≡ later
 first-out f later most rising = let same : nat_eq f.number f.number ≡ true = eq-eqb f.number f.number refl in rw same (others-stay f.number f.number later most (omega arith) rising.1)
 
-first-rendered : (f : Flying) (answer : Answer) (later : List Flying) (most : ℕ) → AreRising 0 (f ∷ later) most → map (with_rendered_at f.number answer) (f ∷ later) ≡ with_rendered answer f ∷ later
+first-rendered : (f : Flying) (answer : Answer) (later : List Flying) (most : ℕ) → AirRises 0 (f ∷ later) most → map (with_rendered_at f.number answer) (f ∷ later) ≡ with_rendered answer f ∷ later
 first-rendered f answer later most rising =
     let same : nat_eq f.number f.number ≡ true = eq-eqb f.number f.number refl in
     rw same (ap (λ (fs : List Flying). with_rendered answer f ∷ fs) (others-unrendered f.number answer f.number later most (omega arith) rising.1))
 
-first-at : (f : Flying) (later : List Flying) → flight_at f.number (f ∷ later) ≡ Some f
+first-at : (f : Flying) (later : List Flying) → flying_at f.number (f ∷ later) ≡ Some f
 first-at f later = let same : nat_eq f.number f.number ≡ true = eq-eqb f.number f.number refl in rw same refl
 
 -- ---- landings
-over-out : (w : RunState) (f : Flying) (later : List Flying) (most : ℕ) (answer : Answer) (entry : LogEntry) → w.flights ≡ f ∷ later → AreRising 0 w.flights most → (over_with w f.number answer entry (flight_at f.number w.flights)).flights ≡ later
+over-out : (w : RunState) (f : Flying) (later : List Flying) (most : ℕ) (answer : Answer) (entry : LogEntry) → w.flights ≡ f ∷ later → AirRises 0 w.flights most → (over_with w f.number answer entry (flying_at f.number w.flights)).flights ≡ later
 over-out w f later most answer entry is rising =
-    let at : flight_at f.number w.flights ≡ Some f = rw is (first-at f later) in
-    rw at (ap (without f.number) is ∙ first-out f later most (subst (λ fs. AreRising 0 fs most) is rising))
+    let at : flying_at f.number w.flights ≡ Some f = rw is (first-at f later) in
+    rw at (ap (air_without f.number) is ∙ first-out f later most (subst (λ fs. AirRises 0 fs most) is rising))
 
-landing-out : (w : RunState) (f : Flying) (later : List Flying) (most : ℕ) (note : Note) → w.flights ≡ f ∷ later → AreRising 0 w.flights most → IsLandingNote f.number note → (state_after_note w note).flights ≡ later
+landing-out : (w : RunState) (f : Flying) (later : List Flying) (most : ℕ) (note : Note) → w.flights ≡ f ∷ later → AirRises 0 w.flights most → IsLandingNote f.number note → (state_after_note w note).flights ≡ later
 landing-out w f later most note is rising (inl kept) = rw kept.1 (over-out w f later most _ _ is rising)
 landing-out w f later most note is rising (inr (inl unkept)) = rw unkept (over-out w f later most _ _ is rising)
 landing-out w f later most note is rising (inr (inr passed)) = rw passed (over-out w f later most _ _ is rising)
@@ -68,11 +68,11 @@ over-slicing : (w : RunState) (n : ℕ) (answer : Answer) (entry : LogEntry) (at
 over-slicing w n answer entry None none = none
 over-slicing w n answer entry (Some f) none = none
 
-ending-slicing : (w : RunState) (v : ℕ) (outcome : Outcome) (response : Response) (at : Option Flushing) → w.slicing ≡ None → (state_after_ending w v outcome response at).slicing ≡ None
+ending-slicing : (w : RunState) (v : ℕ) (outcome : FlushOutcome) (response : Response) (at : Option Flushing) → w.slicing ≡ None → (state_after_ending w v outcome response at).slicing ≡ None
 ending-slicing w v outcome response None none = none
 ending-slicing w v outcome response (Some f) none = refl
 
-ending-flights : (w : RunState) (v : ℕ) (outcome : Outcome) (response : Response) (at : Option Flushing) → (state_after_ending w v outcome response at).flights ≡ w.flights
+ending-flights : (w : RunState) (v : ℕ) (outcome : FlushOutcome) (response : Response) (at : Option Flushing) → (state_after_ending w v outcome response at).flights ≡ w.flights
 ending-flights w v outcome response None = refl
 ending-flights w v outcome response (Some f) = refl
 
@@ -82,9 +82,9 @@ record IsCalm (w : RunState) : Type 0 where
   slicing : w.slicing ≡ None
 
 landing-calm : (w : RunState) (n : ℕ) (note : Note) → IsLandingNote n note → IsCalm w → IsCalm (state_after_note w note)
-landing-calm w n note (inl kept) calm = rw kept.1 (record { turns = over-turns w n _ _ (flight_at n w.flights) calm.turns; slicing = over-slicing w n _ _ (flight_at n w.flights) calm.slicing })
-landing-calm w n note (inr (inl unkept)) calm = rw unkept (record { turns = over-turns w n _ _ (flight_at n w.flights) calm.turns; slicing = over-slicing w n _ _ (flight_at n w.flights) calm.slicing })
-landing-calm w n note (inr (inr passed)) calm = rw passed (record { turns = over-turns w n _ _ (flight_at n w.flights) calm.turns; slicing = over-slicing w n _ _ (flight_at n w.flights) calm.slicing })
+landing-calm w n note (inl kept) calm = rw kept.1 (record { turns = over-turns w n _ _ (flying_at n w.flights) calm.turns; slicing = over-slicing w n _ _ (flying_at n w.flights) calm.slicing })
+landing-calm w n note (inr (inl unkept)) calm = rw unkept (record { turns = over-turns w n _ _ (flying_at n w.flights) calm.turns; slicing = over-slicing w n _ _ (flying_at n w.flights) calm.slicing })
+landing-calm w n note (inr (inr passed)) calm = rw passed (record { turns = over-turns w n _ _ (flying_at n w.flights) calm.turns; slicing = over-slicing w n _ _ (flying_at n w.flights) calm.slicing })
 
 slice-calm : (w : RunState) (v : ℕ) (note : Note) → IsSliceNote v note → IsCalm w → IsCalm (state_after_note w note)
 slice-calm w v note (inl done) calm = rw done (record { turns = ending-turns w v _ _ (flush_at v w.flushes) calm.turns; slicing = ending-slicing w v _ _ (flush_at v w.flushes) calm.slicing })
@@ -168,7 +168,7 @@ delivers-treats w e (Some f) to calm = deliver-treats w e f f.rendered to calm
 
 loses-treats : (w : RunState) (e : Event) (flying : Option Flying) → LoseTo w e flying → IsCalm w → AllByRecursion TreatsNoTurn e.body
 loses-treats w e None to calm = idle-treats e.body to
-loses-treats w e (Some f) to calm = (leads-none w e.conditions (Lost f.number) f.connection e.body tt (record { turns = over-turns w f.number _ _ (flight_at f.number w.flights) calm.turns; slicing = over-slicing w f.number _ _ (flight_at f.number w.flights) calm.slicing }) to).none
+loses-treats w e (Some f) to calm = (leads-none w e.conditions (Lost f.number) f.connection e.body tt (record { turns = over-turns w f.number _ _ (flying_at f.number w.flights) calm.turns; slicing = over-slicing w f.number _ _ (flying_at f.number w.flights) calm.slicing }) to).none
 
 cuts-treat : (notes : List Note) → AreCutNotes notes → AllByRecursion TreatsNoTurn notes
 cuts-treat [] are = tt
@@ -194,22 +194,22 @@ step-treats w e step.Purge turns slicing to = inr (purges-none w e w.flushes to 
 step-treats w e step.Restart turns slicing to = inr (cuts-treat e.body (restart-cut w e.conditions e.body to))
 
 -- ---- rounds
-renders-this : (w : RunState) (e : Event) (f : Flying) (later : List Flying) (most : ℕ) → AreRising 0 w.flights most → w.flights ≡ f ∷ later → RenderTo w e (Some f) → (answer : Answer) × ((state_after_notes w e.body).flights ≡ with_rendered answer f ∷ later)
+renders-this : (w : RunState) (e : Event) (f : Flying) (later : List Flying) (most : ℕ) → AirRises 0 w.flights most → w.flights ≡ f ∷ later → RenderTo w e (Some f) → (answer : Answer) × ((state_after_notes w e.body).flights ≡ with_rendered answer f ∷ later)
 renders-this w e f later most rising is to =
-    (to.0, subst (λ (body : List Note). (state_after_notes w body).flights ≡ with_rendered to.0 f ∷ later) (sym to.2) (ap (map (with_rendered_at f.number to.0)) is ∙ first-rendered f to.0 later most (subst (λ fs. AreRising 0 fs most) is rising)))
+    (to.0, subst (λ (body : List Note). (state_after_notes w body).flights ≡ with_rendered to.0 f ∷ later) (sym to.2) (ap (map (with_rendered_at f.number to.0)) is ∙ first-rendered f to.0 later most (subst (λ fs. AirRises 0 fs most) is rising)))
 
-pub renders-first : (w : RunState) (e : Event) (f : Flying) (later : List Flying) (most : ℕ) → AreRising 0 w.flights most → w.flights ≡ f ∷ later → f.rendered ≡ None → RenderTo w e (picked_flight First is_unrendered w.flights)
+pub renders-first : (w : RunState) (e : Event) (f : Flying) (later : List Flying) (most : ℕ) → AirRises 0 w.flights most → w.flights ≡ f ∷ later → f.rendered ≡ None → RenderTo w e (picked_flight First is_unrendered w.flights)
     → (answer : Answer) × ((state_after_notes w e.body).flights ≡ with_rendered answer f ∷ later)
 renders-first w e f later most rising is unrendered to =
     let here : picked_flight First is_unrendered (f ∷ later) ≡ Some f = ap (λ (o : Option Answer). if not (is_some o) then Some f else picked_flight First is_unrendered later) unrendered in
     let picked : picked_flight First is_unrendered w.flights ≡ Some f = ap (picked_flight First is_unrendered) is ∙ here in
     renders-this w e f later most rising is (subst (RenderTo w e) picked to)
 
-lands : (w : RunState) (e : Event) (f : Flying) (later : List Flying) (most : ℕ) (answer : Option Answer) → IsCalm w → AreRising 0 w.flights most → w.flights ≡ f ∷ later → IsSome answer → DeliverAs w e f answer → (state_after_notes w e.body).flights ≡ later
+lands : (w : RunState) (e : Event) (f : Flying) (later : List Flying) (most : ℕ) (answer : Option Answer) → IsCalm w → AirRises 0 w.flights most → w.flights ≡ f ∷ later → IsSome answer → DeliverAs w e f answer → (state_after_notes w e.body).flights ≡ later
 lands w e f later most None calm rising is some to = absurd (cc some)
 lands w e f later most (Some answer) calm rising is some to = (deliver-none w e f answer to calm).flights_are ∙ landing-out w f later most to.0 is rising (landing-form w e.conditions f answer to.0 to.1)
 
-pub lands-first : (w : RunState) (e : Event) (f : Flying) (later : List Flying) (most : ℕ) → HasNoTurns w → w.slicing ≡ None → AreRising 0 w.flights most → w.flights ≡ f ∷ later → IsSome f.rendered → DeliverTo w e (picked_flight First is_rendered w.flights)
+pub lands-first : (w : RunState) (e : Event) (f : Flying) (later : List Flying) (most : ℕ) → HasNoTurns w → w.slicing ≡ None → AirRises 0 w.flights most → w.flights ≡ f ∷ later → IsSome f.rendered → DeliverTo w e (picked_flight First is_rendered w.flights)
     → (state_after_notes w e.body).flights ≡ later
 lands-first w e f later most turns slicing rising is rendered to =
     let here : picked_flight First is_rendered (f ∷ later) ≡ Some f = ap (λ (b : Bool). if b then Some f else picked_flight First is_rendered later) rendered in
@@ -241,11 +241,11 @@ unrendered-more : (flights : List Flying) (f : Flying) → f.rendered ≡ None �
 unrendered-more [] f is all = (is, tt)
 unrendered-more (g ∷ flights) f is all = (all.0, unrendered-more flights f is all.1)
 
-unrendered-without : (n : ℕ) (flights : List Flying) → AreUnrendered flights → AreUnrendered (without n flights)
-unrendered-without n [] all = tt
-unrendered-without n (f ∷ flights) all = by_test (not (has_number n f)) (unrendered-without n flights all.1)
+unrendered-air_without : (n : ℕ) (flights : List Flying) → AreUnrendered flights → AreUnrendered (air_without n flights)
+unrendered-air_without n [] all = tt
+unrendered-air_without n (f ∷ flights) all = by_test (not (has_number n f)) (unrendered-air_without n flights all.1)
   where
-    by_test : (b : Bool) → AreUnrendered (without n flights) → AreUnrendered (if b then f ∷ without n flights else without n flights)
+    by_test : (b : Bool) → AreUnrendered (air_without n flights) → AreUnrendered (if b then f ∷ air_without n flights else air_without n flights)
     by_test true rest = (all.0, rest)
     by_test false rest = rest
 
@@ -255,7 +255,7 @@ ask-unrendered w n c key (Some request) all = unrendered-more w.flights (new_fli
 
 over-unrendered : (w : RunState) (n : ℕ) (answer : Answer) (entry : LogEntry) (at : Option Flying) → AreUnrendered w.flights → AreUnrendered (over_with w n answer entry at).flights
 over-unrendered w n answer entry None all = all
-over-unrendered w n answer entry (Some f) all = unrendered-without n w.flights all
+over-unrendered w n answer entry (Some f) all = unrendered-air_without n w.flights all
 
 hit-unrendered : (w : RunState) (c : ℕ) (key : PageKey) (request : Option Request) → AreUnrendered w.flights → AreUnrendered (state_after_hit w c key request).flights
 hit-unrendered w c key None all = all
@@ -274,10 +274,10 @@ note-unrendered w (Sliced v) is all = all
 note-unrendered w (Done v) is all = subst AreUnrendered (sym (ending-flights w v _ _ (flush_at v w.flushes))) all
 note-unrendered w (Failed v failure) is all = subst AreUnrendered (sym (ending-flights w v _ _ (flush_at v w.flushes))) all
 note-unrendered w (Rendered n answer) is all = absurd is
-note-unrendered w (Kept n key) is all = over-unrendered w n _ _ (flight_at n w.flights) all
-note-unrendered w (Unkept n) is all = over-unrendered w n _ _ (flight_at n w.flights) all
-note-unrendered w (Passed n) is all = over-unrendered w n _ _ (flight_at n w.flights) all
-note-unrendered w (Lost n) is all = over-unrendered w n _ _ (flight_at n w.flights) all
+note-unrendered w (Kept n key) is all = over-unrendered w n _ _ (flying_at n w.flights) all
+note-unrendered w (Unkept n) is all = over-unrendered w n _ _ (flying_at n w.flights) all
+note-unrendered w (Passed n) is all = over-unrendered w n _ _ (flying_at n w.flights) all
+note-unrendered w (Lost n) is all = over-unrendered w n _ _ (flying_at n w.flights) all
 note-unrendered w (Sent c bytes) is all = all
 note-unrendered w (Shut c) is all = all
 note-unrendered w (Up epoch) is all = all

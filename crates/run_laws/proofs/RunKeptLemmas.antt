@@ -8,7 +8,7 @@ use Rattle.std.proofs.lemmas.Map.{update_apart, update_here}
 use Rattle.std.proofs.lemmas.Bool.{cases_eq}
 use Rattle.sp_base.specs.declared.answer.Answer.{Answer}
 use Rattle.error_answers.specs.Errors.{error_answer}
-use Rattle.cache_log.specs.Entries.{LogEntry, Lost as lost_entry, Outcome, Done as done_outcome, Failed as failed_outcome}
+use Rattle.cache_log.specs.Entries.{LogEntry, Lost as lost_entry, FlushOutcome, Done as done_outcome, Failed as failed_outcome}
 use Rattle.connections.specs.declared.awaited.Awaited.TheVariants.{Flight as flight_awaited, Flush as flush_awaited}
 use Rattle.connections.specs.Slots.{Response, Says}
 use Rattle.connections.specs.Connections.{Connection, fresh, with_end}
@@ -21,7 +21,7 @@ use Rattle.run_events.specs.declared.note.Note.TheVariants.{Failed, Lost, Sent, 
 use Rattle.run_events.specs.declared.step.Step.{Step}
 use Rattle.run_events.specs.declared.step.Step.TheVariants as step
 use Rattle.run_events.specs.States.{RunState, Start, start_of}
-use Rattle.run_events.specs.Moves.{failure_status, flight_at, flush_at, over_with, state_after_ending, state_after_note, state_after_notes}
+use Rattle.run_events.specs.Moves.{failure_status, flying_at, flush_at, over_with, state_after_ending, state_after_note, state_after_notes}
 use Rattle.run_events.specs.Restarts.{Restarts, without_connections}
 use Rattle.run_events.specs.Events.{DeliverAs, DeliverTo, Event, HappensBy, LoseTo, PurgeTo, Run, after_event, is_any, is_picked, is_rendered, is_unrendered, picked_flight, state_after_events, state_before_notes}
 use Rattle.run_laws.specs.Histories.{came_after, sent_after, sent_by, sent_in}
@@ -33,22 +33,22 @@ use Rattle.run_laws.proofs.NumberedLemmas.{at-here}
 use Rattle.run_laws.proofs.SoundLemmas.{flush_number}
 use Rattle.run_laws.proofs.KeptLemmas.{IsStill, Kept, KeptBy, came-none, gone-kept, gone-last, idle-kept, kept-same, landing-takes, leads-kept, opened-kept, piece-kept, render-kept, slice-apart, still-same, takes-kept, then_came, then_sent}
 
-deliver-kept : (w : RunState) (e : Event) (c : ℕ) (came : List ℕ) (sent : List Sending) (f : Flying) (answer : Option Answer) → flight_at f.number w.flights ≡ Some f → Kept w c came sent → Numbered (state_after_notes w e.body) → DeliverAs w e f answer → Kept (state_after_notes w e.body) c came (sent ++ sent_in c e.conditions e.body)
+deliver-kept : (w : RunState) (e : Event) (c : ℕ) (came : List ℕ) (sent : List Sending) (f : Flying) (answer : Option Answer) → flying_at f.number w.flights ≡ Some f → Kept w c came sent → Numbered (state_after_notes w e.body) → DeliverAs w e f answer → Kept (state_after_notes w e.body) c came (sent ++ sent_in c e.conditions e.body)
 deliver-kept w e c came sent f None at kept numbered is = idle-kept e.conditions w w c came sent e.body refl kept.numbered kept.unsliced kept is
 deliver-kept w e c came sent f (Some answer) at kept numbered to = takes-kept e.conditions w to.0 c came sent f e.body (landing-takes w f.number to.0 (landing-form w e.conditions f answer to.0 to.1)) at kept numbered to.2
 
-delivers-kept : (w : RunState) (e : Event) (c : ℕ) (came : List ℕ) (sent : List Sending) (flying : Option Flying) → ((f : Flying) → flying ≡ Some f → flight_at f.number w.flights ≡ Some f) → Kept w c came sent → Numbered (state_after_notes w e.body) → DeliverTo w e flying
+delivers-kept : (w : RunState) (e : Event) (c : ℕ) (came : List ℕ) (sent : List Sending) (flying : Option Flying) → ((f : Flying) → flying ≡ Some f → flying_at f.number w.flights ≡ Some f) → Kept w c came sent → Numbered (state_after_notes w e.body) → DeliverTo w e flying
     → Kept (state_after_notes w e.body) c came (sent ++ sent_in c e.conditions e.body)
 delivers-kept w e c came sent None there kept numbered is = idle-kept e.conditions w w c came sent e.body refl kept.numbered kept.unsliced kept is
 delivers-kept w e c came sent (Some f) there kept numbered to = deliver-kept w e c came sent f f.rendered (there f refl) kept numbered to
 
-loses-kept : (w : RunState) (e : Event) (c : ℕ) (came : List ℕ) (sent : List Sending) (flying : Option Flying) → ((f : Flying) → flying ≡ Some f → flight_at f.number w.flights ≡ Some f) → Kept w c came sent → Numbered (state_after_notes w e.body) → LoseTo w e flying
+loses-kept : (w : RunState) (e : Event) (c : ℕ) (came : List ℕ) (sent : List Sending) (flying : Option Flying) → ((f : Flying) → flying ≡ Some f → flying_at f.number w.flights ≡ Some f) → Kept w c came sent → Numbered (state_after_notes w e.body) → LoseTo w e flying
     → Kept (state_after_notes w e.body) c came (sent ++ sent_in c e.conditions e.body)
 loses-kept w e c came sent None there kept numbered is = idle-kept e.conditions w w c came sent e.body refl kept.numbered kept.unsliced kept is
 loses-kept w e c came sent (Some f) there kept numbered to = takes-kept e.conditions w (Lost f.number) c came sent f e.body (record { answer = _; entry = _; is = refl; silent = λ d m. refl }) (there f refl) kept numbered to
 
 -- ---- a slice
-pub ending-slicing : (w : RunState) (v : ℕ) (outcome : Outcome) (response : Response) (at : Option Flushing) → w.slicing ≡ None → (state_after_ending w v outcome response at).slicing ≡ None
+pub ending-slicing : (w : RunState) (v : ℕ) (outcome : FlushOutcome) (response : Response) (at : Option Flushing) → w.slicing ≡ None → (state_after_ending w v outcome response at).slicing ≡ None
 ending-slicing w v outcome response None none = none
 ending-slicing w v outcome response (Some f) none = refl
 
@@ -105,12 +105,12 @@ over-leaves : (w : RunState) (n : ℕ) (answer : Answer) (entry : LogEntry) (at 
 over-leaves w n answer entry None none = record { none = none; unsliced = λ e. e }
 over-leaves w n answer entry (Some f) none = record { none = none-update w f.connection (with_end (flight_awaited n) (Says answer)) none; unsliced = λ e. e }
 
-ending-leaves : (w : RunState) (v : ℕ) (outcome : Outcome) (response : Response) (at : Option Flushing) → NoneOpen w → CutLeaves w (state_after_ending w v outcome response at)
+ending-leaves : (w : RunState) (v : ℕ) (outcome : FlushOutcome) (response : Response) (at : Option Flushing) → NoneOpen w → CutLeaves w (state_after_ending w v outcome response at)
 ending-leaves w v outcome response None none = record { none = none; unsliced = λ e. e }
 ending-leaves w v outcome response (Some f) none = record { none = none-update w f.connection (with_end (flush_awaited v) response) none; unsliced = λ e. refl }
 
 pub cut-leaves : (w : RunState) (note : Note) → IsCutNote note → NoneOpen w → CutLeaves w (state_after_note w note)
-cut-leaves w (Lost n) is none = over-leaves w n (error_answer 502) (lost_entry n) (flight_at n w.flights) none
+cut-leaves w (Lost n) is none = over-leaves w n (error_answer 502) (lost_entry n) (flying_at n w.flights) none
 cut-leaves w (Failed v failure) is none = ending-leaves w v failed_outcome (Says (error_answer (failure_status failure))) (flush_at v w.flushes) none
 cut-leaves w (Shut c) is none = record { none = none-shut w c none; unsliced = λ e. e }
 cut-leaves w (Up epoch) is none = record { none = none; unsliced = λ e. e }
@@ -152,7 +152,7 @@ restart-kept w e c came sent kept numbered restarts =
 pub by-step : (w : RunState) (e : Event) (c : ℕ) (came : List ℕ) (sent : List Sending) (s : Step) → Kept w c came sent → HappensBy w e s → KeptBy w e c came sent s (state_before_notes w e s)
 by-step w e c came sent s kept happens = by_kind s happens (step-numbered w e s kept.numbered happens)
   where
-    there : (test : Flying → Bool) (f : Flying) → find test w.flights ≡ Some f → flight_at f.number w.flights ≡ Some f
+    there : (test : Flying → Bool) (f : Flying) → find test w.flights ≡ Some f → flying_at f.number w.flights ≡ Some f
     there test f found = picked-there w test f kept.numbered found
 
     by_kind : (s : Step) → HappensBy w e s → Numbered (state_after_notes (state_before_notes w e s) e.body) → KeptBy w e c came sent s (state_before_notes w e s)

@@ -17,7 +17,7 @@ use Rattle.run_events.specs.declared.note.Note.TheVariants.{Lost, Failed, Shut, 
 use Rattle.run_events.specs.declared.step.Step.{Step}
 use Rattle.run_events.specs.declared.step.Step.TheVariants as step
 use Rattle.run_events.specs.States.{RunState}
-use Rattle.run_events.specs.Moves.{flight_at, flush_at, on_connection, over_with, state_after_ending, state_after_note, state_after_notes}
+use Rattle.run_events.specs.Moves.{flying_at, flush_at, on_connection, over_with, state_after_ending, state_after_note, state_after_notes}
 use Rattle.run_events.specs.Restarts.{EndsRestart, Restarts, cut_notes, without_connections}
 use Rattle.run_events.specs.Events.{DeliverAs, DeliverTo, Event, HappensBy, LeadsNotes, LoseTo, MayLand, PieceTo, PurgeTo, RenderTo, Run, after_event, going, is_any, is_picked, is_rendered, is_unrendered, most_connections, opening, picked_flight, state_after_events, state_after_going, state_after_opening, state_before_notes}
 use Rattle.run_laws.proofs.NumberedLemmas.{Rising, all_but, at-here, but-first, numbered_at}
@@ -88,20 +88,20 @@ render-come w e (Some f) to = rw to.2 (tt, tt)
 pub leads-come : (m : Conditions) (w : RunState) (first : Note) (c : ℕ) (notes : List Note) → IsSound w → Comes m w first → LeadsNotes w m first c notes → AllCome m w notes
 leads-come m w first c notes sound comes leads = rw leads.begins (comes, serves-come m (state_after_note w first) c leads.rest (note-sound m w first sound comes) leads.settles.serves)
 
-landing-comes : (w : RunState) (m : Conditions) (f : Flying) (answer : Answer) (note : Note) → flight_at f.number w.flights ≡ Some f → f.rendered ≡ Some answer → MayLand w m f answer note → Comes m w note
+landing-comes : (w : RunState) (m : Conditions) (f : Flying) (answer : Answer) (note : Note) → flying_at f.number w.flights ≡ Some f → f.rendered ≡ Some answer → MayLand w m f answer note → Comes m w note
 landing-comes w m f answer note at rendered (inl kept) = rw kept.2 (record { flight = f; at = at; answer = answer; rendered = rendered; may = (kept.1, kept.3) })
 landing-comes w m f answer note at rendered (inr (inl unkept)) = rw unkept.0 (record { flight = f; at = at; answer = answer; rendered = rendered; may = (unkept.1, unkept.2) })
 landing-comes w m f answer note at rendered (inr (inr passed)) = rw passed.0 (record { flight = f; at = at; answer = answer; rendered = rendered; may = passed.1 })
 
-deliver-come : (w : RunState) (e : Event) (f : Flying) (answer : Option Answer) → IsSound w → flight_at f.number w.flights ≡ Some f → f.rendered ≡ answer → DeliverAs w e f answer → AllCome e.conditions w e.body
+deliver-come : (w : RunState) (e : Event) (f : Flying) (answer : Option Answer) → IsSound w → flying_at f.number w.flights ≡ Some f → f.rendered ≡ answer → DeliverAs w e f answer → AllCome e.conditions w e.body
 deliver-come w e f None sound at rendered to = idle-come e.conditions w e.body to
 deliver-come w e f (Some answer) sound at rendered to = leads-come e.conditions w to.0 f.connection e.body sound (landing-comes w e.conditions f answer to.0 at rendered to.1) to.2
 
-delivers-come : (w : RunState) (e : Event) (flying : Option Flying) → IsSound w → ((f : Flying) → flying ≡ Some f → flight_at f.number w.flights ≡ Some f) → DeliverTo w e flying → AllCome e.conditions w e.body
+delivers-come : (w : RunState) (e : Event) (flying : Option Flying) → IsSound w → ((f : Flying) → flying ≡ Some f → flying_at f.number w.flights ≡ Some f) → DeliverTo w e flying → AllCome e.conditions w e.body
 delivers-come w e None sound there to = idle-come e.conditions w e.body to
 delivers-come w e (Some f) sound there to = deliver-come w e f f.rendered sound (there f refl) refl to
 
-loses-come : (w : RunState) (e : Event) (flying : Option Flying) → IsSound w → ((f : Flying) → flying ≡ Some f → flight_at f.number w.flights ≡ Some f) → LoseTo w e flying → AllCome e.conditions w e.body
+loses-come : (w : RunState) (e : Event) (flying : Option Flying) → IsSound w → ((f : Flying) → flying ≡ Some f → flying_at f.number w.flights ≡ Some f) → LoseTo w e flying → AllCome e.conditions w e.body
 loses-come w e None sound there to = idle-come e.conditions w e.body to
 loses-come w e (Some f) sound there to = leads-come e.conditions w (Lost f.number) f.connection e.body sound (record { flight = f; at = there f refl }) to
 
@@ -122,7 +122,7 @@ notes-append w (note ∷ notes) more = notes-append (state_after_note w note) no
 losses-come : (m : Conditions) (w : RunState) (flights : List Flying) → IsSound w → w.flights ≡ flights → AllCome m w (map (λ (f : Flying). Lost f.number) flights)
 losses-come m w [] sound is = tt
 losses-come m w (f ∷ flights) sound is =
-    let at : flight_at f.number w.flights ≡ Some f = ap (flight_at f.number) is ∙ at-here flight_number f flights in
+    let at : flying_at f.number w.flights ≡ Some f = ap (flying_at f.number) is ∙ at-here flight_number f flights in
     let comes : Comes m w (Lost f.number) = record { flight = f; at = at } in
     let rising : Rising flight_number 0 (f ∷ flights) (flights_asked w.log) = subst (λ fs. Rising flight_number 0 fs (flights_asked w.log)) is sound.numbered in
     let left : (state_after_note w (Lost f.number)).flights ≡ flights = ap (λ o. (over_with w f.number (error_answer 502) (lost_entry f.number) o).flights) at ∙ ap (all_but flight_number f.number) is ∙ but-first flight_number f flights (flights_asked w.log) rising.1 in
@@ -131,7 +131,7 @@ losses-come m w (f ∷ flights) sound is =
 -- they leave the flushes
 losses-flushes : (w : RunState) (flights : List Flying) → (state_after_notes w (map (λ (f : Flying). Lost f.number) flights)).flushes ≡ w.flushes
 losses-flushes w [] = refl
-losses-flushes w (f ∷ flights) = losses-flushes (state_after_note w (Lost f.number)) flights ∙ over-flushes w f.number (error_answer 502) (lost_entry f.number) (flight_at f.number w.flights)
+losses-flushes w (f ∷ flights) = losses-flushes (state_after_note w (Lost f.number)) flights ∙ over-flushes w f.number (error_answer 502) (lost_entry f.number) (flying_at f.number w.flights)
   where
     over-flushes : (w : RunState) (n : ℕ) (answer : Answer) (entry : LogEntry) (o : Option Flying) → (over_with w n answer entry o).flushes ≡ w.flushes
     over-flushes w n answer entry None = refl

@@ -7,7 +7,7 @@ use Rattle.any_config.specs.declared.farm.Farm.{Farm}
 use Rattle.cover_rules.specs.declared.page.PageKey.{PageKey}
 use Rattle.cover_rules.specs.declared.invalidation.Invalidation.{Invalidation}
 use Rattle.dispatch_rules.specs.Caching.{cache_key}
-use Rattle.cache_log.specs.Entries.{Outcome, LogEntry, Asked, Begun, Sliced, Ended, flights_asked, flushes_begun}
+use Rattle.cache_log.specs.Entries.{FlushOutcome, LogEntry, Asked, Begun, Sliced, Ended, flights_asked, flushes_begun}
 use Rattle.cache_log.specs.Hits.{InAir, Unfinished}
 use Rattle.cache_log.specs.Rules.{Allowed, CallConditions, IsIdle, IsLegal, IsOldest}
 use Rattle.run_events.specs.declared.flying.Flying.{Flying}
@@ -220,7 +220,7 @@ sound-sliced farm under flights flush flushes slicing log sound = record {
 }
 
 -- a flush has ended
-pub sound-ended : (farm : Farm) (under : CallConditions) (flights : List Flying) (flushes : List Flushing) (slicing : Option ℕ) (log : List LogEntry) (v : ℕ) (outcome : Outcome) → Allowed farm under (Ended v outcome) log → Sound farm flights flushes slicing log
+pub sound-ended : (farm : Farm) (under : CallConditions) (flights : List Flying) (flushes : List Flushing) (slicing : Option ℕ) (log : List LogEntry) (v : ℕ) (outcome : FlushOutcome) → Allowed farm under (Ended v outcome) log → Sound farm flights flushes slicing log
     → Sound farm flights (all_but flush_number v flushes) None (Ended v outcome ∷ log)
 sound-ended farm under flights flushes slicing log v outcome allowed sound = record {
   numbered = sound.numbered;

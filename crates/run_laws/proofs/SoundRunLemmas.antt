@@ -5,7 +5,7 @@ use Rattle.sp_base.specs.Requests.{Request}
 use Rattle.cover_rules.specs.declared.page.PageKey.{PageKey}
 use Rattle.cover_rules.specs.declared.invalidation.Invalidation.{Invalidation}
 use Rattle.dispatch_rules.specs.Caching.{cache_key}
-use Rattle.cache_log.specs.Entries.{Fate, Kept as kept_fate, Unkept as unkept_fate, Passed as passed_fate, Outcome, Done as done_outcome, Failed as failed_outcome, Asked, Landed, Lost as lost_entry, Sliced as sliced_entry, Ended, Hit as hit_entry, Up as up_entry, Down as down_entry, flights_asked}
+use Rattle.cache_log.specs.Entries.{Fate, Kept as kept_fate, Unkept as unkept_fate, Passed as passed_fate, FlushOutcome, Done as done_outcome, Failed as failed_outcome, Asked, Landed, Lost as lost_entry, Sliced as sliced_entry, Ended, Hit as hit_entry, Up as up_entry, Down as down_entry, flights_asked}
 use Rattle.cache_log.specs.Rules.{Allowed, CallConditions, HasFallenShort, IsOldest, IsOwed, MayStore}
 use Rattle.connections.specs.Slots.{Response}
 use Rattle.run_events.specs.declared.conditions.Conditions.{Conditions}
@@ -17,7 +17,7 @@ use Rattle.run_events.specs.declared.note.Note.{Note}
 use Rattle.run_events.specs.declared.note.Note.TheVariants.{Ask as asked, Hit, Local, Flush, Sliced, Done, Failed, Rendered, Kept, Unkept, Passed, Lost, Sent, Shut, Up, Down}
 use Rattle.run_events.specs.States.{RunState}
 use Rattle.run_events.specs.Points.{call_conditions, key_of}
-use Rattle.run_events.specs.Moves.{Serves, answer_in, due_of_connection, flight_at, flush_at, over_with, state_after_ask, state_after_ending, state_after_flush, state_after_hit, state_after_landing, state_after_note, state_after_notes, treated_request}
+use Rattle.run_events.specs.Moves.{Serves, answer_in, due_of_connection, flying_at, flush_at, over_with, state_after_ask, state_after_ending, state_after_flush, state_after_hit, state_after_landing, state_after_note, state_after_notes, treated_request}
 use Rattle.run_laws.proofs.NumberedLemmas.{at-here}
 use Rattle.run_laws.proofs.SoundLemmas.{Sound, flush_number, sound-asked, sound-begun, sound-ended, sound-entry, sound-oldest, sound-over, sound-rendered, sound-sliced}
 use Rattle.run_laws.proofs.ComesLemmas.{AllCome, AskComes, Comes, FlushComes, HitComes, IsFirstFlush, IsSound, LandingComes, LossComes, MayFail, next-comes}
@@ -55,7 +55,7 @@ note-sliced m w v sound first =
     let done : Sound w.farm w.flights (first.flush ∷ first.others) None (sliced_entry first.flush.number ∷ w.log) = sound-sliced w.farm (call_conditions m false) w.flights first.flush first.others w.slicing w.log here in
     subst (λ n. Sound w.farm w.flights w.flushes None (sliced_entry n ∷ w.log)) first.number (subst (λ flushes. Sound w.farm w.flights flushes None (sliced_entry first.flush.number ∷ w.log)) (sym first.is) done)
 
-ending-sound : (under : CallConditions) (w : RunState) (v : ℕ) (outcome : Outcome) (response : Response) → Allowed w.farm under (Ended v outcome) w.log → IsSound w → (at : Option Flushing) → (IsSound (state_after_ending w v outcome response at))
+ending-sound : (under : CallConditions) (w : RunState) (v : ℕ) (outcome : FlushOutcome) (response : Response) → Allowed w.farm under (Ended v outcome) w.log → IsSound w → (at : Option Flushing) → (IsSound (state_after_ending w v outcome response at))
 ending-sound under w v outcome response allowed sound None = sound
 ending-sound under w v outcome response allowed sound (Some flush) = sound-ended w.farm under w.flights w.flushes w.slicing w.log v outcome allowed sound
 
@@ -65,8 +65,8 @@ failed-under m Memory may = (call_conditions m false, inl (inr may))
 failed-under m cut_off may = (call_conditions m true, inr refl)
 
 -- ---- notes that tell of a flight
-landing-sound : (under : CallConditions) (w : RunState) (n : ℕ) (fate : Fate) (f : Flying) → flight_at n w.flights ≡ Some f → Allowed w.farm under (Landed n (key_of w f.request) (answer_in (Some f)) fate) w.log → IsSound w
-    → IsSound (state_after_landing w n fate (flight_at n w.flights))
+landing-sound : (under : CallConditions) (w : RunState) (n : ℕ) (fate : Fate) (f : Flying) → flying_at n w.flights ≡ Some f → Allowed w.farm under (Landed n (key_of w f.request) (answer_in (Some f)) fate) w.log → IsSound w
+    → IsSound (state_after_landing w n fate (flying_at n w.flights))
 landing-sound under w n fate f at allowed sound = rw at (sound-over w.farm under w.flights w.flushes w.slicing w.log n (Landed n (key_of w f.request) (answer_in (Some f)) fate) (asked_same fate) refl (λ k key. refl) (λ v inv. refl) allowed sound)
   where
     asked_same : (fate : Fate) → flights_asked (Landed n (key_of w f.request) (answer_in (Some f)) fate ∷ w.log) ≡ flights_asked w.log
@@ -75,22 +75,22 @@ landing-sound under w n fate f at allowed sound = rw at (sound-over w.farm under
 answered-in : (f : Flying) (answer : Answer) → f.rendered ≡ Some answer → answer_in (Some f) ≡ answer
 answered-in f answer is = rw is refl
 
-note-kept : (m : Conditions) (w : RunState) (n : ℕ) (key : PageKey) → IsSound w → LandingComes w n (λ k answer. (k ≡ Some key) × MayStore w.farm w.log n (Some key) answer) → IsSound (state_after_landing w n kept_fate (flight_at n w.flights))
+note-kept : (m : Conditions) (w : RunState) (n : ℕ) (key : PageKey) → IsSound w → LandingComes w n (λ k answer. (k ≡ Some key) × MayStore w.farm w.log n (Some key) answer) → IsSound (state_after_landing w n kept_fate (flying_at n w.flights))
 note-kept m w n key sound comes =
     let may : MayStore w.farm w.log n (key_of w comes.flight.request) (answer_in (Some comes.flight)) = rw (answered-in comes.flight comes.answer comes.rendered) (subst (λ k. MayStore w.farm w.log n k comes.answer) (sym comes.may.0) comes.may.1) in
     landing-sound (call_conditions m false) w n kept_fate comes.flight comes.at (sound.flown n comes.flight comes.at, may) sound
 
-note-unkept : (m : Conditions) (w : RunState) (n : ℕ) → IsSound w → LandingComes w n (λ k answer. MayStore w.farm w.log n k answer × HasFallenShort (call_conditions m false)) → IsSound (state_after_landing w n unkept_fate (flight_at n w.flights))
+note-unkept : (m : Conditions) (w : RunState) (n : ℕ) → IsSound w → LandingComes w n (λ k answer. MayStore w.farm w.log n k answer × HasFallenShort (call_conditions m false)) → IsSound (state_after_landing w n unkept_fate (flying_at n w.flights))
 note-unkept m w n sound comes =
     let may : MayStore w.farm w.log n (key_of w comes.flight.request) (answer_in (Some comes.flight)) = rw (answered-in comes.flight comes.answer comes.rendered) comes.may.0 in
     landing-sound (call_conditions m false) w n unkept_fate comes.flight comes.at (sound.flown n comes.flight comes.at, may, comes.may.1) sound
 
-note-passed : (m : Conditions) (w : RunState) (n : ℕ) → IsSound w → LandingComes w n (λ k answer. MayStore w.farm w.log n k answer → ⊥) → IsSound (state_after_landing w n passed_fate (flight_at n w.flights))
+note-passed : (m : Conditions) (w : RunState) (n : ℕ) → IsSound w → LandingComes w n (λ k answer. MayStore w.farm w.log n k answer → ⊥) → IsSound (state_after_landing w n passed_fate (flying_at n w.flights))
 note-passed m w n sound comes =
     let may : MayStore w.farm w.log n (key_of w comes.flight.request) (answer_in (Some comes.flight)) → ⊥ = rw (answered-in comes.flight comes.answer comes.rendered) comes.may in
     landing-sound (call_conditions m false) w n passed_fate comes.flight comes.at (sound.flown n comes.flight comes.at, may) sound
 
-note-lost : (m : Conditions) (w : RunState) (n : ℕ) (answer : Answer) → IsSound w → LossComes w n → IsSound (over_with w n answer (lost_entry n) (flight_at n w.flights))
+note-lost : (m : Conditions) (w : RunState) (n : ℕ) (answer : Answer) → IsSound w → LossComes w n → IsSound (over_with w n answer (lost_entry n) (flying_at n w.flights))
 note-lost m w n answer sound comes = rw comes.at (sound-over w.farm (call_conditions m false) w.flights w.flushes w.slicing w.log n (lost_entry n) refl refl (λ k key. refl) (λ v inv. refl) (key_of w comes.flight.request, sound.flown n comes.flight comes.at) sound)
 
 -- ---- any note

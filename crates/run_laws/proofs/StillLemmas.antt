@@ -6,7 +6,7 @@ use Rattle.sp_base.specs.declared.answer.Answer.{Answer}
 use Rattle.sp_base.specs.Requests.{Request}
 use Rattle.cover_rules.specs.declared.page.PageKey.{PageKey}
 use Rattle.cover_rules.specs.declared.invalidation.Invalidation.{Invalidation}
-use Rattle.cache_log.specs.Entries.{LogEntry, Outcome}
+use Rattle.cache_log.specs.Entries.{LogEntry, FlushOutcome}
 use Rattle.connections.specs.Connections.{Connection, fresh}
 use Rattle.connections.specs.Slots.{Response}
 use Rattle.run_events.specs.declared.conditions.Conditions.{Conditions}
@@ -17,7 +17,7 @@ use Rattle.run_events.specs.declared.note.Note.TheVariants.{Ask as asked, Hit, L
 use Rattle.run_events.specs.declared.step.Step.{Step}
 use Rattle.run_events.specs.declared.step.Step.TheVariants as step
 use Rattle.run_events.specs.States.{RunState}
-use Rattle.run_events.specs.Moves.{Serves, due_of_connection, flight_at, flush_at, over_with, state_after_ask, state_after_ending, state_after_flush, state_after_hit, state_after_note, state_after_notes, treated_request}
+use Rattle.run_events.specs.Moves.{Serves, due_of_connection, flying_at, flush_at, over_with, state_after_ask, state_after_ending, state_after_flush, state_after_hit, state_after_note, state_after_notes, treated_request}
 use Rattle.run_events.specs.Events.{DeliverAs, DeliverTo, Event, HappensBy, LeadsNotes, LoseTo, PieceTo, PurgeTo, going, is_any, is_rendered, most_connections, opening, picked_flight, state_after_going, state_after_opening, state_before_notes}
 use Rattle.run_laws.proofs.FormLemmas.{AreCutNotes, IsCutNote, IsDueNote, IsLandingNote, IsSliceNote, landing-form, next-form, restart-cut, slice-form}
 
@@ -45,7 +45,7 @@ flush-same : (w : RunState) (v c : ℕ) (inv : Invalidation) (request : Option R
 flush-same w v c inv None = same w
 flush-same w v c inv (Some request) = record { publishing = refl; farm = refl; content = refl }
 
-ending-same : (w : RunState) (v : ℕ) (outcome : Outcome) (response : Response) (at : Option Flushing) → SameContent w (state_after_ending w v outcome response at)
+ending-same : (w : RunState) (v : ℕ) (outcome : FlushOutcome) (response : Response) (at : Option Flushing) → SameContent w (state_after_ending w v outcome response at)
 ending-same w v outcome response None = same w
 ending-same w v outcome response (Some f) = record { publishing = refl; farm = refl; content = refl }
 
@@ -67,10 +67,10 @@ after-same w (Sliced v) is = record { publishing = refl; farm = refl; content = 
 after-same w (Done v) is = ending-same w v _ _ (flush_at v w.flushes)
 after-same w (Failed v failure) is = ending-same w v _ _ (flush_at v w.flushes)
 after-same w (Rendered n answer) is = absurd is
-after-same w (Kept n key) is = over-same w n _ _ (flight_at n w.flights)
-after-same w (Unkept n) is = over-same w n _ _ (flight_at n w.flights)
-after-same w (Passed n) is = over-same w n _ _ (flight_at n w.flights)
-after-same w (Lost n) is = over-same w n _ _ (flight_at n w.flights)
+after-same w (Kept n key) is = over-same w n _ _ (flying_at n w.flights)
+after-same w (Unkept n) is = over-same w n _ _ (flying_at n w.flights)
+after-same w (Passed n) is = over-same w n _ _ (flying_at n w.flights)
+after-same w (Lost n) is = over-same w n _ _ (flying_at n w.flights)
 after-same w (Sent c bytes) is = record { publishing = refl; farm = refl; content = refl }
 after-same w (Shut c) is = record { publishing = refl; farm = refl; content = refl }
 after-same w (Up epoch) is = record { publishing = refl; farm = refl; content = refl }

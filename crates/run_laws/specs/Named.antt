@@ -6,15 +6,7 @@ use Rattle.cover_rules.specs.Pages.{page_key_of}
 use Rattle.cover_rules.specs.declared.page.PageKey.{PageKey}
 use Rattle.run_events.specs.declared.note.Note.{Note}
 use Rattle.run_events.specs.declared.note.Note.TheVariants.{Ask as asked, Hit, Flush, Kept}
-
--- a key is that of the page at some path
-abbrev pub IsPage : Option PageKey → Type 0
-IsPage None = Unit {0}
-IsPage (Some key) = (path : List (List ℕ)) × IsTrue (is_path path) × (page_key_of path ≡ Some key)
-
--- the handle is that of a request: a path with its namespace prefixes as they stand in the repository
-abbrev pub IsHandle : List (List ℕ) → Type 0
-IsHandle handle = (path : List (List ℕ)) × IsTrue (is_path path) × (handle ≡ unmangled_segs path)
+use Rattle.run_events.specs.Named.{IsPage, IsHandle}
 
 -- the key of a note is one of a page, and its handle one of a request
 abbrev pub NamesPage : Note → Type 0

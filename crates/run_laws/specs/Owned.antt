@@ -98,7 +98,7 @@ abbrev pub endings_of : List Event → List FlushEnding
 endings_of events = flat_map (λ (e : Event). ended_in e.body) events
 
 -- the flush with this number ended so
-pub record HasEnded (endings : List FlushEnding) (number : FlushId) (status : ℕ) : Type 0 where
+pub record HasFlushEnding (endings : List FlushEnding) (number : FlushId) (status : ℕ) : Type 0 where
   pub before : List FlushEnding
   pub later : List FlushEnding
   pub is : endings ≡ before ++ record { number = number; status = status } ∷ later
@@ -119,7 +119,7 @@ IsOfFlight outcomes number request _ = ⊥
 -- what answers a request for a flush: its end is awaited; or it has ended, and is answered by its status
 abbrev pub IsOfFlush : Outcomes → FlushId → Response → Type 0
 IsOfFlush outcomes number (Awaits (flush_awaited flush)) = flush ≡ number
-IsOfFlush outcomes number (Says answer) = (status : ℕ) × HasEnded outcomes.endings number status × (answer ≡ error_answer status)
+IsOfFlush outcomes number (Says answer) = (status : ℕ) × HasFlushEnding outcomes.endings number status × (answer ≡ error_answer status)
 IsOfFlush outcomes number _ = ⊥
 
 -- what answers a request: its flight, one of the answers that the cache may give by its log as it was, its flush, or the front itself with the

@@ -15,7 +15,7 @@ use Rattle.connections.specs.Slots.{fixed_answer}
 use Rattle.run_events.specs.Publishers.{Publishing}
 use Rattle.run_events.specs.States.{RunState}
 use Rattle.run_events.specs.Events.{Event, after_event, state_before_notes}
-use Rattle.run_events.specs.Moves.{state_after_note, flight_at}
+use Rattle.run_events.specs.Moves.{state_after_note, flying_at}
 
 -- A flight was rendered: its number, its request, its answer, and whether memory ran out in that event.
 pub record Rendering : Type 0 where
@@ -31,7 +31,7 @@ rendering_of answer out_of_memory (Some flying) = record { number = flying.numbe
 
 -- what a note tells of it
 abbrev pub rendered_by : RunState → Bool → Note → List Rendering
-rendered_by w out_of_memory (Rendered number answer) = rendering_of answer out_of_memory (flight_at number w.flights)
+rendered_by w out_of_memory (Rendered number answer) = rendering_of answer out_of_memory (flying_at number w.flights)
 rendered_by w out_of_memory _ = []
 
 -- the same of notes, one after another

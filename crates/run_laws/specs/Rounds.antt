@@ -12,8 +12,8 @@ use Rattle.run_events.specs.declared.step.Step.{Step}
 use Rattle.run_events.specs.declared.step.Step.TheVariants.{Opened, Piece, Gone, Direct, Render, Deliver, Lose, Purge, Restart}
 use Rattle.run_events.specs.Events.{Event, Happens, Run, after_event, state_after_events}
 use Rattle.run_events.specs.Moves.{due_of_connection, with_rendered}
-use Rattle.run_events.specs.Points.{most_flights}
 use Rattle.run_events.specs.States.{AreFlightsRising, RunState, Start, start_of}
+use Rattle.flights.specs.Flights.{most_flights}
 
 -- ---- between events
 

@@ -12,7 +12,7 @@ pub use laws::{
     runs_with_memory_are_determined, streams_with_memory_end_alike,
 };
 pub use serving::{
-    connections_that_go_are_gone, events_leave_nothing_due,
+    connections_that_go_are_gone, events_keep_the_farm, events_leave_nothing_due,
     notes_are_of_connections_that_are_there, rounds_take_flights_out_of_the_air,
     turns_are_treated_as_they_come,
 };

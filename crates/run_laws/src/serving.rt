@@ -20,6 +20,12 @@ pub fn events_leave_nothing_due()
     ensures run { (w : RunState) (events : List Event) → HasNothingDue w → Run w events → HasNothingDue (state_after_events w events) }
 {}
 
+/// Events leave the farm as it is, and how many files were found.
+pub fn events_keep_the_farm()
+    ensures farm { (w : RunState) (events : List Event) → (state_after_events w events).farm ≡ w.farm }
+    ensures found { (w : RunState) (events : List Event) → (state_after_events w events).found ≡ w.found }
+{}
+
 /// A turn is treated only in the event of a piece, as it comes: a landing, a loss and a slice only send what waited, or shut a connection.
 pub fn turns_are_treated_as_they_come()
     ensures { (w : RunState) (e : Event) → HasNothingDue w → Happens w e → BringsBytes e.step ⊎ AllByRecursion TreatsNoTurn e.body }

@@ -10,7 +10,7 @@ use Rattle.run_events.specs.States.{RunState}
 use Rattle.run_events.specs.Events.{Event, Run, after_event, state_after_events}
 use Rattle.serve_loop.specs.Turns.{AreDue, HandedEvent, MayRest, Stage, entries_made, events_made, stage_after, stage_handed}
 use Rattle.serve_loop.specs.Served.{AreCaused, count_unsent, is_unsent}
-use Rattle.serve_loop.specs.Steps.{GoesOn, IsCutOff, LeadsTo, ServerAt}
+use Rattle.serve_loop.specs.Steps.{TurnGoesOn, TurnIsCut, LeadsTo, ServerAt}
 use Rattle.serve_loop.proofs.LogLemmas.{told_nothing, told_twice}
 
 -- ---- runs, and their counts
@@ -66,7 +66,7 @@ entries_append a b = flat_map-append (λ (m : HandedEvent). m.entries) a b
 
 -- ---- what goes on
 
-pub goes_nowhere : (s : ServerAt) (stage : Stage) (w : RunState) → GoesOn s s stage w stage w
+pub goes_nowhere : (s : ServerAt) (stage : Stage) (w : RunState) → TurnGoesOn s s stage w stage w
 goes_nowhere s stage w = record {
   made = [];
   leads = (refl, refl);
@@ -96,7 +96,7 @@ caused_of_both before middle after w v a b e h k =
     subst (λ es. AreCaused before after w es) (sym (events_append a b))
     (caused_append before middle after w (events_made a) (events_made b) h (subst (λ x. AreCaused middle after x (events_made b)) (sym e) k))
 
-pub goes_on_then : (s t u : ServerAt) (stage middle later : Stage) (w v x : RunState) → GoesOn s t stage w middle v → GoesOn t u middle v later x → GoesOn s u stage w later x
+pub goes_on_then : (s t u : ServerAt) (stage middle later : Stage) (w v x : RunState) → TurnGoesOn s t stage w middle v → TurnGoesOn t u middle v later x → TurnGoesOn s u stage w later x
 goes_on_then s t u stage middle later w v x h k =
     let e = leads_to_state stage w h.made middle v h.leads in
     record {
@@ -108,7 +108,7 @@ goes_on_then s t u stage middle later w v x h k =
       caused = caused_of_both s.board.faults t.board.faults u.board.faults w v h.made k.made e h.caused k.caused;
     }
 
-pub goes_on_until_cut : (s t u : ServerAt) (stage middle : Stage) (w v : RunState) → GoesOn s t stage w middle v → IsCutOff t u middle v → IsCutOff s u stage w
+pub goes_on_until_cut : (s t u : ServerAt) (stage middle : Stage) (w v : RunState) → TurnGoesOn s t stage w middle v → TurnIsCut t u middle v → TurnIsCut s u stage w
 goes_on_until_cut s t u stage middle w v h k =
     let e = leads_to_state stage w h.made middle v h.leads in
     record {

@@ -1,6 +1,6 @@
 -- What is handed on of notes, where the connections that they name are open: their entries.
 use Rattle.std.proofs.Common.{◌≡◌, ◌++◌, ◌∙◌, inl, inr, ℕ, true, List, [], ◌∷◌, Option, Some, None, IfSome, sym, ap, subst, refl, append_assoc, if◌then◌else◌}
-use Rattle.outside_world.specs.Worlds.{is_open, told_more, told_shut}
+use Rattle.outside_world.specs.Worlds.{is_connected, told_more, told_shut}
 use Rattle.outside_world.specs.declared.world.WorldEntry.{WorldEntry}
 use Rattle.outside_world.specs.declared.world.WorldEntry.TheVariants.{Unsent, Shut as shut_entry}
 use Rattle.run_events.specs.declared.note.Note.{Note}
@@ -8,11 +8,11 @@ use Rattle.run_events.specs.declared.note.Note.TheVariants as note
 use Rattle.serve_loop.specs.declared.handing.HandedOn.{HandedOn}
 use Rattle.serve_loop.specs.declared.handing.HandedOn.TheVariants.{All, FailedAt, NoMemory}
 use Rattle.serve_loop.specs.Turns.{IsHandedOn, entries_of_note, entries_of_notes}
-use Rattle.serve_loop.specs.Hands.{AreOfOpen, FailsHere, HandsOn, IsOfOpen, IsUnsentHere, told_note, told_notes}
+use Rattle.serve_loop.specs.Hands.{AreOfOpen, FailsHere, HandsOn, IsOfOpen, IsUnsentHere, told_note, world_told_notes}
 use Rattle.serve_loop.proofs.LogLemmas.{open_more, told_nothing, told_twice}
 
 -- a connection that is open is shut
-shut_is_told : (told : Option (List WorldEntry)) (c : ℕ) → IfSome told (λ log. is_open log c ≡ true) → told_shut told c ≡ told_more told (shut_entry c ∷ [])
+shut_is_told : (told : Option (List WorldEntry)) (c : ℕ) → IfSome told (λ log. is_connected log c ≡ true) → told_shut told c ≡ told_more told (shut_entry c ∷ [])
 shut_is_told None c h = refl
 shut_is_told (Some log) c h = ap (λ b. Some (log ++ (if b then shut_entry c ∷ [] else []))) h
 
@@ -60,13 +60,13 @@ pub record TellsHanded (r : HandedOn) (told new : Option (List WorldEntry)) (not
   pub handed : IsHandedOn r notes entries
   pub told_is : new ≡ told_more told entries
 
-all_is_told : (told : Option (List WorldEntry)) (notes : List Note) → AreOfOpenIn told notes → told_notes told notes ≡ told_more told (entries_of_notes notes)
+all_is_told : (told : Option (List WorldEntry)) (notes : List Note) → AreOfOpenIn told notes → world_told_notes told notes ≡ told_more told (entries_of_notes notes)
 all_is_told told [] h = nothing_is_told told
 all_is_told told (n ∷ notes) h =
-    ap (λ t. told_notes t notes) (note_is_told told n (head_is_of_open told n notes h)) ∙ (all_is_told (told_more told (entries_of_note n)) notes (rest_is_of_open told n notes h)
+    ap (λ t. world_told_notes t notes) (note_is_told told n (head_is_of_open told n notes h)) ∙ (all_is_told (told_more told (entries_of_note n)) notes (rest_is_of_open told n notes h)
     ∙ told_twice told (entries_of_note n) (entries_of_notes notes))
 
-unsent_stays_open : (told : Option (List WorldEntry)) (c : ℕ) → IfSome told (λ log. is_open log c ≡ true) → IfSome (told_more told (Unsent c ∷ [])) (λ log. is_open log c ≡ true)
+unsent_stays_open : (told : Option (List WorldEntry)) (c : ℕ) → IfSome told (λ log. is_connected log c ≡ true) → IfSome (told_more told (Unsent c ∷ [])) (λ log. is_connected log c ≡ true)
 unsent_stays_open None c h = tt
 unsent_stays_open (Some log) c h = open_more log c (Unsent c) ∙ h
 

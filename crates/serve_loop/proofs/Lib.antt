@@ -7,3 +7,5 @@ pub mod ResultLemmas
 pub mod RoundLemmas
 pub mod TurnLemmas
 pub mod HappeningLemmas
+pub mod PartLemmas
+pub mod LeavingLemmas

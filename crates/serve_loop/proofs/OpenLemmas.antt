@@ -5,7 +5,7 @@ use Rattle.std.proofs.lemmas.Bool.Decides.{eqb_tells}
 use Rattle.std.proofs.lemmas.Option.{none-some}
 use Rattle.std.proofs.lemmas.List.{append-nil}
 use Rattle.std.proofs.lemmas.Grind.{flat_map-append}
-use Rattle.outside_world.specs.Worlds.{is_open, told_more}
+use Rattle.outside_world.specs.Worlds.{is_connected, told_more}
 use Rattle.outside_world.specs.declared.world.WorldEntry.{WorldEntry}
 use Rattle.outside_world.specs.declared.world.WorldEntry.TheVariants.{Sent as sent_entry, Unsent, Shut as shut_entry}
 use Rattle.connections.specs.Connections.{Connection}
@@ -34,18 +34,18 @@ pub record NoteLaws : Type 0 where
 
 -- the connections of the state are open after the log
 abbrev pub AreOpenAfter : List WorldEntry → RunState → Type 0
-AreOpenAfter log w = (c : ConnectionId) → IsSome (w.connection c) → is_open log c ≡ true
+AreOpenAfter log w = (c : ConnectionId) → IsSome (w.connection c) → is_connected log c ≡ true
 
 -- ---- one note
 
 still_open : (log : List WorldEntry) (u v : RunState) → AddsNoConnection u v → AreOpenAfter log u → AreOpenAfter (log ++ []) v
-still_open log u v adds h c there = subst (λ l. is_open l c ≡ true) (sym (append-nil log)) (h c (adds c there))
+still_open log u v adds h c there = subst (λ l. is_connected l c ≡ true) (sym (append-nil log)) (h c (adds c there))
 
 not_there : (o : Option Connection) → o ≡ None → IsSome o → ⊥
 not_there o is there = false≢true (sym (ap (λ (x : Option Connection). is_some x) is) ∙ there)
 
-shut_keeps : (log : List WorldEntry) (c d : ConnectionId) → (c ≡ d → ⊥) → is_open log d ≡ true → is_open (log ++ shut_entry c ∷ []) d ≡ true
-shut_keeps log c d ne h = open_more log d (shut_entry c) ∙ (ap (λ b. if b then false else is_open log d) (ne_eqb c d ne) ∙ h)
+shut_keeps : (log : List WorldEntry) (c d : ConnectionId) → (c ≡ d → ⊥) → is_connected log d ≡ true → is_connected (log ++ shut_entry c ∷ []) d ≡ true
+shut_keeps log c d ne h = open_more log d (shut_entry c) ∙ (ap (λ b. if b then false else is_connected log d) (ne_eqb c d ne) ∙ h)
 
 -- where this one isn't there, the others stay open when it is shut
 shut_leaves_others : (log : List WorldEntry) (u v : RunState) (c : ConnectionId) → AddsNoConnection u v → v.connection c ≡ None → AreOpenAfter log u → AreOpenAfter (log ++ shut_entry c ∷ []) v
@@ -92,16 +92,16 @@ open_after_notes laws step u log [] none a h = nothing_noted log u h
 open_after_notes laws step u log (n ∷ notes) none a h =
     let one = open_after_note laws step u log n none a.0 h in
     let rest = open_after_notes laws step (state_after_note u n) (log ++ entries_of_note n) notes none a.1 one.1 in
-    ((one.0, rest.0), λ c there. subst (λ l. is_open l c ≡ true) (append_assoc log (entries_of_note n) (entries_of_notes notes)) (rest.1 c there))
+    ((one.0, rest.0), λ c there. subst (λ l. is_connected l c ≡ true) (append_assoc log (entries_of_note n) (entries_of_notes notes)) (rest.1 c there))
 
 -- ---- an opening
 
-opened_in_room : (b : Bool) (w x : RunState) (c : ConnectionId) (log : List WorldEntry) → w.connection c ≡ None → is_open log c ≡ true → AreOpenAfter log (if b then w else x)
+opened_in_room : (b : Bool) (w x : RunState) (c : ConnectionId) (log : List WorldEntry) → w.connection c ≡ None → is_connected log c ≡ true → AreOpenAfter log (if b then w else x)
     → LeavesOpen log (if b then w else x) (if b then note.Refused c ∷ [] else [])
 opened_in_room true w x c log none is h = ((is, tt), shut_leaves_others log w w c (λ d there. there) none h)
 opened_in_room false w x c log none is h = nothing_noted log x h
 
-opened_here : (w : RunState) (c : ConnectionId) (peer : List ℕ) (log : List WorldEntry) (there : Option Connection) → w.connection c ≡ there → is_open log c ≡ true → AreOpenAfter log (state_after_opening w c peer there)
+opened_here : (w : RunState) (c : ConnectionId) (peer : List ℕ) (log : List WorldEntry) (there : Option Connection) → w.connection c ≡ there → is_connected log c ≡ true → AreOpenAfter log (state_after_opening w c peer there)
     → LeavesOpen log (state_after_opening w c peer there) (opening c w.connection_count there)
 opened_here w c peer log (Some connection) e is h = ((tt, tt), still_open log w w (λ d there. there) h)
 opened_here w c peer log None e is h = opened_in_room (nat_le most_connections w.connection_count) w _ c log e is h
@@ -109,11 +109,11 @@ opened_here w c peer log None e is h = opened_in_room (nat_le most_connections w
 -- ---- an event
 
 -- the connections are open before its notes
-before_open : NoteLaws → (w : RunState) (e : Event) (log : List WorldEntry) → AreOpenAfter log w → ((c : ConnectionId) → opened_by_step e.step ≡ Some c → is_open log c ≡ true) → AreOpenAfter log (state_before_notes w e e.step)
+before_open : NoteLaws → (w : RunState) (e : Event) (log : List WorldEntry) → AreOpenAfter log w → ((c : ConnectionId) → opened_by_step e.step ≡ Some c → is_connected log c ≡ true) → AreOpenAfter log (state_before_notes w e e.step)
 before_open laws w e log h opened c there = elim (laws.begun w e c there) [ inl was ↦ h c was | inr is ↦ opened c is ]
 
 body_by_step : NoteLaws → (w : RunState) (e : Event) (step : Step) (log : List WorldEntry) → HappensBy w e step → AreAddressed step (state_before_notes w e step) e.body → AreOpenAfter log (state_before_notes w e step)
-    → ((c : ConnectionId) → opened_by_step step ≡ Some c → is_open log c ≡ true) → LeavesOpen log (state_before_notes w e step) e.body
+    → ((c : ConnectionId) → opened_by_step step ≡ Some c → is_connected log c ≡ true) → LeavesOpen log (state_before_notes w e step) e.body
 body_by_step laws w e (Opened c peer) log h a is opened = subst (λ body. LeavesOpen log (state_after_opening w c peer (w.connection c)) body) (sym h) (opened_here w c peer log (w.connection c) refl (opened c refl) is)
 body_by_step laws w e (Piece c bytes) log h a is opened = open_after_notes laws (Piece c bytes) (state_before_notes w e (Piece c bytes)) log e.body refl a is
 body_by_step laws w e (Gone c) log h a is opened = open_after_notes laws (Gone c) (state_before_notes w e (Gone c)) log e.body refl a is
@@ -180,7 +180,7 @@ bring_none : NoteLaws → (u : RunState) (notes : List Note) → AddsNoConnectio
 bring_none laws u [] c there = there
 bring_none laws u (n ∷ notes) c there = laws.brings u n c (bring_none laws (state_after_note u n) notes c there)
 
-body_leaves_open : NoteLaws → (w : RunState) (e : Event) (log : List WorldEntry) → Happens w e → LeavesSession e.step → AreOpenAfter log w → ((c : ConnectionId) → opened_by_step e.step ≡ Some c → is_open log c ≡ true)
+body_leaves_open : NoteLaws → (w : RunState) (e : Event) (log : List WorldEntry) → Happens w e → LeavesSession e.step → AreOpenAfter log w → ((c : ConnectionId) → opened_by_step e.step ≡ Some c → is_connected log c ≡ true)
     → LeavesOpen log (state_before_notes w e e.step) e.body
 body_leaves_open laws w e log h session is opened = body_by_step laws w e e.step log h.0 (laws.notes w e h session) (before_open laws w e log is opened) opened
 
@@ -248,17 +248,17 @@ opening_sends_nothing c count (Some connection) = (refl, tt)
 opening_sends_nothing c count None = room_sends_nothing (nat_le most_connections count) c
 
 -- after a log with what was handed on of it, the others are open
-failure_keeps : (log more : List WorldEntry) (c d : ConnectionId) → is_open (log ++ more) d ≡ true → (is_open (log ++ (more ++ Unsent c ∷ shut_entry c ∷ [])) d ≡ true) ⊎ (d ≡ c)
+failure_keeps : (log more : List WorldEntry) (c d : ConnectionId) → is_connected (log ++ more) d ≡ true → (is_connected (log ++ (more ++ Unsent c ∷ shut_entry c ∷ [])) d ≡ true) ⊎ (d ≡ c)
 failure_keeps log more c d h =
     elim (eqb_tells c d) [
       | inl same ↦ inr (sym same.1)
-      | inr other ↦ inl (subst (λ l. is_open l d ≡ true) (append_assoc (log ++ more) (Unsent c ∷ []) (shut_entry c ∷ []) ∙ append_assoc log more (Unsent c ∷ shut_entry c ∷ []))
+      | inr other ↦ inl (subst (λ l. is_connected l d ≡ true) (append_assoc (log ++ more) (Unsent c ∷ []) (shut_entry c ∷ []) ∙ append_assoc log more (Unsent c ∷ shut_entry c ∷ []))
           (shut_keeps ((log ++ more) ++ Unsent c ∷ []) c d other.1 (open_more (log ++ more) d (Unsent c) ∙ h)))
     ]
 
 failure_by_step : NoteLaws → (w : RunState) (e : Event) (step : Step) (log : List WorldEntry) (c : ConnectionId) (before : List Note) (bytes : List ℕ) (later : List Note) → opened_by_step step ≡ None
     → AreAddressed step (state_before_notes w e step) e.body → AreOpenAfter log (state_before_notes w e step) → notes_of e ≡ before ++ note.Sent c bytes ∷ later
-    → (d : ConnectionId) → IsSome ((state_after_notes (state_before_notes w e step) e.body).connection d) → is_open (log ++ entries_of_notes before) d ≡ true
+    → (d : ConnectionId) → IsSome ((state_after_notes (state_before_notes w e step) e.body).connection d) → is_connected (log ++ entries_of_notes before) d ≡ true
 failure_by_step laws w e step log c before bytes later none a is notes_are d there =
     let u = state_before_notes w e step in
     let rest = note.Sent c bytes ∷ later in
@@ -287,7 +287,7 @@ pub failure_leaves_others_open : NoteLaws → (w : RunState) (e : Event) (told :
     → IsFailedAt c (notes_of e) entries → HasOthersOpen c (told_more told entries) (after_event w e)
 failure_leaves_others_open laws w e None c entries h session is opened failed = tt
 failure_leaves_others_open laws w e (Some log) c entries h session is opened failed = λ d there. elim (opens_or_not w e e.step h.0) [
-  | inl none ↦ subst (λ es. (is_open (log ++ es) d ≡ true) ⊎ (d ≡ c)) (sym failed.entries_are) (failure_keeps log (entries_of_notes failed.before) c d
+  | inl none ↦ subst (λ es. (is_connected (log ++ es) d ≡ true) ⊎ (d ≡ c)) (sym failed.entries_are) (failure_keeps log (entries_of_notes failed.before) c d
       (failure_by_step laws w e e.step log c failed.before failed.bytes failed.later none (laws.notes w e h session) (before_open laws w e log is opened) failed.notes_are d there))
   | inr nothing ↦ absurd (something_is_sent failed.before c failed.bytes failed.later (subst SendNothing failed.notes_are nothing))
 ]

@@ -14,15 +14,15 @@ use Rattle.run_events.specs.declared.step.Pick.TheVariants.{First}
 use Rattle.run_events.specs.declared.step.Step.{Step}
 use Rattle.run_events.specs.declared.step.Step.TheVariants.{Opened, Piece, Gone, Render, Deliver, Purge}
 use Rattle.run_events.specs.States.{RunState}
-use Rattle.run_events.specs.Points.{most_flights}
 use Rattle.run_events.specs.Events.{Event, Happens, after_event, is_unrendered}
 use Rattle.run_events.specs.Moves.{with_rendered}
 use Rattle.run_laws.specs.Addressed.{LeavesSession, opened_by_step}
 use Rattle.run_laws.specs.Rounds.{AreUnrendered, HasNothingDue, LandsTheFirst, LeavesFlights, LeavesUnrendered, RendersTheFirst}
 use Rattle.serve_loop.specs.Turns.{Begins, Delivers, Renders, Rests, Stage, due_step, has_unrendered, is_flushing, stage_of}
 use Rattle.serve_loop.specs.Served.{HasOpenConnections}
-use Rattle.serve_loop.specs.Steps.{AwaitsNews, AwaitsStep, ComesToFlights, ComesToRest, CutsEnd, CutsGoneOf, CutsLanding, CutsLandings, CutsStepOf, EndsTurn, GoesOn, HasOpened, IsCutOff, IsServing, LandsAll, LandsFirst, LandsSome, Leaves, MakesGoneOf, MakesStep, MakesStepOf, ServerAt, ServesRun}
+use Rattle.serve_loop.specs.Steps.{AwaitsNews, AwaitsStep, ComesToFlights, ComesToRest, CutsEnd, CutsGoneOf, CutsLanding, CutsLandings, CutsStepOf, EndsTurn, TurnGoesOn, HasOpened, TurnIsCut, IsServing, LandsAll, LandsFirst, LandsSome, LeavesInAir, MakesGoneOf, MakesStep, MakesStepOf, ServerAt, ServesRun}
 use Rattle.serve_loop.proofs.ChainLemmas.{goes_nowhere, goes_on_then, goes_on_until_cut}
+use Rattle.flights.specs.Flights.{most_flights}
 
 -- what is so of flights
 pub record FlightLaws : Type 0 where
@@ -43,7 +43,7 @@ none_said number b is h = is ∙ ap not h
 pub some_said : (number : Option ℕ) (b : Bool) → is_some number ≡ not b → b ≡ false → is_some number ≡ true
 some_said number b is h = is ∙ ap not h
 
-first_is_found : (flying : Flying) (later : List Flying) → flying.rendered ≡ None → find is_unrendered (flying ∷ later) ≡ Some flying
+pub first_is_found : (flying : Flying) (later : List Flying) → flying.rendered ≡ None → find is_unrendered (flying ∷ later) ≡ Some flying
 first_is_found flying later h = ap (λ r. cond (not (is_some r)) (Some flying) (find is_unrendered later)) h
 
 pub none_is_left : (flights : List Flying) (number : Option ℕ) → number ≡ option_map (λ (flying : Flying). flying.number) (find is_unrendered flights) → is_some number ≡ false → AreUnrendered flights → flights ≡ []
@@ -74,13 +74,13 @@ pub record FirstRendered (old mid : ServerAt) (w : RunState) (flying : Flying) (
   pub answered : Flying
   pub flights_are : left.flights ≡ answered ∷ later
   pub rendered : IsSome answered.rendered
-  pub goes_on : GoesOn old mid Renders w Delivers left
+  pub goes_on : TurnGoesOn old mid Renders w Delivers left
   pub serving : IsServing mid left
 
 step_of_flights : (step : Step) (s : ServerAt) (w : RunState) → opened_by_step step ≡ None → LeavesSession step → IsServing s w → AwaitsStep step s.told w
 step_of_flights step s w none session serving = record { session = session; connections = serving.connections; opened = opens_nothing step s.told none }
 
-render_due : (w : RunState) → has_unrendered w ≡ true → due_step Renders w ≡ Some (Render First)
+pub render_due : (w : RunState) → has_unrendered w ≡ true → due_step Renders w ≡ Some (Render First)
 render_due w h = ap (λ b. if b then Some (Render First) else (if is_flushing w.flushes then Some Purge else None)) h
 
 pub first_rendered : FlightLaws → (old mid : ServerAt) (w : RunState) (flying : Flying) (later : List Flying) → MakesStepOf (Render First) old mid → IsServing old w → w.flights ≡ flying ∷ later → flying.rendered ≡ None
@@ -94,11 +94,11 @@ first_rendered laws old mid w flying later renders serving flights h =
       answered = with_rendered answer.0 flying;
       flights_are = made.flights ∙ answer.1;
       rendered = refl;
-      goes_on = subst (λ s. GoesOn old mid Renders w s made.left) (ap (λ b. if b then Delivers else Rests) has) made.goes_on;
+      goes_on = subst (λ s. TurnGoesOn old mid Renders w s made.left) (ap (λ b. if b then Delivers else Rests) has) made.goes_on;
       serving = made.serving;
     }
 
-pub first_landed : FlightLaws → (old mid new : ServerAt) (w : RunState) (flying : Flying) (later : List Flying) → FirstRendered old mid w flying later → MakesStepOf (Deliver First) mid new → Leaves later old new Renders w Renders
+pub first_landed : FlightLaws → (old mid new : ServerAt) (w : RunState) (flying : Flying) (later : List Flying) → FirstRendered old mid w flying later → MakesStepOf (Deliver First) mid new → LeavesInAir later old new Renders w Renders
 first_landed laws old mid new w flying later r delivers =
     let v = r.left in
     let made = delivers Delivers v r.serving.serves (step_of_flights (Deliver First) mid v refl tt r.serving) refl in
@@ -109,10 +109,10 @@ first_landed laws old mid new w flying later r delivers =
       flights_are = made.flights ∙ laws.landed v made.event r.answered later r.serving.serves.nothing_due made.happens made.step_is r.flights_are r.rendered;
     }
 
-pub first_cut : (old new : ServerAt) (w : RunState) (flying : Flying) (later : List Flying) → CutsStepOf (Render First) old new → IsServing old w → w.flights ≡ flying ∷ later → flying.rendered ≡ None → IsCutOff old new Renders w
+pub first_cut : (old new : ServerAt) (w : RunState) (flying : Flying) (later : List Flying) → CutsStepOf (Render First) old new → IsServing old w → w.flights ≡ flying ∷ later → flying.rendered ≡ None → TurnIsCut old new Renders w
 first_cut old new w flying later cuts serving flights h = cuts Renders w serving.serves (step_of_flights (Render First) old w refl tt serving) (render_due w (render_is_due w flying later flights h))
 
-pub landing_cut : (old mid new : ServerAt) (w : RunState) (flying : Flying) (later : List Flying) → FirstRendered old mid w flying later → CutsStepOf (Deliver First) mid new → IsCutOff old new Renders w
+pub landing_cut : (old mid new : ServerAt) (w : RunState) (flying : Flying) (later : List Flying) → FirstRendered old mid w flying later → CutsStepOf (Deliver First) mid new → TurnIsCut old new Renders w
 landing_cut old mid new w flying later r cuts =
     goes_on_until_cut old mid new Renders Delivers w r.left r.goes_on (cuts Delivers r.left r.serving.serves (step_of_flights (Deliver First) mid r.left refl tt r.serving) refl)
 
@@ -140,17 +140,17 @@ one_more_landed old mid new rounds w l f lands =
       few = omega (arith, l.few, before, after);
     }
 
-pub all_landed : (old new : ServerAt) (rounds : ℕ) (w : RunState) (l : LandsSome old new rounds w) → l.left.flights ≡ [] → Leaves [] old new Renders w Renders
+pub all_landed : (old new : ServerAt) (rounds : ℕ) (w : RunState) (l : LandsSome old new rounds w) → l.left.flights ≡ [] → LeavesInAir [] old new Renders w Renders
 all_landed old new rounds w l none = record { left = l.left; goes_on = l.goes_on; serving = l.serving; flights_are = none }
 
 no_more : (flights : List Flying) (rounds : ℕ) → length flights + rounds ≤ most_flights → most_flights ≤ rounds → flights ≡ []
 no_more [] rounds h k = refl
 no_more (flying ∷ later) rounds h k = absurd (omega arith)
 
-pub rounds_land_all : (old new : ServerAt) (rounds : ℕ) (w : RunState) → LandsSome old new rounds w → most_flights ≤ rounds → Leaves [] old new Renders w Renders
+pub rounds_land_all : (old new : ServerAt) (rounds : ℕ) (w : RunState) → LandsSome old new rounds w → most_flights ≤ rounds → LeavesInAir [] old new Renders w Renders
 rounds_land_all old new rounds w l k = all_landed old new rounds w l (no_more l.left.flights rounds l.few k)
 
-pub landings_cut : (old mid new : ServerAt) (rounds : ℕ) (w : RunState) (l : LandsSome old mid rounds w) → FirstLeft l.left.flights → CutsLanding mid new → IsCutOff old new Renders w
+pub landings_cut : (old mid new : ServerAt) (rounds : ℕ) (w : RunState) (l : LandsSome old mid rounds w) → FirstLeft l.left.flights → CutsLanding mid new → TurnIsCut old new Renders w
 landings_cut old mid new rounds w l f cuts =
     goes_on_until_cut old mid new Renders Renders w l.left l.goes_on (cuts l.left f.flying f.later l.serving f.flights_are f.unrendered)
 
@@ -173,7 +173,7 @@ slice_ends laws old new w purges serving none some =
     record {
       later = Rests;
       left = made.left;
-      goes_on = subst (λ s. GoesOn old new Renders w s made.left) (ap (λ b. if b then Delivers else Rests) (none_unrendered w none)) made.goes_on;
+      goes_on = subst (λ s. TurnGoesOn old new Renders w s made.left) (ap (λ b. if b then Delivers else Rests) (none_unrendered w none)) made.goes_on;
       resting = refl;
       rests = record {
         serving = made.serving;
@@ -181,7 +181,7 @@ slice_ends laws old new w purges serving none some =
       };
     }
 
-pub slice_cut : (old new : ServerAt) (w : RunState) → CutsStepOf Purge old new → IsServing old w → w.flights ≡ [] → (w.flushes ≡ [] → ⊥) → IsCutOff old new Renders w
+pub slice_cut : (old new : ServerAt) (w : RunState) → CutsStepOf Purge old new → IsServing old w → w.flights ≡ [] → (w.flushes ≡ [] → ⊥) → TurnIsCut old new Renders w
 slice_cut old new w cuts serving none some = cuts Renders w serving.serves (step_of_flights Purge old w refl tt serving) (due_at_end w true none (some_flush w.flushes some))
 
 pub no_slice : (s : ServerAt) (w : RunState) → IsServing s w → w.flights ≡ [] → w.flushes ≡ [] → ComesToRest s s Renders w
@@ -212,11 +212,11 @@ opened_begins laws old new news c d peer w is same makes serves awaits none =
     (came_by laws old new (Opened d peer) w (makes (Begins (Opened d peer)) w serves (record { session = tt; connections = waits.0; opened = waits.1 }) refl) tt none)
 
 pub opened_cut : (old new : ServerAt) (news : Happening) (c d : ConnectionId) (peer : List ℕ) (w : RunState) → news ≡ opened_news c peer → d ≡ c → CutsStepOf (Opened d peer) old new → ServesRun old w → AwaitsNews news old.told w
-    → IsCutOff old new (stage_of news) w
+    → TurnIsCut old new (stage_of news) w
 opened_cut old new news c d peer w is same cuts serves awaits =
     let here : news ≡ opened_news d peer = is ∙ ap (λ x. opened_news x peer) (sym same) in
     let waits = subst (λ n. AwaitsNews n old.told w) here awaits in
-    subst (λ n. IsCutOff old new (stage_of n) w) (sym here)
+    subst (λ n. TurnIsCut old new (stage_of n) w) (sym here)
     (cuts (Begins (Opened d peer)) w serves (record { session = tt; connections = waits.0; opened = waits.1 }) refl)
 
 piece_awaits : (c : ConnectionId) (bytes : List ℕ) (told : Option (List WorldEntry)) (w : RunState) → HasOpenConnections told w → AwaitsStep (Piece c bytes) told w
@@ -230,10 +230,10 @@ piece_begins laws old new news c d bytes w is same makes serves awaits none =
     (came_by laws old new (Piece d bytes) w (makes (Begins (Piece d bytes)) w serves (piece_awaits d bytes old.told w (subst (λ n. AwaitsNews n old.told w) here awaits)) refl) tt none)
 
 pub piece_cut : (old new : ServerAt) (news : Happening) (c d : ConnectionId) (bytes : List ℕ) (w : RunState) → news ≡ piece_news c bytes → d ≡ c → CutsStepOf (Piece d bytes) old new → ServesRun old w → AwaitsNews news old.told w
-    → IsCutOff old new (stage_of news) w
+    → TurnIsCut old new (stage_of news) w
 piece_cut old new news c d bytes w is same cuts serves awaits =
     let here : news ≡ piece_news d bytes = is ∙ ap (λ x. piece_news x bytes) (sym same) in
-    subst (λ n. IsCutOff old new (stage_of n) w) (sym here)
+    subst (λ n. TurnIsCut old new (stage_of n) w) (sym here)
     (cuts (Begins (Piece d bytes)) w serves (piece_awaits d bytes old.told w (subst (λ n. AwaitsNews n old.told w) here awaits)) refl)
 
 pub gone_begins : FlightLaws → (old new : ServerAt) (news : Happening) (c d : ConnectionId) (w : RunState) → news ≡ gone_news c → d ≡ c → MakesGoneOf d old new → ServesRun old w → AwaitsNews news old.told w → w.flights ≡ []
@@ -243,10 +243,10 @@ gone_begins laws old new news c d w is same makes serves awaits none =
     subst (λ n. ComesToFlights old new (stage_of n) w) (sym here)
     (came_by laws old new (Gone d) w (makes (Begins (Gone d)) w serves (subst (λ n. AwaitsNews n old.told w) here awaits) refl) tt none)
 
-pub gone_cut : (old new : ServerAt) (news : Happening) (c d : ConnectionId) (w : RunState) → news ≡ gone_news c → d ≡ c → CutsGoneOf d old new → ServesRun old w → AwaitsNews news old.told w → IsCutOff old new (stage_of news) w
+pub gone_cut : (old new : ServerAt) (news : Happening) (c d : ConnectionId) (w : RunState) → news ≡ gone_news c → d ≡ c → CutsGoneOf d old new → ServesRun old w → AwaitsNews news old.told w → TurnIsCut old new (stage_of news) w
 gone_cut old new news c d w is same cuts serves awaits =
     let here : news ≡ gone_news d = is ∙ ap gone_news (sym same) in
-    subst (λ n. IsCutOff old new (stage_of n) w) (sym here) (cuts (Begins (Gone d)) w serves (subst (λ n. AwaitsNews n old.told w) here awaits) refl)
+    subst (λ n. TurnIsCut old new (stage_of n) w) (sym here) (cuts (Begins (Gone d)) w serves (subst (λ n. AwaitsNews n old.told w) here awaits) refl)
 
 pub quiet_begins : (s : ServerAt) (w : RunState) → ServesRun s w → AwaitsNews Quiet s.told w → w.flights ≡ [] → ComesToFlights s s (stage_of Quiet) w
 quiet_begins s w serves awaits none = record {
@@ -270,10 +270,10 @@ turn_rests old one two new stage w first lands ends =
       rests = third.rests;
     }
 
-pub turn_cut_landing : (old one new : ServerAt) (stage : Stage) (w : RunState) → ComesToFlights old one stage w → CutsLandings one new → IsCutOff old new stage w
+pub turn_cut_landing : (old one new : ServerAt) (stage : Stage) (w : RunState) → ComesToFlights old one stage w → CutsLandings one new → TurnIsCut old new stage w
 turn_cut_landing old one new stage w first cuts = goes_on_until_cut old one new stage Renders w first.left first.goes_on (cuts first.left first.serving first.unrendered)
 
-pub turn_cut_at_end : (old one two new : ServerAt) (stage : Stage) (w : RunState) → ComesToFlights old one stage w → LandsAll one two → CutsEnd two new → IsCutOff old new stage w
+pub turn_cut_at_end : (old one two new : ServerAt) (stage : Stage) (w : RunState) → ComesToFlights old one stage w → LandsAll one two → CutsEnd two new → TurnIsCut old new stage w
 turn_cut_at_end old one two new stage w first lands cuts =
     let second = lands first.left first.serving first.unrendered in
     goes_on_until_cut old two new stage Renders w second.left (goes_on_then old one two stage Renders Renders w first.left second.left first.goes_on second.goes_on) (cuts second.left second.serving second.flights_are)

@@ -19,7 +19,7 @@ use Rattle.serve_loop.specs.declared.handing.HandedOn.TheVariants.{All, FailedAt
 use Rattle.serve_loop.specs.Turns.{Goes, IsHandedOn, Stage, due_step, entries_of_note, entries_of_notes, stage_after, stage_handed}
 use Rattle.serve_loop.specs.Hands.{HandsOn, failures_of}
 use Rattle.serve_loop.specs.Served.{HasOpenConnections, count_unsent}
-use Rattle.serve_loop.specs.Steps.{AwaitsStep, CutsGoneOf, GoesOn, HasOthersOpen, IsCutOff, MakesGoneOf, MakesStep, ServerAt, ServesRun}
+use Rattle.serve_loop.specs.Steps.{AwaitsStep, CutsGoneOf, TurnGoesOn, HasOthersOpen, TurnIsCut, MakesGoneOf, MakesStep, ServerAt, ServesRun}
 use Rattle.serve_loop.proofs.LogLemmas.{told_nothing}
 use Rattle.serve_loop.proofs.HandingLemmas.{TellsHanded, handing_is_told}
 use Rattle.serve_loop.proofs.OpenLemmas.{NoteLaws, event_leaves_open, event_names_open, failure_leaves_others_open, gone_leaves_open, gone_tells_nothing}
@@ -71,7 +71,7 @@ unsents_of_handing NoMemory notes entries h = ap count_unsent h.entries_are ∙ 
 
 abbrev goes_by : (old new : ServerAt) (stage : Stage) (w : RunState) (e : Event) (r : HandedOn) (entries : List WorldEntry) → due_step stage w ≡ Some e.step → IsHandedOn r (notes_of e) entries → Happens w e
     → HasCause old.board.faults new.board.faults w e → new.told ≡ told_more old.told entries → HasRisenBy (failures_of r) old.send_faults new.send_faults
-    → GoesOn old new stage w (stage_handed r (stage_after stage w)) (after_event w e)
+    → TurnGoesOn old new stage w (stage_handed r (stage_after stage w)) (after_event w e)
 goes_by old new stage w e r entries due handed happens cause told unsents = record {
   made = record { event = e; handed = r; entries = entries } ∷ [];
   leads = (due, handed, (refl, refl));
@@ -116,7 +116,7 @@ step_taken laws old new step stage w r notes f serves awaits due hands unsents =
       unsents = unsents;
     }
 
-abbrev taken_goes_on : (old new : ServerAt) (step : Step) (stage : Stage) (w : RunState) (r : HandedOn) (t : StepTaken old new step stage w r) → GoesOn old new stage w (stage_handed r (stage_after stage w)) (after_event w t.event)
+abbrev taken_goes_on : (old new : ServerAt) (step : Step) (stage : Stage) (w : RunState) (r : HandedOn) (t : StepTaken old new step stage w r) → TurnGoesOn old new stage w (stage_handed r (stage_after stage w)) (after_event w t.event)
 taken_goes_on old new step stage w r t = goes_by old new stage w t.event r t.told.entries t.due t.told.handed t.happens t.cause t.told.told_is t.unsents
 
 taken_serves : (laws : EventLaws) (old new : ServerAt) (step : Step) (stage : Stage) (w : RunState) (r : HandedOn) (t : StepTaken old new step stage w r) → ServesRun new (after_event w t.event)
@@ -157,7 +157,7 @@ step_failed laws old mid new step stage w c t goes =
     }
 
 -- memory ran out as it went
-pub step_failed_short : (laws : EventLaws) (old mid new : ServerAt) (step : Step) (stage : Stage) (w : RunState) (c : ConnectionId) → StepTaken old mid step stage w (FailedAt c) → CutsGoneOf c mid new → IsCutOff old new stage w
+pub step_failed_short : (laws : EventLaws) (old mid new : ServerAt) (step : Step) (stage : Stage) (w : RunState) (c : ConnectionId) → StepTaken old mid step stage w (FailedAt c) → CutsGoneOf c mid new → TurnIsCut old new stage w
 step_failed_short laws old mid new step stage w c t cuts =
     let v = after_event w t.event in
     let serves = taken_serves laws old mid step stage w (FailedAt c) t in
@@ -166,7 +166,7 @@ step_failed_short laws old mid new step stage w c t cuts =
     goes_on_until_cut old mid new stage (Goes c (stage_after stage w)) w v (taken_goes_on old mid step stage w (FailedAt c) t) (cuts (Goes c (stage_after stage w)) v serves others refl)
 
 -- memory ran out as it was handed on
-pub step_short : (old new : ServerAt) (step : Step) (stage : Stage) (w : RunState) → StepTaken old new step stage w NoMemory → IsCutOff old new stage w
+pub step_short : (old new : ServerAt) (step : Step) (stage : Stage) (w : RunState) → StepTaken old new step stage w NoMemory → TurnIsCut old new stage w
 step_short old new step stage w t =
     let goes = taken_goes_on old new step stage w NoMemory t in
     record {
@@ -181,7 +181,7 @@ step_short old new step stage w t =
     }
 
 -- memory ran out before there was an event
-pub cut_at_once : (old new : ServerAt) (stage : Stage) (w : RunState) → new.told ≡ old.told → new.send_faults ≡ old.send_faults → old.board.faults ≤ new.board.faults → IsCutOff old new stage w
+pub cut_at_once : (old new : ServerAt) (stage : Stage) (w : RunState) → new.told ≡ old.told → new.send_faults ≡ old.send_faults → old.board.faults ≤ new.board.faults → TurnIsCut old new stage w
 cut_at_once old new stage w told sends count = record {
   made = [];
   due = tt;

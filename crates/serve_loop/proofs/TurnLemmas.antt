@@ -1,29 +1,34 @@
 -- Turns, one after another, and what serving comes to.
-use Rattle.std.proofs.Common.{◌≡◌, ◌≤◌, ◌<◌, ◌+◌, ◌++◌, ◌∙◌, ◌⊎◌, inl, inr, ℕ, Bool, true, false, List, [], ◌∷◌, Option, Some, None, map, sym, ap, subst, refl, arith, unwrap_or, if◌then◌else◌}
+use Rattle.std.proofs.Common.{◌≡◌, ◌≤◌, ◌<◌, ◌+◌, ◌++◌, ◌∙◌, ◌⊎◌, inl, inr, ℕ, Bool, true, false, List, [], ◌∷◌, Option, Some, None, IsTrue, map, sym, ap, subst, refl, arith, unwrap_or, if◌then◌else◌}
 use Rattle.std.proofs.lemmas.Bool.Decides.{eqb_tells}
 use Rattle.std.proofs.lemmas.List.{append-nil, length_push}
 use Rattle.std.proofs.lemmas.Grind.{flat_map-append}
 use Rattle.sp_outside.specs.Files.{Files}
 use Rattle.resource_tree.specs.Content.{Content}
 use Rattle.outside_world.specs.Faults.{HasRisenBy}
-use Rattle.outside_world.specs.Worlds.{is_open, told_came, told_more}
+use Rattle.outside_world.specs.Worlds.{is_connected, told_came, told_more}
 use Rattle.outside_world.specs.declared.world.Happening.{Happening}
 use Rattle.outside_world.specs.declared.world.Happening.TheVariants.{Opened as opened_news, Piece as piece_news, Gone as gone_news, Quiet}
 use Rattle.outside_world.specs.declared.world.WorldEntry.{WorldEntry}
 use Rattle.outside_world.specs.declared.world.WorldEntry.TheVariants.{Came}
+use Rattle.any_config.specs.declared.farm.Farm.{Farm}
+use Rattle.cache_log.specs.Entries.{LogEntry}
+use Rattle.cache_log.specs.Rules.{AllAllowed, CallConditions, IsLegal}
 use Rattle.coherence_core.specs.Holds.{HoldsClosed}
-use Rattle.coherence_core.specs.Sessions.{failed_entries}
+use Rattle.coherence_core.specs.Sessions.{failed_entries, lost_entries}
 use Rattle.connections.specs.Ids.{ConnectionId}
+use Rattle.run_events.specs.declared.flying.Flying.{Flying}
 use Rattle.run_events.specs.declared.flying.Flushing.{Flushing}
 use Rattle.run_events.specs.Publishers.{Publishing}
 use Rattle.run_events.specs.States.{RunState}
 use Rattle.run_events.specs.Events.{Run, state_after_events}
 use Rattle.front.specs.declared.board.Board.{Board}
 use Rattle.front.specs.Boards.{BoardAt, at_disk}
+use Rattle.front.specs.Endings.{closing_entries_of}
 use Rattle.front.specs.Fronts.{FrontStandsFor}
 use Rattle.serve_loop.specs.declared.serving.ServeEnd.TheVariants.{Turns, WorldFailed, NoMemory}
 use Rattle.serve_loop.specs.Turns.{AreDue, AreWholeTurns, ServedTurn, entries_made, events_made, stage_of, turn_entries, turn_events, with_cut}
-use Rattle.serve_loop.specs.Served.{AreCaused, HasOpenConnections, HoldsWhatIsLeft, IsAtRest, IsServed, count_unsent, disk_report, world_report}
+use Rattle.serve_loop.specs.Served.{AreCaused, HasOpenConnections, HoldsWhatIsLeft, IsServerAtRest, IsServed, count_unsent, disk_report, left_log, world_report}
 use Rattle.serve_loop.specs.Steps.{AwaitsNews, CutsOffTurn, CutsTurn, MakesTurn, RestsAt, ServerAt, TakesTurn, TakesTurns, server_at}
 use Rattle.serve_loop.proofs.LogLemmas.{open_more, told_nothing, told_twice}
 use Rattle.serve_loop.proofs.ChainLemmas.{caused_append, leads_to_rest, leads_to_state, risen_more, run_append, state_append, unsent_append}
@@ -34,24 +39,24 @@ either : (b was : Bool) → was ≡ true → (if b then true else was) ≡ true
 either true was h = refl
 either false was h = h
 
-opened_is_open : (log : List WorldEntry) (c d : ConnectionId) (peer : List ℕ) → c ≡ d → is_open (log ++ Came (opened_news c peer) ∷ []) d ≡ true
+opened_is_open : (log : List WorldEntry) (c d : ConnectionId) (peer : List ℕ) → c ≡ d → is_connected (log ++ Came (opened_news c peer) ∷ []) d ≡ true
 opened_is_open log c d peer same =
     open_more log d (Came (opened_news c peer)) ∙ elim (eqb_tells c d) [
-      | inl is ↦ ap (λ b. if b then true else is_open log d) is.0
+      | inl is ↦ ap (λ b. if b then true else is_connected log d) is.0
       | inr other ↦ absurd (other.1 same)
     ]
 
-others_stay_open : (log : List WorldEntry) (c d : ConnectionId) → is_open log d ≡ true → (is_open (log ++ Came (gone_news c) ∷ []) d ≡ true) ⊎ (d ≡ c)
+others_stay_open : (log : List WorldEntry) (c d : ConnectionId) → is_connected log d ≡ true → (is_connected (log ++ Came (gone_news c) ∷ []) d ≡ true) ⊎ (d ≡ c)
 others_stay_open log c d h =
     elim (eqb_tells c d) [
       | inl same ↦ inr (sym same.1)
-      | inr other ↦ inl (open_more log d (Came (gone_news c)) ∙ (ap (λ b. if b then false else is_open log d) other.0 ∙ h))
+      | inr other ↦ inl (open_more log d (Came (gone_news c)) ∙ (ap (λ b. if b then false else is_connected log d) other.0 ∙ h))
     ]
 
 pub news_awaited : (news : Happening) (told : Option (List WorldEntry)) (w : RunState) → HasOpenConnections told w → AwaitsNews news (told_came told news) w
 news_awaited (opened_news c peer) None w h = (tt, tt)
 news_awaited (opened_news c peer) (Some log) w h =
-    (λ d there. open_more log d (Came (opened_news c peer)) ∙ either _ (is_open log d) (h d there), λ d opens. opened_is_open log c d peer (ap (λ (o : Option ℕ). unwrap_or o c) opens))
+    (λ d there. open_more log d (Came (opened_news c peer)) ∙ either _ (is_connected log d) (h d there), λ d opens. opened_is_open log c d peer (ap (λ (o : Option ℕ). unwrap_or o c) opens))
 news_awaited (piece_news c bytes) None w h = tt
 news_awaited (piece_news c bytes) (Some log) w h = λ d there. open_more log d (Came (piece_news c bytes)) ∙ h d there
 news_awaited (gone_news c) None w h = tt
@@ -112,7 +117,7 @@ no_turn old new w e = record {
 
 -- ---- several
 
-events_of_both : (a b : List ServedTurn) → turn_events (a ++ b) ≡ turn_events a ++ turn_events b
+pub events_of_both : (a b : List ServedTurn) → turn_events (a ++ b) ≡ turn_events a ++ turn_events b
 events_of_both a b = flat_map-append (λ (turn : ServedTurn). events_made turn.made) a b
 
 entries_of_both : (a b : List ServedTurn) → turn_entries (a ++ b) ≡ turn_entries a ++ turn_entries b
@@ -160,7 +165,7 @@ one_more_turn old mid new count w t n =
 
 -- ---- what serving comes to
 
-pub rests_at_first : (publishing : Publishing) (content : Content) (board : BoardAt) (told : Option (List WorldEntry)) (sends : ℕ) (w : RunState) → FrontStandsFor publishing content board w → IsAtRest w told
+pub rests_at_first : (publishing : Publishing) (content : Content) (board : BoardAt) (told : Option (List WorldEntry)) (sends : ℕ) (w : RunState) → FrontStandsFor publishing content board w → IsServerAtRest w told
     → RestsAt (server_at publishing content board told sends) w
 rests_at_first publishing content board told sends w stands rest = record {
   serving = record {
@@ -170,15 +175,38 @@ rests_at_first publishing content board told sends w stands rest = record {
   flights = rest.flights;
 }
 
--- where nothing is in the air the files hold the log
-abbrev pub FilesHold : Type 0
-FilesHold = (publishing : Publishing) (content : Content) (board : Board) (files : Files) (faults : ℕ) (w : RunState) → FrontStandsFor publishing content (at_disk board (Some files) faults) w → w.flights ≡ []
-    → HoldsClosed w.farm files (failed_entries (map (λ (flush : Flushing). flush.number) w.flushes) ++ w.log)
+-- where nothing is in the air the files hold the log, closed, which may be closed so; and logs grow by what is allowed
+pub record FilesHold : Type 0 where
+  pub landed : (publishing : Publishing) (content : Content) (board : Board) (files : Files) (faults : ℕ) (w : RunState) → FrontStandsFor publishing content (at_disk board (Some files) faults) w → w.flights ≡ []
+      → HoldsClosed w.farm files (left_log w)
+  pub allowed : (publishing : Publishing) (content : Content) (board : Board) (files : Files) (faults : ℕ) (w : RunState) (under : CallConditions) → FrontStandsFor publishing content (at_disk board (Some files) faults) w → IsTrue under.restarts
+      → AllAllowed w.farm under (closing_entries_of w) w.log
+  pub grows : (farm : Farm) (under : CallConditions) (entries log : List LogEntry) → AllAllowed farm under entries log → IsLegal farm log → IsLegal farm (entries ++ log)
+
+-- the conditions of a restart in which nothing failed
+abbrev under_restart : CallConditions
+under_restart = record { disk_failed = false; out_of_memory = false; restarts = true }
+
+-- where nothing is in the air the unfinished flushes alone are cut off
+abbrev failures_of_flushes : RunState → List LogEntry
+failures_of_flushes w = failed_entries (map (λ (flush : Flushing). flush.number) w.flushes)
+
+only_flushes : (w : RunState) → w.flights ≡ [] → closing_entries_of w ≡ failures_of_flushes w
+only_flushes w none = ap (λ (fs : List Flying). failures_of_flushes w ++ lost_entries (map (λ (flying : Flying). flying.number) fs)) none ∙ append-nil (failures_of_flushes w)
 
 held_at_rest : FilesHold → (publishing : Publishing) (content : Content) (board : Board) (files : Option Files) (faults : ℕ) (told : Option (List WorldEntry)) (sends : ℕ) (w : RunState)
     → RestsAt (server_at publishing content (at_disk board files faults) told sends) w → HoldsWhatIsLeft files w
-held_at_rest hold publishing content board None faults told sends w rests = tt
-held_at_rest hold publishing content board (Some files) faults told sends w rests = hold publishing content board files faults w rests.serving.serves.stands rests.flights
+held_at_rest hold publishing content board None faults told sends w rests = absurd rests.serving.serves.stands.board_is.behind_is.core_is
+held_at_rest hold publishing content board (Some files) faults told sends w rests =
+    let stands = rests.serving.serves.stands in
+    let allowed : AllAllowed w.farm under_restart (failures_of_flushes w) w.log =
+    subst (λ (entries : List LogEntry). AllAllowed w.farm under_restart entries w.log) (only_flushes w rests.flights) (hold.allowed publishing content board files faults w under_restart stands refl) in
+    record {
+      files = files;
+      told_is = refl;
+      holds = hold.landed publishing content board files faults w stands rests.flights;
+      legal = hold.grows w.farm under_restart (failures_of_flushes w) w.log allowed;
+    }
 
 -- a server that serves from here to there
 pub record Serving : Type 0 where

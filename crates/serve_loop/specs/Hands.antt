@@ -1,6 +1,6 @@
 -- What handing notes on makes of a world's log. (Of the theorem's reader this file is no concern.)
 use Rattle.std.specs.Prelude.{◌≡◌, ◌++◌, ◌⊎◌, ℕ, true, List, [], ◌∷◌, Option}
-use Rattle.outside_world.specs.Worlds.{is_open, told_more, told_shut}
+use Rattle.outside_world.specs.Worlds.{is_connected, told_more, told_shut}
 use Rattle.outside_world.specs.declared.world.WorldEntry.{WorldEntry}
 use Rattle.outside_world.specs.declared.world.WorldEntry.TheVariants.{Sent as sent_entry, Unsent}
 use Rattle.connections.specs.Ids.{ConnectionId}
@@ -20,9 +20,9 @@ told_note told (Refused c) = told_shut told c
 told_note told _ = told
 
 -- the same after several
-abbrev pub told_notes : Option (List WorldEntry) → List Note → Option (List WorldEntry)
-told_notes told [] = told
-told_notes told (note ∷ notes) = told_notes (told_note told note) notes
+abbrev pub world_told_notes : Option (List WorldEntry) → List Note → Option (List WorldEntry)
+world_told_notes told [] = told
+world_told_notes told (note ∷ notes) = world_told_notes (told_note told note) notes
 
 -- the sending of this note failed, and its connection was shut
 pub record FailsHere (c : ConnectionId) (old new : Option (List WorldEntry)) (note : Note) : Type 0 where
@@ -45,7 +45,7 @@ HandsOneOn NoMemory old new note = IsUnsentHere old new note
 
 -- The same of several: it has all of them; or it came to the other ends at one of them, and has those before it.
 abbrev pub HandsOn : HandedOn → Option (List WorldEntry) → Option (List WorldEntry) → List Note → Type 0
-HandsOn All old new notes = new ≡ told_notes old notes
+HandsOn All old new notes = new ≡ world_told_notes old notes
 HandsOn (FailedAt c) old new [] = ⊥
 HandsOn (FailedAt c) old new (note ∷ notes) = FailsHere c old new note ⊎ HandsOn (FailedAt c) (told_note old note) new notes
 HandsOn NoMemory old new [] = ⊥
@@ -60,9 +60,9 @@ failures_of _ = 0
 
 -- the connection that the note sends on or shuts is open
 abbrev pub IsOfOpen : List WorldEntry → Note → Type 0
-IsOfOpen log (Sent c bytes) = is_open log c ≡ true
-IsOfOpen log (Shut c) = is_open log c ≡ true
-IsOfOpen log (Refused c) = is_open log c ≡ true
+IsOfOpen log (Sent c bytes) = is_connected log c ≡ true
+IsOfOpen log (Shut c) = is_connected log c ≡ true
+IsOfOpen log (Refused c) = is_connected log c ≡ true
 IsOfOpen log _ = Unit {0}
 
 -- the same of notes, each after what those before it add

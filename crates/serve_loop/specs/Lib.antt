@@ -2,3 +2,4 @@ pub mod Turns
 pub mod Served
 pub mod Hands
 pub mod Steps
+pub mod TurnParts

@@ -1,12 +1,15 @@
 -- What a call of `serve` makes of a run and of the world's log.
-use Rattle.std.specs.Prelude.{◌≡◌, ◌≤◌, ◌<◌, ◌++◌, ℕ, Bool, true, false, List, [], ◌∷◌, Option, None, IfSome, IsSome, length, map}
+use Rattle.std.specs.Prelude.{◌≡◌, ◌≤◌, ◌<◌, ◌++◌, ℕ, Bool, true, false, List, [], ◌∷◌, Option, Some, None, IfSome, IsSome, length, map}
 use Rattle.std.specs.List.{count_by}
 use Rattle.sp_outside.specs.Files.{Files}
 use Rattle.sp_outside.specs.Causes.{Rose}
 use Rattle.outside_world.specs.Faults.{HasRisenBy}
-use Rattle.outside_world.specs.Worlds.{is_open, told_more}
+use Rattle.outside_world.specs.Worlds.{is_connected, told_more}
 use Rattle.outside_world.specs.declared.world.WorldEntry.{WorldEntry}
 use Rattle.outside_world.specs.declared.world.WorldEntry.TheVariants.{Unsent}
+use Rattle.any_config.specs.declared.farm.Farm.{Farm}
+use Rattle.cache_log.specs.Entries.{LogEntry}
+use Rattle.cache_log.specs.Rules.{IsLegal}
 use Rattle.coherence_core.specs.Holds.{HoldsClosed}
 use Rattle.coherence_core.specs.Sessions.{failed_entries}
 use Rattle.connections.specs.Ids.{ConnectionId}
@@ -79,9 +82,16 @@ is_unsent _ = false
 abbrev pub count_unsent : List WorldEntry → ℕ
 count_unsent entries = count_by is_unsent entries
 
--- The files hold the log, once the flushes that are under way have failed, as a restart has it: so a session may go on with it.
-abbrev pub HoldsWhatIsLeft : Option Files → RunState → Type 0
-HoldsWhatIsLeft told w = IfSome told (λ files. HoldsClosed w.farm files (failed_entries (map (λ (flush : Flushing). flush.number) w.flushes) ++ w.log))
+-- the log that a session leaves, once the flushes that are under way have failed, as a restart has it
+abbrev pub left_log : RunState → List LogEntry
+left_log w = failed_entries (map (λ (flush : Flushing). flush.number) w.flushes) ++ w.log
+
+-- The disk tells its files, which hold that log, closed; and where the log of the state is legal, so is that. So a session may go on with it.
+pub record HoldsWhatIsLeft (told : Option Files) (w : RunState) : Type 0 where
+  pub files : Files
+  pub told_is : told ≡ Some files
+  pub holds : HoldsClosed w.farm files (left_log w)
+  pub legal : IsLegal w.farm w.log → IsLegal w.farm (left_log w)
 
 -- they hold it at each end but want of memory
 abbrev pub HoldsAtEnd : ServeEnd → Option Files → RunState → Type 0
@@ -108,10 +118,17 @@ pub record IsServed (w : RunState) (limit : ℕ) (end : ServeEnd) (disk : DiskRe
 
 -- the connections that are there are open in the world
 abbrev pub HasOpenConnections : Option (List WorldEntry) → RunState → Type 0
-HasOpenConnections told w = IfSome told (λ log. (c : ConnectionId) → IsSome (w.connection c) → is_open log c ≡ true)
+HasOpenConnections told w = IfSome told (λ log. (c : ConnectionId) → IsSome (w.connection c) → is_connected log c ≡ true)
 
 -- As at the beginning of a turn: nothing is in the air and nothing is due, and the connections are open.
-pub record IsAtRest (w : RunState) (told : Option (List WorldEntry)) : Type 0 where
+pub record IsServerAtRest (w : RunState) (told : Option (List WorldEntry)) : Type 0 where
   pub flights : w.flights ≡ []
   pub nothing_due : HasNothingDue w
   pub connections : HasOpenConnections told w
+
+-- The disk tells its files, which hold the log that a session leaves after this state, closed, and that log is legal.
+pub record LeavesLegalLog (farm : Farm) (told : Option Files) (w : RunState) : Type 0 where
+  pub files : Files
+  pub told_is : told ≡ Some files
+  pub holds : HoldsClosed farm files (left_log w)
+  pub legal : IsLegal farm (left_log w)

@@ -3,7 +3,7 @@ use Rattle.std.specs.Prelude.{◌≡◌, ◌≤◌, ◌+◌, ◌⊎◌, ℕ, tru
 use Rattle.sp_outside.specs.Causes.{Rose}
 use Rattle.resource_tree.specs.Content.{Content}
 use Rattle.outside_world.specs.Faults.{HasRisenBy}
-use Rattle.outside_world.specs.Worlds.{is_open, told_more}
+use Rattle.outside_world.specs.Worlds.{is_connected, told_more}
 use Rattle.outside_world.specs.declared.world.Happening.{Happening}
 use Rattle.outside_world.specs.declared.world.Happening.TheVariants.{Opened as opened_news, Piece as piece_news, Gone as gone_news, Quiet}
 use Rattle.outside_world.specs.declared.world.WorldEntry.{WorldEntry}
@@ -13,7 +13,6 @@ use Rattle.run_events.specs.declared.step.Step.{Step}
 use Rattle.run_events.specs.declared.step.Step.TheVariants.{Opened, Gone}
 use Rattle.run_events.specs.declared.flying.Flying.{Flying}
 use Rattle.run_events.specs.Publishers.{Publishing}
-use Rattle.run_events.specs.Points.{most_flights}
 use Rattle.run_events.specs.States.{RunState}
 use Rattle.run_events.specs.Events.{Event, Happens, Run, after_event, notes_of, state_after_events}
 use Rattle.run_laws.specs.Addressed.{LeavesSession, opened_by_step}
@@ -24,6 +23,7 @@ use Rattle.serve_loop.specs.declared.turn.TurnEnd.{TurnEnd}
 use Rattle.serve_loop.specs.declared.turn.TurnEnd.TheVariants.{Whole, WorldFailed, NoMemory}
 use Rattle.serve_loop.specs.Turns.{HandedEvent, IsHandedOn, ServedTurn, AreDue, AreWholeTurns, IsCutTurn, MayRest, Stage, Renders, due_step, entries_made, events_made, stage_after, stage_handed, stage_of, turn_entries, turn_events, with_cut}
 use Rattle.serve_loop.specs.Served.{AreCaused, HasOpenConnections, count_unsent}
+use Rattle.flights.specs.Flights.{most_flights}
 
 -- ---- a server at a moment
 
@@ -62,7 +62,7 @@ LeadsTo stage w (m ∷ made) later v = (due_step stage w ≡ Some m.event.step) 
     × LeadsTo (stage_handed m.handed (stage_after stage w)) (after_event w m.event) made later v
 
 -- between these moments the run went on from one stage and state to another
-pub record GoesOn (old new : ServerAt) (stage : Stage) (w : RunState) (later : Stage) (v : RunState) : Type 0 where
+pub record TurnGoesOn (old new : ServerAt) (stage : Stage) (w : RunState) (later : Stage) (v : RunState) : Type 0 where
   pub made : List HandedEvent
   pub leads : LeadsTo stage w made later v
   pub run : Run w (events_made made)
@@ -71,7 +71,7 @@ pub record GoesOn (old new : ServerAt) (stage : Stage) (w : RunState) (later : S
   pub caused : AreCaused old.board.faults new.board.faults w (events_made made)
 
 -- between these moments it went on from one stage and state, and memory cut it
-pub record IsCutOff (old new : ServerAt) (stage : Stage) (w : RunState) : Type 0 where
+pub record TurnIsCut (old new : ServerAt) (stage : Stage) (w : RunState) : Type 0 where
   pub made : List HandedEvent
   pub due : AreDue false stage w made
   pub run : Run w (events_made made)
@@ -85,11 +85,11 @@ pub record IsCutOff (old new : ServerAt) (stage : Stage) (w : RunState) : Type 0
 
 -- the connection that the step is to open is open
 abbrev pub HasOpened : Step → Option (List WorldEntry) → Type 0
-HasOpened step told = IfSome told (λ log. (c : ConnectionId) → opened_by_step step ≡ Some c → is_open log c ≡ true)
+HasOpened step told = IfSome told (λ log. (c : ConnectionId) → opened_by_step step ≡ Some c → is_connected log c ≡ true)
 
 -- the connections but for that one are open
 abbrev pub HasOthersOpen : ConnectionId → Option (List WorldEntry) → RunState → Type 0
-HasOthersOpen c told w = IfSome told (λ log. (d : ConnectionId) → IsSome (w.connection d) → (is_open log d ≡ true) ⊎ (d ≡ c))
+HasOthersOpen c told w = IfSome told (λ log. (d : ConnectionId) → IsSome (w.connection d) → (is_connected log d ≡ true) ⊎ (d ≡ c))
 
 -- a step may be made that is no restart: the connections are open, and the one that it is to open is so too
 pub record AwaitsStep (step : Step) (told : Option (List WorldEntry)) (w : RunState) : Type 0 where
@@ -103,7 +103,7 @@ pub record MakesStep (old new : ServerAt) (step : Step) (stage : Stage) (w : Run
   pub step_is : event.step ≡ step
   pub happens : Happens w event
   pub left : RunState
-  pub goes_on : GoesOn old new stage w (stage_after stage w) left
+  pub goes_on : TurnGoesOn old new stage w (stage_after stage w) left
   pub serving : IsServing new left
   pub flights : left.flights ≡ (after_event w event).flights
 
@@ -113,42 +113,42 @@ MakesStepOf step old new = (stage : Stage) (w : RunState) → ServesRun old w �
 
 -- memory cut it, likewise
 abbrev pub CutsStepOf : Step → ServerAt → ServerAt → Type 0
-CutsStepOf step old new = (stage : Stage) (w : RunState) → ServesRun old w → AwaitsStep step old.told w → due_step stage w ≡ Some step → IsCutOff old new stage w
+CutsStepOf step old new = (stage : Stage) (w : RunState) → ServesRun old w → AwaitsStep step old.told w → due_step stage w ≡ Some step → TurnIsCut old new stage w
 
 -- a connection goes, and the others are open
 abbrev pub MakesGoneOf : ConnectionId → ServerAt → ServerAt → Type 0
 MakesGoneOf c old new = (stage : Stage) (w : RunState) → ServesRun old w → HasOthersOpen c old.told w → due_step stage w ≡ Some (Gone c) → MakesStep old new (Gone c) stage w
 
 abbrev pub CutsGoneOf : ConnectionId → ServerAt → ServerAt → Type 0
-CutsGoneOf c old new = (stage : Stage) (w : RunState) → ServesRun old w → HasOthersOpen c old.told w → due_step stage w ≡ Some (Gone c) → IsCutOff old new stage w
+CutsGoneOf c old new = (stage : Stage) (w : RunState) → ServesRun old w → HasOthersOpen c old.told w → due_step stage w ≡ Some (Gone c) → TurnIsCut old new stage w
 
 -- ---- the steps of a turn
 
 -- From here the run went on, and the server serves on with these flights in the air.
-pub record Leaves (flights : List Flying) (old new : ServerAt) (stage : Stage) (w : RunState) (later : Stage) : Type 0 where
+pub record LeavesInAir (flights : List Flying) (old new : ServerAt) (stage : Stage) (w : RunState) (later : Stage) : Type 0 where
   pub left : RunState
-  pub goes_on : GoesOn old new stage w later left
+  pub goes_on : TurnGoesOn old new stage w later left
   pub serving : IsServing new left
   pub flights_are : left.flights ≡ flights
 
 -- the first flight was rendered and landed, where it was not rendered
 abbrev pub LandsFirst : ServerAt → ServerAt → Type 0
-LandsFirst old new = (w : RunState) (flying : Flying) (later : List Flying) → IsServing old w → w.flights ≡ flying ∷ later → flying.rendered ≡ None → Leaves later old new Renders w Renders
+LandsFirst old new = (w : RunState) (flying : Flying) (later : List Flying) → IsServing old w → w.flights ≡ flying ∷ later → flying.rendered ≡ None → LeavesInAir later old new Renders w Renders
 
 abbrev pub CutsLanding : ServerAt → ServerAt → Type 0
-CutsLanding old new = (w : RunState) (flying : Flying) (later : List Flying) → IsServing old w → w.flights ≡ flying ∷ later → flying.rendered ≡ None → IsCutOff old new Renders w
+CutsLanding old new = (w : RunState) (flying : Flying) (later : List Flying) → IsServing old w → w.flights ≡ flying ∷ later → flying.rendered ≡ None → TurnIsCut old new Renders w
 
 -- all flights were rendered and landed, where none was rendered
 abbrev pub LandsAll : ServerAt → ServerAt → Type 0
-LandsAll old new = (w : RunState) → IsServing old w → AreUnrendered w.flights → Leaves [] old new Renders w Renders
+LandsAll old new = (w : RunState) → IsServing old w → AreUnrendered w.flights → LeavesInAir [] old new Renders w Renders
 
 abbrev pub CutsLandings : ServerAt → ServerAt → Type 0
-CutsLandings old new = (w : RunState) → IsServing old w → AreUnrendered w.flights → IsCutOff old new Renders w
+CutsLandings old new = (w : RunState) → IsServing old w → AreUnrendered w.flights → TurnIsCut old new Renders w
 
 -- so many of them were at least, and none of those that are left is rendered
 pub record LandsSome (old new : ServerAt) (rounds : ℕ) (w : RunState) : Type 0 where
   pub left : RunState
-  pub goes_on : GoesOn old new Renders w Renders left
+  pub goes_on : TurnGoesOn old new Renders w Renders left
   pub serving : IsServing new left
   pub unrendered : AreUnrendered left.flights
   pub few : length left.flights + rounds ≤ most_flights
@@ -157,7 +157,7 @@ pub record LandsSome (old new : ServerAt) (rounds : ℕ) (w : RunState) : Type 0
 pub record ComesToRest (old new : ServerAt) (stage : Stage) (w : RunState) : Type 0 where
   pub later : Stage
   pub left : RunState
-  pub goes_on : GoesOn old new stage w later left
+  pub goes_on : TurnGoesOn old new stage w later left
   pub resting : MayRest true later left
   pub rests : RestsAt new left
 
@@ -166,7 +166,7 @@ abbrev pub EndsTurn : ServerAt → ServerAt → Type 0
 EndsTurn old new = (w : RunState) → IsServing old w → w.flights ≡ [] → ComesToRest old new Renders w
 
 abbrev pub CutsEnd : ServerAt → ServerAt → Type 0
-CutsEnd old new = (w : RunState) → IsServing old w → w.flights ≡ [] → IsCutOff old new Renders w
+CutsEnd old new = (w : RunState) → IsServing old w → w.flights ≡ [] → TurnIsCut old new Renders w
 
 -- the connections are open before the step of what came, but for one that goes; and one that it is to open is open
 abbrev pub AwaitsNews : Happening → Option (List WorldEntry) → RunState → Type 0
@@ -178,7 +178,7 @@ AwaitsNews Quiet told w = HasOpenConnections told w
 -- From here the run went on to where flights are to be rendered, and none is rendered yet.
 pub record ComesToFlights (old new : ServerAt) (stage : Stage) (w : RunState) : Type 0 where
   pub left : RunState
-  pub goes_on : GoesOn old new stage w Renders left
+  pub goes_on : TurnGoesOn old new stage w Renders left
   pub serving : IsServing new left
   pub unrendered : AreUnrendered left.flights
 
@@ -191,7 +191,7 @@ abbrev pub MakesTurn : Happening → ServerAt → ServerAt → Type 0
 MakesTurn news old new = (w : RunState) → ServesRun old w → AwaitsNews news old.told w → w.flights ≡ [] → ComesToRest old new (stage_of news) w
 
 abbrev pub CutsTurn : Happening → ServerAt → ServerAt → Type 0
-CutsTurn news old new = (w : RunState) → ServesRun old w → AwaitsNews news old.told w → w.flights ≡ [] → IsCutOff old new (stage_of news) w
+CutsTurn news old new = (w : RunState) → ServesRun old w → AwaitsNews news old.told w → w.flights ≡ [] → TurnIsCut old new (stage_of news) w
 
 -- ---- turns
 

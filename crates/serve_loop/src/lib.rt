@@ -9,5 +9,8 @@ mod steps;
 mod turn;
 
 pub use handing::HandedOn;
-pub use laws::each_happening_has_a_turn;
+pub use laws::{
+    connections_go_for_a_cause, each_happening_has_a_turn, served_sessions_leave_legal_logs,
+    sessions_begin_in_legal_logs, turns_end_with_one_slice, turns_land_all,
+};
 pub use serving::{ServeEnd, serve};

@@ -4,9 +4,10 @@ ghost use Rattle.docroot_changes.specs.DocrootCalls.{MakesDocrootCalls};
 ghost use Rattle.front.specs.Boards.{at_disk};
 ghost use Rattle.front.specs.Fronts.{FrontStandsFor};
 ghost use Rattle.run_events.specs.States.{RunState};
-ghost use Rattle.serve_loop.specs.Served.{HasEndCause, IsAtRest, IsServed, disk_report, world_report};
+ghost use Rattle.serve_loop.specs.Served.{HasEndCause, IsServerAtRest, IsServed, disk_report, world_report};
 
 use crate::turn::{TurnEnd, turn};
+use cache_log::a_legal_log_grows_by_what_is_allowed;
 use docroot_changes::docroot_calls_add_up;
 use front::{Front, Renderer, the_files_of_a_front_hold_its_log};
 use outside_world::World;
@@ -34,12 +35,13 @@ pub fn serve<R: Renderer + Drop, D: Disk, W: World>(
     turns: u64,
 ) -> ServeEnd
     requires { 0 < turns }
-    ensures served { (w : RunState) → FrontStandsFor R.publishing (R.content front.old.renderer) (at_disk front.old.board (D.files disk.old) (D.faults disk.old)) w → IsAtRest w (W.log world.old) → IsServed w turns result (disk_report (D.files disk.old) (D.files disk.new) (D.faults disk.old) (D.faults disk.new)) (world_report (W.log world.old) (W.log world.new) (W.next_faults world.old) (W.next_faults world.new) (W.send_faults world.old) (W.send_faults world.new)) }
+    ensures served { (w : RunState) → FrontStandsFor R.publishing (R.content front.old.renderer) (at_disk front.old.board (D.files disk.old) (D.faults disk.old)) w → IsServerAtRest w (W.log world.old) → IsServed w turns result (disk_report (D.files disk.old) (D.files disk.new) (D.faults disk.old) (D.faults disk.new)) (world_report (W.log world.old) (W.log world.new) (W.next_faults world.old) (W.next_faults world.new) (W.send_faults world.old) (W.send_faults world.new)) }
     ensures cause { HasEndCause result (world_report (W.log world.old) (W.log world.new) (W.next_faults world.old) (W.next_faults world.new) (W.send_faults world.old) (W.send_faults world.new)) }
     ensures calls { MakesDocrootCalls (D.calls disk.old) (D.calls disk.new) }
 {
     docroot_calls_add_up();
     the_files_of_a_front_hold_its_log();
+    a_legal_log_grows_by_what_is_allowed();
     for made in 0..turns {
         match turn(alloc, front, disk, world) {
             TurnEnd::Whole => {}

@@ -3,12 +3,13 @@ use Rattle.std.proofs.Common.{◌≡◌, ◌-◌, ◌<◌, ◌++◌, ◌&&◌, �
 use Rattle.std.specs.Prelude.{IsTrue}
 use Rattle.std.proofs.lemmas.Bool.{false≢true}
 use Rattle.sp_base.specs.Limits.{greatest_u64}
-use Rattle.run_events.specs.Causes.{IsDiskFailure, SpoilAtMost}
+use Rattle.run_events.specs.Causes.{SpoilAtMost}
 use Rattle.run_events.specs.Events.{Event, HasCause, after_event, state_after_events, state_before_notes}
 use Rattle.run_events.specs.States.{RunState}
 use Rattle.run_events.specs.declared.step.Step.{Step}
 use Rattle.sling_dispatch.specs.Runs.{AreArmed, IsArmed, armed_after_event, may_spoil}
 use Rattle.sling_dispatch.specs.ScriptedDisks.{fault_count}
+use Rattle.sp_outside.specs.Causes.{IsDiskFailure}
 
 -- each step has its event
 abbrev pub Fit : List (Option Step) → List Event → Type 0

@@ -5,7 +5,7 @@ use Rattle.content_json.specs.ContentOf.{content as content_of}
 use Rattle.replay_text.specs.Languages.{IsRefusedWithin}
 use Rattle.replay_text.specs.Scenario.{SpellsScenario, IsScenario, ReadsScenario, longest_scenario}
 use Rattle.sling_dispatch.specs.Endings.{Writing, Nothing, UsageLine, SourceLine, RefusalLine, ContentLine, FarmLine, Events, Generated, Summary, OfServing, EndsIn, Means, IsDue, IsReplay, HasContent, HasFarm}
-use Rattle.sling_dispatch.specs.Forms.{IsForm}
+use Rattle.sling_dispatch.specs.Forms.{HasForm}
 use Rattle.sling_dispatch.specs.Reports.{StreamReport, RunCall, HasNotFailed, HasFailed}
 use Rattle.sling_dispatch.specs.Farms.{farm_in, farm_text}
 use Rattle.replay_text.specs.declared.scenario.Scenario.{Scenario}
@@ -36,7 +36,7 @@ farm_reads one bytes s t reads has other refusal e =
     cc (ok, e)
 
 -- `replay` is a form
-replay_form : (words : List (List ℕ)) → IsReplay words → IsForm words
+replay_form : (words : List (List ℕ)) → IsReplay words → HasForm words
 replay_form words is = (form.Replay, record { words_are = is; in_range = tt })
 
 -- what is written whole, where nothing is wrong, are all events

@@ -13,7 +13,7 @@ use Rattle.resource_tree.specs.Content.{Content}
 use Rattle.serve_loop.specs.Served.{DiskReport, WorldReport}
 use Rattle.sling_dispatch.specs.Endings.{Writing, IsDue}
 use Rattle.sling_dispatch.specs.Farms.{farm_in, is_out_of_memory}
-use Rattle.sling_dispatch.specs.Forms.{Asks}
+use Rattle.sling_dispatch.specs.Forms.{AsksFor}
 use Rattle.sling_dispatch.specs.InnerEndings.{IsContentOr, IsFarmOr}
 use Rattle.sling_dispatch.specs.InnerServing.{AreReadAs, IsInputOr}
 use Rattle.sling_dispatch.specs.Reports.{IsDiskUntouched, IsUntouched, IsWorldUntouched, StreamReport, call_of, report_of}
@@ -49,7 +49,7 @@ of_input inputs name bytes Q has holds = of_told inputs.old name (λ b. b ≡ by
 -- ---- an input that wasn't read
 
 pub due_first : (T : Type 0) (asked : List (List ℕ)) (source : StreamReport (List ℕ)) (told new : Option Files) (before after : ℕ) (disk : DiskReport) (world : WorldReport) (words : ServeWords) (fault : InputFault)
-    → Asks asked (Serve words) → IsUntouched source → new ≡ told → IsDiskUntouched disk → IsWorldUntouched world
+    → AsksFor asked (Serve words) → IsUntouched source → new ≡ told → IsDiskUntouched disk → IsWorldUntouched world
     → HasInputCause {T = T} before after (Err fault) → IfSome told (λ files. IsAnswerFor files words.content (Err fault))
     → (w : Writing) → IsInputOr fault words.content w → IsDue (call_of asked source (report_of told new before after) disk world) w
 due_first T asked source told new before after disk world words fault asks same contents disk_is world_is cause value =
@@ -61,7 +61,7 @@ due_first T asked source told new before after disk world words fault asks same 
     })
 
 pub due_second : (T : Type 0) (asked : List (List ℕ)) (source : StreamReport (List ℕ)) (told new : Option Files) (before after : ℕ) (disk : DiskReport) (world : WorldReport) (words : ServeWords) (content : List ℕ) (fault : InputFault)
-    → Asks asked (Serve words) → IsUntouched source → new ≡ told → IsDiskUntouched disk → IsWorldUntouched world
+    → AsksFor asked (Serve words) → IsUntouched source → new ≡ told → IsDiskUntouched disk → IsWorldUntouched world
     → IfSome told (λ held. HoldsInput held words.content (λ b. b ≡ content))
     → HasInputCause {T = T} before after (Err fault) → IfSome told (λ files. IsAnswerFor files words.any (Err fault))
     → (w : Writing) → IsInputOr fault words.any w → IsDue (call_of asked source (report_of told new before after) disk world) w

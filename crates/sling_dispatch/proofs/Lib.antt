@@ -19,3 +19,4 @@ pub mod InputLemmas
 pub mod Openings
 pub mod Servable
 pub mod Counting
+pub mod ServedSessions

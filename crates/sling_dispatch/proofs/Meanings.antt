@@ -9,7 +9,7 @@ use Rattle.content_json.specs.declared.fault.ContentFault.TheVariants.{NoMemory 
 use Rattle.replay_text.specs.Languages.{IsRefusedWithin}
 use Rattle.sling_dispatch.specs.Streams.{IsReadOut}
 use Rattle.replay_text.specs.Scenario.{IsScenario, ReadsScenario, longest_scenario}
-use Rattle.sling_dispatch.specs.Endings.{IsRunOf, Writing, Nothing, UsageLine, SourceLine, RefusalLine, ContentLine, FarmLine, Events, Generated, Summary, OfServing, output_of, EndsIn, Whole, Broken, Means, IsDue, HasContent, IsReplay}
+use Rattle.sling_dispatch.specs.Endings.{IsRunOf, Writing, Nothing, UsageLine, SourceLine, RefusalLine, ContentLine, FarmLine, Events, Generated, Summary, OfServing, output_of, EndsIn, WholeEnding, Broken, Means, IsDue, HasContent, IsReplay}
 use Rattle.sling_dispatch.specs.Reports.{StreamReport, RunCall, HasNotFailed, IsUntouched, IsWorldUntouched}
 use Rattle.sling_dispatch.specs.InnerEndings.{IsDueIn, IsDueOf, IsContentOr, IsFarmOr, TellsText, IsDueAt}
 use Rattle.sling_dispatch.specs.Farms.{farm_in, farm_text, is_out_of_memory}
@@ -20,7 +20,7 @@ use Rattle.sling_dispatch.specs.declared.ending.Ending.{Ending}
 use Rattle.sling_dispatch.specs.declared.ending.Ending.TheVariants.{Done, Usage, SourceFailed, SinkFailed, Refused, ContentRefused, FarmRefused, DocrootFailed, WorldFailed, InputFailed, NotOpened, NoMemory}
 
 -- what may be written here may be written there
-whole_weaker : (D E : Writing → Type 0) → ((w : Writing) → D w → E w) → (ending : Ending) (sink : StreamReport (List ℕ)) → Whole D ending sink → Whole E ending sink
+whole_weaker : (D E : Writing → Type 0) → ((w : Writing) → D w → E w) → (ending : Ending) (sink : StreamReport (List ℕ)) → WholeEnding D ending sink → WholeEnding E ending sink
 whole_weaker D E to ending sink m = record { writing = m.writing; due = to m.writing m.due; ends = m.ends; wrote = m.wrote }
 
 broken_weaker : (D E : Writing → Type 0) → ((w : Writing) → D w → E w) → (sink : StreamReport (List ℕ)) → Broken D sink → Broken E sink
@@ -55,7 +55,7 @@ out_of_memory D due sink e not_failed = (record { writing = Nothing; due = due; 
 
 -- What came of writing a text that is due, of which good was to be the ending.
 pub told_line : (D : Writing → Type 0) (w : Writing) (good ending : Ending) (text : List ℕ) (sink : StreamReport (List ℕ)) → D w
-    → EndsIn w good → (Whole D good sink → Means D good sink) → text ≡ output_of w → TellsText good text ending sink → Means D ending sink
+    → EndsIn w good → (WholeEnding D good sink → Means D good sink) → text ≡ output_of w → TellsText good text ending sink → Means D ending sink
 told_line D w good ending text sink due ends whole e (inl t) =
     subst (λ x. Means D x sink) (sym t.0) (whole (record { writing = w; due = due; ends = ends; wrote = (t.1 ∙ ap (held_after sink.old) e, t.2) }))
 told_line D w good ending text sink due ends whole e (inr (inl t)) =
@@ -65,7 +65,7 @@ told_line D w good ending text sink due ends whole e (inr (inr t)) =
 
 -- The same of a text for which memory may have run out.
 pub told_made : {T E : Type 0} (items : T → List ℕ) (D : Writing → Type 0) (w : Writing) (good ending : Ending) (line : Result T E)
-    (sink : StreamReport (List ℕ)) → D w → EndsIn w good → (Whole D good sink → Means D good sink) → IfOk line (λ t. items t ≡ output_of w)
+    (sink : StreamReport (List ℕ)) → D w → EndsIn w good → (WholeEnding D good sink → Means D good sink) → IfOk line (λ t. items t ≡ output_of w)
     → IfOk line (λ t. TellsText good (items t) ending sink) → OnErr line ((ending ≡ NoMemory) × IsUntouched sink) → Means D ending sink
 told_made items D w good ending (Ok t) sink due ends whole e told untold = told_line D w good ending (items t) sink due ends whole e told
 told_made items D w good ending (Err x) sink due ends whole e told untold =

@@ -22,7 +22,7 @@ use Rattle.http_front.specs.declared.fault.InFault.TheVariants as fault
 use Rattle.http_front.specs.declared.target.Target.{Target}
 use Rattle.http_front.specs.Targets.{target_of}
 use Rattle.http_front.specs.declared.turn.Turn.TheVariants.{Continue, Whole}
-use Rattle.cache_log.specs.Entries.{LogEntry, Outcome, downs_since, flights_asked, flushes_begun, last_epoch, stamps_drawn}
+use Rattle.cache_log.specs.Entries.{LogEntry, FlushOutcome, downs_since, flights_asked, flushes_begun, last_epoch, stamps_drawn}
 use Rattle.connections.specs.Slots.{Response}
 use Rattle.connections.specs.Connections.{Connection, Due, Send, Treat, Refuse, Close, Nothing, fresh, with_piece}
 use Rattle.run_events.specs.declared.conditions.Conditions.{Conditions}
@@ -36,7 +36,7 @@ use Rattle.run_events.specs.declared.step.Pick.{Pick}
 use Rattle.run_events.specs.declared.step.Step.{Step}
 use Rattle.run_events.specs.declared.step.Step.TheVariants as step
 use Rattle.run_events.specs.Events.{DeliverAs, DeliverTo, Event, HappensBy, IsOrFixed, LeadsNotes, LoseTo, MayLand, PieceTo, PurgeTo, RenderTo, Run, after_event, condition_notes, going, is_any, is_picked, is_rendered, is_unrendered, most_connections, notes_of, opening, picked_flight, state_after_going, state_after_opening, state_before_notes}
-use Rattle.run_events.specs.Moves.{GivesDue, GivesNext, GivesSlice, Serves, due_of_connection, first_sliced, flight_at, flush_at, has_number, is_flush, on_connection, over_with, state_after_ask, state_after_ending, state_after_flush, state_after_hit, state_after_note, state_after_notes, treated_request, with_rendered_at, without, without_flush}
+use Rattle.run_events.specs.Moves.{GivesDue, GivesNext, GivesSlice, Serves, due_of_connection, first_sliced, flying_at, flush_at, has_number, is_flush, on_connection, over_with, state_after_ask, state_after_ending, state_after_flush, state_after_hit, state_after_note, state_after_notes, treated_request, with_rendered_at, air_without, without_flush}
 use Rattle.run_events.specs.Points.{AnswersFlush, AnswersInvalidation, BeginsFlush, IsFirstPoint, is_full_of_flushes, points}
 use Rattle.run_events.specs.Publishers.{answer_to, direct_answer, get_of}
 use Rattle.run_events.specs.Restarts.{EndsRestart, Restarts, cut_notes, without_connections}
@@ -99,11 +99,11 @@ all-push : (flights : List Flying) (f : Flying) → AllFit flights → Fits f �
 all-push [] f all fits = (fits, tt)
 all-push (g ∷ flights) f all fits = (all.0, all-push flights f all.1 fits)
 
-all-without : (n : ℕ) (flights : List Flying) → AllFit flights → AllFit (without n flights)
-all-without n [] all = tt
-all-without n (f ∷ flights) all = by_test (has_number n f) (all-without n flights all.1)
+all-air_without : (n : ℕ) (flights : List Flying) → AllFit flights → AllFit (air_without n flights)
+all-air_without n [] all = tt
+all-air_without n (f ∷ flights) all = by_test (has_number n f) (all-air_without n flights all.1)
   where
-    by_test : (b : Bool) → AllFit (without n flights) → AllFit (cond (not b) (f ∷ without n flights) (without n flights))
+    by_test : (b : Bool) → AllFit (air_without n flights) → AllFit (cond (not b) (f ∷ air_without n flights) (air_without n flights))
     by_test true rest = rest
     by_test false rest = (all.0, rest)
 
@@ -135,9 +135,9 @@ flushes-push : (flushes : List Flushing) (f : Flushing) → FlushesFit flushes �
 flushes-push [] f all fits = (fits, tt)
 flushes-push (g ∷ flushes) f all fits = (all.0, flushes-push flushes f all.1 fits)
 
-flushes-without : (n : ℕ) (flushes : List Flushing) → FlushesFit flushes → FlushesFit (without_flush n flushes)
-flushes-without n [] all = tt
-flushes-without n (f ∷ flushes) all = by_test (is_flush n f) (flushes-without n flushes all.1)
+flushes-air_without : (n : ℕ) (flushes : List Flushing) → FlushesFit flushes → FlushesFit (without_flush n flushes)
+flushes-air_without n [] all = tt
+flushes-air_without n (f ∷ flushes) all = by_test (is_flush n f) (flushes-air_without n flushes all.1)
   where
     by_test : (b : Bool) → FlushesFit (without_flush n flushes) → FlushesFit (cond (not b) (f ∷ without_flush n flushes) (without_flush n flushes))
     by_test true rest = rest
@@ -196,11 +196,11 @@ record CountsFor (entry : LogEntry) (log : List LogEntry) : Type 0 where
 
 over-fits : (top : ℕ) (w : RunState) (n : ℕ) (a : Answer) (entry : LogEntry) (at : Option Flying) → StateFits top w → CountsFor entry w.log → StateFits top (over_with w n a entry at)
 over-fits top w n a entry None fits same = fits
-over-fits top w n a entry (Some f) fits same = record { stamps_are = rw same.stamps fits.stamps_are; epochs_are = rw same.none fits.epochs_are; flights = all-without n w.flights fits.flights; flushes = fits.flushes; slicing = fits.slicing; open_fit = map-fits w.connection f.connection _ fits.open_fit; publishing_is = fits.publishing_is }
+over-fits top w n a entry (Some f) fits same = record { stamps_are = rw same.stamps fits.stamps_are; epochs_are = rw same.none fits.epochs_are; flights = all-air_without n w.flights fits.flights; flushes = fits.flushes; slicing = fits.slicing; open_fit = map-fits w.connection f.connection _ fits.open_fit; publishing_is = fits.publishing_is }
 
-ending-fits : (top : ℕ) (w : RunState) (v : ℕ) (outcome : Outcome) (response : Response) (at : Option Flushing) → StateFits top w → StateFits top (state_after_ending w v outcome response at)
+ending-fits : (top : ℕ) (w : RunState) (v : ℕ) (outcome : FlushOutcome) (response : Response) (at : Option Flushing) → StateFits top w → StateFits top (state_after_ending w v outcome response at)
 ending-fits top w v outcome response None fits = fits
-ending-fits top w v outcome response (Some f) fits = record { stamps_are = fits.stamps_are; epochs_are = fits.epochs_are; flights = fits.flights; flushes = flushes-without v w.flushes fits.flushes; slicing = tt; open_fit = map-fits w.connection f.connection _ fits.open_fit; publishing_is = fits.publishing_is }
+ending-fits top w v outcome response (Some f) fits = record { stamps_are = fits.stamps_are; epochs_are = fits.epochs_are; flights = fits.flights; flushes = flushes-air_without v w.flushes fits.flushes; slicing = tt; open_fit = map-fits w.connection f.connection _ fits.open_fit; publishing_is = fits.publishing_is }
 
 ask-fits : (top : ℕ) (w : RunState) (n c : ℕ) (key : Option PageKey) (at : Option Request) → StateFits top w → stamps_drawn w.log < 9223372036854775808 → n ≤ 9223372036854775808 → c < 4294967296 → StateFits top (state_after_ask w n c key at)
 ask-fits top w n c key None fits room most small = fits
@@ -230,7 +230,7 @@ local-fits : (top : ℕ) (w : RunState) (c status : ℕ) → StateFits top w →
 local-fits top w c status fits small short = record { numbers = (small, short); state = on-fits top w c _ fits }
 
 lost-fits : (top : ℕ) (w : RunState) (n : ℕ) → StateFits top w → n ≤ 9223372036854775808 → NoteFits top w (Lost n)
-lost-fits top w n fits most = record { numbers = omega (arith, most); state = over-fits top w n _ _ (flight_at n w.flights) fits (record { stamps = refl; none = refl }) }
+lost-fits top w n fits most = record { numbers = omega (arith, most); state = over-fits top w n _ _ (flying_at n w.flights) fits (record { stamps = refl; none = refl }) }
 
 failed-fits : (top : ℕ) (w : RunState) (v : ℕ) (failure : Failure) → StateFits top w → v ≤ 9223372036854775808 → NoteFits top w (Failed v failure)
 failed-fits top w v failure fits most = record { numbers = omega (arith, most); state = ending-fits top w v _ _ (flush_at v w.flushes) fits }
@@ -430,9 +430,9 @@ piece-fits top w e c bytes None fits small is = idle-fits top _ e.body (on-fits 
 piece-fits top w e c bytes (Some k) fits small feeds = serves-fit top e.conditions _ c e.body (on-fits top w c _ fits) small feeds.settles.serves
 
 landing-fits : (top : ℕ) (w : RunState) (m : Conditions) (f : Flying) (answer : Answer) (note : Note) → Fits f → StateFits top w → MayLand w m f answer note → NoteFits top w note
-landing-fits top w m f answer note here fits (inl kept) = rw kept.2 (record { numbers = omega (arith, here.number); state = over-fits top w f.number _ _ (flight_at f.number w.flights) fits (record { stamps = refl; none = refl }) })
-landing-fits top w m f answer note here fits (inr (inl unkept)) = rw unkept.0 (record { numbers = omega (arith, here.number); state = over-fits top w f.number _ _ (flight_at f.number w.flights) fits (record { stamps = refl; none = refl }) })
-landing-fits top w m f answer note here fits (inr (inr passed)) = rw passed.0 (record { numbers = omega (arith, here.number); state = over-fits top w f.number _ _ (flight_at f.number w.flights) fits (record { stamps = refl; none = refl }) })
+landing-fits top w m f answer note here fits (inl kept) = rw kept.2 (record { numbers = omega (arith, here.number); state = over-fits top w f.number _ _ (flying_at f.number w.flights) fits (record { stamps = refl; none = refl }) })
+landing-fits top w m f answer note here fits (inr (inl unkept)) = rw unkept.0 (record { numbers = omega (arith, here.number); state = over-fits top w f.number _ _ (flying_at f.number w.flights) fits (record { stamps = refl; none = refl }) })
+landing-fits top w m f answer note here fits (inr (inr passed)) = rw passed.0 (record { numbers = omega (arith, here.number); state = over-fits top w f.number _ _ (flying_at f.number w.flights) fits (record { stamps = refl; none = refl }) })
 
 deliver-fits : (top : ℕ) (w : RunState) (e : Event) (f : Flying) (answer : Option Answer) → StateFits top w → Fits f → DeliverAs w e f answer → NotesFit top w e.body
 deliver-fits top w e f None fits here is = idle-fits top w e.body fits is

@@ -1,16 +1,11 @@
 -- From which logs an opened front goes on.
-use Rattle.std.proofs.Common.{◌≡◌, ◌≢◌, ◌∙◌, ◌⊎◌, inl, inr, ℕ, true, false, List, [], Option, Some, None, Ok, Err, Result, IfOk, IfSome, IsSome, IsTrue, sym, subst, refl}
-use Rattle.std.specs.Prelude.{nat_eq}
-use Rattle.std.specs.Cmp.Lexicographic.{bytes_decides, pointwise}
+use Rattle.std.proofs.Common.{◌≡◌, ◌≢◌, ℕ, List, [], Option, Some, None, Ok, Err, Result, IfOk, IfSome, sym, subst, refl}
 use Rattle.std.proofs.lemmas.Bool.{true≢false}
-use Rattle.sp_base.specs.Texts.{Text}
-use Rattle.sp_outside.specs.FileNames.{has_segments}
-use Rattle.sp_outside.specs.Files.{Files, file_at, with_file}
+use Rattle.sp_outside.specs.Files.{Files, with_file}
 use Rattle.resource_tree.specs.Content.{Content}
 use Rattle.any_config.specs.declared.farm.Farm.{Farm}
 use Rattle.cache_files.specs.Epochs.{told_with_epoch}
 use Rattle.coherence_core.specs.Holds.{files_counted}
-use Rattle.coherence_core.specs.Openings.{LieInside}
 use Rattle.coherence_core.specs.Sessions.{KeepsHolds}
 use Rattle.docroot_changes.specs.Changes.{Told}
 use Rattle.docroot_format.specs.Names.{epoch_name}
@@ -27,14 +22,14 @@ use Rattle.cache_files.specs.Epochs.{HasOpenCause, next_epoch}
 use Rattle.cache_files.specs.declared.epoch.OpenFault.{OpenFault}
 use Rattle.cache_files.specs.declared.epoch.OpenFault.TheVariants as open_fault
 use Rattle.sp_outside.specs.Causes.{Rose}
-use Rattle.serve_loop.specs.Served.{AreCaused, HasEndCause, HasOpenConnections, IsAtRest, IsServed, WorldReport, disk_report}
+use Rattle.serve_loop.specs.Served.{AreCaused, HasEndCause, HasOpenConnections, IsServerAtRest, IsServed, WorldReport, disk_report}
 use Rattle.serve_loop.specs.Turns.{turn_events, with_cut}
 use Rattle.serve_loop.specs.declared.serving.ServeEnd.{ServeEnd}
 use Rattle.sling_dispatch.specs.Endings.{Writing, IsDue}
 use Rattle.sling_dispatch.specs.InnerServing.{IsOpeningOr, OpensRun}
 use Rattle.sling_dispatch.specs.Reports.{IsWorldUntouched, StreamReport, call_of}
 use Rattle.sling_dispatch.specs.Runs.{sling_publisher}
-use Rattle.sling_dispatch.specs.Serving.{HasInputs, KeepsLogs, MayGoOn, Serves, served_start}
+use Rattle.sling_dispatch.specs.Serving.{HasInputs, KeepsLogs, MayBeginOver, ServesSite, served_start}
 use Rattle.sling_dispatch.specs.declared.form.Beginning.{Beginning}
 use Rattle.sling_dispatch.specs.declared.form.Beginning.TheVariants.{Fresh, Warm}
 use Rattle.sling_dispatch.specs.declared.form.ServeWords.{ServeWords}
@@ -53,45 +48,27 @@ pub opened_warm : (farm : Farm) (tree now : Content) (told : Option Files) (b : 
 opened_warm farm tree now None b run = tt
 opened_warm farm tree now (Some files) b run = λ log closed. run log closed
 
--- the names of files and their bytes, as a disk has them
-abbrev pub WritesOne : Type 0
-WritesOne = (files : Files) (name other bytes : List ℕ) → other ≢ name → file_at (with_file files name bytes) other ≡ file_at files other
-
-name_cases : (xs ys : Text) → (xs ≡ ys) ⊎ (xs ≢ ys)
-name_cases xs ys = elim (pointwise nat_eq xs ys) as (λ t. pointwise nat_eq xs ys ≡ t → (xs ≡ ys) ⊎ (xs ≢ ys)) [
-  | true ↦ λ e. inl ((bytes_decides xs ys).0 e)
-  | false ↦ λ e. inr (λ same. true≢false (sym ((bytes_decides xs ys).1 same) ∙ e))
-] refl
-
--- the files with the number of a session lie inside, where they did before
-still_inside : WritesOne → (files : Files) (bytes : List ℕ) → LieInside files → LieInside (with_file files epoch_name bytes)
-still_inside writes files bytes lie = λ name there. by_name name there (name_cases name epoch_name)
-  where
-    by_name : (name : Text) → IsSome (file_at (with_file files epoch_name bytes) name) → (name ≡ epoch_name) ⊎ (name ≢ epoch_name) → IsTrue (has_segments name)
-    by_name name there (inl e) = subst (λ x. IsTrue (has_segments x)) (sym e) refl
-    by_name name there (inr other) = lie name (subst IsSome (writes files epoch_name name bytes other) there)
-
 -- a front that was opened, and whose pages and stamps were then cleared away
-pub opened_fresh : WritesOne → (farm : Farm) (tree now : Content) (old mid : Option Files) (b : BoardAt) (epoch : ℕ) → now ≡ tree → OpensFront farm old mid b.board
+pub opened_fresh : (farm : Farm) (tree now : Content) (old mid : Option Files) (b : BoardAt) (epoch : ℕ) → now ≡ tree → OpensFront farm old mid b.board
     → mid ≡ told_with_epoch old epoch → BeginsFresh sling_publisher now mid b → OpensRun Fresh farm tree old b now
-opened_fresh writes farm tree now None mid b epoch same opened is begins = tt
-opened_fresh writes farm tree now (Some files) mid b epoch same opened is begins = λ log may.
+opened_fresh farm tree now None mid b epoch same opened is begins = tt
+opened_fresh farm tree now (Some files) mid b epoch same opened is begins = λ log may.
     let after = with_file files epoch_name (epoch_text epoch) in
     let front : IsFrontOpened farm (files_counted files) after b.board = subst (λ (m : Option Files). Told (λ (x y : Files). IsFrontOpened farm (files_counted x) y b.board) (Some files) m) is opened in
     let run = subst (λ (m : Option Files). BeginsFresh sling_publisher now m b) is begins in
-    let stands = run farm (files_counted files) (still_inside writes files (epoch_text epoch) may.0) front in
-    subst (λ (l : List LogEntry). FrontStandsFor sling_publisher now b (start_of (served_start farm tree (epoch_of_board b) files l))) (sym may.1)
+    let stands = run farm (files_counted files) front in
+    subst (λ (l : List LogEntry). FrontStandsFor sling_publisher now b (start_of (served_start farm tree (epoch_of_board b) files l))) (sym may)
     (subst (λ (c : Content). FrontStandsFor sling_publisher now b (start_of (served_start farm c (epoch_of_board b) files []))) same stands)
 
 -- The same of what the clearing away answers: the front that was opened, or a fault.
-pub opened_if_cleared : WritesOne → (beginning : Beginning) → beginning ≡ Fresh → (farm : Farm) (tree : Content) (old mid new : Option Files) (faults : ℕ) (front : Front PublisherRenderer) (cleared : Result (Front PublisherRenderer) OpenFault)
+pub opened_if_cleared : (beginning : Beginning) → beginning ≡ Fresh → (farm : Farm) (tree : Content) (old mid new : Option Files) (faults : ℕ) (front : Front PublisherRenderer) (cleared : Result (Front PublisherRenderer) OpenFault)
     → front.renderer.publisher ≡ tree → OpensFront farm old mid front.board → mid ≡ told_with_epoch old front.board.cache.core.epoch
     → IfOk cleared (λ f. f ≡ front) → IfOk cleared (λ _. BeginsFresh sling_publisher front.renderer.publisher mid (at_disk front.board new faults))
     → IfOk cleared (λ f. OpensRun beginning farm tree old (at_disk f.board new faults) f.renderer.publisher)
-opened_if_cleared writes beginning fresh farm tree old mid new faults front (Err fault) renderer opened after same stands = tt
-opened_if_cleared writes beginning fresh farm tree old mid new faults front (Ok f) renderer opened after same stands =
+opened_if_cleared beginning fresh farm tree old mid new faults front (Err fault) renderer opened after same stands = tt
+opened_if_cleared beginning fresh farm tree old mid new faults front (Ok f) renderer opened after same stands =
     let b = at_disk front.board new faults in
-    let run = opened_fresh writes farm tree front.renderer.publisher old mid b front.board.cache.core.epoch renderer opened after stands in
+    let run = opened_fresh farm tree front.renderer.publisher old mid b front.board.cache.core.epoch renderer opened after stands in
     subst (λ (x : Front PublisherRenderer). OpensRun beginning farm tree old (at_disk x.board new faults) x.renderer.publisher) (sym same)
     (subst (λ (how : Beginning). OpensRun how farm tree old b front.renderer.publisher) (sym fresh) run)
 
@@ -117,7 +94,7 @@ served_since w turns end old mid new before after count world same x = record {
 }
 
 -- At its beginning a run is at rest.
-at_rest : (start : Start) (told : Option (List WorldEntry)) → HasNothingDue (start_of start) → IsAtRest (start_of start) told
+at_rest : (start : Start) (told : Option (List WorldEntry)) → HasNothingDue (start_of start) → IsServerAtRest (start_of start) told
 at_rest start told due = record { flights = refl; nothing_due = due; connections = all_open told }
   where
     all_open : (told : Option (List WorldEntry)) → HasOpenConnections told (start_of start)
@@ -132,8 +109,8 @@ BeginsIdle = (start : Start) → HasNothingDue (start_of start)
 pub serves : BeginsIdle → (words : ServeWords) (tree now : Content) (farm : Farm) (end : ServeEnd) (b : BoardAt) (asked : List (List ℕ)) (source : StreamReport (List ℕ)) (inputs : StreamReport Files)
     → (old mid new : Option Files) (before after count : ℕ) (world : WorldReport) → HasInputs asked source inputs words tree farm
     → IfSome old (λ files. next_epoch files ≡ Ok (epoch_of_board b)) → OpensRun words.beginning farm tree old b now → count ≡ before
-    → ((w : RunState) → FrontStandsFor sling_publisher now b w → IsAtRest w world.old → IsServed w words.turns end (disk_report mid new count after) world)
-    → HasEndCause end world → Serves (call_of asked source inputs (disk_report old new before after) world) words end
+    → ((w : RunState) → FrontStandsFor sling_publisher now b w → IsServerAtRest w world.old → IsServed w words.turns end (disk_report mid new count after) world)
+    → HasEndCause end world → ServesSite (call_of asked source inputs (disk_report old new before after) world) words end
 serves idle words tree now farm end b asked source inputs old mid new before after count world has next opens same served cause = record {
   tree = tree;
   farm = farm;
@@ -145,7 +122,7 @@ serves idle words tree now farm end b asked source inputs old mid new before aft
 }
   where
     by_files : (told : Option Files) → OpensRun words.beginning farm tree told b now
-        → IfSome told (λ files. (log : List LogEntry) → MayGoOn words.beginning farm files log → IsServed (start_of (served_start farm tree (epoch_of_board b) files log)) words.turns end (disk_report old new before after) world)
+        → IfSome told (λ files. (log : List LogEntry) → MayBeginOver words.beginning farm files log → IsServed (start_of (served_start farm tree (epoch_of_board b) files log)) words.turns end (disk_report old new before after) world)
     by_files None opens = tt
     by_files (Some files) opens = λ log may.
         let start = served_start farm tree (epoch_of_board b) files log in

@@ -5,14 +5,14 @@ use Rattle.sp_outside.specs.Causes.{Rose}
 use Rattle.sp_outside.specs.Files.{Files, file_at}
 use Rattle.cache_files.specs.Epochs.{next_epoch}
 use Rattle.content_json.specs.ContentOf.{content as content_of}
-use Rattle.outside_world.specs.InputFiles.{IsTooLong, longest_input}
+use Rattle.outside_world.specs.InputFiles.{IsLongInput, longest_input}
 use Rattle.outside_world.specs.declared.inputs.InputFault.{InputFault}
 use Rattle.outside_world.specs.declared.inputs.InputFault.TheVariants as input_fault
 use Rattle.resource_tree.specs.Content.{Content}
 use Rattle.any_config.specs.declared.farm.Farm.{Farm}
 use Rattle.sling_dispatch.specs.Endings.{Writing, Nothing, UsageLine, SourceLine, RefusalLine, ContentLine, FarmLine, Events, Generated, Summary, OfServing, ServeWriting, Served, CutOff, WorldLine, DocrootLine, OpeningLine, InputLine, EndsIn, EndsServing, IsDue, IsReplay, IsServingDue, Means}
 use Rattle.sling_dispatch.specs.Farms.{farm_in}
-use Rattle.sling_dispatch.specs.Forms.{Asks, AsksNumber, IsServe}
+use Rattle.sling_dispatch.specs.Forms.{AsksFor, AsksNumber, IsServe}
 use Rattle.sling_dispatch.specs.Reports.{HasFailed, HasNotFailed, RunCall, StreamReport}
 use Rattle.sling_dispatch.specs.Serving.{HoldsInput, IsServable, LacksInput, OfInput}
 use Rattle.sling_dispatch.specs.declared.ending.Ending.{Ending}
@@ -22,19 +22,19 @@ use Rattle.sling_dispatch.specs.declared.form.ServeWords.{ServeWords}
 
 -- ---- the words are of one form
 
-pub no_replay_serves : (words : List (List ℕ)) (s : ServeWords) → Asks words (form.Serve s) → IsReplay words → ⊥
+pub no_replay_serves : (words : List (List ℕ)) (s : ServeWords) → AsksFor words (form.Serve s) → IsReplay words → ⊥
 no_replay_serves words s a is = let e = a.words_are in cc (e, is)
 
-no_scenario_serves : (words : List (List ℕ)) (s : ServeWords) (n : ℕ) → Asks words (form.Serve s) → Asks words (form.Scenario n) → ⊥
+no_scenario_serves : (words : List (List ℕ)) (s : ServeWords) (n : ℕ) → AsksFor words (form.Serve s) → AsksFor words (form.Scenario n) → ⊥
 no_scenario_serves words s n a b = let e = a.words_are in let h = b.words_are in cc (e, h)
 
-no_soak_serves : (words : List (List ℕ)) (s : ServeWords) (n : ℕ) → Asks words (form.Serve s) → Asks words (form.Soak n) → ⊥
+no_soak_serves : (words : List (List ℕ)) (s : ServeWords) (n : ℕ) → AsksFor words (form.Serve s) → AsksFor words (form.Soak n) → ⊥
 no_soak_serves words s n a b = let e = a.words_are in let h = b.words_are in cc (e, h)
 
-same_content : (words : List (List ℕ)) (s t : ServeWords) → Asks words (form.Serve s) → Asks words (form.Serve t) → s.content ≡ t.content
+same_content : (words : List (List ℕ)) (s t : ServeWords) → AsksFor words (form.Serve s) → AsksFor words (form.Serve t) → s.content ≡ t.content
 same_content words s t a b = let e = a.words_are in let h = b.words_are in cc (e, h)
 
-same_any : (words : List (List ℕ)) (s t : ServeWords) → Asks words (form.Serve s) → Asks words (form.Serve t) → s.any ≡ t.any
+same_any : (words : List (List ℕ)) (s t : ServeWords) → AsksFor words (form.Serve s) → AsksFor words (form.Serve t) → s.any ≡ t.any
 same_any words s t a b = let e = a.words_are in let h = b.words_are in cc (e, h)
 
 -- ---- the inputs have what they have
@@ -54,7 +54,7 @@ read_and_refused reading inputs held name other fault told same has lacks =
     let err = of_name.3 in
     cc (ok, err)
 
-short_and_long : (found : Option (List ℕ)) (bytes : List ℕ) → found ≡ Some bytes → length bytes ≤ longest_input → IsTooLong found → ⊥
+short_and_long : (found : Option (List ℕ)) (bytes : List ℕ) → found ≡ Some bytes → length bytes ≤ longest_input → IsLongInput found → ⊥
 short_and_long None bytes e short long = absurd long
 short_and_long (Some more) bytes e short long =
     let same : more ≡ bytes = cc e in
@@ -63,17 +63,17 @@ short_and_long (Some more) bytes e short long =
 
 -- an input that is short isn't too long
 no_long : (inputs : StreamReport Files) (held : Files) (name : List ℕ) (P : List ℕ → Type 0) → inputs.old ≡ Some held → HoldsInput held name P
-    → IfSome inputs.old (λ h. IsTooLong (file_at h name)) → ⊥
+    → IfSome inputs.old (λ h. IsLongInput (file_at h name)) → ⊥
 no_long inputs held name P told has long =
-    short_and_long (file_at held name) has.0 has.1 has.2 (subst (λ o. IfSome o (λ h. IsTooLong (file_at h name))) told long)
+    short_and_long (file_at held name) has.0 has.1 has.2 (subst (λ o. IfSome o (λ h. IsLongInput (file_at h name))) told long)
 
 -- each input of the words is there and short
-short_input : (c : RunCall) (words : ServeWords) (s : IsServable c words) (fault : InputFault) (name : List ℕ) → LacksInput c fault name → IfSome c.inputs.old (λ h. IsTooLong (file_at h name)) → ⊥
+short_input : (c : RunCall) (words : ServeWords) (s : IsServable c words) (fault : InputFault) (name : List ℕ) → LacksInput c fault name → IfSome c.inputs.old (λ h. IsLongInput (file_at h name)) → ⊥
 short_input c words s fault name lacks long = ⊎_elim
     (λ is. let same = is ∙ same_content c.words lacks.words words lacks.reads.asks s.asks in
-    no_long c.inputs s.held words.content (λ bytes. (tree : Content) × (content_of bytes ≡ Ok tree)) s.held_is s.content (subst (λ n. IfSome c.inputs.old (λ h. IsTooLong (file_at h n))) same long))
+    no_long c.inputs s.held words.content (λ bytes. (tree : Content) × (content_of bytes ≡ Ok tree)) s.held_is s.content (subst (λ n. IfSome c.inputs.old (λ h. IsLongInput (file_at h n))) same long))
     (λ is. let same = is.0 ∙ same_any c.words lacks.words words lacks.reads.asks s.asks in
-    no_long c.inputs s.held words.any (λ bytes. (farm : Farm) × (farm_in bytes ≡ Ok farm)) s.held_is s.any (subst (λ n. IfSome c.inputs.old (λ h. IsTooLong (file_at h n))) same long))
+    no_long c.inputs s.held words.any (λ bytes. (farm : Farm) × (farm_in bytes ≡ Ok farm)) s.held_is s.any (subst (λ n. IfSome c.inputs.old (λ h. IsLongInput (file_at h n))) same long))
     lacks.next
 
 inputs_read : (c : RunCall) (words : ServeWords) (s : IsServable c words) (fault : InputFault) (name : List ℕ) → LacksInput c fault name → ⊥
@@ -154,7 +154,7 @@ serving_asked c DocrootLine due = (due.words, due.has.asks)
 serving_asked c (OpeningLine fault) due = (due.words, due.has.asks)
 serving_asked c (InputLine fault name) due = (due.words, due.reads.asks)
 
-numbered_form : (words : List (List ℕ)) → AsksNumber words → (f : _) × Asks words f
+numbered_form : (words : List (List ℕ)) → AsksNumber words → (f : _) × AsksFor words f
 numbered_form words (n, inl a) = (form.Scenario n, a)
 numbered_form words (n, inr a) = (form.Soak n, a)
 

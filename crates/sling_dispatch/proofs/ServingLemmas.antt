@@ -12,11 +12,11 @@ use Rattle.replay_text.specs.Scenario.{ReadsScenario}
 use Rattle.soak_scenarios.specs.Soaks.{generated_text}
 use Rattle.sling_dispatch.specs.Endings.{Writing, Nothing, UsageLine, SourceLine, RefusalLine, ContentLine, FarmLine, Events, Generated, Summary, OfServing, ServeWriting, Served, CutOff, WorldLine, DocrootLine, OpeningLine, InputLine, IsDue, IsServingDue}
 use Rattle.sling_dispatch.specs.Farms.{is_out_of_memory}
-use Rattle.sling_dispatch.specs.Forms.{Asks}
+use Rattle.sling_dispatch.specs.Forms.{AsksFor}
 use Rattle.sling_dispatch.specs.InnerEndings.{IsContentOr, IsFarmOr}
-use Rattle.sling_dispatch.specs.InnerServing.{IsEndLine, IsInputLine, IsInputOr, IsOfEnd, IsOpeningLine, IsOpeningOr, IsScenarioOr, IsSummaryOr}
+use Rattle.sling_dispatch.specs.InnerServing.{IsEndLine, IsInputLine, IsInputOr, IsOfServeEnd, IsOpeningLine, IsOpeningOr, IsScenarioOr, IsSummaryOr}
 use Rattle.sling_dispatch.specs.Reports.{IsUntouched, IsWorldUntouched, RunCall}
-use Rattle.sling_dispatch.specs.Serving.{FailsToOpen, IsNotOpened, LacksContent, LacksFarm, LacksInput, Serves}
+use Rattle.sling_dispatch.specs.Serving.{FailsToOpen, IsNotOpened, LacksContent, LacksFarm, LacksInput, ServesSite}
 use Rattle.sling_dispatch.specs.declared.farms.FarmRefusal.{FarmRefusal}
 use Rattle.sling_dispatch.specs.declared.form.Form.TheVariants as form
 use Rattle.sling_dispatch.specs.declared.form.ServeWords.{ServeWords}
@@ -96,15 +96,15 @@ due_opening c fault apart fails not (OfServing w) d = opening_line c fault fails
 
 -- ---- an end
 
-end_line : (c : RunCall) (end : ServeEnd) (words : ServeWords) → Serves c words end → (w : ServeWriting) → IsEndLine end words w → IsServingDue c w
-end_line c end words serves (Served s) d = subst (λ x. Serves c x serve_end.Turns) (sym d.0) (subst (λ x. Serves c words x) d.1 serves)
-end_line c end words serves CutOff d = (words, subst (λ x. Serves c words x) d serves)
-end_line c end words serves WorldLine d = (words, subst (λ x. Serves c words x) d serves)
+end_line : (c : RunCall) (end : ServeEnd) (words : ServeWords) → ServesSite c words end → (w : ServeWriting) → IsEndLine end words w → IsServingDue c w
+end_line c end words serves (Served s) d = subst (λ x. ServesSite c x serve_end.Turns) (sym d.0) (subst (λ x. ServesSite c words x) d.1 serves)
+end_line c end words serves CutOff d = (words, subst (λ x. ServesSite c words x) d serves)
+end_line c end words serves WorldLine d = (words, subst (λ x. ServesSite c words x) d serves)
 end_line c end words serves DocrootLine d = absurd d
 end_line c end words serves (OpeningLine f) d = absurd d
 end_line c end words serves (InputLine f name) d = absurd d
 
-pub due_end : (c : RunCall) (end : ServeEnd) (words : ServeWords) → Serves c words end → (w : Writing) → IsOfEnd end words w → IsDue c w
+pub due_end : (c : RunCall) (end : ServeEnd) (words : ServeWords) → ServesSite c words end → (w : Writing) → IsOfServeEnd end words w → IsDue c w
 due_end c end words serves Nothing d = absurd d
 due_end c end words serves UsageLine d = absurd d
 due_end c end words serves SourceLine d = absurd d
@@ -118,7 +118,7 @@ due_end c end words serves (OfServing w) d = end_line c end words serves w d
 
 -- ---- scenarios that are made from a number
 
-pub due_generated : (c : RunCall) (number : ℕ) → IsWorldUntouched c.world → Asks c.words (form.Scenario number) → IsUntouched c.source → (w : Writing) → IsScenarioOr number w → IsDue c w
+pub due_generated : (c : RunCall) (number : ℕ) → IsWorldUntouched c.world → AsksFor c.words (form.Scenario number) → IsUntouched c.source → (w : Writing) → IsScenarioOr number w → IsDue c w
 due_generated c number apart asks source Nothing d = apart
 due_generated c number apart asks source UsageLine d = absurd d
 due_generated c number apart asks source SourceLine d = absurd d
@@ -126,11 +126,11 @@ due_generated c number apart asks source (RefusalLine before) d = absurd d
 due_generated c number apart asks source (ContentLine f) d = absurd d
 due_generated c number apart asks source (FarmLine refusal) d = absurd d
 due_generated c number apart asks source (Events s events) d = absurd d
-due_generated c number apart asks source (Generated n) d = (subst (λ x. Asks c.words (form.Scenario x)) (sym d) asks, source)
+due_generated c number apart asks source (Generated n) d = (subst (λ x. AsksFor c.words (form.Scenario x)) (sym d) asks, source)
 due_generated c number apart asks source (Summary n s events) d = absurd d
 due_generated c number apart asks source (OfServing w) d = absurd d
 
-pub due_summary : (c : RunCall) (number : ℕ) → IsWorldUntouched c.world → Asks c.words (form.Soak number) → IsUntouched c.source → (w : Writing) → IsSummaryOr number w → IsDue c w
+pub due_summary : (c : RunCall) (number : ℕ) → IsWorldUntouched c.world → AsksFor c.words (form.Soak number) → IsUntouched c.source → (w : Writing) → IsSummaryOr number w → IsDue c w
 due_summary c number apart asks source Nothing d = apart
 due_summary c number apart asks source UsageLine d = absurd d
 due_summary c number apart asks source SourceLine d = absurd d
@@ -142,5 +142,5 @@ due_summary c number apart asks source (Generated n) d = absurd d
 due_summary c number apart asks source (Summary n s events) d = by_number n (sym d.0)
   where
     by_number : (n : ℕ) → number ≡ n → IsDue c (Summary n s events)
-    by_number n e = (subst (λ x. Asks c.words (form.Soak x)) e asks, source, subst (λ (x : ℕ). ReadsScenario (generated_text x) s) e d.1, ([], d.2))
+    by_number n e = (subst (λ x. AsksFor c.words (form.Soak x)) e asks, source, subst (λ (x : ℕ). ReadsScenario (generated_text x) s) e d.1, ([], d.2))
 due_summary c number apart asks source (OfServing w) d = absurd d

@@ -20,7 +20,7 @@ fresh law s left events session = law (sling_start session.farm session.tree) ev
 pub not_stored : RepliesInFlightAreNotStored → SessionRepliesInFlightAreNotStored
 not_stored law s left events session = law (sling_start session.farm session.tree) events (session_begins session.farm session.tree) session.run
 
-one_event : (w : RunState) (before after : List Event) (e : Event) → Run w (before ++ e ∷ after) → Run (state_after_events w before) (e ∷ [])
+pub one_event : (w : RunState) (before after : List Event) (e : Event) → Run w (before ++ e ∷ after) → Run (state_after_events w before) (e ∷ [])
 one_event w [] after e run = (run.0, tt)
 one_event w (x ∷ before) after e run = one_event (after_event w x) before after e run.1
 

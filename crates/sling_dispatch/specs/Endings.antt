@@ -14,10 +14,10 @@ use Rattle.serve_loop.specs.declared.serving.ServeEnd.TheVariants as serve_end
 use Rattle.soak_scenarios.specs.Soaks.{generated_text}
 use Rattle.replay_text.specs.Languages.{IsRefusedWithin}
 use Rattle.replay_text.specs.Scenario.{IsScenario, ReadsScenario, longest_scenario}
-use Rattle.sling_dispatch.specs.Forms.{Asks, IsForm}
+use Rattle.sling_dispatch.specs.Forms.{AsksFor, HasForm}
 use Rattle.sling_dispatch.specs.Reports.{HasFailed, HasNotFailed, IsUntouched, IsWorldUntouched, RunCall, StreamReport}
 use Rattle.sling_dispatch.specs.Runs.{IsSession, told_of_events}
-use Rattle.sling_dispatch.specs.Serving.{FailsToOpen, IsNotOpened, LacksContent, LacksFarm, LacksInput, Serves}
+use Rattle.sling_dispatch.specs.Serving.{FailsToOpen, IsNotOpened, LacksContent, LacksFarm, LacksInput, ServesSite}
 use Rattle.sling_dispatch.specs.Streams.{IsReadOut}
 use Rattle.sling_dispatch.specs.Summaries.{summary_text}
 use Rattle.sling_dispatch.specs.Farms.{farm_in, farm_text, is_out_of_memory}
@@ -122,7 +122,7 @@ EndsIn (Summary number s events) ending = (ending ≡ Done) × IsSession s [] ev
 EndsIn (OfServing w) ending = EndsServing w ending
 
 -- what is due was written whole, and the run ends as after that
-pub record Whole (IsDue : Writing → Type 0) (ending : Ending) (sink : StreamReport (List ℕ)) : Type 0 where
+pub record WholeEnding (IsDue : Writing → Type 0) (ending : Ending) (sink : StreamReport (List ℕ)) : Type 0 where
   pub writing : Writing
   pub due : IsDue writing
   pub ends : EndsIn writing ending
@@ -138,7 +138,7 @@ pub record Broken (IsDue : Writing → Type 0) (sink : StreamReport (List ℕ)) 
 abbrev pub Means : (Writing → Type 0) → Ending → StreamReport (List ℕ) → Type 0
 Means IsDue SinkFailed sink = Broken IsDue sink × HasFailed sink
 Means IsDue NoMemory sink = Broken IsDue sink × HasNotFailed sink
-Means IsDue ending sink = Whole IsDue ending sink
+Means IsDue ending sink = WholeEnding IsDue ending sink
 
 -- these are first events of the scenario
 abbrev pub IsRunOf : Scenario → List Event → Type 0
@@ -166,9 +166,9 @@ Replays c P = IsReplay c.words × HasNotFailed c.source × IfSome c.source.old P
 
 -- what may be written by a call that serves
 abbrev pub IsServingDue : RunCall → ServeWriting → Type 0
-IsServingDue c (Served words) = Serves c words serve_end.Turns
-IsServingDue c CutOff = (words : ServeWords) × Serves c words serve_end.NoMemory
-IsServingDue c WorldLine = (words : ServeWords) × Serves c words serve_end.WorldFailed
+IsServingDue c (Served words) = ServesSite c words serve_end.Turns
+IsServingDue c CutOff = (words : ServeWords) × ServesSite c words serve_end.NoMemory
+IsServingDue c WorldLine = (words : ServeWords) × ServesSite c words serve_end.WorldFailed
 IsServingDue c DocrootLine = FailsToOpen c
 IsServingDue c (OpeningLine fault) = IsNotOpened c fault
 IsServingDue c (InputLine fault name) = LacksInput c fault name
@@ -176,7 +176,7 @@ IsServingDue c (InputLine fault name) = LacksInput c fault name
 -- What may be written by a call. Each line denies the causes of those before it.
 abbrev pub IsDue : RunCall → Writing → Type 0
 IsDue c Nothing = IsWorldUntouched c.world
-IsDue c UsageLine = (IsForm c.words → ⊥) × IsUntouched c.source
+IsDue c UsageLine = (HasForm c.words → ⊥) × IsUntouched c.source
 IsDue c SourceLine = IsReplay c.words × HasFailed c.source
 IsDue c (RefusalLine before) = Replays c (λ bytes. IsRefusedWithin longest_scenario IsScenario bytes before) × IsReadOut (longest_scenario + 1) c.source.old c.source.new
 IsDue c (ContentLine fault) = (Replays c (λ bytes. (s : Scenario) × ReadsScenario bytes s × (content_of s.content ≡ Err fault)) × IsAtEnd c.source.new
@@ -184,8 +184,8 @@ IsDue c (ContentLine fault) = (Replays c (λ bytes. (s : Scenario) × ReadsScena
 IsDue c (FarmLine refusal) = (Replays c (λ bytes. (s : Scenario) × ReadsScenario bytes s × HasContent s × (farm_in (farm_text s.farm) ≡ Err refusal))
     × IsAtEnd c.source.new × (is_out_of_memory refusal ≡ false)) ⊎ LacksFarm c refusal
 IsDue c (Events s events) = Replays c (λ bytes. ReadsScenario bytes s) × IsAtEnd c.source.new × IsRunOf s events
-IsDue c (Generated number) = Asks c.words (form.Scenario number) × IsUntouched c.source
-IsDue c (Summary number s events) = Asks c.words (form.Soak number) × IsUntouched c.source × ReadsScenario (generated_text number) s × IsRunOf s events
+IsDue c (Generated number) = AsksFor c.words (form.Scenario number) × IsUntouched c.source
+IsDue c (Summary number s events) = AsksFor c.words (form.Soak number) × IsUntouched c.source × ReadsScenario (generated_text number) s × IsRunOf s events
 IsDue c (OfServing w) = IsServingDue c w
 
 -- the exit status of an ending

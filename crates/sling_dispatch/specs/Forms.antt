@@ -24,15 +24,15 @@ abbrev pub greatest_number : ℕ
 greatest_number = 4294967295
 
 -- the most turns
-abbrev pub most_turns : ℕ
-most_turns = 2 ^ 63
+abbrev pub greatest_turns : ℕ
+greatest_turns = 2 ^ 63
 
--- what is served is named by texts, for 1 to `most_turns` turns
+-- what is served is named by texts, for 1 to `greatest_turns` turns
 pub record AreServeWords (s : ServeWords) : Type 0 where
   pub content : IsUtf8 s.content
   pub any : IsUtf8 s.any
   pub least : 1 ≤ s.turns
-  pub most : s.turns ≤ most_turns
+  pub most : s.turns ≤ greatest_turns
 
 -- the numbers of a form are in their range
 abbrev pub IsInRange : Form → Type 0
@@ -42,18 +42,18 @@ IsInRange (Soak number) = number ≤ greatest_number
 IsInRange (Serve s) = AreServeWords s
 
 -- the words are those of this form
-pub record Asks (words : List (List ℕ)) (form : Form) : Type 0 where
+pub record AsksFor (words : List (List ℕ)) (form : Form) : Type 0 where
   pub words_are : words ≡ form_words form
   pub in_range : IsInRange form
 
 -- the words are those of some form
-abbrev pub IsForm : List (List ℕ) → Type 0
-IsForm words = (form : Form) × Asks words form
+abbrev pub HasForm : List (List ℕ) → Type 0
+HasForm words = (form : Form) × AsksFor words form
 
 -- the words ask that clients are served
 abbrev pub IsServe : List (List ℕ) → Type 0
-IsServe words = (s : ServeWords) × Asks words (Serve s)
+IsServe words = (s : ServeWords) × AsksFor words (Serve s)
 
 -- the words ask for the scenario of a number, or for a run of it
 abbrev pub AsksNumber : List (List ℕ) → Type 0
-AsksNumber words = (n : ℕ) × (Asks words (Scenario n) ⊎ Asks words (Soak n))
+AsksNumber words = (n : ℕ) × (AsksFor words (Scenario n) ⊎ AsksFor words (Soak n))

@@ -22,10 +22,10 @@ use Rattle.serve_loop.specs.declared.serving.ServeEnd.{ServeEnd}
 use Rattle.serve_loop.specs.declared.serving.ServeEnd.TheVariants as serve_end
 use Rattle.soak_scenarios.specs.Soaks.{generated_text}
 use Rattle.sling_dispatch.specs.Endings.{Writing, Nothing, Generated, Summary, OfServing, ServeWriting, Served, CutOff, WorldLine, DocrootLine, OpeningLine, InputLine}
-use Rattle.sling_dispatch.specs.Forms.{Asks}
+use Rattle.sling_dispatch.specs.Forms.{AsksFor}
 use Rattle.sling_dispatch.specs.Reports.{IsUntouched, StreamReport}
 use Rattle.sling_dispatch.specs.Runs.{IsSession, sling_publisher}
-use Rattle.sling_dispatch.specs.Serving.{MayGoOn, OfInput, served_start}
+use Rattle.sling_dispatch.specs.Serving.{MayBeginOver, OfInput, served_start}
 use Rattle.sling_dispatch.specs.Farms.{farm_in, farm_text}
 use Rattle.sling_dispatch.specs.Fronts.{IsNextEvent}
 use Rattle.sling_dispatch.specs.Summaries.{counts_of, summary_text}
@@ -79,7 +79,7 @@ CountsAll tree farm acts c = (s : Scenario) → s.acts ≡ acts → content_of s
 
 -- the call is to serve these words, and both inputs were read: this content and this farm's file
 pub record AreReadAs (asked : List (List ℕ)) (source : StreamReport (List ℕ)) (inputs : StreamReport Files) (words : ServeWords) (content any : List ℕ) : Type 0 where
-  pub asks : Asks asked (Serve words)
+  pub asks : AsksFor asked (Serve words)
   pub source_is : IsUntouched source
   pub inputs_are : IsUntouched inputs
   pub content_is : OfInput inputs words.content (λ bytes. bytes ≡ content)
@@ -116,9 +116,9 @@ IsEndLine end words WorldLine = end ≡ serve_end.WorldFailed
 IsEndLine end words _ = ⊥
 
 -- that, and nothing else
-abbrev pub IsOfEnd : ServeEnd → ServeWords → Writing → Type 0
-IsOfEnd end words (OfServing w) = IsEndLine end words w
-IsOfEnd end words _ = ⊥
+abbrev pub IsOfServeEnd : ServeEnd → ServeWords → Writing → Type 0
+IsOfServeEnd end words (OfServing w) = IsEndLine end words w
+IsOfServeEnd end words _ = ⊥
 
 -- the fault of an opening where files couldn't be cleared away
 abbrev pub open_fault_of : FileFault → OpenFault
@@ -129,4 +129,4 @@ open_fault_of file_fault.NoMemory = open_fault.NoMemory
 abbrev pub OpensRun : Beginning → Farm → Content → Option Files → BoardAt → Content → Type 0
 OpensRun beginning farm tree None b now = Unit {0}
 OpensRun beginning farm tree (Some files) b now =
-    (log : List LogEntry) → MayGoOn beginning farm files log → FrontStandsFor sling_publisher now b (start_of (served_start farm tree (epoch_of_board b) files log))
+    (log : List LogEntry) → MayBeginOver beginning farm files log → FrontStandsFor sling_publisher now b (start_of (served_start farm tree (epoch_of_board b) files log))

@@ -14,3 +14,4 @@ pub mod Reports
 pub mod Serving
 pub mod Summaries
 pub mod InnerServing
+pub mod ServedLaws

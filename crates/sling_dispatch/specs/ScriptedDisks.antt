@@ -24,7 +24,7 @@ FailsOnce (From n way) spent = ⊥
 FailsOnce Stopped spent = ⊥
 
 -- the call failed
-abbrev pub has_failed : {T : Type 0} → Result T DiskFault → Bool
-has_failed (Ok _) = false
-has_failed (Err Failed) = true
-has_failed (Err NoMemory) = false
+abbrev pub has_disk_failed : {T : Type 0} → Result T DiskFault → Bool
+has_disk_failed (Ok _) = false
+has_disk_failed (Err Failed) = true
+has_disk_failed (Err NoMemory) = false

@@ -13,16 +13,15 @@ use Rattle.cache_files.specs.declared.epoch.OpenFault.{OpenFault}
 use Rattle.cache_files.specs.declared.epoch.OpenFault.TheVariants as open_fault
 use Rattle.cache_log.specs.Entries.{LogEntry, Session}
 use Rattle.coherence_core.specs.Holds.{HoldsClosed, files_counted}
-use Rattle.coherence_core.specs.Openings.{LieInside}
 use Rattle.docroot_changes.specs.Changes.{Told}
-use Rattle.outside_world.specs.InputFiles.{IsTooLong, longest_input}
+use Rattle.outside_world.specs.InputFiles.{IsLongInput, longest_input}
 use Rattle.outside_world.specs.declared.inputs.InputFault.{InputFault}
 use Rattle.outside_world.specs.declared.inputs.InputFault.TheVariants as input_fault
 use Rattle.run_events.specs.States.{Start, start_of}
 use Rattle.serve_loop.specs.Served.{HasEndCause, IsServed}
 use Rattle.serve_loop.specs.declared.serving.ServeEnd.{ServeEnd}
 use Rattle.sling_dispatch.specs.Farms.{farm_in, is_out_of_memory}
-use Rattle.sling_dispatch.specs.Forms.{Asks}
+use Rattle.sling_dispatch.specs.Forms.{AsksFor}
 use Rattle.sling_dispatch.specs.Reports.{HasFailed, HasNotFailed, IsDiskUntouched, IsUntouched, IsWorldUntouched, RunCall, StreamReport}
 use Rattle.sling_dispatch.specs.Runs.{sling_publisher}
 use Rattle.sling_dispatch.specs.declared.farms.FarmRefusal.{FarmRefusal}
@@ -52,12 +51,12 @@ IsNextInput words inputs name = (name ≡ words.content) ⊎ ((name ≡ words.an
 -- Why an input wasn't read: the count of the inputs rose, or it is too long.
 abbrev pub IsUnread : StreamReport Files → InputFault → List ℕ → Type 0
 IsUnread inputs input_fault.Failed name = HasFailed inputs
-IsUnread inputs input_fault.TooLong name = HasNotFailed inputs × IfSome inputs.old (λ held. IsTooLong (file_at held name))
+IsUnread inputs input_fault.TooLong name = HasNotFailed inputs × IfSome inputs.old (λ held. IsLongInput (file_at held name))
 IsUnread inputs input_fault.NoMemory name = ⊥
 
 -- The call is to serve these words, and has done nothing yet but to read inputs.
 pub record ReadsInputs (c : RunCall) (words : ServeWords) : Type 0 where
-  pub asks : Asks c.words (Serve words)
+  pub asks : AsksFor c.words (Serve words)
   pub source : IsUntouched c.source
   pub contents : c.inputs.new ≡ c.inputs.old
   pub disk : IsDiskUntouched c.disk
@@ -90,7 +89,7 @@ pub record LacksFarm (c : RunCall) (refusal : FarmRefusal) : Type 0 where
 
 -- The call is to serve these words, read both inputs, and they have a reading: this content, and this farm.
 pub record HasInputs (asked : List (List ℕ)) (source : StreamReport (List ℕ)) (inputs : StreamReport Files) (words : ServeWords) (tree : Content) (farm : Farm) : Type 0 where
-  pub asks : Asks asked (Serve words)
+  pub asks : AsksFor asked (Serve words)
   pub source_is : IsUntouched source
   pub inputs_are : IsUntouched inputs
   pub content : OfInput inputs words.content (λ bytes. content_of bytes ≡ Ok tree)
@@ -131,11 +130,11 @@ pub record FailsToOpen (c : RunCall) : Type 0 where
 
 -- ---- turns
 
--- The logs that a session may go on from, over these files: the empty one, where the pages and .stat files are dropped, if no name leads out
--- of the document root; else each that the files hold, closed by a restart.
-abbrev pub MayGoOn : Beginning → Farm → Files → List LogEntry → Type 0
-MayGoOn Fresh farm files log = LieInside files × (log ≡ [])
-MayGoOn Warm farm files log = HoldsClosed farm files log
+-- The logs that a session may go on from, over these files: the empty one, where the pages and .stat files are dropped; else each that the
+-- files hold, closed by a restart.
+abbrev pub MayBeginOver : Beginning → Farm → Files → List LogEntry → Type 0
+MayBeginOver Fresh farm files log = log ≡ []
+MayBeginOver Warm farm files log = HoldsClosed farm files log
 
 -- what a session begins with over these files: a log, and the session's number after it
 abbrev pub served_start : Farm → Content → ℕ → Files → List LogEntry → Start
@@ -143,13 +142,13 @@ served_start farm tree epoch files log = record { publishing = sling_publisher; 
 
 -- Clients were served, with this end: a session was begun in the files with the number after the last, and from each log that it may go on
 -- from a run went on, and with it the log of the world.
-pub record Serves (c : RunCall) (words : ServeWords) (end : ServeEnd) : Type 0 where
+pub record ServesSite (c : RunCall) (words : ServeWords) (end : ServeEnd) : Type 0 where
   pub tree : Content
   pub farm : Farm
   pub has : HasInputs c.words c.source c.inputs words tree farm
   pub epoch : ℕ
   pub next : IfSome c.disk.old (λ files. next_epoch files ≡ Ok epoch)
-  pub served : IfSome c.disk.old (λ files. (log : List LogEntry) → MayGoOn words.beginning farm files log
+  pub served : IfSome c.disk.old (λ files. (log : List LogEntry) → MayBeginOver words.beginning farm files log
       → IsServed (start_of (served_start farm tree epoch files log)) words.turns end c.disk c.world)
   pub cause : HasEndCause end c.world
 
@@ -158,7 +157,7 @@ pub record Serves (c : RunCall) (words : ServeWords) (end : ServeEnd) : Type 0 w
 -- Both inputs have a reading, the number of the session is of its form and not at its end, and neither the inputs, nor what comes next, nor
 -- the disk before the first turn failed.
 pub record IsServable (c : RunCall) (words : ServeWords) : Type 0 where
-  pub asks : Asks c.words (Serve words)
+  pub asks : AsksFor c.words (Serve words)
   pub held : Files
   pub held_is : c.inputs.old ≡ Some held
   pub content : HoldsInput held words.content (λ bytes. (tree : Content) × (content_of bytes ≡ Ok tree))

@@ -21,9 +21,9 @@ abbrev pub is_kept : Note → Bool
 is_kept (Kept number key) = true
 is_kept _ = false
 
-abbrev pub is_passed : Note → Bool
-is_passed (Passed number) = true
-is_passed _ = false
+abbrev pub is_passed_note : Note → Bool
+is_passed_note (Passed number) = true
+is_passed_note _ = false
 
 abbrev pub is_unkept : Note → Bool
 is_unkept (Unkept number) = true
@@ -33,9 +33,9 @@ abbrev pub is_lost : Note → Bool
 is_lost (Lost number) = true
 is_lost _ = false
 
-abbrev pub is_flush : Note → Bool
-is_flush (Flush number c inv) = true
-is_flush _ = false
+abbrev pub is_flush_note : Note → Bool
+is_flush_note (Flush number c inv) = true
+is_flush_note _ = false
 
 abbrev pub is_done : Note → Bool
 is_done (Done number) = true
@@ -68,10 +68,10 @@ counts events notes =
       asks = count_by is_ask notes;
       hits = count_by is_hit notes;
       kept = count_by is_kept notes;
-      passed = count_by is_passed notes;
+      passed = count_by is_passed_note notes;
       unkept = count_by is_unkept notes;
       lost = count_by is_lost notes;
-      flushes = count_by is_flush notes;
+      flushes = count_by is_flush_note notes;
       done = count_by is_done notes;
       failed = count_by is_failed notes;
       sent = sum_by sent_size notes;

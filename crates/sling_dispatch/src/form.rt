@@ -1,7 +1,7 @@
 //! The words that the program knows.
 ghost use Rattle.std.specs.Prelude.{◌≡◌, ◌≢◌, ◌≤◌, ◌∷◌, ◌↔◌, [], ℕ, IfOk, IfSome, IfNone, IsTrue, codes, map};
 ghost use Rattle.std.specs.Fmt.{decimal};
-ghost use Rattle.sling_dispatch.specs.Forms.{Asks, IsForm, beginning_word, greatest_number, most_turns};
+ghost use Rattle.sling_dispatch.specs.Forms.{AsksFor, HasForm, beginning_word, greatest_number, greatest_turns};
 
 use replay_text::number;
 use sp_base::{Mem, TextBuf};
@@ -46,8 +46,8 @@ const MOST_TURNS: u64 = 9_223_372_036_854_775_808;
 
 /// What the words ask for, or None where they are of no form.
 pub fn form_of(alloc: Global, words: &[&[u8]]) -> Mem<Option<Form>>
-    ensures some { IfOk result (λ o. IfSome o (Asks (map (λ w. w.now) words.now))) }
-    ensures none { IfOk result (λ o. IfNone o (IsForm (map (λ w. w.now) words.now) → ⊥)) }
+    ensures some { IfOk result (λ o. IfSome o (AsksFor (map (λ w. w.now) words.now))) }
+    ensures none { IfOk result (λ o. IfNone o (HasForm (map (λ w. w.now) words.now) → ⊥)) }
 {
     match words {
         [word] => Ok(short_form(word)),
@@ -70,8 +70,8 @@ fn is_same(a: &[u8], b: &[u8]) -> bool
 
 // What a single word asks for.
 fn short_form(word: &[u8]) -> Option<Form>
-    ensures some { IfSome result (Asks (word.now ∷ [])) }
-    ensures none { IfNone result (IsForm (word.now ∷ []) → ⊥) }
+    ensures some { IfSome result (AsksFor (word.now ∷ [])) }
+    ensures none { IfNone result (HasForm (word.now ∷ []) → ⊥) }
 {
     if is_same(word, b"replay") {
         Some(Form::Replay)
@@ -82,8 +82,8 @@ fn short_form(word: &[u8]) -> Option<Form>
 
 // What a word and a number ask for.
 fn numbered_form(alloc: Global, word: &[u8], spelled: &[u8]) -> Mem<Option<Form>>
-    ensures some { IfOk result (λ o. IfSome o (Asks (word.now ∷ spelled.now ∷ []))) }
-    ensures none { IfOk result (λ o. IfNone o (IsForm (word.now ∷ spelled.now ∷ []) → ⊥)) }
+    ensures some { IfOk result (λ o. IfSome o (AsksFor (word.now ∷ spelled.now ∷ []))) }
+    ensures none { IfOk result (λ o. IfNone o (HasForm (word.now ∷ spelled.now ∷ []) → ⊥)) }
 {
     let Some(number) = scenario_number(alloc, spelled)? else {
         return Ok(None);
@@ -114,8 +114,8 @@ fn scenario_number(alloc: Global, spelled: &[u8]) -> Mem<Option<u32>>
 
 // How many turns are asked for.
 fn turn_count(alloc: Global, spelled: &[u8]) -> Mem<Option<u64>>
-    ensures some { IfOk result (λ o. IfSome o (λ n. (1 ≤ n) × (n ≤ most_turns) × (spelled.now ≡ decimal n))) }
-    ensures none { IfOk result (λ o. IfNone o ((n : ℕ) → 1 ≤ n → n ≤ most_turns → spelled.now ≢ decimal n)) }
+    ensures some { IfOk result (λ o. IfSome o (λ n. (1 ≤ n) × (n ≤ greatest_turns) × (spelled.now ≡ decimal n))) }
+    ensures none { IfOk result (λ o. IfNone o ((n : ℕ) → 1 ≤ n → n ≤ greatest_turns → spelled.now ≢ decimal n)) }
 {
     let Some(turns) = number(alloc, spelled)? else {
         return Ok(None);
@@ -148,8 +148,8 @@ fn serve_form(
     turns: &[u8],
     beginning: &[u8],
 ) -> Mem<Option<Form>>
-    ensures some { IfOk result (λ o. IfSome o (Asks (codes "serve" ∷ content.now ∷ any.now ∷ turns.now ∷ beginning.now ∷ []))) }
-    ensures none { IfOk result (λ o. IfNone o (IsForm (codes "serve" ∷ content.now ∷ any.now ∷ turns.now ∷ beginning.now ∷ []) → ⊥)) }
+    ensures some { IfOk result (λ o. IfSome o (AsksFor (codes "serve" ∷ content.now ∷ any.now ∷ turns.now ∷ beginning.now ∷ []))) }
+    ensures none { IfOk result (λ o. IfNone o (HasForm (codes "serve" ∷ content.now ∷ any.now ∷ turns.now ∷ beginning.now ∷ []) → ⊥)) }
 {
     let Ok(content) = str::from_utf8(content) else {
         return Ok(None);

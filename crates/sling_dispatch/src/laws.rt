@@ -12,6 +12,7 @@ ghost use Rattle.run_events.specs.Events.{Event, notes_of};
 ghost use Rattle.replay_text.specs.Scenario.{ReadsScenario};
 ghost use Rattle.replay_text.specs.Transcript.{told_notes};
 ghost use Rattle.sling_dispatch.specs.SessionLaws.{SessionHitsAreFresh, SessionLogsAreLegal, SessionRepliesInFlightAreNotStored, SessionsServeKeptPages};
+ghost use Rattle.sling_dispatch.specs.ServedLaws.{ServedHitsAreFresh, ServedLogsAreLegal, ServedRepliesInFlightAreNotStored, ServedSessionsGoOn, ServedSessionsLeaveLegalLogs, ServedSessionsServeKeptPages, SessionsAreServed};
 ghost use Rattle.sling_dispatch.specs.SessionsWithMemory.{SessionsWithMemoryAreOne};
 ghost use Rattle.sling_dispatch.specs.Endings.{Means, IsDue, IsReplay, HasContent, HasFarm};
 ghost use Rattle.sling_dispatch.specs.Forms.{AsksNumber};
@@ -31,6 +32,7 @@ use run_laws::{
     answers_of_hits_are_fresh, kept_pages_are_served, logs_are_legal, notes_name_pages,
     replies_in_flight_are_not_stored, runs_with_memory_are_determined,
 };
+use serve_loop::{served_sessions_leave_legal_logs, sessions_begin_in_legal_logs};
 
 /// How the path of a target is escaped doesn't matter, apart from the slash that it begins with, nor which query follows.
 pub fn spellings_are_answered_alike()
@@ -106,6 +108,49 @@ pub fn session_replies_in_flight_are_not_stored()
 /// A kept page that no flush covered since is served without a render, where neither the disk fails nor memory runs out.
 pub fn sessions_serve_kept_pages()
     ensures { SessionsServeKeptPages }
+{
+    kept_pages_are_served();
+}
+
+/// A session that is served goes on from each legal log that it may go on from (`there`); it leaves one, unless memory ran out (`left`); and with
+/// `warm` the next session goes on from that (`again`), and so on for ever.
+pub fn served_sessions_go_on()
+    ensures there { SessionsAreServed }
+    ensures left { ServedSessionsLeaveLegalLogs }
+    ensures again { ServedSessionsGoOn }
+{
+    served_sessions_leave_legal_logs();
+    sessions_begin_in_legal_logs();
+}
+
+/// The log of the cache is legal after each session that is served, and no flush had more slices than names may stand in its way.
+pub fn served_logs_are_legal()
+    ensures { ServedLogsAreLegal }
+{
+    logs_are_legal();
+    sessions_begin_in_legal_logs();
+}
+
+/// After a flush that was answered 200 no hit that is served is older, in that session and in each later one.
+pub fn served_hits_are_fresh()
+    ensures { ServedHitsAreFresh }
+{
+    answers_of_hits_are_fresh();
+    sessions_begin_in_legal_logs();
+}
+
+/// A reply in flight as a flush begins that covers its page is never stored.
+pub fn served_replies_in_flight_are_not_stored()
+    ensures { ServedRepliesInFlightAreNotStored }
+{
+    replies_in_flight_are_not_stored();
+    sessions_begin_in_legal_logs();
+}
+
+/// A kept page that no flush covered since is served without a render, where neither the disk fails nor memory runs out, also where it was kept in
+/// an earlier session.
+pub fn served_sessions_serve_kept_pages()
+    ensures { ServedSessionsServeKeptPages }
 {
     kept_pages_are_served();
 }

@@ -18,7 +18,7 @@ use docroot_changes::docroot_calls_add_up;
 use docroot_format::FileFault;
 use front::Front;
 use publisher::Publisher;
-use sp_outside::{Disk, files_have_names};
+use sp_outside::Disk;
 use std::alloc::Global;
 
 /// A front before a publisher, whose session begins over the files of the disk.
@@ -38,7 +38,6 @@ pub fn open_front<D: Disk>(
     ensures calls { MakesDocrootCalls (D.calls disk.old) (D.calls disk.new) }
 {
     docroot_calls_add_up();
-    files_have_names();
     let front = Front::new(alloc, PublisherRenderer { publisher }, farm, disk)?;
     match beginning {
         Beginning::Warm => Ok(front),

@@ -1,7 +1,7 @@
 //! The disk of a scenario, which fails as the scenario says.
 ghost use Rattle.std.specs.Prelude.{◌≡◌, Some, None, true, false};
 ghost use Rattle.std.specs.FinMap.{empty};
-ghost use Rattle.sling_dispatch.specs.ScriptedDisks.{fault_count, has_failed};
+ghost use Rattle.sling_dispatch.specs.ScriptedDisks.{fault_count, has_disk_failed};
 
 use sp_base::{ByteBuf, NameList};
 use sp_outside::{Disk, DiskFault, MemDisk, Way};
@@ -52,7 +52,7 @@ impl ScriptedDisk {
 
 // Whether a call failed.
 fn has_failed<T>(call: &Result<T, DiskFault>) -> bool
-    ensures { result ≡ has_failed call.now }
+    ensures { result ≡ has_disk_failed call.now }
 {
     matches!(call, Err(DiskFault::Failed))
 }

@@ -6,8 +6,8 @@ ghost use Rattle.content_json.specs.ContentOf.{content as content_of};
 ghost use Rattle.docroot_changes.specs.DocrootCalls.{MakesDocrootCalls};
 ghost use Rattle.serve_loop.specs.Served.{disk_report, world_report};
 ghost use Rattle.sling_dispatch.specs.Endings.{IsDue, Means};
-ghost use Rattle.sling_dispatch.specs.Forms.{AreServeWords, Asks};
-ghost use Rattle.sling_dispatch.specs.InnerServing.{AreReadAs, IsInputOr, IsOfEnd, IsOpeningOr};
+ghost use Rattle.sling_dispatch.specs.Forms.{AreServeWords, AsksFor};
+ghost use Rattle.sling_dispatch.specs.InnerServing.{AreReadAs, IsInputOr, IsOfServeEnd, IsOpeningOr};
 ghost use Rattle.sling_dispatch.specs.Reports.{IsUntouched, StreamReport, call_of, report_of};
 ghost use Rattle.sling_dispatch.specs.Serving.{HasInputs};
 ghost use Rattle.sling_dispatch.specs.declared.form.Form.TheVariants.{Serve};
@@ -52,7 +52,7 @@ pub fn serve_named<S, K: Sink, I: Inputs, D: Disk, W: World>(
     ensures source { outside.new.source ≡ outside.old.source }
     ensures contents { I.contents outside.new.inputs ≡ I.contents outside.old.inputs }
     ensures calls { MakesDocrootCalls (D.calls outside.old.disk) (D.calls outside.new.disk) }
-    ensures ending { (asked : List (List ℕ)) (source : StreamReport (List ℕ)) → Asks asked (Serve words) → IsUntouched source → Means
+    ensures ending { (asked : List (List ℕ)) (source : StreamReport (List ℕ)) → AsksFor asked (Serve words) → IsUntouched source → Means
         (IsDue (call_of asked source
         (report_of (I.contents outside.old.inputs) (I.contents outside.new.inputs) (I.faults outside.old.inputs) (I.faults outside.new.inputs))
         (disk_report (D.files outside.old.disk) (D.files outside.new.disk) (D.faults outside.old.disk) (D.faults outside.new.disk))
@@ -195,7 +195,7 @@ fn refuse_opening<K: Sink>(fault: OpenFault, sink: &mut K) -> Ending
 
 // Says how serving ended.
 fn say_end<K: Sink>(alloc: Global, end: ServeEnd, words: &ServeWords, sink: &mut K) -> Ending
-    ensures { Means (IsOfEnd end words.now) result (report_of (K.held sink.old) (K.held sink.new) (K.faults sink.old) (K.faults sink.new)) }
+    ensures { Means (IsOfServeEnd end words.now) result (report_of (K.held sink.old) (K.held sink.new) (K.faults sink.old) (K.faults sink.new)) }
 {
     match end {
         ServeEnd::Turns => say_line(sink, served_line(alloc, words.turns), Ending::Done),

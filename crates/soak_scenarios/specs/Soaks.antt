@@ -5,8 +5,8 @@ use Rattle.soak_scenarios.specs.Drafts.{Draft, Piece, Words, Draw, begun, drawn,
 use Rattle.soak_scenarios.specs.Sites.{content_line, farm_lines}
 
 -- the connection of a block opens
-abbrev pub opening : ℕ → List ℕ
-opening block = codes "open " ++ (decimal block ++ codes " 127.0.0.1\n")
+abbrev pub opening_text : ℕ → List ℕ
+opening_text block = codes "open " ++ (decimal block ++ codes " 127.0.0.1\n")
 
 -- it closes
 abbrev pub closing : ℕ → List ℕ
@@ -32,7 +32,7 @@ flush_line block = on_page (codes "flush ") block (codes " Activate ") (Words (c
 -- the others give a flush its slice
 abbrev pub seldom_line : ℕ → ℕ → List Piece
 seldom_line block draw =
-    if draw == 0 then Words (codes "restart\n") ∷ Words (opening block) ∷ []
+    if draw == 0 then Words (codes "restart\n") ∷ Words (opening_text block) ∷ []
     else (if draw == 1 then Words (codes "fail 2 new\n") ∷ [] else Words (codes "purge\n") ∷ [])
 
 -- the line of a draw below 15
@@ -49,12 +49,12 @@ abbrev pub with_seldom_line : ℕ → Draft → Draft
 with_seldom_line block draft = written (seldom_line block (given (drawn draft) 64)) (drawn draft)
 
 -- the line of a draw below 16 is written
-abbrev pub with_line : ℕ → ℕ → Draft → Draft
-with_line block draw draft = if draw == 15 then with_seldom_line block draft else written (usual_line block draw) draft
+abbrev pub draft_with_line : ℕ → ℕ → Draft → Draft
+draft_with_line block draw draft = if draw == 15 then with_seldom_line block draft else written (usual_line block draw) draft
 
 -- a round of a block: a draw, and its line
 abbrev pub with_round : ℕ → Draft → Draft
-with_round block draft = with_line block (given (drawn draft) 16) (drawn draft)
+with_round block draft = draft_with_line block (given (drawn draft) 16) (drawn draft)
 
 -- so many rounds of a block
 unfoldable pub with_rounds : ℕ → ℕ → Draft → Draft
@@ -63,7 +63,7 @@ with_rounds block (suc n) draft = with_round block (with_rounds block n draft)
 
 -- a block: its connection opens, has 32 rounds, and closes
 abbrev pub with_block : ℕ → Draft → Draft
-with_block block draft = with_text (closing block) (with_rounds block 32 (with_text (opening block) draft))
+with_block block draft = with_text (closing block) (with_rounds block 32 (with_text (opening_text block) draft))
 
 -- so many blocks, numbered from 1
 unfoldable pub with_blocks : ℕ → Draft → Draft

@@ -1,7 +1,7 @@
 //! The events of a block.
 ghost use Rattle.std.specs.Prelude.{◌≡◌, ◌<◌, [], OnOk};
 ghost use Rattle.soak_scenarios.specs.Drafts.{with_text, written};
-ghost use Rattle.soak_scenarios.specs.Soaks.{closing, flush_line, get_line, on_page, opening, post_line, seldom_line, usual_line, with_block, with_line, with_round, with_rounds, with_seldom_line};
+ghost use Rattle.soak_scenarios.specs.Soaks.{closing, flush_line, get_line, on_page, opening_text, post_line, seldom_line, usual_line, with_block, draft_with_line, with_round, with_rounds, with_seldom_line};
 
 use crate::draft::Draft;
 use sp_base::Mem;
@@ -10,7 +10,7 @@ use std::alloc::Global;
 const ROUNDS: u64 = 32;
 
 fn push_opening(alloc: Global, draft: &mut Draft, block: u64) -> Mem<()>
-    ensures { OnOk result (draft.new ≡ with_text (opening block) draft.old) }
+    ensures { OnOk result (draft.new ≡ with_text (opening_text block) draft.old) }
 {
     draft.push(b"open ")?;
     draft.push_number(alloc, block)?;
@@ -94,7 +94,7 @@ fn push_seldom(alloc: Global, draft: &mut Draft, block: u64) -> Mem<()>
 }
 
 fn push_line(alloc: Global, draft: &mut Draft, block: u64, draw: u64) -> Mem<()>
-    ensures { OnOk result (draft.new ≡ with_line block draw draft.old) }
+    ensures { OnOk result (draft.new ≡ draft_with_line block draw draft.old) }
 {
     if draw == 15 {
         push_seldom(alloc, draft, block)

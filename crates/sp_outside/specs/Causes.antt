@@ -1,5 +1,5 @@
 -- When a call of the outside may answer that it failed.
-use Rattle.std.specs.Prelude.{◌≡◌, ◌+◌, ◌≤◌, ℕ, Result, Ok, Err, min}
+use Rattle.std.specs.Prelude.{◌≡◌, ◌+◌, ◌≤◌, ℕ, Bool, true, false, Result, Ok, Err, min}
 use Rattle.sp_base.specs.Limits.{greatest_u64}
 use Rattle.sp_outside.specs.declared.source.SourceFault.{SourceFault}
 use Rattle.sp_outside.specs.declared.source.SourceFault.TheVariants.{Failed as source_failed}
@@ -32,3 +32,8 @@ abbrev pub HasDiskCause : {T : Type 0} → ℕ → ℕ → Result T DiskFault �
 HasDiskCause before after (Ok _) = after ≡ before
 HasDiskCause before after (Err disk_failed) = Rose before after
 HasDiskCause before after (Err no_room) = after ≡ before
+
+-- the disk is said to have failed exactly where its count of faults rose
+abbrev pub IsDiskFailure : ℕ → ℕ → Bool → Type 0
+IsDiskFailure before after true = Rose before after
+IsDiskFailure before after false = after ≡ before

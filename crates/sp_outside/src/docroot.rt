@@ -5,12 +5,14 @@ ghost use Rattle.sp_outside.specs.Files.{IsListing};
 
 use crate::DiskFault;
 use crate::file_name::{BESIDE, is_inside};
-use crate::folder_walk::names_below;
+use crate::folder_boot::{is_of_this_boot, note_boot};
+use crate::folder_lock::{has_lock, lock};
+use crate::folder_walk::{is_file, names_below};
 use crate::name_index::{NameIndex, Standing};
 use crate::name_list::push_next;
 use sp_base::{ByteBuf, Mem, NameList};
 use std::alloc::Global;
-use std::fs::{self, File, Files, OpenFile};
+use std::fs::{self, File, Files, Metadata};
 use std::io::{self, ErrorKind, Read, Write};
 
 /// The most bytes of a path that Linux takes.
@@ -30,65 +32,57 @@ impl From<io::Error> for DiskFault {
 
 /// The files below a folder, and an index of their names, which the first call reads and each change keeps.
 #[derive(Drop)]
-pub(crate) struct Docroot<R: Files + AllocGlobal + Clone + Drop> {
+pub(crate) struct Docroot<R: Files<File = File> + AllocGlobal + Clone + Drop> {
     rt: R,
     folder: String,
     // The paths of the file that a call is about, and of the file beside it, in room that was taken at the beginning.
     path: String,
     beside: String,
     names: NameIndex,
-    has_names: bool,
-    // Each folder below the docroot that was found or made is synced into the one that it lies in.
-    folders_last: bool,
+    lock: Option<File>,
+    is_open: bool,
 }
 
-// The last segment begins with a dot: the file isn't a page, and has to last over a loss of power.
-fn is_lasting(name: &str) -> bool {
-    match name.rsplit_once('/') {
-        Some((_, last)) => last.starts_with('.'),
-        None => name.starts_with('.'),
-    }
-}
-
-// The folder that a path lies in.
-fn parent(path: &str) -> &str {
-    match path.rsplit_once('/') {
-        Some((folder, _)) if !folder.is_empty() => folder,
-        Some(_) => "/",
-        None => ".",
-    }
-}
-
-fn contents<F: Read + Drop>(alloc: Global, file: F) -> Result<ByteBuf, DiskFault> {
-    let mut bytes = Vec::new(alloc);
-    // One byte more shows that a file is too long.
-    file.take(LONGEST_FILE as u64 + 1).read_to_end(&mut bytes)?;
-    if bytes.len() > LONGEST_FILE {
-        return Err(DiskFault::Failed);
-    }
+fn contents(alloc: Global, mut file: File) -> Result<ByteBuf, DiskFault> {
+    let size = match usize::try_from(file.metadata()?.len()) {
+        Ok(size) if size <= LONGEST_FILE => size,
+        _ => return Err(DiskFault::Failed),
+    };
+    let mut bytes = vec![in alloc; 0u8; size]?;
+    file.read_exact(&mut bytes)?;
     Ok(ByteBuf::from(bytes))
 }
 
-// The path is a file, and no link.
-fn is_file<R: Files>(rt: &R, path: &str) -> Result<bool, DiskFault> {
-    match fs::symlink_metadata(rt, path) {
-        Ok(found) => Ok(found.is_file()),
-        Err(fault) if fault.kind() == ErrorKind::NotFound => Ok(false),
-        Err(fault) => Err(DiskFault::from(fault)),
+fn is_folder(found: io::Result<Metadata>) -> bool {
+    matches!(found, Ok(found) if found.is_dir())
+}
+
+// A folder that is made, or was there before, and no link.
+fn make_folder<R: Files>(rt: &R, folder: &str) -> Result<(), DiskFault> {
+    match fs::create_dir(rt, folder) {
+        Err(_) if is_folder(fs::symlink_metadata(rt, folder)) => Ok(()),
+        made => Ok(made?),
     }
 }
 
-/// Makes what was renamed in a folder or taken out of it last.
-pub(crate) fn sync_folder<R: Files>(rt: &R, folder: &str) -> Result<(), DiskFault> {
-    match fs::open(rt, folder) {
-        Ok(folder) => Ok(folder.sync_all()?),
-        // A folder that is gone has nothing to keep.
+// The same of the docroot itself, which may be a link to a folder.
+fn make_docroot<R: Files>(rt: &R, folder: &str) -> Result<(), DiskFault> {
+    match fs::create_dir(rt, folder) {
+        Err(_) if is_folder(fs::metadata(rt, folder)) => Ok(()),
+        made => Ok(made?),
+    }
+}
+
+// A file that is gone is removed.
+fn remove_file<R: Files>(rt: &R, path: &str) -> Result<(), DiskFault> {
+    match fs::remove_file(rt, path) {
         Err(fault) if fault.kind() == ErrorKind::NotFound => Ok(()),
-        Err(fault) => Err(DiskFault::from(fault)),
+        removed => Ok(removed?),
     }
 }
 
-impl<R: Files + AllocGlobal + Clone + Drop> Docroot<R> {
+// Opening.
+impl<R: Files<File = File> + AllocGlobal + Clone + Drop> Docroot<R> {
     pub(crate) fn new(rt: R, folder: &str) -> Mem<Docroot<R>> {
         let alloc = rt.alloc();
         Ok(Docroot {
@@ -96,17 +90,45 @@ impl<R: Files + AllocGlobal + Clone + Drop> Docroot<R> {
             path: String::with_capacity(alloc, LONGEST_PATH)?,
             beside: String::with_capacity(alloc, LONGEST_PATH)?,
             names: NameIndex::new(alloc),
-            has_names: false,
-            folders_last: true,
+            lock: None,
+            is_open: false,
             rt,
         })
     }
 
-    // Reads the names, where no call has.
-    fn fill(&mut self) -> Result<(), DiskFault> {
-        if !self.has_names {
-            self.names = names_below(&self.rt, self.folder.as_str())?;
-            self.has_names = true;
+    // Takes the folder and reads the names, where no call has. Files of another boot are removed, since what was removed before it, or
+    // written again, may be as it was.
+    fn open(&mut self) -> Result<(), DiskFault> {
+        if self.is_open {
+            return Ok(());
+        }
+        self.occupy()?;
+        let names = names_below(&self.rt, self.folder.as_str())?;
+        if is_of_this_boot(&self.rt, self.folder.as_str())? {
+            self.names = names;
+        } else {
+            self.remove_all(&names)?;
+            note_boot(&self.rt, self.folder.as_str())?;
+        }
+        self.is_open = true;
+        Ok(())
+    }
+
+    // Makes the folder, where it isn't there, and locks it, where it isn't locked or was taken away with its lock. No boot is noted, so that
+    // the next process doesn't go on from a docroot of which something was taken away.
+    fn occupy(&mut self) -> Result<(), DiskFault> {
+        make_docroot(&self.rt, self.folder.as_str())?;
+        if self.lock.is_none() || !has_lock(&self.rt, self.folder.as_str())? {
+            self.lock = Some(lock(&self.rt, self.folder.as_str())?);
+        }
+        Ok(())
+    }
+
+    fn remove_all(&self, names: &NameIndex) -> Result<(), DiskFault> {
+        let alloc = self.rt.alloc();
+        for (name, _) in names.from(alloc, "", "")? {
+            let path = format!(in alloc; "{}/{name}", self.folder)?;
+            remove_file(&self.rt, path.as_str())?;
         }
         Ok(())
     }
@@ -135,9 +157,9 @@ impl<R: Files + AllocGlobal + Clone + Drop> Docroot<R> {
 }
 
 // Reading.
-impl<R: Files + AllocGlobal + Clone + Drop> Docroot<R> {
+impl<R: Files<File = File> + AllocGlobal + Clone + Drop> Docroot<R> {
     pub(crate) fn read(&mut self, alloc: Global, name: &str) -> Result<Option<ByteBuf>, DiskFault> {
-        self.fill()?;
+        self.open()?;
         let Some(standing) = self.names.standing(name) else {
             return Ok(None);
         };
@@ -161,7 +183,7 @@ impl<R: Files + AllocGlobal + Clone + Drop> Docroot<R> {
     ) -> Result<NameList, DiskFault>
         ensures { IfOk result (IsListing prefix.now after.now most) }
     {
-        self.fill()?;
+        self.open()?;
         let mut names = NameList::new(alloc);
         for (name, standing) in self.names.from(alloc, prefix, after)? {
             if names.len() >= most || !name.starts_with(prefix) {
@@ -176,7 +198,7 @@ impl<R: Files + AllocGlobal + Clone + Drop> Docroot<R> {
 }
 
 // Writing and removing.
-impl<R: Files + AllocGlobal + Clone + Drop> Docroot<R> {
+impl<R: Files<File = File> + AllocGlobal + Clone + Drop> Docroot<R> {
     /// Writes a file, which its name leads to below the folder, else nothing.
     pub(crate) fn write(&mut self, name: &str, bytes: &[u8]) -> Result<(), DiskFault>
         ensures inside { OnOk result (IsTrue (is_inside name.now)) }
@@ -184,16 +206,12 @@ impl<R: Files + AllocGlobal + Clone + Drop> Docroot<R> {
         if !is_inside(name) || bytes.len() > LONGEST_FILE {
             return Err(DiskFault::Failed);
         }
-        self.fill()?;
+        self.open()?;
         self.point_at(name)?;
-        let made = self.make_folders(name);
-        if made.is_err() {
-            self.folders_last = false;
-        }
-        made?;
+        self.make_folders(name)?;
         let is_new = self.names.standing(name).is_none();
         self.names.add(self.rt.alloc(), name, Standing::Doubtful)?;
-        let written = self.replace(bytes, is_lasting(name));
+        let written = self.replace_in_folders(bytes);
         if written.is_ok() {
             self.names.set(name, Standing::Held);
         } else if is_new && matches!(is_file(&self.rt, self.path.as_str()), Ok(false)) {
@@ -202,31 +220,33 @@ impl<R: Files + AllocGlobal + Clone + Drop> Docroot<R> {
         written
     }
 
+    // Replaces the file. Where its folders were taken away they are made again.
+    fn replace_in_folders(&mut self, bytes: &[u8]) -> Result<(), DiskFault> {
+        match self.replace(bytes) {
+            Err(fault) if fault.kind() == ErrorKind::NotFound => {
+                self.make_all_folders()?;
+                Ok(self.replace(bytes)?)
+            }
+            written => Ok(written?),
+        }
+    }
+
     // Writes the file beside, and renames it.
-    fn replace(&self, bytes: &[u8], lasts: bool) -> Result<(), DiskFault> {
+    fn replace(&self, bytes: &[u8]) -> io::Result<()> {
         let (path, beside) = (self.path.as_str(), self.beside.as_str());
-        let renamed = match self.write_beside(bytes, lasts) {
+        let renamed = match self.write_beside(bytes) {
             Ok(()) => fs::rename(&self.rt, beside, path),
             Err(fault) => Err(fault),
         };
-        if let Err(fault) = renamed {
+        if renamed.is_err() {
             let _ = fs::remove_file(&self.rt, beside);
-            return Err(DiskFault::from(fault));
         }
-        // The files are changed already, so this is never out of memory.
-        if lasts && sync_folder(&self.rt, parent(path)).is_err() {
-            return Err(DiskFault::Failed);
-        }
-        Ok(())
+        renamed
     }
 
-    fn write_beside(&self, bytes: &[u8], lasts: bool) -> io::Result<()> {
+    fn write_beside(&self, bytes: &[u8]) -> io::Result<()> {
         let mut file = self.open_beside()?;
-        file.write_all(bytes)?;
-        if lasts {
-            file.sync_all()?;
-        }
-        Ok(())
+        file.write_all(bytes)
     }
 
     // A new file, which no link leads elsewhere. One that a killed process left is taken away first.
@@ -242,7 +262,7 @@ impl<R: Files + AllocGlobal + Clone + Drop> Docroot<R> {
     }
 
     // Makes the folders of the file. Where a file is known in its folder, they stand.
-    fn make_folders(&self, name: &str) -> Result<(), DiskFault> {
+    fn make_folders(&mut self, name: &str) -> Result<(), DiskFault> {
         let below = match name.rsplit_once('/') {
             Some((folder, _)) => name.get(..folder.len().saturating_add(1)).unwrap_or(""),
             None => "",
@@ -250,52 +270,30 @@ impl<R: Files + AllocGlobal + Clone + Drop> Docroot<R> {
         if self.names.has_below(self.rt.alloc(), below)? {
             return Ok(());
         }
-        for end in self.folder.len()..self.path.len() {
+        self.make_all_folders()
+    }
+
+    // Makes those folders of the file that aren't there, the docroot among them.
+    fn make_all_folders(&mut self) -> Result<(), DiskFault> {
+        self.occupy()?;
+        for end in self.folder.len().saturating_add(1)..self.path.len() {
             if let Some((folder, rest)) = self.path.as_str().split_at_checked(end)
                 && rest.starts_with('/')
             {
-                self.make_folder(folder)?;
+                make_folder(&self.rt, folder)?;
             }
         }
         Ok(())
     }
 
-    // A folder that is made, or was there before, and no link. It lasts, so that what lasts below it does: one that was there is synced
-    // again only where it is the docroot, or where folders were made before that may not be.
-    fn make_folder(&self, folder: &str) -> Result<(), DiskFault> {
-        if let Err(fault) = fs::create_dir(&self.rt, folder) {
-            if !self.is_folder(folder) {
-                return Err(DiskFault::from(fault));
-            }
-            if self.folders_last && folder != self.folder.as_str() {
-                return Ok(());
-            }
-        }
-        sync_folder(&self.rt, parent(folder))
-    }
-
-    // The docroot itself may be a link to a folder.
-    fn is_folder(&self, folder: &str) -> bool {
-        let found = if folder == self.folder.as_str() {
-            fs::metadata(&self.rt, folder)
-        } else {
-            fs::symlink_metadata(&self.rt, folder)
-        };
-        matches!(found, Ok(found) if found.is_dir())
-    }
-
     pub(crate) fn remove(&mut self, name: &str) -> Result<(), DiskFault> {
-        self.fill()?;
+        self.open()?;
         if self.names.standing(name).is_none() {
             return Ok(());
         }
         self.names.set(name, Standing::Doubtful);
         self.point_at(name)?;
-        match fs::remove_file(&self.rt, self.path.as_str()) {
-            Err(fault) if fault.kind() != ErrorKind::NotFound => return Err(DiskFault::from(fault)),
-            _ => {}
-        }
-        sync_folder(&self.rt, parent(self.path.as_str()))?;
+        remove_file(&self.rt, self.path.as_str())?;
         self.names.forget(name);
         Ok(())
     }

@@ -1,28 +1,33 @@
 //! The walk over a folder and all folders below it.
-use crate::docroot::sync_folder;
 use crate::file_name::is_beside;
 use crate::name_index::{NameIndex, Standing};
 use crate::{DiskFault, LONGEST_FILE_NAME};
 use sp_base::Mem;
 use std::alloc::Global;
-use std::fs::{self, DirEntry, Files};
+use std::fs::{self, DirEntry, Files, ReadDir};
 use std::io::{self, ErrorKind};
 
-/// The names of all files below a folder. A link is no file and no folder here, and a name that isn't UTF-8 is passed over. A folder
-/// that isn't there has none. Each folder is synced, so that what was seen lasts, also where a process that was killed left it so.
+/// Whether a path is that of a file, and of no link.
+pub(crate) fn is_file<R: Files>(rt: &R, path: &str) -> Result<bool, DiskFault> {
+    match fs::symlink_metadata(rt, path) {
+        Ok(found) => Ok(found.is_file()),
+        Err(fault) if fault.kind() == ErrorKind::NotFound => Ok(false),
+        Err(fault) => Err(DiskFault::from(fault)),
+    }
+}
+
+/// The names of all files below a folder. A link is no file and no folder here, and a name that isn't UTF-8 is passed over. So is a folder
+/// below it that may not be read, as the `lost+found` of a file system.
 pub(crate) fn names_below<R: Files + AllocGlobal + Clone + Drop>(
     rt: &R,
     folder: &str,
 ) -> Result<NameIndex, DiskFault> {
     let alloc = rt.alloc();
     let mut names = NameIndex::new(alloc);
-    match fs::metadata(rt, folder) {
-        Err(fault) if fault.kind() == ErrorKind::NotFound => return Ok(names),
-        _ => {}
-    }
     let prefix = prefix_bytes(folder);
     let mut folders = Vec::new(alloc);
-    push_path(alloc, &mut folders, folder)?;
+    let entries = fs::read_dir(rt, folder)?;
+    take_entries(alloc, entries, prefix, &mut folders, &mut names)?;
     for _ in 0..u64::MAX {
         let Some(next) = folders.pop() else {
             return Ok(names);
@@ -32,7 +37,7 @@ pub(crate) fn names_below<R: Files + AllocGlobal + Clone + Drop>(
     Err(DiskFault::Failed)
 }
 
-// Notes what is in a folder, and syncs it.
+// Notes what is in a folder, where it may be read.
 fn take_folder<R: Files + AllocGlobal + Clone + Drop>(
     rt: &R,
     folder: &str,
@@ -40,11 +45,24 @@ fn take_folder<R: Files + AllocGlobal + Clone + Drop>(
     folders: &mut Vec<String>,
     names: &mut NameIndex,
 ) -> Result<(), DiskFault> {
-    let alloc = rt.alloc();
-    for entry in fs::read_dir(rt, folder)? {
+    match fs::read_dir(rt, folder) {
+        Ok(entries) => take_entries(rt.alloc(), entries, prefix, folders, names),
+        Err(fault) if fault.kind() == ErrorKind::PermissionDenied => Ok(()),
+        Err(fault) => Err(DiskFault::from(fault)),
+    }
+}
+
+fn take_entries<R: Files + AllocGlobal + Clone + Drop>(
+    alloc: Global,
+    entries: ReadDir<R>,
+    prefix: usize,
+    folders: &mut Vec<String>,
+    names: &mut NameIndex,
+) -> Result<(), DiskFault> {
+    for entry in entries {
         take_entry(alloc, entry, prefix, folders, names)?;
     }
-    sync_folder(rt, folder)
+    Ok(())
 }
 
 // How many bytes of a path below a folder stand before the name.
@@ -73,7 +91,12 @@ fn take_entry<R: Files + AllocGlobal + Clone + Drop>(
         Err(fault) if fault.kind() == ErrorKind::InvalidFilename => return Ok(()),
         Err(fault) => return Err(DiskFault::from(fault)),
     };
-    let found = entry.file_type()?;
+    let found = match entry.file_type() {
+        Ok(found) => found,
+        // The folder may be read, and nothing in it.
+        Err(fault) if fault.kind() == ErrorKind::PermissionDenied => return Ok(()),
+        Err(fault) => return Err(DiskFault::from(fault)),
+    };
     let path = entry.path().as_str();
     if found.is_dir() {
         push_path(alloc, folders, path)?;

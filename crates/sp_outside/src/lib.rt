@@ -7,6 +7,8 @@
 mod disk;
 mod docroot;
 mod file_name;
+mod folder_boot;
+mod folder_lock;
 mod folder_walk;
 mod laws;
 mod mem_disk;

@@ -6,27 +6,28 @@ use crate::docroot::Docroot;
 use crate::{Disk, DiskFault};
 use sp_base::{ByteBuf, Mem, NameList};
 use std::alloc::Global;
-use std::fs::Files;
+use std::fs::{File, Files};
 
 /// The folder that `RealDisk::new` keeps its files in.
 const DOCROOT: &str = "docroot";
 
-/// Files below a folder of the real system. It tells nothing, and rests on nobody else writing the folder while it is used.
+/// Files below a folder of the real system. It tells nothing, and rests on nobody else writing the folder while it is used. So its first call
+/// locks the folder, and fails where another process has.
 ///
 /// A `put` writes a file beside the old one and renames it, so that at every moment the old file or the new one stands whole, also
-/// where the process is killed. A file whose last segment begins with a dot, and every removal, last over a loss of power; another
-/// file may be lost with the power.
+/// where the process is killed. Nothing is synced: a folder belongs to a boot of the machine, and where its files aren't of this one the first
+/// call removes them all.
 ///
 /// No name leads out of the folder. A name with an empty segment, `.` or `..`, with a NUL, or with the ending of the files beside
 /// names no file, and a symbolic link below the folder is none and isn't followed: `get` finds nothing, `put` of a file takes its
 /// place, and `put` below it fails.
 #[derive(Drop)]
-pub struct RealDisk<R: Files + AllocGlobal + Clone + Drop> {
+pub struct RealDisk<R: Files<File = File> + AllocGlobal + Clone + Drop> {
     docroot: Docroot<R>,
     failed: u64,
 }
 
-impl<R: Files + AllocGlobal + Clone + Drop> RealDisk<R> {
+impl<R: Files<File = File> + AllocGlobal + Clone + Drop> RealDisk<R> {
     /// The files of the folder `docroot`. Nothing is opened.
     pub fn new(rt: R) -> Mem<RealDisk<R>>
         ensures { IfOk result (λ disk. ⟦<RealDisk<R> as Disk>⟧.faults disk ≡ 0) }
@@ -65,7 +66,7 @@ impl<R: Files + AllocGlobal + Clone + Drop> RealDisk<R> {
     }
 }
 
-impl<R: Files + AllocGlobal + Clone + Drop> Disk for RealDisk<R> {
+impl<R: Files<File = File> + AllocGlobal + Clone + Drop> Disk for RealDisk<R> {
     ghost faults = { λ d. d.failed };
 
     ghost files = { λ _. None };

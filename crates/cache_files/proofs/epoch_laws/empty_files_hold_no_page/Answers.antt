@@ -23,7 +23,7 @@ returns-clause-page c = λ key. headless empty key (get-empty by_name (page_head
 pub returns-clause-later : goal.returns-clause-later
 returns-clause-later c = λ stamp held.
     ⊎_elim (λ (page : IsPageStamp empty stamp). absurd (no_head page.1.1.0 (sym (headless empty page.0 (get-empty by_name (page_head_name page.0))).head ∙ page.1.1.1.0)))
-    (λ (folder : IsFolderStamp empty stamp). absurd (no_stamp (stamp.epoch, stamp.count) (sym (ap (option_and_then stat_of) (get-empty by_name (stat_name folder.0))) ∙ folder.1.1))) held
+    (λ (folder : IsFolderStamp empty stamp). absurd (no_stamp (stamp.epoch, stamp.count) (sym (ap (option_and_then stat_of) (get-empty by_name (stat_name folder.0))) ∙ folder.1.1.1))) held
 
 pub returns-clause-epoch : goal.returns-clause-epoch
 returns-clause-epoch c = ap (λ found. unwrap_or (option_and_then epoch_of found) 0) (get-empty by_name epoch_name)

@@ -8,14 +8,14 @@ pub returns-clause-touches : goal.returns-clause-touches
 returns-clause-touches g c =
     let folder = c.args.folder.now in
     let stamp = c.args.stamp in
-    let sets : TouchSets folder stamp = λ old. c.what_a_touch_sets.ensures.touched (Ok tt) (Some old) (Some (files_with_stamp old folder stamp)) folder stamp c.requires.stamped c.numbers_fit.ensures.epoch c.numbers_fit.ensures.count refl in
+    let sets : TouchSets folder stamp = λ old. c.what_a_touch_sets.ensures.touched (Ok tt) (Some old) (Some (files_with_stamp old folder stamp)) folder stamp c.requires c.numbers_fit.ensures.epoch c.numbers_fit.ensures.count refl in
     told_touches c.names_are_apart.ensures.stats folder stamp c.requires sets c.touch.result (g.D.Disk.files c.args.disk.now) (g.D.Disk.files c.touch.new.disk) c.touch.ensures.ok c.touch.ensures.err
 
 pub returns-clause-touched : goal.returns-clause-touched
 returns-clause-touched g c =
     let folder = c.args.folder.now in
     let stamp = c.args.stamp in
-    let sets : TouchSets folder stamp = λ old. c.what_a_touch_sets.ensures.touched (Ok tt) (Some old) (Some (files_with_stamp old folder stamp)) folder stamp c.requires.stamped c.numbers_fit.ensures.epoch c.numbers_fit.ensures.count refl in
+    let sets : TouchSets folder stamp = λ old. c.what_a_touch_sets.ensures.touched (Ok tt) (Some old) (Some (files_with_stamp old folder stamp)) folder stamp c.requires c.numbers_fit.ensures.epoch c.numbers_fit.ensures.count refl in
     told_touched folder stamp sets c.touch.result (g.D.Disk.files c.args.disk.now) (g.D.Disk.files c.touch.new.disk) c.touch.ensures.ok
 
 pub returns-clause-calls : goal.returns-clause-calls

@@ -13,8 +13,9 @@ touch_all-requires g c = λ folder listed.
     let inv = c.args.inv.now in
     let has : Contains (touched_of level inv) folder = subst (λ (fs : List Segments). Contains fs folder) (c.as_slice.ensures ∙ c.in_ok-folders.ensures) listed in
     record {
-      stamped = record { docroot = c.folders_are_mangled.ensures.touched level inv folder has; bytes = c.folders_of_stamps_are_paths.ensures.touched_bytes level inv folder c.a_path_has_bytes.ensures has };
       path = c.folders_of_stamps_are_paths.ensures.touched level inv folder c.depth-depth.ensures.valid has;
+      docroot = c.folders_are_mangled.ensures.touched level inv folder has;
+      bytes = c.folders_of_stamps_are_paths.ensures.touched_bytes level inv folder c.a_path_has_bytes.ensures has;
     }
 
 pub returns-clause-touches : goal.returns-clause-touches

@@ -9,7 +9,7 @@ returns-in-Fresh-clause-opens g c =
     let mid = g.D.Disk.files c.new.new.disk in
     let new = g.D.Disk.files c.cleared.new.disk in
     let opened = c.in_ok-front.ensures in
-    opened_if_cleared c.files_have_names.ensures.beside c.args.beginning c.in-Fresh.is c.args.farm c.args.publisher old mid new (g.D.Disk.faults c.cleared.new.disk) c.in_ok-front.front c.cleared.result
+    opened_if_cleared c.args.beginning c.in-Fresh.is c.args.farm c.args.publisher old mid new (g.D.Disk.faults c.cleared.new.disk) c.in_ok-front.front c.cleared.result
     (ap (λ (r : PublisherRenderer). r.publisher) opened.renderer) opened.opened opened.after c.cleared.ensures.same c.cleared.ensures.stands
 
 pub returns-in-Fresh-clause-calls : goal.returns-in-Fresh-clause-calls

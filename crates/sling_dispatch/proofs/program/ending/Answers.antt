@@ -1,7 +1,7 @@
 use Rattle.std.proofs.Common.{◌++◌, ◌∷◌, [], Option, IfNone, IfSome, codes, map, refl, ap, subst}
 use Rattle.serve_loop.specs.Served.{disk_report, world_report}
 use Rattle.sling_dispatch.specs.Endings.{IsDue, UsageLine}
-use Rattle.sling_dispatch.specs.Forms.{Asks, IsForm}
+use Rattle.sling_dispatch.specs.Forms.{AsksFor, HasForm}
 use Rattle.sling_dispatch.specs.InnerServing.{IsScenarioOr, IsSummaryOr}
 use Rattle.sling_dispatch.specs.Reports.{IsWorldUntouched, RunCall, call_of, report_of}
 use Rattle.sling_dispatch.specs.declared.ending.Ending.TheVariants.{Usage}
@@ -44,7 +44,7 @@ returns-in_default-asked-clause-ending g c =
     let words = map (λ w. w.now) c.args.words.now in
     let call : RunCall = call_of words (report_of left left reads reads) (report_of contents contents tries tries) (disk_report files files faults faults) (world_report log log next next send send) in
     let apart : IsWorldUntouched call.world = record { log = refl; next_count = refl; send_count = refl } in
-    let none = subst (λ (f : Option Form). IfNone f (IsForm words → ⊥)) c.in_default-asked.is c.in-Ok.ensures.none in
+    let none = subst (λ (f : Option Form). IfNone f (HasForm words → ⊥)) c.in_default-asked.is c.in-Ok.ensures.none in
     let due : IsDue call UsageLine = (none, (refl, refl)) in
     let text = codes "usage: replay | soak N | scenario N | serve CONTENT ANY TURNS fresh|warm" ++ 10 ∷ [] in
     told_line (IsDue call) UsageLine Usage c.say.result text (report_of (g.K.Sink.held o.sink) (g.K.Sink.held c.say.new.sink) (g.K.Sink.faults o.sink) (g.K.Sink.faults c.say.new.sink)) due refl (λ m. m) refl c.say.ensures
@@ -60,8 +60,8 @@ returns-in-Replay-clause-ending g c =
     let next = g.W.World.next_faults o.world in
     let send = g.W.World.send_faults o.world in
     let words = map (λ w. w.now) c.args.words.now in
-    let asks = subst (λ (f : Option Form). IfSome f (Asks words)) c.in-Some.is c.in-Ok.ensures.some in
-    let is = subst (Asks words) c.in-Replay.is asks in
+    let asks = subst (λ (f : Option Form). IfSome f (AsksFor words)) c.in-Some.is c.in-Ok.ensures.some in
+    let is = subst (AsksFor words) c.in-Replay.is asks in
     c.replay_source.ensures.ending words (report_of contents contents tries tries) (disk_report files files faults faults) (world_report log log next next send send) is.words_are
     (record { log = refl; next_count = refl; send_count = refl })
 
@@ -80,9 +80,9 @@ returns-in-Scenario-clause-ending g c =
     let words = map (λ w. w.now) c.args.words.now in
     let call : RunCall = call_of words (report_of left left reads reads) (report_of contents contents tries tries) (disk_report files files faults faults) (world_report log log next next send send) in
     let apart : IsWorldUntouched call.world = record { log = refl; next_count = refl; send_count = refl } in
-    let asks = subst (λ (f : Option Form). IfSome f (Asks words)) c.in-Some.is c.in-Ok.ensures.some in
+    let asks = subst (λ (f : Option Form). IfSome f (AsksFor words)) c.in-Some.is c.in-Ok.ensures.some in
     let number = c.in-Scenario.number in
-    means_weaker (IsScenarioOr number) (IsDue call) (due_generated call number apart (subst (Asks words) c.in-Scenario.is asks) (refl, refl)) c.write_scenario.result
+    means_weaker (IsScenarioOr number) (IsDue call) (due_generated call number apart (subst (AsksFor words) c.in-Scenario.is asks) (refl, refl)) c.write_scenario.result
     (report_of (g.K.Sink.held o.sink) (g.K.Sink.held c.write_scenario.new.sink) (g.K.Sink.faults o.sink) (g.K.Sink.faults c.write_scenario.new.sink))
     c.write_scenario.ensures
 
@@ -101,9 +101,9 @@ returns-in-Soak-clause-ending g c =
     let words = map (λ w. w.now) c.args.words.now in
     let call : RunCall = call_of words (report_of left left reads reads) (report_of contents contents tries tries) (disk_report files files faults faults) (world_report log log next next send send) in
     let apart : IsWorldUntouched call.world = record { log = refl; next_count = refl; send_count = refl } in
-    let asks = subst (λ (f : Option Form). IfSome f (Asks words)) c.in-Some.is c.in-Ok.ensures.some in
+    let asks = subst (λ (f : Option Form). IfSome f (AsksFor words)) c.in-Some.is c.in-Ok.ensures.some in
     let number = c.in-Soak.number in
-    means_weaker (IsSummaryOr number) (IsDue call) (due_summary call number apart (subst (Asks words) c.in-Soak.is asks) (refl, refl)) c.soak.result
+    means_weaker (IsSummaryOr number) (IsDue call) (due_summary call number apart (subst (AsksFor words) c.in-Soak.is asks) (refl, refl)) c.soak.result
     (report_of (g.K.Sink.held o.sink) (g.K.Sink.held c.soak.new.sink) (g.K.Sink.faults o.sink) (g.K.Sink.faults c.soak.new.sink))
     c.soak.ensures
 
@@ -112,7 +112,7 @@ returns-in-Serve-clause-ending g c =
     let o = c.args.outside.now in
     let n = c.serve_named.new.outside in
     let words = map (λ w. w.now) c.args.words.now in
-    let asks = subst (λ (f : Option Form). IfSome f (Asks words)) c.in-Some.is c.in-Ok.ensures.some in
+    let asks = subst (λ (f : Option Form). IfSome f (AsksFor words)) c.in-Some.is c.in-Ok.ensures.some in
     let same = c.serve_named.ensures.source in
     c.serve_named.ensures.ending words (report_of (g.S.Source.left o.source) (g.S.Source.left n.source) (g.S.Source.faults o.source) (g.S.Source.faults n.source))
-    (subst (Asks words) c.in-Serve.is asks) (ap g.S.Source.left same, ap g.S.Source.faults same)
+    (subst (AsksFor words) c.in-Serve.is asks) (ap g.S.Source.left same, ap g.S.Source.faults same)

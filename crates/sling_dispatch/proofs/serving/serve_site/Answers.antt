@@ -2,7 +2,7 @@ use Rattle.std.proofs.Common.{refl}
 use Rattle.front.specs.Boards.{at_disk}
 use Rattle.serve_loop.specs.Served.{disk_report, world_report}
 use Rattle.sling_dispatch.specs.Endings.{IsDue}
-use Rattle.sling_dispatch.specs.InnerServing.{IsOfEnd, IsOpeningOr}
+use Rattle.sling_dispatch.specs.InnerServing.{IsOfServeEnd, IsOpeningOr}
 use Rattle.sling_dispatch.specs.Reports.{call_of, report_of}
 use Rattle.sling_dispatch.proofs.Meanings.{means_weaker}
 use Rattle.sling_dispatch.proofs.Openings.{due_unopened, serves}
@@ -46,7 +46,7 @@ returns-clause-ending g c = λ asked source inputs has.
     let words = c.args.words.now in
     let e = c.in-Ok.ensures in
     let call = call_of asked source inputs (disk_report old new before after) world in
-    means_weaker (IsOfEnd end words) (IsDue call)
+    means_weaker (IsOfServeEnd end words) (IsDue call)
     (due_end call end words
     (serves c.events_leave_nothing_due.ensures.start words c.args.publisher front.renderer.publisher c.args.farm end b asked source inputs old mid new before after count world has e.epoch e.opens e.cause
     c.serve-end.ensures.served c.serve-end.ensures.cause))

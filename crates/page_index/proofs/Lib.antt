@@ -1,0 +1,5 @@
+mod KeyLemmas
+mod StampLemmas
+mod HeldLemmas
+mod IndexLemmas
+mod AgreementLemmas

@@ -1,0 +1,5 @@
+pub mod Limits
+pub mod Held
+pub mod Notes
+pub mod Effects
+pub mod Agreement

@@ -1,0 +1,11 @@
+pub mod TextLemmas
+pub mod WalkLemmas
+pub mod MarkLemmas
+pub mod MatchLemmas
+pub mod LeadLemmas
+pub mod StandLemmas
+pub mod SoundLemmas
+pub mod FaultLemmas
+pub mod TreeLemmas
+pub mod ReadLemmas
+pub mod PlaceLemmas

@@ -1,0 +1,59 @@
+-- The places of a tree, and the tree of them.
+use Rattle.std.proofs.Common.{◌≡◌, ◌≢◌, ◌↔◌, ◌⊎◌, inl, inr, ℕ, List, [], ◌∷◌, ◌++◌, Ok, Err, Result, refl, ap, sym, ◌∙◌, subst, append_assoc}
+use Rattle.std.proofs.lemmas.List.{append-nil}
+use Rattle.regex_rules.specs.declared.place.Place.{Place}
+use Rattle.regex_rules.specs.declared.place.Place.TheVariants.{One, Open, Bar, Close}
+use Rattle.regex_rules.specs.declared.fault.PatternFault.{PatternFault}
+use Rattle.regex_rules.specs.declared.fault.PatternFault.TheVariants.{NoMemory}
+use Rattle.regex_rules.specs.Trees.{Tree, Empty, Char, Bracket, Or, places_of, tree_of, grown_all, innermost}
+use Rattle.regex_rules.specs.Spelling.{IsPattern, strict}
+use Rattle.regex_rules.specs.Faults.{IsFault}
+use Rattle.regex_rules.specs.Reading.{read_from, unread}
+use Rattle.regex_rules.proofs.LeadLemmas.{whole_read}
+use Rattle.regex_rules.proofs.FaultLemmas.{Says, read_says}
+
+grows : (tree : Tree) (places : List Place) (around : List Tree) → grown_all (places_of tree ++ places) (Empty ∷ around) ≡ grown_all places (tree ∷ around)
+grows Empty places around = refl
+grows (Char rows one repeat) places around =
+    ap (λ (ps : List Place). grown_all ps (Empty ∷ around)) (append_assoc (places_of rows) (One one repeat ∷ []) places) ∙ grows rows (One one repeat ∷ places) around
+grows (Bracket rows inner repeat) places around =
+    ap (λ (ps : List Place). grown_all ps (Empty ∷ around)) (append_assoc (places_of rows) (Open ∷ places_of inner ++ (Close repeat ∷ [])) places ∙ ap (λ (ps : List Place). places_of rows ++ (Open ∷ ps)) (append_assoc (places_of inner) (Close repeat ∷ []) places))
+    ∙ grows rows (Open ∷ (places_of inner ++ (Close repeat ∷ places))) around ∙ grows inner (Close repeat ∷ places) (rows ∷ around)
+grows (Or rows) places around = ap (λ (ps : List Place). grown_all ps (Empty ∷ around)) (append_assoc (places_of rows) (Bar ∷ []) places) ∙ grows rows (Bar ∷ places) around
+
+pub tree_of_places : (tree : Tree) → tree_of (places_of tree) ≡ tree
+tree_of_places tree = ap (λ (ps : List Place). innermost (grown_all ps (Empty ∷ []))) (sym (append-nil (places_of tree))) ∙ ap innermost (grows tree [] [])
+
+-- what is read has the places of its tree
+pub read_held : (cs : List ℕ) (places : List Place) → read_from strict 0 unread cs ≡ Ok places → places_of (tree_of places) ≡ places
+read_held cs places e =
+    let s = read_says cs (Ok places) e in
+    ap (λ (ps : List Place). places_of (tree_of ps)) s.2 ∙ ap places_of (tree_of_places s.0) ∙ sym s.2
+
+abbrev done : List Place → Result (List Place) PatternFault
+done places = Ok places
+
+ok_is : (xs ys : List Place) → done xs ≡ done ys → xs ≡ ys
+ok_is xs ys e = cc
+
+pub spelled_is : (cs : List ℕ) (places : List Place) → read_from strict 0 unread cs ≡ Ok places → (tree : Tree) → IsPattern cs tree ↔ tree ≡ tree_of places
+spelled_is cs places e tree = (
+  λ spelled. sym (ap tree_of (sym (ok_is (places_of tree) places (sym (whole_read strict cs tree spelled) ∙ e))) ∙ tree_of_places tree),
+  λ same.
+      let s = read_says cs (Ok places) e in
+      subst (IsPattern cs) (sym (same ∙ ap tree_of s.2 ∙ tree_of_places s.0)) s.1,
+)
+
+pub fault_is : (cs : List ℕ) (fault : PatternFault) → (fault ≢ NoMemory → read_from strict 0 unread cs ≡ Err fault) → fault ≢ NoMemory → IsFault fault cs
+fault_is cs fault e memory = read_says cs (Err fault) (e memory)
+
+pub one_tree : (cs : List ℕ) (tree other : Tree) → IsPattern cs tree → IsPattern cs other → tree ≡ other
+one_tree cs tree other s t =
+    sym (tree_of_places tree) ∙ ap tree_of (ok_is (places_of tree) (places_of other) (sym (whole_read strict cs tree s) ∙ whole_read strict cs other t)) ∙ tree_of_places other
+
+pub tree_or_fault : (cs : List ℕ) → ((tree : Tree) × IsPattern cs tree) ⊎ ((fault : PatternFault) × IsFault fault cs)
+tree_or_fault cs = go (read_from strict 0 unread cs) (read_says cs (read_from strict 0 unread cs) refl)
+  where
+    go : (answer : Result (List Place) PatternFault) → Says cs answer → ((tree : Tree) × IsPattern cs tree) ⊎ ((fault : PatternFault) × IsFault fault cs)
+    go (Ok places) s = inl (s.0, s.1)
+    go (Err fault) s = inr (fault, s)

@@ -1,0 +1,27 @@
+//! Regular expressions of a small language of their own, over the characters of whole texts.
+#![tactic(auto)]
+
+mod character;
+mod chars;
+mod class_reader;
+mod fault;
+mod frames;
+mod laws;
+mod level;
+mod marks;
+mod matching;
+mod mode;
+mod pattern;
+mod place;
+mod place_list;
+mod read;
+mod reader;
+mod repeat;
+mod walk;
+
+pub use character::{CharClass, CharRange, OneChar};
+pub use fault::PatternFault;
+pub use laws::a_text_and_its_tree;
+pub use pattern::Pattern;
+pub use place::Place;
+pub use repeat::Repeat;

@@ -1,0 +1,57 @@
+//! A pattern, and which texts it matches.
+ghost use Rattle.std.specs.Prelude.{◌≡◌, ◌≢◌, ◌↔◌, IsTrue, IfOk, IfErr};
+ghost use Rattle.std.specs.Str.{chars};
+ghost use Rattle.regex_rules.specs.Trees.{Tree, tree_of};
+ghost use Rattle.regex_rules.specs.Languages.{InLanguage};
+ghost use Rattle.regex_rules.specs.Spelling.{IsPattern};
+ghost use Rattle.regex_rules.specs.Faults.{IsFault};
+
+use crate::matching::is_match;
+use crate::read::read_places;
+use crate::{PatternFault, Place};
+use sp_base::Mem;
+use std::alloc::Global;
+use std::marker::Model;
+
+/// A regular expression for whole texts. Contracts see its places, and their tree.
+#[derive(Drop)]
+pub struct Pattern {
+    pub(crate) places: Vec<Place>,
+}
+
+impl Model for Pattern {
+    ghost use Rattle.std.specs.Prelude.{◌≡◌};
+    ghost use Rattle.std.specs.Prelude.{List};
+    ghost use Rattle.regex_rules.specs.Trees.{tree_of, places_of};
+    ghost use Rattle.regex_rules.specs.declared.place.Place.{Place};
+
+    ghost Value = { List Place };
+
+    ghost view = { λ p. p.places.items };
+
+    ghost invariant = { λ p. places_of (tree_of p.places.items) ≡ p.places.items };
+}
+
+impl Pattern {
+    /// Reads a pattern. `.` is any character but a newline, `[..]` one of a class, `\` takes away what the next character means, and
+    /// any other character is itself. `*`, `+` and `?` say how often what stands before them stands, `|` parts rows of which one is
+    /// to match, and brackets hold rows. A `^` at the beginning and a `$` at the end mean nothing, since whole texts are matched.
+    #[tactic(auto, using(crate::proofs::TreeLemmas::fault_is, crate::proofs::TreeLemmas::read_held))]
+    pub fn read(alloc: Global, text: &str) -> Result<Pattern, PatternFault>
+        ensures spelled { IfOk result (λ p. (tree : Tree) → IsPattern (chars text.now) tree ↔ tree ≡ tree_of p) }
+        ensures fault { IfErr result (λ e. e ≢ PatternFault.NoMemory → IsFault e (chars text.now)) }
+    {
+        match read_places(alloc, text) {
+            Ok(places) => Ok(Pattern { places }),
+            Err(fault) => Err(fault),
+        }
+    }
+
+    /// Whether the whole text is in the pattern's language. The time that it takes is the number of the text's characters times that
+    /// of the pattern's at most. Memory is taken for two sets of the pattern's places, and for its open brackets.
+    pub fn matches(&self, alloc: Global, text: &str) -> Mem<bool>
+        ensures { IfOk result (λ answer. IsTrue answer ↔ InLanguage (tree_of self.now) (chars text.now)) }
+    {
+        is_match(alloc, self.places.as_slice(), text)
+    }
+}

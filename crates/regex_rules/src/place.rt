@@ -1,0 +1,15 @@
+//! The places of a pattern, in the order of its text.
+use crate::{OneChar, Repeat};
+
+/// A place of a pattern: what stands there.
+#[derive(Drop)]
+pub enum Place {
+    /// One character, and how often.
+    One(OneChar, Repeat),
+    /// `(`
+    Open,
+    /// `|`
+    Bar,
+    /// `)`, and how often what the brackets hold stands.
+    Close(Repeat),
+}

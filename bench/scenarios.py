@@ -159,7 +159,8 @@ class Maker:
         if self.chance(0.3):
             cut = self.draw.randrange(1, len(data))
             self.add(f"bytes {connection} {quoted(data[:cut])}")
-            if self.chance(0.5):
+            # (other bytes within a form would be a form that the model of the site doesn't read)
+            if kind != 7 and self.chance(0.5):
                 self.step()
             data = data[cut:]
         self.add(f"bytes {connection} {quoted(data)}")

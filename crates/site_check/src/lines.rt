@@ -1,0 +1,164 @@
+//! What is wrong, as lines.
+
+use crate::excerpt::{push_excerpt, push_place};
+use any_config::{AnyFault, FarmFault};
+use content_json::ContentFault;
+use outside_world::InputFault;
+use site_faults::ScriptFault;
+use sp_base::{Mem, Path};
+use std::alloc::Global;
+
+fn push(out: &mut Vec<u8>, bytes: &[u8]) -> Mem<()> {
+    out.extend_from_slice(bytes)?;
+    Ok(())
+}
+
+// What is wrong at a place of a text: a line that says so, and the text with a caret.
+fn push_placed(alloc: Global, out: &mut Vec<u8>, text: &[u8], at: usize, what: &[u8]) -> Mem<()> {
+    push_place(alloc, out, text, at)?;
+    push(out, what)?;
+    push(out, b"\n")?;
+    push_excerpt(out, text, at)
+}
+
+/// What is wrong with the script at a path.
+pub fn push_script_fault(
+    alloc: Global,
+    out: &mut Vec<u8>,
+    path: &Path,
+    text: &[u8],
+    fault: ScriptFault,
+) -> Mem<()> {
+    push(out, b"fault: ")?;
+    push(out, path.as_text().as_bytes())?;
+    push(out, b":")?;
+    match fault {
+        ScriptFault::Unclosed(at) => push_placed(
+            alloc,
+            out,
+            text,
+            at,
+            b"no } closes this expression",
+        ),
+        ScriptFault::Unexpected(at) => {
+            push_placed(alloc, out, text, at, b"no expression goes on with this")
+        }
+        ScriptFault::TooDeep(at) => {
+            push_placed(
+                alloc,
+                out,
+                text,
+                at,
+                b"an expression nests deeper than 32 levels",
+            )
+        }
+    }
+}
+
+fn push_at_path(out: &mut Vec<u8>, name: &[u8], path: &Path) -> Mem<()> {
+    push(out, name)?;
+    push(out, b" at ")?;
+    push(out, path.as_text().as_bytes())
+}
+
+fn push_cause(out: &mut Vec<u8>, fault: &ContentFault) -> Mem<()> {
+    match fault {
+        ContentFault::NotJson => push(out, b"NotJson"),
+        ContentFault::NotObject => push(out, b"NotObject"),
+        ContentFault::BadName(path) => push_at_path(out, b"BadName", path),
+        ContentFault::BadNumber(path) => push_at_path(out, b"BadNumber", path),
+        ContentFault::MixedArray(path) => push_at_path(out, b"MixedArray", path),
+        ContentFault::BadOrder(path) => push_at_path(out, b"BadOrder", path),
+        ContentFault::TooBig => push(out, b"TooBig"),
+        ContentFault::NoMemory => Ok(()),
+    }
+}
+
+/// Why the content is refused.
+pub fn push_content_fault(out: &mut Vec<u8>, fault: &ContentFault) -> Mem<()> {
+    push(out, b"fault: content refused: ")?;
+    push_cause(out, fault)?;
+    push(out, b"\n")
+}
+
+/// Why the farm's file can't be read.
+pub fn push_any_fault(alloc: Global, out: &mut Vec<u8>, text: &[u8], fault: AnyFault) -> Mem<()> {
+    push(out, b"fault: farm refused at ")?;
+    match fault {
+        AnyFault::BadName(at) => push_placed(
+            alloc,
+            out,
+            text,
+            at,
+            b"BadName, no member with a value begins here",
+        ),
+        AnyFault::BadQuote(at) => push_placed(
+            alloc,
+            out,
+            text,
+            at,
+            b"BadQuote, these quotes aren't closed on their line",
+        ),
+        AnyFault::TooDeep(at) => push_placed(
+            alloc,
+            out,
+            text,
+            at,
+            b"TooDeep, a group within 32 others",
+        ),
+        AnyFault::Unclosed(at) => push_placed(
+            alloc,
+            out,
+            text,
+            at,
+            b"Unclosed, nothing closes this group",
+        ),
+        AnyFault::NoMemory => Ok(()),
+    }
+}
+
+fn push_member(out: &mut Vec<u8>, cause: &[u8], member: &str) -> Mem<()> {
+    push(out, b"fault: farm refused: ")?;
+    push(out, cause)?;
+    push(out, member.as_bytes())?;
+    push(out, b"\n")
+}
+
+/// Why the file has no farm that can be used.
+pub fn push_farm_fault(out: &mut Vec<u8>, fault: &FarmFault) -> Mem<()> {
+    match fault {
+        FarmFault::Missing(member) => push_member(out, b"Missing ", member.text()),
+        FarmFault::BadKind(member) => push_member(out, b"BadKind ", member.text()),
+        FarmFault::NotSupported(member) => push_member(out, b"NotSupported ", member.text()),
+        FarmFault::NoMemory => Ok(()),
+    }
+}
+
+fn push_number(
+    alloc: Global,
+    out: &mut Vec<u8>,
+    number: usize,
+    one: &[u8],
+    more: &[u8],
+) -> Mem<()> {
+    push(out, number.to_string(alloc)?.as_bytes())?;
+    push(out, if number == 1 { one } else { more })
+}
+
+/// How many faults and warnings there are.
+pub fn push_counts(alloc: Global, out: &mut Vec<u8>, faults: usize, warnings: usize) -> Mem<()> {
+    push_number(alloc, out, faults, b" fault, ", b" faults, ")?;
+    push_number(alloc, out, warnings, b" warning\n", b" warnings\n")
+}
+
+/// The line of a file that wasn't read.
+pub fn unread_line(alloc: Global, fault: InputFault, name: &str) -> Mem<Vec<u8>> {
+    let mut line = Vec::new(alloc);
+    match fault {
+        InputFault::TooLong => push(&mut line, b"input too long: ")?,
+        _ => push(&mut line, b"input failed: ")?,
+    }
+    push(&mut line, name.as_bytes())?;
+    push(&mut line, b"\n")?;
+    Ok(line)
+}

@@ -1,0 +1,162 @@
+//! Warnings, as lines.
+
+use any_config::AnyNode;
+use resource_tree::Tree;
+use site_faults::{
+    IdleCause, MappingEnd, idle_entries, idle_hidings, lost_mappings, passed_members,
+    shared_claims, unreached_scripts, unrendered_types,
+};
+use sp_base::{Mem, TextBuf};
+use std::alloc::Global;
+use std::collections::BTreeMap;
+
+/// Lines, each once, in the order of their bytes.
+pub type WarningLines = BTreeMap<TextBuf, ()>;
+
+// Adds a line of these parts.
+fn warn(lines: &mut WarningLines, alloc: Global, parts: &[&str]) -> Mem<()> {
+    let mut line = String::from_str(alloc, "warning: ")?;
+    for part in parts {
+        line.push_str(*part)?;
+    }
+    line.push_str("\n")?;
+    lines.insert(TextBuf::from(line), ())?;
+    Ok(())
+}
+
+fn warn_of_scripts(lines: &mut WarningLines, alloc: Global, tree: &Tree) -> Mem<()> {
+    let told = unreached_scripts(alloc, tree)?;
+    for (path, _) in &told {
+        warn(
+            lines,
+            alloc,
+            &[
+                path.as_text(),
+                ": no resource has a type that reaches this script",
+            ],
+        )?;
+    }
+    Ok(())
+}
+
+fn warn_of_types(lines: &mut WarningLines, alloc: Global, tree: &Tree) -> Mem<()> {
+    let told = unrendered_types(alloc, tree)?;
+    for (name, path) in &told {
+        warn(
+            lines,
+            alloc,
+            &[path.as_text(), ": no script renders its type ", name.text()],
+        )?;
+    }
+    Ok(())
+}
+
+fn warn_of_claims(lines: &mut WarningLines, alloc: Global, tree: &Tree) -> Mem<()> {
+    let told = shared_claims(alloc, tree)?;
+    for shared in told.as_slice() {
+        warn(
+            lines,
+            alloc,
+            &[
+                shared.other.as_text(),
+                ": claims ",
+                shared.claim.text(),
+                ", as ",
+                shared.first.as_text(),
+                " does",
+            ],
+        )?;
+    }
+    Ok(())
+}
+
+fn warn_of_mappings(lines: &mut WarningLines, alloc: Global, tree: &Tree) -> Mem<()> {
+    let told = lost_mappings(alloc, tree)?;
+    for lost in told.as_slice() {
+        let node = lost.node.as_text();
+        match &lost.end {
+            MappingEnd::Somewhere => (),
+            MappingEnd::Nowhere(text) => {
+                warn(
+                    lines,
+                    alloc,
+                    &[node, ": maps to ", text.text(), ", where no resource is"],
+                )?;
+            }
+            MappingEnd::InCircles => {
+                warn(lines, alloc, &[node, ": redirects in a circle"])?;
+            }
+        }
+    }
+    Ok(())
+}
+
+fn warn_of_hidings(lines: &mut WarningLines, alloc: Global, tree: &Tree) -> Mem<()> {
+    let told = idle_hidings(alloc, tree)?;
+    for idle in told.as_slice() {
+        warn(
+            lines,
+            alloc,
+            &[
+                idle.node.as_text(),
+                ": ",
+                idle.property.text(),
+                " hides nothing",
+            ],
+        )?;
+    }
+    Ok(())
+}
+
+/// What is likely to be a mistake in a content.
+pub fn content_warnings(alloc: Global, tree: &Tree) -> Mem<WarningLines> {
+    let mut lines = BTreeMap::new(alloc);
+    warn_of_scripts(&mut lines, alloc, tree)?;
+    warn_of_types(&mut lines, alloc, tree)?;
+    warn_of_claims(&mut lines, alloc, tree)?;
+    warn_of_mappings(&mut lines, alloc, tree)?;
+    warn_of_hidings(&mut lines, alloc, tree)?;
+    Ok(lines)
+}
+
+fn warn_of_members(lines: &mut WarningLines, alloc: Global, top: &AnyNode) -> Mem<()> {
+    let told = passed_members(alloc, top)?;
+    for member in told.as_slice() {
+        warn(
+            lines,
+            alloc,
+            &[
+                "/",
+                member.name.text(),
+                " of ",
+                member.group.text(),
+                ": this member is passed over",
+            ],
+        )?;
+    }
+    Ok(())
+}
+
+fn warn_of_entries(lines: &mut WarningLines, alloc: Global, top: &AnyNode) -> Mem<()> {
+    let told = idle_entries(alloc, top)?;
+    for entry in told.as_slice() {
+        let cause = match entry.cause {
+            IdleCause::DecidedLater => ": a later entry decides all that this one applies to",
+            IdleCause::NotAdmitted => ": the filter admits nothing that this one applies to",
+        };
+        warn(
+            lines,
+            alloc,
+            &["/", entry.name.text(), " of ", entry.list.text(), cause],
+        )?;
+    }
+    Ok(())
+}
+
+/// What is likely to be a mistake in a farm.
+pub fn farm_warnings(alloc: Global, top: &AnyNode) -> Mem<WarningLines> {
+    let mut lines = BTreeMap::new(alloc);
+    warn_of_members(&mut lines, alloc, top)?;
+    warn_of_entries(&mut lines, alloc, top)?;
+    Ok(lines)
+}

@@ -1,0 +1,63 @@
+-- The scripts of a content whose texts are no templates (HTL specification 1.4, "Expression Language"), each with the first byte that is wrong.
+use Rattle.std.specs.Prelude.{◌≡◌, ◌+◌, ◌&&◌, ◌||◌, ℕ, Bool, false, if◌then◌else◌, nat_eq, List, Option, Some, None, option_and_then, Result, Ok, Err, codes, drop, slice_get}
+use Rattle.std.specs.Cmp.Lexicographic.{pointwise}
+use Rattle.std.specs.List.{ends_with}
+use Rattle.std.specs.List.Sorted.{IsStrictlySortedBy}
+use Rattle.std.specs.Map.{lookup, keys_of}
+use Rattle.sp_base.specs.Paths.{by_path, name_of}
+use Rattle.resource_tree.specs.Content.{Content, same_path}
+use Rattle.script_rank.specs.Ranking.{is_script, script_text}
+use Rattle.htl_syntax.specs.Fault.{expression_of}
+use Rattle.htl_syntax.specs.declared.expression.Expression.{Expression}
+use Rattle.htl_syntax.specs.declared.expression.ExprFault.{ExprFault}
+use Rattle.htl_syntax.specs.declared.expression.ExprFault.TheVariants as expression
+use Rattle.htl_text.specs.Template.{template_of}
+use Rattle.htl_text.specs.declared.fault.TextFault.{TextFault}
+use Rattle.htl_text.specs.declared.fault.TextFault.TheVariants as text
+use Rattle.htl_text.specs.declared.piece.TemplatePiece.{TemplatePiece}
+use Rattle.site_faults.specs.declared.script_fault.ScriptFault.{ScriptFault}
+use Rattle.site_faults.specs.declared.script_fault.ScriptFault.TheVariants.{Unclosed, Unexpected, TooDeep}
+
+-- ---- the fault of a text
+
+-- the text after the `${` at a place
+abbrev pub after_opening : List ℕ → ℕ → List ℕ
+after_opening t place = drop (place + 2) t
+
+-- what is wrong with the expression that opens at a place: the first byte after its `${` with which no expression goes on
+abbrev pub expression_fault : ℕ → Result Expression ExprFault → ScriptFault
+expression_fault place (Err (expression.Unexpected at)) = Unexpected (place + 2 + at)
+expression_fault place (Err (expression.TooDeep at)) = TooDeep (place + 2 + at)
+expression_fault place (Err expression.NoMemory) = Unexpected place
+expression_fault place (Ok e) = Unexpected place
+
+-- what is wrong with a text of which this was read
+abbrev pub fault_of_reading : List ℕ → Result (List TemplatePiece) TextFault → Option ScriptFault
+fault_of_reading t (Ok pieces) = None
+fault_of_reading t (Err (text.Unclosed place)) = Some (Unclosed place)
+fault_of_reading t (Err (text.BadExpr place)) = Some (expression_fault place (expression_of (after_opening t place)))
+fault_of_reading t (Err text.NoMemory) = None
+
+-- what is wrong with a text, where it is no template
+abbrev pub fault_of_text : List ℕ → Option ScriptFault
+fault_of_text t = fault_of_reading t (template_of t)
+
+-- ---- the faults of a content
+
+-- whether this is the first segment of a search path, `apps` or `libs`
+abbrev pub is_search_top : Option (List ℕ) → Bool
+is_search_top None = false
+is_search_top (Some top) = pointwise nat_eq top (codes "apps") || pointwise nat_eq top (codes "libs")
+
+-- whether a path is that of a script of a type: it is below a search path, and its name ends in `.html`
+abbrev pub is_script_path : List (List ℕ) → Bool
+is_script_path path = is_search_top (slice_get path 0) && ends_with nat_eq (name_of path) (codes ".html")
+
+-- what is wrong with the script at a path, where one is there whose text is no template
+abbrev pub script_fault_at : Content → List (List ℕ) → Option ScriptFault
+script_fault_at tree path = if is_script_path path && is_script tree path then option_and_then fault_of_text (script_text tree path) else None
+
+-- Each script whose text is no template is told with what is wrong, and nothing else is, in the order of the paths.
+pub record AreScriptFaults (tree : Content) (told : List (List (List ℕ) × ScriptFault)) : Type 0 where
+  pub ordered : IsStrictlySortedBy by_path (keys_of told)
+  pub each : (path : List (List ℕ)) → lookup (same_path path) told ≡ script_fault_at tree path

@@ -1,0 +1,172 @@
+//! Entries of a farm's lists that decide nothing.
+
+use crate::farm_members::{FarmMember, farm_members, members_at, members_of};
+use any_config::AnyNode;
+use sp_base::{Items, Mem, TextBuf};
+use std::alloc::Global;
+
+/// Why an entry of a list decides nothing.
+#[derive(Clone, Copy, PartialEq, Eq, Drop)]
+pub enum IdleCause {
+    /// A later entry applies to all, and the last that applies decides.
+    DecidedLater,
+    /// The filter allows no path that it applies to.
+    NotAdmitted,
+}
+
+/// An entry that decides nothing, by its list and its name.
+#[derive(Drop)]
+pub struct IdleEntry {
+    pub list: TextBuf,
+    pub name: TextBuf,
+    pub cause: IdleCause,
+}
+
+pub type IdleEntryList = Items<IdleEntry>;
+
+fn tell_entry(
+    told: &mut IdleEntryList,
+    alloc: Global,
+    list: &str,
+    entry: &FarmMember,
+    cause: IdleCause,
+) -> Mem<()> {
+    told.push(IdleEntry {
+        list: TextBuf::of(alloc, list)?,
+        name: TextBuf::of(alloc, entry.0.text())?,
+        cause,
+    })
+}
+
+// ---- what a later entry decides
+
+fn is_word(node: &AnyNode, word: &str) -> bool {
+    match node {
+        AnyNode::Word(text) => text.text() == word,
+        _ => false,
+    }
+}
+
+// Whether an entry applies to all: each glob that it has is a star.
+fn applies_to_all(entry: &FarmMember) -> bool {
+    for member in members_of(&entry.1) {
+        if member.0.text() != "type" && !is_word(&member.1, "*") {
+            return false;
+        }
+    }
+    true
+}
+
+// How many entries stand before the last one that applies to all.
+fn decided_count(entries: &[FarmMember]) -> usize {
+    let mut count = 0;
+    for place in 0..entries.len() {
+        if applies_to_all(&entries[place]) {
+            count = place;
+        }
+    }
+    count
+}
+
+fn tell_decided(
+    told: &mut IdleEntryList,
+    alloc: Global,
+    list: &str,
+    entries: &[FarmMember],
+) -> Mem<()> {
+    for entry in entries.iter().take(decided_count(entries)) {
+        tell_entry(told, alloc, list, entry, IdleCause::DecidedLater)?;
+    }
+    Ok(())
+}
+
+// ---- what the filter admits
+
+// The word under a name, if there is one.
+fn word_at<'a>(members: &'a [FarmMember], name: &str) -> Option<&'a str> {
+    for member in members {
+        if member.0.text() == name {
+            return match &member.1 {
+                AnyNode::Word(text) => Some(text.text()),
+                _ => None,
+            };
+        }
+    }
+    None
+}
+
+// What each text that a glob matches begins with. It ends before a colon or an underscore, since a rule is asked for the path with
+// namespaces mangled, and the filter for the one without.
+fn beginning(glob: &str) -> &[u8] {
+    let bytes = glob.as_bytes();
+    for at in 0..bytes.len() {
+        if matches!(bytes[at], b'*' | b'?' | b'[' | b':' | b'_') {
+            return &bytes[..at];
+        }
+    }
+    bytes
+}
+
+// Whether some text may begin with both.
+fn may_agree(one: &[u8], other: &[u8]) -> bool {
+    one.starts_with(other) || other.starts_with(one)
+}
+
+// Whether an entry of the filter may allow a path with this beginning.
+fn may_allow(entry: &FarmMember, start: &[u8]) -> bool {
+    let members = members_of(&entry.1);
+    if word_at(members, "type") != Some("allow") {
+        return false;
+    }
+    for name in ["url", "path"] {
+        if let Some(glob) = word_at(members, name) {
+            if !may_agree(beginning(glob), start) {
+                return false;
+            }
+        }
+    }
+    true
+}
+
+fn is_admitted(filter: &[FarmMember], start: &[u8]) -> bool {
+    for entry in filter {
+        if may_allow(entry, start) {
+            return true;
+        }
+    }
+    false
+}
+
+fn tell_unmet(
+    told: &mut IdleEntryList,
+    alloc: Global,
+    filter: &[FarmMember],
+    list: &str,
+    entries: &[FarmMember],
+) -> Mem<()> {
+    for entry in entries {
+        if let Some(glob) = word_at(members_of(&entry.1), "glob") {
+            if !is_admitted(filter, beginning(glob)) {
+                tell_entry(told, alloc, list, entry, IdleCause::NotAdmitted)?;
+            }
+        }
+    }
+    Ok(())
+}
+
+/// The entries of a file's lists that decide nothing, as far as that is plain: by the order of each list, and by what the texts that a
+/// glob matches begin with.
+pub fn idle_entries(alloc: Global, top: &AnyNode) -> Mem<IdleEntryList> {
+    let mut told = Items::new(alloc);
+    let farm = farm_members(top);
+    let filter = members_at(farm, "filter");
+    let cache = members_at(farm, "cache");
+    tell_decided(&mut told, alloc, "filter", filter)?;
+    for list in ["rules", "invalidate", "allowedClients", "ignoreUrlParams"] {
+        tell_decided(&mut told, alloc, list, members_at(cache, list))?;
+    }
+    for list in ["rules", "invalidate"] {
+        tell_unmet(&mut told, alloc, filter, list, members_at(cache, list))?;
+    }
+    Ok(told)
+}

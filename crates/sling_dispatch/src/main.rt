@@ -28,6 +28,7 @@ use command::command;
 use ending::Ending;
 use outside::Outside;
 use outside_world::RealInputs;
+use reported_world::ReportedWorld;
 use sockets::RealWorld;
 use sp_outside::{RealDisk, RealSink, RealSource, RealWords};
 use std::hash::RandomState;
@@ -50,9 +51,9 @@ fn main(rt: HostRuntime) -> ExitCode {
         sink: RealSink::new(&rt),
         inputs: RealInputs::new(&rt),
         disk,
-        world: RealWorld::new(&rt, PORT),
+        world: ReportedWorld::new(RealWorld::new(&rt, PORT), &rt, PORT),
     };
     let status = command(rt.alloc(), seeds, &words, &mut outside);
-    outside.world.finish();
+    outside.world.end(status).finish();
     ExitCode::from(status)
 }

@@ -15,6 +15,8 @@ mod program;
 mod refusals;
 mod renderer;
 mod replaying;
+#[cfg(test)]
+mod rows;
 mod scripted_disk;
 mod serving;
 mod session;

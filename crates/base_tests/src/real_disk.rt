@@ -148,7 +148,7 @@ fn keeps_and_finds_files(rt: HostRuntime) {
 const ANY_BYTES: &str =
     "\u{1}\u{2}\u{3}\u{4}\u{5}\u{6}\u{7}\u{8}\t\n\u{b}\u{c}\r\u{e}\u{f}\u{10}\u{11}\u{12}\u{13}\u{14}\u{15}\u{16}\u{17}\u{18}\u{19}\u{1a}\u{1b}\u{1c}\u{1d}\u{1e}\u{1f} !\"#$%&'()*+,-.0123456789:;<=>?@ABCDEFGHIJKLMNOPQRSTUVWXYZ[\\]^_`abcdefghijklmnopqrstuvwxyz{|}~\u{7f}\u{e9}\u{20ac}\u{1f600}";
 
-const ANY_FILE: &[(&str, &str)] = &[(ANY_BYTES, "all")];
+const ANY_FILE: &[(&str, &str)] = &[(".epoch", "e"), (ANY_BYTES, "all")];
 
 fn puts_any_file(rt: &HostRuntime) -> bool {
     match fresh(rt, "disk_of_names") {
@@ -160,7 +160,7 @@ fn puts_any_file(rt: &HostRuntime) -> bool {
 fn finds_any_file(rt: &HostRuntime) -> bool {
     match RealDisk::below(rt, "disk_of_names") {
         Ok(mut disk) => {
-            lists(rt.alloc(), &mut disk, &[("", "", 9, &[ANY_BYTES])])
+            lists(rt.alloc(), &mut disk, &[("\u{1}", "", 9, &[ANY_BYTES])])
                 && holds(rt.alloc(), &mut disk, ANY_FILE)
         }
         Err(_) => false,
@@ -302,7 +302,7 @@ fn a_failed_change_leaves_what_is_held(rt: HostRuntime) {
     assert!(rt; leaves_what_is_held(&rt));
 }
 
-pub(crate) const ONE: &[(&str, &str)] = &[("a/x", "1")];
+pub(crate) const ONE: &[(&str, &str)] = &[(".epoch", "e"), ("a/x", "1")];
 
 fn puts_one(rt: &HostRuntime) -> bool {
     match fresh(rt, "disk_of_a_slash") {
@@ -314,7 +314,7 @@ fn puts_one(rt: &HostRuntime) -> bool {
 fn finds_one(rt: &HostRuntime) -> bool {
     match RealDisk::below(rt, "disk_of_a_slash/") {
         Ok(mut disk) => {
-            lists(rt.alloc(), &mut disk, &[("", "", 9, &["a/x"])])
+            lists(rt.alloc(), &mut disk, &[("a", "", 9, &["a/x"])])
                 && holds(rt.alloc(), &mut disk, ONE)
         }
         Err(_) => false,

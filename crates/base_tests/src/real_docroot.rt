@@ -3,7 +3,7 @@ use crate::real_disk::{FILES, NOTHING, ONE, fresh, holds, is_absent, lists, puts
 use sp_base::Mem;
 use sp_outside::{Disk, DiskFault, RealDisk};
 use std::alloc::Global;
-use std::fs::{self, Files};
+use std::fs;
 use std::os::unix::fs::PermissionsExt;
 
 fn puts_files(rt: &HostRuntime, folder: &str) -> bool {
@@ -41,6 +41,13 @@ fn loses_files_of_no_boot(rt: &HostRuntime) -> bool {
         && is_absent(rt, "disk_of_boots/a/x.html")
 }
 
+// No session can go on from the files.
+fn loses_files_of_no_session(rt: &HostRuntime) -> bool {
+    fs::remove_file(rt, "disk_of_boots/.epoch").is_ok()
+        && finds_nothing(rt, "disk_of_boots")
+        && is_absent(rt, "disk_of_boots/a/x.html")
+}
+
 #[test]
 fn files_last_over_no_boot(rt: HostRuntime) {
     assert!(rt; puts_files(&rt, "disk_of_boots"));
@@ -48,6 +55,8 @@ fn files_last_over_no_boot(rt: HostRuntime) {
     assert!(rt; loses_files_of_another_boot(&rt));
     assert!(rt; puts_files(&rt, "disk_of_boots"));
     assert!(rt; loses_files_of_no_boot(&rt));
+    assert!(rt; puts_files(&rt, "disk_of_boots"));
+    assert!(rt; loses_files_of_no_session(&rt));
 }
 
 fn is_kept_out<D: Disk>(alloc: Global, disk: &mut D) -> bool {

@@ -21,6 +21,10 @@ const LONGEST_PATH: usize = 4_095;
 /// The most bytes of a file.
 const LONGEST_FILE: usize = 67_108_864;
 
+/// The file that has the number of the session. Without it no session can tell its stamps from those of the files that stand there, so that they
+/// are removed.
+const SESSION_FILE: &str = ".epoch";
+
 impl From<io::Error> for DiskFault {
     fn from(fault: io::Error) -> DiskFault {
         match fault.kind() {
@@ -97,14 +101,15 @@ impl<R: Files<File = File> + AllocGlobal + Clone + Drop> Docroot<R> {
     }
 
     // Takes the folder and reads the names, where no call has. Files of another boot are removed, since what was removed before it, or
-    // written again, may be as it was.
+    // written again, may be as it was; and so are files without the number of a session.
     fn open(&mut self) -> Result<(), DiskFault> {
         if self.is_open {
             return Ok(());
         }
         self.occupy()?;
         let names = names_below(&self.rt, self.folder.as_str())?;
-        if is_of_this_boot(&self.rt, self.folder.as_str())? {
+        let has_session = names.standing(SESSION_FILE).is_some();
+        if has_session && is_of_this_boot(&self.rt, self.folder.as_str())? {
             self.names = names;
         } else {
             self.remove_all(&names)?;

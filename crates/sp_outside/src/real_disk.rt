@@ -15,8 +15,8 @@ const DOCROOT: &str = "docroot";
 /// locks the folder, and fails where another process has.
 ///
 /// A `put` writes a file beside the old one and renames it, so that at every moment the old file or the new one stands whole, also
-/// where the process is killed. Nothing is synced: a folder belongs to a boot of the machine, and where its files aren't of this one the first
-/// call removes them all.
+/// where the process is killed. Nothing is synced: a folder belongs to a boot of the machine, and where its files aren't of this one, or
+/// `.epoch` isn't among them, the first call removes them all.
 ///
 /// No name leads out of the folder. A name with an empty segment, `.` or `..`, with a NUL, or with the ending of the files beside
 /// names no file, and a symbolic link below the folder is none and isn't followed: `get` finds nothing, `put` of a file takes its

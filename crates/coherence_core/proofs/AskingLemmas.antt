@@ -22,10 +22,12 @@ use Rattle.cache_log.specs.Rules.{AllAllowed, CallConditions, IsOwed}
 use Rattle.coherence_core.specs.Asking.{HasBegunFlush, core_asking, is_barred, next_flight}
 use Rattle.coherence_core.specs.Cores.{StandsOver, conditions_of_call, drawn_of}
 use Rattle.coherence_core.specs.Facts.{CoverageFacts}
+use Rattle.coherence_core.specs.Notes.{KnowsFiles}
 use Rattle.coherence_core.specs.Served.{serves_page}
 use Rattle.coherence_core.specs.Stands.{AreLogFlushes, HasFlush, CoreStands, stamp}
 use Rattle.coherence_core.specs.declared.core_state.Core.{Core}
 use Rattle.coherence_core.specs.declared.pending.Pending.{Pending}
+use Rattle.coherence_core.proofs.NoteLemmas.{apart_kept, apart_push}
 use Rattle.coherence_core.proofs.RequestSteps.{begin, hit, launch}
 use Rattle.coherence_core.proofs.SliceBounds.{adds_none, names_begin, names_stay}
 use Rattle.cache_log.specs.Limits.{most_stamps}
@@ -48,6 +50,16 @@ any_on farm auto k page log begun next (p ∷ ps) all is = ⊎_elim
     (λ (rest : is_barred farm.level auto (Some k) ps ≡ true). any_on farm auto k page log begun next ps all.2 rest)
     (or_cases (covers farm.level auto p.purge.inv k) (is_barred farm.level auto (Some k) ps) is)
 
+-- ---- what is known once a flush has begun
+
+pub begun_known : (core next : Core) (flush : ℕ) (inv : Invalidation) → HasBegunFlush core next flush inv → (files : Files) → KnowsFiles files core → KnowsFiles files next
+begun_known core next flush inv b files k = record {
+  agree = (b.notes files).agree k.agree;
+  apart = rw (b.farm, b.queue) (apart_push core.farm.level next.pages core.queue.items b.last
+      (apart_kept core.farm.level core.pages next.pages ((b.notes files).apart core.farm.level) core.queue.items k.apart)
+      (b.level, rw (b.inv_is) b.forgotten));
+}
+
 -- ---- a hit
 
 module _ (found : ℕ) (core : Core) (up : core.down ≡ false) where
@@ -68,6 +80,7 @@ module _ (found : ℕ) (core : Core) (up : core.down ≡ false) where
       down_is = s.down_is;
       few = s.few;
       slices = names_stay core.farm found 0 files files core.queue.items log (Hit key ∷ log) (adds_none files) (omega arith) (λ v. refl) refl s.slices;
+      knows = s.knows;
     },
   )
 
@@ -101,6 +114,7 @@ module _ (found : ℕ) (core : Core) (up : core.down ≡ false) where
         down_is = s.down_is;
         few = omega (arith, left);
         slices = names_stay core.farm found 0 files files core.queue.items log (Asked (core.asked + 1) key ∷ log) (adds_none files) (omega arith) (λ v. refl) refl s.slices;
+        knows = record { agree = s.knows.agree; apart = s.knows.apart };
       },
     )
 
@@ -127,6 +141,7 @@ module _ (found : ℕ) (core : Core) (up : core.down ≡ false) where
             down_is = b.down ∙ s.down_is;
             few = rw (b.asked, b.begun) (omega (arith, left));
             slices = rw (b.farm, b.queue) (names_begin core.farm found files core.queue.items log flush inv b.last b.number (omega (arith, one)) b.level b.place s.slices one);
+            knows = begun_known core next flush inv b files s.knows;
           },
         )
 

@@ -11,7 +11,10 @@ use Rattle.cache_log.specs.Rules.{AllAllowed, Allowed, CallConditions}
 use Rattle.coherence_core.specs.Asking.{IsSameCore}
 use Rattle.coherence_core.specs.Cores.{ExtendsLogs, StandsFor, StandsOver}
 use Rattle.coherence_core.specs.Holds.{IsNumbered}
+use Rattle.coherence_core.specs.Notes.{KnowsFiles, with_notes}
+use Rattle.page_index.specs.declared.index.PageIndex.{PageIndex}
 use Rattle.coherence_core.specs.declared.core_state.Core.{Core}
+use Rattle.coherence_core.proofs.NoteLemmas.{same_known}
 
 -- ---- keys
 
@@ -70,7 +73,12 @@ over_same found files old new log same s = record {
   down_is = same.down ∙ s.down_is;
   few = rw (same.asked, same.begun) s.few;
   slices = rw (same.farm, same.queue) s.slices;
+  knows = same_known files old new same.farm same.queue same.pages s.knows;
 }
+
+-- so does one that has noted something, if that is known
+pub noting_over : (found : ℕ) (files : Files) (core : Core) (notes : PageIndex) (log : List LogEntry) → StandsOver found files core log → KnowsFiles files (with_notes core notes) → StandsOver found files (with_notes core notes) log
+noting_over found files core notes log s known = record { stands = s.stands; numbered = s.numbered; order = s.order; down_is = s.down_is; few = s.few; slices = s.slices; knows = known }
 
 pub stands_same : (found : ℕ) (told : Option Files) (old new : Core) (log : List LogEntry) → IsSameCore old new → StandsFor found told old log → StandsFor found told new log
 stands_same found None old new log same s = s
@@ -88,4 +96,5 @@ same_core old new is = record {
   begun = ap (λ (c : Core). c.begun) is;
   epoch = ap (λ (c : Core). c.epoch) is;
   down = ap (λ (c : Core). c.down) is;
+  pages = ap (λ (c : Core). c.pages) is;
 }

@@ -31,18 +31,25 @@ use Rattle.cache_log.specs.Rules.{CallConditions, MayStore}
 use Rattle.coherence_core.specs.Bounds.{BoundsSlices, most_files}
 use Rattle.coherence_core.specs.Cores.{ExtendsLogs, StandsFor, StandsOver, conditions_of_call, drawn_of}
 use Rattle.coherence_core.specs.Facts.{CoverageFacts}
-use Rattle.coherence_core.specs.Landings.{DeliveredAs, IsKeptAs, IsKeptFrom, IsStored, fate_of, landed_under}
+use Rattle.coherence_core.specs.Notes.{KnowsFiles, StaysKnown, StaysTold}
+use Rattle.page_index.specs.Agreement.{Agrees, HasNoneCovered}
+use Rattle.page_index.specs.Effects.{ForgetsPage, IsFewer}
+use Rattle.page_index.specs.Notes.{page_noted}
+use Rattle.page_index.specs.declared.index.PageIndex.{PageIndex}
+use Rattle.cover_rules.specs.declared.invalidation.Invalidation.{Invalidation}
+use Rattle.coherence_core.specs.Landings.{DeliveredAs, ForgetsFor, ForgetsFrom, IsKeptAs, IsKeptFrom, IsStored, fate_of, landed_under}
 use Rattle.coherence_core.specs.Served.{Before, IsFresh, stat_for}
 use Rattle.coherence_core.specs.Stands.{IsLogFlight, CoreStands, stamp}
 use Rattle.coherence_core.specs.declared.answers.Landed.{Landed as LandedAs}
 use Rattle.coherence_core.specs.declared.answers.Landed.TheVariants as landed
 use Rattle.coherence_core.specs.declared.core_state.Core.{Core}
+use Rattle.coherence_core.proofs.NoteLemmas.{apart_kept, notes_same}
 use Rattle.coherence_core.proofs.StampLemmas.{epoch_below}
 use Rattle.coherence_core.proofs.FlightLemmas.{flying_at}
 use Rattle.coherence_core.proofs.LandingSteps.{kept, lost, passed, unkept}
 use Rattle.coherence_core.proofs.RestartSteps.{same_files}
 use Rattle.coherence_core.proofs.SliceBounds.{adds_none, names_stay}
-use Rattle.coherence_core.proofs.CallLemmas.{extends, key_cases, numbered_same}
+use Rattle.coherence_core.proofs.CallLemmas.{extends, key_cases, numbered_same, told_map, told_same}
 
 -- ---- answers
 
@@ -102,36 +109,46 @@ module _ (found : ℕ) (core : Core) (n : ℕ) (f : Flight) (at : flight_at n co
       down_is = s.down_is;
       few = s.few;
       slices = names_stay core.farm found 0 files files core.queue.items log (Lost n ∷ log) (adds_none files) (omega arith) (λ v. refl) refl s.slices;
+      knows = record { agree = s.knows.agree; apart = s.knows.apart };
     }),
   ))
 
+  -- what is known of the files once it did, with these notes
+  known_then : (l : List Flight) (notes : PageIndex) (files after : Files) → StaysKnown files after core.pages notes → KnowsFiles files core → KnowsFiles after (record core { flights = l; pages = notes })
+  known_then l notes files after stays k = record {
+    agree = stays.agree k.agree;
+    apart = apart_kept core.farm.level core.pages notes (stays.apart core.farm.level) core.queue.items k.apart;
+  }
+
   -- a landing that isn't stored, since it may not be
-  gone_passed : (told : Option Files) (under : CallConditions) (a : Answer) → ((files : Files) (log : List LogEntry) → StandsOver found files core log → MayStore core.farm log n f.key a → ⊥) → ExtendsLogs core.farm (StandsFor found told core) (StandsFor found told (record core { flights = next })) under (Landed n f.key a Passed ∷ [])
-  gone_passed None under a why = extends (λ log s. absurd s)
-  gone_passed (Some files) under a why = extends (λ log s. (
+  gone_passed : (notes : PageIndex) (told : Option Files) → StaysTold core.pages notes told told → (under : CallConditions) (a : Answer) → ((files : Files) (log : List LogEntry) → StandsOver found files core log → MayStore core.farm log n f.key a → ⊥)
+      → ExtendsLogs core.farm (StandsFor found told core) (StandsFor found told (record core { flights = next; pages = notes })) under (Landed n f.key a Passed ∷ [])
+  gone_passed notes None stays under a why = extends (λ log s. absurd s)
+  gone_passed notes (Some files) stays under a why = extends (λ log s. (
     ((air files log s, why files log s), tt),
-    subst (λ (l : List Flight). StandsOver found files (record core { flights = l }) (Landed n f.key a Passed ∷ log)) (sym is) (record {
+    subst (λ (l : List Flight). StandsOver found files (record core { flights = l; pages = notes }) (Landed n f.key a Passed ∷ log)) (sym is) (record {
       stands = passed core.farm (page_at files) (stamp_at files) (epoch_held files) core.flights core.queue.items core.asked core.begun core.epoch (drawn_of core) log s.stands n (rising files log s) f.key a;
       numbered = s.numbered;
       order = s.order;
       down_is = s.down_is;
       few = s.few;
       slices = names_stay core.farm found 0 files files core.queue.items log (Landed n f.key a Passed ∷ log) (adds_none files) (omega arith) (λ v. refl) refl s.slices;
+      knows = known_then (without n core.flights) notes files files stays s.knows;
     }),
   ))
 
-  unkeyed : (told : Option Files) (under : CallConditions) (a : Answer) → f.key ≡ None → ExtendsLogs core.farm (StandsFor found told core) (StandsFor found told (record core { flights = next })) under (Landed n f.key a Passed ∷ [])
-  unkeyed told under a none = gone_passed told under a (λ files log s may. subst (λ (k : Option PageKey). MayStore core.farm log n k a) none may)
+  unkeyed : (notes : PageIndex) (told : Option Files) → StaysTold core.pages notes told told → (under : CallConditions) (a : Answer) → f.key ≡ None → ExtendsLogs core.farm (StandsFor found told core) (StandsFor found told (record core { flights = next; pages = notes })) under (Landed n f.key a Passed ∷ [])
+  unkeyed notes told stays under a none = gone_passed notes told stays under a (λ files log s may. subst (λ (k : Option PageKey). MayStore core.farm log n k a) none may)
 
-  voided : (told : Option Files) (under : CallConditions) (a : Answer) (key : PageKey) → (f.voided ≡ true) × (f.key ≡ Some key) → ExtendsLogs core.farm (StandsFor found told core) (StandsFor found told (record core { flights = next })) under (Landed n f.key a Passed ∷ [])
-  voided told under a key h = gone_passed told under a (λ files log s may.
+  voided : (notes : PageIndex) (told : Option Files) → StaysTold core.pages notes told told → (under : CallConditions) (a : Answer) (key : PageKey) → (f.voided ≡ true) × (f.key ≡ Some key) → ExtendsLogs core.farm (StandsFor found told core) (StandsFor found told (record core { flights = next; pages = notes })) under (Landed n f.key a Passed ∷ [])
+  voided notes told stays under a key h = gone_passed notes told stays under a (λ files log s may.
       let k = known files log s in
       let clear : IsClear core.farm log n key = (subst (λ (x : Option PageKey). MayStore core.farm log n x a) h.1 may).1 in
       (k.0.keyed key h.1).voided h.0 (subst (λ (m : ℕ). IsClear core.farm log m key) (sym k.1) clear))
 
   -- a landing whose flight is clear
-  module _ (facts : CoverageFacts core.farm) (c : ClearPage) (clear : (f.voided ≡ false) × (f.key ≡ Some c.key) × (c.stamp ≡ f.stamp)) (a : Answer) where
-    module _ (files after : Files) (log : List LogEntry) (s : StandsOver found files core log) where
+  module _ (facts : CoverageFacts core.farm) (notes : PageIndex) (c : ClearPage) (clear : (f.voided ≡ false) × (f.key ≡ Some c.key) × (c.stamp ≡ f.stamp)) (a : Answer) where
+    module _ (files after : Files) (stays : StaysKnown files after core.pages notes) (log : List LogEntry) (s : StandsOver found files core log) where
       clear_here : IsClear core.farm log n c.key
       clear_here = let k = known files log s in subst (λ (m : ℕ). IsClear core.farm log m c.key) k.1 ((k.0.keyed c.key clear.1).clear clear.0)
 
@@ -149,8 +166,8 @@ module _ (found : ℕ) (core : Core) (n : ℕ) (f : Flight) (at : flight_at n co
 
       -- what stands over the files by their number and their stamps, stands over those after
       over : (next_log : List LogEntry) → core.down ≡ not (is_up next_log) → BesidePage c.key files after → (c.stamp.epoch ≤ epoch_held files → KeepsOrder files after) → BoundsSlices core.farm found after core.queue.items next_log
-          → CoreStands core.farm (page_at after) (stamp_at files) (epoch_held files) (without n core.flights) core.queue.items core.asked core.begun core.epoch (drawn_of core) next_log → StandsOver found after (record core { flights = next }) next_log
-      over next_log down beside order slices stands = subst (λ (l : List Flight). StandsOver found after (record core { flights = l }) next_log) (sym is) (record {
+          → CoreStands core.farm (page_at after) (stamp_at files) (epoch_held files) (without n core.flights) core.queue.items core.asked core.begun core.epoch (drawn_of core) next_log → StandsOver found after (record core { flights = next; pages = notes }) next_log
+      over next_log down beside order slices stands = subst (λ (l : List Flight). StandsOver found after (record core { flights = l; pages = notes }) next_log) (sym is) (record {
         stands = subst (λ (e : ℕ). CoreStands core.farm (page_at after) (stamp_at after) e (without n core.flights) core.queue.items core.asked core.begun core.epoch (drawn_of core) next_log) (sym beside.number.held)
             (same_files core.farm facts (page_at after) (page_at after) (stamp_at files) (stamp_at after) (λ k good. refl) (λ g good. beside.stamps g good.bytes) (epoch_held files) (without n core.flights) core.queue.items core.asked core.begun core.epoch (drawn_of core) next_log stands);
         numbered = numbered_same files after beside.number s.numbered;
@@ -158,6 +175,7 @@ module _ (found : ℕ) (core : Core) (n : ℕ) (f : Flight) (at : flight_at n co
         down_is = down;
         few = s.few;
         slices = slices;
+        knows = known_then (without n core.flights) notes files after stays s.knows;
       })
 
       put_others : BesidePage c.key files after → (l : PageKey) → IsPageKey l → c.key ≢ l → page_at after l ≡ page_at files l
@@ -175,43 +193,73 @@ module _ (found : ℕ) (core : Core) (n : ℕ) (f : Flight) (at : flight_at n co
           (λ (ne : c.key ≢ l). inl (put_others put.beside l good ne))
           (key_cases c.key l)
 
-      whole : is_storable a ≡ true → PageSet c.key c.stamp a files after → StandsOver found after (record core { flights = next }) (Landed n (Some c.key) a Kept ∷ log)
+      whole : is_storable a ≡ true → PageSet c.key c.stamp a files after → StandsOver found after (record core { flights = next; pages = notes }) (Landed n (Some c.key) a Kept ∷ log)
       whole storable t = over (Landed n (Some c.key) a Kept ∷ log) s.down_is t.beside t.order
           (names_stay core.farm found 2 files after core.queue.items log (Landed n (Some c.key) a Kept ∷ log) t.names (two_more core.farm found log (landings_stored log + 1) refl (flushes_begun log) refl) (λ v. refl) refl s.slices)
           (kept core.farm (page_at files) (stamp_at files) (epoch_held files) core.flights core.queue.items core.asked core.begun core.epoch (drawn_of core) log s.stands n (rising files log s) c.key a (page_of c.stamp a.kind a.body) (stored_is c.stamp a storable) (page_at after) (put_set t) clear_here own_here facts key_cases t.here.page fresh_here)
 
-      part : (fault : FileFault) → is_storable a ≡ true → MayPut c.key c.stamp a fault files after → StandsOver found after (record core { flights = next }) (Landed n (Some c.key) a Unkept ∷ log)
+      part : (fault : FileFault) → is_storable a ≡ true → MayPut c.key c.stamp a fault files after → StandsOver found after (record core { flights = next; pages = notes }) (Landed n (Some c.key) a Unkept ∷ log)
       part fault storable t = over (Landed n (Some c.key) a Unkept ∷ log) s.down_is t.beside t.order
           (names_stay core.farm found 2 files after core.queue.items log (Landed n (Some c.key) a Unkept ∷ log) t.names (two_more core.farm found log (landings_stored log + 1) refl (flushes_begun log) refl) (λ v. refl) refl s.slices)
           (unkept core.farm (page_at files) (stamp_at files) (epoch_held files) core.flights core.queue.items core.asked core.begun core.epoch (drawn_of core) log s.stands n (rising files log s) c.key a (page_of c.stamp a.kind a.body) (stored_is c.stamp a storable) (page_at after) (put_may fault t) clear_here own_here facts)
 
-    for_key : (told new : Option Files) (out : LandedAs) → IsStored c.key c.stamp a out told new → ExtendsLogs core.farm (StandsFor found told core) (StandsFor found new (record core { flights = next })) (landed_under out) (Landed n (Some c.key) a (fate_of out) ∷ [])
-    for_key None new out t = extends (λ log s. absurd s)
-    for_key (Some files) None (landed.Kept k) t = absurd t.1
-    for_key (Some files) None landed.Passed t = absurd (cc t.1)
-    for_key (Some files) None landed.DiskFailed t = absurd t.1
-    for_key (Some files) None landed.NoMemory t = absurd t.1
-    for_key (Some files) (Some after) (landed.Kept k) t = extends (λ log s. (((air_here files after log s, (t.0, clear_here files after log s)), tt), whole files after log s t.0 t.1))
-    for_key (Some files) (Some after) landed.Passed t = subst (λ (told : Option Files). ExtendsLogs core.farm (StandsOver found files core) (StandsFor found told (record core { flights = next })) (landed_under landed.Passed) (Landed n (Some c.key) a Passed ∷ [])) (sym t.1)
-        (subst (λ (x : Option PageKey). ExtendsLogs core.farm (StandsOver found files core) (StandsOver found files (record core { flights = next })) (landed_under landed.Passed) (Landed n x a Passed ∷ [])) clear.1
-        (gone_passed (Some files) (landed_under landed.Passed) a (λ fs log s may. let is_so : is_storable a ≡ true = (subst (λ (x : Option PageKey). MayStore core.farm log n x a) clear.1 may).0 in absurd (cc (is_so, t.0)))))
-    for_key (Some files) (Some after) landed.DiskFailed t = extends (λ log s. (((air_here files after log s, (t.0, clear_here files after log s), inl refl), tt), part files after log s Disk t.0 t.1))
-    for_key (Some files) (Some after) landed.NoMemory t = extends (λ log s. (((air_here files after log s, (t.0, clear_here files after log s), inr refl), tt), part files after log s NoMemory t.0 t.1))
+    for_key : (told new : Option Files) (out : LandedAs) → StaysTold core.pages notes told new → IsStored c.key c.stamp a out told new → ExtendsLogs core.farm (StandsFor found told core) (StandsFor found new (record core { flights = next; pages = notes })) (landed_under out) (Landed n (Some c.key) a (fate_of out) ∷ [])
+    for_key None new out stays t = extends (λ log s. absurd s)
+    for_key (Some files) None out stays t = absurd stays
+    for_key (Some files) (Some after) (landed.Kept k) stays t = extends (λ log s. (((air_here files after stays log s, (t.0, clear_here files after stays log s)), tt), whole files after stays log s t.0 t.1))
+    for_key (Some files) (Some after) landed.Passed stays t = subst (λ (told : Option Files). ExtendsLogs core.farm (StandsOver found files core) (StandsFor found told (record core { flights = next; pages = notes })) (landed_under landed.Passed) (Landed n (Some c.key) a Passed ∷ [])) (sym t.1)
+        (subst (λ (x : Option PageKey). ExtendsLogs core.farm (StandsOver found files core) (StandsOver found files (record core { flights = next; pages = notes })) (landed_under landed.Passed) (Landed n x a Passed ∷ [])) clear.1
+        (gone_passed notes (Some files) (subst (λ (told : Option Files). StaysTold core.pages notes (Some files) told) t.1 stays) (landed_under landed.Passed) a (λ fs log s may. let is_so : is_storable a ≡ true = (subst (λ (x : Option PageKey). MayStore core.farm log n x a) clear.1 may).0 in absurd (cc (is_so, t.0)))))
+    for_key (Some files) (Some after) landed.DiskFailed stays t = extends (λ log s. (((air_here files after stays log s, (t.0, clear_here files after stays log s), inl refl), tt), part files after stays log s Disk t.0 t.1))
+    for_key (Some files) (Some after) landed.NoMemory stays t = extends (λ log s. (((air_here files after stays log s, (t.0, clear_here files after stays log s), inr refl), tt), part files after stays log s NoMemory t.0 t.1))
 
-    gone_stored : (told new : Option Files) (out : LandedAs) → IsStored c.key c.stamp a out told new → ExtendsLogs core.farm (StandsFor found told core) (StandsFor found new (record core { flights = next })) (landed_under out) (Landed n f.key a (fate_of out) ∷ [])
-    gone_stored told new out t = subst (λ (x : Option PageKey). ExtendsLogs core.farm (StandsFor found told core) (StandsFor found new (record core { flights = next })) (landed_under out) (Landed n x a (fate_of out) ∷ [])) (sym clear.1) (for_key told new out t)
+    gone_stored : (told new : Option Files) (out : LandedAs) → StaysTold core.pages notes told new → IsStored c.key c.stamp a out told new → ExtendsLogs core.farm (StandsFor found told core) (StandsFor found new (record core { flights = next; pages = notes })) (landed_under out) (Landed n f.key a (fate_of out) ∷ [])
+    gone_stored told new out stays t = subst (λ (x : Option PageKey). ExtendsLogs core.farm (StandsFor found told core) (StandsFor found new (record core { flights = next; pages = notes })) (landed_under out) (Landed n x a (fate_of out) ∷ [])) (sym clear.1) (for_key told new out stays t)
+
+-- ---- what is known after a landing
+
+-- what is taken of notes: one that isn't there may change; and what was forgotten, and what that leaves
+pub record NoteLaws : Type 0 where
+  pub changed : (index : PageIndex) (key : PageKey) (old new : Files) → BesidePage key old new → page_noted index key ≡ None → Agrees index old → Agrees index new
+  pub forgets : (key : PageKey) (old new : PageIndex) → ForgetsPage key old new → IsFewer old new
+  pub agrees : (old new : PageIndex) (files : Files) → IsFewer old new → Agrees old files → Agrees new files
+  pub covered : (old new : PageIndex) (level : ℕ) (inv : Invalidation) → IsFewer old new → HasNoneCovered level inv old → HasNoneCovered level inv new
+
+module _ (laws : NoteLaws) where
+  page_stays : (key : PageKey) (old new : PageIndex) (files after : Files) → BesidePage key files after → ForgetsPage key old new → StaysKnown files after old new
+  page_stays key old new files after beside forgot = record {
+    agree = λ a. laws.changed new key files after beside forgot.here (laws.agrees old new files (laws.forgets key old new forgot) a);
+    apart = λ level inv none. laws.covered old new level inv (laws.forgets key old new forgot) none;
+  }
+
+  same_stays : (told next : Option Files) (old new : PageIndex) → next ≡ told → new ≡ old → StaysTold old new told next
+  same_stays told next old new same notes = rw (notes) (told_same (λ files after. StaysKnown files after old old) told next same (notes_same old))
+
+  stored_stays : (key : PageKey) (st : Stamp) (a : Answer) (out : LandedAs) (told next : Option Files) (old new : PageIndex) → IsStored key st a out told next → ForgetsFor key out old new → StaysTold old new told next
+  stored_stays key st a (landed.Kept k) told next old new t forgot = told_map (PageSet key st a) (λ files after. StaysKnown files after old new) told next (λ f g set. page_stays key old new f g set.beside forgot) t.1
+  stored_stays key st a landed.Passed told next old new t forgot = same_stays told next old new t.1 forgot
+  stored_stays key st a landed.DiskFailed told next old new t forgot = told_map (MayPut key st a Disk) (λ files after. StaysKnown files after old new) told next (λ f g set. page_stays key old new f g set.beside forgot) t.1
+  stored_stays key st a landed.NoMemory told next old new t forgot = told_map (MayPut key st a NoMemory) (λ files after. StaysKnown files after old new) told next (λ f g set. page_stays key old new f g set.beside forgot) t.1
+
+  pub landing_stays : (landing : Landing) (out : LandedAs) (a : Answer) (told next : Option Files) (old new : PageIndex) → IsKeptFrom landing a out told next → ForgetsFrom landing out old new → StaysTold old new told next
+  landing_stays Unkeyed out a told next old new kept forgot = same_stays told next old new kept.1 forgot
+  landing_stays (Voided key) out a told next old new kept forgot = same_stays told next old new kept.1 forgot
+  landing_stays (Clear c) out a told next old new kept forgot = stored_stays c.key c.stamp a out told next old new kept.0 forgot
 
 -- ---- what a landing came to
 
 module _ (core : Core) (n : ℕ) (f : Flight) (at : flight_at n core.flights ≡ Some f) (next : List Flight) (is : next ≡ without n core.flights)
-    (left : (least number most : ℕ) (flights : List Flight) → AreRising least flights most → AreRising least (without number flights) most) (facts : CoverageFacts core.farm) (a : Answer) (told new : Option Files) where
-  passed_on : (found : ℕ) (out : LandedAs) → out ≡ landed.Passed → new ≡ told → ExtendsLogs core.farm (StandsFor found told core) (StandsFor found told (record core { flights = next })) (conditions_of_call false false) (Landed n f.key a Passed ∷ []) → ExtendsLogs core.farm (StandsFor found told core) (StandsFor found new (record core { flights = next })) (landed_under out) (Landed n f.key a (fate_of out) ∷ [])
+    (left : (least number most : ℕ) (flights : List Flight) → AreRising least flights most → AreRising least (without number flights) most) (facts : CoverageFacts core.farm) (notes : PageIndex) (a : Answer) (told new : Option Files) (stays : StaysTold core.pages notes told new) where
+  stays_same : new ≡ told → StaysTold core.pages notes told told
+  stays_same same = subst (λ (t : Option Files). StaysTold core.pages notes told t) same stays
+
+  passed_on : (found : ℕ) (out : LandedAs) → out ≡ landed.Passed → new ≡ told → ExtendsLogs core.farm (StandsFor found told core) (StandsFor found told (record core { flights = next; pages = notes })) (conditions_of_call false false) (Landed n f.key a Passed ∷ []) → ExtendsLogs core.farm (StandsFor found told core) (StandsFor found new (record core { flights = next; pages = notes })) (landed_under out) (Landed n f.key a (fate_of out) ∷ [])
   passed_on found out out_is same e = rw (out_is, same) e
 
-  pub landing_owes : (landing : Landing) (out : LandedAs) → LandsAs f landing → IsKeptFrom landing a out told new → (found : ℕ) → ExtendsLogs core.farm (StandsFor found told core) (StandsFor found new (record core { flights = next })) (landed_under out) (Landed n f.key a (fate_of out) ∷ [])
-  landing_owes Unkeyed out lands kept found = passed_on found out kept.0 kept.1 (unkeyed found core n f at next is left told (conditions_of_call false false) a lands)
-  landing_owes (Voided key) out lands kept found = passed_on found out kept.0 kept.1 (voided found core n f at next is left told (conditions_of_call false false) a key lands)
-  landing_owes (Clear c) out lands kept found = gone_stored found core n f at next is left facts c lands a told new out kept.0
+  pub landing_owes : (landing : Landing) (out : LandedAs) → LandsAs f landing → IsKeptFrom landing a out told new → (found : ℕ) → ExtendsLogs core.farm (StandsFor found told core) (StandsFor found new (record core { flights = next; pages = notes })) (landed_under out) (Landed n f.key a (fate_of out) ∷ [])
+  landing_owes Unkeyed out lands kept found = passed_on found out kept.0 kept.1 (unkeyed found core n f at next is left notes told (stays_same kept.1) (conditions_of_call false false) a lands)
+  landing_owes (Voided key) out lands kept found = passed_on found out kept.0 kept.1 (voided found core n f at next is left notes told (stays_same kept.1) (conditions_of_call false false) a key lands)
+  landing_owes (Clear c) out lands kept found = gone_stored found core n f at next is left facts notes c lands a told new out stays kept.0
 
 -- the same without a log
 delivered_clear : (f : Flight) (c : ClearPage) (a : Answer) (told new : Option Files) (out : LandedAs) → (f.voided ≡ false) × (f.key ≡ Some c.key) × (c.stamp ≡ f.stamp) → IsStored c.key c.stamp a out told new → DeliveredAs f a out told new

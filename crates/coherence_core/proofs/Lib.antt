@@ -7,11 +7,13 @@ mod LandingSteps
 mod SliceSteps
 mod RestartSteps
 mod SliceBounds
+mod NoteLemmas
 mod CallLemmas
 mod DeliveryLemmas
 mod FlushingLemmas
 mod SessionLemmas
 mod LookupLemmas
+mod LookLemmas
 mod AskingLemmas
 mod RequestLemmas
 mod StartLemmas

@@ -27,6 +27,9 @@ use Rattle.coherence_core.specs.Served.{served, stat_for}
 use Rattle.coherence_core.specs.Sessions.{IsNewCore}
 use Rattle.coherence_core.specs.Stands.{CoreStands}
 use Rattle.coherence_core.specs.declared.core_state.Core.{Core}
+use Rattle.page_index.specs.Agreement.{Agrees}
+use Rattle.page_index.specs.Effects.{IsBare}
+use Rattle.page_index.specs.declared.index.PageIndex.{PageIndex}
 use Rattle.coherence_core.proofs.CallLemmas.{told_map}
 use Rattle.coherence_core.proofs.SessionLemmas.{numbered_next}
 use Rattle.coherence_core.proofs.SliceBounds.{counted_adds}
@@ -43,6 +46,7 @@ opened f g e core set fresh = record {
   asked = fresh.asked;
   begun = fresh.begun;
   up = fresh.up;
+  pages = fresh.pages;
   few = counted_adds 1 f g set.names;
 }
 
@@ -66,6 +70,7 @@ stays_opened found files after core o same fewer = record {
   asked = o.asked;
   begun = o.begun;
   up = o.up;
+  pages = o.pages;
   few = omega (arith, fewer, o.few);
 }
 
@@ -91,7 +96,7 @@ module _ (files : Files) (cleared : IsCleared files)
   none_later stamp (inl page) = absurd (cc (page.1.1.1.0, no_head page.0 page.1.0))
   none_later stamp (inr folder) = absurd (cc (folder.1.1.1, ap (option_and_then stat_of) (no_stat folder.0 folder.1.0)))
 
-  module _ (found : ℕ) (core : Core) (o : IsCoreOpened found files core) where
+  module _ (none : (index : PageIndex) (files : Files) → IsBare index → Agrees index files) (found : ℕ) (core : Core) (o : IsCoreOpened found files core) where
     log_stands : CoreStands core.farm (page_at files) (stamp_at files) (epoch_held files) [] [] 0 0 core.epoch 0 (Session core.epoch ∷ [])
     log_stands = record {
       holds = record {
@@ -125,4 +130,5 @@ module _ (files : Files) (cleared : IsCleared files)
       down_is = o.up;
       few = rw (o.asked, o.begun) (omega arith);
       slices = rw (o.queue) log_bounds;
+      knows = record { agree = none core.pages files o.pages; apart = rw (o.queue) tt };
     }

@@ -21,6 +21,7 @@ use Rattle.coherence_core.specs.Facts.{CoverageFacts}
 use Rattle.coherence_core.specs.Holds.{IsNumbered}
 use Rattle.coherence_core.specs.Sessions.{failed_entries, restarted_entries, restarted_under}
 use Rattle.coherence_core.specs.Stands.{CoreStands}
+use Rattle.page_index.specs.Agreement.{Agrees}
 use Rattle.coherence_core.specs.declared.core_state.Core.{Core}
 use Rattle.coherence_core.specs.declared.pending.Pending.{Pending}
 use Rattle.coherence_core.proofs.FlushLemmas.{oldest}
@@ -75,6 +76,7 @@ pub record KeepsCounts (old new : Core) : Type 0 where
   pub queue : new.queue.items ≡ []
   pub asked : new.asked ≡ old.asked
   pub begun : new.begun ≡ old.begun
+  pub pages : (files : Files) → Agrees new.pages files
 
 module _ (found : ℕ) (core next : Core) (facts : CoverageFacts core.farm) (air : core.flights ≡ []) (kept : KeepsCounts core next) (f g : Files) (log : List LogEntry) (s : StandsOver found f core log) where
   abbrev LastLog : List LogEntry
@@ -96,6 +98,7 @@ module _ (found : ℕ) (core next : Core) (facts : CoverageFacts core.farm) (air
     down_is = down;
     few = rw (kept.asked, kept.begun) s.few;
     slices = rw (kept.farm, kept.queue) slices;
+    knows = record { agree = kept.pages g; apart = rw (kept.queue) tt };
   }
 
   -- it comes up

@@ -33,6 +33,9 @@ use Rattle.coherence_core.specs.Served.{Before, served, stat_for}
 use Rattle.coherence_core.specs.Sessions.{BeginsSession, IsNewCore, KeepsHolds}
 use Rattle.coherence_core.specs.Stands.{AreBefore, CoreStands, stamp}
 use Rattle.coherence_core.specs.declared.core_state.Core.{Core}
+use Rattle.page_index.specs.Agreement.{Agrees}
+use Rattle.page_index.specs.Effects.{IsBare}
+use Rattle.page_index.specs.declared.index.PageIndex.{PageIndex}
 use Rattle.coherence_core.proofs.StampLemmas.{low_epoch}
 use Rattle.coherence_core.proofs.RestartSteps.{same_pages}
 use Rattle.coherence_core.proofs.SessionLemmas.{numbered_next}
@@ -88,24 +91,26 @@ module _ (farm : Farm) (facts : CoverageFacts farm) (f g : Files) (e : ℕ) (log
         flushing = record { each = tt; all = λ v inv u. absurd (h.idle.1 v inv u); head = tt };
       }
 
-  pub session_over : (core : Core) → core.farm ≡ farm → core.flights ≡ [] → core.queue.items ≡ [] → core.asked ≡ 0 → core.begun ≡ 0 → core.epoch ≡ e → core.down ≡ false → StandsOver (files_counted f) g core (Session core.epoch ∷ log)
-  session_over core farm_is flights_is queue_is asked_is begun_is epoch_is down_is = record {
+  pub session_over : (core : Core) → core.farm ≡ farm → core.flights ≡ [] → core.queue.items ≡ [] → core.asked ≡ 0 → core.begun ≡ 0 → core.epoch ≡ e → core.down ≡ false → Agrees core.pages g → StandsOver (files_counted f) g core (Session core.epoch ∷ log)
+  session_over core farm_is flights_is queue_is asked_is begun_is epoch_is down_is agree = record {
     stands = rw (farm_is, flights_is, queue_is, asked_is, begun_is, epoch_is) session_stands;
     numbered = numbered_next e f g set.here;
     order = set.order h.holds.order;
     down_is = down_is;
     few = rw (asked_is, begun_is) (omega arith);
     slices = rw (farm_is, queue_is, epoch_is) (names_found farm f g e log set.names);
+    knows = record { agree = agree; apart = rw (queue_is) tt };
   }
 
 pub begins : (farm : Farm) → CoverageFacts farm → (told new : Option Files) (e : ℕ) → Told (NumberSet e) told new → IfSome told (λ f. next_epoch f ≡ Ok e)
     → ((files : Files) (epoch : ℕ) (t : Stamp) → HasNoLaterStamp files → next_epoch files ≡ Ok epoch → HoldsStamp files t → t.epoch < epoch)
     → ((files : Files) (key : PageKey) (page : Page) → IsPageKey key → page_at files key ≡ Some page → IsPageStamp files page.stamp)
     → ((files : Files) (folder : Segments) (t : Stamp) → stamp_at files folder ≡ Some t → IsHeldOrGreatest files folder t)
+    → ((index : PageIndex) (files : Files) → IsBare index → Agrees index files)
     → (core : Core) → IsNewCore farm e core → BeginsSession farm told new core
-begins farm facts None new e t next above page_held stat_held core fresh = tt
-begins farm facts (Some f) None e t next above page_held stat_held core fresh = absurd t
-begins farm facts (Some f) (Some g) e t next above page_held stat_held core fresh = λ log h. session_over farm facts f g e log h t next above page_held stat_held core fresh.farm_is fresh.flights fresh.queue fresh.asked fresh.begun fresh.epoch_is fresh.up
+begins farm facts None new e t next above page_held stat_held none core fresh = tt
+begins farm facts (Some f) None e t next above page_held stat_held none core fresh = absurd t
+begins farm facts (Some f) (Some g) e t next above page_held stat_held none core fresh = λ log h. session_over farm facts f g e log h t next above page_held stat_held core fresh.farm_is fresh.flights fresh.queue fresh.asked fresh.begun fresh.epoch_is fresh.up (none core.pages g fresh.pages)
 
 -- ---- a session that doesn't begin
 

@@ -25,6 +25,9 @@ use Rattle.coherence_core.specs.Served.{serves_page}
 use Rattle.coherence_core.specs.declared.answers.Requested.{Requested}
 use Rattle.cache_log.specs.Ids.{FlushId}
 use Rattle.coherence_core.specs.Cores.{drawn_of}
+use Rattle.coherence_core.specs.Notes.{HoldsStill, Knows, Learns, with_notes}
+use Rattle.page_index.specs.Agreement.{HasNoneCovered}
+use Rattle.page_index.specs.declared.index.PageIndex.{PageIndex}
 use Rattle.coherence_core.specs.declared.answers.Got.{Got}
 use Rattle.coherence_core.specs.declared.answers.Got.TheVariants as got
 use Rattle.coherence_core.specs.declared.core_state.Core.{Core}
@@ -40,6 +43,7 @@ pub record IsSameCore (old new : Core) : Type 0 where
   pub begun : new.begun ≡ old.begun
   pub epoch : new.epoch ≡ old.epoch
   pub down : new.down ≡ old.down
+  pub pages : new.pages ≡ old.pages
 
 -- the stamp that is drawn next
 abbrev pub next_stamp : Core → Stamp
@@ -70,6 +74,7 @@ AskedAs old new key auto _ = ⊥
 -- ---- flushes
 
 -- The flush has begun with this invalidation: it voids the flights whose page it covers, and joins the queue with the next number and stamp.
+-- Nothing is noted any more that it covers.
 pub record HasBegunFlush (old new : Core) (flush : FlushId) (inv : Invalidation) : Type 0 where
   pub last : Pending
   pub number : last.number ≡ flush
@@ -85,6 +90,8 @@ pub record HasBegunFlush (old new : Core) (flush : FlushId) (inv : Invalidation)
   pub begun : new.begun ≡ old.begun + 1
   pub epoch : new.epoch ≡ old.epoch
   pub down : new.down ≡ old.down
+  pub notes : HoldsStill old.pages new.pages
+  pub forgotten : HasNoneCovered old.farm.level inv new.pages
 
 -- What beginning a flush came to: it has begun, or memory ran out.
 abbrev pub BegunAs : Core → Core → Invalidation → Got → Type 0
@@ -114,12 +121,16 @@ refusal fault = got.FlushRefused fault
 abbrev pub IsLookedUp : Option Files → Farm → PageKey → Option Answer → Type 0
 IsLookedUp told farm key answer = IfSome told (λ files. serves_page farm (page_at files) (stamp_at files) key ≡ answer)
 
--- What a request for a page that may be kept came to: a hit with the answer that the files give; memory ran out; or the publisher is asked,
--- where the files give none or the disk failed.
+-- What a page that may be kept was found to be, by a core that had noted what is so, and has noted this then: a hit with the answer that the
+-- files give; memory ran out; or the publisher is asked, where the files give none or the disk failed.
+abbrev pub FoundAs : Option Files → Core → PageIndex → Core → PageKey → Got → Bool → Type 0
+FoundAs told old notes new key (got.Hit own answer) disk_failed = (new ≡ with_notes old notes) × (own ≡ key) × (disk_failed ≡ false) × (Knows told old → IsLookedUp told old.farm key (Some answer))
+FoundAs told old notes new key got.NoMemory disk_failed = new ≡ with_notes old notes
+FoundAs told old notes new key other disk_failed = AskedAs (with_notes old notes) new (Some key) (is_auto old.farm key) other × (disk_failed ≡ false → Knows told old → IsLookedUp told old.farm key None)
+
+-- What a request for a page that may be kept came to: what it was found to be, with what was noted meanwhile.
 abbrev pub KeyedAs : Option Files → Core → Core → PageKey → Got → Bool → Type 0
-KeyedAs told old new key (got.Hit own answer) disk_failed = (new ≡ old) × (own ≡ key) × (disk_failed ≡ false) × IsLookedUp told old.farm key (Some answer)
-KeyedAs told old new key got.NoMemory disk_failed = new ≡ old
-KeyedAs told old new key other disk_failed = AskedAs old new (Some key) (is_auto old.farm key) other × (disk_failed ≡ false → IsLookedUp told old.farm key None)
+KeyedAs told old new key got disk_failed = (notes : PageIndex) × (Learns told old notes × FoundAs told old notes new key got disk_failed)
 
 -- ---- requests
 

@@ -15,6 +15,7 @@ use Rattle.cache_log.specs.Entries.{LogEntry, is_up}
 use Rattle.cache_log.specs.Rules.{AllAllowed, CallConditions}
 use Rattle.coherence_core.specs.Bounds.{BoundsSlices}
 use Rattle.coherence_core.specs.Holds.{IsNumbered}
+use Rattle.coherence_core.specs.Notes.{KnowsFiles}
 use Rattle.coherence_core.specs.Stands.{CoreStands}
 use Rattle.coherence_core.specs.declared.pending.Pending.{Pending}
 use Rattle.coherence_core.specs.declared.core_state.Core.{Core}
@@ -26,7 +27,7 @@ use Rattle.cache_log.specs.Limits.{most_stamps}
 abbrev pub drawn_of : Core → ℕ
 drawn_of core = core.asked + core.begun
 
--- The core and the files stand for this log, in a session that found this many files.
+-- The core and the files stand for this log, in a session that found this many files, and what the core has noted of the files is so.
 pub record StandsOver (found : ℕ) (files : Files) (core : Core) (log : List LogEntry) : Type 0 where
   pub stands : CoreStands core.farm (page_at files) (stamp_at files) (epoch_held files) core.flights core.queue.items core.asked core.begun core.epoch (drawn_of core) log
   pub numbered : IsNumbered files
@@ -34,6 +35,7 @@ pub record StandsOver (found : ℕ) (files : Files) (core : Core) (log : List Lo
   pub down_is : core.down ≡ not (is_up log)
   pub few : drawn_of core ≤ most_stamps
   pub slices : BoundsSlices core.farm found files core.queue.items log
+  pub knows : KnowsFiles files core
 
 -- the same of a disk, where it tells its files
 abbrev pub StandsFor : ℕ → Option Files → Core → List LogEntry → Type 0

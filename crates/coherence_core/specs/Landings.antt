@@ -13,6 +13,8 @@ use Rattle.flights.specs.declared.landing.Landing.TheVariants.{Clear, Voided, Un
 use Rattle.cache_log.specs.Entries.{Fate, Kept, Unkept, Passed}
 use Rattle.cache_log.specs.Rules.{CallConditions}
 use Rattle.coherence_core.specs.Cores.{conditions_of_call}
+use Rattle.page_index.specs.Effects.{ForgetsPage}
+use Rattle.page_index.specs.declared.index.PageIndex.{PageIndex}
 use Rattle.coherence_core.specs.declared.answers.Landed.{Landed}
 use Rattle.coherence_core.specs.declared.answers.Landed.TheVariants as landed
 
@@ -47,6 +49,17 @@ abbrev pub IsKeptFrom : Landing → Answer → Landed → Option Files → Optio
 IsKeptFrom (Clear clear) answer out old new = IsStored clear.key clear.stamp answer out old new × IsKeptAs (Some clear.key) out
 IsKeptFrom (Voided key) answer out old new = (out ≡ landed.Passed) × (new ≡ old)
 IsKeptFrom Unkeyed answer out old new = (out ≡ landed.Passed) × (new ≡ old)
+
+-- What is noted once an answer was to be stored: the page of its key is forgotten, unless the answer may not be stored.
+abbrev pub ForgetsFor : PageKey → Landed → PageIndex → PageIndex → Type 0
+ForgetsFor key landed.Passed old new = new ≡ old
+ForgetsFor key out old new = ForgetsPage key old new
+
+-- What is noted after a landing: what was noted before, or that without the page of a flight that gave leave.
+abbrev pub ForgetsFrom : Landing → Landed → PageIndex → PageIndex → Type 0
+ForgetsFrom (Clear clear) out old new = ForgetsFor clear.key out old new
+ForgetsFrom (Voided key) out old new = new ≡ old
+ForgetsFrom Unkeyed out old new = new ≡ old
 
 -- What delivering an answer to a flight came to: it may not be stored, and nothing changed, exactly where the flight is for no page or voided,
 -- or the answer isn't storable; else it was stored as the flight's page, with the stamp of its asking, or may have been.

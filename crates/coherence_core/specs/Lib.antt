@@ -3,6 +3,8 @@ pub mod Facts
 pub mod Stands
 pub mod Holds
 pub mod Bounds
+pub mod Notes
+pub mod Lookups
 pub mod Cores
 pub mod Requests
 pub mod Asking

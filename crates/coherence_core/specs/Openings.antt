@@ -7,9 +7,10 @@ use Rattle.cache_files.specs.Epochs.{epoch_held}
 use Rattle.docroot_changes.specs.Changes.{Told}
 use Rattle.coherence_core.specs.Holds.{IsNumbered, files_counted}
 use Rattle.coherence_core.specs.declared.core_state.Core.{Core}
+use Rattle.page_index.specs.Effects.{IsBare}
 
--- A core whose session was just opened over files of which so many were found: it has done nothing yet, the files hold its epoch as the
--- number of the session, and at most the file of that number is new.
+-- A core whose session was just opened over files of which so many were found: it has done nothing yet, and noted nothing, the files hold its
+-- epoch as the number of the session, and at most the file of that number is new.
 pub record IsCoreOpened (found : ℕ) (files : Files) (core : Core) : Type 0 where
   pub held : epoch_held files ≡ core.epoch
   pub first : 0 < core.epoch
@@ -19,6 +20,7 @@ pub record IsCoreOpened (found : ℕ) (files : Files) (core : Core) : Type 0 whe
   pub asked : core.asked ≡ 0
   pub begun : core.begun ≡ 0
   pub up : core.down ≡ false
+  pub pages : IsBare core.pages
   pub few : files_counted files ≤ found + 1
 
 -- A session was opened over the files of a disk, where it tells them, whatever these held.

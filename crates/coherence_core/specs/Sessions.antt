@@ -11,6 +11,7 @@ use Rattle.cache_log.specs.Rules.{CallConditions}
 use Rattle.coherence_core.specs.Holds.{Holds, HoldsClosed, files_counted}
 use Rattle.coherence_core.specs.Cores.{StandsFor, flushes_of}
 use Rattle.coherence_core.specs.declared.core_state.Core.{Core}
+use Rattle.page_index.specs.Effects.{IsBare}
 
 -- each of these flushes is cut off, the oldest first
 abbrev pub failed_entries : List FlushId → List LogEntry
@@ -51,7 +52,7 @@ abbrev pub BeginsSession : Farm → Option Files → Option Files → Core → T
 BeginsSession farm None after core = Unit {0}
 BeginsSession farm (Some files) after core = (log : List LogEntry) → HoldsClosed farm files log → StandsFor (files_counted files) after core (Session core.epoch ∷ log)
 
--- a core of this epoch in which nothing was done yet
+-- a core of this epoch in which nothing was done yet, and nothing noted
 pub record IsNewCore (farm : Farm) (epoch : ℕ) (core : Core) : Type 0 where
   pub farm_is : core.farm ≡ farm
   pub flights : core.flights ≡ []
@@ -60,6 +61,7 @@ pub record IsNewCore (farm : Farm) (epoch : ℕ) (core : Core) : Type 0 where
   pub begun : core.begun ≡ 0
   pub epoch_is : core.epoch ≡ epoch
   pub up : core.down ≡ false
+  pub pages : IsBare core.pages
 
 -- With each fresh core of the epoch a session begins.
 abbrev pub OpensSession : Option Files → Option Files → ℕ → Type 0

@@ -7,6 +7,7 @@ ghost use Rattle.cache_log.specs.Limits.{most_stamps};
 
 use crate::answers::Got;
 use crate::core_state::{Core, MOST_STAMPS};
+use crate::noting::forget_covered;
 use crate::pending::Pending;
 use cover_rules::Invalidation;
 use dispatch_rules::may_flush;
@@ -37,7 +38,8 @@ impl Core {
         self.begin(alloc, inv)
     }
 
-    // Takes the memory of a flush. Then it has begun, and has voided each flight whose page it covers.
+    // Takes the memory of a flush. Then it has begun: what it covers is forgotten before anything else of it, and each flight is voided whose page
+    // it covers.
     fn begin(&mut self, alloc: Global, inv: Invalidation) -> Got
         requires { drawn_of self.old < most_stamps }
         ensures { BegunAs self.old self.new inv result }
@@ -49,6 +51,7 @@ impl Core {
             return Got::NoMemory;
         }
         let level = self.farm.level;
+        forget_covered(alloc, &mut self.pages, level, &inv);
         let stamp = self.next_stamp();
         self.flights.void(level, &inv);
         self.begun += 1;

@@ -6,6 +6,7 @@ ghost use Rattle.docroot_changes.specs.Changes.{Told};
 ghost use Rattle.docroot_changes.specs.DocrootCalls.{MakesDocrootCalls};
 ghost use Rattle.coherence_core.specs.Asking.{next_stamp};
 ghost use Rattle.coherence_core.specs.Cores.{FlightsRise, drawn_of};
+ghost use Rattle.coherence_core.specs.Notes.{Knows};
 ghost use Rattle.coherence_core.specs.Openings.{OpensCore};
 ghost use Rattle.coherence_core.specs.Sessions.{BeginsSession, IsNewCore, KeepsHolds, OpensSession};
 ghost use Rattle.coherence_core.specs.declared.core_state.Core.{Core};
@@ -22,6 +23,7 @@ use cover_rules::Stamp;
 use docroot_changes::{an_opening_takes_docroot_calls, docroot_calls_add_up, what_an_opening_sets};
 use docroot_format::names_are_apart;
 use flights::Flights;
+use page_index::{PageIndex, no_notes_agree_with_any_files};
 use sp_outside::Disk;
 use stat_files::a_stamp_is_held_or_the_greatest;
 use std::alloc::Global;
@@ -29,7 +31,8 @@ use std::alloc::Global;
 /// The most stamps of a session: 2^63.
 pub(crate) const MOST_STAMPS: u64 = 9_223_372_036_854_775_808;
 
-/// The flights in the air and the unfinished flushes of a cache, with the numbers and the epoch of its session. The pages are in the files.
+/// The flights in the air and the unfinished flushes of a cache, with the numbers and the epoch of its session. The pages are in the files, and
+/// what was read of them is noted.
 #[derive(Drop)]
 pub struct Core {
     pub(crate) farm: Farm,
@@ -43,6 +46,8 @@ pub struct Core {
     pub(crate) epoch: u64,
     // The last restart went down.
     pub(crate) down: bool,
+    // What is known of the files. Nothing is noted that an unfinished flush covers.
+    pub(crate) pages: PageIndex,
 }
 
 impl Core {
@@ -62,7 +67,9 @@ impl Core {
         ensures rising { IfOk result FlightsRise }
         ensures cause { HasOpenCause (D.faults disk.old) (D.faults disk.new) result }
         ensures calls { MakesDocrootCalls (D.calls disk.old) (D.calls disk.new) }
+        ensures knows { IfOk result (Knows (D.files disk.new)) }
     {
+        no_notes_agree_with_any_files();
         let Opened { flights, epoch } = open(alloc, disk)?;
         Ok(Core {
             farm,
@@ -72,6 +79,7 @@ impl Core {
             begun: 0,
             epoch,
             down: false,
+            pages: PageIndex::new(alloc),
         })
     }
 
@@ -131,6 +139,7 @@ fn open<D: Disk>(alloc: Global, disk: &mut D) -> Result<Opened, OpenFault>
     a_page_has_a_held_stamp();
     a_failed_opening_leaves_the_old_number_or_the_next();
     names_are_apart();
+    no_notes_agree_with_any_files();
     let flights = Flights::new(alloc)?;
     match open_epoch(alloc, disk) {
         Ok(epoch) => Ok(Opened { flights, epoch }),

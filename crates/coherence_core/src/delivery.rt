@@ -7,7 +7,8 @@ ghost use Rattle.flights.specs.Flights.{flight_at, without};
 ghost use Rattle.cache_log.specs.Entries.{Landed as landed_entry, Lost};
 ghost use Rattle.cache_log.specs.Rules.{CallConditions};
 ghost use Rattle.coherence_core.specs.Cores.{ExtendsCore, FlightsRise, KeepsFarm};
-ghost use Rattle.coherence_core.specs.Landings.{DeliveredAs, IsKeptAs, IsKeptFrom, IsStored, fate_of, landed_under};
+ghost use Rattle.coherence_core.specs.Landings.{DeliveredAs, ForgetsFor, ForgetsFrom, IsKeptAs, IsKeptFrom, IsStored, fate_of, landed_under};
+ghost use Rattle.coherence_core.specs.Notes.{Knows};
 ghost use Rattle.sp_outside.specs.Causes.{IsDiskFailure};
 
 use crate::answers::Landed;
@@ -19,6 +20,9 @@ use dispatch_rules::storable;
 use docroot_changes::{docroot_calls_add_up, pages_take_docroot_calls, what_a_put_sets};
 use docroot_format::FileFault;
 use flights::{Clear, Landing, Ticket, the_numbers_of_flights_rise};
+use page_index::{
+    PageIndex, a_changed_page_leaves_other_notes, fewer_notes_agree, forgotten_notes_agree,
+};
 use sp_base::Answer;
 use sp_outside::Disk;
 use std::alloc::Global;
@@ -43,11 +47,15 @@ impl Core {
         ensures queue { self.new.queue ≡ self.old.queue }
         ensures rising { FlightsRise self.old → FlightsRise self.new }
         ensures kept { KeepsFarm self.old self.new }
+        ensures knows { Knows (D.files disk.old) self.old → Knows (D.files disk.new) self.new }
     {
         coverage_by_three_facts();
         the_numbers_of_flights_rise();
+        a_changed_page_leaves_other_notes();
+        forgotten_notes_agree();
+        fewer_notes_agree();
         let landing = self.flights.land(ticket);
-        keep(alloc, disk, landing, answer)
+        keep(alloc, disk, &mut self.pages, landing, answer)
     }
 
     /// Loses a flight.
@@ -58,6 +66,7 @@ impl Core {
         ensures queue { self.new.queue ≡ self.old.queue }
         ensures rising { FlightsRise self.old → FlightsRise self.new }
         ensures kept { KeepsFarm self.old self.new }
+        ensures knows { (told : Option Files) → Knows told self.old → Knows told self.new }
     {
         the_numbers_of_flights_rise();
         self.flights.lose(ticket);
@@ -65,9 +74,16 @@ impl Core {
 }
 
 // Stores the answer of a landing, where its flight gives leave.
-fn keep<D: Disk>(alloc: Global, disk: &mut D, landing: Landing, answer: &Answer) -> Landed
+fn keep<D: Disk>(
+    alloc: Global,
+    disk: &mut D,
+    pages: &mut PageIndex,
+    landing: Landing,
+    answer: &Answer,
+) -> Landed
     requires { IsTrue (is_kind answer.now.kind) }
     ensures kept { IsKeptFrom landing answer.now result (D.files disk.old) (D.files disk.new) }
+    ensures notes { ForgetsFrom landing result pages.old pages.new }
     ensures disk_failed { IsDiskFailure (D.faults disk.old) (D.faults disk.new) (landed_under result).disk_failed }
     ensures calls { MakesDocrootCalls (D.calls disk.old) (D.calls disk.new) }
 {
@@ -75,14 +91,22 @@ fn keep<D: Disk>(alloc: Global, disk: &mut D, landing: Landing, answer: &Answer)
     match landing {
         Landing::Unkeyed => Landed::Passed,
         Landing::Voided(_) => Landed::Passed,
-        Landing::Clear(clear) => store(alloc, disk, clear, answer),
+        Landing::Clear(clear) => store(alloc, disk, pages, clear, answer),
     }
 }
 
-// Stores the answer of a landing, where it is storable. It is the one place where an answer is stored.
-fn store<D: Disk>(alloc: Global, disk: &mut D, clear: Clear, answer: &Answer) -> Landed
+// Stores the answer of a landing, where it is storable. It is the one place where an answer is stored. What is noted of its page is forgotten
+// before.
+fn store<D: Disk>(
+    alloc: Global,
+    disk: &mut D,
+    pages: &mut PageIndex,
+    clear: Clear,
+    answer: &Answer,
+) -> Landed
     requires { IsTrue (is_kind answer.now.kind) }
     ensures stored { IsStored clear.key clear.stamp answer.now result (D.files disk.old) (D.files disk.new) }
+    ensures notes { ForgetsFor clear.key result pages.old pages.new }
     ensures key { IsKeptAs (Some clear.key) result }
     ensures disk_failed { IsDiskFailure (D.faults disk.old) (D.faults disk.new) (landed_under result).disk_failed }
     ensures calls { MakesDocrootCalls (D.calls disk.old) (D.calls disk.new) }
@@ -97,6 +121,7 @@ fn store<D: Disk>(alloc: Global, disk: &mut D, clear: Clear, answer: &Answer) ->
     }
     stamp_fits(stamp);
     body_fits(answer);
+    pages.forget(&key);
     match put_page(alloc, disk, &key, stamp, answer) {
         Ok(()) => Landed::Kept(key),
         Err(FileFault::Disk) => Landed::DiskFailed,

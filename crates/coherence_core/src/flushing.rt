@@ -3,6 +3,7 @@ ghost use Rattle.std.specs.Prelude.{◌≡◌, ◌<◌, length};
 ghost use Rattle.docroot_changes.specs.DocrootCalls.{MakesDocrootCalls};
 ghost use Rattle.coherence_core.specs.Cores.{ExtendsCore, KeepsFarm, flush_numbers};
 ghost use Rattle.coherence_core.specs.Flushes.{IsFirstSliced, PurgedAs, flushes_left_by, purged_entries, purged_under};
+ghost use Rattle.coherence_core.specs.Notes.{Knows};
 ghost use Rattle.sp_outside.specs.Causes.{IsDiskFailure};
 
 use crate::answers::Purged;
@@ -11,6 +12,7 @@ use crate::laws::coverage_by_three_facts;
 use crate::pending::Pending;
 use docroot_changes::docroot_calls_add_up;
 use invalidation::PurgeStep;
+use page_index::a_flush_leaves_what_it_does_not_cover;
 use sp_outside::Disk;
 use std::alloc::Global;
 
@@ -25,9 +27,11 @@ impl Core {
         ensures flights { self.new.flights ≡ self.old.flights }
         ensures asked { self.new.asked ≡ self.old.asked }
         ensures kept { KeepsFarm self.old self.new }
+        ensures knows { Knows (D.files disk.old) self.old → Knows (D.files disk.new) self.new }
     {
         coverage_by_three_facts();
         docroot_calls_add_up();
+        a_flush_leaves_what_it_does_not_cover();
         if self.queue.is_empty() {
             return Purged::Idle;
         }

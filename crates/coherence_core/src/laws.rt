@@ -22,6 +22,7 @@ use docroot_format::{
     what_reads_is_its_text,
 };
 use flights::the_numbers_of_flights_rise;
+use page_index::no_notes_agree_with_any_files;
 use stat_files::empty_files_hold_no_stamp;
 
 /// What is covered is what is deleted or what a touched folder outdates.
@@ -61,6 +62,7 @@ pub fn a_session_begins_without_pages()
     ensures kept { (found : ℕ) (files after : Files) (core : Core) → IsCoreOpened found files core → file_at after epoch_name ≡ file_at files epoch_name → files_counted after ≤ files_counted files → IsCoreOpened found after core }
 {
     names_tell_their_files();
+    no_notes_agree_with_any_files();
 }
 
 /// A session that goes on from a legal log begins in a legal one: over files that hold the log, closed, with the number after the one that they

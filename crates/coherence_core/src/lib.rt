@@ -10,6 +10,8 @@ mod delivery;
 mod flushing;
 mod laws;
 mod lookup;
+mod noting;
+mod page_parts;
 mod pending;
 mod request;
 mod restart;

@@ -1,11 +1,14 @@
 //! A request that comes to the cache.
-ghost use Rattle.std.specs.Prelude.{◌≡◌, ◌++◌, ℕ, false, List};
+ghost use Rattle.std.specs.Prelude.{◌≡◌, ◌++◌, ℕ, false, IfOk, List};
 ghost use Rattle.cover_rules.specs.Pages.{IsPageKey};
+ghost use Rattle.dispatch_rules.specs.Caching.{is_auto};
 ghost use Rattle.docroot_changes.specs.DocrootCalls.{MakesDocrootCalls};
+ghost use Rattle.docroot_format.specs.Faults.{HasFileCause};
 ghost use Rattle.flights.specs.Flights.{numbers_of};
 ghost use Rattle.cache_log.specs.Entries.{LogEntry};
-ghost use Rattle.coherence_core.specs.Asking.{KeyedAs, RequestedAs};
+ghost use Rattle.coherence_core.specs.Asking.{IsLookedUp, KeyedAs, RequestedAs};
 ghost use Rattle.coherence_core.specs.Cores.{ExtendsCore, FlightsRise, KeepsFarm, StandsFor, flight_labels, flush_numbers};
+ghost use Rattle.coherence_core.specs.Notes.{Knows, Learns, with_notes};
 ghost use Rattle.coherence_core.specs.Requests.{GotAs, got_entries, got_flights, got_flushes, got_labels, requested_under};
 ghost use Rattle.sp_outside.specs.Causes.{IsDiskFailure};
 
@@ -20,7 +23,7 @@ use docroot_changes::docroot_calls_add_up;
 use docroot_format::FileFault;
 use flights::the_numbers_of_flights_rise;
 use invalidation::is_invalidation;
-use sp_base::Req;
+use sp_base::{Answer, Req};
 use sp_outside::Disk;
 use std::alloc::Global;
 
@@ -44,6 +47,7 @@ impl Core {
         ensures flushes { flush_numbers self.new.queue.items ≡ flush_numbers self.old.queue.items ++ got_flushes result.got }
         ensures rising { FlightsRise self.old → FlightsRise self.new }
         ensures kept { KeepsFarm self.old self.new }
+        ensures knows { Knows (D.files disk.old) self.old → Knows (D.files disk.new) self.new }
     {
         a_page_is_its_head_and_its_body();
         coverage_by_three_facts();
@@ -89,7 +93,7 @@ impl Core {
         let Ok(auto) = auto_of(alloc, &self.farm, &key) else {
             return without_fault(Got::NoMemory);
         };
-        match look(alloc, disk, self.farm.level, auto, &key) {
+        match self.find(alloc, disk, &key, auto) {
             Ok(Some(answer)) => without_fault(Got::Hit(key, answer)),
             Ok(None) => without_fault(self.ask(alloc, Some(key), auto)),
             Err(FileFault::Disk) => Requested {
@@ -98,6 +102,27 @@ impl Core {
             },
             Err(FileFault::NoMemory) => without_fault(Got::NoMemory),
         }
+    }
+
+    // The answer of a page: what is known of it, and else what the store has.
+    fn find<D: Disk>(
+        &mut self,
+        alloc: Global,
+        disk: &mut D,
+        key: &PageKey,
+        auto: bool,
+    ) -> Result<Option<Answer>, FileFault>
+        requires page { IsPageKey key.now }
+        requires auto { auto ≡ is_auto self.old.farm key.now }
+        ensures notes { self.new ≡ with_notes self.old self.new.pages }
+        ensures learns { Learns (D.files disk.old) self.old self.new.pages }
+        ensures value { IfOk result (λ found. Knows (D.files disk.old) self.old → IsLookedUp (D.files disk.old) self.old.farm key.now found) }
+        ensures files { D.files disk.new ≡ D.files disk.old }
+        ensures cause { HasFileCause (D.faults disk.old) (D.faults disk.new) result }
+        ensures calls { MakesDocrootCalls (D.calls disk.old) (D.calls disk.new) }
+    {
+        let is_free = self.is_free(auto, key);
+        look(alloc, disk, &mut self.pages, &self.farm, key, auto, is_free)
     }
 }
 

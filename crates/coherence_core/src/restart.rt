@@ -4,17 +4,20 @@ ghost use Rattle.cache_files.specs.Epochs.{HasOpenCause, next_epoch};
 ghost use Rattle.docroot_changes.specs.Changes.{BesideNumber, Told};
 ghost use Rattle.docroot_changes.specs.DocrootCalls.{MakesDocrootCalls};
 ghost use Rattle.coherence_core.specs.Cores.{ExtendsCore, FlightsRise, flush_numbers};
+ghost use Rattle.coherence_core.specs.Notes.{Knows};
 ghost use Rattle.coherence_core.specs.Sessions.{restarted_entries, restarted_under};
 
 use crate::core_state::Core;
 use crate::laws::coverage_by_three_facts;
 use cache_files::{OpenFault, open_epoch};
 use docroot_changes::{an_opening_takes_docroot_calls, what_an_opening_sets};
+use page_index::no_notes_agree_with_any_files;
 use sp_outside::Disk;
 use std::alloc::Global;
 
 impl Core {
-    /// Cuts off each unfinished flush, and goes on in a new epoch, which it answers. After an `Err` the cache is down.
+    /// Cuts off each unfinished flush, forgets what is known of the files, and goes on in a new epoch, which it answers. After an `Err` the cache is
+    /// down.
     pub fn restart<D: Disk>(&mut self, alloc: Global, disk: &mut D) -> Result<u64, OpenFault>
         requires { self.old.flights ≡ [] }
         ensures log { ExtendsCore (D.files disk.old) self.old (D.files disk.new) self.new (restarted_under result) (restarted_entries (flush_numbers self.old.queue.items) result) }
@@ -29,11 +32,14 @@ impl Core {
         ensures files { Told BesideNumber (D.files disk.old) (D.files disk.new) }
         ensures cause { HasOpenCause (D.faults disk.old) (D.faults disk.new) result }
         ensures calls { MakesDocrootCalls (D.calls disk.old) (D.calls disk.new) }
+        ensures knows { Knows (D.files disk.new) self.new }
     {
         coverage_by_three_facts();
         what_an_opening_sets();
         an_opening_takes_docroot_calls();
+        no_notes_agree_with_any_files();
         self.queue.clear();
+        self.pages.forget_all();
         match open_epoch(alloc, disk) {
             Ok(epoch) => {
                 self.epoch = epoch;

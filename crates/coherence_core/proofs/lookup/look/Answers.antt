@@ -1,45 +1,18 @@
-use Rattle.std.proofs.Common.{sym, subst}
-use Rattle.docroot_changes.specs.DocrootCalls.{MakesDocrootCalls}
+use Rattle.std.proofs.Common.{◌∙◌, sym, subst}
+use Rattle.cover_rules.specs.Coverage.{stat_folder}
+use Rattle.stat_files.specs.Stamps.{stamp_at}
+use Rattle.page_index.specs.declared.index.PageIndex.{PageIndex}
+use Rattle.coherence_core.specs.Notes.{HoldsStill}
+use Rattle.coherence_core.proofs.LookLemmas.{known_value, notes_still, notes_then}
 use Rattle.coherence_core.proofs.lookup.look.Goals as goal
-use Rattle.coherence_core.proofs.lookup.look.Goals.{else-auto-via-then-auto+in_ok-is_outdated+else-branch, else-auto-via-else-auto}
 
-pub returns-in_err-head-clause-calls : goal.returns-in_err-head-clause-calls
-returns-in_err-head-clause-calls g c = c.pages_take_docroot_calls.ensures.head c.get_head.result _ _ c.args.key.now c.requires c.get_head.ensures.made c.get_head.ensures.left
+pub returns-in-Some-clause-value : goal.returns-in-Some-clause-value
+returns-in-Some-clause-value g c =
+    let still = subst (λ (p : PageIndex). HoldsStill p c.keep_asked.new.pages) c.page.ensures.same c.keep_asked.ensures in
+    known_value (g.D.Disk.files c.args.disk.now) c.args.pages.now c.keep_asked.new.pages still c.args.key.now c.requires.page c.in-Some.page (sym c.in_ok-page.ensures.ok ∙ c.in-Some.is) c.args.auto (λ files. stamp_at files (stat_folder c.args.farm.now.level c.args.key.now)) c.look_at_known.result c.look_at_known.ensures.value
 
-pub returns-in_default-clause-calls : goal.returns-in_default-clause-calls
-returns-in_default-clause-calls g c = c.pages_take_docroot_calls.ensures.head c.get_head.result _ _ c.args.key.now c.requires c.get_head.ensures.made c.get_head.ensures.left
-
-pub returns-in_err-is_outdated-clause-calls : goal.returns-in_err-is_outdated-clause-calls
-returns-in_err-is_outdated-clause-calls g c =
-    c.docroot_calls_add_up.ensures.more _ _ _ (c.pages_take_docroot_calls.ensures.head c.get_head.result _ _ c.args.key.now c.requires c.get_head.ensures.made c.get_head.ensures.left) c.is_outdated.ensures.calls
-
-pub returns-then-branch-clause-calls : goal.returns-then-branch-clause-calls
-returns-then-branch-clause-calls g c =
-    c.docroot_calls_add_up.ensures.more _ _ _ (c.pages_take_docroot_calls.ensures.head c.get_head.result _ _ c.args.key.now c.requires c.get_head.ensures.made c.get_head.ensures.left) c.is_outdated.ensures.calls
-
-pub returns-in_err-page-clause-calls : goal.returns-in_err-page-clause-calls
-returns-in_err-page-clause-calls g c =
-    let read : MakesDocrootCalls (g.D.Disk.calls c.get_head.new.disk) (g.D.Disk.calls c.else-auto.disk) = elim c.else-auto.branch [
-      | else-auto-via-then-auto+in_ok-is_outdated+else-branch w ↦ subst (λ d. MakesDocrootCalls (g.D.Disk.calls c.get_head.new.disk) (g.D.Disk.calls d)) (sym w.disk-is) w.is_outdated.ensures.calls
-      | else-auto-via-else-auto w ↦ subst (λ d. MakesDocrootCalls (g.D.Disk.calls c.get_head.new.disk) (g.D.Disk.calls d)) (sym w.disk-is) (c.docroot_calls_add_up.ensures.none (g.D.Disk.calls c.get_head.new.disk))
-    ] in
-    c.docroot_calls_add_up.ensures.more _ _ _ (c.pages_take_docroot_calls.ensures.head c.get_head.result _ _ c.args.key.now c.requires c.get_head.ensures.made c.get_head.ensures.left)
-    (c.docroot_calls_add_up.ensures.more _ _ _ read (c.pages_take_docroot_calls.ensures.known c.get_known.result _ _ c.args.key.now c.requires c.get_known.ensures.made c.get_known.ensures.left))
-
-pub returns-in-Some-2-clause-calls : goal.returns-in-Some-2-clause-calls
-returns-in-Some-2-clause-calls g c =
-    let read : MakesDocrootCalls (g.D.Disk.calls c.get_head.new.disk) (g.D.Disk.calls c.else-auto.disk) = elim c.else-auto.branch [
-      | else-auto-via-then-auto+in_ok-is_outdated+else-branch w ↦ subst (λ d. MakesDocrootCalls (g.D.Disk.calls c.get_head.new.disk) (g.D.Disk.calls d)) (sym w.disk-is) w.is_outdated.ensures.calls
-      | else-auto-via-else-auto w ↦ subst (λ d. MakesDocrootCalls (g.D.Disk.calls c.get_head.new.disk) (g.D.Disk.calls d)) (sym w.disk-is) (c.docroot_calls_add_up.ensures.none (g.D.Disk.calls c.get_head.new.disk))
-    ] in
-    c.docroot_calls_add_up.ensures.more _ _ _ (c.pages_take_docroot_calls.ensures.head c.get_head.result _ _ c.args.key.now c.requires c.get_head.ensures.made c.get_head.ensures.left)
-    (c.docroot_calls_add_up.ensures.more _ _ _ read (c.pages_take_docroot_calls.ensures.known c.get_known.result _ _ c.args.key.now c.requires c.get_known.ensures.made c.get_known.ensures.left))
-
-pub returns-clause-calls : goal.returns-clause-calls
-returns-clause-calls g c =
-    let read : MakesDocrootCalls (g.D.Disk.calls c.get_head.new.disk) (g.D.Disk.calls c.else-auto.disk) = elim c.else-auto.branch [
-      | else-auto-via-then-auto+in_ok-is_outdated+else-branch w ↦ subst (λ d. MakesDocrootCalls (g.D.Disk.calls c.get_head.new.disk) (g.D.Disk.calls d)) (sym w.disk-is) w.is_outdated.ensures.calls
-      | else-auto-via-else-auto w ↦ subst (λ d. MakesDocrootCalls (g.D.Disk.calls c.get_head.new.disk) (g.D.Disk.calls d)) (sym w.disk-is) (c.docroot_calls_add_up.ensures.none (g.D.Disk.calls c.get_head.new.disk))
-    ] in
-    c.docroot_calls_add_up.ensures.more _ _ _ (c.pages_take_docroot_calls.ensures.head c.get_head.result _ _ c.args.key.now c.requires c.get_head.ensures.made c.get_head.ensures.left)
-    (c.docroot_calls_add_up.ensures.more _ _ _ read (c.pages_take_docroot_calls.ensures.known c.get_known.result _ _ c.args.key.now c.requires c.get_known.ensures.made c.get_known.ensures.left))
+pub returns-in-Some-clause-notes : goal.returns-in-Some-clause-notes
+returns-in-Some-clause-notes g c =
+    let still = subst (λ (p : PageIndex). HoldsStill p c.keep_asked.new.pages) c.page.ensures.same c.keep_asked.ensures in
+    notes_then c.args.farm.now c.args.key.now c.args.is_free (g.D.Disk.files c.args.disk.now) c.args.pages.now c.keep_asked.new.pages c.look_at_known.new.pages
+    (notes_still c.args.farm.now c.args.key.now c.args.is_free (g.D.Disk.files c.args.disk.now) c.args.pages.now c.keep_asked.new.pages still) c.look_at_known.ensures.notes

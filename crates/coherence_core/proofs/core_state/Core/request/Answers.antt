@@ -21,3 +21,6 @@ returns-clause-rising g c = (request_owes _ _ _ _ _ (c.coverage_by_three_facts.e
 
 pub returns-clause-kept : goal.returns-clause-kept
 returns-clause-kept g c = (request_owes _ _ _ _ _ (c.coverage_by_three_facts.ensures c.args.self.now.farm) c.the_numbers_of_flights_rise.ensures.asked c.the_numbers_of_flights_rise.ensures.voided c.a_page_is_its_head_and_its_body.ensures c.answer.result c.answer.ensures.came).kept
+
+pub returns-clause-knows : goal.returns-clause-knows
+returns-clause-knows g c = rw (c.answer.ensures.files) (request_owes _ _ _ _ _ (c.coverage_by_three_facts.ensures c.args.self.now.farm) c.the_numbers_of_flights_rise.ensures.asked c.the_numbers_of_flights_rise.ensures.voided c.a_page_is_its_head_and_its_body.ensures c.answer.result c.answer.ensures.came).knows

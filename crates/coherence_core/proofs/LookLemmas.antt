@@ -1,0 +1,151 @@
+-- What a look at a page leaves noted, and what it answers.
+use Rattle.std.proofs.Common.{◌≡◌, ◌&&◌, ◌==◌, ℕ, Bool, true, false, Contains, Option, Some, None, refl, sym, ◌∙◌, ap, subst, if◌then◌else◌, length}
+use Rattle.std.specs.Prelude.{Result, Ok, Err, IfOk, IfSome, option_map}
+use Rattle.docroot_format.specs.declared.fault.FileFault.{FileFault}
+use Rattle.std.specs.FinMap.{empty}
+use Rattle.std.specs.Option.{option_and_then}
+use Rattle.sp_base.specs.Texts.{Segments, Text}
+use Rattle.sp_base.specs.declared.answer.Answer.{Answer}
+use Rattle.sp_outside.specs.Files.{Files, file_at}
+use Rattle.any_config.specs.declared.farm.Farm.{Farm}
+use Rattle.cover_rules.specs.Coverage.{covers, deletes, stat_folder, touched_of}
+use Rattle.cover_rules.specs.Pages.{IsPageKey}
+use Rattle.cover_rules.specs.declared.invalidation.Invalidation.{Invalidation}
+use Rattle.cover_rules.specs.declared.page.PageKey.{PageKey}
+use Rattle.cover_rules.specs.declared.stamp.Stamp.{Stamp}
+use Rattle.dispatch_rules.specs.Caching.{is_auto}
+use Rattle.cache_files.specs.Pages.{head_at, known_at, page_at, page_body_name, page_of, page_under}
+use Rattle.cache_files.specs.declared.head_note.HeadNote.{HeadNote}
+use Rattle.cache_files.specs.declared.page.Page.{Page}
+use Rattle.stat_files.specs.Outdated.{outdates_page}
+use Rattle.stat_files.specs.Stamps.{stamp_at}
+use Rattle.page_index.specs.Agreement.{Agrees, HasNoneCovered}
+use Rattle.page_index.specs.Notes.{known_page, stamp_noted}
+use Rattle.page_index.specs.declared.index.PageIndex.{PageIndex}
+use Rattle.coherence_core.specs.Facts.{CoverageFacts}
+use Rattle.coherence_core.specs.Lookups.{IfAgreed, NotesHead, NotesPage, NotesStamp}
+use Rattle.coherence_core.specs.Notes.{HoldsStill}
+use Rattle.coherence_core.specs.Served.{served}
+
+-- ---- notes, one after another
+
+told_agrees : (told : Option Files) (a b c : PageIndex) → IfSome told (λ files. Agrees a files → Agrees b files) → IfSome told (λ files. Agrees b files → Agrees c files) → IfSome told (λ files. Agrees a files → Agrees c files)
+told_agrees None a b c first next = tt
+told_agrees (Some files) a b c first next = λ agrees. next (first agrees)
+
+told_stays : (told : Option Files) (a : PageIndex) → IfSome told (λ files. Agrees a files → Agrees a files)
+told_stays None a = tt
+told_stays (Some files) a = λ agrees. agrees
+
+told_still : (told : Option Files) (a b : PageIndex) → HoldsStill a b → IfSome told (λ files. Agrees a files → Agrees b files)
+told_still None a b still = tt
+told_still (Some files) a b still = (still files).agree
+
+pub notes_none : (farm : Farm) (key : PageKey) (is_free : Bool) (told : Option Files) (notes : PageIndex) → NotesPage farm key is_free told notes notes
+notes_none farm key is_free told notes = record { agree = told_stays told notes; apart = λ inv off none. none }
+
+pub notes_then : (farm : Farm) (key : PageKey) (is_free : Bool) (told : Option Files) (a b c : PageIndex) → NotesPage farm key is_free told a b → NotesPage farm key is_free told b c → NotesPage farm key is_free told a c
+notes_then farm key is_free told a b c first next = record {
+  agree = told_agrees told a b c first.agree next.agree;
+  apart = λ inv off none. next.apart inv off (first.apart inv off none);
+}
+
+pub notes_still : (farm : Farm) (key : PageKey) (is_free : Bool) (told : Option Files) (a b : PageIndex) → HoldsStill a b → NotesPage farm key is_free told a b
+notes_still farm key is_free told a b still = record {
+  agree = told_still told a b still;
+  apart = λ inv off none. (still empty).apart farm.level inv none;
+}
+
+-- ---- what is noted of a part
+
+told_this : (told : Option Files) (IsSo : Files → Type 0) (a b : PageIndex) → ((files : Files) → IsSo files → Agrees a files → Agrees b files) → IfSome told IsSo → IfSome told (λ files. Agrees a files → Agrees b files)
+told_this None IsSo a b each so = tt
+told_this (Some files) IsSo a b each so = each files so
+
+false_not_true : (b : Bool) → b ≡ false → b ≡ true → ⊥
+false_not_true b off on = cc (sym off ∙ on)
+
+pub never_true : (b : Bool) → (b ≡ true → ⊥) → b ≡ false
+never_true true off = absurd (off refl)
+never_true false off = refl
+
+-- what was read, said the other way round
+pub stamp_read : (told : Option Files) (folder : Segments) (stamp : Option Stamp) → IfSome told (λ files. stamp ≡ stamp_at files folder) → IfSome told (λ files. stamp_at files folder ≡ stamp)
+stamp_read None folder stamp is = tt
+stamp_read (Some files) folder stamp is = sym is
+
+pub head_read : (told : Option Files) (key : PageKey) (head : Option HeadNote) → IfSome told (λ files. head ≡ head_at files key) → IfSome told (λ files. head_at files key ≡ head)
+head_read None key head is = tt
+head_read (Some files) key head is = sym is
+
+-- the head of a free page
+pub noted_head : (farm : Farm) → CoverageFacts farm → (key : PageKey) (told : Option Files) (head : Option HeadNote) (a b : PageIndex) (is_free : Bool) → is_free ≡ true → NotesHead key head a b → IfSome told (λ files. head_at files key ≡ head) → NotesPage farm key is_free told a b
+noted_head farm facts key told head a b is_free free notes so = record {
+  agree = told_this told (λ files. head_at files key ≡ head) a b notes.agree so;
+  apart = λ inv off none. notes.apart farm.level inv (λ deleted. false_not_true (covers farm.level (is_auto farm key) inv key) (off free) (facts.deleted inv key deleted)) none;
+}
+
+-- the stamp that is asked for a free page
+pub noted_stamp : (farm : Farm) → CoverageFacts farm → (key : PageKey) → IsPageKey key → is_auto farm key ≡ true → (told : Option Files) (folder : Segments) → folder ≡ stat_folder farm.level key → (stamp : Option Stamp) (a b : PageIndex) (is_free : Bool) → is_free ≡ true → NotesStamp folder stamp a b → IfSome told (λ files. stamp_at files folder ≡ stamp) → NotesPage farm key is_free told a b
+noted_stamp farm facts key good auto told folder folder_is stamp a b is_free free notes so = record {
+  agree = told_this told (λ files. stamp_at files folder ≡ stamp) a b notes.agree so;
+  apart = λ inv off none. notes.apart farm.level inv (λ touched. false_not_true (covers farm.level (is_auto farm key) inv key) (off free) (facts.touched inv key good auto (subst (λ (f : Segments). Contains (touched_of farm.level inv) f) folder_is touched))) none;
+}
+
+-- ---- what agrees
+
+pub agreed_map : (told : Option Files) (notes : PageIndex) (A B : Files → Type 0) → ((files : Files) → Agrees notes files → A files → B files) → IfAgreed told notes A → IfAgreed told notes B
+agreed_map None notes A B each is = tt
+agreed_map (Some files) notes A B each is = λ agrees. each files agrees (is agrees)
+
+pub agreed_both : (told : Option Files) (notes : PageIndex) (A B C : Files → Type 0) → ((files : Files) → Agrees notes files → A files → B files → C files) → IfAgreed told notes A → IfAgreed told notes B → IfAgreed told notes C
+agreed_both None notes A B C each a b = tt
+agreed_both (Some files) notes A B C each a b = λ agrees. each files agrees (a agrees) (b agrees)
+
+-- what is so where later notes agree, is so where earlier ones did
+pub agreed_before : (told : Option Files) (old new : PageIndex) (A : Files → Type 0) → IfSome told (λ files. Agrees old files → Agrees new files) → IfAgreed told new A → IfAgreed told old A
+agreed_before None old new A kept is = tt
+agreed_before (Some files) old new A kept is = λ agrees. is (kept agrees)
+
+pub agreed_of : (told : Option Files) (notes : PageIndex) (A : Files → Type 0) → ((files : Files) → Agrees notes files → A files) → IfAgreed told notes A
+agreed_of None notes A each = tt
+agreed_of (Some files) notes A each = λ agrees. each files agrees
+
+-- what a page that is noted whole is served as, is what its files are served as
+pub known_value : (told : Option Files) (old mid : PageIndex) → HoldsStill old mid → (key : PageKey) → IsPageKey key → (page : Page) → known_page old key ≡ Some page → (auto : Bool) (stat : Files → Option Stamp) (result : Result (Option Answer) FileFault)
+    → IfOk result (λ found. IfAgreed told mid (λ files. served auto (stat files) (Some page) ≡ found)) → IfOk result (λ found. IfAgreed told old (λ files. served auto (stat files) (page_at files key) ≡ found))
+known_value None old mid still key good page known auto stat (Ok found) is = tt
+known_value (Some files) old mid still key good page known auto stat (Ok found) is = λ agrees. ap (served auto (stat files)) (agrees.pages key page good known) ∙ is ((still files).agree agrees)
+known_value told old mid still key good page known auto stat (Err fault) is = tt
+
+-- ---- what is served
+
+-- a page with this head, where its stamp is fresh or not
+served_none : (auto : Bool) (stat : Option Stamp) (head : HeadNote) (body : Option Text) → (auto && outdates_page stat head.stamp) ≡ true → served auto stat (option_and_then (page_under head) body) ≡ None
+served_none auto stat head None on = refl
+served_none auto stat head (Some body) on = by_test (length body == head.length)
+  where
+    by_test : (b : Bool) → served auto stat (if b then Some (page_of head.stamp head.kind body) else None) ≡ None
+    by_test true = ap (λ (x : Bool). if x then None else Some (page_of head.stamp head.kind body).answer) on
+    by_test false = refl
+
+served_some : (auto : Bool) (stat : Option Stamp) (head : HeadNote) (body : Option Text) → (auto && outdates_page stat head.stamp) ≡ false → served auto stat (option_and_then (page_under head) body) ≡ option_map (λ (p : Page). p.answer) (option_and_then (page_under head) body)
+served_some auto stat head None off = refl
+served_some auto stat head (Some body) off = by_test (length body == head.length)
+  where
+    by_test : (b : Bool) → served auto stat (if b then Some (page_of head.stamp head.kind body) else None) ≡ option_map (λ (p : Page). p.answer) (if b then Some (page_of head.stamp head.kind body) else None)
+    by_test true = ap (λ (x : Bool). if x then None else Some (page_of head.stamp head.kind body).answer) off
+    by_test false = refl
+
+module _ (law : (files : Files) (key : PageKey) → page_at files key ≡ option_and_then (known_at files key) (head_at files key)) (files : Files) (key : PageKey) (auto : Bool) (stat : Option Stamp) where
+  of_head : (head : Option HeadNote) → head_at files key ≡ head → page_at files key ≡ option_and_then (known_at files key) head
+  of_head head is = law files key ∙ ap (option_and_then (known_at files key)) is
+
+  pub headless : head_at files key ≡ None → served auto stat (page_at files key) ≡ None
+  headless is = ap (served auto stat) (of_head None is)
+
+  pub outdated : (head : HeadNote) → head_at files key ≡ Some head → (auto && outdates_page stat head.stamp) ≡ true → served auto stat (page_at files key) ≡ None
+  outdated head is on = ap (served auto stat) (of_head (Some head) is) ∙ served_none auto stat head (file_at files (page_body_name key)) on
+
+  pub fresh : (head : HeadNote) → head_at files key ≡ Some head → (auto && outdates_page stat head.stamp) ≡ false → (answer : Option Answer) → option_map (λ (p : Page). p.answer) (known_at files key head) ≡ answer → served auto stat (page_at files key) ≡ answer
+  fresh head is off answer known = ap (served auto stat) (of_head (Some head) is) ∙ served_some auto stat head (file_at files (page_body_name key)) off ∙ known

@@ -88,7 +88,7 @@ fn find_script(
 
 fn find_in_file(found: &mut Findings, alloc: Global, any: &[u8]) -> Mem<()> {
     match read_any(alloc, any) {
-        Ok(top) => find_in_farm(found, alloc, &top),
+        Ok(top) => find_in_farm(found, alloc, any, &top),
         Err(AnyFault::NoMemory) => Err(NoMemory),
         Err(fault) => {
             found.faults = found.faults.saturating_add(1);
@@ -97,9 +97,9 @@ fn find_in_file(found: &mut Findings, alloc: Global, any: &[u8]) -> Mem<()> {
     }
 }
 
-fn find_in_farm(found: &mut Findings, alloc: Global, top: &AnyNode) -> Mem<()> {
+fn find_in_farm(found: &mut Findings, alloc: Global, text: &[u8], top: &AnyNode) -> Mem<()> {
     match farm_of(alloc, top) {
-        Ok(_) => add_warnings(found, &farm_warnings(alloc, top)?),
+        Ok(_) => add_warnings(found, &farm_warnings(alloc, text, top)?),
         Err(FarmFault::NoMemory) => Err(NoMemory),
         Err(fault) => {
             found.faults = found.faults.saturating_add(1);

@@ -1,10 +1,11 @@
 //! Warnings, as lines.
 
 use any_config::AnyNode;
+use farm_members::passed_members;
 use resource_tree::Tree;
 use site_faults::{
-    IdleCause, MappingEnd, idle_entries, idle_hidings, lost_mappings, passed_members,
-    shared_claims, unreached_scripts, unrendered_types,
+    IdleCause, MappingEnd, idle_entries, idle_hidings, lost_mappings, shared_claims,
+    unreached_scripts, unrendered_types,
 };
 use sp_base::{Mem, TextBuf};
 use std::alloc::Global;
@@ -119,9 +120,10 @@ pub fn content_warnings(alloc: Global, tree: &Tree) -> Mem<WarningLines> {
     Ok(lines)
 }
 
-fn warn_of_members(lines: &mut WarningLines, alloc: Global, top: &AnyNode) -> Mem<()> {
-    let told = passed_members(alloc, top)?;
+fn warn_of_members(lines: &mut WarningLines, alloc: Global, text: &[u8], top: &AnyNode) -> Mem<()> {
+    let told = passed_members(alloc, text, top)?;
     for member in told.as_slice() {
+        let line = member.line.to_string(alloc)?;
         warn(
             lines,
             alloc,
@@ -130,6 +132,8 @@ fn warn_of_members(lines: &mut WarningLines, alloc: Global, top: &AnyNode) -> Me
                 member.name.text(),
                 " of ",
                 member.group.text(),
+                ", line ",
+                line.as_str(),
                 ": this member is passed over",
             ],
         )?;
@@ -153,10 +157,10 @@ fn warn_of_entries(lines: &mut WarningLines, alloc: Global, top: &AnyNode) -> Me
     Ok(())
 }
 
-/// What is likely to be a mistake in a farm.
-pub fn farm_warnings(alloc: Global, top: &AnyNode) -> Mem<WarningLines> {
+/// What is likely to be a mistake in a farm, which reads as its text does.
+pub fn farm_warnings(alloc: Global, text: &[u8], top: &AnyNode) -> Mem<WarningLines> {
     let mut lines = BTreeMap::new(alloc);
-    warn_of_members(&mut lines, alloc, top)?;
+    warn_of_members(&mut lines, alloc, text, top)?;
     warn_of_entries(&mut lines, alloc, top)?;
     Ok(lines)
 }

@@ -1,7 +1,7 @@
 //! Entries of a farm's lists that decide nothing.
 
-use crate::farm_members::{FarmMember, farm_members, members_at, members_of};
 use any_config::AnyNode;
+use farm_members::{FarmMember, members_at, members_of, members_of_farm};
 use sp_base::{Items, Mem, TextBuf};
 use std::alloc::Global;
 
@@ -158,7 +158,7 @@ fn tell_unmet(
 /// glob matches begin with.
 pub fn idle_entries(alloc: Global, top: &AnyNode) -> Mem<IdleEntryList> {
     let mut told = Items::new(alloc);
-    let farm = farm_members(top);
+    let farm = members_of_farm(top);
     let filter = members_at(farm, "filter");
     let cache = members_at(farm, "cache");
     tell_decided(&mut told, alloc, "filter", filter)?;

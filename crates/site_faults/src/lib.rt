@@ -3,7 +3,6 @@
 
 mod claims;
 mod farm_entries;
-mod farm_members;
 mod idle_hiding;
 mod mappings;
 mod script_fault;
@@ -12,7 +11,6 @@ mod types_in_use;
 
 pub use claims::{SharedClaim, SharedClaimList, shared_claims};
 pub use farm_entries::{IdleCause, IdleEntry, IdleEntryList, idle_entries};
-pub use farm_members::{FarmMember, PassedMember, PassedMemberList, passed_members};
 pub use idle_hiding::{IdleHiding, IdleHidingList, idle_hidings};
 pub use mappings::{LostMapping, LostMappingList, MappingEnd, lost_mappings};
 pub use script_fault::{ScriptFault, text_fault};

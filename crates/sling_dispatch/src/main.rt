@@ -26,6 +26,7 @@ mod telling;
 
 use command::command;
 use ending::Ending;
+use operator_report::{Report, ReportedInputs, ReportedWorld};
 use outside::Outside;
 use outside_world::RealInputs;
 use sockets::RealWorld;
@@ -45,14 +46,16 @@ fn main(rt: HostRuntime) -> ExitCode {
     let Ok(seeds) = RandomState::new(&rt) else {
         return ExitCode::from(Ending::NoMemory.status());
     };
+    let report = Report::new(&rt, PORT);
+    let world = RealWorld::new(&rt, PORT);
     let mut outside = Outside {
         source: RealSource::new(rt.reader()),
         sink: RealSink::new(&rt),
-        inputs: RealInputs::new(&rt),
+        inputs: ReportedInputs::new(RealInputs::new(&rt), &report),
         disk,
-        world: RealWorld::new(&rt, PORT),
+        world: ReportedWorld::new(rt.alloc(), world, &words, &report),
     };
     let status = command(rt.alloc(), seeds, &words, &mut outside);
-    outside.world.finish();
+    outside.world.ended(status).finish();
     ExitCode::from(status)
 }

@@ -15,13 +15,16 @@ pub(crate) enum Done<'a> {
     Shut,
 }
 
-const LAST_PAGE: &str = "HTTP/1.1 200 OK\r\nContent-Type: text/plain\r\nContent-Length: 4\r\nConnection: close\r\n\r\npage";
+const LAST_PAGE: &str =
+    "HTTP/1.1 200 OK\r\nContent-Type: text/plain\r\nContent-Length: 4\r\nConnection: close\r\n\r\npage";
 
 const CONTINUE: &str = "HTTP/1.1 100 Continue\r\n\r\n";
 
-const BAD_REQUEST: &str = "HTTP/1.1 400 Bad Request\r\nContent-Type: text/plain;charset=utf-8\r\nContent-Length: 16\r\nConnection: close\r\n\r\n400 Bad Request\n";
+const BAD_REQUEST: &str =
+    "HTTP/1.1 400 Bad Request\r\nContent-Type: text/plain;charset=utf-8\r\nContent-Length: 16\r\nConnection: close\r\n\r\n400 Bad Request\n";
 
-const NOT_FOUND: &str = "HTTP/1.1 404 Not Found\r\nContent-Type: text/plain;charset=utf-8\r\nContent-Length: 14\r\n\r\n404 Not Found\n";
+const NOT_FOUND: &str =
+    "HTTP/1.1 404 Not Found\r\nContent-Type: text/plain;charset=utf-8\r\nContent-Length: 14\r\n\r\n404 Not Found\n";
 
 // Streams, and what is done for them. After a request that closes its connection nothing more is treated.
 const STREAMS: &[(&[u8], &[Done<'_>])] = &[

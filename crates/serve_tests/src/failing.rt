@@ -162,8 +162,10 @@ const NEXT_FAILS: &[(u64, usize)] = &[
 fn ends_there(alloc: Global, seeds: RandomState, call: u64, entries: usize) -> bool {
     match world(alloc, call, 0) {
         Ok(Some(mut world)) => {
-            matches!(served(alloc, seeds, &mut world, 28), Some(ServeEnd::WorldFailed))
-                && world.log().len() == entries
+            matches!(
+                served(alloc, seeds, &mut world, 28),
+                Some(ServeEnd::WorldFailed)
+            ) && world.log().len() == entries
                 && begins_well(world.log().as_slice())
         }
         _ => false,

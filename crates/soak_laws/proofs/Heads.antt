@@ -133,7 +133,7 @@ unfolding generated_text
 text_is_scenario number =
     let d = with_blocks 625 (with_text head_text (begun number)) in
     let p = blocks_drafted 625 (with_text head_text (begun number)) (omega arith) (begun_drafted number) in
-    (scenario_of_acts p.acts, drafted_spells (66 * 625) d p, omega (arith, p.short, head_short, length-append d.text (codes "end\n")))
+    (scenario_of_acts p.acts, (drafted_spells (66 * 625) d p, omega (arith, p.short, head_short, length-append d.text (codes "end\n"))))
 
 -- so it is refused at no line
 pub text_is_accepted : (number before : ℕ) → IsRefusedWithin longest_scenario IsScenario (generated_text number) before → ⊥

@@ -150,12 +150,24 @@ post_drafted lines block d low p =
     let name : length (codes "n=") ≡ 2 = refl in
     let kind : length (codes "&n@TypeHint=Long\"") ≡ 17 = refl in
     one_line lines d (post_line block) (Post block target (form_of k)) p (omega (arith, low), path_is_target i j [] below under refl, form_bytes k within)
-    (omega (arith, long.0, word, name, kind, block_length block low, length-append (codes "post ") (decimal block ++ 32 ∷ tail), length-append (decimal block) (32 ∷ tail),
-    length-append target (32 ∷ quotation (form_of k)), size, inner, digits, three))
+    (omega (
+      arith,
+      long.0,
+      word,
+      name,
+      kind,
+      block_length block low,
+      length-append (codes "post ") (decimal block ++ 32 ∷ tail),
+      length-append (decimal block) (32 ∷ tail),
+      length-append target (32 ∷ quotation (form_of k)),
+      size,
+      inner,
+      digits,
+      three,
+    ))
     (sym (ap (λ t. codes "post " ++ t) (append_assoc (decimal block) (32 ∷ tail) (10 ∷ [])
     ∙ ap (λ t. decimal block ++ 32 ∷ t) (append_assoc target (32 ∷ quotation (form_of k)) (10 ∷ []) ∙ path_then i j [] (32 ∷ (quotation (form_of k) ++ 10 ∷ []))
     ∙ ap (λ q. page_path i j (32 ∷ (q ++ 10 ∷ []))) quoted ∙ ap (λ t. page_path i j (codes " \"n=" ++ t)) (append_assoc (decimal k) (codes "&n@TypeHint=Long\"") (10 ∷ []))))))
-
 
 open_more : (lines block : ℕ) (d : Draft) → block < 1000 → Drafted lines d → Drafted (lines + 1) (with_text (opening_text block) d)
 open_more lines block d low p =

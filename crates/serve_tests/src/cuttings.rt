@@ -58,20 +58,16 @@ fn is_news(entry: &WorldEntry) -> bool {
 
 // Whether a log tells, beside what came, that exactly this was done.
 fn tells(log: &[WorldEntry], wanted: &[Done<'_>]) -> bool {
-    let mut left = wanted;
+    let mut left = wanted.iter();
     for entry in log {
-        if is_news(entry) {
-            continue;
-        }
-        match left.split_first() {
-            Some((done, after)) if is_done(entry, done) => left = after,
-            _ => return false,
+        if !is_news(entry) && !matches!(left.next(), Some(done) if is_done(entry, done)) {
+            return false;
         }
     }
-    left.is_empty()
+    left.next().is_none()
 }
 
-fn world(alloc: Global, first: &[u8], second: &[u8]) -> Mem<Option<MemWorld>> {
+fn world<'a>(alloc: Global, first: &'a [u8], second: &'a [u8]) -> Mem<Option<MemWorld>> {
     let rows = [Row::Opened(1), Row::Piece(1, first), Row::Piece(1, second)];
     world_of(alloc, happenings(alloc, &rows)?, 0, 0)
 }

@@ -38,19 +38,19 @@ fn is_done(note: &Note, done: &Done<'_>) -> bool {
     }
 }
 
-// What is wanted after these notes, if they are wanted.
-fn wanted_after<'a>(notes: &[Note], wanted: &'a [Done<'a>]) -> Option<&'a [Done<'a>]> {
-    let mut left = wanted;
+// How much of what is wanted was done after these notes, where so much was done before and they are wanted.
+fn done_after(notes: &[Note], wanted: &[Done<'_>], before: usize) -> Option<usize> {
+    let mut count = before;
     for note in notes {
         if !is_for_the_client(note) {
             continue;
         }
-        match left.split_first() {
-            Some((done, after)) if is_done(note, done) => left = after,
-            _ => return None,
+        if !matches!(wanted.get(count), Some(done) if is_done(note, done)) {
+            return None;
         }
+        count = count.saturating_add(1);
     }
-    Some(left)
+    Some(count)
 }
 
 fn are_wanted(
@@ -60,17 +60,17 @@ fn are_wanted(
     steps: &[Step],
     wanted: &[Done<'_>],
 ) -> bool {
-    let mut left = wanted;
+    let mut count = 0;
     for step in steps {
         let Ok(notes) = front.step(alloc, disk, step) else {
             return false;
         };
-        match wanted_after(notes.as_slice(), left) {
-            Some(after) => left = after,
-            None => return false,
-        }
+        let Some(after) = done_after(notes.as_slice(), wanted, count) else {
+            return false;
+        };
+        count = after;
     }
-    left.is_empty()
+    count == wanted.len()
 }
 
 /// Whether exactly this is done for a client whose stream comes in these pieces.

@@ -1,5 +1,5 @@
 -- The head of a scenario that is made from a number: its content is one line, and its farm a block.
-use Rattle.std.proofs.Common.{◌≡◌, ◌≢◌, ◌≤◌, ◌<◌, ◌+◌, ◌*◌, ◌++◌, ◌&&◌, ◌==◌, ◌∙◌, ℕ, Bool, true, false, Option, Some, List, [], ◌∷◌, length, map, codes, ap, sym, refl, arith, append_assoc, append-nil, length-append, get_or}
+use Rattle.std.proofs.Common.{◌≡◌, ◌≢◌, ◌≤◌, ◌+◌, ◌*◌, ◌++◌, ◌==◌, ◌∙◌, ℕ, true, Some, List, [], ◌∷◌, length, map, codes, ap, sym, refl, arith, append_assoc, append-nil, length-append}
 use Rattle.std.specs.Prelude.{nat_le}
 use Rattle.std.specs.Fmt.{digits}
 use Rattle.std.specs.List.{list_all}
@@ -13,15 +13,9 @@ use Rattle.replay_text.specs.declared.scenario.Scenario.{Scenario}
 use Rattle.soak_scenarios.specs.Drafts.{Draft, begun, with_text}
 use Rattle.soak_scenarios.specs.Sites.{apps_member, content_line, farm_lines, folder_members, page_members, pages_order}
 use Rattle.soak_scenarios.specs.Soaks.{generated_text, head_text, with_blocks}
+use Rattle.soak_laws.proofs.Bytes.{both_true}
 use Rattle.soak_laws.proofs.Lines.{Drafted}
-use Rattle.soak_laws.proofs.Rounds.{blocks_drafted}
-
-le_by : (m n : ℕ) → nat_le m n ≡ true → m ≤ n
-le_by m n e = grind (arith, nat_tests)
-
-both_true : (a b : Bool) → (a && b) ≡ true → (a ≡ true) × (b ≡ true)
-both_true true b e = (refl, e)
-both_true false b e = absurd (let no : ⊥ = cc (e) in no)
+use Rattle.soak_laws.proofs.Rounds.{blocks_drafted, le_by}
 
 is_zero : (n : ℕ) → (n == 0) ≡ true → n ≡ 0
 is_zero n e = grind (arith, nat_tests)

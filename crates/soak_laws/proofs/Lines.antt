@@ -1,5 +1,5 @@
 -- A draft is the head of a scenario, and lines of acts that can be asked for.
-use Rattle.std.proofs.Common.{◌≡◌, ◌≤◌, ◌<◌, ◌+◌, ◌*◌, ◌++◌, ◌∙◌, ℕ, List, [], ◌∷◌, length, map, ap, sym, refl, arith, append_assoc, append-nil, length-append}
+use Rattle.std.proofs.Common.{◌≡◌, ◌≤◌, ◌+◌, ◌*◌, ◌++◌, ◌∙◌, ℕ, List, [], ◌∷◌, length, map, ap, sym, refl, arith, append_assoc, append-nil, length-append}
 use Rattle.std.specs.Fmt.{decimal}
 use Rattle.replay_text.specs.EventLines.{line_of, IsEventLine}
 use Rattle.replay_text.specs.Lines.{text_of_lines}

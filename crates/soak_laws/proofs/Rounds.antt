@@ -1,6 +1,6 @@
 -- Each round of a block writes lines of acts that can be asked for.
-use Rattle.std.proofs.Common.{◌≡◌, ◌≤◌, ◌<◌, ◌+◌, ◌*◌, ◌^◌, ◌++◌, ◌==◌, ◌∙◌, ℕ, zero, suc, Bool, true, false, not, if◌then◌else◌, List, [], ◌∷◌, length, codes, ap, sym, refl, arith, append_assoc, append-nil, length-append, eqb}
-use Rattle.std.specs.Prelude.{flat_map, nat_le}
+use Rattle.std.proofs.Common.{◌≡◌, ◌≤◌, ◌<◌, ◌+◌, ◌*◌, ◌++◌, ◌==◌, ◌∙◌, ℕ, zero, suc, Bool, true, false, if◌then◌else◌, List, [], ◌∷◌, length, codes, ap, sym, refl, arith, append_assoc, length-append, eqb}
+use Rattle.std.specs.Prelude.{nat_le}
 use Rattle.std.specs.Fmt.{decimal, digits}
 use Rattle.std.specs.List.{list_all}
 use Rattle.std.proofs.lemmas.Bool.Decides.{nat_tests}
@@ -10,16 +10,16 @@ use Rattle.sp_base.specs.Bytes.{AreBytes, is_visible_ascii}
 use Rattle.cover_rules.specs.declared.invalidation.Action.TheVariants.{Activate}
 use Rattle.sp_outside.specs.declared.mem_disk.Way.TheVariants.{New}
 use Rattle.replay_text.specs.EventLines.{is_target, line_of, IsEventLine}
-use Rattle.replay_text.specs.Transcript.{quotation, quoted_byte}
+use Rattle.replay_text.specs.Transcript.{quotation}
 use Rattle.replay_text.specs.declared.event_line.EventLine.{EventLine}
 use Rattle.replay_text.specs.declared.event_line.EventLine.TheVariants.{Open, Close, Get, Post, Flush, Render, Deliver, Lose, Purge, Restart, Fail}
 use Rattle.replay_text.specs.declared.event_line.Flight.TheVariants.{First}
-use Rattle.soak_scenarios.specs.Drafts.{Draft, Piece, Words, Draw, drawn, given, with_draw, with_text, written}
-use Rattle.soak_scenarios.specs.Soaks.{closing, draft_with_line, flush_line, get_line, opening_text, post_line, seldom_line, usual_line, with_block, with_blocks, with_round, with_rounds, with_seldom_line}
+use Rattle.soak_scenarios.specs.Drafts.{Draft, Piece, Words, drawn, given, with_draw, with_text, written}
+use Rattle.soak_scenarios.specs.Soaks.{closing, flush_line, get_line, opening_text, post_line, seldom_line, usual_line, with_block, with_blocks, with_round, with_rounds, with_seldom_line}
 use Rattle.soak_laws.proofs.Bytes.{bytes-append, bytes_by, bytes_of_digits, decimal_has_digits, quoted_around, visible-append, visible_digits}
 use Rattle.soak_laws.proofs.Lines.{Drafted, added, line_more, lines_room, pieces_add, same_text}
 
-le_by : (m n : ℕ) → nat_le m n ≡ true → m ≤ n
+pub le_by : (m n : ℕ) → nat_le m n ≡ true → m ≤ n
 le_by m n e = grind (arith, nat_tests)
 
 -- ---- what is drawn

@@ -34,11 +34,11 @@ pub fn a_front_begins_over_a_log_that_ends_anywhere()
     a_log_is_closed_in_one_way();
 }
 
-/// At every moment the files of a front hold the log of each state that it stands for (`open`). Wherever a session ends they hold that log, closed
+/// At every moment the files of a front hold the log of each state that it stands for (`held`). Wherever a session ends they hold that log, closed
 /// (`holds`): each flight in the air is lost, and then each unfinished flush is cut off, which a restart may do (`allowed`). Where no flight is in the air the flushes alone are (`landed`). So the
 /// next session can go on with that log. And the slices of each flush keep the bound of the log (`bound`).
 pub fn the_files_of_a_front_hold_its_log()
-    ensures open { (publishing : Publishing) (content : Content) (board : Board) (files : Files) (faults : ℕ) (w : RunState) → FrontStandsFor publishing content (at_disk board (Some files) faults) w → Holds w.farm files w.log }
+    ensures held { (publishing : Publishing) (content : Content) (board : Board) (files : Files) (faults : ℕ) (w : RunState) → FrontStandsFor publishing content (at_disk board (Some files) faults) w → Holds w.farm files w.log }
     ensures holds { (publishing : Publishing) (content : Content) (board : Board) (files : Files) (faults : ℕ) (w : RunState) → FrontStandsFor publishing content (at_disk board (Some files) faults) w → HoldsClosed w.farm files (closed_log w) }
     ensures allowed { (publishing : Publishing) (content : Content) (board : Board) (files : Files) (faults : ℕ) (w : RunState) (under : CallConditions) → FrontStandsFor publishing content (at_disk board (Some files) faults) w → IsTrue under.restarts
         → AllAllowed w.farm under (closing_entries_of w) w.log }

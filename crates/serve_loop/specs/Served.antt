@@ -91,7 +91,7 @@ left_log w = failed_entries (map (λ (flush : Flushing). flush.number) w.flushes
 pub record HoldsWhatIsLeft (told : Option Files) (w : RunState) : Type 0 where
   pub files : Files
   pub told_is : told ≡ Some files
-  pub open : Holds w.farm files w.log
+  pub held : Holds w.farm files w.log
   pub holds : HoldsClosed w.farm files (left_log w)
   pub legal : IsLegal w.farm w.log → IsLegal w.farm (left_log w)
 

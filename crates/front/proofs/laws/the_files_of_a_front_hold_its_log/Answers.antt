@@ -8,8 +8,8 @@ use Rattle.front.specs.Endings.{closed_log, closing_entries_of}
 use Rattle.front.proofs.OpeningLemmas.{closing-is, no-flights-left}
 use Rattle.front.proofs.laws.the_files_of_a_front_hold_its_log.Goals as goal
 
-pub returns-clause-open : goal.returns-clause-open
-returns-clause-open c = λ publishing content board files faults w s.
+pub returns-clause-held : goal.returns-clause-held
+returns-clause-held c = λ publishing content board files faults w s.
     let b = s.board_is.behind_is in
     subst (λ farm. Holds farm files w.log) (sym b.farm_is) (c.the_files_hold_what_stands.ensures.holds w.found files board.cache.core w.log b.core_is)
 

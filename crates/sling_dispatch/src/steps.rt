@@ -1,5 +1,5 @@
 //! What the lines of a scenario do.
-ghost use Rattle.std.specs.Prelude.{◌≡◌, ◌++◌, IfOk, OnOk, Some, codes};
+ghost use Rattle.std.specs.Prelude.{◌≡◌, ◌++◌, IfOk, OnOk, None, Some, codes};
 ghost use Rattle.replay_text.specs.Transcript.{action_text};
 ghost use Rattle.run_events.specs.declared.step.Step.TheVariants as model;
 ghost use Rattle.sling_dispatch.specs.Fronts.{arming_of_task, step_of_task};
@@ -70,7 +70,8 @@ pub fn task_of(alloc: Global, host: &[u8], line: EventLine) -> Mem<Task>
 
 // Bytes come on a connection.
 fn piece(c: u32, bytes: ByteBuf) -> Task
-    ensures { step_of_task result ≡ Some (model.Piece c bytes) }
+    ensures step { step_of_task result ≡ Some (model.Piece c bytes) }
+    ensures arming { arming_of_task result ≡ None }
 {
     Task::Step(Step::Piece(ConnectionId::new(c), bytes))
 }

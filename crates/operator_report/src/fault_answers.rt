@@ -5,6 +5,7 @@ const FAULT: &[u8] = b"HTTP/1.1 5";
 
 /// Where the status begins and ends in it.
 const STATUS: usize = 9;
+
 const PHRASE: usize = 12;
 
 /// The status of an answer of 500 and above.

@@ -54,7 +54,7 @@ impl<'a, W: World + Drop, L: Words + Drop, R: Eprint + Files + Env + Drop> Repor
 
     /// The world in it, once it was told how serving ended, where it began.
     pub fn ended(self, status: u8) -> W
-        ensures { result ≡ self.world }
+        ensures { result ≡ self.entry.world }
     {
         if self.was_asked {
             self.report.ended(status);

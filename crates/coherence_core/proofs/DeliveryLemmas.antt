@@ -39,6 +39,7 @@ use Rattle.page_index.specs.declared.index.PageIndex.{PageIndex}
 use Rattle.cover_rules.specs.declared.invalidation.Invalidation.{Invalidation}
 use Rattle.coherence_core.specs.Landings.{DeliveredAs, ForgetsFor, ForgetsFrom, IsKeptAs, IsKeptFrom, IsStored, fate_of, landed_under}
 use Rattle.coherence_core.specs.Served.{Before, IsFresh, stat_for}
+use Rattle.coherence_core.specs.StampTies.{IsFlightStamp}
 use Rattle.coherence_core.specs.Stands.{IsLogFlight, CoreStands, stamp}
 use Rattle.coherence_core.specs.declared.answers.Landed.{Landed as LandedAs}
 use Rattle.coherence_core.specs.declared.answers.Landed.TheVariants as landed
@@ -46,6 +47,7 @@ use Rattle.coherence_core.specs.declared.core_state.Core.{Core}
 use Rattle.coherence_core.proofs.NoteLemmas.{apart_kept, notes_same}
 use Rattle.coherence_core.proofs.StampLemmas.{epoch_below}
 use Rattle.coherence_core.proofs.FlightLemmas.{flying_at}
+use Rattle.coherence_core.proofs.TieLemmas.{drawn_at}
 use Rattle.coherence_core.proofs.LandingSteps.{kept, lost, passed, unkept}
 use Rattle.coherence_core.proofs.RestartSteps.{same_files}
 use Rattle.coherence_core.proofs.SliceBounds.{adds_none, names_stay}
@@ -158,6 +160,9 @@ module _ (found : ℕ) (core : Core) (n : ℕ) (f : Flight) (at : flight_at n co
       own_here : Before c.stamp (stamp core.epoch (drawn_of core))
       own_here = subst (λ (x : Stamp). Before x (stamp core.epoch (drawn_of core))) (sym clear.2) (known files log s).0.drawn
 
+      drew_here : IsFlightStamp log n c.stamp
+      drew_here = subst (λ (x : Stamp). IsFlightStamp log n x) (sym clear.2) (drawn_at log core.flights n f at s.stands.tied.flying)
+
       fresh_here : IsFresh (is_auto core.farm c.key) (stat_for core.farm (stamp_at files) c.key) c.stamp
       fresh_here = subst (λ (x : Stamp). IsFresh (is_auto core.farm c.key) (stat_for core.farm (stamp_at files) c.key) x) (sym clear.2) (((known files log s).0.keyed c.key clear.1).fresh clear.0)
 
@@ -196,12 +201,12 @@ module _ (found : ℕ) (core : Core) (n : ℕ) (f : Flight) (at : flight_at n co
       whole : is_storable a ≡ true → PageSet c.key c.stamp a files after → StandsOver found after (record core { flights = next; pages = notes }) (Landed n (Some c.key) a Kept ∷ log)
       whole storable t = over (Landed n (Some c.key) a Kept ∷ log) s.down_is t.beside t.order
           (names_stay core.farm found 2 files after core.queue.items log (Landed n (Some c.key) a Kept ∷ log) t.names (two_more core.farm found log (landings_stored log + 1) refl (flushes_begun log) refl) (λ v. refl) refl s.slices)
-          (kept core.farm (page_at files) (stamp_at files) (epoch_held files) core.flights core.queue.items core.asked core.begun core.epoch (drawn_of core) log s.stands n (rising files log s) c.key a (page_of c.stamp a.kind a.body) (stored_is c.stamp a storable) (page_at after) (put_set t) clear_here own_here facts key_cases t.here.page fresh_here)
+          (kept core.farm (page_at files) (stamp_at files) (epoch_held files) core.flights core.queue.items core.asked core.begun core.epoch (drawn_of core) log s.stands n (rising files log s) c.key a (page_of c.stamp a.kind a.body) (stored_is c.stamp a storable) (page_at after) (put_set t) clear_here own_here drew_here facts key_cases t.here.page fresh_here)
 
       part : (fault : FileFault) → is_storable a ≡ true → MayPut c.key c.stamp a fault files after → StandsOver found after (record core { flights = next; pages = notes }) (Landed n (Some c.key) a Unkept ∷ log)
       part fault storable t = over (Landed n (Some c.key) a Unkept ∷ log) s.down_is t.beside t.order
           (names_stay core.farm found 2 files after core.queue.items log (Landed n (Some c.key) a Unkept ∷ log) t.names (two_more core.farm found log (landings_stored log + 1) refl (flushes_begun log) refl) (λ v. refl) refl s.slices)
-          (unkept core.farm (page_at files) (stamp_at files) (epoch_held files) core.flights core.queue.items core.asked core.begun core.epoch (drawn_of core) log s.stands n (rising files log s) c.key a (page_of c.stamp a.kind a.body) (stored_is c.stamp a storable) (page_at after) (put_may fault t) clear_here own_here facts)
+          (unkept core.farm (page_at files) (stamp_at files) (epoch_held files) core.flights core.queue.items core.asked core.begun core.epoch (drawn_of core) log s.stands n (rising files log s) c.key a (page_of c.stamp a.kind a.body) (stored_is c.stamp a storable) (page_at after) (put_may fault t) clear_here own_here drew_here facts)
 
     for_key : (told new : Option Files) (out : LandedAs) → StaysTold core.pages notes told new → IsStored c.key c.stamp a out told new → ExtendsLogs core.farm (StandsFor found told core) (StandsFor found new (record core { flights = next; pages = notes })) (landed_under out) (Landed n (Some c.key) a (fate_of out) ∷ [])
     for_key None new out stays t = extends (λ log s. absurd s)

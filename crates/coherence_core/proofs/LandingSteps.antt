@@ -15,11 +15,13 @@ use Rattle.cache_log.specs.Hits.{Covers, IsClear, NoneDoneSince, stored}
 use Rattle.cache_log.proofs.HitLemmas.{clear-none-done, clear-unfinished}
 use Rattle.coherence_core.specs.Facts.{CoverageFacts}
 use Rattle.coherence_core.specs.Served.{Before, IsFresh, Pages, Stamps, served, serves_page, stat_for}
+use Rattle.coherence_core.specs.StampTies.{IsFlightStamp}
 use Rattle.coherence_core.specs.Stands.{AreBefore, AreLogFlushes, HasHeadAtWork, HoldsFlights, HoldsFlushes, CoreStands, stamp}
 use Rattle.coherence_core.specs.declared.pending.Pending.{Pending}
 use Rattle.coherence_core.proofs.StampLemmas.{served_page, serves_fresh}
 use Rattle.coherence_core.proofs.FlightLemmas.{has_without, same_ok, without_to}
 use Rattle.coherence_core.proofs.FlushLemmas.{flushes_to, spared}
+use Rattle.coherence_core.proofs.TieLemmas.{without_drawn}
 
 same_some : {A : Type 0} {k l : A} → Some k ≡ Some l → k ≡ l
 same_some e = cc e
@@ -41,6 +43,7 @@ module _ (farm : Farm) (page : Pages) (stat : Stamps) (held : ℕ) (flights : Li
       all = s.flushing.all;
       head = s.flushing.head;
     };
+    tied = record { pages = s.tied.pages; stats = s.tied.stats; flying = without_drawn log n flights s.tied.flying; flushing = s.tied.flushing };
   }
 
   landed_flying : (key : Option PageKey) (b : Answer) (fate : Fate) → HoldsFlights farm (Landed n key b fate ∷ log) stat asked (stamp epoch drawn) (without n flights)
@@ -62,12 +65,13 @@ module _ (farm : Farm) (page : Pages) (stat : Stamps) (held : ℕ) (flights : Li
       all = s.flushing.all;
       head = s.flushing.head;
     };
+    tied = record { pages = s.tied.pages; stats = s.tied.stats; flying = without_drawn log n flights s.tied.flying; flushing = s.tied.flushing };
   }
 
   -- where a write may have left p, each page that is there is an old one, or p
   module _ (key : PageKey) (b : Answer) (p : Page) (answer_is : p.answer ≡ stored b) (after : Pages)
       (put : (k : PageKey) → IsPageKey k → (after k ≡ page k) ⊎ ((key ≡ k) × ((after k ≡ Some p) ⊎ (after k ≡ None))))
-      (clear : IsClear farm log n key) (own : Before p.stamp (stamp epoch drawn)) where
+      (clear : IsClear farm log n key) (own : Before p.stamp (stamp epoch drawn)) (drew : IsFlightStamp log n p.stamp) where
     put_cases : (k : PageKey) (q : Page) → IsPageKey k → after k ≡ Some q → (page k ≡ Some q) ⊎ ((key ≡ k) × (p ≡ q))
     put_cases k q good is = ⊎_elim
         (λ (same : after k ≡ page k). inl (sym same ∙ is))
@@ -87,6 +91,15 @@ module _ (farm : Farm) (page : Pages) (stat : Stamps) (held : ℕ) (flights : Li
         (λ (old : page k ≡ Some q.0). inl (ap (λ (o : Option Page). served (is_auto farm k) (stat_for farm stat k) o) (old ∙ sym q.1) ∙ is))
         (λ (h : (key ≡ k) × (p ≡ q.0)). inr (h.0, sym answer_is ∙ ap (λ (r : Page). r.answer) h.1 ∙ q.2))
         (put_cases k q.0 good q.1)
+
+    -- it has the stamp of its flight
+    new_tied : (k : PageKey) (q : Page) → key ≡ k → p ≡ q → (Some key ≡ Some k) × (stored b ≡ q.answer) × NoneDoneSince farm log n k × IsFlightStamp log n q.stamp
+    new_tied k q same one = (
+      ap (λ (l : PageKey). Some l) same,
+      sym answer_is ∙ ap (λ (r : Page). r.answer) one,
+      subst (λ (l : PageKey). NoneDoneSince farm log n l) same (clear-none-done farm log n key clear),
+      subst (λ (r : Page). IsFlightStamp log n r.stamp) one drew,
+    )
 
     -- what the oldest flush has looked at is gone still: a clear flight's page isn't one that it covers
     put_head : (deleted : (inv : Invalidation) (k : PageKey) → deletes inv k ≡ true → Covers farm inv k) (ps : List Pending) → AreLogFlushes farm page log begun (stamp epoch drawn) ps → HasHeadAtWork page stat ps → HasHeadAtWork after stat ps
@@ -136,6 +149,15 @@ module _ (farm : Farm) (page : Pages) (stat : Stamps) (held : ℕ) (flights : Li
       counts = record { flights = s.counts.flights; flushes = s.counts.flushes; stamps = s.counts.stamps };
       flying = landed_flying (Some key) b Unkept;
       flushing = put_flushing facts Unkept;
+      tied = record {
+        pages = λ k q good is fresh low. ⊎_elim
+            (λ (old : page k ≡ Some q). inr (s.tied.pages k q good old fresh low))
+            (λ (h : (key ≡ k) × (p ≡ q)). inl (new_tied k q h.0 h.1))
+            (put_cases k q good is);
+        stats = s.tied.stats;
+        flying = without_drawn log n flights s.tied.flying;
+        flushing = s.tied.flushing;
+      };
     }
 
     pub kept : CoverageFacts farm → ((k l : PageKey) → (k ≡ l) ⊎ (k ≢ l)) → after key ≡ Some p → IsFresh (is_auto farm key) (stat_for farm stat key) p.stamp → CoreStands farm after stat held (without n flights) queue asked begun epoch drawn (Landed n (Some key) b Kept ∷ log)
@@ -159,6 +181,15 @@ module _ (farm : Farm) (page : Pages) (stat : Stamps) (held : ℕ) (flights : Li
       counts = record { flights = s.counts.flights; flushes = s.counts.flushes; stamps = s.counts.stamps };
       flying = landed_flying (Some key) b Kept;
       flushing = put_flushing facts Kept;
+      tied = record {
+        pages = λ k q good is fresh_now low. ⊎_elim
+            (λ (same : key ≡ k). inl (new_tied k q same (same_some (sym there ∙ ap after same ∙ is))))
+            (λ (ne : key ≢ k). ⊎_elim (λ (old : page k ≡ Some q). inr ((λ e. ne (same_some e)), s.tied.pages k q good old fresh_now low)) (λ (h : (key ≡ k) × (p ≡ q)). absurd (ne h.0)) (put_cases k q good is))
+            (key_cases key k);
+        stats = s.tied.stats;
+        flying = without_drawn log n flights s.tied.flying;
+        flushing = s.tied.flushing;
+      };
     }
       where
         here : serves_page farm after stat key ≡ Some (stored b)

@@ -2,6 +2,7 @@ mod StampLemmas
 mod CoverageLemmas
 mod FlightLemmas
 mod FlushLemmas
+mod TieLemmas
 mod RequestSteps
 mod LandingSteps
 mod SliceSteps
@@ -18,5 +19,6 @@ mod AskingLemmas
 mod RequestLemmas
 mod StartLemmas
 mod EndLemmas
+mod ClosingLemmas
 mod OpeningLemmas
 mod LegalLemmas

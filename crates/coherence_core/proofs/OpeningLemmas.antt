@@ -112,6 +112,12 @@ module _ (files : Files) (cleared : IsCleared files)
       counts = record { flights = refl; flushes = refl; stamps = refl };
       flying = record { each = tt; all = λ n k air. absurd air; rising = omega arith };
       flushing = record { each = tt; all = λ v inv u. absurd u; head = tt };
+      tied = record {
+        pages = λ k p good is fresh low. absurd (cc (is, no_page k good));
+        stats = λ folder t good is low. absurd (cc (is, no_stamp folder good.path));
+        flying = tt;
+        flushing = tt;
+      };
     }
 
     log_bounds : BoundsSlices core.farm found files [] (Session core.epoch ∷ [])

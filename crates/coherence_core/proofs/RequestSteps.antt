@@ -1,5 +1,5 @@
 -- A hit, a flight that is asked and a flush that begins keep what is stood for.
-use Rattle.std.proofs.Common.{◌≡◌, ◌+◌, ℕ, true, false, List, [], ◌∷◌, ◌++◌, Some, None, inl, refl, sym, ◌∙◌, ap, subst, arith, ⊎_elim, map}
+use Rattle.std.proofs.Common.{◌≡◌, ◌+◌, ℕ, true, false, List, [], ◌∷◌, ◌++◌, Some, None, inl, inr, refl, sym, ◌∙◌, ap, subst, arith, ⊎_elim, map}
 use Rattle.any_config.specs.declared.farm.Farm.{Farm}
 use Rattle.cover_rules.specs.Pages.{IsPageKey}
 use Rattle.cover_rules.specs.declared.page.PageKey.{PageKey}
@@ -13,13 +13,19 @@ use Rattle.cache_log.specs.Entries.{LogEntry, Asked, Begun, Hit, flights_asked, 
 use Rattle.cache_log.specs.Hits.{Covers, Unfinished}
 use Rattle.coherence_core.specs.Facts.{CoverageFacts}
 use Rattle.coherence_core.specs.Served.{Before, Pages, Stamps, stat_for}
+use Rattle.coherence_core.specs.StampTies.{stamp_after}
 use Rattle.coherence_core.specs.Stands.{HasFlush, CoreStands, stamp}
 use Rattle.coherence_core.specs.declared.pending.Pending.{Pending}
 use Rattle.coherence_core.proofs.StampLemmas.{before_next, drawn_next, fresh_from}
 use Rattle.coherence_core.proofs.FlightLemmas.{asked_flying, begun_flying, flights_to, has_first, has_last, has_map, same_ok}
+use Rattle.coherence_core.proofs.TieLemmas.{asked_drawn, begun_drawn, map_drawn}
 use Rattle.coherence_core.proofs.FlushLemmas.{begun_queue, flush_first, flush_last, flushes_to, push_head, spared}
 
 module _ (farm : Farm) (page : Pages) (stat : Stamps) (held : ℕ) (flights : List Flight) (queue : List Pending) (asked begun epoch drawn : ℕ) (log : List LogEntry) (s : CoreStands farm page stat held flights queue asked begun epoch drawn log) where
+  -- the stamp that is drawn next is that of the log
+  drawn_by_log : stamp epoch drawn ≡ stamp_after log
+  drawn_by_log = (λ i. stamp (sym s.epochs.last i) (s.counts.stamps i))
+
   -- an answer from the store
   pub hit : (key : PageKey) → CoreStands farm page stat held flights queue asked begun epoch drawn (Hit key ∷ log)
   hit key = record {
@@ -37,6 +43,7 @@ module _ (farm : Farm) (page : Pages) (stat : Stamps) (held : ℕ) (flights : Li
       all = s.flushing.all;
       head = s.flushing.head;
     };
+    tied = record { pages = s.tied.pages; stats = s.tied.stats; flying = s.tied.flying; flushing = s.tied.flushing };
   }
 
   -- a flight, voided exactly where an unfinished flush covers its page
@@ -74,6 +81,12 @@ module _ (farm : Farm) (page : Pages) (stat : Stamps) (held : ℕ) (flights : Li
       all = s.flushing.all;
       head = s.flushing.head;
     };
+    tied = record {
+      pages = s.tied.pages;
+      stats = s.tied.stats;
+      flying = asked_drawn farm log stat asked (stamp epoch drawn) f.key flights f num (st ∙ drawn_by_log) s.flying.each s.tied.flying;
+      flushing = s.tied.flushing;
+    };
   }
 
   -- a flush
@@ -102,5 +115,11 @@ module _ (farm : Farm) (page : Pages) (stat : Stamps) (held : ℕ) (flights : Li
       });
       all = λ v i unfinished. ⊎_elim (λ h. flush_last queue q v i (num ∙ h.0) h.1) (λ h. flush_first queue v i q (s.flushing.all v i h)) unfinished;
       head = push_head page stat queue q s.flushing.head not (λ g t ok is. subst (λ (x : Stamp). Before t x) (sym st) (s.before.stats g t ok is));
+    };
+    tied = record {
+      pages = s.tied.pages;
+      stats = λ g t ok is low. let old = s.tied.stats g t ok is low in (old.0, old.1, inr old.2, old.3);
+      flying = map_drawn farm.level q.purge.inv log flights s.tied.flying;
+      flushing = begun_drawn log (begun + 1) q.purge.inv queue q num refl (st ∙ drawn_by_log) s.tied.flushing;
     };
   }

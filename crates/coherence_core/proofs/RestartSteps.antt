@@ -33,6 +33,7 @@ module _ (farm : Farm) (page : Pages) (stat : Stamps) (held : ℕ) (asked begun 
     counts = record { flights = s.counts.flights; flushes = s.counts.flushes; stamps = s.counts.stamps };
     flying = record { each = tt; all = s.flying.all; rising = s.flying.rising };
     flushing = record { each = tt; all = s.flushing.all; head = tt };
+    tied = record { pages = s.tied.pages; stats = s.tied.stats; flying = tt; flushing = tt };
   }
 
   -- it goes down, and the number may have been raised
@@ -44,6 +45,7 @@ module _ (farm : Farm) (page : Pages) (stat : Stamps) (held : ℕ) (asked begun 
     counts = record { flights = s.counts.flights; flushes = s.counts.flushes; stamps = s.counts.stamps };
     flying = record { each = tt; all = s.flying.all; rising = s.flying.rising };
     flushing = record { each = tt; all = s.flushing.all; head = tt };
+    tied = record { pages = s.tied.pages; stats = s.tied.stats; flying = tt; flushing = tt };
   }
 
 -- files that hold the same pages and stamps, of page keys and of folders that may have one
@@ -88,4 +90,10 @@ module _ (farm : Farm) (facts : CoverageFacts farm) (page after : Pages) (stat n
       rising = s.flying.rising;
     };
     flushing = record { each = same_flushes log begun (stamp epoch drawn) queue s.flushing.each; all = s.flushing.all; head = same_head queue s.flushing.head };
+    tied = record {
+      pages = λ k p good is fresh low. s.tied.pages k p good (sym (pages k good) ∙ is) (subst (λ (t : Option Stamp). IsFresh (is_auto farm k) t p.stamp) (stats (stat_folder farm.level k) (facts.folder k good)) fresh) low;
+      stats = λ f t good is low. s.tied.stats f t good (sym (stats f good) ∙ is) low;
+      flying = s.tied.flying;
+      flushing = s.tied.flushing;
+    };
   }

@@ -15,13 +15,14 @@ use Rattle.flights.specs.declared.flight.Flight.{Flight}
 use Rattle.invalidation.specs.declared.purge.Purge.{Purge}
 use Rattle.invalidation.specs.Slices.{AllGone, AllTouched, IsSamePurge, Progress, Sliced as SlicedPages}
 use Rattle.cache_log.specs.Entries.{LogEntry, Done, Ended, Failed, FlushOutcome, Sliced}
-use Rattle.cache_log.specs.Hits.{Covers, IsClear, MustHit, Unfinished}
+use Rattle.cache_log.specs.Hits.{Covers, IsClear, MustHit, SparesPage, Unfinished}
 use Rattle.cache_log.proofs.HitLemmas.{clear-unfinished, must-unfinished}
 use Rattle.coherence_core.specs.Facts.{CoverageFacts}
 use Rattle.coherence_core.specs.Served.{Before, IsFresh, Pages, Stamps, served, serves_page, stat_for}
+use Rattle.coherence_core.specs.StampTies.{IsFlushStamp}
 use Rattle.coherence_core.specs.Stands.{AreLater, HasFlush, HoldsFlights, HoldsFlushes, CoreStands, stamp}
 use Rattle.coherence_core.specs.declared.pending.Pending.{Pending}
-use Rattle.coherence_core.proofs.StampLemmas.{before_not, before_trans, fresh_at, served_older, served_page, served_unasked}
+use Rattle.coherence_core.proofs.StampLemmas.{before_not, before_trans, fresh_at, served_older, served_page, served_unasked, serves_fresh}
 use Rattle.coherence_core.proofs.FlightLemmas.{flights_to, same_ok}
 use Rattle.coherence_core.proofs.FlushLemmas.{flushes_to, later_apart, spared, tail_head, tail_queue}
 
@@ -46,6 +47,7 @@ module _ (farm : Farm) (facts : CoverageFacts farm) (page : Pages) (stat : Stamp
       all = s.flushing.all;
       head = s.flushing.head;
     };
+    tied = record { pages = s.tied.pages; stats = s.tied.stats; flying = s.tied.flying; flushing = s.tied.flushing };
   }
 
   -- a touch of the folder whose .stat file is asked for a page covers the page
@@ -113,6 +115,24 @@ module _ (farm : Farm) (facts : CoverageFacts farm) (page : Pages) (stat : Stamp
                 (change.touches f good));
             progress = progress;
           };
+        };
+        tied = record {
+          pages = λ k r good is fresh low.
+              let was : page k ≡ Some r = stays k r good is in
+              let before = served_page (is_auto farm k) (stat_for farm stat k) (page k) r.answer (was_served k r.answer good (ap (λ (o : Option Page). served (is_auto farm k) (stat_for farm now k) o) is ∙ serves_fresh (is_auto farm k) (stat_for farm now k) r fresh)) in
+              let one : before.0 ≡ r = same_some (sym before.1 ∙ was) in
+              s.tied.pages k r good was (subst (λ (x : Page). IsFresh (is_auto farm k) (stat_for farm stat k) x.stamp) one before.3) low;
+          stats = λ f t good is low. ⊎_elim
+              (λ (same_stat : now f ≡ stat f). s.tied.stats f t good (sym same_stat ∙ is) low)
+              (λ (h : Contains (touched_of p.purge.level p.purge.inv) f × (now f ≡ Some p.purge.stamp)). (
+                p.number,
+                p.purge.inv,
+                subst (λ (x : Stamp). IsFlushStamp log p.number p.purge.inv x) (same_some (sym h.1 ∙ is)) s.tied.flushing.0,
+                subst (λ (l : ℕ). Contains (touched_of l p.purge.inv) f) ok.level_is h.0,
+              ))
+              (change.touches f good);
+          flying = s.tied.flying;
+          flushing = (subst (λ (i : Invalidation). IsFlushStamp log p.number i q.stamp) (sym same.inv) (subst (λ (x : Stamp). IsFlushStamp log p.number p.purge.inv x) (sym same.stamp) s.tied.flushing.0), s.tied.flushing.1);
         };
       }
     where
@@ -183,6 +203,7 @@ module _ (farm : Farm) (facts : CoverageFacts farm) (page : Pages) (stat : Stamp
     counts = record { flights = s.counts.flights; flushes = s.counts.flushes; stamps = s.counts.stamps };
     flying = ended_flying Failed;
     flushing = ended_flushing Failed;
+    tied = record { pages = s.tied.pages; stats = s.tied.stats; flying = s.tied.flying; flushing = s.tied.flushing.1 };
   }
 
   -- no page that it covers is served, once none that it deletes is there and each folder that it touches has its stamp
@@ -199,16 +220,17 @@ module _ (farm : Farm) (facts : CoverageFacts farm) (page : Pages) (stat : Stamp
       before_not p.purge.stamp (before_trans p.purge.stamp q.0.stamp p.purge.stamp newer older))
       (facts.either p.purge.inv k good cov)
 
+  -- so it covers none that is served
+  spares : AllTouched p.purge stat → AllGone p.purge page → (k : PageKey) (a : Answer) → IsPageKey k → serves_page farm page stat k ≡ Some a → SparesPage farm log p.number k
+  spares all_touched gone k a good is = λ i unfinished cov. ⊎_elim
+      (λ h. none_served all_touched gone k a good is (subst (λ (x : Invalidation). Covers farm x k) (sym h.1) cov))
+      (λ h. later_apart p queue i s.flushing.each.1 h)
+      (s.flushing.all p.number i unfinished)
+
   pub done : AllTouched p.purge stat → AllGone p.purge page → CoreStands farm page stat held flights queue asked begun epoch drawn (Ended p.number Done ∷ log)
   done all_touched gone = record {
     holds = record {
-      may = λ k a good is. (
-        (λ i unfinished cov. ⊎_elim
-            (λ h. none_served all_touched gone k a good is (subst (λ (x : Invalidation). Covers farm x k) (sym h.1) cov))
-            (λ h. later_apart p queue i s.flushing.each.1 h)
-            (s.flushing.all p.number i unfinished)),
-        s.holds.may k a good is,
-      );
+      may = λ k a good is. (spares all_touched gone k a good is, s.holds.may k a good is);
       must = s.holds.must;
       touched = λ inv f done good there. ⊎_elim
           (λ unfinished. ⊎_elim
@@ -224,4 +246,13 @@ module _ (farm : Farm) (facts : CoverageFacts farm) (page : Pages) (stat : Stamp
     counts = record { flights = s.counts.flights; flushes = s.counts.flushes; stamps = s.counts.stamps };
     flying = ended_flying Done;
     flushing = ended_flushing Done;
+    tied = record {
+      pages = λ k r good is fresh low. (
+        spares all_touched gone k r.answer good (ap (λ (o : Option Page). served (is_auto farm k) (stat_for farm stat k) o) is ∙ serves_fresh (is_auto farm k) (stat_for farm stat k) r fresh),
+        s.tied.pages k r good is fresh low,
+      );
+      stats = s.tied.stats;
+      flying = s.tied.flying;
+      flushing = s.tied.flushing.1;
+    };
   }

@@ -28,6 +28,10 @@ low_epoch a e d lt = grind (arith, nat_tests)
 pub epoch_below : (a : Stamp) (e d : ℕ) → Before a (record { epoch = e; count = d }) → a.epoch ≤ e
 epoch_below a e d x = grind (arith, nat_tests)
 
+-- before the first stamp of an epoch none is of that epoch or of a later one
+pub none_drawn : (a : Stamp) (e : ℕ) → Before a (record { epoch = e; count = 0 }) → e ≤ a.epoch → ⊥
+none_drawn a e x le = grind (arith, nat_tests)
+
 pub fresh_from : (auto : Bool) (o : Option Stamp) (n : Stamp) → ((t : Stamp) → o ≡ Some t → Before t n) → IsFresh auto o n
 fresh_from false o n all = refl
 fresh_from true None n all = refl

@@ -36,7 +36,7 @@ use Rattle.coherence_core.specs.declared.core_state.Core.{Core}
 use Rattle.page_index.specs.Agreement.{Agrees}
 use Rattle.page_index.specs.Effects.{IsBare}
 use Rattle.page_index.specs.declared.index.PageIndex.{PageIndex}
-use Rattle.coherence_core.proofs.StampLemmas.{low_epoch}
+use Rattle.coherence_core.proofs.StampLemmas.{low_epoch, none_drawn}
 use Rattle.coherence_core.proofs.RestartSteps.{same_pages}
 use Rattle.coherence_core.proofs.SessionLemmas.{numbered_next}
 use Rattle.coherence_core.proofs.SliceBounds.{names_found}
@@ -89,6 +89,12 @@ module _ (farm : Farm) (facts : CoverageFacts farm) (f g : Files) (e : ℕ) (log
         counts = record { flights = refl; flushes = refl; stamps = refl };
         flying = record { each = tt; all = λ n k air. absurd (h.idle.0 n k air); rising = omega arith };
         flushing = record { each = tt; all = λ v inv u. absurd (h.idle.1 v inv u); head = tt };
+        tied = record {
+          pages = λ k p good is fresh low. absurd (none_drawn p.stamp e (all_before.pages k p good is) low);
+          stats = λ d t good is low. absurd (none_drawn t e (all_before.stats d t good is) low);
+          flying = tt;
+          flushing = tt;
+        };
       }
 
   pub session_over : (core : Core) → core.farm ≡ farm → core.flights ≡ [] → core.queue.items ≡ [] → core.asked ≡ 0 → core.begun ≡ 0 → core.epoch ≡ e → core.down ≡ false → Agrees core.pages g → StandsOver (files_counted f) g core (Session core.epoch ∷ log)

@@ -1,5 +1,6 @@
 pub mod Served
 pub mod Facts
+pub mod StampTies
 pub mod Stands
 pub mod Holds
 pub mod Bounds
@@ -12,3 +13,4 @@ pub mod Landings
 pub mod Flushes
 pub mod Sessions
 pub mod Openings
+pub mod Closings

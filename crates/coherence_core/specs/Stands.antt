@@ -1,4 +1,4 @@
--- What the parts of a core and its files stand for, over plain values. No definition of the log speaks of a stamp: this ties the two.
+-- What the parts of a core and its files stand for, over plain values. No rule of the log speaks of a stamp: this ties the two.
 use Rattle.std.specs.Prelude.{◌≡◌, ◌≢◌, ◌⊎◌, ◌<◌, ◌≤◌, ◌+◌, ℕ, true, false, List, [], ◌∷◌, Option, Some, None, Contains, IsSome}
 use Rattle.sp_base.specs.Texts.{Segments}
 use Rattle.sp_base.specs.declared.answer.Answer.{Answer}
@@ -20,6 +20,7 @@ use Rattle.cache_log.specs.Entries.{LogEntry, downs_since, flights_asked, flushe
 use Rattle.cache_log.specs.Hits.{Covers, HasDone, InAir, IsClear, MayHit, MustHit, Unfinished}
 use Rattle.cache_log.specs.Rules.{IsAboveAll}
 use Rattle.coherence_core.specs.Served.{Before, IsFresh, Pages, Stamps, serves_page, stat_for}
+use Rattle.coherence_core.specs.StampTies.{TiesStamps}
 use Rattle.coherence_core.specs.declared.pending.Pending.{Pending}
 
 -- the stamp of this epoch and count
@@ -146,3 +147,4 @@ pub record CoreStands (farm : Farm) (page : Pages) (stat : Stamps) (held : ℕ) 
   pub counts : HoldsCounts asked begun drawn log
   pub flying : HoldsFlights farm log stat asked (stamp epoch drawn) flights
   pub flushing : HoldsFlushes farm page stat log begun (stamp epoch drawn) queue
+  pub tied : TiesStamps farm page stat flights queue log

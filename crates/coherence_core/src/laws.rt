@@ -1,18 +1,32 @@
 //! What the core takes of the layers below, and what follows from what a core stands for: laws, on functions that do nothing but to call
 //! others.
-ghost use Rattle.std.specs.Prelude.{◌≡◌, ◌≤◌, ◌++◌, ℕ, IsTrue, List, [], ◌∷◌, Ok};
+ghost use Rattle.std.specs.Prelude.{◌≡◌, ◌≤◌, ◌++◌, ℕ, IsTrue, List, [], ◌∷◌, Some, Ok};
 ghost use Rattle.std.specs.FinMap.{empty};
+ghost use Rattle.sp_base.specs.Texts.{Segments};
+ghost use Rattle.sp_base.specs.declared.answer.Answer.{Answer};
 ghost use Rattle.sp_outside.specs.Files.{Files, file_at};
 ghost use Rattle.any_config.specs.declared.farm.Farm.{Farm};
+ghost use Rattle.cover_rules.specs.Pages.{IsPageKey};
+ghost use Rattle.cover_rules.specs.declared.page.PageKey.{PageKey};
+ghost use Rattle.cover_rules.specs.declared.stamp.Stamp.{Stamp};
+ghost use Rattle.dispatch_rules.specs.Caching.{is_auto};
 ghost use Rattle.docroot_format.specs.Names.{epoch_name};
+ghost use Rattle.cache_files.specs.declared.page.Page.{Page};
 ghost use Rattle.cache_files.specs.Epochs.{next_epoch};
+ghost use Rattle.cache_files.specs.Pages.{page_at};
+ghost use Rattle.stat_files.specs.Stamps.{stamp_at};
+ghost use Rattle.docroot_changes.specs.Changes.{IsStampFolder};
 ghost use Rattle.cache_log.specs.Entries.{LogEntry, Session};
-ghost use Rattle.cache_log.specs.Rules.{AllAllowed, CallConditions, IsLegal, KeepsBound};
+ghost use Rattle.cache_log.specs.Hits.{MayHit};
+ghost use Rattle.cache_log.specs.Rules.{AllAllowed, CallConditions, IsIdle, IsLegal, KeepsBound};
+ghost use Rattle.coherence_core.specs.Closings.{IsClosing};
 ghost use Rattle.coherence_core.specs.Cores.{StandsOver, flushes_of};
 ghost use Rattle.coherence_core.specs.Facts.{CoverageFacts};
 ghost use Rattle.coherence_core.specs.Holds.{Holds, HoldsClosed, files_counted};
 ghost use Rattle.coherence_core.specs.Openings.{IsCleared, IsCoreOpened};
+ghost use Rattle.coherence_core.specs.Served.{IsFresh, stat_for};
 ghost use Rattle.coherence_core.specs.Sessions.{closing_entries, failed_entries};
+ghost use Rattle.coherence_core.specs.StampTies.{IsStampOfTouch, MayHitOfStamp, first_epoch};
 ghost use Rattle.coherence_core.specs.declared.core_state.Core.{Core};
 
 use cache_files::empty_files_hold_no_page;
@@ -54,6 +68,28 @@ pub fn a_session_may_end_at_any_time()
     what_reads_is_its_text();
     the_numbers_of_flights_rise();
 }
+
+/// Wherever a log ends there is what closes it (`there`), in one way (`one`): each flight in the air is lost, and then each unfinished flush is
+/// cut off. A restart allows that (`allowed`), so a legal log stays legal (`legal`). Files that hold the log hold it closed (`closed`), so a
+/// session may go on with it. One that is closed stays as it is (`idle`), and what a core leaves to be closed is this (`core`).
+pub fn a_log_is_closed_in_one_way()
+    ensures there { (log : List LogEntry) → (entries : List LogEntry) × IsClosing log entries }
+    ensures one { (log entries others : List LogEntry) → IsClosing log entries → IsClosing log others → entries ≡ others }
+    ensures allowed { (farm : Farm) (log entries : List LogEntry) (under : CallConditions) → IsClosing log entries → IsTrue under.restarts → AllAllowed farm under entries log }
+    ensures legal { (farm : Farm) (log entries : List LogEntry) → IsClosing log entries → IsLegal farm log → IsLegal farm (entries ++ log) }
+    ensures closed { (farm : Farm) (files : Files) (log entries : List LogEntry) → Holds farm files log → IsClosing log entries → HoldsClosed farm files (entries ++ log) }
+    ensures idle { (log : List LogEntry) → IsIdle log → IsClosing log [] }
+    ensures core { (found : ℕ) (files : Files) (core : Core) (log : List LogEntry) → StandsOver found files core log → IsClosing log (closing_entries core) }
+{}
+
+/// What a session put into the files has a stamp that its log tells. A page that isn't outdated has the stamp that was drawn as its flight was
+/// asked (`page`), and by this flight's landing a hit on it is permitted (`hit`). A .stat file has the stamp of a flush that touches its folder
+/// (`folder`). What has a stamp of an epoch below the session's first was there before.
+pub fn stamps_are_of_flights_and_flushes()
+    ensures page { (found : ℕ) (files : Files) (core : Core) (log : List LogEntry) (key : PageKey) (page : Page) → StandsOver found files core log → IsPageKey key → page_at files key ≡ Some page → IsFresh (is_auto core.farm key) (stat_for core.farm (stamp_at files) key) page.stamp → first_epoch log ≤ page.stamp.epoch → MayHitOfStamp core.farm log key page.answer page.stamp }
+    ensures hit { (farm : Farm) (log : List LogEntry) (key : PageKey) (answer : Answer) (stamp : Stamp) → MayHitOfStamp farm log key answer stamp → MayHit farm log key answer }
+    ensures folder { (found : ℕ) (files : Files) (core : Core) (log : List LogEntry) (folder : Segments) (stamp : Stamp) → StandsOver found files core log → IsStampFolder folder → stamp_at files folder ≡ Some stamp → first_epoch log ≤ stamp.epoch → IsStampOfTouch core.farm log folder stamp }
+{}
 
 /// Where a session was just opened, and no file is a page file or a .stat file, the core and the files stand for the log of this session alone.
 /// It stays one that was just opened as files go, but for that of the number.

@@ -1,4 +1,4 @@
--- What a front stands for: the state of a run. (Of the theorem's reader this file is no concern.)
+-- What a front stands for: the state of a run. (How its parts do so is scaffolding: `Boards.antt`, `Caches.antt`, `KeptConnections.antt`.)
 use Rattle.std.specs.Prelude.{◌≡◌, ℕ, Bool, true, false, List, [], ◌∷◌, Option, Some, None, Result, Ok, Err}
 use Rattle.std.specs.BTreeMap.{btree_map_len, get}
 use Rattle.std.specs.Ordering.{nat_cmp}

@@ -20,6 +20,9 @@ mod ticketed;
 mod treat;
 
 pub use front::Front;
-pub use laws::{a_front_stands_whatever_the_count, the_files_of_a_front_hold_its_log};
+pub use laws::{
+    a_front_begins_over_a_log_that_ends_anywhere, a_front_stands_whatever_the_count,
+    the_files_of_a_front_hold_its_log,
+};
 pub use renderer::Renderer;
 pub use run_events::{Conditions, Failure, Flushing, Flying, Note, NoteList, Pick, Step};

@@ -14,7 +14,7 @@ use Rattle.replay_text.specs.Lines.{newlines}
 use Rattle.replay_text.specs.Transcript.{hex, quoted_byte, quotation, action_text, IsConnectionNumber}
 use Rattle.replay_text.specs.EventLines.{is_target, flight_text, scope_text, flushed_text, way_text, line_of, IsFlightText, IsEventLine}
 use Rattle.replay_text.specs.declared.event_line.EventLine.{EventLine}
-use Rattle.replay_text.specs.declared.event_line.EventLine.TheVariants.{Direct, Open, Close, Bytes, Get, Post, Flush, Render, Deliver, Lose, Purge, Restart, Fail}
+use Rattle.replay_text.specs.declared.event_line.EventLine.TheVariants.{Direct, Open, Close, Bytes, Get, Post, Flush, Render, Deliver, Lose, Purge, Restart, Fail, Stop}
 use Rattle.replay_text.specs.declared.event_line.Flight.{Flight}
 use Rattle.replay_text.specs.declared.event_line.Flight.TheVariants.{First, Numbered}
 use Rattle.replay_text.proofs.LineLaws.{newlines-append}
@@ -124,6 +124,7 @@ newlines-line_of (Lose flight) is = omega (arith, newlines-flight flight is)
 newlines-line_of Purge is = refl
 newlines-line_of Restart is = refl
 newlines-line_of (Fail n way) is = omega (arith, newlines-failing n way is.1)
+newlines-line_of (Stop n way) is = omega (arith, newlines-failing n way is.1)
 
 -- ---- a line tells its event
 
@@ -209,6 +210,9 @@ one_event Restart Restart p q e = refl
 one_event (Fail n v) (Fail m w) p q e =
     let same = one_number 32 n m (way_text v) (way_text w) refl (omega (arith, p.1)) (omega (arith, q.1)) (ap (drop 5) e) in
     let way = one_way v w same.1 in cc (same.0, way)
+one_event (Stop n v) (Stop m w) p q e =
+    let same = one_number 32 n m (way_text v) (way_text w) refl (omega (arith, p.1)) (omega (arith, q.1)) (ap (drop 5) e) in
+    let way = one_way v w same.1 in cc (same.0, way)
 one_event a b p q e = absurd (omega (arith, ap (λ t. get_or t 0 0) e, ap (λ t. get_or t 1 0) e, ap (λ t. get_or t 2 0) e))
 
 -- the end is the line of no event
@@ -226,6 +230,7 @@ event_is_not_end (Flush c action handle only) e = absurd (omega (arith, ap (λ t
 event_is_not_end Purge e = absurd (omega (arith, ap (λ t. get_or t 0 0) e))
 event_is_not_end Restart e = absurd (omega (arith, ap (λ t. get_or t 0 0) e))
 event_is_not_end (Fail n way) e = absurd (omega (arith, ap (λ t. get_or t 0 0) e))
+event_is_not_end (Stop n way) e = absurd (omega (arith, ap (λ t. get_or t 0 0) e))
 
 -- nor is the line that begins a farm
 pub event_is_not_farm : (event : EventLine) → line_of event ≢ codes "farm"
@@ -242,3 +247,4 @@ event_is_not_farm (Flush c action handle only) e = absurd (omega (arith, ap (λ 
 event_is_not_farm Purge e = absurd (omega (arith, ap (λ t. get_or t 0 0) e))
 event_is_not_farm Restart e = absurd (omega (arith, ap (λ t. get_or t 0 0) e))
 event_is_not_farm (Fail n way) e = absurd (omega (arith, ap (λ t. get_or t 2 0) e))
+event_is_not_farm (Stop n way) e = absurd (omega (arith, ap (λ t. get_or t 0 0) e))

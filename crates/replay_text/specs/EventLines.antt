@@ -8,7 +8,7 @@ use Rattle.sp_outside.specs.declared.mem_disk.Way.TheVariants.{Old, New}
 use Rattle.cover_rules.specs.declared.invalidation.Action.{Action}
 use Rattle.replay_text.specs.Transcript.{quotation, action_text, IsConnectionNumber, IsFlightNumber}
 use Rattle.replay_text.specs.declared.event_line.EventLine.{EventLine}
-use Rattle.replay_text.specs.declared.event_line.EventLine.TheVariants.{Direct, Open, Close, Bytes, Get, Post, Flush, Render, Deliver, Lose, Purge, Restart, Fail}
+use Rattle.replay_text.specs.declared.event_line.EventLine.TheVariants.{Direct, Open, Close, Bytes, Get, Post, Flush, Render, Deliver, Lose, Purge, Restart, Fail, Stop}
 use Rattle.replay_text.specs.declared.event_line.Flight.{Flight}
 use Rattle.replay_text.specs.declared.event_line.Flight.TheVariants.{First, Numbered}
 
@@ -50,6 +50,7 @@ line_of (Lose flight) = codes "lose " ++ flight_text flight
 line_of Purge = codes "purge"
 line_of Restart = codes "restart"
 line_of (Fail n way) = codes "fail " ++ decimal n ++ 32 ∷ way_text way
+line_of (Stop n way) = codes "stop " ++ decimal n ++ 32 ∷ way_text way
 
 -- calls of a disk are counted from 1, in 64 bits
 abbrev pub IsCallNumber : ℕ → Type 0
@@ -75,3 +76,4 @@ IsEventLine (Lose flight) = IsFlightText flight
 IsEventLine Purge = Unit {0}
 IsEventLine Restart = Unit {0}
 IsEventLine (Fail n way) = IsCallNumber n
+IsEventLine (Stop n way) = IsCallNumber n

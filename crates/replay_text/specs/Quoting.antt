@@ -76,9 +76,9 @@ abbrev pub IsNoFlush : List ℕ → Type 0
 IsNoFlush line = (c : ℕ) (action : Action) (handle : List ℕ) (only : Bool) → IsConnectionNumber c → IsTrue (is_target handle)
     → line ≢ connection_text (codes "flush ") c (flushed_text action handle only)
 
--- `fail`, the number of a call, and what it leaves
-abbrev pub IsNoFail : List ℕ → Type 0
-IsNoFail line = (n : ℕ) (way : Way) → IsCallNumber n → line ≢ connection_text (codes "fail ") n (way_text way)
+-- a word, the number of a call, and what it leaves
+abbrev pub IsNoFailureOf : List ℕ → List ℕ → Type 0
+IsNoFailureOf word line = (n : ℕ) (way : Way) → IsCallNumber n → line ≢ connection_text word n (way_text way)
 
 -- a word and a flight
 abbrev pub IsNoFlightOf : List ℕ → List ℕ → Type 0
@@ -103,4 +103,5 @@ pub record IsOfNoFlight (line : List ℕ) : Type 0 where
 pub record IsOfNoCache (line : List ℕ) : Type 0 where
   pub purges : line ≢ codes "purge"
   pub restarts : line ≢ codes "restart"
-  pub fails : IsNoFail line
+  pub fails : IsNoFailureOf (codes "fail ") line
+  pub stops : IsNoFailureOf (codes "stop ") line

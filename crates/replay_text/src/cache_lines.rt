@@ -3,8 +3,8 @@ ghost use Rattle.std.specs.Prelude.{◌≡◌, ◌≢◌, ◌++◌, ℕ, Bool, L
 ghost use Rattle.std.specs.List.{list_all};
 ghost use Rattle.cover_rules.specs.declared.invalidation.Action as models;
 ghost use Rattle.sp_outside.specs.declared.mem_disk.Way as ways;
-ghost use Rattle.replay_text.specs.EventLines.{is_target, line_of, scope_text, flushed_text, way_text, IsEventLine};
-ghost use Rattle.replay_text.specs.Quoting.{not_blank, IsNoFlushed, IsNoFlush, IsNoFail, IsOfNoCache};
+ghost use Rattle.replay_text.specs.EventLines.{is_target, line_of, scope_text, flushed_text, way_text, IsCallNumber, IsEventLine};
+ghost use Rattle.replay_text.specs.Quoting.{connection_text, not_blank, IsNoFlushed, IsNoFlush, IsNoFailureOf, IsOfNoCache};
 ghost use Rattle.replay_text.specs.Transcript.{action_text};
 
 use crate::event_line::EventLine;
@@ -106,11 +106,12 @@ fn way_of(word: &[u8]) -> Option<Way>
     }
 }
 
-fn fail_line(alloc: Global, line: &[u8]) -> Mem<Option<EventLine>>
-    ensures some { IfOk result (λ o. IfSome o (λ e. IsEventLine e × (line.now ≡ line_of e))) }
-    ensures none { IfOk result (λ o. IfNone o (IsNoFail line.now)) }
+// Which of the disk's calls fails, and what it leaves, after a word that is the line's beginning.
+fn failure_after(alloc: Global, line: &[u8], word: &[u8]) -> Mem<Option<(u64, Way)>>
+    ensures some { IfOk result (λ o. IfSome o (λ p. IsCallNumber p.0 × (line.now ≡ connection_text word.now p.0 (way_text p.1)))) }
+    ensures none { IfOk result (λ o. IfNone o (IsNoFailureOf word.now line.now)) }
 {
-    let Some(after) = after_word(line, b"fail ") else {
+    let Some(after) = after_word(line, word) else {
         return Ok(None);
     };
     let Some((number, rest)) = first_word(after) else {
@@ -122,7 +123,7 @@ fn fail_line(alloc: Global, line: &[u8]) -> Mem<Option<EventLine>>
     let Some(way) = way_of(rest) else {
         return Ok(None);
     };
-    Ok(Some(EventLine::Fail(n, way)))
+    Ok(Some((n, way)))
 }
 
 // What a line about the cache or its disk asks for.
@@ -136,5 +137,11 @@ pub fn cache_line(alloc: Global, line: &[u8]) -> Mem<Option<EventLine>>
     if same(line, b"restart") {
         return Ok(Some(EventLine::Restart));
     }
-    fail_line(alloc, line)
+    if let Some((n, way)) = failure_after(alloc, line, b"fail ")? {
+        return Ok(Some(EventLine::Fail(n, way)));
+    }
+    if let Some((n, way)) = failure_after(alloc, line, b"stop ")? {
+        return Ok(Some(EventLine::Stop(n, way)));
+    }
+    Ok(None)
 }

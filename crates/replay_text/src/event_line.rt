@@ -42,4 +42,6 @@ pub enum EventLine {
     Restart,
     /// This one of the disk's next calls fails, counted from 1. No event comes of it.
     Fail(u64, Way),
+    /// This one of the disk's next calls fails, and every later one until the next restart, which change nothing. No event comes of it.
+    Stop(u64, Way),
 }

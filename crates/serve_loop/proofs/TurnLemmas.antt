@@ -14,7 +14,7 @@ use Rattle.outside_world.specs.declared.world.WorldEntry.TheVariants.{Came}
 use Rattle.any_config.specs.declared.farm.Farm.{Farm}
 use Rattle.cache_log.specs.Entries.{LogEntry}
 use Rattle.cache_log.specs.Rules.{AllAllowed, CallConditions, IsLegal}
-use Rattle.coherence_core.specs.Holds.{HoldsClosed}
+use Rattle.coherence_core.specs.Holds.{Holds, HoldsClosed}
 use Rattle.coherence_core.specs.Sessions.{failed_entries, lost_entries}
 use Rattle.connections.specs.Ids.{ConnectionId}
 use Rattle.run_events.specs.declared.flying.Flying.{Flying}
@@ -177,6 +177,7 @@ rests_at_first publishing content board told sends w stands rest = record {
 
 -- where nothing is in the air the files hold the log, closed, which may be closed so; and logs grow by what is allowed
 pub record FilesHold : Type 0 where
+  pub held : (publishing : Publishing) (content : Content) (board : Board) (files : Files) (faults : ℕ) (w : RunState) → FrontStandsFor publishing content (at_disk board (Some files) faults) w → Holds w.farm files w.log
   pub landed : (publishing : Publishing) (content : Content) (board : Board) (files : Files) (faults : ℕ) (w : RunState) → FrontStandsFor publishing content (at_disk board (Some files) faults) w → w.flights ≡ []
       → HoldsClosed w.farm files (left_log w)
   pub allowed : (publishing : Publishing) (content : Content) (board : Board) (files : Files) (faults : ℕ) (w : RunState) (under : CallConditions) → FrontStandsFor publishing content (at_disk board (Some files) faults) w → IsTrue under.restarts
@@ -204,6 +205,7 @@ held_at_rest hold publishing content board (Some files) faults told sends w rest
     record {
       files = files;
       told_is = refl;
+      held = hold.held publishing content board files faults w stands;
       holds = hold.landed publishing content board files faults w stands rests.flights;
       legal = hold.grows w.farm under_restart (failures_of_flushes w) w.log allowed;
     }

@@ -10,7 +10,7 @@ use Rattle.outside_world.specs.declared.world.WorldEntry.TheVariants.{Unsent}
 use Rattle.any_config.specs.declared.farm.Farm.{Farm}
 use Rattle.cache_log.specs.Entries.{LogEntry}
 use Rattle.cache_log.specs.Rules.{IsLegal}
-use Rattle.coherence_core.specs.Holds.{HoldsClosed}
+use Rattle.coherence_core.specs.Holds.{Holds, HoldsClosed}
 use Rattle.coherence_core.specs.Sessions.{failed_entries}
 use Rattle.connections.specs.Ids.{ConnectionId}
 use Rattle.run_events.specs.declared.flying.Flushing.{Flushing}
@@ -86,10 +86,12 @@ count_unsent entries = count_by is_unsent entries
 abbrev pub left_log : RunState → List LogEntry
 left_log w = failed_entries (map (λ (flush : Flushing). flush.number) w.flushes) ++ w.log
 
--- The disk tells its files, which hold that log, closed; and where the log of the state is legal, so is that. So a session may go on with it.
+-- The disk tells its files, which hold the log of the state, and the log that a session leaves, closed; and where the former is legal, so is the
+-- latter. So a session may go on with it.
 pub record HoldsWhatIsLeft (told : Option Files) (w : RunState) : Type 0 where
   pub files : Files
   pub told_is : told ≡ Some files
+  pub held : Holds w.farm files w.log
   pub holds : HoldsClosed w.farm files (left_log w)
   pub legal : IsLegal w.farm w.log → IsLegal w.farm (left_log w)
 

@@ -1,103 +1,143 @@
--- The disk of a scenario fails in an event only where a line planned it, one act more or less.
-use Rattle.std.proofs.Common.{◌≡◌, ◌-◌, ◌<◌, ◌++◌, ◌&&◌, ◌∙◌, ℕ, Bool, not, true, false, List, [], ◌∷◌, Option, Some, None, ap, subst, refl, arith}
+-- The disk of a scenario fails in an event only as the last line before it says that plans failures, one act more or less.
+use Rattle.std.proofs.Common.{◌≡◌, ◌≢◌, ◌-◌, ◌<◌, ◌++◌, ◌∙◌, ℕ, Bool, true, false, List, [], ◌∷◌, Option, Some, None, if◌then◌else◌, subst, sym, refl, arith}
 use Rattle.std.specs.Prelude.{IsTrue}
 use Rattle.std.proofs.lemmas.Bool.{false≢true}
 use Rattle.sp_base.specs.Limits.{greatest_u64}
 use Rattle.run_events.specs.Causes.{SpoilAtMost}
 use Rattle.run_events.specs.Events.{Event, HasCause, after_event, state_after_events, state_before_notes}
 use Rattle.run_events.specs.States.{RunState}
-use Rattle.run_events.specs.declared.step.Step.{Step}
-use Rattle.sling_dispatch.specs.Runs.{AreArmed, IsArmed, armed_after_event, may_spoil}
-use Rattle.sling_dispatch.specs.ScriptedDisks.{fault_count}
+use Rattle.run_events.specs.declared.note.Note.{Note}
+use Rattle.sling_dispatch.specs.Runs.{AreArmed, Arming, IsArmed, MaySpoil, OneFailure, Unarmed, UntilRestart, arming_after, arming_in}
+use Rattle.sling_dispatch.specs.ScriptedDisks.{LeavesCount, planned_count}
 use Rattle.sp_outside.specs.Causes.{IsDiskFailure}
 
--- each step has its event
-abbrev pub Fit : List (Option Step) → List Event → Type 0
+-- each line that has an event has it
+abbrev pub Fit : List (Option Arming) → List Event → Type 0
 Fit [] [] = Unit {0}
 Fit [] (e ∷ events) = ⊥
-Fit (None ∷ steps) events = Fit steps events
-Fit (Some step ∷ steps) [] = ⊥
-Fit (Some step ∷ steps) (e ∷ events) = Fit steps events
+Fit (Some planned ∷ lines) events = Fit lines events
+Fit (None ∷ lines) [] = ⊥
+Fit (None ∷ lines) (e ∷ events) = Fit lines events
 
--- whether the disk may fail after these
-abbrev pub armed_after : Bool → List (Option Step) → List Event → Bool
+-- how the disk may fail after these
+abbrev pub armed_after : Arming → List (Option Arming) → List Event → Arming
 armed_after armed [] events = armed
-armed_after armed (None ∷ steps) events = armed_after true steps events
-armed_after armed (Some step ∷ steps) [] = armed
-armed_after armed (Some step ∷ steps) (e ∷ events) = armed_after (armed_after_event armed e) steps events
+armed_after armed (Some planned ∷ lines) events = armed_after planned lines events
+armed_after armed (None ∷ lines) [] = armed
+armed_after armed (None ∷ lines) (e ∷ events) = armed_after (arming_after (arming_in armed e.step) e) lines events
 
--- ---- a failure is planned
+-- ---- failures are planned
 
-pub fit_plan : (steps : List (Option Step)) (events : List Event) → Fit steps events → Fit (steps ++ None ∷ []) events
-fit_plan [] [] fit = tt
-fit_plan [] (e ∷ events) fit = absurd fit
-fit_plan (None ∷ steps) events fit = fit_plan steps events fit
-fit_plan (Some step ∷ steps) [] fit = absurd fit
-fit_plan (Some step ∷ steps) (e ∷ events) fit = fit_plan steps events fit
+pub fit_plan : (lines : List (Option Arming)) (events : List Event) (planned : Arming) → Fit lines events → Fit (lines ++ Some planned ∷ []) events
+fit_plan [] [] planned fit = tt
+fit_plan [] (e ∷ events) planned fit = absurd fit
+fit_plan (Some other ∷ lines) events planned fit = fit_plan lines events planned fit
+fit_plan (None ∷ lines) [] planned fit = absurd fit
+fit_plan (None ∷ lines) (e ∷ events) planned fit = fit_plan lines events planned fit
 
-pub armed_plan : (a : Bool) (w : RunState) (steps : List (Option Step)) (events : List Event) → Fit steps events → AreArmed a w steps events → AreArmed a w (steps ++ None ∷ []) events
-armed_plan a w [] events fit armed = tt
-armed_plan a w (None ∷ steps) events fit armed = armed_plan true w steps events fit armed
-armed_plan a w (Some step ∷ steps) [] fit armed = absurd fit
-armed_plan a w (Some step ∷ steps) (e ∷ events) fit armed = (armed.0, armed_plan (armed_after_event a e) (after_event w e) steps events fit armed.1)
+pub armed_plan : (a : Arming) (w : RunState) (lines : List (Option Arming)) (events : List Event) (planned : Arming) → Fit lines events → AreArmed a w lines events
+    → AreArmed a w (lines ++ Some planned ∷ []) events
+armed_plan a w [] events planned fit armed = tt
+armed_plan a w (Some other ∷ lines) events planned fit armed = armed_plan other w lines events planned fit armed
+armed_plan a w (None ∷ lines) [] planned fit armed = absurd fit
+armed_plan a w (None ∷ lines) (e ∷ events) planned fit armed = (armed.0, armed_plan (arming_after (arming_in a e.step) e) (after_event w e) lines events planned fit armed.1)
 
-pub after_plan : (a : Bool) (steps : List (Option Step)) (events : List Event) → Fit steps events → armed_after a (steps ++ None ∷ []) events ≡ true
-after_plan a [] events fit = refl
-after_plan a (None ∷ steps) events fit = after_plan true steps events fit
-after_plan a (Some step ∷ steps) [] fit = absurd fit
-after_plan a (Some step ∷ steps) (e ∷ events) fit = after_plan (armed_after_event a e) steps events fit
+pub after_plan : (a : Arming) (lines : List (Option Arming)) (events : List Event) (planned : Arming) → Fit lines events → armed_after a (lines ++ Some planned ∷ []) events ≡ planned
+after_plan a [] events planned fit = refl
+after_plan a (Some other ∷ lines) events planned fit = after_plan other lines events planned fit
+after_plan a (None ∷ lines) [] planned fit = absurd fit
+after_plan a (None ∷ lines) (e ∷ events) planned fit = after_plan (arming_after (arming_in a e.step) e) lines events planned fit
 
 -- ---- an event comes
 
-pub fit_event : (steps : List (Option Step)) (events : List Event) (s : Step) (e : Event) → Fit steps events → Fit (steps ++ Some s ∷ []) (events ++ e ∷ [])
-fit_event [] [] s e fit = tt
-fit_event [] (x ∷ events) s e fit = absurd fit
-fit_event (None ∷ steps) events s e fit = fit_event steps events s e fit
-fit_event (Some step ∷ steps) [] s e fit = absurd fit
-fit_event (Some step ∷ steps) (x ∷ events) s e fit = fit_event steps events s e fit
+pub fit_event : (lines : List (Option Arming)) (events : List Event) (e : Event) → Fit lines events → Fit (lines ++ None ∷ []) (events ++ e ∷ [])
+fit_event [] [] e fit = tt
+fit_event [] (x ∷ events) e fit = absurd fit
+fit_event (Some planned ∷ lines) events e fit = fit_event lines events e fit
+fit_event (None ∷ lines) [] e fit = absurd fit
+fit_event (None ∷ lines) (x ∷ events) e fit = fit_event lines events e fit
 
-pub armed_event : (a : Bool) (w : RunState) (steps : List (Option Step)) (events : List Event) (s : Step) (e : Event) → Fit steps events → AreArmed a w steps events
-    → IsArmed (armed_after a steps events) (state_after_events w events) e → AreArmed a w (steps ++ Some s ∷ []) (events ++ e ∷ [])
-armed_event a w [] [] s e fit armed here = (here, tt)
-armed_event a w [] (x ∷ events) s e fit armed here = absurd fit
-armed_event a w (None ∷ steps) events s e fit armed here = armed_event true w steps events s e fit armed here
-armed_event a w (Some step ∷ steps) [] s e fit armed here = absurd fit
-armed_event a w (Some step ∷ steps) (x ∷ events) s e fit armed here =
-    (armed.0, armed_event (armed_after_event a x) (after_event w x) steps events s e fit armed.1 here)
+pub armed_event : (a : Arming) (w : RunState) (lines : List (Option Arming)) (events : List Event) (e : Event) → Fit lines events → AreArmed a w lines events
+    → IsArmed (arming_in (armed_after a lines events) e.step) (state_after_events w events) e → AreArmed a w (lines ++ None ∷ []) (events ++ e ∷ [])
+armed_event a w [] [] e fit armed here = (here, tt)
+armed_event a w [] (x ∷ events) e fit armed here = absurd fit
+armed_event a w (Some planned ∷ lines) events e fit armed here = armed_event planned w lines events e fit armed here
+armed_event a w (None ∷ lines) [] e fit armed here = absurd fit
+armed_event a w (None ∷ lines) (x ∷ events) e fit armed here =
+    (armed.0, armed_event (arming_after (arming_in a x.step) x) (after_event w x) lines events e fit armed.1 here)
 
-pub after_event_armed : (a : Bool) (steps : List (Option Step)) (events : List Event) (s : Step) (e : Event) → Fit steps events
-    → armed_after a (steps ++ Some s ∷ []) (events ++ e ∷ []) ≡ armed_after_event (armed_after a steps events) e
-after_event_armed a [] [] s e fit = refl
-after_event_armed a [] (x ∷ events) s e fit = absurd fit
-after_event_armed a (None ∷ steps) events s e fit = after_event_armed true steps events s e fit
-after_event_armed a (Some step ∷ steps) [] s e fit = absurd fit
-after_event_armed a (Some step ∷ steps) (x ∷ events) s e fit = after_event_armed (armed_after_event a x) steps events s e fit
+pub after_event_armed : (a : Arming) (lines : List (Option Arming)) (events : List Event) (e : Event) → Fit lines events
+    → armed_after a (lines ++ None ∷ []) (events ++ e ∷ []) ≡ arming_after (arming_in (armed_after a lines events) e.step) e
+after_event_armed a [] [] e fit = refl
+after_event_armed a [] (x ∷ events) e fit = absurd fit
+after_event_armed a (Some planned ∷ lines) events e fit = after_event_armed planned lines events e fit
+after_event_armed a (None ∷ lines) [] e fit = absurd fit
+after_event_armed a (None ∷ lines) (x ∷ events) e fit = after_event_armed (arming_after (arming_in a x.step) x) lines events e fit
 
 -- ---- the count of faults
 
-count_small : (spent : Bool) → fault_count spent < greatest_u64
-count_small true = omega arith
-count_small false = omega arith
+-- how the disk may fail after an event in which it failed or didn't
+abbrev left_after : Arming → Bool → Arming
+left_after Unarmed failed = Unarmed
+left_after OneFailure failed = if failed then Unarmed else OneFailure
+left_after UntilRestart failed = UntilRestart
+
+left_is : (armed : Arming) (e : Event) → arming_after armed e ≡ left_after armed e.conditions.disk_failed
+left_is Unarmed e = refl
+left_is OneFailure e = refl
+left_is UntilRestart e = refl
+
+one_is_armed : OneFailure ≢ Unarmed
+one_is_armed e = cc (e)
+
+stop_is_armed : UntilRestart ≢ Unarmed
+stop_is_armed e = cc (e)
 
 -- what a rise of the count says
-count_says : (spent left failed : Bool) → IsDiskFailure (fault_count spent) (fault_count left) failed
-    → (IsTrue failed → IsTrue (not spent)) × ((not spent && not failed) ≡ not left) × (fault_count left - fault_count spent ≡ may_spoil failed)
-count_says true true true d = absurd (omega (arith, d.1))
-count_says true true false d = ((λ h. absurd (false≢true h)), refl, refl)
-count_says true false true d = absurd (omega (arith, d.0))
-count_says true false false d = absurd (omega (arith, d))
-count_says false true true d = ((λ h. refl), refl, refl)
-count_says false true false d = absurd (omega (arith, d))
-count_says false false true d = absurd (omega (arith, d.1))
-count_says false false false d = ((λ h. absurd (false≢true h)), refl, refl)
+count_says : (armed left : Arming) (after : ℕ) (failed : Bool) → LeavesCount armed left after → IsDiskFailure (planned_count armed) after failed
+    → (IsTrue failed → armed ≢ Unarmed) × (left_after armed failed ≡ left)
+count_says Unarmed Unarmed after true counted d = absurd (omega (arith, d.1, counted.1))
+count_says Unarmed Unarmed after false counted d = ((λ h. absurd (false≢true h)), refl)
+count_says Unarmed OneFailure after true counted d = absurd (omega (arith, d.0, counted.1))
+count_says Unarmed OneFailure after false counted d = absurd (omega (arith, d, counted.1))
+count_says Unarmed UntilRestart after failed counted d = absurd (counted.0 refl)
+count_says OneFailure Unarmed after true counted d = ((λ h. one_is_armed), refl)
+count_says OneFailure Unarmed after false counted d = absurd (omega (arith, d, counted.1))
+count_says OneFailure OneFailure after true counted d = absurd (omega (arith, d.1, counted.1))
+count_says OneFailure OneFailure after false counted d = ((λ h. absurd (false≢true h)), refl)
+count_says OneFailure UntilRestart after failed counted d = absurd (counted.0 refl)
+count_says UntilRestart left after failed counted d = ((λ h. stop_is_armed), sym counted)
 
-pub armed_by : (spent left : Bool) (w : RunState) (e : Event) (armed : Bool) → armed ≡ not spent → HasCause (fault_count spent) (fault_count left) w e
-    → IsArmed armed w e × (armed_after_event armed e ≡ not left)
-armed_by spent left w e armed is cause =
-    let says = count_says spent left e.conditions.disk_failed cause.disk in (
+-- what it says of what is spoilt
+spoils_say : (armed left : Arming) (after : ℕ) (failed : Bool) (w : RunState) (notes : List Note) → LeavesCount armed left after → IsDiskFailure (planned_count armed) after failed
+    → (after < greatest_u64 → SpoilAtMost (after - planned_count armed) w notes) → MaySpoil armed failed w notes
+spoils_say Unarmed left after false w notes counted d spoils =
+    let none : after - 1 ≡ 0 = omega (arith, d) in
+    subst (λ (n : ℕ). SpoilAtMost n w notes) none (spoils (omega (arith, d)))
+spoils_say OneFailure left after false w notes counted d spoils =
+    let none : after - 0 ≡ 0 = omega (arith, d) in
+    subst (λ (n : ℕ). SpoilAtMost n w notes) none (spoils (omega (arith, d)))
+spoils_say UntilRestart left after false w notes counted d spoils =
+    let none : after - 0 ≡ 0 = omega (arith, d) in
+    subst (λ (n : ℕ). SpoilAtMost n w notes) none (spoils (omega (arith, d)))
+spoils_say Unarmed Unarmed after true w notes counted d spoils = absurd (omega (arith, d.1, counted.1))
+spoils_say Unarmed OneFailure after true w notes counted d spoils = absurd (omega (arith, d.0, counted.1))
+spoils_say Unarmed UntilRestart after true w notes counted d spoils = absurd (counted.0 refl)
+spoils_say OneFailure Unarmed after true w notes counted d spoils =
+    let one : after - 0 ≡ 1 = omega (arith, counted.1) in
+    subst (λ (n : ℕ). SpoilAtMost n w notes) one (spoils (omega (arith, counted.1)))
+spoils_say OneFailure OneFailure after true w notes counted d spoils = absurd (omega (arith, d.1, counted.1))
+spoils_say OneFailure UntilRestart after true w notes counted d spoils = absurd (counted.0 refl)
+spoils_say UntilRestart left after true w notes counted d spoils = tt
+
+pub armed_by : (armed left : Arming) (after : ℕ) (w : RunState) (e : Event) → LeavesCount armed left after → HasCause (planned_count armed) after w e
+    → IsArmed armed w e × (arming_after armed e ≡ left)
+armed_by armed left after w e counted cause =
+    let failed = e.conditions.disk_failed in
+    let says = count_says armed left after failed counted cause.disk in (
       record {
-        may_fail = λ failed. is ∙ says.0 failed;
-        spoils = subst (λ (n : ℕ). SpoilAtMost n (state_before_notes w e e.step) e.body) says.2 (cause.spoils (count_small left));
+        may_fail = says.0;
+        spoils = spoils_say armed left after failed (state_before_notes w e e.step) e.body counted cause.disk cause.spoils;
       },
-      ap (λ (a : Bool). a && not e.conditions.disk_failed) is ∙ says.1,
+      left_is armed e ∙ says.1,
     )

@@ -1,5 +1,6 @@
 pub mod Writing
 pub mod ArmedLemmas
+pub mod FrontLemmas
 pub mod BeginLemmas
 pub mod Sessions
 pub mod Meanings

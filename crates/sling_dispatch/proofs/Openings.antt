@@ -39,9 +39,7 @@ use Rattle.sling_dispatch.proofs.ServingLemmas.{due_opening}
 -- what an opening leaves of the logs
 pub logs_kept : (beginning : Beginning) (farm : Farm) (old new : Option Files) → Told (KeepsHolds farm) old new → KeepsLogs beginning farm old new
 logs_kept Fresh farm old new k = tt
-logs_kept Warm farm None new k = k
-logs_kept Warm farm (Some old) None k = absurd k
-logs_kept Warm farm (Some old) (Some new) k = λ log closed. record { holds = k log closed.holds; idle = closed.idle }
+logs_kept Warm farm old new k = k
 
 -- a front that was opened warm
 pub opened_warm : (farm : Farm) (tree now : Content) (told : Option Files) (b : BoardAt) → BeginsRun sling_publisher tree farm told b now → OpensRun Warm farm tree told b now

@@ -1,5 +1,5 @@
 -- The events that were made so far are a run, and their lines were written or are gathered.
-use Rattle.std.proofs.Common.{◌≡◌, ◌≤◌, ◌+◌, ◌++◌, ℕ, not, true, false, List, [], ◌∷◌, Option, Some, None, Ok, Err, inl, inr, length, map, suc, take, sym, ◌∙◌, ap, subst, refl, arith, append_assoc, length-append}
+use Rattle.std.proofs.Common.{◌≡◌, ◌≤◌, ◌+◌, ◌++◌, ℕ, List, [], ◌∷◌, Option, Some, None, Ok, Err, inl, inr, length, map, suc, take, sym, ◌∙◌, ap, subst, refl, arith, append_assoc, length-append}
 use Rattle.std.specs.List.{filter_map, cons_option}
 use Rattle.std.proofs.lemmas.List.{take_all, append-nil}
 use Rattle.std.proofs.lemmas.List.Elements.{filter_map-append}
@@ -22,7 +22,8 @@ use Rattle.replay_text.specs.Scenario.{IsActs}
 use Rattle.replay_text.specs.Transcript.{event_text, transcript_from, transcript}
 use Rattle.replay_text.specs.declared.event_line.EventLine.{EventLine}
 use Rattle.replay_text.specs.declared.scenario.Scenario.{Scenario}
-use Rattle.sling_dispatch.specs.Runs.{AreArmed, IsSession, asked_publisher_host, sling_start, step_of, told_of_events}
+use Rattle.sling_dispatch.specs.Runs.{AreArmed, Arming, IsArmed, IsSession, Unarmed, arming_after, arming_in, arming_of, asked_publisher_host, sling_start, step_of, told_of_events}
+use Rattle.sling_dispatch.specs.ScriptedDisks.{arming_of_disk}
 use Rattle.sling_dispatch.specs.Fronts.{IsNext, IsPlayed, SessionStandsFor}
 use Rattle.sling_dispatch.specs.Endings.{Events, Broken}
 use Rattle.sling_dispatch.specs.Reports.{StreamReport, report_of}
@@ -66,9 +67,9 @@ Goes = (w : RunState) (events : List Event) (e : Event) → Run w events → Hap
 abbrev pub Leaves : Type 0
 Leaves = (w : RunState) (events : List Event) (e : Event) → state_after_events w (events ++ e ∷ []) ≡ after_event (state_after_events w events) e
 
--- the step of each line, if it has one
-abbrev pub steps_of : Farm → List EventLine → List (Option Step)
-steps_of farm acts = map (step_of (asked_publisher_host farm)) acts
+-- what each line says of how the disk may fail
+abbrev pub armings_of : List EventLine → List (Option Arming)
+armings_of acts = map arming_of acts
 
 -- Some acts were done. Of the lines of their events some were sent, and the rest is gathered.
 pub record Played (tree : Content) (farm : Farm) (acts rest : List ℕ) (s : Session) (old new : Option (List ℕ)) (gathered : List ℕ) : Type 0 where
@@ -79,9 +80,9 @@ pub record Played (tree : Content) (farm : Farm) (acts rest : List ℕ) (s : Ses
   pub events : List Event
   pub steps : map (λ (e : Event). e.step) events ≡ filter_map (step_of (asked_publisher_host farm)) made
   pub run : Run (start_of (sling_start farm tree)) events
-  pub fit : Fit (steps_of farm made) events
-  pub armed : AreArmed false (start_of (sling_start farm tree)) (steps_of farm made) events
-  pub may_fail : armed_after false (steps_of farm made) events ≡ not s.disk.spent
+  pub fit : Fit (armings_of made) events
+  pub armed : AreArmed Unarmed (start_of (sling_start farm tree)) (armings_of made) events
+  pub may_fail : armed_after Unarmed (armings_of made) events ≡ arming_of_disk s.disk
   pub count_is : length events ≡ s.event
   pub stands : SessionStandsFor s (state_after_events (start_of (sling_start farm tree)) events)
   pub sent : List ℕ
@@ -89,8 +90,8 @@ pub record Played (tree : Content) (farm : Farm) (acts rest : List ℕ) (s : Ses
   pub text_is : told_of_events events ≡ sent ++ gathered
 
 pub played_none : (tree : Content) (farm : Farm) (acts : List ℕ) (s : Session) (old : Option (List ℕ)) → AreActLines acts → SessionStandsFor s (start_of (sling_start farm tree))
-    → s.disk.spent ≡ true → s.event ≡ 0 → (q : Played tree farm acts acts s old old []) × (q.events ≡ [])
-played_none tree farm acts s old are stands spent event = (
+    → arming_of_disk s.disk ≡ Unarmed → s.event ≡ 0 → (q : Played tree farm acts acts s old old []) × (q.events ≡ [])
+played_none tree farm acts s old are stands unarmed event = (
   record {
     made = [];
     left = are.0;
@@ -101,7 +102,7 @@ played_none tree farm acts s old are stands spent event = (
     run = tt;
     fit = tt;
     armed = tt;
-    may_fail = sym (ap not spent);
+    may_fail = sym unarmed;
     count_is = sym event;
     stands = stands;
     sent = [];
@@ -116,24 +117,23 @@ abbrev pub FirstIsTold : Type 0
 FirstIsTold = (lines rest : List ℕ) (acts : List EventLine) (act : EventLine) → IsActs lines acts → IsEventLine act → lines ≡ line_of act ++ 10 ∷ rest
     → (left : List EventLine) × (acts ≡ act ∷ left) × IsActs rest left
 
--- the steps of one act more
-steps_push : (farm : Farm) (made : List EventLine) (act : EventLine) (o : Option Step) → step_of (asked_publisher_host farm) act ≡ o
-    → steps_of farm (made ++ act ∷ []) ≡ steps_of farm made ++ o ∷ []
-steps_push farm made act o e = map_push (step_of (asked_publisher_host farm)) made act ∙ ap (λ (x : Option Step). steps_of farm made ++ x ∷ []) e
+-- what one act more says
+armings_push : (made : List EventLine) (act : EventLine) (o : Option Arming) → arming_of act ≡ o → armings_of (made ++ act ∷ []) ≡ armings_of made ++ o ∷ []
+armings_push made act o e = map_push arming_of made act ∙ ap (λ (x : Option Arming). armings_of made ++ x ∷ []) e
 
 made_push : (host : List ℕ) (made : List EventLine) (act : EventLine) (o : Option Step) → step_of host act ≡ o
     → filter_map (step_of host) (made ++ act ∷ []) ≡ filter_map (step_of host) made ++ cons_option o []
 made_push host made act o e =
     filter_map-append (step_of host) made (act ∷ []) ∙ ap (λ (x : Option Step). filter_map (step_of host) made ++ cons_option x []) e
 
--- the next line plans a failure
-pub played_plan : (tree : Content) (farm : Farm) (acts rest after : List ℕ) (s t : Session) (old new : Option (List ℕ)) (gathered text : List ℕ) (act : EventLine) (left : List EventLine)
-    → (p : Played tree farm acts rest s old new gathered) → step_of (asked_publisher_host farm) act ≡ None → p.left ≡ act ∷ left → IsActs after left → IsPlayed None s t text
-    → (q : Played tree farm acts after t old new (gathered ++ text)) × (q.events ≡ p.events)
-played_plan tree farm acts rest after s t old new gathered text act left p step is left_are x =
+-- the next line plans failures
+pub played_plan : (tree : Content) (farm : Farm) (acts rest after : List ℕ) (s t : Session) (old new : Option (List ℕ)) (gathered text : List ℕ) (act : EventLine) (left : List EventLine) (planned : Arming)
+    → (p : Played tree farm acts rest s old new gathered) → step_of (asked_publisher_host farm) act ≡ None → arming_of act ≡ Some planned → p.left ≡ act ∷ left → IsActs after left
+    → IsPlayed None (Some planned) s t text → (q : Played tree farm acts after t old new (gathered ++ text)) × (q.events ≡ p.events)
+played_plan tree farm acts rest after s t old new gathered text act left planned p step arms is left_are x =
     let host = asked_publisher_host farm in
     let w = start_of (sling_start farm tree) in
-    let steps = steps_push farm p.made act None step in (
+    let lines = armings_push p.made act (Some planned) arms in (
       record {
         made = p.made ++ act ∷ [];
         left = left;
@@ -142,32 +142,38 @@ played_plan tree farm acts rest after s t old new gathered text act left p step 
         events = p.events;
         steps = p.steps ∙ sym (made_push host p.made act None step ∙ list_nil (filter_map (step_of host) p.made));
         run = p.run;
-        fit = subst (λ (o : List (Option Step)). Fit o p.events) (sym steps) (fit_plan (steps_of farm p.made) p.events p.fit);
-        armed = subst (λ (o : List (Option Step)). AreArmed false w o p.events) (sym steps) (armed_plan false w (steps_of farm p.made) p.events p.fit p.armed);
-        may_fail = ap (λ (o : List (Option Step)). armed_after false o p.events) steps ∙ after_plan false (steps_of farm p.made) p.events p.fit ∙ sym (ap not x.1);
-        count_is = p.count_is ∙ sym x.2;
-        stands = x.0 (state_after_events w p.events) p.stands;
+        fit = subst (λ (o : List (Option Arming)). Fit o p.events) (sym lines) (fit_plan (armings_of p.made) p.events planned p.fit);
+        armed = subst (λ (o : List (Option Arming)). AreArmed Unarmed w o p.events) (sym lines) (armed_plan Unarmed w (armings_of p.made) p.events planned p.fit p.armed);
+        may_fail = ap (λ (o : List (Option Arming)). armed_after Unarmed o p.events) lines ∙ after_plan Unarmed (armings_of p.made) p.events planned p.fit ∙ sym x.0.1;
+        count_is = p.count_is ∙ sym x.0.2;
+        stands = x.0.0 (state_after_events w p.events) p.stands;
         sent = p.sent;
         written = p.written;
-        text_is = p.text_is ∙ ap (λ g. p.sent ++ g) (sym (ap (λ g. gathered ++ g) x.3 ∙ append-nil gathered));
+        text_is = p.text_is ∙ ap (λ g. p.sent ++ g) (sym (ap (λ g. gathered ++ g) x.1 ∙ append-nil gathered));
       },
       refl,
     )
 
 -- the next event was made, and its lines are to be gathered
 pub played_event : Goes → Leaves → (tree : Content) (farm : Farm) (acts rest after : List ℕ) (s t : Session) (old new : Option (List ℕ)) (gathered text : List ℕ) (act : EventLine) (left : List EventLine) (step : Step)
-    → (p : Played tree farm acts rest s old new gathered) → step_of (asked_publisher_host farm) act ≡ Some step → p.left ≡ act ∷ left → IsActs after left → (x : IsPlayed (Some step) s t text)
+    → (p : Played tree farm acts rest s old new gathered) → step_of (asked_publisher_host farm) act ≡ Some step → arming_of act ≡ None → p.left ≡ act ∷ left → IsActs after left → (x : IsPlayed (Some step) None s t text)
     → (q : Played tree farm acts after t old new (gathered ++ text)) × (event : Event) × (q.events ≡ p.events ++ event ∷ []) × (x.0 ≡ notes_of event)
-played_event goes leaves tree farm acts rest after s t old new gathered text act left step p step_is is left_are x =
+played_event goes leaves tree farm acts rest after s t old new gathered text act left step p step_is arms_none is left_are x =
     let host = asked_publisher_host farm in
     let w = start_of (sling_start farm tree) in
-    let steps = steps_push farm p.made act (Some step) step_is in
+    let lines = armings_push p.made act None arms_none in
     let notes = x.0 in
-    let next = x.1.extended (state_after_events w p.events) p.stands in
+    let made = x.1.0 in
+    let next = made.extends.extended (state_after_events w p.events) p.stands in
     let event = next.event in
     let events = p.events ++ event ∷ [] in
-    let arms = armed_by s.disk.spent t.disk.spent (state_after_events w p.events) event (armed_after false (steps_of farm p.made) p.events) p.may_fail next.cause in
-    let number : 1 + length (map notes_of p.events) ≡ t.event = omega (arith, p.count_is, length_map notes_of p.events, x.2) in
+    let armed = arming_in (arming_of_disk s.disk) step in
+    let arms = armed_by armed (arming_of_disk t.disk) made.after (state_after_events w p.events) event made.counted next.cause in
+    let at : arming_in (armed_after Unarmed (armings_of p.made) p.events) event.step ≡ armed
+    = ap (λ (a : Arming). arming_in a event.step) p.may_fail ∙ ap (λ (x : Step). arming_in (arming_of_disk s.disk) x) next.step_is in
+    let here : IsArmed (arming_in (armed_after Unarmed (armings_of p.made) p.events) event.step) (state_after_events w p.events) event
+    = subst (λ (a : Arming). IsArmed a (state_after_events w p.events) event) (sym at) arms.0 in
+    let number : 1 + length (map notes_of p.events) ≡ t.event = omega (arith, p.count_is, length_map notes_of p.events, x.1.1) in
     let told : told_of_events events ≡ told_of_events p.events ++ event_text t.event notes = ap transcript (map_push notes_of p.events event) ∙ transcript_push 1 (map notes_of p.events) (notes_of event)
     ∙ ap (λ k. told_of_events p.events ++ event_text k (notes_of event)) number ∙ ap (λ ns. told_of_events p.events ++ event_text t.event ns) next.notes_are in (
       record {
@@ -179,14 +185,15 @@ played_event goes leaves tree farm acts rest after s t old new gathered text act
         steps = map_push (λ (y : Event). y.step) p.events event ∙ ap (λ t. t ++ event.step ∷ []) p.steps ∙ ap (λ u. filter_map (step_of host) p.made ++ u ∷ []) next.step_is
             ∙ sym (made_push host p.made act (Some step) step_is);
         run = goes w p.events event p.run next.happens;
-        fit = subst (λ (o : List (Option Step)). Fit o events) (sym steps) (fit_event (steps_of farm p.made) p.events step event p.fit);
-        armed = subst (λ (o : List (Option Step)). AreArmed false w o events) (sym steps) (armed_event false w (steps_of farm p.made) p.events step event p.fit p.armed arms.0);
-        may_fail = ap (λ (o : List (Option Step)). armed_after false o events) steps ∙ after_event_armed false (steps_of farm p.made) p.events step event p.fit ∙ arms.1;
-        count_is = omega (arith, p.count_is, length-append p.events (event ∷ []), x.2);
+        fit = subst (λ (o : List (Option Arming)). Fit o events) (sym lines) (fit_event (armings_of p.made) p.events event p.fit);
+        armed = subst (λ (o : List (Option Arming)). AreArmed Unarmed w o events) (sym lines) (armed_event Unarmed w (armings_of p.made) p.events event p.fit p.armed here);
+        may_fail = ap (λ (o : List (Option Arming)). armed_after Unarmed o events) lines ∙ after_event_armed Unarmed (armings_of p.made) p.events event p.fit
+            ∙ ap (λ (a : Arming). arming_after a event) at ∙ arms.1;
+        count_is = omega (arith, p.count_is, length-append p.events (event ∷ []), x.1.1);
         stands = subst (SessionStandsFor t) (sym (leaves w p.events event)) next.stands;
         sent = p.sent;
         written = p.written;
-        text_is = told ∙ ap (λ t. told_of_events p.events ++ t) (sym x.3) ∙ ap (λ t. t ++ text) p.text_is ∙ append_assoc p.sent gathered text;
+        text_is = told ∙ ap (λ t. told_of_events p.events ++ t) (sym x.2) ∙ ap (λ t. t ++ text) p.text_is ∙ append_assoc p.sent gathered text;
       },
       event,
       refl,
@@ -198,12 +205,14 @@ pub played_next : Goes → Leaves → FirstIsTold → (tree : Content) (farm : F
     → Played tree farm acts rest s old new gathered → IsNext (asked_publisher_host farm) rest after s t text → Played tree farm acts after t old new (gathered ++ text)
 played_next goes leaves told_first tree farm acts rest after s t old new gathered text p x =
     let first = told_first rest after p.left x.act p.left_are x.is_line x.lines_are in
-    by_step (step_of (asked_publisher_host farm) x.act) refl x.played first
+    by_step (step_of (asked_publisher_host farm) x.act) (arming_of x.act) refl refl x.played first
   where
-    by_step : (o : Option Step) → step_of (asked_publisher_host farm) x.act ≡ o → IsPlayed o s t text → ((left : List EventLine) × (p.left ≡ x.act ∷ left) × IsActs after left)
-        → Played tree farm acts after t old new (gathered ++ text)
-    by_step None e played (left, is, are) = (played_plan tree farm acts rest after s t old new gathered text x.act left p e is are played).0
-    by_step (Some step) e played (left, is, are) = (played_event goes leaves tree farm acts rest after s t old new gathered text x.act left step p e is are played).0
+    by_step : (o : Option Step) (a : Option Arming) → step_of (asked_publisher_host farm) x.act ≡ o → arming_of x.act ≡ a → IsPlayed o a s t text
+        → ((left : List EventLine) × (p.left ≡ x.act ∷ left) × IsActs after left) → Played tree farm acts after t old new (gathered ++ text)
+    by_step None None e f played first = absurd played
+    by_step None (Some planned) e f played (left, is, are) = (played_plan tree farm acts rest after s t old new gathered text x.act left planned p e f is are played).0
+    by_step (Some step) None e f played (left, is, are) = (played_event goes leaves tree farm acts rest after s t old new gathered text x.act left step p e f is are played).0
+    by_step (Some step) (Some planned) e f played first = absurd played
 
 -- the lines after an act's are shorter
 pub next_shorter : (host rest after : List ℕ) (s t : Session) (text : List ℕ) → IsNext host rest after s t text → length after + 1 ≤ length rest

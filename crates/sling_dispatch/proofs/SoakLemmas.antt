@@ -1,5 +1,5 @@
 -- The events that were made so far are a run, and they are counted.
-use Rattle.std.proofs.Common.{◌≡◌, ◌∙◌, ◌≤◌, ◌+◌, ◌++◌, ◌∷◌, [], ℕ, List, Option, Some, None, Result, Ok, Err, IfOk, OnErr, true, ap, sym, subst, refl, length}
+use Rattle.std.proofs.Common.{◌≡◌, ◌∙◌, ◌≤◌, ◌+◌, ◌++◌, ◌∷◌, [], ℕ, List, Option, Some, None, Result, Ok, Err, IfOk, OnErr, ap, sym, subst, refl, length}
 use Rattle.any_config.specs.declared.farm.Farm.{Farm}
 use Rattle.content_json.specs.ContentOf.{content as content_of}
 use Rattle.replay_text.specs.Scenario.{IsActs, ReadsScenario}
@@ -17,7 +17,8 @@ use Rattle.sling_dispatch.specs.Fronts.{IsMade, IsNext, IsNextEvent, IsPlayed, S
 use Rattle.sling_dispatch.specs.InnerEndings.{AreActLines, TellsText}
 use Rattle.sling_dispatch.specs.InnerServing.{CountsAll, CountsNotes, CountsOn, IsSummaryIn, IsSummaryOf, IsSummaryOr}
 use Rattle.sling_dispatch.specs.Reports.{IsUntouched, StreamReport}
-use Rattle.sling_dispatch.specs.Runs.{IsSession, asked_publisher_host, sling_start, step_of}
+use Rattle.sling_dispatch.specs.Runs.{Arming, IsSession, Unarmed, arming_of, asked_publisher_host, sling_start, step_of}
+use Rattle.sling_dispatch.specs.ScriptedDisks.{arming_of_disk}
 use Rattle.sling_dispatch.specs.Summaries.{counts_of, counts_text}
 use Rattle.sling_dispatch.specs.declared.ending.Ending.{Ending}
 use Rattle.sling_dispatch.specs.declared.ending.Ending.TheVariants.{Done, NoMemory}
@@ -28,11 +29,15 @@ use Rattle.sling_dispatch.proofs.Sessions.{FirstIsTold, Goes, Leaves, Played, ne
 
 -- ---- the text of an event
 
-played_of_made : (o : Option Step) (old new : Session) (notes : Option (List Note)) → IsMade o old new notes → IsPlayed o old new (lines_of_event new.event notes)
-played_of_made None old new None m = (m.0, m.1, m.2, refl)
-played_of_made None old new (Some notes) m = absurd m
-played_of_made (Some step) old new None m = absurd m
-played_of_made (Some step) old new (Some notes) m = (notes, m.0, m.1, refl)
+played_of_made : (o : Option Step) (a : Option Arming) (old new : Session) (notes : Option (List Note)) → IsMade o a old new notes → IsPlayed o a old new (lines_of_event new.event notes)
+played_of_made None (Some planned) old new None m = (m, refl)
+played_of_made (Some step) None old new (Some notes) m = (notes, m, refl)
+played_of_made None None old new None m = absurd m
+played_of_made None None old new (Some notes) m = absurd m
+played_of_made None (Some planned) old new (Some notes) m = absurd m
+played_of_made (Some step) None old new None m = absurd m
+played_of_made (Some step) (Some planned) old new None m = absurd m
+played_of_made (Some step) (Some planned) old new (Some notes) m = absurd m
 
 -- the lines of the event that was made are its text
 pub next_told : (host lines rest : List ℕ) (old new : Session) (notes : Option (List Note)) (text : List ℕ) → IsNextEvent host lines rest old new notes → text ≡ lines_of_event new.event notes
@@ -41,7 +46,7 @@ next_told host lines rest old new notes text x e = record {
   act = x.act;
   is_line = x.is_line;
   lines_are = x.lines_are;
-  played = subst (IsPlayed (step_of host x.act) old new) (sym e) (played_of_made (step_of host x.act) old new notes x.made);
+  played = subst (IsPlayed (step_of host x.act) (arming_of x.act) old new) (sym e) (played_of_made (step_of host x.act) (arming_of x.act) old new notes x.made);
 }
 
 -- ---- counts
@@ -52,10 +57,10 @@ pub record Counted (tree : Content) (farm : Farm) (acts rest : List ℕ) (s : Se
   pub played : Played tree farm acts rest s None None gathered
   pub counts_are : c ≡ counts_of played.events
 
-pub counted_none : (tree : Content) (farm : Farm) (acts : List ℕ) (s : Session) (c : Counts) → AreActLines acts → SessionStandsFor s (start_of (sling_start farm tree)) → s.disk.spent ≡ true → s.event ≡ 0
+pub counted_none : (tree : Content) (farm : Farm) (acts : List ℕ) (s : Session) (c : Counts) → AreActLines acts → SessionStandsFor s (start_of (sling_start farm tree)) → arming_of_disk s.disk ≡ Unarmed → s.event ≡ 0
     → c ≡ counts_of [] → Counted tree farm acts acts s c
-counted_none tree farm acts s c are stands spent event counts =
-    let q = played_none tree farm acts s None are stands spent event in
+counted_none tree farm acts s c are stands unarmed event counts =
+    let q = played_none tree farm acts s None are stands unarmed event in
     record { gathered = []; played = q.0; counts_are = counts ∙ ap counts_of (sym q.1) }
 
 -- the next act was played, and its event counted
@@ -65,18 +70,22 @@ counted_next goes leaves told_first tree farm acts rest after s t before c k x =
     let p = k.played in
     let n = x.next in
     let first = told_first rest after p.left n.act p.left_are n.is_line n.lines_are in
-    by_step (step_of (asked_publisher_host farm) n.act) x.notes refl n.made x.counted first
+    by_step (step_of (asked_publisher_host farm) n.act) (arming_of n.act) x.notes refl refl n.made x.counted first
   where
-    by_step : (o : Option Step) (notes : Option (List Note)) → step_of (asked_publisher_host farm) x.next.act ≡ o → IsMade o s t notes → CountsNotes notes before c
+    by_step : (o : Option Step) (a : Option Arming) (notes : Option (List Note)) → step_of (asked_publisher_host farm) x.next.act ≡ o → arming_of x.next.act ≡ a → IsMade o a s t notes → CountsNotes notes before c
         → ((left : List EventLine) × (k.played.left ≡ x.next.act ∷ left) × IsActs after left) → Counted tree farm acts after t c
-    by_step None None e made counted (left, is, are) =
-        let q = played_plan tree farm acts rest after s t None None k.gathered [] x.next.act left k.played e is are (played_of_made None s t None made) in
+    by_step None (Some planned) None e f made counted (left, is, are) =
+        let q = played_plan tree farm acts rest after s t None None k.gathered [] x.next.act left planned k.played e f is are (played_of_made None (Some planned) s t None made) in
         record { gathered = k.gathered ++ []; played = q.0; counts_are = counted ∙ k.counts_are ∙ ap counts_of (sym q.1) }
-    by_step None (Some notes) e made counted first = absurd made
-    by_step (Some step) None e made counted first = absurd made
-    by_step (Some step) (Some notes) e made counted (left, is, are) =
+    by_step None None None e f made counted first = absurd made
+    by_step None None (Some notes) e f made counted first = absurd made
+    by_step None (Some planned) (Some notes) e f made counted first = absurd made
+    by_step (Some step) None None e f made counted first = absurd made
+    by_step (Some step) (Some planned) None e f made counted first = absurd made
+    by_step (Some step) (Some planned) (Some notes) e f made counted first = absurd made
+    by_step (Some step) None (Some notes) e f made counted (left, is, are) =
         let text = event_text t.event notes in
-        let q = played_event goes leaves tree farm acts rest after s t None None k.gathered text x.next.act left step k.played e is are (notes, made.0, made.1, refl) in
+        let q = played_event goes leaves tree farm acts rest after s t None None k.gathered text x.next.act left step k.played e f is are (notes, made, refl) in
         record { gathered = k.gathered ++ text; played = q.0; counts_are = counted k.played.events q.1 k.counts_are q.3 ∙ ap counts_of (sym q.2) }
 
 -- the lines after an act's are shorter

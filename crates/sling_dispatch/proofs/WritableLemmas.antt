@@ -72,6 +72,7 @@ line-fits host (line.Lose flight) is = tt
 line-fits host line.Purge is = tt
 line-fits host line.Restart is = tt
 line-fits host (line.Fail n way) is = tt
+line-fits host (line.Stop n way) is = tt
 
 one-more : (o : Option Step) (steps : List Step) → OptionFits o → StepsFit steps → StepsFit (cons_option o steps)
 one-more None steps first rest = rest

@@ -1,6 +1,7 @@
 pub mod FilterParts
 pub mod Farms
 pub mod Runs
+pub mod ScriptedStates
 pub mod ScriptedDisks
 pub mod SessionLaws
 pub mod SessionsWithMemory

@@ -1,5 +1,5 @@
 -- Which events a scenario has.
-use Rattle.std.specs.Prelude.{◌≡◌, ◌==◌, ◌++◌, ◌&&◌, if◌then◌else◌, ℕ, Bool, true, false, not, List, [], ◌∷◌, Option, Some, None, Ok, IsTrue, codes, length, map}
+use Rattle.std.specs.Prelude.{◌≡◌, ◌≢◌, ◌==◌, ◌++◌, if◌then◌else◌, ℕ, Bool, true, false, List, [], ◌∷◌, Option, Some, None, Ok, IsTrue, codes, length, map}
 use Rattle.std.specs.List.{filter_map}
 use Rattle.std.specs.Fmt.{decimal}
 use Rattle.resource_tree.specs.Content.{Content}
@@ -12,6 +12,7 @@ use Rattle.replay_text.specs.declared.event_line.Flight.TheVariants as flight
 use Rattle.replay_text.specs.declared.scenario.Scenario.{Scenario}
 use Rattle.replay_text.specs.Scenario.{IsActs}
 use Rattle.replay_text.specs.Transcript.{action_text, transcript}
+use Rattle.run_events.specs.declared.note.Note.{Note}
 use Rattle.run_events.specs.declared.step.Pick.{Pick}
 use Rattle.run_events.specs.declared.step.Pick.TheVariants.{Number, First}
 use Rattle.run_events.specs.declared.step.Step.{Step}
@@ -69,7 +70,7 @@ abbrev pub pick_of : Flight → Pick
 pick_of flight.First = First
 pick_of (flight.Numbered n) = Number n
 
--- what a line of a scenario does, where this host is asked: that a call of the disk is to fail is no event
+-- what a line of a scenario does, where this host is asked: that calls of the disk are to fail is no event
 abbrev pub step_of : List ℕ → EventLine → Option Step
 step_of host (line.Direct target) = Some (Direct target)
 step_of host (line.Open c peer) = Some (Opened c peer)
@@ -84,30 +85,61 @@ step_of host (line.Lose flight) = Some (Lose (pick_of flight))
 step_of host line.Purge = Some Purge
 step_of host line.Restart = Some Restart
 step_of host (line.Fail n way) = None
+step_of host (line.Stop n way) = None
 
 -- ---- how the disk fails
 
--- how much an event may spoil
-abbrev pub may_spoil : Bool → ℕ
-may_spoil true = 1
-may_spoil false = 0
+-- How the disk may fail in the events to come: in none of them, in one of them, or in each until a restart.
+pub data Arming : Type 0 where
+  Unarmed : Arming
+  OneFailure : Arming
+  UntilRestart : Arming
 
--- The disk fails in the event only where it may, and then at most one request or flush is spoilt.
-pub record IsArmed (armed : Bool) (w : RunState) (e : Event) : Type 0 where
-  pub may_fail : IsTrue e.conditions.disk_failed → IsTrue armed
-  pub spoils : SpoilAtMost (may_spoil e.conditions.disk_failed) (state_before_notes w e e.step) e.body
+-- what a line says of it, in place of what a line before it said
+abbrev pub arming_of : EventLine → Option Arming
+arming_of (line.Fail n way) = Some OneFailure
+arming_of (line.Stop n way) = Some UntilRestart
+arming_of _ = None
 
--- the disk may fail after this, where it might before: after an event in which it did, it may not
-abbrev pub armed_after_event : Bool → Event → Bool
-armed_after_event armed e = armed && not e.conditions.disk_failed
+-- a restart
+abbrev pub is_restart : Step → Bool
+is_restart Restart = true
+is_restart _ = false
 
--- The disk fails as the lines say, of each of which this is the step, if it has one: in an event only where a line that plans a failure came
--- before it, since which no event's disk failed.
-abbrev pub AreArmed : Bool → RunState → List (Option Step) → List Event → Type 0
-AreArmed armed w [] events = Unit {0}
-AreArmed armed w (None ∷ steps) events = AreArmed true w steps events
-AreArmed armed w (Some step ∷ steps) [] = Unit {0}
-AreArmed armed w (Some step ∷ steps) (e ∷ events) = IsArmed armed w e × AreArmed (armed_after_event armed e) (after_event w e) steps events
+-- how the disk may fail in an event of this step: a restart finds it running again
+abbrev pub arming_in : Arming → Step → Arming
+arming_in Unarmed step = Unarmed
+arming_in OneFailure step = OneFailure
+arming_in UntilRestart step = if is_restart step then Unarmed else UntilRestart
+
+-- how it may fail after an event in which it might fail so: where one failure was planned and it came, in none
+abbrev pub arming_after : Arming → Event → Arming
+arming_after Unarmed e = Unarmed
+arming_after OneFailure e = if e.conditions.disk_failed then Unarmed else OneFailure
+arming_after UntilRestart e = UntilRestart
+
+-- What an event may spoil: nothing where its disk didn't fail, one request or flush where one failure was planned. A disk that is stopped sets
+-- no bound.
+abbrev pub MaySpoil : Arming → Bool → RunState → List Note → Type 0
+MaySpoil arming false w notes = SpoilAtMost 0 w notes
+MaySpoil Unarmed true w notes = SpoilAtMost 0 w notes
+MaySpoil OneFailure true w notes = SpoilAtMost 1 w notes
+MaySpoil UntilRestart true w notes = Unit {0}
+
+-- The disk fails in the event only where it may, and the event spoils no more than it may.
+pub record IsArmed (arming : Arming) (w : RunState) (e : Event) : Type 0 where
+  pub may_fail : IsTrue e.conditions.disk_failed → arming ≢ Unarmed
+  pub spoils : MaySpoil arming e.conditions.disk_failed (state_before_notes w e e.step) e.body
+
+-- The disk fails as the lines say, each of which has an event or says how the disk may fail from there on: in an event only where the last line
+-- before it that says so plans one failure, and no event since then had it, or stops the disk, and neither this event nor one since then is a
+-- restart.
+abbrev pub AreArmed : Arming → RunState → List (Option Arming) → List Event → Type 0
+AreArmed arming w [] events = Unit {0}
+AreArmed arming w (Some planned ∷ lines) events = AreArmed planned w lines events
+AreArmed arming w (None ∷ lines) [] = Unit {0}
+AreArmed arming w (None ∷ lines) (e ∷ events) =
+    IsArmed (arming_in arming e.step) w e × AreArmed (arming_after (arming_in arming e.step) e) (after_event w e) lines events
 
 -- ---- sessions
 
@@ -134,4 +166,4 @@ pub record IsSession (s : Scenario) (left : List EventLine) (events : List Event
   pub acts : IsActs s.acts (made ++ left)
   pub steps : map (λ (e : Event). e.step) events ≡ filter_map (step_of (asked_publisher_host farm)) made
   pub run : Run (start_of (sling_start farm tree)) events
-  pub armed : AreArmed false (start_of (sling_start farm tree)) (map (step_of (asked_publisher_host farm)) made) events
+  pub armed : AreArmed Unarmed (start_of (sling_start farm tree)) (map arming_of made) events

@@ -1,30 +1,38 @@
--- Scaffolding: how often the disk of a scenario fails, for the private functions of the run and for proofs alone.
-use Rattle.std.specs.Prelude.{◌≡◌, ℕ, Bool, true, false, Result, Ok, Err}
+-- Scaffolding: the disk of a scenario, for the private functions of the run and for proofs alone.
+use Rattle.std.specs.Prelude.{◌≡◌, ◌≢◌, ℕ, true, if◌then◌else◌}
 use Rattle.sp_outside.specs.Files.{Files}
-use Rattle.sp_outside.specs.declared.disk.DiskFault.{DiskFault}
-use Rattle.sp_outside.specs.declared.disk.DiskFault.TheVariants.{Failed, NoMemory}
-use Rattle.sp_outside.specs.declared.mem_disk.Plan.{Plan}
-use Rattle.sp_outside.specs.declared.mem_disk.Plan.TheVariants.{Never, Once, From, Stopped}
+use Rattle.run_events.specs.declared.step.Step.{Step}
+use Rattle.sling_dispatch.specs.Runs.{Arming, Unarmed, OneFailure, UntilRestart, is_restart}
+use Rattle.sling_dispatch.specs.declared.scripted_disk.ScriptedDisk.{ScriptedDisk}
+use Rattle.sling_dispatch.specs.declared.scripted_disk.ScriptedDisk.TheVariants.{Failing, Stopped}
 
--- the disk of a scenario: its files, and whether no call may fail any more
-pub record ScriptedState : Type 0 where
-  pub files : Files
-  pub spent : Bool
+-- its files
+abbrev pub files_of_disk : ScriptedDisk → Files
+files_of_disk (Failing d) = d.files
+files_of_disk (Stopped d) = d.files
 
--- the count of its faults since a call was last told to fail
-abbrev pub fault_count : Bool → ℕ
-fault_count true = 1
-fault_count false = 0
+-- how it may fail
+abbrev pub arming_of_disk : ScriptedDisk → Arming
+arming_of_disk (Failing d) = if d.spent then Unarmed else OneFailure
+arming_of_disk (Stopped d) = UntilRestart
 
--- no call is planned to fail, or one that may
-abbrev pub FailsOnce : Plan → Bool → Type 0
-FailsOnce Never spent = Unit {0}
-FailsOnce (Once n way) spent = spent ≡ false
-FailsOnce (From n way) spent = ⊥
-FailsOnce Stopped spent = ⊥
+-- no stop lasts, and a failure that was planned by itself stays
+abbrev pub disk_gone : ScriptedDisk → ScriptedDisk
+disk_gone (Failing d) = Failing d
+disk_gone (Stopped d) = Failing (record { files = d.files; spent = true })
 
--- the call failed
-abbrev pub has_disk_failed : {T : Type 0} → Result T DiskFault → Bool
-has_disk_failed (Ok _) = false
-has_disk_failed (Err Failed) = true
-has_disk_failed (Err NoMemory) = false
+-- the disk in which an event of this step begins: a restart finds it running again
+abbrev pub disk_in : ScriptedDisk → Step → ScriptedDisk
+disk_in disk step = if is_restart step then disk_gone disk else disk
+
+-- how many faults a disk has counted that may fail so, before an event
+abbrev pub planned_count : Arming → ℕ
+planned_count Unarmed = 1
+planned_count OneFailure = 0
+planned_count UntilRestart = 0
+
+-- In an event, a disk that may fail so became one that may fail then so, and that has counted so many faults: one that is stopped stays
+-- stopped, and another fails once at most.
+abbrev pub LeavesCount : Arming → Arming → ℕ → Type 0
+LeavesCount UntilRestart left after = left ≡ UntilRestart
+LeavesCount armed left after = (left ≢ UntilRestart) × (after ≡ planned_count left)

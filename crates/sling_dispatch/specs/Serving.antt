@@ -13,6 +13,7 @@ use Rattle.cache_files.specs.declared.epoch.OpenFault.{OpenFault}
 use Rattle.cache_files.specs.declared.epoch.OpenFault.TheVariants as open_fault
 use Rattle.cache_log.specs.Entries.{LogEntry, Session}
 use Rattle.coherence_core.specs.Holds.{HoldsClosed, files_counted}
+use Rattle.coherence_core.specs.Sessions.{KeepsHolds}
 use Rattle.docroot_changes.specs.Changes.{Told}
 use Rattle.outside_world.specs.InputFiles.{IsLongInput, longest_input}
 use Rattle.outside_world.specs.declared.inputs.InputFault.{InputFault}
@@ -109,14 +110,10 @@ pub record IsNotOpened (c : RunCall) (fault : OpenFault) : Type 0 where
   pub disk : IsDiskUntouched c.disk
   pub world : IsWorldUntouched c.world
 
--- the closed logs that the files held they hold still
-abbrev pub KeepsClosed : Farm → Files → Files → Type 0
-KeepsClosed farm old new = (log : List LogEntry) → HoldsClosed farm old log → HoldsClosed farm new log
-
--- where the pages were to be kept, the logs are
+-- where the pages were to be kept, the logs that the files held they hold still
 abbrev pub KeepsLogs : Beginning → Farm → Option Files → Option Files → Type 0
 KeepsLogs Fresh farm old new = Unit {0}
-KeepsLogs Warm farm old new = Told (KeepsClosed farm) old new
+KeepsLogs Warm farm old new = Told (KeepsHolds farm) old new
 
 -- The disk failed before the first turn.
 pub record FailsToOpen (c : RunCall) : Type 0 where

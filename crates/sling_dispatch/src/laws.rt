@@ -74,8 +74,8 @@ pub fn a_filter_sees_the_decomposition()
     ensures { (known : List (List ℕ) → Bool) (text : List ℕ) (parts : split.Parts) (s : IsSplit known text parts) → s.at ≡ length (stem text) → SeesParts text parts }
 {}
 
-/// A scenario has one transcript, where in no event the disk fails or memory runs out, no page is served from the cache, and no flush
-/// begins; and where the streams end alike. (They do if in the first no stream that is still read ends within a target that isn't UTF-8 and
+/// A scenario has one transcript, where in no event the disk fails or memory runs out, no page is served from the cache, no flush begins and
+/// the cache doesn't go down; and where the streams end alike. (They do if in the first no stream that is still read ends within a target that isn't UTF-8 and
 /// can't become it: the law `streams_with_memory_end_alike` of `run_laws`.)
 pub fn a_session_with_memory_has_one_transcript()
     ensures { SessionsWithMemoryAreOne }

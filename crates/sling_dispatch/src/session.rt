@@ -1,12 +1,14 @@
 //! A scenario's session: a front before the publisher, the disk of its cache, and what was played so far.
-ghost use Rattle.std.specs.Prelude.{◌≡◌, ◌≢◌, ◌+◌, ◌≤◌, ◌<◌, ◌^◌, [], Some, IfOk, OnOk, length, true};
+ghost use Rattle.std.specs.Prelude.{◌≡◌, ◌≢◌, ◌+◌, ◌≤◌, ◌<◌, ◌^◌, [], false, IfOk, OnOk, length};
 ghost use Rattle.run_events.specs.States.{start_of};
-ghost use Rattle.sling_dispatch.specs.Fronts.{IsMade, IsNext, IsNextEvent, SessionStandsFor, lines_of_event};
+ghost use Rattle.sling_dispatch.specs.Fronts.{ExtendsArmed, FrontStandsOver, IsNext, IsNextEvent, MakesNext, SessionStandsFor, lines_of_event};
 ghost use Rattle.sling_dispatch.specs.InnerEndings.{AreActLines};
-ghost use Rattle.sling_dispatch.specs.Runs.{asked_publisher_host, sling_start};
+ghost use Rattle.sling_dispatch.specs.Runs.{Unarmed, asked_publisher_host, sling_start};
+ghost use Rattle.sling_dispatch.specs.Runs as spec;
+ghost use Rattle.sling_dispatch.specs.ScriptedDisks.{arming_of_disk, disk_in, files_of_disk};
 
 use crate::renderer::PublisherRenderer;
-use crate::scripted_disk::ScriptedDisk;
+use crate::scripted_disk::{FailingDisk, ScriptedDisk};
 use crate::steps::{Task, asked_host, task_of};
 use any_config::Farm;
 use cache_files::empty_files_hold_no_page;
@@ -15,7 +17,9 @@ use front::{Front, NoteList, Step, a_front_stands_whatever_the_count};
 use publisher::Publisher;
 use replay_text::{acts_are_told_by_their_lines, first_act, write_notes};
 use sp_base::{Mem, NoMemory};
+use sp_outside::Way;
 use std::alloc::Global;
+use std::mem::replace;
 
 /// What a scenario is played on. A front can't be dropped: `end` gives the session up.
 pub struct Session {
@@ -31,20 +35,21 @@ impl Session {
     /// No event came yet, and the disk has no files. (Over no files only memory can be wanting.)
     pub fn begin(alloc: Global, publisher: Publisher, farm: Farm) -> Mem<Session>
         ensures stands { IfOk result (λ s. SessionStandsFor s (start_of (sling_start farm publisher))) }
-        ensures spent { IfOk result (λ s. s.disk.spent ≡ true) }
+        ensures unarmed { IfOk result (λ s. arming_of_disk s.disk ≡ Unarmed) }
         ensures host { IfOk result (λ s. s.host.items ≡ asked_publisher_host farm) }
         ensures event { IfOk result (λ s. s.event ≡ 0) }
     {
         empty_files_hold_no_page();
         no_files_hold_the_empty_log();
         let host = asked_host(alloc, &farm)?;
-        let mut disk = ScriptedDisk::new(alloc);
+        a_front_stands_whatever_the_count();
+        let mut disk = FailingDisk::new(alloc);
         let Ok(front) = Front::new(alloc, PublisherRenderer { publisher }, farm, &mut disk) else {
             return Err(NoMemory);
         };
         Ok(Session {
             front,
-            disk,
+            disk: ScriptedDisk::Failing(disk),
             host,
             event: 0,
         })
@@ -64,6 +69,7 @@ impl Session {
     }
 
     /// Plays the act whose line stands first: the notes of its event, where it has one, and the lines after that one.
+    #[tactic(auto, using(crate::proofs::FrontLemmas::arms_failure, crate::proofs::FrontLemmas::arms_stop))]
     pub fn play_next<'a>(
         &mut self,
         alloc: Global,
@@ -76,26 +82,53 @@ impl Session {
         ensures counted { OnOk result (self.new.event ≤ self.old.event + 1) }
     {
         acts_are_told_by_their_lines();
-        a_front_stands_whatever_the_count();
         let Some((act, rest)) = first_act(alloc, lines)? else {
             unreachable!();
         };
         match task_of(alloc, &self.host, act)? {
             Task::Step(step) => Ok((Some(self.event_of(alloc, &step)?), rest)),
             Task::Fail(n, way) => {
-                self.disk.fail(n, way);
+                self.fail(alloc, n, way);
                 Ok((None, rest))
             }
+            Task::Stop(n, way) => {
+                self.stop(alloc, n, way);
+                Ok((None, rest))
+            }
+        }
+    }
+
+    // One of the disk's next calls fails.
+    fn fail(&mut self, alloc: Global, n: u64, way: Way)
+        ensures { self.new ≡ record self.old { disk = ScriptedDisk.Failing (record { files = files_of_disk self.old.disk; spent = false }) } }
+    {
+        self.disk = replace(&mut self.disk, ScriptedDisk::new(alloc)).fail(n, way);
+    }
+
+    // Each of the disk's next calls from one on fails, until a restart.
+    fn stop(&mut self, alloc: Global, n: u64, way: Way)
+        ensures { self.new ≡ record self.old { disk = ScriptedDisk.Stopped (record { files = files_of_disk self.old.disk; failed = 0 }) } }
+    {
+        self.disk = replace(&mut self.disk, ScriptedDisk::new(alloc)).stop(n, way);
+    }
+
+    // A restart finds the disk running again.
+    fn make_ready(&mut self, alloc: Global, step: &Step)
+        ensures { self.new ≡ record self.old { disk = disk_in self.old.disk step.now } }
+    {
+        if is_restart(step) {
+            self.disk = replace(&mut self.disk, ScriptedDisk::new(alloc)).go();
         }
     }
 
     // The notes of a step's event.
     fn event_of(&mut self, alloc: Global, step: &Step) -> Mem<NoteList>
         requires { self.old.event + 1 < 2 ^ 64 }
-        ensures made { IfOk result (λ notes. IsMade (Some step.now) self.old self.new (Some notes)) }
+        ensures made { IfOk result (λ notes. MakesNext self.old self.new step.now notes) }
         ensures host { self.new.host.items ≡ self.old.host.items }
     {
-        let notes = self.front.step(alloc, &mut self.disk, step)?;
+        self.make_ready(alloc, step);
+        let notes = step_over(alloc, &mut self.front, &mut self.disk, step)?;
         self.event += 1;
         Ok(notes)
     }
@@ -110,6 +143,32 @@ impl Session {
         } = self;
         let PublisherRenderer { publisher } = front.end();
         publisher
+    }
+}
+
+fn is_restart(step: &Step) -> bool
+    ensures { result ≡ spec.is_restart step.now }
+{
+    matches!(step, Step::Restart)
+}
+
+// The notes of a step that a front takes over the disk of a scenario.
+#[tactic(auto, using(crate::proofs::FrontLemmas::failing_step, crate::proofs::FrontLemmas::stopped_step))]
+fn step_over(
+    alloc: Global,
+    front: &mut Front<PublisherRenderer>,
+    disk: &mut ScriptedDisk,
+    step: &Step,
+) -> Mem<NoteList>
+    ensures { IfOk result (λ notes. ExtendsArmed (FrontStandsOver front.old disk.old) (FrontStandsOver front.new disk.new) (arming_of_disk disk.old) (arming_of_disk disk.new) step.now notes) }
+{
+    a_front_stands_whatever_the_count();
+    match disk {
+        ScriptedDisk::Failing(disk) => front.step(alloc, disk, step),
+        ScriptedDisk::Stopped(disk) => {
+            disk.forget_faults();
+            front.step(alloc, disk, step)
+        }
     }
 }
 

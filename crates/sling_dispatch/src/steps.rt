@@ -1,8 +1,8 @@
 //! What the lines of a scenario do.
-ghost use Rattle.std.specs.Prelude.{◌≡◌, ◌++◌, IfOk, OnOk, Some, codes};
+ghost use Rattle.std.specs.Prelude.{◌≡◌, ◌++◌, IfOk, OnOk, None, Some, codes};
 ghost use Rattle.replay_text.specs.Transcript.{action_text};
 ghost use Rattle.run_events.specs.declared.step.Step.TheVariants as model;
-ghost use Rattle.sling_dispatch.specs.Fronts.{step_of_task};
+ghost use Rattle.sling_dispatch.specs.Fronts.{arming_of_task, step_of_task};
 ghost use Rattle.sling_dispatch.specs.Runs as runs;
 
 use any_config::Farm;
@@ -35,11 +35,14 @@ pub enum Task {
     Step(Step),
     /// That this one of the disk's next calls fails.
     Fail(u64, Way),
+    /// That this one of the disk's next calls fails, and every later one until a restart.
+    Stop(u64, Way),
 }
 
 /// What a line of a scenario asks for, where this host is asked.
 pub fn task_of(alloc: Global, host: &[u8], line: EventLine) -> Mem<Task>
-    ensures { IfOk result (λ task. step_of_task task ≡ runs.step_of host.now line) }
+    ensures step { IfOk result (λ task. step_of_task task ≡ runs.step_of host.now line) }
+    ensures arming { IfOk result (λ task. arming_of_task task ≡ runs.arming_of line) }
 {
     match line {
         EventLine::Direct(target) => Ok(Task::Step(Step::Direct(target))),
@@ -61,12 +64,14 @@ pub fn task_of(alloc: Global, host: &[u8], line: EventLine) -> Mem<Task>
         EventLine::Purge => Ok(Task::Step(Step::Purge)),
         EventLine::Restart => Ok(Task::Step(Step::Restart)),
         EventLine::Fail(n, way) => Ok(Task::Fail(n, way)),
+        EventLine::Stop(n, way) => Ok(Task::Stop(n, way)),
     }
 }
 
 // Bytes come on a connection.
 fn piece(c: u32, bytes: ByteBuf) -> Task
-    ensures { step_of_task result ≡ Some (model.Piece c bytes) }
+    ensures step { step_of_task result ≡ Some (model.Piece c bytes) }
+    ensures arming { arming_of_task result ≡ None }
 {
     Task::Step(Step::Piece(ConnectionId::new(c), bytes))
 }

@@ -1,12 +1,17 @@
 use Rattle.std.proofs.Common.{◌≡◌, ◌++◌, ℕ, List, sym, ap, subst, ◌∙◌}
 use Rattle.cache_log.specs.Entries.{LogEntry}
 use Rattle.cache_log.specs.Rules.{AllAllowed, KeepsBound}
-use Rattle.coherence_core.specs.Holds.{HoldsClosed}
+use Rattle.coherence_core.specs.Holds.{Holds, HoldsClosed}
 use Rattle.coherence_core.specs.Sessions.{failed_entries}
 use Rattle.front.specs.Caches.{flushing_numbers}
 use Rattle.front.specs.Endings.{closed_log, closing_entries_of}
 use Rattle.front.proofs.OpeningLemmas.{closing-is, no-flights-left}
 use Rattle.front.proofs.laws.the_files_of_a_front_hold_its_log.Goals as goal
+
+pub returns-clause-held : goal.returns-clause-held
+returns-clause-held c = λ publishing content board files faults w s.
+    let b = s.board_is.behind_is in
+    subst (λ farm. Holds farm files w.log) (sym b.farm_is) (c.the_files_hold_what_stands.ensures.holds w.found files board.cache.core w.log b.core_is)
 
 pub returns-clause-holds : goal.returns-clause-holds
 returns-clause-holds c = λ publishing content board files faults w s.

@@ -37,7 +37,7 @@ returns-in-WorldFailed-clause-served g c w stands rest =
     } in
     let rests : RestsAt (server_at g.R.Renderer.publishing (g.R.Renderer.content c.args.front.now.renderer) (at_disk c.args.front.now.board (g.D.Disk.files c.args.disk.now) (g.D.Disk.faults c.args.disk.now)) (g.W.World.log c.args.world.now) (g.W.World.send_faults c.args.world.now)) w = rests_at_first g.R.Renderer.publishing (g.R.Renderer.content c.args.front.now.renderer) (at_disk c.args.front.now.board (g.D.Disk.files c.args.disk.now) (g.D.Disk.faults c.args.disk.now)) (g.W.World.log c.args.world.now) (g.W.World.send_faults c.args.world.now) w stands rest in
     let few : c.loop-made.made < c.args.turns = c.loop-made-test.true in
-    served_until_failure (record { landed = c.the_files_of_a_front_hold_its_log.ensures.landed; allowed = c.the_files_of_a_front_hold_its_log.ensures.allowed; grows = c.a_legal_log_grows_by_what_is_allowed.ensures.call }) s c.args.turns c.loop-made.made (g.W.World.next_faults c.args.world.now) (g.W.World.next_faults c.turn.new.world) w few
+    served_until_failure (record { held = c.the_files_of_a_front_hold_its_log.ensures.held; landed = c.the_files_of_a_front_hold_its_log.ensures.landed; allowed = c.the_files_of_a_front_hold_its_log.ensures.allowed; grows = c.a_legal_log_grows_by_what_is_allowed.ensures.call }) s c.args.turns c.loop-made.made (g.W.World.next_faults c.args.world.now) (g.W.World.next_faults c.turn.new.world) w few
     (subst (λ v. TakesTurns (server_at g.R.Renderer.publishing (g.R.Renderer.content c.args.front.now.renderer) (at_disk c.args.front.now.board (g.D.Disk.files c.args.disk.now) (g.D.Disk.faults c.args.disk.now)) (g.W.World.log c.args.world.now) (g.W.World.send_faults c.args.world.now)) v c.loop-made.made w) (sym c.in-WorldFailed.ensures.ends) (c.loop-made.invariant.turns w rests))
 
 pub returns-in-WorldFailed-clause-calls : goal.returns-in-WorldFailed-clause-calls
@@ -88,5 +88,5 @@ returns-clause-served g c w stands rest =
     } in
     let rests : RestsAt (server_at g.R.Renderer.publishing (g.R.Renderer.content c.args.front.now.renderer) (at_disk c.args.front.now.board (g.D.Disk.files c.args.disk.now) (g.D.Disk.faults c.args.disk.now)) (g.W.World.log c.args.world.now) (g.W.World.send_faults c.args.world.now)) w = rests_at_first g.R.Renderer.publishing (g.R.Renderer.content c.args.front.now.renderer) (at_disk c.args.front.now.board (g.D.Disk.files c.args.disk.now) (g.D.Disk.faults c.args.disk.now)) (g.W.World.log c.args.world.now) (g.W.World.send_faults c.args.world.now) w stands rest in
     let whole : c.loop-made.made ≡ c.args.turns = omega (arith, c.loop-made-test.false, c.loop-made.auto.made-end) in
-    served_turns (record { landed = c.the_files_of_a_front_hold_its_log.ensures.landed; allowed = c.the_files_of_a_front_hold_its_log.ensures.allowed; grows = c.a_legal_log_grows_by_what_is_allowed.ensures.call }) s c.args.turns (g.W.World.next_faults c.args.world.now) (g.W.World.next_faults c.loop-made.world) w
+    served_turns (record { held = c.the_files_of_a_front_hold_its_log.ensures.held; landed = c.the_files_of_a_front_hold_its_log.ensures.landed; allowed = c.the_files_of_a_front_hold_its_log.ensures.allowed; grows = c.a_legal_log_grows_by_what_is_allowed.ensures.call }) s c.args.turns (g.W.World.next_faults c.args.world.now) (g.W.World.next_faults c.loop-made.world) w
     (subst (λ n. TakesTurns (server_at g.R.Renderer.publishing (g.R.Renderer.content c.args.front.now.renderer) (at_disk c.args.front.now.board (g.D.Disk.files c.args.disk.now) (g.D.Disk.faults c.args.disk.now)) (g.W.World.log c.args.world.now) (g.W.World.send_faults c.args.world.now)) (server_at g.R.Renderer.publishing (g.R.Renderer.content c.loop-made.front.renderer) (at_disk c.loop-made.front.board (g.D.Disk.files c.loop-made.disk) (g.D.Disk.faults c.loop-made.disk)) (g.W.World.log c.loop-made.world) (g.W.World.send_faults c.loop-made.world)) n w) whole (c.loop-made.invariant.turns w rests))

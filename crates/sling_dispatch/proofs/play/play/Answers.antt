@@ -17,7 +17,7 @@ loop-rest-init g c =
     let session = c.in-Ok.session in
     record {
       played = subst (Played c.args.publisher c.args.farm c.args.acts.now c.args.acts.now session held held) (sym c.new-gathered.ensures.items)
-          (played_none c.args.publisher c.args.farm c.args.acts.now session held c.requires c.in-Ok.ensures.stands c.in-Ok.ensures.spent c.in-Ok.ensures.event).0;
+          (played_none c.args.publisher c.args.farm c.args.acts.now session held c.requires c.in-Ok.ensures.stands c.in-Ok.ensures.unarmed c.in-Ok.ensures.event).0;
       not_failed = refl;
       counted = omega (arith, c.in-Ok.ensures.event);
       asked = c.in-Ok.ensures.host;

@@ -9,7 +9,7 @@ pub loop-rest-init : goal.loop-rest-init
 loop-rest-init c =
     let begun = c.in_ok-session.ensures in
     record {
-      counted = counted_none c.args.publisher c.args.farm c.args.acts.now c.in_ok-session.session c.new-counts.result c.requires begun.stands begun.spent begun.event c.new-counts.ensures;
+      counted = counted_none c.args.publisher c.args.farm c.args.acts.now c.in_ok-session.session c.new-counts.result c.requires begun.stands begun.unarmed begun.event c.new-counts.ensures;
       room = omega (arith, begun.event);
       asked = begun.host;
     }

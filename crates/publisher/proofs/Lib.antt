@@ -12,3 +12,4 @@ pub mod GoodLemmas
 pub mod CauseLemmas
 mod KindLemmas
 pub mod CaseLemmas
+pub mod FirstLemmas

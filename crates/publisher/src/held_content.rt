@@ -4,6 +4,7 @@ ghost use Rattle.sp_base.specs.Limits.{most_rendered_bytes};
 ghost use Rattle.publisher.specs.Rendering.{seen_resources, mapped_answer, mapping, text_answer, resource_answer, answer_to_request, content_after_request, is_post, is_read};
 
 use crate::errors::redirect;
+use crate::first_scripts::FirstScripts;
 use crate::kept_index::mapped;
 use crate::methods::{is_post, is_read};
 use crate::parts::parts_of;
@@ -19,25 +20,27 @@ use std::marker::Model;
 use url_maps::{MapAnswer, MapIndex};
 use url_split::Parts;
 
-/// A content tree, with the readings of its scripts and the index of its mappings. Contracts see the tree, and whether the index is
-/// there: an answer makes it, and from then on it stays.
+/// A content tree, with the scripts that were found on it, the readings of scripts, and the index of its mappings. Contracts see the
+/// tree, and whether the index is there: an answer makes it, and from then on it stays.
 #[derive(Drop)]
 pub(crate) struct HeldContent {
     pub(crate) tree: Tree,
     pub(crate) templates: Templates,
+    pub(crate) scripts: FirstScripts,
     /// The index of the tree's aliases and vanity paths, made at the first answer.
     pub(crate) index: Option<MapIndex>,
 }
 
 impl Model for HeldContent {
     ghost use Rattle.std.specs.Prelude.{is_some};
+    ghost use Rattle.publisher.specs.FirstScripts.{AreFirst};
     ghost use Rattle.publisher.specs.Kept.{AreReadings, IndexedTree, IsIndexFor};
 
     ghost Value = { IndexedTree };
 
     ghost view = { λ s. record { tree = s.tree; is_indexed = is_some s.index } };
 
-    ghost invariant = { λ s. AreReadings s.tree s.templates × IsIndexFor s.tree s.index };
+    ghost invariant = { λ s. AreReadings s.tree s.templates × (AreFirst s.tree s.scripts × IsIndexFor s.tree s.index) };
 }
 
 impl HeldContent {
@@ -47,6 +50,7 @@ impl HeldContent {
         HeldContent {
             tree,
             templates: Templates::new(alloc, seeds),
+            scripts: FirstScripts::new(alloc),
             index: None,
         }
     }
@@ -118,7 +122,14 @@ impl HeldContent {
         ensures unchanged { self.new ≡ self.old }
     {
         match merged_alone(alloc, &self.tree, &parts.path)? {
-            Some(res) => resource_answer(alloc, &self.tree, &mut self.templates, parts, &res),
+            Some(res) => resource_answer(
+                alloc,
+                &self.tree,
+                &mut self.templates,
+                &mut self.scripts,
+                parts,
+                &res,
+            ),
             None => error_answer(alloc, 404),
         }
     }

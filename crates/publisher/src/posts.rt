@@ -64,13 +64,14 @@ impl HeldContent {
         Ok(answer)
     }
 
-    // Puts a patch over the tree, and keeps what of the readings and the index is still right.
+    // Puts a patch over the tree, and keeps what of the readings and the index is still right. Which scripts rank first is searched for anew.
     fn put(&mut self, alloc: Global, patch: Patch) -> Mem<()>
         requires { IsGood (patching self.old.tree patch) }
         ensures ok { OnOk result (self.new.tree ≡ patching self.old.tree patch) }
         ensures unchanged { OnErr result (self.new.tree ≡ self.old.tree) }
         ensures kept { IsTrue self.old.is_indexed → IsTrue self.new.is_indexed }
     {
+        self.scripts.forget_all();
         put_with_index(
             alloc,
             &mut self.tree,

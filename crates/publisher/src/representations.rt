@@ -3,6 +3,7 @@ ghost use Rattle.std.specs.Prelude.{◌≡◌, Some, IfOk};
 ghost use Rattle.get_servlet.specs.Streams.{stream_of};
 ghost use Rattle.publisher.specs.Depths.{depth_of};
 ghost use Rattle.script_rank.specs.Ranking.{script_text};
+ghost use Rattle.publisher.specs.FirstScripts.{AreFirst};
 ghost use Rattle.publisher.specs.Kept.{AreReadings};
 ghost use Rattle.publisher.specs.Rendering.{representation_of, json_representation, json_to_depth, file_representation, is_bare, default_answer, resource_answer, seen_resources};
 ghost use Rattle.publisher.specs.SeenAlone.{IsSeenAlone, seen_answer};
@@ -10,6 +11,7 @@ ghost use Rattle.publisher.specs.SeenAlone.{IsSeenAlone, seen_answer};
 use crate::choices::choices_text;
 use crate::depths::depth_of;
 use crate::errors::answer_of;
+use crate::first_scripts::{FirstScripts, kept_script_of};
 use crate::methods::mark_of;
 use crate::scripts::script_representation;
 use crate::templates::{Templates, read};
@@ -17,7 +19,7 @@ use error_answers::error_answer;
 use get_servlet::{JsonAnswer, Stream, json_of, stream_of};
 use overlay_merge::{MergedView, is_merged_path, merged};
 use resource_tree::{Look, Res, Tree};
-use script_rank::{script_of, script_text};
+use script_rank::script_text;
 use sp_base::{Answer, ByteBuf, MOST_RENDERED_BYTES, Mark, Mem, Path, TextBuf};
 use std::alloc::Global;
 use url_split::Parts;
@@ -142,15 +144,18 @@ pub(crate) fn resource_answer(
     alloc: Global,
     tree: &Tree,
     templates: &mut Templates,
+    scripts: &mut FirstScripts,
     parts: &Parts,
     res: &Res,
 ) -> Mem<Answer>
     requires kept { AreReadings tree.now templates.old }
+    requires first { AreFirst tree.now scripts.old }
     requires seen { IsSeenAlone tree.now parts.now res.now }
     ensures answer { IfOk result (λ a. a ≡ resource_answer tree.now parts.now (seen_resources tree.now parts.now.path)) }
     ensures kept { AreReadings tree.now templates.new }
+    ensures first { AreFirst tree.now scripts.new }
 {
-    match script_of(alloc, tree, res.props(), parts)? {
+    match kept_script_of(alloc, tree, scripts, res.props(), parts)? {
         Some(script) => answer_by_script(alloc, tree, templates, parts, res, script),
         None => default_answer_there(alloc, tree, parts, res),
     }

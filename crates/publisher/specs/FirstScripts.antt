@@ -1,6 +1,6 @@
 -- The scripts that rank first, which a publisher keeps beside its tree until a POST. What is answered needs none of it: only private types and functions and proofs
 -- cite this.
-use Rattle.std.specs.Prelude.{◌≡◌, ◌×◌, ℕ, List, Option, Some, codes, slice_get}
+use Rattle.std.specs.Prelude.{◌≡◌, ℕ, List, Option, Some, codes, slice_get}
 use Rattle.sp_base.specs.Properties.{text_in}
 use Rattle.sp_base.specs.declared.value.Value.{Value}
 use Rattle.resource_tree.specs.Content.{Content}

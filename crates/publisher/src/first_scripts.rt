@@ -71,7 +71,7 @@ impl FoundScript {
 }
 
 fn own_text(alloc: Global, text: Option<&TextBuf>) -> Mem<Option<TextBuf>>
-    ensures { IfOk result (λ own. own ≡ option_copied text) }
+    ensures { IfOk result (λ own. own ≡ option_copied text.entry) }
 {
     match text {
         Some(text) => Ok(Some(text.duplicate(alloc)?)),
@@ -89,7 +89,7 @@ fn own_path(alloc: Global, path: &Option<Path>) -> Mem<Option<Path>>
 }
 
 fn is_same(own: &Option<TextBuf>, text: Option<&TextBuf>) -> bool
-    ensures { result ≡ true → own.now ≡ option_copied text }
+    ensures { result ≡ true → own.now ≡ option_copied text.entry }
 {
     match (own, text) {
         (Some(own), Some(text)) => own.text() == text.text(),

@@ -49,7 +49,7 @@ use Rattle.post_apply.specs.Posting.{PostEffect, PostedNode, carry, content_afte
 
 -- ---- paths
 
-both : (a b : Bool) → a && b ≡ true → (a ≡ true) × (b ≡ true)
+pub both : (a b : Bool) → a && b ≡ true → (a ≡ true) × (b ≡ true)
 both true b h = (refl, h)
 both false b h = absurd (false≢true h)
 
@@ -59,14 +59,14 @@ true_both a b p q = rw (p, q) refl
 le_less : (n m k : ℕ) → nat_le (n + m) k ≡ true → nat_le n k ≡ true
 le_less n m k h = grind (arith, nat_tests)
 
-prefix_path : (xs ys : List (List ℕ)) → is_path (xs ++ ys) ≡ true → is_path xs ≡ true
+pub prefix_path : (xs ys : List (List ℕ)) → is_path (xs ++ ys) ≡ true → is_path xs ≡ true
 prefix_path xs ys h =
     let parts = both (list_all seg_ok (xs ++ ys)) (nat_le (length (xs ++ ys)) most_segments) h in
     let names = both (list_all seg_ok xs) (list_all seg_ok ys) (sym (list_all-append seg_ok xs ys) ∙ parts.0) in
     true_both (list_all seg_ok xs) (nat_le (length xs) most_segments) names.0
     (le_less (length xs) (length ys) most_segments (ap (λ (n : ℕ). nat_le n most_segments) (sym (length-append xs ys)) ∙ parts.1))
 
-parent_path : (path : List (List ℕ)) → is_path path ≡ true → is_path (parent_of path) ≡ true
+pub parent_path : (path : List (List ℕ)) → is_path path ≡ true → is_path (parent_of path) ≡ true
 parent_path path valid = prefix_path (parent_of path) (drop (length path - 1) path) (ap is_path (take-append-drop (length path - 1) path) ∙ valid)
 
 within : (path : List (List ℕ)) → (length path == 0) ≡ false → length path - 1 < length path
@@ -83,29 +83,29 @@ name_ok path valid some =
 
 -- ---- one step after another
 
-abbrev okay : {A : Type 0} → A → ApplyOutcome A
+abbrev pub okay : {A : Type 0} → A → ApplyOutcome A
 okay x = Ok x
 
-abbrev refused : {A : Type 0} → ApplyFault → ApplyOutcome A
+abbrev pub refused : {A : Type 0} → ApplyFault → ApplyOutcome A
 refused e = Err e
 
-followed : {A B : Type 0} (P : A → Type 0) (Q : B → Type 0) (o : ApplyOutcome A) (f : A → ApplyOutcome B) → IfOk o P → ((x : A) → P x → IfOk (f x) Q) → IfOk (o >>= f) Q
+pub followed : {A B : Type 0} (P : A → Type 0) (Q : B → Type 0) (o : ApplyOutcome A) (f : A → ApplyOutcome B) → IfOk o P → ((x : A) → P x → IfOk (f x) Q) → IfOk (o >>= f) Q
 followed P Q (Ok x) f was next = next x was
 followed P Q (Err e) f was next = tt
 
-by_test : {A : Type 0} (P : A → Type 0) (b : Bool) (one other : ApplyOutcome A) → (b ≡ true → IfOk one P) → (b ≡ false → IfOk other P) → IfOk (cond b one other) P
+pub by_test : {A : Type 0} (P : A → Type 0) (b : Bool) (one other : ApplyOutcome A) → (b ≡ true → IfOk one P) → (b ≡ false → IfOk other P) → IfOk (cond b one other) P
 by_test P true one other this that = this refl
 by_test P false one other this that = that refl
 
-abbrev anything : {A : Type 0} (o : ApplyOutcome A) → Type 0
+abbrev pub anything : {A : Type 0} (o : ApplyOutcome A) → Type 0
 anything {A} o = IfOk o (λ (x : A). x ≡ x)
 
-any_is : {A : Type 0} (o : ApplyOutcome A) → anything o
+pub any_is : {A : Type 0} (o : ApplyOutcome A) → anything o
 any_is (Ok x) = refl
 any_is (Err e) = tt
 
 -- the content that an outcome gives is good
-abbrev Good : ApplyOutcome Content → Type 0
+abbrev pub Good : ApplyOutcome Content → Type 0
 Good o = IfOk o (λ (t : Content). IsGood t)
 
 chained : (o : ApplyOutcome Content) (f : Content → ApplyOutcome Content) → Good o → ((t : Content) → IsGood t → Good (f t)) → Good (o >>= f)
@@ -134,7 +134,7 @@ turns step fits keeps (x ∷ more) tree all good =
 no_names : HasSegmentNames []
 no_names name there_ = absurd (false≢true there_)
 
-good_made : (tree : Content) (path : List (List ℕ)) → is_path path ≡ true → IsGood tree → Good (creation_outcome tree path)
+pub good_made : (tree : Content) (path : List (List ℕ)) → is_path path ≡ true → IsGood tree → Good (creation_outcome tree path)
 good_made tree path valid good =
     unless_tree (create_fault tree path) (creation tree path empty_node) (λ allowed.
     IsGood-creation (creation tree path empty_node) tree path [] good allowed valid no_names refl
@@ -150,19 +150,19 @@ good_below (name ∷ names) path tree valid good =
     let longer : is_path (kid path name ++ names) ≡ true = ap is_path (append_assoc path (name ∷ []) names) ∙ valid in
     chained (with_node tree (kid path name)) (with_nodes_below (kid path name) names) (good_node tree (kid path name) (prefix_path (kid path name) names longer) good) (λ t g. good_below names (kid path name) t longer g)
 
-good_way : (path : List (List ℕ)) (tree : Content) → is_path path ≡ true → IsGood tree → Good (with_way path tree)
+pub good_way : (path : List (List ℕ)) (tree : Content) → is_path path ≡ true → IsGood tree → Good (with_way path tree)
 good_way path tree valid good = good_below path [] tree valid good
 
 -- ---- places
 
-deep_is_path : (path : List (List ℕ)) → IfOk (or_too_deep (path_or_none path)) (λ (p : List (List ℕ)). is_path p ≡ true)
+pub deep_is_path : (path : List (List ℕ)) → IfOk (or_too_deep (path_or_none path)) (λ (p : List (List ℕ)). is_path p ≡ true)
 deep_is_path path = go (is_path path) refl
   where
     go : (b : Bool) → is_path path ≡ b → IfOk (or_too_deep (cond b (Some path) None)) (λ (p : List (List ℕ)). is_path p ≡ true)
     go true valid = valid
     go false none = tt
 
-spot_is_path : (node : List (List ℕ)) (spot : Spot) → is_path spot.path ≡ true → IfOk (path_of_spot node spot) (λ (p : List (List ℕ)). is_path p ≡ true)
+pub spot_is_path : (node : List (List ℕ)) (spot : Spot) → is_path spot.path ≡ true → IfOk (path_of_spot node spot) (λ (p : List (List ℕ)). is_path p ≡ true)
 spot_is_path node spot valid =
     by_test (λ (p : List (List ℕ)). is_path p ≡ true) spot.at_target (or_too_deep (path_or_none (node ++ spot.path))) (okay spot.path) (λ _. deep_is_path (node ++ spot.path)) (λ _. valid)
 
@@ -177,7 +177,7 @@ sorted-removal tree path sorted =
     subst (λ (ks : List (List (List ℕ))). IsStrictlySortedBy by_path ks) (sym (keys_of-filter (λ p. not (is_under p path)) (change_at tree (parent_of path) (without_kid (name_of path)))))
     (IsStrictlySortedBy-filter by_path (λ p. not (is_under p path)) (keys_of (change_at tree (parent_of path) (without_kid (name_of path)))) (sorted-change_at tree (parent_of path) (without_kid (name_of path)) sorted))
 
-good_removed : (tree : Content) (path : List (List ℕ)) → IsGood tree → Good (removal_outcome tree path)
+pub good_removed : (tree : Content) (path : List (List ℕ)) → IsGood tree → Good (removal_outcome tree path)
 good_removed tree path good =
     unless_tree (fixed_fault tree path) (removal tree path) (λ allowed. IsGood-removal (removal tree path) tree path good (can_move tree path allowed) refl (sorted-removal tree path good.ordered))
 
@@ -185,7 +185,7 @@ there_from : (o : Option Node) (name : List ℕ) → option_map_or (λ (node : N
 there_from None name e = absurd (false≢true e)
 there_from (Some node) name e = refl
 
-good_without : (tree : Content) (path : List (List ℕ)) → IsGood tree → IsGood (without_property tree path)
+pub good_without : (tree : Content) (path : List (List ℕ)) → IsGood tree → IsGood (without_property tree path)
 good_without tree path good = go (has_prop_at tree (parent_of path) (name_of path)) refl
   where
     go : (b : Bool) → has_prop_at tree (parent_of path) (name_of path) ≡ b → IsGood (cond b (clearing tree (parent_of path) (name_of path)) tree)
@@ -202,7 +202,7 @@ good_delete_at node tree spot valid good = at_spot node spot (deletion_outcome t
 
 -- ---- values
 
-good_put : (tree : Content) (path : List (List ℕ)) (value : Value) → is_path path ≡ true → IsGood tree → Good (put_at tree path value)
+pub good_put : (tree : Content) (path : List (List ℕ)) (value : Value) → is_path path ≡ true → IsGood tree → Good (put_at tree path value)
 good_put tree path value valid good =
     if_test (length path == 0) (refused (Tree (Taken path))) (changed_unless_fault (set_fault tree (parent_of path) (name_of path)) (update tree (parent_of path) (name_of path) value)) (λ _. tt) (λ some.
     unless_tree (set_fault tree (parent_of path) (name_of path)) (update tree (parent_of path) (name_of path) value) (λ allowed.
@@ -220,7 +220,7 @@ good_set node tree set valid good =
 
 -- ---- copies and moves
 
-none_both : (one other : Option TreeFault) → first_fault one other ≡ None → (one ≡ None) × (other ≡ None)
+pub none_both : (one other : Option TreeFault) → first_fault one other ≡ None → (one ≡ None) × (other ≡ None)
 none_both None other e = (refl, e)
 none_both (Some fault) other e = absurd (false≢true (sym (ap is_some e)))
 
@@ -242,7 +242,7 @@ good_move tree from to good allowed =
     let fits = no_fault (is_too_deep tree from to) TooDeep None parts.1 in
     IsGood-relocation tree from to good (may_go tree from to parts.0) fits.0 (relocation tree from to) refl
 
-good_carried : (moves : Bool) (from to : List (List ℕ)) (tree : Content) → IsGood tree → Good (carry_outcome moves from to tree)
+pub good_carried : (moves : Bool) (from to : List (List ℕ)) (tree : Content) → IsGood tree → Good (carry_outcome moves from to tree)
 good_carried false from to tree good = unless_tree (copy_fault tree from to) (copy tree from to) (good_copy tree from to good)
 good_carried true from to tree good = unless_tree (move_fault tree from to) (relocation tree from to) (good_move tree from to good)
 
@@ -290,7 +290,7 @@ fixed_not tree path place e =
     let deep = two.0 in
     rw (there_, deep) refl
 
-good_placed : (node : List (List ℕ)) (place : Option Place) (tree : Content) → IsGood tree → Good (content_placed node place tree)
+pub good_placed : (node : List (List ℕ)) (place : Option Place) (tree : Content) → IsGood tree → Good (content_placed node place tree)
 good_placed node None tree good = good
 good_placed node (Some place) tree good =
     unless_tree (order_fault tree node place) (reordering tree node place) (λ allowed.

@@ -5,3 +5,5 @@ pub mod PathLemmas
 pub mod WayLemmas
 pub mod GoodLemmas
 pub mod CauseLemmas
+pub mod UntouchedLemmas
+pub mod SetLemmas

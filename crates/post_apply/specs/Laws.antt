@@ -1,15 +1,20 @@
 -- What holds of every POST.
-use Rattle.std.specs.Prelude.{◌≡◌, ◌<◌, ◌^◌, ℕ, Bool, true, false, List, IsTrue, IfErr}
+use Rattle.std.specs.Prelude.{◌≡◌, ◌<◌, ◌^◌, ◌++◌, ◌∷◌, ℕ, Bool, true, false, List, IsTrue, IfOk, IfErr}
 use Rattle.resource_tree.specs.declared.faults.TreeFault.{TreeFault}
 use Rattle.resource_tree.specs.declared.faults.TreeFault.TheVariants.{NoSuch, RootFixed, IntoItself, Exists, Taken, NoSibling, TooDeep, FullTree, NoMemory as NoMemoryOfTree}
-use Rattle.resource_tree.specs.Content.{Content, IsGood}
+use Rattle.resource_tree.specs.Content.{Content, IsGood, node_at}
+use Rattle.post_plan.specs.declared.operation.ModifyOp.{ModifyOp}
 use Rattle.post_plan.specs.declared.operation.Op.{Op}
+use Rattle.post_plan.specs.declared.operation.Op.TheVariants.{Modify}
 use Rattle.post_plan.specs.declared.operation.NameWish.TheVariants.{Hint}
+use Rattle.post_plan.specs.declared.operation.PropSet.{PropSet}
 use Rattle.post_plan.specs.OperationPaths.{names_paths}
+use Rattle.post_plan.specs.Spots.{full_path}
 use Rattle.post_apply.specs.declared.fault.ApplyFault.{ApplyFault}
 use Rattle.post_apply.specs.declared.fault.ApplyFault.TheVariants.{Tree, Value, DestThere, NoMemory}
 use Rattle.post_apply.specs.Names.{is_taken, most_taken, name_given, numbered_name}
-use Rattle.post_apply.specs.Posting.{content_after, post_outcome}
+use Rattle.post_apply.specs.Posting.{PostEffect, content_after, post_outcome}
+use Rattle.post_apply.specs.Untouched.{HasItsValue, is_apart_from_operation, is_set_later}
 
 -- an operation whose paths are paths leaves a good content good
 abbrev pub OperationsKeepContentGood : Type 0
@@ -47,3 +52,13 @@ pub record IsMadeName (tree : Content) (parent : List (List ℕ)) (hint made : L
 -- in a good content a new node gets such a name, below a node with fewer than 2^64 kids and properties: no node in memory has more
 abbrev pub MadeNamesAreLeast : Type 0
 MadeNamesAreLeast = (tree : Content) (parent : List (List ℕ)) (hint : List ℕ) → IsGood tree → most_taken tree parent < 2 ^ 64 → IsMadeName tree parent hint (name_given tree parent (Hint hint))
+
+-- a node that is apart from all places of an operation is as before
+abbrev pub OperationsLeaveWhatIsApart : Type 0
+OperationsLeaveWhatIsApart = (op : Op) (tree : Content) (path : List (List ℕ)) → IsTrue (names_paths op) → IsGood tree
+    → IfOk (post_outcome op tree) (λ (done : PostEffect). is_apart_from_operation path done.report.path op ≡ true → node_at done.content path ≡ node_at tree path)
+
+-- after a change that isn't refused each property that it sets has its value, unless a later one is set at its path
+abbrev pub LastValuesStay : Type 0
+LastValuesStay = (op : ModifyOp) (tree : Content) (before later : List PropSet) (set : PropSet) → op.sets ≡ before ++ set ∷ later
+    → IfOk (post_outcome (Modify op) tree) (λ (done : PostEffect). is_set_later done.report.path set later ≡ false → HasItsValue done.content (full_path done.report.path set.spot) set)

@@ -6,4 +6,5 @@ pub mod Carries
 pub mod Names
 pub mod Marks
 pub mod Posting
+pub mod Untouched
 pub mod Laws

@@ -18,7 +18,8 @@ mod way;
 
 pub use fault::ApplyFault;
 pub use laws::{
-    a_made_name_is_the_least_that_is_free, operations_keep_content_good, refusals_have_causes,
+    a_made_name_is_the_least_that_is_free, operations_keep_content_good,
+    operations_leave_what_is_apart, refusals_have_causes, the_last_value_of_a_property_stays,
 };
 pub use posting::{Planned, apply, patch_of};
 pub use report::PostReport;

@@ -31,16 +31,16 @@ tells_one one (c ∷ cs) = says_iff (is_one one c && is_empty cs) (says_and (is_
 -- ---- cuttings
 
 tells_cut : {P Q : Texts} (p q : List ℕ → Bool) → Tells p P → Tells q Q → Tells (is_cut p q) (Cut P Q)
-tells_cut {P} {Q} p q sp sq [] = says_iff (p [] && q []) (says_and (p []) (q []) (sp []) (sq [])) (there, back)
+tells_cut {P = P} {Q = Q} p q sp sq [] = says_iff (p [] && q []) (says_and (p []) (q []) (sp []) (sq [])) (there, back)
   where
     there : P [] × Q [] → Cut P Q []
     there (x, y) = ([], [], x, y, refl)
 
     back : Cut P Q [] → P [] × Q []
     back (xs, ys, x, y, e) = let parts = ends_empty xs ys e in (subst P parts.0 x, subst Q parts.1 y)
-tells_cut {P} {Q} p q sp sq (c ∷ cs) =
+tells_cut {P = P} {Q = Q} p q sp sq (c ∷ cs) =
     says_iff ((p [] && q (c ∷ cs)) || is_cut (λ part. p (c ∷ part)) q cs)
-    (says_or (p [] && q (c ∷ cs)) (is_cut (λ part. p (c ∷ part)) q cs) (says_and (p []) (q (c ∷ cs)) (sp []) (sq (c ∷ cs))) (tells_cut {λ part. P (c ∷ part)} {Q} (λ part. p (c ∷ part)) q (λ part. sp (c ∷ part)) sq cs))
+    (says_or (p [] && q (c ∷ cs)) (is_cut (λ part. p (c ∷ part)) q cs) (says_and (p []) (q (c ∷ cs)) (sp []) (sq (c ∷ cs))) (tells_cut {P = λ part. P (c ∷ part)} {Q = Q} (λ part. p (c ∷ part)) q (λ part. sp (c ∷ part)) sq cs))
     (there, back)
   where
     there : (P [] × Q (c ∷ cs)) ⊎ Cut (λ part. P (c ∷ part)) Q cs → Cut P Q (c ∷ cs)
@@ -58,7 +58,7 @@ tells_cut {P} {Q} p q sp sq (c ∷ cs) =
 
 tells_times : {P : Texts} (p : List ℕ → Bool) → Tells p P → (number : ℕ) → Tells (is_times number p) (Times number P)
 tells_times p sp zero cs = tells_empty cs
-tells_times {P} p sp (suc number) cs = tells_cut {P} {Times number P} p (is_times number p) sp (tells_times p sp number) cs
+tells_times {P = P} p sp (suc number) cs = tells_cut {P = P} {Q = Times number P} p (is_times number p) sp (tells_times p sp number) cs
 
 or_true : (b : Bool) → b || true ≡ true
 or_true true = refl
@@ -66,20 +66,22 @@ or_true false = refl
 
 at_most_there : {P : Texts} (p : List ℕ → Bool) → Tells p P → (most : ℕ) (cs : List ℕ) → is_times_at_most most p cs ≡ true → (number : ℕ) × Times number P cs
 at_most_there p sp zero cs e = (0, (tells_times p sp 0 cs).0 e)
-at_most_there {P} p sp (suc most) cs e = go ((says_or (is_times (suc most) p cs) (is_times_at_most most p cs) (tells_times p sp (suc most) cs) ((λ h. h), (λ h. h))).0 e)
-  where
-    go : Times (suc most) P cs ⊎ (is_times_at_most most p cs ≡ true) → (number : ℕ) × Times number P cs
-    go (inl t) = (suc most, t)
-    go (inr h) = at_most_there p sp most cs h
+at_most_there {P = P} p sp (suc most) cs e =
+    elim ((says_or (is_times (suc most) p cs) (is_times_at_most most p cs) (tells_times p sp (suc most) cs) ((λ h. h), (λ h. h))).0 e) [
+      inl t ↦ (suc most, t)
+      | inr h ↦ at_most_there p sp most cs h
+    ]
 
-at_most_back : {P : Texts} (p : List ℕ → Bool) → Tells p P → (more number : ℕ) (cs : List ℕ) → Times number P cs → is_times_at_most (more + number) p cs ≡ true
-at_most_back p sp zero zero cs t = (tells_times p sp 0 cs).1 t
-at_most_back p sp zero (suc number) cs t = ap (λ (b : Bool). b || is_times_at_most number p cs) ((tells_times p sp (suc number) cs).1 t)
-at_most_back p sp (suc more) number cs t =
-    ap (λ (n : ℕ). is_times_at_most n p cs) (next more number) ∙ ap (λ (b : Bool). is_times (suc (more + number)) p cs || b) (at_most_back p sp more number cs t) ∙ or_true (is_times (suc (more + number)) p cs)
-  where
-    next : (m n : ℕ) → suc m + n ≡ suc (m + n)
-    next m n = omega arith
+-- this number of parts is at most itself
+as_many : {P : Texts} (p : List ℕ → Bool) → Tells p P → (number : ℕ) (cs : List ℕ) → Times number P cs → is_times_at_most number p cs ≡ true
+as_many p sp zero cs t = (tells_times p sp 0 cs).1 t
+as_many p sp (suc number) cs t = ap (λ (b : Bool). b || is_times_at_most number p cs) ((tells_times p sp (suc number) cs).1 t)
+
+at_most_back : {P : Texts} (p : List ℕ → Bool) → Tells p P → (more number most : ℕ) (cs : List ℕ) → most ≡ more + number → Times number P cs → is_times_at_most most p cs ≡ true
+at_most_back p sp zero number most cs e t = let same : most ≡ number = omega arith in ap (λ (n : ℕ). is_times_at_most n p cs) same ∙ as_many p sp number cs t
+at_most_back p sp (suc more) number zero cs e t = absurd (omega arith)
+at_most_back p sp (suc more) number (suc most) cs e t =
+    ap (λ (b : Bool). is_times (suc most) p cs || b) (at_most_back p sp more number most cs (omega arith) t) ∙ or_true (is_times (suc most) p cs)
 
 -- no more parts are needed than a text has characters
 few_parts : (P : Texts) (number : ℕ) (cs : List ℕ) → Times number P cs → (more : ℕ) × (fewer : ℕ) × (length cs ≡ more + fewer) × Times fewer P cs
@@ -92,16 +94,16 @@ few_parts P (suc number) cs (c ∷ xs, ys, x, t, e) =
     (length xs + ih.0, suc ih.1, omega (arith, size, one, ih.2), (c ∷ xs, ys, x, ih.3, e))
 
 tells_any : {P : Texts} (p : List ℕ → Bool) → Tells p P → Tells (is_any_times p) (λ cs. (number : ℕ) × Times number P cs)
-tells_any {P} p sp cs = (at_most_there p sp (length cs) cs, back)
+tells_any {P = P} p sp cs = (at_most_there p sp (length cs) cs, back)
   where
     back : (number : ℕ) × Times number P cs → is_any_times p cs ≡ true
-    back (number, t) = let few = few_parts P number cs t in ap (λ (n : ℕ). is_times_at_most n p cs) few.2 ∙ at_most_back p sp few.0 few.1 cs few.3
+    back (number, t) = let few = few_parts P number cs t in at_most_back p sp few.0 few.1 (length cs) cs few.2 few.3
 
 tells_repeated : {P : Texts} (p : List ℕ → Bool) → Tells p P → (repeat : Repeat) → Tells (is_repeated repeat p) (Repeated repeat P)
 tells_repeated p sp Once cs = sp cs
 tells_repeated p sp Optional cs = says_or (is_empty cs) (p cs) (tells_empty cs) (sp cs)
 tells_repeated p sp Any cs = tells_any p sp cs
-tells_repeated {P} p sp AtLeastOnce cs = says_iff (is_cut p (is_any_times p) cs) (tells_cut {P} {λ ds. (number : ℕ) × Times number P ds} p (is_any_times p) sp (tells_any p sp) cs) (there, back)
+tells_repeated {P = P} p sp AtLeastOnce cs = says_iff (is_cut p (is_any_times p) cs) (tells_cut {P = P} {Q = λ ds. (number : ℕ) × Times number P ds} p (is_any_times p) sp (tells_any p sp) cs) (there, back)
   where
     there : Cut P (λ ds. (number : ℕ) × Times number P ds) cs → Repeated AtLeastOnce P cs
     there (xs, ys, x, (number, t), e) = (number, (xs, ys, x, t, e))
@@ -113,9 +115,9 @@ tells_repeated {P} p sp AtLeastOnce cs = says_iff (is_cut p (is_any_times p) cs)
 
 tells_row : (which : Which) (tree : Tree) → Tells (in_row which tree) (InRow which tree)
 tells_row Last Empty cs = tells_empty cs
-tells_row Last (Char rows one repeat) cs = tells_cut {InRow Last rows} {Repeated repeat (IsOne one)} (in_row Last rows) (is_repeated repeat (is_one_text one)) (tells_row Last rows) (tells_repeated (is_one_text one) (tells_one one) repeat) cs
+tells_row Last (Char rows one repeat) cs = tells_cut {P = InRow Last rows} {Q = Repeated repeat (IsOne one)} (in_row Last rows) (is_repeated repeat (is_one_text one)) (tells_row Last rows) (tells_repeated (is_one_text one) (tells_one one) repeat) cs
 tells_row Last (Bracket rows inner repeat) cs =
-    tells_cut {InRow Last rows} {Repeated repeat (λ ds. InRow Earlier inner ds ⊎ InRow Last inner ds)} (in_row Last rows) (is_repeated repeat (λ part. in_row Earlier inner part || in_row Last inner part)) (tells_row Last rows)
+    tells_cut {P = InRow Last rows} {Q = Repeated repeat (λ ds. InRow Earlier inner ds ⊎ InRow Last inner ds)} (in_row Last rows) (is_repeated repeat (λ part. in_row Earlier inner part || in_row Last inner part)) (tells_row Last rows)
     (tells_repeated (λ part. in_row Earlier inner part || in_row Last inner part) (λ ds. says_or (in_row Earlier inner ds) (in_row Last inner ds) (tells_row Earlier inner ds) (tells_row Last inner ds)) repeat) cs
 tells_row Last (Or rows) cs = tells_empty cs
 tells_row Earlier Empty cs = says_false (λ s. s)

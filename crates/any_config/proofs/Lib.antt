@@ -5,3 +5,4 @@ pub mod Progress
 pub mod Sound
 pub mod Complete
 pub mod FaultLemmas
+pub mod EntryLemmas

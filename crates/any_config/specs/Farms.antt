@@ -8,6 +8,11 @@ use Rattle.glob_rules.specs.declared.piece.GlobPiece.{GlobPiece}
 use Rattle.glob_rules.specs.declared.rule.Rule.{Rule}
 use Rattle.glob_rules.specs.declared.fault.GlobFault.{GlobFault}
 use Rattle.glob_rules.specs.Reading.{glob_of}
+use Rattle.regex_rules.specs.declared.place.Place.{Place}
+use Rattle.regex_rules.specs.declared.fault.PatternFault.{PatternFault}
+use Rattle.regex_rules.specs.Reading.{pattern_of}
+use Rattle.any_config.specs.declared.farm.Test.{Test}
+use Rattle.any_config.specs.declared.farm.Test.TheVariants as test
 use Rattle.any_config.specs.declared.farm.Farm.{Farm}
 use Rattle.any_config.specs.declared.farm.VirtualHost.{VirtualHost}
 use Rattle.any_config.specs.declared.farm.Filter.{Filter}
@@ -55,7 +60,7 @@ member_value name (m ∷ ms) = if is_member_name name m.0 then Some m.1 else mem
 abbrev pub name_or : List ℕ → List ℕ → List ℕ
 name_or name group = if length name == 0 then group else name
 
--- the members of a group; a pattern is not supported, and a word is of the wrong kind
+-- the members of a group; a text in single quotes is not supported, and a word is of the wrong kind
 abbrev pub group_in : List ℕ → AnyNode-F AnyNode → FarmOutcome Members
 group_in name (AnyNode-F.Word text) = Err (BadKind name)
 group_in name (AnyNode-F.Pattern text) = Err (NotSupported name)
@@ -65,7 +70,7 @@ group_in name (AnyNode-F.Group ms) = Ok ms
 abbrev pub group_of : List ℕ → AnyNode → FarmOutcome Members
 group_of name value = group_in name (out-AnyNode value)
 
--- the text of a word; a pattern is not supported, and a group is of the wrong kind
+-- the text of a word; one in single quotes is not supported, and a group is of the wrong kind
 abbrev pub member_word_in : List ℕ → AnyNode-F AnyNode → FarmOutcome (List ℕ)
 member_word_in name (AnyNode-F.Word text) = Ok text
 member_word_in name (AnyNode-F.Pattern text) = Err (NotSupported name)
@@ -148,6 +153,34 @@ glob_or_none name (Some value) = member_word name value >>= λ text. glob name t
 unfoldable pub glob_at : List ℕ → Members → FarmOutcome (Option (List GlobPiece))
 glob_at name ms = glob_or_none name (member_value name ms)
 
+-- a pattern that could be read, or the fault that the member is of the wrong kind
+abbrev pub pattern_or_bad : List ℕ → Result (List Place) PatternFault → FarmOutcome (List Place)
+pattern_or_bad name (Ok pattern) = Ok pattern
+pattern_or_bad name (Err fault) = Err (BadKind name)
+
+-- the pattern that a text spells (law `the_reading_is_the_grammar` of regex_rules: the places of its tree)
+unfoldable pub pattern : List ℕ → List ℕ → FarmOutcome (List Place)
+pattern name text = pattern_or_bad name (pattern_of text)
+
+-- what a member of a filter's entry stands for: a word for a glob, a text in single quotes for a pattern; a group is of the wrong kind
+abbrev pub test_in : List ℕ → AnyNode-F AnyNode → FarmOutcome Test
+test_in name (AnyNode-F.Word text) = glob name text >>= λ g. Ok (test.Glob g)
+test_in name (AnyNode-F.Pattern text) = pattern name text >>= λ p. Ok (test.Pattern p)
+test_in name (AnyNode-F.Group ms) = Err (BadKind name)
+
+-- a value that has to be a test
+unfoldable pub test_of : List ℕ → AnyNode → FarmOutcome Test
+test_of name value = test_in name (out-AnyNode value)
+
+-- the test that a value writes, none without a value
+abbrev pub test_or_none : List ℕ → Option AnyNode → FarmOutcome (Option Test)
+test_or_none name None = Ok None
+test_or_none name (Some value) = test_of name value >>= λ t. Ok (Some t)
+
+-- the test of this name, where there is one
+unfoldable pub test_at : List ℕ → Members → FarmOutcome (Option Test)
+test_at name ms = test_or_none name (member_value name ms)
+
 -- `allow` or `deny`
 abbrev pub rule_type : List ℕ → FarmOutcome Bool
 rule_type text = if is_member_name (codes "allow") text then Ok true else (if is_member_name (codes "deny") text then Ok false else Err (BadKind (codes "type")))
@@ -168,14 +201,14 @@ rule ms = do
 unfoldable pub filter : Members → FarmOutcome Filter
 filter ms = do
   a ← allow ms
-  line ← glob_at (codes "glob") ms
-  method ← glob_at (codes "method") ms
-  url ← glob_at (codes "url") ms
-  path ← glob_at (codes "path") ms
-  selectors ← glob_at (codes "selectors") ms
-  extension ← glob_at (codes "extension") ms
-  suffix ← glob_at (codes "suffix") ms
-  query ← glob_at (codes "query") ms
+  line ← test_at (codes "glob") ms
+  method ← test_at (codes "method") ms
+  url ← test_at (codes "url") ms
+  path ← test_at (codes "path") ms
+  selectors ← test_at (codes "selectors") ms
+  extension ← test_at (codes "extension") ms
+  suffix ← test_at (codes "suffix") ms
+  query ← test_at (codes "query") ms
   Ok (record { allow = a; line = line; method = method; url = url; path = path; selectors = selectors; extension = extension; suffix = suffix; query = query })
 
 -- an entry of the group of this name

@@ -3,10 +3,12 @@ ghost use Rattle.std.specs.Prelude.{codes};
 ghost use Rattle.any_config.specs.Farms as spec;
 ghost use Rattle.any_config.specs.Farms.{FarmGives};
 
-use crate::farm::{Filter, FilterList};
+use crate::farm::{Filter, FilterList, Test};
 use crate::farm_fault::FarmFault;
 use crate::members::{Member, group_of, name_or, needed_group, optional_group, value_of, word_of};
+use crate::node::AnyNode;
 use glob_rules::{Glob, GlobFault, Rule, RuleList};
+use regex_rules::{Pattern, PatternFault};
 use sp_base::TextBuf;
 use std::alloc::Global;
 
@@ -32,6 +34,43 @@ fn glob_at(alloc: Global, name: &str, members: &[Member]) -> Result<Option<Glob>
     };
     let text = word_of(alloc, name, value)?;
     Ok(Some(glob(alloc, name, text)?))
+}
+
+/// The pattern that a text in single quotes spells.
+#[tactic(auto, unfolding(crate::specs::Farms::pattern))]
+fn pattern(alloc: Global, name: &str, text: &str) -> Result<Pattern, FarmFault>
+    ensures { FarmGives (λ p. p) result (spec.pattern name.now text.now) }
+{
+    match Pattern::read(alloc, text) {
+        Ok(pattern) => Ok(pattern),
+        Err(PatternFault::NoMemory) => Err(FarmFault::NoMemory),
+        Err(PatternFault::BadPattern(_) | PatternFault::TooDeep(_)) => {
+            Err(FarmFault::BadKind(TextBuf::of(alloc, name)?))
+        }
+    }
+}
+
+/// What a value of the filter asks: a word is a glob, a text in single quotes a pattern.
+#[tactic(auto, unfolding(crate::specs::Farms::test_of))]
+fn test_of(alloc: Global, name: &str, value: &AnyNode) -> Result<Test, FarmFault>
+    ensures { FarmGives (λ t. t) result (spec.test_of name.now value.now) }
+{
+    match value {
+        AnyNode::Word(text) => Ok(Test::Glob(glob(alloc, name, text.text())?)),
+        AnyNode::Pattern(text) => Ok(Test::Pattern(pattern(alloc, name, text.text())?)),
+        AnyNode::Group(_) => Err(FarmFault::BadKind(TextBuf::of(alloc, name)?)),
+    }
+}
+
+/// The test of a name, where there is one.
+#[tactic(auto, unfolding(crate::specs::Farms::test_at))]
+fn test_at(alloc: Global, name: &str, members: &[Member]) -> Result<Option<Test>, FarmFault>
+    ensures { FarmGives (λ t. t) result (spec.test_at name.now members.now) }
+{
+    match value_of(name, members) {
+        None => Ok(None),
+        Some(value) => Ok(Some(test_of(alloc, name, value)?)),
+    }
 }
 
 fn type_of(alloc: Global, text: &str) -> Result<bool, FarmFault>
@@ -75,14 +114,14 @@ fn filter(alloc: Global, members: &[Member]) -> Result<Filter, FarmFault>
 {
     Ok(Filter {
         allow: allow(alloc, members)?,
-        line: glob_at(alloc, "glob", members)?,
-        method: glob_at(alloc, "method", members)?,
-        url: glob_at(alloc, "url", members)?,
-        path: glob_at(alloc, "path", members)?,
-        selectors: glob_at(alloc, "selectors", members)?,
-        extension: glob_at(alloc, "extension", members)?,
-        suffix: glob_at(alloc, "suffix", members)?,
-        query: glob_at(alloc, "query", members)?,
+        line: test_at(alloc, "glob", members)?,
+        method: test_at(alloc, "method", members)?,
+        url: test_at(alloc, "url", members)?,
+        path: test_at(alloc, "path", members)?,
+        selectors: test_at(alloc, "selectors", members)?,
+        extension: test_at(alloc, "extension", members)?,
+        suffix: test_at(alloc, "suffix", members)?,
+        query: test_at(alloc, "query", members)?,
     })
 }
 

@@ -1,5 +1,6 @@
 //! The farm: what the dispatcher does for a site.
 use glob_rules::{Glob, RuleList};
+use regex_rules::Pattern;
 use sp_base::{Items, TextBuf};
 
 /// A host that is served (RFC 9110, section 4.2.1).
@@ -13,23 +14,32 @@ pub struct VirtualHost {
 
 pub type HostList = Items<VirtualHost>;
 
-/// An entry of the filter. It applies to a request where each glob that it has matches its part of the request.
+/// What an entry of the filter asks of a part of a request.
+#[derive(Drop)]
+pub enum Test {
+    /// That a glob matches the whole of it.
+    Glob(Glob),
+    /// That the whole of it is in the language of a regular expression, which the file writes in single quotes.
+    Pattern(Pattern),
+}
+
+/// An entry of the filter. It applies to a request where each test that it has holds for its part of the request.
 #[derive(Drop)]
 pub struct Filter {
     pub allow: bool,
     /// The request line.
-    pub line: Option<Glob>,
-    pub method: Option<Glob>,
+    pub line: Option<Test>,
+    pub method: Option<Test>,
     /// The decoded path text.
-    pub url: Option<Glob>,
+    pub url: Option<Test>,
     /// The path text before its first dot.
-    pub path: Option<Glob>,
+    pub path: Option<Test>,
     /// The selectors, with a dot between two.
-    pub selectors: Option<Glob>,
-    pub extension: Option<Glob>,
-    pub suffix: Option<Glob>,
+    pub selectors: Option<Test>,
+    pub extension: Option<Test>,
+    pub suffix: Option<Test>,
     /// The query, empty where there is none.
-    pub query: Option<Glob>,
+    pub query: Option<Test>,
 }
 
 pub type FilterList = Items<Filter>;

@@ -11,9 +11,9 @@ use std::alloc::{AllocError, AllocFailed};
 pub enum FarmFault {
     /// It isn't there.
     Missing(TextBuf),
-    /// It has another shape than it should, or a value out of range.
+    /// It has another shape than it should, or a value out of range, or a glob or a pattern that doesn't read.
     BadKind(TextBuf),
-    /// It asks for what isn't built: a second farm, or a pattern in single quotes.
+    /// It asks for what isn't built: a second farm, or a text in single quotes that no member of the filter has.
     NotSupported(TextBuf),
     NoMemory,
 }

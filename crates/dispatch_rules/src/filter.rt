@@ -7,7 +7,7 @@ ghost use Rattle.dispatch_rules.specs.UrlParts.{IsDotted};
 
 use crate::caching::query_bytes;
 use crate::url_parts::{dotted_selectors, extension, stem, suffix};
-use any_config::{Filter, FilterList, Glob};
+use any_config::{Filter, FilterList, Test};
 use sp_base::{Mem, Req};
 use std::alloc::Global;
 
@@ -41,7 +41,7 @@ pub fn filter_allows(alloc: Global, filter: &FilterList, req: &Req) -> Mem<bool>
         suffix: suffix(url),
         query: query.as_str(),
     };
-    Ok(last_says(filter, &seen))
+    last_says(alloc, filter, &seen)
 }
 
 fn without_dot(text: &str) -> &str
@@ -54,39 +54,40 @@ fn without_dot(text: &str) -> &str
     }
 }
 
-fn last_says(filter: &FilterList, seen: &RequestParts) -> bool
-    ensures { result ≡ decision (applies_to seen.now) (λ entry. entry.allow) filter.now }
+fn last_says(alloc: Global, filter: &FilterList, seen: &RequestParts) -> Mem<bool>
+    ensures { IfOk result (λ yes. yes ≡ decision (applies_to seen.now) (λ entry. entry.allow) filter.now) }
 {
     let entries = filter.as_slice();
     let mut left = entries.len();
     while left > 0 {
         left -= 1;
         let entry = &entries[left];
-        if applies(entry, seen) {
-            return entry.allow;
+        if applies(alloc, entry, seen)? {
+            return Ok(entry.allow);
         }
     }
-    false
+    Ok(false)
 }
 
-fn applies(entry: &Filter, seen: &RequestParts) -> bool
-    ensures { result ≡ applies_to seen.now entry.now }
+fn applies(alloc: Global, entry: &Filter, seen: &RequestParts) -> Mem<bool>
+    ensures { IfOk result (λ yes. yes ≡ applies_to seen.now entry.now) }
 {
-    fits(&entry.line, seen.line)
-        && (fits(&entry.method, seen.method)
-            && (fits(&entry.url, seen.url)
-                && (fits(&entry.path, seen.path)
-                    && (fits(&entry.selectors, seen.selectors)
-                        && (fits(&entry.extension, seen.extension)
-                            && (fits(&entry.suffix, seen.suffix)
-                                && fits(&entry.query, seen.query)))))))
+    Ok(fits(alloc, &entry.line, seen.line)?
+        && (fits(alloc, &entry.method, seen.method)?
+            && (fits(alloc, &entry.url, seen.url)?
+                && (fits(alloc, &entry.path, seen.path)?
+                    && (fits(alloc, &entry.selectors, seen.selectors)?
+                        && (fits(alloc, &entry.extension, seen.extension)?
+                            && (fits(alloc, &entry.suffix, seen.suffix)?
+                                && fits(alloc, &entry.query, seen.query)?)))))))
 }
 
-fn fits(glob: &Option<Glob>, text: &str) -> bool
-    ensures { result ≡ spec.fits glob.now text.now }
+fn fits(alloc: Global, test: &Option<Test>, text: &str) -> Mem<bool>
+    ensures { IfOk result (λ yes. yes ≡ spec.fits test.now text.now) }
 {
-    match glob {
-        Some(glob) => glob.matches(text),
-        None => true,
+    match test {
+        Some(Test::Glob(glob)) => Ok(glob.matches(text)),
+        Some(Test::Pattern(pattern)) => pattern.matches(alloc, text),
+        None => Ok(true),
     }
 }

@@ -1,4 +1,5 @@
 pub mod TextLemmas
+pub mod CuttingLemmas
 pub mod WalkLemmas
 pub mod MarkLemmas
 pub mod MatchLemmas

@@ -1,6 +1,7 @@
 -- The places of a tree, and the tree of them.
 use Rattle.std.proofs.Common.{◌≡◌, ◌≢◌, ◌↔◌, ◌⊎◌, inl, inr, ℕ, List, [], ◌∷◌, ◌++◌, Ok, Err, Result, refl, ap, sym, ◌∙◌, subst, append_assoc}
 use Rattle.std.proofs.lemmas.List.{append-nil}
+use Rattle.std.specs.Str.{chars}
 use Rattle.regex_rules.specs.declared.place.Place.{Place}
 use Rattle.regex_rules.specs.declared.place.Place.TheVariants.{One, Open, Bar, Close}
 use Rattle.regex_rules.specs.declared.fault.PatternFault.{PatternFault}
@@ -8,7 +9,7 @@ use Rattle.regex_rules.specs.declared.fault.PatternFault.TheVariants.{NoMemory}
 use Rattle.regex_rules.specs.Trees.{Tree, Empty, Char, Bracket, Or, places_of, tree_of, grown_all, innermost}
 use Rattle.regex_rules.specs.Spelling.{IsPattern, strict}
 use Rattle.regex_rules.specs.Faults.{IsFault}
-use Rattle.regex_rules.specs.Reading.{read_from, unread}
+use Rattle.regex_rules.specs.Reading.{read_from, unread, pattern_of}
 use Rattle.regex_rules.proofs.LeadLemmas.{whole_read}
 use Rattle.regex_rules.proofs.FaultLemmas.{Says, read_says}
 
@@ -57,3 +58,19 @@ tree_or_fault cs = go (read_from strict 0 unread cs) (read_says cs (read_from st
     go : (answer : Result (List Place) PatternFault) → Says cs answer → ((tree : Tree) × IsPattern cs tree) ⊎ ((fault : PatternFault) × IsFault fault cs)
     go (Ok places) s = inl (s.0, s.1)
     go (Err fault) s = inr (fault, s)
+
+-- ---- the places that a text is read as
+
+pub read_is_pattern : (text : List ℕ) (places : List Place) → pattern_of text ≡ Ok places → IsPattern (chars text) (tree_of places)
+unfolding pattern_of
+read_is_pattern text places e =
+    let s = read_says (chars text) (Ok places) e in
+    subst (IsPattern (chars text)) (sym (tree_of_places s.0) ∙ ap tree_of (sym s.2)) s.1
+
+pub pattern_is_read : (text : List ℕ) (tree : Tree) → IsPattern (chars text) tree → pattern_of text ≡ Ok (places_of tree)
+unfolding pattern_of
+pattern_is_read text tree spelled = whole_read strict (chars text) tree spelled
+
+pub read_is_fault : (text : List ℕ) (fault : PatternFault) → pattern_of text ≡ Err fault → IsFault fault (chars text)
+unfolding pattern_of
+read_is_fault text fault e = read_says (chars text) (Err fault) e

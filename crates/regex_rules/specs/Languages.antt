@@ -1,5 +1,5 @@
 -- Which texts a pattern matches, by cases on its tree (POSIX.1, "Extended Regular Expressions"; whole texts).
-use Rattle.std.specs.Prelude.{◌≡◌, ℕ, zero, suc, Bool, true, false, ◌&&◌, ◌==◌, not, nat_le, if◌then◌else◌, List, [], ◌∷◌, ◌++◌, ◌⊎◌}
+use Rattle.std.specs.Prelude.{◌≡◌, ℕ, zero, suc, Bool, true, false, ◌&&◌, ◌||◌, ◌==◌, not, nat_le, if◌then◌else◌, List, [], ◌∷◌, ◌++◌, ◌⊎◌, length}
 use Rattle.std.specs.List.{list_any}
 use Rattle.regex_rules.specs.declared.character.CharRange.{CharRange}
 use Rattle.regex_rules.specs.declared.character.CharClass.{CharClass}
@@ -66,7 +66,58 @@ InRow Earlier (Or rows) cs = InRow Earlier rows cs ⊎ InRow Last rows cs
 abbrev pub InLanguage : Tree → Texts
 InLanguage tree cs = InRow Earlier tree cs ⊎ InRow Last tree cs
 
--- the same of a repetition, as tests
+-- ---- the same as tests, which try every cutting of a text
+
+-- a text without a character
+abbrev pub is_empty : List ℕ → Bool
+is_empty [] = true
+is_empty (c ∷ cs) = false
+
+-- one character of this kind
+abbrev pub is_one_text : OneChar → List ℕ → Bool
+is_one_text one [] = false
+is_one_text one (c ∷ cs) = is_one one c && is_empty cs
+
+-- the text can be cut in two: the first part is empty, or it begins with the first character
+abbrev pub is_cut : (List ℕ → Bool) → (List ℕ → Bool) → List ℕ → Bool
+is_cut first second [] = first [] && second []
+is_cut first second (c ∷ cs) = (first [] && second (c ∷ cs)) || is_cut (λ part. first (c ∷ part)) second cs
+
+-- into this number of parts
+abbrev pub is_times : ℕ → (List ℕ → Bool) → List ℕ → Bool
+is_times zero part cs = is_empty cs
+is_times (suc number) part cs = is_cut part (is_times number part) cs
+
+-- into this number of parts at most
+abbrev pub is_times_at_most : ℕ → (List ℕ → Bool) → List ℕ → Bool
+is_times_at_most zero part cs = is_times zero part cs
+is_times_at_most (suc number) part cs = is_times (suc number) part cs || is_times_at_most number part cs
+
+-- into any number of parts: no more are needed than the text has characters
+abbrev pub is_any_times : (List ℕ → Bool) → List ℕ → Bool
+is_any_times part cs = is_times_at_most (length cs) part cs
+
+abbrev pub is_repeated : Repeat → (List ℕ → Bool) → List ℕ → Bool
+is_repeated Once part cs = part cs
+is_repeated Optional part cs = is_empty cs || part cs
+is_repeated Any part cs = is_any_times part cs
+is_repeated AtLeastOnce part cs = is_cut part (is_any_times part) cs
+
+abbrev pub in_row : Which → Tree → List ℕ → Bool
+in_row Last Empty cs = is_empty cs
+in_row Last (Char rows one repeat) cs = is_cut (in_row Last rows) (is_repeated repeat (is_one_text one)) cs
+in_row Last (Bracket rows inner repeat) cs = is_cut (in_row Last rows) (is_repeated repeat (λ part. in_row Earlier inner part || in_row Last inner part)) cs
+in_row Last (Or rows) cs = is_empty cs
+in_row Earlier Empty cs = false
+in_row Earlier (Char rows one repeat) cs = in_row Earlier rows cs
+in_row Earlier (Bracket rows inner repeat) cs = in_row Earlier rows cs
+in_row Earlier (Or rows) cs = in_row Earlier rows cs || in_row Last rows cs
+
+-- whether the characters are in the language: law `the_test_is_the_language`
+unfoldable pub in_language : Tree → List ℕ → Bool
+in_language tree cs = in_row Earlier tree cs || in_row Last tree cs
+
+-- ---- of a repetition
 
 abbrev pub may_lack : Repeat → Bool
 may_lack Once = false

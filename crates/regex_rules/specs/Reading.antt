@@ -1,6 +1,7 @@
 -- What the functions that read promise one another: a pattern is read a character at a time.
--- A reader of which texts spell which pattern needs none of it.
+-- A reader of which texts spell which pattern needs none of it: `pattern_of` gives a text the places of the tree that the grammar does (law `the_reading_is_the_grammar`).
 use Rattle.std.specs.Prelude.{ℕ, Bool, true, false, ◌==◌, ◌+◌, ◌-◌, if◌then◌else◌, List, [], ◌∷◌, ◌++◌, Option, Some, None, Result, Ok, Err, length, encode_utf8}
+use Rattle.std.specs.Str.{chars}
 use Rattle.regex_rules.specs.declared.character.CharRange.{CharRange}
 use Rattle.regex_rules.specs.declared.character.OneChar.TheVariants.{AnyButNewline, Literal, Class}
 use Rattle.regex_rules.specs.declared.repeat.Repeat.{Repeat}
@@ -12,7 +13,7 @@ use Rattle.regex_rules.specs.declared.mode.Mode.TheVariants as mode
 use Rattle.regex_rules.specs.declared.reader.Reader.{Reader}
 use Rattle.regex_rules.specs.declared.fault.PatternFault.{PatternFault}
 use Rattle.regex_rules.specs.declared.fault.PatternFault.TheVariants.{BadPattern, TooDeep}
-use Rattle.regex_rules.specs.Spelling.{Bounds, range, is_special, is_meant, is_reserved}
+use Rattle.regex_rules.specs.Spelling.{Bounds, range, is_special, is_meant, is_reserved, strict}
 
 -- a place whose piece stands once, with how often it does
 abbrev pub repeated_place : Repeat → Place → Option Place
@@ -172,3 +173,7 @@ read_from bounds at reader (c ∷ cs) = then_read (λ next. read_from bounds (at
 -- nothing read yet
 abbrev pub unread : Reader
 unread = record { places = []; depth = 0; negated = false; ranges = []; mode = mode.Begin }
+
+-- the places of the pattern that a text spells, or why it spells none
+unfoldable pub pattern_of : List ℕ → Result (List Place) PatternFault
+pattern_of text = read_from strict 0 unread (chars text)

@@ -1,12 +1,29 @@
 //! What the grammar of patterns says: laws of the definitions, on functions that do nothing.
-ghost use Rattle.std.specs.Prelude.{◌≡◌, ◌⊎◌, ℕ, List};
-ghost use Rattle.regex_rules.specs.Trees.{Tree};
+ghost use Rattle.std.specs.Prelude.{◌≡◌, ◌↔◌, ◌⊎◌, ℕ, IsTrue, List, Ok, Err};
+ghost use Rattle.std.specs.Str.{chars};
+ghost use Rattle.regex_rules.specs.Trees.{Tree, tree_of, places_of};
 ghost use Rattle.regex_rules.specs.Spelling.{IsPattern};
 ghost use Rattle.regex_rules.specs.Faults.{IsFault};
+ghost use Rattle.regex_rules.specs.Languages.{InLanguage, in_language};
+ghost use Rattle.regex_rules.specs.Reading.{pattern_of};
 ghost use Rattle.regex_rules.specs.declared.fault.PatternFault.{PatternFault};
+ghost use Rattle.regex_rules.specs.declared.place.Place.{Place};
 
 /// A text spells one tree at most, and one that spells none has a fault.
 pub fn a_text_and_its_tree()
     ensures one { (cs : List ℕ) (tree other : Tree) → IsPattern cs tree → IsPattern cs other → tree ≡ other }
     ensures either { (cs : List ℕ) → ((tree : Tree) × IsPattern cs tree) ⊎ ((fault : PatternFault) × IsFault fault cs) }
+{}
+
+/// The reading from left to right is the grammar: a text is read as the places of a tree exactly where it spells that tree, and the
+/// fault of one that is refused is a fault of it.
+pub fn the_reading_is_the_grammar()
+    ensures found { (text : List ℕ) (places : List Place) → pattern_of text ≡ Ok places → IsPattern (chars text) (tree_of places) }
+    ensures only { (text : List ℕ) (tree : Tree) → IsPattern (chars text) tree → pattern_of text ≡ Ok (places_of tree) }
+    ensures fault { (text : List ℕ) (fault : PatternFault) → pattern_of text ≡ Err fault → IsFault fault (chars text) }
+{}
+
+/// The test that tries every cutting of a text says whether the text is in the language.
+pub fn the_test_is_the_language()
+    ensures { (tree : Tree) (cs : List ℕ) → IsTrue (in_language tree cs) ↔ InLanguage tree cs }
 {}

@@ -1,10 +1,11 @@
 //! A pattern, and which texts it matches.
-ghost use Rattle.std.specs.Prelude.{◌≡◌, ◌≢◌, ◌↔◌, IsTrue, IfOk, IfErr};
+ghost use Rattle.std.specs.Prelude.{◌≡◌, ◌≢◌, ◌↔◌, IsTrue, IfOk, IfErr, Ok, Err};
 ghost use Rattle.std.specs.Str.{chars};
 ghost use Rattle.regex_rules.specs.Trees.{Tree, tree_of};
-ghost use Rattle.regex_rules.specs.Languages.{InLanguage};
+ghost use Rattle.regex_rules.specs.Languages.{InLanguage, in_language};
 ghost use Rattle.regex_rules.specs.Spelling.{IsPattern};
 ghost use Rattle.regex_rules.specs.Faults.{IsFault};
+ghost use Rattle.regex_rules.specs.Reading.{pattern_of};
 
 use crate::matching::is_match;
 use crate::read::read_places;
@@ -13,15 +14,14 @@ use sp_base::Mem;
 use std::alloc::Global;
 use std::marker::Model;
 
-/// A regular expression for whole texts. Contracts see its places, and their tree.
+/// A regular expression for whole texts. Contracts see its places, and speak of their tree.
 #[derive(Drop)]
 pub struct Pattern {
     pub(crate) places: Vec<Place>,
 }
 
 impl Model for Pattern {
-    ghost use Rattle.std.specs.Prelude.{◌≡◌};
-    ghost use Rattle.std.specs.Prelude.{List};
+    ghost use Rattle.std.specs.Prelude.{◌≡◌, List};
     ghost use Rattle.regex_rules.specs.Trees.{tree_of, places_of};
     ghost use Rattle.regex_rules.specs.declared.place.Place.{Place};
 
@@ -36,8 +36,10 @@ impl Pattern {
     /// Reads a pattern. `.` is any character but a newline, `[..]` one of a class, `\` takes away what the next character means, and
     /// any other character is itself. `*`, `+` and `?` say how often what stands before them stands, `|` parts rows of which one is
     /// to match, and brackets hold rows. A `^` at the beginning and a `$` at the end mean nothing, since whole texts are matched.
-    #[tactic(auto, using(crate::proofs::TreeLemmas::fault_is, crate::proofs::TreeLemmas::read_held))]
+    #[tactic(auto, unfolding(crate::specs::Reading::pattern_of), using(crate::proofs::TreeLemmas::fault_is, crate::proofs::TreeLemmas::read_held))]
     pub fn read(alloc: Global, text: &str) -> Result<Pattern, PatternFault>
+        ensures ok { IfOk result (λ p. pattern_of text.now ≡ Ok p) }
+        ensures err { IfErr result (λ e. e ≢ PatternFault.NoMemory → pattern_of text.now ≡ Err e) }
         ensures spelled { IfOk result (λ p. (tree : Tree) → IsPattern (chars text.now) tree ↔ tree ≡ tree_of p) }
         ensures fault { IfErr result (λ e. e ≢ PatternFault.NoMemory → IsFault e (chars text.now)) }
     {
@@ -50,7 +52,8 @@ impl Pattern {
     /// Whether the whole text is in the pattern's language. The time that it takes is the number of the text's characters times that
     /// of the pattern's at most. Memory is taken for two sets of the pattern's places, and for its open brackets.
     pub fn matches(&self, alloc: Global, text: &str) -> Mem<bool>
-        ensures { IfOk result (λ answer. IsTrue answer ↔ InLanguage (tree_of self.now) (chars text.now)) }
+        ensures value { IfOk result (λ answer. answer ≡ in_language (tree_of self.now) (chars text.now)) }
+        ensures relation { IfOk result (λ answer. IsTrue answer ↔ InLanguage (tree_of self.now) (chars text.now)) }
     {
         is_match(alloc, self.places.as_slice(), text)
     }

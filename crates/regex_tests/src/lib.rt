@@ -5,3 +5,5 @@
 mod faults;
 #[cfg(test)]
 mod matches;
+#[cfg(test)]
+mod yardstick;

@@ -11,3 +11,5 @@ mod flight_room;
 mod globs;
 #[cfg(test)]
 mod invalidations;
+#[cfg(test)]
+mod patterns;

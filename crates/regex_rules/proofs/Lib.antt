@@ -3,6 +3,8 @@ pub mod CuttingLemmas
 pub mod WalkLemmas
 pub mod MarkLemmas
 pub mod MatchLemmas
+pub mod FrontLemmas
+pub mod DecidingLemmas
 pub mod LeadLemmas
 pub mod StandLemmas
 pub mod SoundLemmas

@@ -1,7 +1,8 @@
 //! What the grammar of patterns says: laws of the definitions, on functions that do nothing.
-ghost use Rattle.std.specs.Prelude.{◌≡◌, ◌↔◌, ◌⊎◌, ℕ, IsTrue, List, Ok, Err};
+ghost use Rattle.std.specs.Prelude.{◌≡◌, ◌↔◌, ◌⊎◌, ℕ, IsTrue, List, Ok, Err, Some};
 ghost use Rattle.std.specs.Str.{chars};
 ghost use Rattle.regex_rules.specs.Trees.{Tree, tree_of, places_of};
+ghost use Rattle.regex_rules.specs.Deciding.{pattern_tree};
 ghost use Rattle.regex_rules.specs.Spelling.{IsPattern};
 ghost use Rattle.regex_rules.specs.Faults.{IsFault};
 ghost use Rattle.regex_rules.specs.Languages.{InLanguage, in_language};
@@ -13,6 +14,11 @@ ghost use Rattle.regex_rules.specs.declared.place.Place.{Place};
 pub fn a_text_and_its_tree()
     ensures one { (cs : List ℕ) (tree other : Tree) → IsPattern cs tree → IsPattern cs other → tree ≡ other }
     ensures either { (cs : List ℕ) → ((tree : Tree) × IsPattern cs tree) ⊎ ((fault : PatternFault) × IsFault fault cs) }
+{}
+
+/// The tree that a text spells is the one that it is read as.
+pub fn a_text_spells_the_tree_it_is_read_as()
+    ensures { (cs : List ℕ) (tree : Tree) → IsPattern cs tree ↔ pattern_tree cs ≡ Some tree }
 {}
 
 /// The reading from left to right is the grammar: a text is read as the places of a tree exactly where it spells that tree, and the

@@ -41,7 +41,8 @@ pub fn filter_allows(alloc: Global, filter: &FilterList, req: &Req) -> Mem<bool>
         suffix: suffix(url),
         query: query.as_str(),
     };
-    last_says(alloc, filter, &seen)
+    let allowed = last_says(alloc, filter, &seen)?;
+    Ok(allowed)
 }
 
 fn without_dot(text: &str) -> &str

@@ -68,7 +68,7 @@ at_most_there : {P : Texts} (p : List ℕ → Bool) → Tells p P → (most : �
 at_most_there p sp zero cs e = (0, (tells_times p sp 0 cs).0 e)
 at_most_there {P = P} p sp (suc most) cs e =
     elim ((says_or (is_times (suc most) p cs) (is_times_at_most most p cs) (tells_times p sp (suc most) cs) ((λ h. h), (λ h. h))).0 e) [
-      inl t ↦ (suc most, t)
+      | inl t ↦ (suc most, t)
       | inr h ↦ at_most_there p sp most cs h
     ]
 

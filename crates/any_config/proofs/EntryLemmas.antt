@@ -1,5 +1,5 @@
 -- Where the reading of a filter's entry stops.
-use Rattle.std.proofs.Common.{◌≡◌, ℕ, Bool, true, false, List, Option, Some, None, Result, Ok, Err, codes, IsErr, IsErrAnd, ap, sym, ◌∙◌, subst}
+use Rattle.std.proofs.Common.{◌≡◌, Bool, true, false, Option, Result, Ok, Err, codes, IsErr, IsErrAnd, ap, sym, subst}
 use Rattle.any_config.specs.declared.farm.Filter.{Filter}
 use Rattle.any_config.specs.declared.farm.Test.{Test}
 use Rattle.any_config.specs.declared.farm_fault.FarmFault.{FarmFault}

@@ -1,15 +1,15 @@
 -- Requests for one page are asked of the publisher alike.
-use Rattle.std.proofs.Common.{◌≡◌, ◌&&◌, ◌==◌, ℕ, Bool, true, false, cond, not, List, [], ◌∷◌, Option, Some, None, option_and_then, IsTrue, codes, nat_eq, unwrap_or, refl, sym, ◌∙◌, ap, subst}
+use Rattle.std.proofs.Common.{◌≡◌, ◌&&◌, ℕ, Bool, true, false, cond, List, [], Option, Some, None, option_and_then, codes, nat_eq, unwrap_or, refl, sym, ◌∙◌, ap}
 use Rattle.std.specs.Cmp.Lexicographic.{pointwise, bytes_decides}
 use Rattle.std.specs.Prelude.{if◌then◌else◌}
 use Rattle.sp_base.specs.Fields.{field_of}
-use Rattle.sp_base.specs.Paths.{is_path, mangled_segs, unmangled_segs}
+use Rattle.sp_base.specs.Paths.{mangled_segs, unmangled_segs}
 use Rattle.sp_base.specs.Requests.{Request}
 use Rattle.sp_base.specs.declared.answer.Ask.{Ask}
 use Rattle.any_config.specs.declared.farm.Farm.{Farm}
 use Rattle.glob_rules.specs.Rules.{allows}
 use Rattle.cover_rules.specs.declared.page.PageKey.{PageKey}
-use Rattle.cover_rules.specs.Pages.{page_key_of, page_path, page_text}
+use Rattle.cover_rules.specs.Pages.{page_key_of, page_text}
 use Rattle.dispatch_rules.specs.Asking.{publisher_ask, text_or_none}
 use Rattle.dispatch_rules.specs.Caching.{allowed_key, cache_key, ignores, is_shared, may_keep}
 

@@ -41,7 +41,8 @@ pub fn filter_allows(alloc: Global, filter: &FilterList, req: &Req) -> Mem<bool>
         suffix: suffix(url),
         query: query.as_str(),
     };
-    last_says(alloc, filter, &seen)
+    let allowed = last_says(alloc, filter, &seen)?;
+    Ok(allowed)
 }
 
 fn without_dot(text: &str) -> &str
@@ -72,14 +73,16 @@ fn last_says(alloc: Global, filter: &FilterList, seen: &RequestParts) -> Mem<boo
 fn applies(alloc: Global, entry: &Filter, seen: &RequestParts) -> Mem<bool>
     ensures { IfOk result (λ yes. yes ≡ applies_to seen.now entry.now) }
 {
-    Ok(fits(alloc, &entry.line, seen.line)?
-        && (fits(alloc, &entry.method, seen.method)?
-            && (fits(alloc, &entry.url, seen.url)?
-                && (fits(alloc, &entry.path, seen.path)?
-                    && (fits(alloc, &entry.selectors, seen.selectors)?
-                        && (fits(alloc, &entry.extension, seen.extension)?
-                            && (fits(alloc, &entry.suffix, seen.suffix)?
-                                && fits(alloc, &entry.query, seen.query)?)))))))
+    Ok(
+        fits(alloc, &entry.line, seen.line)?
+            && (fits(alloc, &entry.method, seen.method)?
+                && (fits(alloc, &entry.url, seen.url)?
+                    && (fits(alloc, &entry.path, seen.path)?
+                        && (fits(alloc, &entry.selectors, seen.selectors)?
+                            && (fits(alloc, &entry.extension, seen.extension)?
+                                && (fits(alloc, &entry.suffix, seen.suffix)?
+                                    && fits(alloc, &entry.query, seen.query)?)))))),
+    )
 }
 
 fn fits(alloc: Global, test: &Option<Test>, text: &str) -> Mem<bool>

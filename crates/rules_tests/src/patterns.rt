@@ -4,7 +4,8 @@ use dispatch_rules::admits;
 use sp_base::{LentHead, Mem, Path, PathFault, Req};
 use std::alloc::Global;
 
-const BEFORE: &str = r#"/farms { /site { /virtualhosts { "localhost" } /filter { /1 { /type "allow" "#;
+const BEFORE: &str =
+    r#"/farms { /site { /virtualhosts { "localhost" } /filter { /1 { /type "allow" "#;
 
 const AFTER: &str = " } } /cache { /rules { } } } }";
 
@@ -20,7 +21,11 @@ const ROWS: [Row; 22] = [
         ("HEAD", "/a", ""),
         ("HEADS", "/a", ""),
     ),
-    ("/method '(GET|HEAD)'", ("GET", "/a", ""), ("POST", "/a", "")),
+    (
+        "/method '(GET|HEAD)'",
+        ("GET", "/a", ""),
+        ("POST", "/a", ""),
+    ),
     (
         "/url '/content/.*\\.(html|json)'",
         ("GET", "/content/en.html", ""),
@@ -46,7 +51,11 @@ const ROWS: [Row; 22] = [
         ("GET", "/a", ""),
         ("GET", "/b.c", ""),
     ),
-    ("/path '/a|/b'", ("GET", "/b.html", ""), ("GET", "/c.html", "")),
+    (
+        "/path '/a|/b'",
+        ("GET", "/b.html", ""),
+        ("GET", "/c.html", ""),
+    ),
     (
         "/selectors '(print|[0-9-]+)'",
         ("GET", "/a.1-2.html", ""),
@@ -62,7 +71,11 @@ const ROWS: [Row; 22] = [
         ("GET", "/a.jpg", ""),
         ("GET", "/a.jpegs", ""),
     ),
-    ("/suffix '/.+'", ("GET", "/a.html/b", ""), ("GET", "/a.html", "")),
+    (
+        "/suffix '/.+'",
+        ("GET", "/a.html/b", ""),
+        ("GET", "/a.html", ""),
+    ),
     (
         "/query '(.*&)?q=[0-9]+'",
         ("GET", "/a", "b=c&q=12"),
@@ -144,7 +157,9 @@ fn is_row(alloc: Global, row: &Row) -> Result<bool, PathFault> {
 fn is_refused(alloc: Global, members: &str, name: &str) -> Mem<bool> {
     let text = farm_text(alloc, members)?;
     match read_any(alloc, text.as_bytes()) {
-        Ok(file) => Ok(matches!(farm_of(alloc, &file), Err(FarmFault::BadKind(own)) if own.text() == name)),
+        Ok(file) => Ok(
+            matches!(farm_of(alloc, &file), Err(FarmFault::BadKind(own)) if own.text() == name),
+        ),
         Err(_) => Ok(false),
     }
 }

@@ -47,7 +47,7 @@ fn is_word(node: &AnyNode, word: &str) -> bool {
     }
 }
 
-// Whether an entry applies to all: each glob that it has is a star.
+// Whether an entry plainly applies to all: each test that it has is the glob `*`. A pattern isn't looked into.
 fn applies_to_all(entry: &FarmMember) -> bool {
     for member in members_of(&entry.1) {
         if member.0.text() != "type" && !is_word(&member.1, "*") {
@@ -82,7 +82,7 @@ fn tell_decided(
 
 // ---- what the filter admits
 
-// The word under a name, if there is one.
+// The word under a name, if there is one. A pattern is none, so an entry with one may allow any beginning.
 fn word_at<'a>(members: &'a [FarmMember], name: &str) -> Option<&'a str> {
     for member in members {
         if member.0.text() == name {

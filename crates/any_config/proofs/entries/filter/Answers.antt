@@ -1,4 +1,3 @@
-use Rattle.std.proofs.Common.{◌≡◌, Err, rules}
 use Rattle.any_config.proofs.EntryLemmas.{query_fails, gives_fault, is_err}
 use Rattle.any_config.proofs.entries.filter.Goals as goal
 

@@ -17,6 +17,11 @@ NGINX_PORT = 8091
 VARNISH_PORT = 8092
 TURNS = str(1 << 63)
 
+# A script of 20 expressions.
+EXPRESSIONS = "<h1>${properties.title}</h1>" + "".join(
+    f"<p class=\"${{properties.n > {number} && 'big' || 'small'}}\">${{properties.title}} {number}</p>" for number in range(9)
+) + "<p>${properties.tags @ join=', '}</p>"
+
 OPEN_FILES = "open_file_cache max=4000 inactive=60s; open_file_cache_valid 60s;"
 NGINX = """
 daemon off; master_process off; worker_processes 1; pid {folder}/pid; error_log {folder}/errors;
@@ -124,12 +129,12 @@ class Server:
 
 
 class Program(Server):
-    """The program over pages below /content/s, whose one script writes so many bytes, and one page beside them."""
+    """The program over pages below /content/s, whose one script writes so many bytes, where no other is given, and one page beside them."""
 
-    def __init__(self, name, folder, pages, size):
+    def __init__(self, name, folder, pages, size, script=None):
         super().__init__(name, folder, PORT)
-        page = {"sling:resourceType": "site/page"}
-        script = {"html.html": {"jcr:content": {"jcr:data": "x" * size}}}
+        page = {"sling:resourceType": "site/page", **({"title": "A & B", "n": 4, "tags": ["a", "b"]} if script else {})}
+        script = {"html.html": {"jcr:content": {"jcr:data": script or "x" * size}}}
         tree = {"content": {"s": {f"p{number}": page for number in range(pages)}, "t": {"p0": page}}, "apps": {"site": {"page": script}}}
         with open(f"{self.folder}/content.json", "w") as out:
             json.dump(tree, out, separators=(",", ":"))

@@ -215,7 +215,9 @@ class Site:
         text, new = text_of(path), path not in self.nodes
         for depth in range(1, len(path) + 1):
             self.nodes.setdefault(path[:depth], {})
-        self.nodes[path]["n"] = int(number) if "n@TypeHint" in form else number
+        self.nodes[path].update((name, value) for name, value in form.items() if "@" not in name)
+        if "n@TypeHint" in form:
+            self.nodes[path]["n"] = int(number)
         status, location = (201, text) if new else (200, "")
         return Answer(status, PLAIN, location.encode(), "-", f"{status} {text}\n".encode())
 

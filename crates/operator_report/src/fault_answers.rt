@@ -1,4 +1,4 @@
-//! Answers by which the server says that it is at fault.
+//! Answers by which the server says that it is at fault, and what led to them.
 
 /// How such an answer begins.
 const FAULT: &[u8] = b"HTTP/1.1 5";
@@ -8,6 +8,26 @@ const STATUS: usize = 9;
 
 const PHRASE: usize = 12;
 
+/// How an answer of 503 ends after which the connection closes.
+const CLOSING_503: &[u8] = b"Connection: close\r\n\r\n503 Service Unavailable\n";
+
+/// What an answer is to, as far as what came before it tells.
+#[derive(Clone, Copy, Drop)]
+pub enum AnswerTo {
+    Flush,
+    Page,
+    Unknown,
+}
+
+/// What is known of the scripts of the content.
+#[derive(Clone, Copy, Drop)]
+pub enum Scripts {
+    /// Each is a template.
+    Templates,
+    /// One is none, or may be none.
+    Doubtful,
+}
+
 /// The status of an answer of 500 and above.
 pub fn fault_status(answer: &[u8]) -> Option<&str> {
     if !answer.starts_with(FAULT) {
@@ -16,14 +36,35 @@ pub fn fault_status(answer: &[u8]) -> Option<&str> {
     str::from_utf8(answer.get(STATUS..PHRASE)?).ok()
 }
 
-/// What may have led to the status.
-pub fn cause_of(status: &str) -> &'static str {
+/// What led to an answer of this status, or what may have.
+pub fn cause_of(status: &str, answer: &[u8], to: AnswerTo, scripts: Scripts) -> &'static str {
     match status {
-        "500" =>
-            "a script that is no template, an answer of more than 4 MiB, or the disk at a flush",
+        "500" => cause_of_500(to, scripts),
         "502" => "the answer was lost",
-        "503" => "too much at once, or no page can be kept",
+        "503" => cause_of_503(answer, to),
         "507" => "out of memory",
         _ => "unknown",
+    }
+}
+
+fn cause_of_500(to: AnswerTo, scripts: Scripts) -> &'static str {
+    match (to, scripts) {
+        (AnswerTo::Flush, _) => "the disk failed",
+        (AnswerTo::Page, Scripts::Templates) => "an answer of more than 4 MiB",
+        (AnswerTo::Page, Scripts::Doubtful) => {
+            "a script that is no template, or an answer of more than 4 MiB"
+        }
+        (AnswerTo::Unknown, _) => {
+            "a script that is no template, an answer of more than 4 MiB, or the disk at a flush"
+        }
+    }
+}
+
+// A flush that finds no place leaves its connection open, but where its client asked otherwise.
+fn cause_of_503(answer: &[u8], to: AnswerTo) -> &'static str {
+    match (answer.ends_with(CLOSING_503), to) {
+        (false, _) => "256 flushes are unfinished",
+        (true, AnswerTo::Page) => "64 requests of this connection wait",
+        (true, _) => "64 requests of this connection wait, or 256 flushes are unfinished",
     }
 }

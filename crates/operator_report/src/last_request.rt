@@ -1,5 +1,6 @@
 //! The request that was read last.
 
+use crate::fault_answers::AnswerTo;
 use std::alloc::Global;
 
 /// The most bytes of a first line that are looked at, and the most of them that are told.
@@ -10,12 +11,19 @@ const MOST_TOLD: usize = 200;
 /// How the lines of requests end.
 const VERSIONS: [&[u8]; 2] = [b" HTTP/1.1", b" HTTP/1.0"];
 
+/// The path of a flush, as clients spell it. It may be spelled with escapes too, which isn't looked for.
+const FLUSH: &[u8] = b"/dispatcher/invalidate.cache";
+
+const POST: &[u8] = b"POST ";
+
 /// The method and the target of the last piece that begins with the first line of a request, and its connection.
 #[derive(Drop)]
 pub struct LastRequest {
     conn: u32,
     // Of what is told printable ASCII alone. Empty where nothing is known.
     text: String,
+    // The connection of the last piece, whatever it begins with.
+    latest: u32,
 }
 
 // The first line, where it is short enough.
@@ -45,16 +53,29 @@ fn printed(byte: u8) -> char {
     }
 }
 
+// Whether a method and a target ask for a flush.
+fn is_flush(asked: &[u8]) -> bool {
+    match asked.iter().position(|byte| *byte == b' ') {
+        Some(blank) => match asked.get(blank..) {
+            Some([_, target @ ..]) => target.starts_with(FLUSH),
+            _ => false,
+        },
+        None => false,
+    }
+}
+
 impl LastRequest {
     pub fn new(alloc: Global) -> LastRequest {
         LastRequest {
             conn: 0,
             text: String::new(alloc),
+            latest: 0,
         }
     }
 
     /// Looks at a piece that was read.
     pub fn see(&mut self, conn: u32, piece: &[u8]) {
+        self.latest = conn;
         if let Some(asked) = asked_in(piece) {
             self.conn = conn;
             self.text.clear();
@@ -71,6 +92,23 @@ impl LastRequest {
             Some(self.text.as_str())
         } else {
             None
+        }
+    }
+
+    /// Whether it may change the content.
+    pub fn is_post(&self) -> bool {
+        let asked = self.text.as_bytes();
+        asked.starts_with(POST) && !is_flush(asked)
+    }
+
+    /// What an answer on this connection is to. A page is answered in the turn of its request, so one that comes after a piece of
+    /// another connection has waited for a flush.
+    pub fn answered(&self, conn: u32) -> AnswerTo {
+        match self.on(conn) {
+            Some(asked) if is_flush(asked.as_bytes()) => AnswerTo::Flush,
+            Some(_) => AnswerTo::Page,
+            None if self.latest != conn => AnswerTo::Flush,
+            None => AnswerTo::Unknown,
         }
     }
 }

@@ -1,7 +1,6 @@
 //! A world that is told of.
 ghost use Rattle.std.specs.Prelude.{◌≡◌};
 
-use crate::fault_answers::fault_status;
 use crate::last_request::LastRequest;
 use crate::report::Report;
 use outside_world::{Happening, SendFault, Work, World, WorldFault};
@@ -81,13 +80,9 @@ impl<'a, W: World + Drop, L: Words + Drop, R: Eprint + Files + Env + Drop> Repor
         }
         if let Happening::Piece(conn, bytes) = happening {
             self.last.see(*conn, bytes.bytes());
-        }
-    }
-
-    // Tells an answer by which the server says that it is at fault.
-    fn tell_answer(&self, conn: u32, answer: &[u8]) {
-        if let Some(status) = fault_status(answer) {
-            self.report.fault(status, conn, self.last.on(conn));
+            if self.last.is_post() {
+                self.report.post();
+            }
         }
     }
 }
@@ -114,7 +109,7 @@ impl<'a, W: World + Drop, L: Words + Drop, R: Eprint + Files + Env + Drop> World
     }
 
     fn send(&mut self, alloc: Global, conn: u32, bytes: &[u8]) -> Result<(), SendFault> {
-        self.tell_answer(conn, bytes);
+        self.report.answer(conn, bytes, &self.last);
         self.world.send(alloc, conn, bytes)
     }
 
@@ -125,7 +120,7 @@ impl<'a, W: World + Drop, L: Words + Drop, R: Eprint + Files + Env + Drop> World
         head: &[u8],
         body: &[u8],
     ) -> Result<(), SendFault> {
-        self.tell_answer(conn, head);
+        self.report.answer(conn, head, &self.last);
         self.world.send_both(alloc, conn, head, body)
     }
 

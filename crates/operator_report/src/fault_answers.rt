@@ -19,15 +19,6 @@ pub enum AnswerTo {
     Unknown,
 }
 
-/// What is known of the scripts of the content.
-#[derive(Clone, Copy, Drop)]
-pub enum Scripts {
-    /// Each is a template.
-    Templates,
-    /// One is none, or may be none.
-    Doubtful,
-}
-
 /// The status of an answer of 500 and above.
 pub fn fault_status(answer: &[u8]) -> Option<&str> {
     if !answer.starts_with(FAULT) {
@@ -37,9 +28,9 @@ pub fn fault_status(answer: &[u8]) -> Option<&str> {
 }
 
 /// What led to an answer of this status, or what may have.
-pub fn cause_of(status: &str, answer: &[u8], to: AnswerTo, scripts: Scripts) -> &'static str {
+pub fn cause_of(status: &str, answer: &[u8], to: AnswerTo) -> &'static str {
     match status {
-        "500" => cause_of_500(to, scripts),
+        "500" => cause_of_500(to),
         "502" => "the answer was lost",
         "503" => cause_of_503(answer, to),
         "507" => "out of memory",
@@ -47,14 +38,11 @@ pub fn cause_of(status: &str, answer: &[u8], to: AnswerTo, scripts: Scripts) -> 
     }
 }
 
-fn cause_of_500(to: AnswerTo, scripts: Scripts) -> &'static str {
-    match (to, scripts) {
-        (AnswerTo::Flush, _) => "the disk failed",
-        (AnswerTo::Page, Scripts::Templates) => "an answer of more than 4 MiB",
-        (AnswerTo::Page, Scripts::Doubtful) => {
-            "a script that is no template, or an answer of more than 4 MiB"
-        }
-        (AnswerTo::Unknown, _) => {
+fn cause_of_500(to: AnswerTo) -> &'static str {
+    match to {
+        AnswerTo::Flush => "the disk failed",
+        AnswerTo::Page => "a script that is no template, or an answer of more than 4 MiB",
+        AnswerTo::Unknown => {
             "a script that is no template, an answer of more than 4 MiB, or the disk at a flush"
         }
     }

@@ -14,8 +14,6 @@ const VERSIONS: [&[u8]; 2] = [b" HTTP/1.1", b" HTTP/1.0"];
 /// The path of a flush, as clients spell it. It may be spelled with escapes too, which isn't looked for.
 const FLUSH: &[u8] = b"/dispatcher/invalidate.cache";
 
-const POST: &[u8] = b"POST ";
-
 /// The method and the target of the last piece that begins with the first line of a request, and its connection.
 #[derive(Drop)]
 pub struct LastRequest {
@@ -93,12 +91,6 @@ impl LastRequest {
         } else {
             None
         }
-    }
-
-    /// Whether it may change the content.
-    pub fn is_post(&self) -> bool {
-        let asked = self.text.as_bytes();
-        asked.starts_with(POST) && !is_flush(asked)
     }
 
     /// What an answer on this connection is to. A page is answered in the turn of its request, so one that comes after a piece of

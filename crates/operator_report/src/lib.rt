@@ -3,6 +3,7 @@
 
 mod fault_answers;
 mod last_request;
+mod object_count;
 mod report;
 mod reported_inputs;
 mod reported_world;

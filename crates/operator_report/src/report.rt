@@ -1,16 +1,14 @@
 //! The lines.
 
-use crate::fault_answers::{Scripts, cause_of, fault_status};
+use crate::fault_answers::{cause_of, fault_status};
 use crate::last_request::LastRequest;
+use crate::object_count::object_count;
 use any_config::read_any;
-use content_json::read_tree;
 use farm_members::passed_members;
-use site_faults::script_faults;
 use std::alloc::Global;
 use std::cell::Cell;
 use std::env::Env;
 use std::fs::{File, Files};
-use std::hash::RandomState;
 use std::io::{self, Eprint, Read};
 
 /// The folder of the pages, and the file of the session's number in it.
@@ -30,39 +28,24 @@ const LONGEST_FOLDER: usize = 4_096;
 #[derive(Drop)]
 pub struct Report<R: Eprint + Files + Env + Drop> {
     rt: R,
-    seeds: RandomState,
     port: u16,
-    // The nodes of the content that was read last, and what is known of its scripts.
+    // The nodes of the content that was read last.
     nodes: Cell<usize>,
-    scripts: Cell<Scripts>,
 }
 
 impl<R: Eprint + Files + Env + Drop> Report<R> {
-    /// For a server at this port. The seeds key the table of the content's paths.
-    pub fn new(rt: R, seeds: RandomState, port: u16) -> Report<R> {
+    /// For a server at this port.
+    pub fn new(rt: R, port: u16) -> Report<R> {
         Report {
             rt,
-            seeds,
             port,
             nodes: Cell::new(0),
-            scripts: Cell::new(Scripts::Doubtful),
         }
     }
 
-    /// Remembers how many nodes a content has, and whether each of its scripts is a template. The tree is let go again.
-    pub(crate) fn content(&self, alloc: Global, json: &[u8]) {
-        let Ok(tree) = read_tree(alloc, self.seeds, json) else {
-            return;
-        };
-        self.nodes.set(tree.len());
-        if matches!(script_faults(alloc, &tree), Ok(faults) if faults.len() == 0) {
-            self.scripts.set(Scripts::Templates);
-        }
-    }
-
-    /// Remembers that a POST came, which may have changed a script.
-    pub(crate) fn post(&self) {
-        self.scripts.set(Scripts::Doubtful);
+    /// Remembers how many nodes a content has.
+    pub(crate) fn content(&self, json: &[u8]) {
+        self.nodes.set(object_count(json));
     }
 
     /// Tells the members of a farm's file that are passed over.
@@ -118,7 +101,7 @@ impl<R: Eprint + Files + Env + Drop> Report<R> {
         let Some(status) = fault_status(answer) else {
             return;
         };
-        let cause = cause_of(status, answer, last.answered(conn), self.scripts.get());
+        let cause = cause_of(status, answer, last.answered(conn));
         let _ = match last.on(conn) {
             Some(asked) => eprintln!(self.rt; "sling_dispatch: {status} to {asked}: {cause}"),
             None => eprintln!(self.rt; "sling_dispatch: {status} on connection {conn}: {cause}"),

@@ -42,7 +42,7 @@ impl<'a, I: Inputs + Drop, R: Eprint + Files + Env + Drop> ReportedInputs<'a, I,
     {
         self.next = match self.next {
             Next::Content => {
-                self.report.content(alloc, bytes);
+                self.report.content(bytes);
                 Next::Farm
             }
             Next::Farm => {

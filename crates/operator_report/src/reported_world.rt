@@ -80,9 +80,6 @@ impl<'a, W: World + Drop, L: Words + Drop, R: Eprint + Files + Env + Drop> Repor
         }
         if let Happening::Piece(conn, bytes) = happening {
             self.last.see(*conn, bytes.bytes());
-            if self.last.is_post() {
-                self.report.post();
-            }
         }
     }
 }

@@ -46,7 +46,7 @@ fn main(rt: HostRuntime) -> ExitCode {
     let Ok(seeds) = RandomState::new(&rt) else {
         return ExitCode::from(Ending::NoMemory.status());
     };
-    let report = Report::new(&rt, seeds, PORT);
+    let report = Report::new(&rt, PORT);
     let world = RealWorld::new(&rt, PORT);
     let mut outside = Outside {
         source: RealSource::new(rt.reader()),

@@ -14,9 +14,11 @@ use Rattle.cover_rules.specs.declared.stamp.Stamp.{Stamp}
 use Rattle.dispatch_rules.specs.Caching.{is_auto, is_plain_mark, is_storable}
 use Rattle.docroot_format.specs.declared.fault.FileFault.{FileFault}
 use Rattle.docroot_format.specs.declared.fault.FileFault.TheVariants.{Disk, NoMemory}
+use Rattle.cache_files.specs.declared.head_note.HeadNote.{HeadNote}
 use Rattle.cache_files.specs.Epochs.{epoch_held}
+use Rattle.cache_files.specs.Changes.{HasPage}
 use Rattle.cache_files.specs.HeldStamps.{KeepsOrder}
-use Rattle.cache_files.specs.Pages.{IsPagePut, page_at, page_of}
+use Rattle.cache_files.specs.Pages.{IsPagePut, head_at, page_at, page_of}
 use Rattle.stat_files.specs.Stamps.{stamp_at}
 use Rattle.docroot_changes.specs.Changes.{BesidePage, MayPut, PageSet}
 use Rattle.flights.specs.ClearPages.{ClearPage}
@@ -40,12 +42,12 @@ use Rattle.cover_rules.specs.declared.invalidation.Invalidation.{Invalidation}
 use Rattle.coherence_core.specs.Landings.{DeliveredAs, ForgetsFor, ForgetsFrom, IsKeptAs, IsKeptFrom, IsStored, fate_of, landed_under}
 use Rattle.coherence_core.specs.Served.{Before, IsFresh, stat_for}
 use Rattle.coherence_core.specs.StampTies.{IsFlightStamp}
-use Rattle.coherence_core.specs.Stands.{IsLogFlight, CoreStands, stamp}
+use Rattle.coherence_core.specs.Stands.{AreHeadsBefore, IsLogFlight, CoreStands, stamp}
 use Rattle.coherence_core.specs.declared.answers.Landed.{Landed as LandedAs}
 use Rattle.coherence_core.specs.declared.answers.Landed.TheVariants as landed
 use Rattle.coherence_core.specs.declared.core_state.Core.{Core}
 use Rattle.coherence_core.proofs.NoteLemmas.{apart_kept, notes_same}
-use Rattle.coherence_core.proofs.StampLemmas.{epoch_below}
+use Rattle.coherence_core.proofs.StampLemmas.{epoch_below, heads_changed}
 use Rattle.coherence_core.proofs.FlightLemmas.{flying_at}
 use Rattle.coherence_core.proofs.TieLemmas.{drawn_at}
 use Rattle.coherence_core.proofs.LandingSteps.{kept, lost, passed, unkept}
@@ -108,6 +110,7 @@ module _ (found : ℕ) (core : Core) (n : ℕ) (f : Flight) (at : flight_at n co
       stands = lost core.farm (page_at files) (stamp_at files) (epoch_held files) core.flights core.queue.items core.asked core.begun core.epoch (drawn_of core) log s.stands n (rising files log s);
       numbered = s.numbered;
       order = s.order;
+      heads = s.heads;
       down_is = s.down_is;
       few = s.few;
       slices = names_stay core.farm found 0 files files core.queue.items log (Lost n ∷ log) (adds_none files) (omega arith) (λ v. refl) refl s.slices;
@@ -132,6 +135,7 @@ module _ (found : ℕ) (core : Core) (n : ℕ) (f : Flight) (at : flight_at n co
       stands = passed core.farm (page_at files) (stamp_at files) (epoch_held files) core.flights core.queue.items core.asked core.begun core.epoch (drawn_of core) log s.stands n (rising files log s) f.key a;
       numbered = s.numbered;
       order = s.order;
+      heads = s.heads;
       down_is = s.down_is;
       few = s.few;
       slices = names_stay core.farm found 0 files files core.queue.items log (Landed n f.key a Passed ∷ log) (adds_none files) (omega arith) (λ v. refl) refl s.slices;
@@ -170,18 +174,44 @@ module _ (found : ℕ) (core : Core) (n : ℕ) (f : Flight) (at : flight_at n co
       low_here = let le : c.stamp.epoch ≤ core.epoch = epoch_below c.stamp core.epoch (drawn_of core) own_here in omega (arith, le, s.stands.epochs.current)
 
       -- what stands over the files by their number and their stamps, stands over those after
-      over : (next_log : List LogEntry) → core.down ≡ not (is_up next_log) → BesidePage c.key files after → (c.stamp.epoch ≤ epoch_held files → KeepsOrder files after) → BoundsSlices core.farm found after core.queue.items next_log
+      over : (next_log : List LogEntry) → core.down ≡ not (is_up next_log) → BesidePage c.key files after → (c.stamp.epoch ≤ epoch_held files → KeepsOrder files after) → AreHeadsBefore (head_at after) (stamp core.epoch (drawn_of core)) → BoundsSlices core.farm found after core.queue.items next_log
           → CoreStands core.farm (page_at after) (stamp_at files) (epoch_held files) (without n core.flights) core.queue.items core.asked core.begun core.epoch (drawn_of core) next_log → StandsOver found after (record core { flights = next; pages = notes }) next_log
-      over next_log down beside order slices stands = subst (λ (l : List Flight). StandsOver found after (record core { flights = l; pages = notes }) next_log) (sym is) (record {
+      over next_log down beside order heads slices stands = subst (λ (l : List Flight). StandsOver found after (record core { flights = l; pages = notes }) next_log) (sym is) (record {
         stands = subst (λ (e : ℕ). CoreStands core.farm (page_at after) (stamp_at after) e (without n core.flights) core.queue.items core.asked core.begun core.epoch (drawn_of core) next_log) (sym beside.number.held)
             (same_files core.farm facts (page_at after) (page_at after) (stamp_at files) (stamp_at after) (λ k good. refl) (λ g good. beside.stamps g good.bytes) (epoch_held files) (without n core.flights) core.queue.items core.asked core.begun core.epoch (drawn_of core) next_log stands);
         numbered = numbered_same files after beside.number s.numbered;
         order = order low_here s.order;
+        heads = heads;
         down_is = down;
         few = s.few;
         slices = slices;
         knows = known_then (without n core.flights) notes files after stays s.knows;
       })
+
+      -- the head of another page is as it was, and that of its own, where it is new, has the stamp of its flight
+      other_head : BesidePage c.key files after → (l : PageKey) → IsPageKey l → c.key ≢ l → (head_at after l ≡ head_at files l) ⊎ ((h : HeadNote) → head_at after l ≡ Some h → Before h.stamp (stamp core.epoch (drawn_of core)))
+      other_head beside l good ne = inl ((beside.pages l good (λ e. ne (sym e))).head)
+
+      new_head : HasPage after c.key c.stamp a → (l : PageKey) → c.key ≡ l → (h : HeadNote) → head_at after l ≡ Some h → Before h.stamp (stamp core.epoch (drawn_of core))
+      new_head page l same h is =
+          let one : (record { stamp = c.stamp; kind = a.kind; length = length a.body }) ≡ h = cc (sym page.head ∙ ap (head_at after) same ∙ is) in
+          subst (λ (x : HeadNote). Before x.stamp (stamp core.epoch (drawn_of core))) one own_here
+
+      set_heads : PageSet c.key c.stamp a files after → AreHeadsBefore (head_at after) (stamp core.epoch (drawn_of core))
+      set_heads set = heads_changed (head_at files) (head_at after) (stamp core.epoch (drawn_of core))
+          (λ l good. ⊎_elim (λ (same : c.key ≡ l). inr (new_head set.here l same)) (λ (ne : c.key ≢ l). other_head set.beside l good ne) (key_cases c.key l))
+          s.heads
+
+      may_heads : (fault : FileFault) → MayPut c.key c.stamp a fault files after → AreHeadsBefore (head_at after) (stamp core.epoch (drawn_of core))
+      may_heads fault put = heads_changed (head_at files) (head_at after) (stamp core.epoch (drawn_of core))
+          (λ l good. ⊎_elim
+          (λ (same : c.key ≡ l). ⊎_elim
+          (λ old. inl (ap (head_at after) (sym same) ∙ old.head ∙ ap (head_at files) same))
+          (λ h. inr (⊎_elim (λ none h is. absurd (cc (none.head, same, is))) (λ new. new_head new.1 l same) h))
+          put.here)
+          (λ (ne : c.key ≢ l). other_head put.beside l good ne)
+          (key_cases c.key l))
+          s.heads
 
       put_others : BesidePage c.key files after → (l : PageKey) → IsPageKey l → c.key ≢ l → page_at after l ≡ page_at files l
       put_others beside l good ne = (beside.pages l good (λ e. ne (sym e))).page
@@ -199,12 +229,12 @@ module _ (found : ℕ) (core : Core) (n : ℕ) (f : Flight) (at : flight_at n co
           (key_cases c.key l)
 
       whole : is_storable a ≡ true → PageSet c.key c.stamp a files after → StandsOver found after (record core { flights = next; pages = notes }) (Landed n (Some c.key) a Kept ∷ log)
-      whole storable t = over (Landed n (Some c.key) a Kept ∷ log) s.down_is t.beside t.order
+      whole storable t = over (Landed n (Some c.key) a Kept ∷ log) s.down_is t.beside t.order (set_heads t)
           (names_stay core.farm found 2 files after core.queue.items log (Landed n (Some c.key) a Kept ∷ log) t.names (two_more core.farm found log (landings_stored log + 1) refl (flushes_begun log) refl) (λ v. refl) refl s.slices)
           (kept core.farm (page_at files) (stamp_at files) (epoch_held files) core.flights core.queue.items core.asked core.begun core.epoch (drawn_of core) log s.stands n (rising files log s) c.key a (page_of c.stamp a.kind a.body) (stored_is c.stamp a storable) (page_at after) (put_set t) clear_here own_here drew_here facts key_cases t.here.page fresh_here)
 
       part : (fault : FileFault) → is_storable a ≡ true → MayPut c.key c.stamp a fault files after → StandsOver found after (record core { flights = next; pages = notes }) (Landed n (Some c.key) a Unkept ∷ log)
-      part fault storable t = over (Landed n (Some c.key) a Unkept ∷ log) s.down_is t.beside t.order
+      part fault storable t = over (Landed n (Some c.key) a Unkept ∷ log) s.down_is t.beside t.order (may_heads fault t)
           (names_stay core.farm found 2 files after core.queue.items log (Landed n (Some c.key) a Unkept ∷ log) t.names (two_more core.farm found log (landings_stored log + 1) refl (flushes_begun log) refl) (λ v. refl) refl s.slices)
           (unkept core.farm (page_at files) (stamp_at files) (epoch_held files) core.flights core.queue.items core.asked core.begun core.epoch (drawn_of core) log s.stands n (rising files log s) c.key a (page_of c.stamp a.kind a.body) (stored_is c.stamp a storable) (page_at after) (put_may fault t) clear_here own_here drew_here facts)
 

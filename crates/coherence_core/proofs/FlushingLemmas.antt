@@ -3,7 +3,7 @@ use Rattle.std.proofs.Common.{◌≡◌, ◌≤◌, ◌++◌, ℕ, not, List, �
 use Rattle.sp_outside.specs.Files.{Files}
 use Rattle.cache_files.specs.Epochs.{epoch_held}
 use Rattle.cache_files.specs.HeldStamps.{HasNoLaterStamp}
-use Rattle.cache_files.specs.Pages.{page_at}
+use Rattle.cache_files.specs.Pages.{head_at, page_at}
 use Rattle.stat_files.specs.Stamps.{stamp_at}
 use Rattle.docroot_changes.specs.Changes.{Told}
 use Rattle.invalidation.specs.declared.purge.Purge.{Purge}
@@ -22,12 +22,12 @@ use Rattle.coherence_core.specs.Notes.{AreApart, Knows, KnowsFiles}
 use Rattle.cover_rules.specs.declared.invalidation.Invalidation.{Invalidation}
 use Rattle.page_index.specs.Agreement.{Agrees, ChangesCovered, HasNoneCovered}
 use Rattle.page_index.specs.declared.index.PageIndex.{PageIndex}
-use Rattle.coherence_core.specs.Stands.{CoreStands}
+use Rattle.coherence_core.specs.Stands.{AreHeadsBefore, CoreStands, stamp}
 use Rattle.coherence_core.specs.declared.answers.Purged.{Purged}
 use Rattle.coherence_core.specs.declared.core_state.Core.{Core}
 use Rattle.coherence_core.specs.declared.pending.Pending.{Pending}
 use Rattle.coherence_core.proofs.NoteLemmas.{apart_first}
-use Rattle.coherence_core.proofs.StampLemmas.{epoch_below}
+use Rattle.coherence_core.proofs.StampLemmas.{epoch_below, heads_changed}
 use Rattle.coherence_core.proofs.FlushLemmas.{oldest}
 use Rattle.coherence_core.proofs.SliceBounds.{names_end, names_go_on}
 use Rattle.coherence_core.proofs.SliceSteps.{done, failed, sliced, went_on}
@@ -70,11 +70,12 @@ slice_agrees keeps level notes before left step files after slice apart agree =
 
 -- a core with these parts stands for the log
 pub stands_with : (found : ℕ) (files : Files) (old new : Core) (queue : List Pending) (log : List LogEntry) → KeepsBeside old new → new.queue.items ≡ queue
-    → CoreStands old.farm (page_at files) (stamp_at files) (epoch_held files) old.flights queue old.asked old.begun old.epoch (drawn_of old) log → IsNumbered files → HasNoLaterStamp files → old.down ≡ not (is_up log) → drawn_of old ≤ most_stamps → BoundsSlices old.farm found files queue log → Agrees old.pages files → AreApart old.farm.level old.pages queue → StandsOver found files new log
-stands_with found files old new queue log kept is stands numbered order down few slices agree apart = record {
+    → CoreStands old.farm (page_at files) (stamp_at files) (epoch_held files) old.flights queue old.asked old.begun old.epoch (drawn_of old) log → IsNumbered files → HasNoLaterStamp files → AreHeadsBefore (head_at files) (stamp old.epoch (drawn_of old)) → old.down ≡ not (is_up log) → drawn_of old ≤ most_stamps → BoundsSlices old.farm found files queue log → Agrees old.pages files → AreApart old.farm.level old.pages queue → StandsOver found files new log
+stands_with found files old new queue log kept is stands numbered order heads down few slices agree apart = record {
   stands = rw (kept.farm, kept.flights, is, kept.asked, kept.begun, kept.epoch) stands;
   numbered = numbered;
   order = order;
+  heads = rw (kept.asked, kept.begun, kept.epoch) heads;
   down_is = kept.down ∙ down;
   few = rw (kept.asked, kept.begun) few;
   slices = rw (kept.farm, is) slices;
@@ -98,6 +99,10 @@ module _ (found : ℕ) (core next : Core) (facts : CoverageFacts core.farm) (p :
   agree : (step : PurgeStep) → IsSlice p.purge q step files after → Agrees core.pages after
   agree step slice = slice_agrees keeps core.farm.level core.pages p.purge q step files after slice apart.0 s.knows.agree
 
+  -- it takes heads away, and sets none
+  heads : (step : PurgeStep) → IsSlice p.purge q step files after → AreHeadsBefore (head_at after) (stamp core.epoch (drawn_of core))
+  heads step slice = heads_changed (head_at files) (head_at after) (stamp core.epoch (drawn_of core)) (λ key good. ⊎_elim (λ same. inl same) (λ gone. inr (λ h is. absurd (cc (gone.1, is)))) (slice.heads key good)) s.heads
+
   first : IsOldest log p.number
   first = ((p.purge.inv, here.flushing.each.0.unfinished), λ w inv u. oldest p rest w inv here.flushing.each.1 (here.flushing.all w inv u))
 
@@ -114,7 +119,7 @@ module _ (found : ℕ) (core next : Core) (facts : CoverageFacts core.farm) (p :
   none_behind = record { touched = λ begun. absurd (cc begun); gone = λ k good del behind. absurd behind }
 
   ended : (step : PurgeStep) (outcome : FlushOutcome) → IsSlice p.purge q step files after → next.queue.items ≡ rest → CoreStands core.farm (page_at after) (stamp_at after) (epoch_held after) core.flights rest core.asked core.begun core.epoch (drawn_of core) (Ended p.number outcome ∷ log) → StandsOver found after next (Ended p.number outcome ∷ log)
-  ended step outcome slice is stands = stands_with found after core next rest (Ended p.number outcome ∷ log) kept is stands (numbered_same files after slice.number s.numbered) (slice.order low s.order) s.down_is s.few (names_end core.farm found files after p rest log slice.names bounds here.flushing.each.1 outcome) (agree step slice) apart.1
+  ended step outcome slice is stands = stands_with found after core next rest (Ended p.number outcome ∷ log) kept is stands (numbered_same files after slice.number s.numbered) (slice.order low s.order) (heads step slice) s.down_is s.few (names_end core.farm found files after p rest log slice.names bounds here.flushing.each.1 outcome) (agree step slice) apart.1
 
   fell : (step : PurgeStep) → IsSlice p.purge q step files after → next.queue.items ≡ rest → StandsOver found after next (Ended p.number Failed ∷ log)
   fell step slice is = ended step Failed slice is (failed core.farm facts (page_at after) (stamp_at after) (epoch_held after) core.flights (record { number = p.number; purge = forgotten }) rest core.asked core.begun core.epoch (drawn_of core) log (moved step slice forgotten (record { level = refl; inv = refl; stamp = refl }) none_behind))
@@ -126,7 +131,7 @@ module _ (found : ℕ) (core next : Core) (facts : CoverageFacts core.farm) (p :
         (first, tt),
         stands_with found after core next (record { number = p.number; purge = q } ∷ rest) (Sliced p.number ∷ log) kept is
             (went_on core.farm facts (page_at after) (stamp_at after) (epoch_held after) core.flights (record { number = p.number; purge = q }) rest core.asked core.begun core.epoch (drawn_of core) log (moved More slice q same progress))
-            (numbered_same files after slice.number s.numbered) (slice.order low s.order) s.down_is s.few
+            (numbered_same files after slice.number s.numbered) (slice.order low s.order) (heads More slice) s.down_is s.few
             (names_go_on core.farm found files after p rest log slice.names bounds q left.0 left.2 here.flushing.each.1 (subst (λ (x : ℕ). p.number ≤ x) s.stands.counts.flushes here.flushing.each.0.below))
             (agree More slice) (apart_first core.farm.level core.pages p (record { number = p.number; purge = q }) rest same apart),
       )

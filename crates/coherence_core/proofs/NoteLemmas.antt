@@ -1,10 +1,9 @@
 -- What is known of the files stays known.
-use Rattle.std.proofs.Common.{◌≡◌, ◌++◌, ◌||◌, ℕ, Bool, true, false, not, List, [], ◌∷◌, Option, Some, None, refl, sym, ◌∙◌, subst}
+use Rattle.std.proofs.Common.{◌≡◌, ◌++◌, ℕ, Bool, List, [], ◌∷◌, Option, Some, None, refl, sym, ◌∙◌, subst}
 use Rattle.std.specs.Prelude.{Result, Ok, Err, IfOk}
 use Rattle.sp_base.specs.declared.answer.Answer.{Answer}
 use Rattle.sp_outside.specs.Files.{Files}
-use Rattle.any_config.specs.declared.farm.Farm.{Farm}
-use Rattle.cover_rules.specs.Coverage.{covers, stat_folder}
+use Rattle.cover_rules.specs.Coverage.{stat_folder}
 use Rattle.dispatch_rules.specs.Caching.{is_auto}
 use Rattle.docroot_format.specs.declared.fault.FileFault.{FileFault}
 use Rattle.cache_files.specs.Pages.{page_at}
@@ -18,10 +17,11 @@ use Rattle.page_index.specs.Agreement.{Agrees, HasNoneCovered}
 use Rattle.page_index.specs.Effects.{IsBare}
 use Rattle.page_index.specs.declared.index.PageIndex.{PageIndex}
 use Rattle.coherence_core.specs.Notes.{AreApart, Knows, KnowsFiles, Learns, StaysKnown, StaysTold}
-use Rattle.coherence_core.specs.Asking.{IsLookedUp, core_asking, is_barred}
+use Rattle.coherence_core.specs.Asking.{IsLookedUp, core_asking}
 use Rattle.coherence_core.specs.Lookups.{IfAgreed, NotesPage}
 use Rattle.coherence_core.specs.Served.{served}
 use Rattle.coherence_core.specs.declared.core_state.Core.{Core}
+use Rattle.coherence_core.specs.declared.look.Look.{Look}
 use Rattle.coherence_core.specs.declared.pending.Pending.{Pending}
 
 -- ---- the queue
@@ -77,33 +77,9 @@ bare_known (Some files) core agrees queue bare = record { agree = agrees core.pa
 
 -- ---- a page that is looked up
 
-or_first : (a b : Bool) → (a || b) ≡ false → a ≡ false
-or_first true b e = e
-or_first false b e = refl
-
-or_second : (a b : Bool) → (a || b) ≡ false → b ≡ false
-or_second true b e = absurd (cc e)
-or_second false b e = e
-
-not_on : (b : Bool) → not b ≡ true → b ≡ false
-not_on true e = absurd (cc e)
-not_on false e = refl
-
-module _ (farm : Farm) (key : PageKey) (auto is_free : Bool) (auto_is : auto ≡ is_auto farm key) (told : Option Files) (old new : PageIndex) (notes : NotesPage farm key is_free told old new) where
-  free_apart : (queue : List Pending) → (is_free ≡ true → is_barred farm.level auto (Some key) queue ≡ false) → AreApart farm.level old queue → AreApart farm.level new queue
-  free_apart [] off all = tt
-  free_apart (p ∷ ps) off all = (
-    (all.0.0, notes.apart p.purge.inv (λ on. subst (λ (b : Bool). covers farm.level b p.purge.inv key ≡ false) auto_is (or_first (covers farm.level auto p.purge.inv key) (is_barred farm.level auto (Some key) ps) (off on))) all.0.1),
-    free_apart ps (λ on. or_second (covers farm.level auto p.purge.inv key) (is_barred farm.level auto (Some key) ps) (off on)) all.1,
-  )
-
--- a page that was looked up, and noted where no unfinished flush covers it
-pub looked_known : (told : Option Files) (core : Core) (key : PageKey) (auto is_free : Bool) (new : PageIndex) → auto ≡ is_auto core.farm key → is_free ≡ not (is_barred core.farm.level auto (Some key) core.queue.items) → NotesPage core.farm key is_free told core.pages new → Learns told core new
-looked_known None core key auto is_free new auto_is free_is notes k = tt
-looked_known (Some files) core key auto is_free new auto_is free_is notes k = record {
-  agree = notes.agree k.agree;
-  apart = free_apart core.farm key auto is_free auto_is (Some files) core.pages new notes core.queue.items (λ on. not_on (is_barred core.farm.level auto (Some key) core.queue.items) (sym free_is ∙ on)) k.apart;
-}
+pub looked_known : (told : Option Files) (core : Core) (look : Look) (new : PageIndex) → look.farm.now ≡ core.farm → look.queue.now.items ≡ core.queue.items → NotesPage look told core.pages new → Learns told core new
+looked_known None core look new farm queue notes k = tt
+looked_known (Some files) core look new farm queue notes k = record { agree = notes.agree k.agree; apart = rw (sym farm, sym queue) (notes.apart (rw (farm, queue) k.apart)) }
 
 pub looked_value : (told : Option Files) (core : Core) (key : PageKey) (auto : Bool) → auto ≡ is_auto core.farm key → (result : Result (Option Answer) FileFault)
     → IfOk result (λ found. IfAgreed told core.pages (λ files. served auto (stamp_at files (stat_folder core.farm.level key)) (page_at files key) ≡ found)) → IfOk result (λ found. Knows told core → IsLookedUp told core.farm key found)

@@ -9,6 +9,7 @@ mod core_state;
 mod delivery;
 mod flushing;
 mod laws;
+mod look;
 mod lookup;
 mod noting;
 mod page_parts;

@@ -3,11 +3,11 @@ ghost use Rattle.std.specs.Prelude.{◌≡◌, ◌++◌, ℕ, false, IfOk, List}
 ghost use Rattle.cover_rules.specs.Pages.{IsPageKey};
 ghost use Rattle.dispatch_rules.specs.Caching.{is_auto};
 ghost use Rattle.docroot_changes.specs.DocrootCalls.{MakesDocrootCalls};
-ghost use Rattle.docroot_format.specs.Faults.{HasFileCause};
 ghost use Rattle.flights.specs.Flights.{numbers_of};
 ghost use Rattle.cache_log.specs.Entries.{LogEntry};
 ghost use Rattle.coherence_core.specs.Asking.{IsLookedUp, KeyedAs, RequestedAs};
 ghost use Rattle.coherence_core.specs.Cores.{ExtendsCore, FlightsRise, KeepsFarm, StandsFor, flight_labels, flush_numbers};
+ghost use Rattle.coherence_core.specs.Lookups.{ReadsFiles};
 ghost use Rattle.coherence_core.specs.Notes.{Knows, Learns, with_notes};
 ghost use Rattle.coherence_core.specs.Requests.{GotAs, got_entries, got_flights, got_flushes, got_labels, requested_under};
 ghost use Rattle.sp_outside.specs.Causes.{IsDiskFailure};
@@ -15,7 +15,8 @@ ghost use Rattle.sp_outside.specs.Causes.{IsDiskFailure};
 use crate::answers::{Got, Requested};
 use crate::core_state::Core;
 use crate::laws::coverage_by_three_facts;
-use crate::lookup::look;
+use crate::look::Look;
+use crate::lookup::look_up;
 use cache_files::a_page_is_its_head_and_its_body;
 use cover_rules::PageKey;
 use dispatch_rules::{admits, auto_of, key_of};
@@ -117,12 +118,15 @@ impl Core {
         ensures notes { self.new ≡ with_notes self.old self.new.pages }
         ensures learns { Learns (D.files disk.old) self.old self.new.pages }
         ensures value { IfOk result (λ found. Knows (D.files disk.old) self.old → IsLookedUp (D.files disk.old) self.old.farm key.now found) }
-        ensures files { D.files disk.new ≡ D.files disk.old }
-        ensures cause { HasFileCause (D.faults disk.old) (D.faults disk.new) result }
-        ensures calls { MakesDocrootCalls (D.calls disk.old) (D.calls disk.new) }
+        ensures reads { ReadsFiles (D.files disk.old) (D.files disk.new) (D.faults disk.old) (D.faults disk.new) (D.calls disk.old) (D.calls disk.new) result }
     {
-        let is_free = self.is_free(auto, key);
-        look(alloc, disk, &mut self.pages, &self.farm, key, auto, is_free)
+        let look = Look {
+            farm: &self.farm,
+            queue: &self.queue,
+            key,
+            auto,
+        };
+        look_up(alloc, disk, &mut self.pages, &look)
     }
 }
 

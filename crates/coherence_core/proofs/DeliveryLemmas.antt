@@ -31,7 +31,7 @@ use Rattle.cache_log.specs.Entries.{LogEntry, Kept, Landed, Lost, Passed, Unkept
 use Rattle.cache_log.specs.Hits.{InAir, IsClear, stored}
 use Rattle.cache_log.specs.Rules.{CallConditions, MayStore}
 use Rattle.coherence_core.specs.Bounds.{BoundsSlices, most_files}
-use Rattle.coherence_core.specs.Cores.{ExtendsLogs, StandsFor, StandsOver, conditions_of_call, drawn_of}
+use Rattle.coherence_core.specs.Cores.{ExtendsLogs, CoreStandsFor, StandsOver, conditions_of_call, drawn_of}
 use Rattle.coherence_core.specs.Facts.{CoverageFacts}
 use Rattle.coherence_core.specs.Notes.{KnowsFiles, StaysKnown, StaysTold}
 use Rattle.page_index.specs.Agreement.{Agrees, HasNoneCovered}
@@ -102,7 +102,7 @@ module _ (found : ℕ) (core : Core) (n : ℕ) (f : Flight) (at : flight_at n co
   rising : (files : Files) (log : List LogEntry) → StandsOver found files core log → AreRising 0 (without n core.flights) core.asked
   rising files log s = left 0 n core.asked core.flights s.stands.flying.rising
 
-  pub gone_lost : (told : Option Files) (under : CallConditions) → ExtendsLogs core.farm (StandsFor found told core) (StandsFor found told (record core { flights = next })) under (Lost n ∷ [])
+  pub gone_lost : (told : Option Files) (under : CallConditions) → ExtendsLogs core.farm (CoreStandsFor found told core) (CoreStandsFor found told (record core { flights = next })) under (Lost n ∷ [])
   gone_lost None under = extends (λ log s. absurd s)
   gone_lost (Some files) under = extends (λ log s. (
     ((f.key, air files log s), tt),
@@ -127,7 +127,7 @@ module _ (found : ℕ) (core : Core) (n : ℕ) (f : Flight) (at : flight_at n co
 
   -- a landing that isn't stored, since it may not be
   gone_passed : (notes : PageIndex) (told : Option Files) → StaysTold core.pages notes told told → (under : CallConditions) (a : Answer) → ((files : Files) (log : List LogEntry) → StandsOver found files core log → MayStore core.farm log n f.key a → ⊥)
-      → ExtendsLogs core.farm (StandsFor found told core) (StandsFor found told (record core { flights = next; pages = notes })) under (Landed n f.key a Passed ∷ [])
+      → ExtendsLogs core.farm (CoreStandsFor found told core) (CoreStandsFor found told (record core { flights = next; pages = notes })) under (Landed n f.key a Passed ∷ [])
   gone_passed notes None stays under a why = extends (λ log s. absurd s)
   gone_passed notes (Some files) stays under a why = extends (λ log s. (
     ((air files log s, why files log s), tt),
@@ -143,10 +143,10 @@ module _ (found : ℕ) (core : Core) (n : ℕ) (f : Flight) (at : flight_at n co
     }),
   ))
 
-  unkeyed : (notes : PageIndex) (told : Option Files) → StaysTold core.pages notes told told → (under : CallConditions) (a : Answer) → f.key ≡ None → ExtendsLogs core.farm (StandsFor found told core) (StandsFor found told (record core { flights = next; pages = notes })) under (Landed n f.key a Passed ∷ [])
+  unkeyed : (notes : PageIndex) (told : Option Files) → StaysTold core.pages notes told told → (under : CallConditions) (a : Answer) → f.key ≡ None → ExtendsLogs core.farm (CoreStandsFor found told core) (CoreStandsFor found told (record core { flights = next; pages = notes })) under (Landed n f.key a Passed ∷ [])
   unkeyed notes told stays under a none = gone_passed notes told stays under a (λ files log s may. subst (λ (k : Option PageKey). MayStore core.farm log n k a) none may)
 
-  voided : (notes : PageIndex) (told : Option Files) → StaysTold core.pages notes told told → (under : CallConditions) (a : Answer) (key : PageKey) → (f.voided ≡ true) × (f.key ≡ Some key) → ExtendsLogs core.farm (StandsFor found told core) (StandsFor found told (record core { flights = next; pages = notes })) under (Landed n f.key a Passed ∷ [])
+  voided : (notes : PageIndex) (told : Option Files) → StaysTold core.pages notes told told → (under : CallConditions) (a : Answer) (key : PageKey) → (f.voided ≡ true) × (f.key ≡ Some key) → ExtendsLogs core.farm (CoreStandsFor found told core) (CoreStandsFor found told (record core { flights = next; pages = notes })) under (Landed n f.key a Passed ∷ [])
   voided notes told stays under a key h = gone_passed notes told stays under a (λ files log s may.
       let k = known files log s in
       let clear : IsClear core.farm log n key = (subst (λ (x : Option PageKey). MayStore core.farm log n x a) h.1 may).1 in
@@ -238,18 +238,18 @@ module _ (found : ℕ) (core : Core) (n : ℕ) (f : Flight) (at : flight_at n co
           (names_stay core.farm found 2 files after core.queue.items log (Landed n (Some c.key) a Unkept ∷ log) t.names (two_more core.farm found log (landings_stored log + 1) refl (flushes_begun log) refl) (λ v. refl) refl s.slices)
           (unkept core.farm (page_at files) (stamp_at files) (epoch_held files) core.flights core.queue.items core.asked core.begun core.epoch (drawn_of core) log s.stands n (rising files log s) c.key a (page_of c.stamp a.kind a.body) (stored_is c.stamp a storable) (page_at after) (put_may fault t) clear_here own_here drew_here facts)
 
-    for_key : (told new : Option Files) (out : LandedAs) → StaysTold core.pages notes told new → IsStored c.key c.stamp a out told new → ExtendsLogs core.farm (StandsFor found told core) (StandsFor found new (record core { flights = next; pages = notes })) (landed_under out) (Landed n (Some c.key) a (fate_of out) ∷ [])
+    for_key : (told new : Option Files) (out : LandedAs) → StaysTold core.pages notes told new → IsStored c.key c.stamp a out told new → ExtendsLogs core.farm (CoreStandsFor found told core) (CoreStandsFor found new (record core { flights = next; pages = notes })) (landed_under out) (Landed n (Some c.key) a (fate_of out) ∷ [])
     for_key None new out stays t = extends (λ log s. absurd s)
     for_key (Some files) None out stays t = absurd stays
     for_key (Some files) (Some after) (landed.Kept k) stays t = extends (λ log s. (((air_here files after stays log s, (t.0, clear_here files after stays log s)), tt), whole files after stays log s t.0 t.1))
-    for_key (Some files) (Some after) landed.Passed stays t = subst (λ (told : Option Files). ExtendsLogs core.farm (StandsOver found files core) (StandsFor found told (record core { flights = next; pages = notes })) (landed_under landed.Passed) (Landed n (Some c.key) a Passed ∷ [])) (sym t.1)
+    for_key (Some files) (Some after) landed.Passed stays t = subst (λ (told : Option Files). ExtendsLogs core.farm (StandsOver found files core) (CoreStandsFor found told (record core { flights = next; pages = notes })) (landed_under landed.Passed) (Landed n (Some c.key) a Passed ∷ [])) (sym t.1)
         (subst (λ (x : Option PageKey). ExtendsLogs core.farm (StandsOver found files core) (StandsOver found files (record core { flights = next; pages = notes })) (landed_under landed.Passed) (Landed n x a Passed ∷ [])) clear.1
         (gone_passed notes (Some files) (subst (λ (told : Option Files). StaysTold core.pages notes (Some files) told) t.1 stays) (landed_under landed.Passed) a (λ fs log s may. let is_so : is_storable a ≡ true = (subst (λ (x : Option PageKey). MayStore core.farm log n x a) clear.1 may).0 in absurd (cc (is_so, t.0)))))
     for_key (Some files) (Some after) landed.DiskFailed stays t = extends (λ log s. (((air_here files after stays log s, (t.0, clear_here files after stays log s), inl refl), tt), part files after stays log s Disk t.0 t.1))
     for_key (Some files) (Some after) landed.NoMemory stays t = extends (λ log s. (((air_here files after stays log s, (t.0, clear_here files after stays log s), inr refl), tt), part files after stays log s NoMemory t.0 t.1))
 
-    gone_stored : (told new : Option Files) (out : LandedAs) → StaysTold core.pages notes told new → IsStored c.key c.stamp a out told new → ExtendsLogs core.farm (StandsFor found told core) (StandsFor found new (record core { flights = next; pages = notes })) (landed_under out) (Landed n f.key a (fate_of out) ∷ [])
-    gone_stored told new out stays t = subst (λ (x : Option PageKey). ExtendsLogs core.farm (StandsFor found told core) (StandsFor found new (record core { flights = next; pages = notes })) (landed_under out) (Landed n x a (fate_of out) ∷ [])) (sym clear.1) (for_key told new out stays t)
+    gone_stored : (told new : Option Files) (out : LandedAs) → StaysTold core.pages notes told new → IsStored c.key c.stamp a out told new → ExtendsLogs core.farm (CoreStandsFor found told core) (CoreStandsFor found new (record core { flights = next; pages = notes })) (landed_under out) (Landed n f.key a (fate_of out) ∷ [])
+    gone_stored told new out stays t = subst (λ (x : Option PageKey). ExtendsLogs core.farm (CoreStandsFor found told core) (CoreStandsFor found new (record core { flights = next; pages = notes })) (landed_under out) (Landed n x a (fate_of out) ∷ [])) (sym clear.1) (for_key told new out stays t)
 
 -- ---- what is known after a landing
 
@@ -288,10 +288,10 @@ module _ (core : Core) (n : ℕ) (f : Flight) (at : flight_at n core.flights ≡
   stays_same : new ≡ told → StaysTold core.pages notes told told
   stays_same same = subst (λ (t : Option Files). StaysTold core.pages notes told t) same stays
 
-  passed_on : (found : ℕ) (out : LandedAs) → out ≡ landed.Passed → new ≡ told → ExtendsLogs core.farm (StandsFor found told core) (StandsFor found told (record core { flights = next; pages = notes })) (conditions_of_call false false) (Landed n f.key a Passed ∷ []) → ExtendsLogs core.farm (StandsFor found told core) (StandsFor found new (record core { flights = next; pages = notes })) (landed_under out) (Landed n f.key a (fate_of out) ∷ [])
+  passed_on : (found : ℕ) (out : LandedAs) → out ≡ landed.Passed → new ≡ told → ExtendsLogs core.farm (CoreStandsFor found told core) (CoreStandsFor found told (record core { flights = next; pages = notes })) (conditions_of_call false false) (Landed n f.key a Passed ∷ []) → ExtendsLogs core.farm (CoreStandsFor found told core) (CoreStandsFor found new (record core { flights = next; pages = notes })) (landed_under out) (Landed n f.key a (fate_of out) ∷ [])
   passed_on found out out_is same e = rw (out_is, same) e
 
-  pub landing_owes : (landing : Landing) (out : LandedAs) → LandsAs f landing → IsKeptFrom landing a out told new → (found : ℕ) → ExtendsLogs core.farm (StandsFor found told core) (StandsFor found new (record core { flights = next; pages = notes })) (landed_under out) (Landed n f.key a (fate_of out) ∷ [])
+  pub landing_owes : (landing : Landing) (out : LandedAs) → LandsAs f landing → IsKeptFrom landing a out told new → (found : ℕ) → ExtendsLogs core.farm (CoreStandsFor found told core) (CoreStandsFor found new (record core { flights = next; pages = notes })) (landed_under out) (Landed n f.key a (fate_of out) ∷ [])
   landing_owes Unkeyed out lands kept found = passed_on found out kept.0 kept.1 (unkeyed found core n f at next is left notes told (stays_same kept.1) (conditions_of_call false false) a lands)
   landing_owes (Voided key) out lands kept found = passed_on found out kept.0 kept.1 (voided found core n f at next is left notes told (stays_same kept.1) (conditions_of_call false false) a key lands)
   landing_owes (Clear c) out lands kept found = gone_stored found core n f at next is left facts notes c lands a told new out stays kept.0

@@ -1,12 +1,16 @@
 -- What a look at a page leaves noted, and what it answers.
 use Rattle.std.proofs.Common.{◌≡◌, ◌&&◌, ◌||◌, ◌==◌, ℕ, Bool, true, false, List, [], ◌∷◌, Contains, Option, Some, None, refl, sym, ◌∙◌, ap, subst, if◌then◌else◌, length}
 use Rattle.std.specs.Prelude.{Result, Ok, Err, IfOk, IfSome, option_map}
+use Rattle.docroot_format.specs.Faults.{HasFileCause}
 use Rattle.docroot_format.specs.declared.fault.FileFault.{FileFault}
+use Rattle.docroot_format.specs.declared.fault.FileFault.TheVariants as file_fault
 use Rattle.std.specs.FinMap.{empty}
 use Rattle.std.specs.Option.{option_and_then}
 use Rattle.sp_base.specs.Texts.{Segments, Text}
 use Rattle.sp_base.specs.declared.answer.Answer.{Answer}
+use Rattle.sp_outside.specs.Calls.{Call}
 use Rattle.sp_outside.specs.Files.{Files, file_at}
+use Rattle.docroot_changes.specs.DocrootCalls.{MakesDocrootCalls}
 use Rattle.cover_rules.specs.Coverage.{covers, deletes, outdates, stat_folder, touched_of}
 use Rattle.cover_rules.specs.Pages.{IsPageKey}
 use Rattle.cover_rules.specs.declared.invalidation.Invalidation.{Invalidation}
@@ -23,8 +27,8 @@ use Rattle.page_index.specs.Notes.{known_page, stamp_noted}
 use Rattle.page_index.specs.declared.index.PageIndex.{PageIndex}
 use Rattle.coherence_core.specs.Facts.{CoverageFacts}
 use Rattle.coherence_core.specs.Asking.{is_barred}
-use Rattle.coherence_core.specs.Lookups.{IfAgreed, IsLook, NotesHead, NotesPage, NotesStamp}
-use Rattle.coherence_core.specs.Notes.{AreApart, HoldsStill}
+use Rattle.coherence_core.specs.Lookups.{IfAgreed, IsLook, NotesHead, NotesPage, NotesStamp, ReadsFiles}
+use Rattle.coherence_core.specs.Notes.{AreNotesUncovered, HoldsStill}
 use Rattle.coherence_core.specs.Served.{served}
 use Rattle.coherence_core.specs.declared.look.Look.{Look}
 use Rattle.coherence_core.specs.declared.pending.Pending.{Pending}
@@ -84,7 +88,7 @@ or_second true b e = absurd (cc e)
 or_second false b e = e
 
 -- what covers none of the notes covers none still, where it doesn't cover the page, and no flush of the queue does
-free_apart : (level : ℕ) (auto : Bool) (key : PageKey) (a b : PageIndex) → ((inv : Invalidation) → covers level auto inv key ≡ false → HasNoneCovered level inv a → HasNoneCovered level inv b) → (queue : List Pending) → is_barred level auto (Some key) queue ≡ false → AreApart level a queue → AreApart level b queue
+free_apart : (level : ℕ) (auto : Bool) (key : PageKey) (a b : PageIndex) → ((inv : Invalidation) → covers level auto inv key ≡ false → HasNoneCovered level inv a → HasNoneCovered level inv b) → (queue : List Pending) → is_barred level auto (Some key) queue ≡ false → AreNotesUncovered level a queue → AreNotesUncovered level b queue
 free_apart level auto key a b each [] off all = tt
 free_apart level auto key a b each (p ∷ ps) off all = (
   (all.0.0, each p.purge.inv (or_first (covers level auto p.purge.inv key) (is_barred level auto (Some key) ps) off) all.0.1),
@@ -168,3 +172,21 @@ module _ (law : (files : Files) (key : PageKey) → page_at files key ≡ option
 
   pub fresh : (head : HeadNote) → head_at files key ≡ Some head → (auto && outdates_page stat head.stamp) ≡ false → (answer : Option Answer) → option_map (λ (p : Page). p.answer) (known_at files key head) ≡ answer → served auto stat (page_at files key) ≡ answer
   fresh head is off answer known = ap (served auto stat) (of_head (Some head) is) ∙ served_some auto stat head (file_at files (page_body_name key)) off ∙ known
+
+-- ---- one reading after another
+
+pub reads_ok : {A B : Type 0} (told after : Option Files) (faults now : ℕ) (asked made : Option (List Call)) (a : A) (b : B) → ReadsFiles told after faults now asked made (Ok a) → ReadsFiles told after faults now asked made (Ok b)
+reads_ok told after faults now asked made a b reads = record { files = reads.files; cause = reads.cause; calls = reads.calls }
+
+pub reads_then : {A B : Type 0} → ((before between after : Option (List Call)) → MakesDocrootCalls before between → MakesDocrootCalls between after → MakesDocrootCalls before after)
+    → (told mid after : Option Files) (faults between now : ℕ) (asked made last : Option (List Call)) (a : A) (result : Result B FileFault)
+    → ReadsFiles told mid faults between asked made (Ok a) → ReadsFiles mid after between now made last result → ReadsFiles told after faults now asked last result
+reads_then more told mid after faults between now asked made last a result first next = record {
+  files = next.files ∙ first.files;
+  cause = subst (λ (n : ℕ). HasFileCause n now result) first.cause next.cause;
+  calls = more asked made last first.calls next.calls;
+}
+
+pub reads_err : {A B : Type 0} (told after : Option Files) (faults now : ℕ) (asked made : Option (List Call)) (fault : FileFault) → ReadsFiles {T = A} told after faults now asked made (Err fault) → ReadsFiles {T = B} told after faults now asked made (Err fault)
+reads_err told after faults now asked made file_fault.Disk reads = record { files = reads.files; cause = reads.cause; calls = reads.calls }
+reads_err told after faults now asked made file_fault.NoMemory reads = record { files = reads.files; cause = reads.cause; calls = reads.calls }

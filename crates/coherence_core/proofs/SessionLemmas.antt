@@ -16,7 +16,7 @@ use Rattle.flights.specs.declared.flight.Flight.{Flight}
 use Rattle.cache_log.specs.Entries.{LogEntry, Down, Ended, Failed, Up, downs_since, is_up, last_epoch}
 use Rattle.cache_log.specs.Rules.{AllAllowed, CallConditions, HasFallenShort, IsAboveAll, IsIdle}
 use Rattle.coherence_core.specs.Bounds.{BoundsSlices}
-use Rattle.coherence_core.specs.Cores.{ExtendsLogs, StandsFor, StandsOver, drawn_of, flush_numbers}
+use Rattle.coherence_core.specs.Cores.{ExtendsLogs, CoreStandsFor, StandsOver, drawn_of, flush_numbers}
 use Rattle.coherence_core.specs.Facts.{CoverageFacts}
 use Rattle.coherence_core.specs.Holds.{IsNumbered}
 use Rattle.coherence_core.specs.Sessions.{failed_entries, restarted_entries, restarted_under}
@@ -158,13 +158,13 @@ module _ (found : ℕ) (core next : Core) (facts : CoverageFacts core.farm) (air
 
 -- ---- the same of a disk
 
-pub comes_up : (found : ℕ) (core next : Core) → CoverageFacts core.farm → core.flights ≡ [] → KeepsCounts core next → (e : ℕ) → next.epoch ≡ e → next.down ≡ false → (told new : Option Files) → Told (NumberSet e) told new → ExtendsLogs core.farm (StandsFor found told core) (StandsFor found new next) (restarted_under (Ok e)) (restarted_entries (flush_numbers core.queue.items) (Ok e))
+pub comes_up : (found : ℕ) (core next : Core) → CoverageFacts core.farm → core.flights ≡ [] → KeepsCounts core next → (e : ℕ) → next.epoch ≡ e → next.down ≡ false → (told new : Option Files) → Told (NumberSet e) told new → ExtendsLogs core.farm (CoreStandsFor found told core) (CoreStandsFor found new next) (restarted_under (Ok e)) (restarted_entries (flush_numbers core.queue.items) (Ok e))
 comes_up found core next facts air kept e epoch_is down_is None new t = extends (λ log s. absurd s)
 comes_up found core next facts air kept e epoch_is down_is (Some f) None t = absurd t
 comes_up found core next facts air kept e epoch_is down_is (Some f) (Some g) t = extends (λ log s. up_over found core next facts air kept f g log s e t epoch_is down_is)
 
 pub goes_down : (found : ℕ) (core next : Core) → CoverageFacts core.farm → core.flights ≡ [] → KeepsCounts core next → (fault : OpenFault) → next.epoch ≡ core.epoch → next.down ≡ true → (told new : Option Files) → Told (MayOpen fault) told new
-    → (fault ≢ open_fault.NoMemory → fault ≢ open_fault.Disk → IfSome told (λ f. next_epoch f ≡ Err fault)) → ExtendsLogs core.farm (StandsFor found told core) (StandsFor found new next) (restarted_under (Err fault)) (restarted_entries (flush_numbers core.queue.items) (Err fault))
+    → (fault ≢ open_fault.NoMemory → fault ≢ open_fault.Disk → IfSome told (λ f. next_epoch f ≡ Err fault)) → ExtendsLogs core.farm (CoreStandsFor found told core) (CoreStandsFor found new next) (restarted_under (Err fault)) (restarted_entries (flush_numbers core.queue.items) (Err fault))
 goes_down found core next facts air kept fault epoch_is down_is None new t known = extends (λ log s. absurd s)
 goes_down found core next facts air kept fault epoch_is down_is (Some f) None t known = absurd t
 goes_down found core next facts air kept fault epoch_is down_is (Some f) (Some g) t known = extends (λ log s. down_over found core next facts air kept f g log s fault t known epoch_is down_is)

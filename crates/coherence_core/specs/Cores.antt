@@ -40,9 +40,9 @@ pub record StandsOver (found : ℕ) (files : Files) (core : Core) (log : List Lo
   pub knows : KnowsFiles files core
 
 -- the same of a disk, where it tells its files
-abbrev pub StandsFor : ℕ → Option Files → Core → List LogEntry → Type 0
-StandsFor found None core log = ⊥
-StandsFor found (Some files) core log = StandsOver found files core log
+abbrev pub CoreStandsFor : ℕ → Option Files → Core → List LogEntry → Type 0
+CoreStandsFor found None core log = ⊥
+CoreStandsFor found (Some files) core log = StandsOver found files core log
 
 -- For each log that was stood for, the log with these entries, the newest first, is stood for, and they are allowed in a call under these
 -- conditions.
@@ -52,7 +52,7 @@ pub record ExtendsLogs (farm : Farm) (Old New : List LogEntry → Type 0) (under
 
 -- the same of a core and a disk before and after a call, in each session
 abbrev pub ExtendsCore : Option Files → Core → Option Files → Core → CallConditions → List LogEntry → Type 0
-ExtendsCore told core after next under entries = (found : ℕ) → ExtendsLogs core.farm (StandsFor found told core) (StandsFor found after next) under entries
+ExtendsCore told core after next under entries = (found : ℕ) → ExtendsLogs core.farm (CoreStandsFor found told core) (CoreStandsFor found after next) under entries
 
 -- ---- conditions
 

@@ -18,7 +18,7 @@ use Rattle.docroot_changes.specs.DocrootCalls.{MakesDocrootCalls}
 use Rattle.page_index.specs.Agreement.{Agrees, HasNoneCovered}
 use Rattle.page_index.specs.declared.index.PageIndex.{PageIndex}
 use Rattle.stat_files.specs.Stamps.{stamp_at}
-use Rattle.coherence_core.specs.Notes.{AreApart}
+use Rattle.coherence_core.specs.Notes.{AreNotesUncovered}
 use Rattle.coherence_core.specs.Served.{stat_for}
 use Rattle.coherence_core.specs.declared.look.Look.{Look}
 
@@ -56,7 +56,7 @@ NotesStamp folder stamp = NotesThis (λ files. stamp_at files folder ≡ stamp) 
 -- unfinished flush covered any of them, none does still.
 pub record NotesPage (look : Look) (told : Option Files) (old new : PageIndex) : Type 0 where
   pub agree : IfSome told (λ files. Agrees old files → Agrees new files)
-  pub apart : AreApart look.farm.now.level old look.queue.now.items → AreApart look.farm.now.level new look.queue.now.items
+  pub apart : AreNotesUncovered look.farm.now.level old look.queue.now.items → AreNotesUncovered look.farm.now.level new look.queue.now.items
 
 -- this is so of the files of a disk, where it tells them and the notes agree with them
 abbrev pub IfAgreed : Option Files → PageIndex → (Files → Type 0) → Type 0

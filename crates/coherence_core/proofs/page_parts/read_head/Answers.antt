@@ -1,4 +1,4 @@
-use Rattle.coherence_core.proofs.LookLemmas.{head_read, not_on, noted_head}
+use Rattle.coherence_core.proofs.LookLemmas.{head_read, noted_head}
 use Rattle.coherence_core.proofs.page_parts.read_head.Goals as goal
 
 pub returns-clause-notes : goal.returns-clause-notes

@@ -1,5 +1,5 @@
 -- What a look at a page leaves noted, and what it answers.
-use Rattle.std.proofs.Common.{◌≡◌, ◌&&◌, ◌||◌, ◌==◌, ℕ, Bool, true, false, List, [], ◌∷◌, Contains, Option, Some, None, refl, sym, ◌∙◌, ap, subst, if◌then◌else◌, length}
+use Rattle.std.proofs.Common.{◌≡◌, ◌&&◌, ◌||◌, ◌==◌, ℕ, Bool, true, false, not, List, [], ◌∷◌, Contains, Option, Some, None, refl, sym, ◌∙◌, ap, subst, if◌then◌else◌, length}
 use Rattle.std.specs.Prelude.{Result, Ok, Err, IfOk, IfSome, option_map}
 use Rattle.docroot_format.specs.Faults.{HasFileCause}
 use Rattle.docroot_format.specs.declared.fault.FileFault.{FileFault}
@@ -113,6 +113,19 @@ noted_stamp look facts is auto told folder folder_is stamp a b free notes so = r
       (subst (λ (x : Bool). covers look.farm.now.level x inv look.key.now ≡ false) is.auto off)
       (facts.touched inv look.key.now is.page (sym is.auto ∙ auto) (subst (λ (f : Segments). Contains (touched_of look.farm.now.level inv) f) folder_is touched))) none)
       look.queue.now.items free;
+}
+
+pub not_on : (b : Bool) → not b ≡ true → b ≡ false
+not_on true e = absurd (cc e)
+not_on false e = refl
+
+-- the head, the stamp and the hit of a page
+pub notes_with_body : (look : Look) (told : Option Files) (a b c d : PageIndex) (head : HeadNote) → IfAgreed told a (λ files. head_at files look.key.now ≡ Some head) → NotesPage look told a b → NotesPage look told b c → IfSome told (λ files. head_at files look.key.now ≡ Some head → Agrees c files → Agrees d files)
+    → ((level : ℕ) (inv : Invalidation) → HasNoneCovered level inv c → HasNoneCovered level inv d) → NotesPage look told a d
+notes_with_body look None a b c d head is first next body apart = record { agree = tt; apart = λ all. apart_kept look.farm.now.level c d (apart look.farm.now.level) look.queue.now.items (next.apart (first.apart all)) }
+notes_with_body look (Some files) a b c d head is first next body apart = record {
+  agree = λ agrees. body (is agrees) (next.agree (first.agree agrees));
+  apart = λ all. apart_kept look.farm.now.level c d (apart look.farm.now.level) look.queue.now.items (next.apart (first.apart all));
 }
 
 -- ---- what agrees

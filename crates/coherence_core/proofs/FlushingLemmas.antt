@@ -18,7 +18,7 @@ use Rattle.coherence_core.specs.Cores.{ExtendsLogs, CoreStandsFor, StandsOver, d
 use Rattle.coherence_core.specs.Facts.{CoverageFacts}
 use Rattle.coherence_core.specs.Flushes.{IsFirstSliced, PurgedAs, flushes_left_by, outcome_of, purged_entries, purged_under}
 use Rattle.coherence_core.specs.Holds.{IsNumbered}
-use Rattle.coherence_core.specs.Notes.{AreNotesUncovered, KnowsDisk, KnowsFiles}
+use Rattle.coherence_core.specs.Notes.{AreNotesUncovered, KnowsDisk}
 use Rattle.cover_rules.specs.declared.invalidation.Invalidation.{Invalidation}
 use Rattle.page_index.specs.Agreement.{Agrees, ChangesCovered, HasNoneCovered}
 use Rattle.page_index.specs.declared.index.PageIndex.{PageIndex}

@@ -23,7 +23,7 @@ use Rattle.cache_files.specs.declared.page.Page.{Page}
 use Rattle.stat_files.specs.Outdated.{outdates_page}
 use Rattle.stat_files.specs.Stamps.{stamp_at}
 use Rattle.page_index.specs.Agreement.{Agrees, HasNoneCovered}
-use Rattle.page_index.specs.Notes.{known_page, stamp_noted}
+use Rattle.page_index.specs.Notes.{known_page}
 use Rattle.page_index.specs.declared.index.PageIndex.{PageIndex}
 use Rattle.coherence_core.specs.Facts.{CoverageFacts}
 use Rattle.coherence_core.specs.Asking.{is_barred}

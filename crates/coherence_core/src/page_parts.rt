@@ -127,7 +127,10 @@ fn is_outdated<D: Disk>(
 {
     coverage_by_three_facts();
     docroot_calls_add_up();
-    let folder = look.key.folder.first(alloc, stat_depth(look.farm.level, look.key))?;
+    let folder = look
+        .key
+        .folder
+        .first(alloc, stat_depth(look.farm.level, look.key))?;
     // The law of its calls speaks of a path, and that the folder is one is a clause of its depth.
     let _depth = folder.depth();
     let stat = folder_stamp(alloc, disk, pages, look, &folder)?;

@@ -12,7 +12,7 @@ use Rattle.cover_rules.specs.declared.stamp.Stamp.{Stamp}
 use Rattle.cover_rules.specs.declared.invalidation.Invalidation.{Invalidation}
 use Rattle.dispatch_rules.specs.Caching.{is_auto}
 use Rattle.cache_files.specs.Epochs.{epoch_held}
-use Rattle.cache_files.specs.Pages.{page_at}
+use Rattle.cache_files.specs.Pages.{head_at, page_at}
 use Rattle.stat_files.specs.Stamps.{stamp_at}
 use Rattle.flights.specs.declared.flight.Flight.{Flight}
 use Rattle.flights.specs.Flights.{AreRising, after_invalidation}
@@ -30,6 +30,7 @@ use Rattle.coherence_core.specs.declared.pending.Pending.{Pending}
 use Rattle.coherence_core.proofs.NoteLemmas.{apart_kept, apart_push}
 use Rattle.coherence_core.proofs.RequestSteps.{begin, hit, launch}
 use Rattle.coherence_core.proofs.SliceBounds.{adds_none, names_begin, names_stay}
+use Rattle.coherence_core.proofs.StampLemmas.{heads_later}
 use Rattle.cache_log.specs.Limits.{most_stamps}
 
 -- ---- what an unfinished flush covers
@@ -77,6 +78,7 @@ module _ (found : ℕ) (core : Core) (up : core.down ≡ false) where
       stands = hit core.farm (page_at files) (stamp_at files) (epoch_held files) core.flights core.queue.items core.asked core.begun core.epoch (drawn_of core) log s.stands key;
       numbered = s.numbered;
       order = s.order;
+      heads = s.heads;
       down_is = s.down_is;
       few = s.few;
       slices = names_stay core.farm found 0 files files core.queue.items log (Hit key ∷ log) (adds_none files) (omega arith) (λ v. refl) refl s.slices;
@@ -111,6 +113,7 @@ module _ (found : ℕ) (core : Core) (up : core.down ≡ false) where
             (rise 0 core.asked flight core.flights s.stands.flying.rising (omega arith)) (λ k is. (page_of_key k is, auto_is k is)) (free files log) (bar files log s));
         numbered = s.numbered;
         order = s.order;
+        heads = heads_later (head_at files) core.epoch (drawn_of core) (core.asked + 1 + core.begun) (omega arith) s.heads;
         down_is = s.down_is;
         few = omega (arith, left);
         slices = names_stay core.farm found 0 files files core.queue.items log (Asked (core.asked + 1) key ∷ log) (adds_none files) (omega arith) (λ v. refl) refl s.slices;
@@ -138,6 +141,7 @@ module _ (found : ℕ) (core : Core) (up : core.down ≡ false) where
             stands = rw (b.farm, b.flights, b.queue, b.asked, b.begun, b.epoch) (begin_stands files log s);
             numbered = s.numbered;
             order = s.order;
+            heads = rw (b.asked, b.begun, b.epoch) (heads_later (head_at files) core.epoch (drawn_of core) (core.asked + (core.begun + 1)) (omega arith) s.heads);
             down_is = b.down ∙ s.down_is;
             few = rw (b.asked, b.begun) (omega (arith, left));
             slices = rw (b.farm, b.queue) (names_begin core.farm found files core.queue.items log flush inv b.last b.number (omega (arith, one)) b.level b.place s.slices one);

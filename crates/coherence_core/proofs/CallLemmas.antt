@@ -9,7 +9,7 @@ use Rattle.docroot_changes.specs.Changes.{KeepsNumber, Told}
 use Rattle.cache_log.specs.Entries.{LogEntry}
 use Rattle.cache_log.specs.Rules.{AllAllowed, Allowed, CallConditions}
 use Rattle.coherence_core.specs.Asking.{IsSameCore}
-use Rattle.coherence_core.specs.Cores.{ExtendsLogs, StandsFor, StandsOver}
+use Rattle.coherence_core.specs.Cores.{ExtendsLogs, CoreStandsFor, StandsOver}
 use Rattle.coherence_core.specs.Holds.{IsNumbered}
 use Rattle.coherence_core.specs.Notes.{KnowsFiles, with_notes}
 use Rattle.page_index.specs.declared.index.PageIndex.{PageIndex}
@@ -70,6 +70,7 @@ over_same found files old new log same s = record {
   stands = rw (same.farm, same.flights, same.queue, same.asked, same.begun, same.epoch) s.stands;
   numbered = s.numbered;
   order = s.order;
+  heads = rw (same.asked, same.begun, same.epoch) s.heads;
   down_is = same.down ∙ s.down_is;
   few = rw (same.asked, same.begun) s.few;
   slices = rw (same.farm, same.queue) s.slices;
@@ -78,13 +79,13 @@ over_same found files old new log same s = record {
 
 -- so does one that has noted something, if that is known
 pub noting_over : (found : ℕ) (files : Files) (core : Core) (notes : PageIndex) (log : List LogEntry) → StandsOver found files core log → KnowsFiles files (with_notes core notes) → StandsOver found files (with_notes core notes) log
-noting_over found files core notes log s known = record { stands = s.stands; numbered = s.numbered; order = s.order; down_is = s.down_is; few = s.few; slices = s.slices; knows = known }
+noting_over found files core notes log s known = record { stands = s.stands; numbered = s.numbered; order = s.order; heads = s.heads; down_is = s.down_is; few = s.few; slices = s.slices; knows = known }
 
-pub stands_same : (found : ℕ) (told : Option Files) (old new : Core) (log : List LogEntry) → IsSameCore old new → StandsFor found told old log → StandsFor found told new log
+pub stands_same : (found : ℕ) (told : Option Files) (old new : Core) (log : List LogEntry) → IsSameCore old new → CoreStandsFor found told old log → CoreStandsFor found told new log
 stands_same found None old new log same s = s
 stands_same found (Some files) old new log same s = over_same found files old new log same s
 
-pub adds_nothing : (farm : Farm) (found : ℕ) (told : Option Files) (old new : Core) (under : CallConditions) → IsSameCore old new → ExtendsLogs farm (StandsFor found told old) (StandsFor found told new) under []
+pub adds_nothing : (farm : Farm) (found : ℕ) (told : Option Files) (old new : Core) (under : CallConditions) → IsSameCore old new → ExtendsLogs farm (CoreStandsFor found told old) (CoreStandsFor found told new) under []
 adds_nothing farm found told old new under same = extends (λ log s. (tt, stands_same found told old new log same s))
 
 pub same_core : (old new : Core) → new ≡ old → IsSameCore old new

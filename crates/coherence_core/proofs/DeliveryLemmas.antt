@@ -14,9 +14,11 @@ use Rattle.cover_rules.specs.declared.stamp.Stamp.{Stamp}
 use Rattle.dispatch_rules.specs.Caching.{is_auto, is_plain_mark, is_storable}
 use Rattle.docroot_format.specs.declared.fault.FileFault.{FileFault}
 use Rattle.docroot_format.specs.declared.fault.FileFault.TheVariants.{Disk, NoMemory}
+use Rattle.cache_files.specs.declared.head_note.HeadNote.{HeadNote}
 use Rattle.cache_files.specs.Epochs.{epoch_held}
+use Rattle.cache_files.specs.Changes.{HasPage}
 use Rattle.cache_files.specs.HeldStamps.{KeepsOrder}
-use Rattle.cache_files.specs.Pages.{IsPagePut, page_at, page_of}
+use Rattle.cache_files.specs.Pages.{IsPagePut, head_at, page_at, page_of}
 use Rattle.stat_files.specs.Stamps.{stamp_at}
 use Rattle.docroot_changes.specs.Changes.{BesidePage, MayPut, PageSet}
 use Rattle.flights.specs.ClearPages.{ClearPage}
@@ -29,7 +31,7 @@ use Rattle.cache_log.specs.Entries.{LogEntry, Kept, Landed, Lost, Passed, Unkept
 use Rattle.cache_log.specs.Hits.{InAir, IsClear, stored}
 use Rattle.cache_log.specs.Rules.{CallConditions, MayStore}
 use Rattle.coherence_core.specs.Bounds.{BoundsSlices, most_files}
-use Rattle.coherence_core.specs.Cores.{ExtendsLogs, StandsFor, StandsOver, conditions_of_call, drawn_of}
+use Rattle.coherence_core.specs.Cores.{ExtendsLogs, CoreStandsFor, StandsOver, conditions_of_call, drawn_of}
 use Rattle.coherence_core.specs.Facts.{CoverageFacts}
 use Rattle.coherence_core.specs.Notes.{KnowsFiles, StaysKnown, StaysTold}
 use Rattle.page_index.specs.Agreement.{Agrees, HasNoneCovered}
@@ -40,12 +42,12 @@ use Rattle.cover_rules.specs.declared.invalidation.Invalidation.{Invalidation}
 use Rattle.coherence_core.specs.Landings.{DeliveredAs, ForgetsFor, ForgetsFrom, IsKeptAs, IsKeptFrom, IsStored, fate_of, landed_under}
 use Rattle.coherence_core.specs.Served.{Before, IsFresh, stat_for}
 use Rattle.coherence_core.specs.StampTies.{IsFlightStamp}
-use Rattle.coherence_core.specs.Stands.{IsLogFlight, CoreStands, stamp}
+use Rattle.coherence_core.specs.Stands.{AreHeadsBefore, IsLogFlight, CoreStands, stamp}
 use Rattle.coherence_core.specs.declared.answers.Landed.{Landed as LandedAs}
 use Rattle.coherence_core.specs.declared.answers.Landed.TheVariants as landed
 use Rattle.coherence_core.specs.declared.core_state.Core.{Core}
 use Rattle.coherence_core.proofs.NoteLemmas.{apart_kept, notes_same}
-use Rattle.coherence_core.proofs.StampLemmas.{epoch_below}
+use Rattle.coherence_core.proofs.StampLemmas.{epoch_below, heads_changed}
 use Rattle.coherence_core.proofs.FlightLemmas.{flying_at}
 use Rattle.coherence_core.proofs.TieLemmas.{drawn_at}
 use Rattle.coherence_core.proofs.LandingSteps.{kept, lost, passed, unkept}
@@ -100,7 +102,7 @@ module _ (found : ℕ) (core : Core) (n : ℕ) (f : Flight) (at : flight_at n co
   rising : (files : Files) (log : List LogEntry) → StandsOver found files core log → AreRising 0 (without n core.flights) core.asked
   rising files log s = left 0 n core.asked core.flights s.stands.flying.rising
 
-  pub gone_lost : (told : Option Files) (under : CallConditions) → ExtendsLogs core.farm (StandsFor found told core) (StandsFor found told (record core { flights = next })) under (Lost n ∷ [])
+  pub gone_lost : (told : Option Files) (under : CallConditions) → ExtendsLogs core.farm (CoreStandsFor found told core) (CoreStandsFor found told (record core { flights = next })) under (Lost n ∷ [])
   gone_lost None under = extends (λ log s. absurd s)
   gone_lost (Some files) under = extends (λ log s. (
     ((f.key, air files log s), tt),
@@ -108,6 +110,7 @@ module _ (found : ℕ) (core : Core) (n : ℕ) (f : Flight) (at : flight_at n co
       stands = lost core.farm (page_at files) (stamp_at files) (epoch_held files) core.flights core.queue.items core.asked core.begun core.epoch (drawn_of core) log s.stands n (rising files log s);
       numbered = s.numbered;
       order = s.order;
+      heads = s.heads;
       down_is = s.down_is;
       few = s.few;
       slices = names_stay core.farm found 0 files files core.queue.items log (Lost n ∷ log) (adds_none files) (omega arith) (λ v. refl) refl s.slices;
@@ -124,7 +127,7 @@ module _ (found : ℕ) (core : Core) (n : ℕ) (f : Flight) (at : flight_at n co
 
   -- a landing that isn't stored, since it may not be
   gone_passed : (notes : PageIndex) (told : Option Files) → StaysTold core.pages notes told told → (under : CallConditions) (a : Answer) → ((files : Files) (log : List LogEntry) → StandsOver found files core log → MayStore core.farm log n f.key a → ⊥)
-      → ExtendsLogs core.farm (StandsFor found told core) (StandsFor found told (record core { flights = next; pages = notes })) under (Landed n f.key a Passed ∷ [])
+      → ExtendsLogs core.farm (CoreStandsFor found told core) (CoreStandsFor found told (record core { flights = next; pages = notes })) under (Landed n f.key a Passed ∷ [])
   gone_passed notes None stays under a why = extends (λ log s. absurd s)
   gone_passed notes (Some files) stays under a why = extends (λ log s. (
     ((air files log s, why files log s), tt),
@@ -132,6 +135,7 @@ module _ (found : ℕ) (core : Core) (n : ℕ) (f : Flight) (at : flight_at n co
       stands = passed core.farm (page_at files) (stamp_at files) (epoch_held files) core.flights core.queue.items core.asked core.begun core.epoch (drawn_of core) log s.stands n (rising files log s) f.key a;
       numbered = s.numbered;
       order = s.order;
+      heads = s.heads;
       down_is = s.down_is;
       few = s.few;
       slices = names_stay core.farm found 0 files files core.queue.items log (Landed n f.key a Passed ∷ log) (adds_none files) (omega arith) (λ v. refl) refl s.slices;
@@ -139,10 +143,10 @@ module _ (found : ℕ) (core : Core) (n : ℕ) (f : Flight) (at : flight_at n co
     }),
   ))
 
-  unkeyed : (notes : PageIndex) (told : Option Files) → StaysTold core.pages notes told told → (under : CallConditions) (a : Answer) → f.key ≡ None → ExtendsLogs core.farm (StandsFor found told core) (StandsFor found told (record core { flights = next; pages = notes })) under (Landed n f.key a Passed ∷ [])
+  unkeyed : (notes : PageIndex) (told : Option Files) → StaysTold core.pages notes told told → (under : CallConditions) (a : Answer) → f.key ≡ None → ExtendsLogs core.farm (CoreStandsFor found told core) (CoreStandsFor found told (record core { flights = next; pages = notes })) under (Landed n f.key a Passed ∷ [])
   unkeyed notes told stays under a none = gone_passed notes told stays under a (λ files log s may. subst (λ (k : Option PageKey). MayStore core.farm log n k a) none may)
 
-  voided : (notes : PageIndex) (told : Option Files) → StaysTold core.pages notes told told → (under : CallConditions) (a : Answer) (key : PageKey) → (f.voided ≡ true) × (f.key ≡ Some key) → ExtendsLogs core.farm (StandsFor found told core) (StandsFor found told (record core { flights = next; pages = notes })) under (Landed n f.key a Passed ∷ [])
+  voided : (notes : PageIndex) (told : Option Files) → StaysTold core.pages notes told told → (under : CallConditions) (a : Answer) (key : PageKey) → (f.voided ≡ true) × (f.key ≡ Some key) → ExtendsLogs core.farm (CoreStandsFor found told core) (CoreStandsFor found told (record core { flights = next; pages = notes })) under (Landed n f.key a Passed ∷ [])
   voided notes told stays under a key h = gone_passed notes told stays under a (λ files log s may.
       let k = known files log s in
       let clear : IsClear core.farm log n key = (subst (λ (x : Option PageKey). MayStore core.farm log n x a) h.1 may).1 in
@@ -170,18 +174,44 @@ module _ (found : ℕ) (core : Core) (n : ℕ) (f : Flight) (at : flight_at n co
       low_here = let le : c.stamp.epoch ≤ core.epoch = epoch_below c.stamp core.epoch (drawn_of core) own_here in omega (arith, le, s.stands.epochs.current)
 
       -- what stands over the files by their number and their stamps, stands over those after
-      over : (next_log : List LogEntry) → core.down ≡ not (is_up next_log) → BesidePage c.key files after → (c.stamp.epoch ≤ epoch_held files → KeepsOrder files after) → BoundsSlices core.farm found after core.queue.items next_log
+      over : (next_log : List LogEntry) → core.down ≡ not (is_up next_log) → BesidePage c.key files after → (c.stamp.epoch ≤ epoch_held files → KeepsOrder files after) → AreHeadsBefore (head_at after) (stamp core.epoch (drawn_of core)) → BoundsSlices core.farm found after core.queue.items next_log
           → CoreStands core.farm (page_at after) (stamp_at files) (epoch_held files) (without n core.flights) core.queue.items core.asked core.begun core.epoch (drawn_of core) next_log → StandsOver found after (record core { flights = next; pages = notes }) next_log
-      over next_log down beside order slices stands = subst (λ (l : List Flight). StandsOver found after (record core { flights = l; pages = notes }) next_log) (sym is) (record {
+      over next_log down beside order heads slices stands = subst (λ (l : List Flight). StandsOver found after (record core { flights = l; pages = notes }) next_log) (sym is) (record {
         stands = subst (λ (e : ℕ). CoreStands core.farm (page_at after) (stamp_at after) e (without n core.flights) core.queue.items core.asked core.begun core.epoch (drawn_of core) next_log) (sym beside.number.held)
             (same_files core.farm facts (page_at after) (page_at after) (stamp_at files) (stamp_at after) (λ k good. refl) (λ g good. beside.stamps g good.bytes) (epoch_held files) (without n core.flights) core.queue.items core.asked core.begun core.epoch (drawn_of core) next_log stands);
         numbered = numbered_same files after beside.number s.numbered;
         order = order low_here s.order;
+        heads = heads;
         down_is = down;
         few = s.few;
         slices = slices;
         knows = known_then (without n core.flights) notes files after stays s.knows;
       })
+
+      -- the head of another page is as it was, and that of its own, where it is new, has the stamp of its flight
+      other_head : BesidePage c.key files after → (l : PageKey) → IsPageKey l → c.key ≢ l → (head_at after l ≡ head_at files l) ⊎ ((h : HeadNote) → head_at after l ≡ Some h → Before h.stamp (stamp core.epoch (drawn_of core)))
+      other_head beside l good ne = inl ((beside.pages l good (λ e. ne (sym e))).head)
+
+      new_head : HasPage after c.key c.stamp a → (l : PageKey) → c.key ≡ l → (h : HeadNote) → head_at after l ≡ Some h → Before h.stamp (stamp core.epoch (drawn_of core))
+      new_head page l same h is =
+          let one : (record { stamp = c.stamp; kind = a.kind; length = length a.body }) ≡ h = cc (sym page.head ∙ ap (head_at after) same ∙ is) in
+          subst (λ (x : HeadNote). Before x.stamp (stamp core.epoch (drawn_of core))) one own_here
+
+      set_heads : PageSet c.key c.stamp a files after → AreHeadsBefore (head_at after) (stamp core.epoch (drawn_of core))
+      set_heads set = heads_changed (head_at files) (head_at after) (stamp core.epoch (drawn_of core))
+          (λ l good. ⊎_elim (λ (same : c.key ≡ l). inr (new_head set.here l same)) (λ (ne : c.key ≢ l). other_head set.beside l good ne) (key_cases c.key l))
+          s.heads
+
+      may_heads : (fault : FileFault) → MayPut c.key c.stamp a fault files after → AreHeadsBefore (head_at after) (stamp core.epoch (drawn_of core))
+      may_heads fault put = heads_changed (head_at files) (head_at after) (stamp core.epoch (drawn_of core))
+          (λ l good. ⊎_elim
+          (λ (same : c.key ≡ l). ⊎_elim
+          (λ old. inl (ap (head_at after) (sym same) ∙ old.head ∙ ap (head_at files) same))
+          (λ h. inr (⊎_elim (λ none h is. absurd (cc (none.head, same, is))) (λ new. new_head new.1 l same) h))
+          put.here)
+          (λ (ne : c.key ≢ l). other_head put.beside l good ne)
+          (key_cases c.key l))
+          s.heads
 
       put_others : BesidePage c.key files after → (l : PageKey) → IsPageKey l → c.key ≢ l → page_at after l ≡ page_at files l
       put_others beside l good ne = (beside.pages l good (λ e. ne (sym e))).page
@@ -199,27 +229,27 @@ module _ (found : ℕ) (core : Core) (n : ℕ) (f : Flight) (at : flight_at n co
           (key_cases c.key l)
 
       whole : is_storable a ≡ true → PageSet c.key c.stamp a files after → StandsOver found after (record core { flights = next; pages = notes }) (Landed n (Some c.key) a Kept ∷ log)
-      whole storable t = over (Landed n (Some c.key) a Kept ∷ log) s.down_is t.beside t.order
+      whole storable t = over (Landed n (Some c.key) a Kept ∷ log) s.down_is t.beside t.order (set_heads t)
           (names_stay core.farm found 2 files after core.queue.items log (Landed n (Some c.key) a Kept ∷ log) t.names (two_more core.farm found log (landings_stored log + 1) refl (flushes_begun log) refl) (λ v. refl) refl s.slices)
           (kept core.farm (page_at files) (stamp_at files) (epoch_held files) core.flights core.queue.items core.asked core.begun core.epoch (drawn_of core) log s.stands n (rising files log s) c.key a (page_of c.stamp a.kind a.body) (stored_is c.stamp a storable) (page_at after) (put_set t) clear_here own_here drew_here facts key_cases t.here.page fresh_here)
 
       part : (fault : FileFault) → is_storable a ≡ true → MayPut c.key c.stamp a fault files after → StandsOver found after (record core { flights = next; pages = notes }) (Landed n (Some c.key) a Unkept ∷ log)
-      part fault storable t = over (Landed n (Some c.key) a Unkept ∷ log) s.down_is t.beside t.order
+      part fault storable t = over (Landed n (Some c.key) a Unkept ∷ log) s.down_is t.beside t.order (may_heads fault t)
           (names_stay core.farm found 2 files after core.queue.items log (Landed n (Some c.key) a Unkept ∷ log) t.names (two_more core.farm found log (landings_stored log + 1) refl (flushes_begun log) refl) (λ v. refl) refl s.slices)
           (unkept core.farm (page_at files) (stamp_at files) (epoch_held files) core.flights core.queue.items core.asked core.begun core.epoch (drawn_of core) log s.stands n (rising files log s) c.key a (page_of c.stamp a.kind a.body) (stored_is c.stamp a storable) (page_at after) (put_may fault t) clear_here own_here drew_here facts)
 
-    for_key : (told new : Option Files) (out : LandedAs) → StaysTold core.pages notes told new → IsStored c.key c.stamp a out told new → ExtendsLogs core.farm (StandsFor found told core) (StandsFor found new (record core { flights = next; pages = notes })) (landed_under out) (Landed n (Some c.key) a (fate_of out) ∷ [])
+    for_key : (told new : Option Files) (out : LandedAs) → StaysTold core.pages notes told new → IsStored c.key c.stamp a out told new → ExtendsLogs core.farm (CoreStandsFor found told core) (CoreStandsFor found new (record core { flights = next; pages = notes })) (landed_under out) (Landed n (Some c.key) a (fate_of out) ∷ [])
     for_key None new out stays t = extends (λ log s. absurd s)
     for_key (Some files) None out stays t = absurd stays
     for_key (Some files) (Some after) (landed.Kept k) stays t = extends (λ log s. (((air_here files after stays log s, (t.0, clear_here files after stays log s)), tt), whole files after stays log s t.0 t.1))
-    for_key (Some files) (Some after) landed.Passed stays t = subst (λ (told : Option Files). ExtendsLogs core.farm (StandsOver found files core) (StandsFor found told (record core { flights = next; pages = notes })) (landed_under landed.Passed) (Landed n (Some c.key) a Passed ∷ [])) (sym t.1)
+    for_key (Some files) (Some after) landed.Passed stays t = subst (λ (told : Option Files). ExtendsLogs core.farm (StandsOver found files core) (CoreStandsFor found told (record core { flights = next; pages = notes })) (landed_under landed.Passed) (Landed n (Some c.key) a Passed ∷ [])) (sym t.1)
         (subst (λ (x : Option PageKey). ExtendsLogs core.farm (StandsOver found files core) (StandsOver found files (record core { flights = next; pages = notes })) (landed_under landed.Passed) (Landed n x a Passed ∷ [])) clear.1
         (gone_passed notes (Some files) (subst (λ (told : Option Files). StaysTold core.pages notes (Some files) told) t.1 stays) (landed_under landed.Passed) a (λ fs log s may. let is_so : is_storable a ≡ true = (subst (λ (x : Option PageKey). MayStore core.farm log n x a) clear.1 may).0 in absurd (cc (is_so, t.0)))))
     for_key (Some files) (Some after) landed.DiskFailed stays t = extends (λ log s. (((air_here files after stays log s, (t.0, clear_here files after stays log s), inl refl), tt), part files after stays log s Disk t.0 t.1))
     for_key (Some files) (Some after) landed.NoMemory stays t = extends (λ log s. (((air_here files after stays log s, (t.0, clear_here files after stays log s), inr refl), tt), part files after stays log s NoMemory t.0 t.1))
 
-    gone_stored : (told new : Option Files) (out : LandedAs) → StaysTold core.pages notes told new → IsStored c.key c.stamp a out told new → ExtendsLogs core.farm (StandsFor found told core) (StandsFor found new (record core { flights = next; pages = notes })) (landed_under out) (Landed n f.key a (fate_of out) ∷ [])
-    gone_stored told new out stays t = subst (λ (x : Option PageKey). ExtendsLogs core.farm (StandsFor found told core) (StandsFor found new (record core { flights = next; pages = notes })) (landed_under out) (Landed n x a (fate_of out) ∷ [])) (sym clear.1) (for_key told new out stays t)
+    gone_stored : (told new : Option Files) (out : LandedAs) → StaysTold core.pages notes told new → IsStored c.key c.stamp a out told new → ExtendsLogs core.farm (CoreStandsFor found told core) (CoreStandsFor found new (record core { flights = next; pages = notes })) (landed_under out) (Landed n f.key a (fate_of out) ∷ [])
+    gone_stored told new out stays t = subst (λ (x : Option PageKey). ExtendsLogs core.farm (CoreStandsFor found told core) (CoreStandsFor found new (record core { flights = next; pages = notes })) (landed_under out) (Landed n x a (fate_of out) ∷ [])) (sym clear.1) (for_key told new out stays t)
 
 -- ---- what is known after a landing
 
@@ -258,10 +288,10 @@ module _ (core : Core) (n : ℕ) (f : Flight) (at : flight_at n core.flights ≡
   stays_same : new ≡ told → StaysTold core.pages notes told told
   stays_same same = subst (λ (t : Option Files). StaysTold core.pages notes told t) same stays
 
-  passed_on : (found : ℕ) (out : LandedAs) → out ≡ landed.Passed → new ≡ told → ExtendsLogs core.farm (StandsFor found told core) (StandsFor found told (record core { flights = next; pages = notes })) (conditions_of_call false false) (Landed n f.key a Passed ∷ []) → ExtendsLogs core.farm (StandsFor found told core) (StandsFor found new (record core { flights = next; pages = notes })) (landed_under out) (Landed n f.key a (fate_of out) ∷ [])
+  passed_on : (found : ℕ) (out : LandedAs) → out ≡ landed.Passed → new ≡ told → ExtendsLogs core.farm (CoreStandsFor found told core) (CoreStandsFor found told (record core { flights = next; pages = notes })) (conditions_of_call false false) (Landed n f.key a Passed ∷ []) → ExtendsLogs core.farm (CoreStandsFor found told core) (CoreStandsFor found new (record core { flights = next; pages = notes })) (landed_under out) (Landed n f.key a (fate_of out) ∷ [])
   passed_on found out out_is same e = rw (out_is, same) e
 
-  pub landing_owes : (landing : Landing) (out : LandedAs) → LandsAs f landing → IsKeptFrom landing a out told new → (found : ℕ) → ExtendsLogs core.farm (StandsFor found told core) (StandsFor found new (record core { flights = next; pages = notes })) (landed_under out) (Landed n f.key a (fate_of out) ∷ [])
+  pub landing_owes : (landing : Landing) (out : LandedAs) → LandsAs f landing → IsKeptFrom landing a out told new → (found : ℕ) → ExtendsLogs core.farm (CoreStandsFor found told core) (CoreStandsFor found new (record core { flights = next; pages = notes })) (landed_under out) (Landed n f.key a (fate_of out) ∷ [])
   landing_owes Unkeyed out lands kept found = passed_on found out kept.0 kept.1 (unkeyed found core n f at next is left notes told (stays_same kept.1) (conditions_of_call false false) a lands)
   landing_owes (Voided key) out lands kept found = passed_on found out kept.0 kept.1 (voided found core n f at next is left notes told (stays_same kept.1) (conditions_of_call false false) a key lands)
   landing_owes (Clear c) out lands kept found = gone_stored found core n f at next is left facts notes c lands a told new out stays kept.0

@@ -1,5 +1,6 @@
 -- Flights in a list: what stays so of each as the log goes on.
 use Rattle.std.proofs.Common.{◌≡◌, ◌≢◌, ◌+◌, ◌||◌, ℕ, Bool, true, false, List, [], ◌∷◌, ◌++◌, Option, Some, inl, inr, refl, sym, ◌∙◌, ap, subst, arith, eq-eqb, ne_eqb, ⊎_elim, map}
+use Rattle.std.specs.Prelude.{Contains}
 use Rattle.std.proofs.lemmas.Bool.{cases_eq}
 use Rattle.any_config.specs.declared.farm.Farm.{Farm}
 use Rattle.cover_rules.specs.declared.page.PageKey.{PageKey}
@@ -11,6 +12,7 @@ use Rattle.flights.specs.declared.flight.Flight.{Flight}
 use Rattle.flights.specs.Flights.{after_invalidation, covers_page, flight_at, without}
 use Rattle.cache_log.specs.Entries.{LogEntry, Asked, Begun}
 use Rattle.cache_log.specs.Hits.{InAir, IsClear}
+use Rattle.cache_log.proofs.PlaceLemmas.{none-within, within}
 use Rattle.coherence_core.specs.Served.{Before, Stamps}
 use Rattle.coherence_core.specs.Stands.{AreLogFlights, HasFlight, IsAbsent, IsKeyedFlight, IsLogFlight, stamp}
 use Rattle.coherence_core.proofs.StampLemmas.{before_next}
@@ -79,6 +81,10 @@ module _ (farm : Farm) where
       (λ (same : g.number ≡ n). let found : Some g ≡ Some f = rw (eq-eqb g.number n same) at is in let one : g ≡ f = cc found in (subst (λ (x : Flight). IsLogFlight farm log stat d s x) one all.0, ap (λ (x : Flight). x.number) (sym one) ∙ same))
       (λ (ne : g.number ≢ n). flying_at log stat d n s gs f all.2 (rw (ne_eqb g.number n ne) at is))
       (cases_eq g.number n)
+
+  pub flying_in : (log : List LogEntry) (stat : Stamps) (d : ℕ) (s : Stamp) (fs : List Flight) (f : Flight) → AreLogFlights farm log stat d s fs → Contains fs f → IsLogFlight farm log stat d s f
+  flying_in log stat d s [] f all there = absurd (none-within there)
+  flying_in log stat d s (g ∷ gs) f all there = ⊎_elim (λ (same : g ≡ f). subst (λ (x : Flight). IsLogFlight farm log stat d s x) same all.0) (λ (rest : Contains gs f). flying_in log stat d s gs f all.2 rest) (within g gs f there)
 
   keyed_to : (log after : List LogEntry) (stat : Stamps) (f : Flight) (key : PageKey) → (IsClear farm log f.number key → IsClear farm after f.number key) → (IsClear farm after f.number key → IsClear farm log f.number key) → IsKeyedFlight farm log stat f key → IsKeyedFlight farm after stat f key
   keyed_to log after stat f key to back ok = record {

@@ -1,5 +1,6 @@
 -- Unfinished flushes in their queue: what stays so of each as the log goes on.
 use Rattle.std.proofs.Common.{◌≡◌, ◌≢◌, ◌<◌, ◌≤◌, ◌+◌, ℕ, List, [], ◌∷◌, ◌++◌, Option, Some, None, IsSome, inl, inr, sym, subst, arith, ⊎_elim}
+use Rattle.std.specs.Prelude.{Contains}
 use Rattle.sp_base.specs.Texts.{Segments}
 use Rattle.any_config.specs.declared.farm.Farm.{Farm}
 use Rattle.cover_rules.specs.declared.stamp.Stamp.{Stamp}
@@ -10,6 +11,7 @@ use Rattle.invalidation.specs.declared.purge.Purge.{Purge}
 use Rattle.invalidation.specs.Slices.{IsBehind, Progress}
 use Rattle.cache_log.specs.Entries.{LogEntry, Begun, Ended, FlushOutcome}
 use Rattle.cache_log.specs.Hits.{Unfinished}
+use Rattle.cache_log.proofs.PlaceLemmas.{none-within, within}
 use Rattle.coherence_core.specs.Served.{Before, Pages, Stamps}
 use Rattle.coherence_core.specs.Stands.{AreLater, AreLogFlushes, HasFlush, HasHeadAtWork, IsAtWork, IsLogFlush, stamp}
 use Rattle.coherence_core.specs.declared.pending.Pending.{Pending}
@@ -46,6 +48,10 @@ module _ (farm : Farm) where
       let ok = all.0 in
       let ne : p.number ≢ q.number = omega (arith, later.0) in
       (record { below = ok.below; level_is = ok.level_is; drawn = ok.drawn; unfinished = (ne, ok.unfinished); older = ok.older }, all.1, tail_queue page log outcome b s p qs later.3 all.2)
+
+  pub flushing_in : (page : Pages) (log : List LogEntry) (b : ℕ) (s : Stamp) (ps : List Pending) (p : Pending) → AreLogFlushes farm page log b s ps → Contains ps p → IsLogFlush farm page log b s p
+  flushing_in page log b s [] p all there = absurd (none-within there)
+  flushing_in page log b s (q ∷ qs) p all there = ⊎_elim (λ (same : q ≡ p). subst (λ (x : Pending). IsLogFlush farm page log b s x) same all.0) (λ (rest : Contains qs p). flushing_in page log b s qs p all.2 rest) (within q qs p there)
 
 -- ---- which flushes are there
 

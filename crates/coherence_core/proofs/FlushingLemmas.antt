@@ -3,7 +3,7 @@ use Rattle.std.proofs.Common.{◌≡◌, ◌≤◌, ◌++◌, ℕ, not, List, �
 use Rattle.sp_outside.specs.Files.{Files}
 use Rattle.cache_files.specs.Epochs.{epoch_held}
 use Rattle.cache_files.specs.HeldStamps.{HasNoLaterStamp}
-use Rattle.cache_files.specs.Pages.{page_at}
+use Rattle.cache_files.specs.Pages.{head_at, page_at}
 use Rattle.stat_files.specs.Stamps.{stamp_at}
 use Rattle.docroot_changes.specs.Changes.{Told}
 use Rattle.invalidation.specs.declared.purge.Purge.{Purge}
@@ -14,20 +14,20 @@ use Rattle.cache_log.specs.Ids.{FlushId}
 use Rattle.cache_log.specs.Entries.{LogEntry, Done, Ended, Failed, FlushOutcome, Sliced, is_up}
 use Rattle.cache_log.specs.Rules.{AllAllowed, IsOldest}
 use Rattle.coherence_core.specs.Bounds.{BoundsSlices}
-use Rattle.coherence_core.specs.Cores.{ExtendsLogs, StandsFor, StandsOver, drawn_of, flush_numbers}
+use Rattle.coherence_core.specs.Cores.{ExtendsLogs, CoreStandsFor, StandsOver, drawn_of, flush_numbers}
 use Rattle.coherence_core.specs.Facts.{CoverageFacts}
 use Rattle.coherence_core.specs.Flushes.{IsFirstSliced, PurgedAs, flushes_left_by, outcome_of, purged_entries, purged_under}
 use Rattle.coherence_core.specs.Holds.{IsNumbered}
-use Rattle.coherence_core.specs.Notes.{AreApart, Knows, KnowsFiles}
+use Rattle.coherence_core.specs.Notes.{AreNotesUncovered, KnowsDisk}
 use Rattle.cover_rules.specs.declared.invalidation.Invalidation.{Invalidation}
 use Rattle.page_index.specs.Agreement.{Agrees, ChangesCovered, HasNoneCovered}
 use Rattle.page_index.specs.declared.index.PageIndex.{PageIndex}
-use Rattle.coherence_core.specs.Stands.{CoreStands}
+use Rattle.coherence_core.specs.Stands.{AreHeadsBefore, CoreStands, stamp}
 use Rattle.coherence_core.specs.declared.answers.Purged.{Purged}
 use Rattle.coherence_core.specs.declared.core_state.Core.{Core}
 use Rattle.coherence_core.specs.declared.pending.Pending.{Pending}
 use Rattle.coherence_core.proofs.NoteLemmas.{apart_first}
-use Rattle.coherence_core.proofs.StampLemmas.{epoch_below}
+use Rattle.coherence_core.proofs.StampLemmas.{epoch_below, heads_changed}
 use Rattle.coherence_core.proofs.FlushLemmas.{oldest}
 use Rattle.coherence_core.proofs.SliceBounds.{names_end, names_go_on}
 use Rattle.coherence_core.proofs.SliceSteps.{done, failed, sliced, went_on}
@@ -70,11 +70,12 @@ slice_agrees keeps level notes before left step files after slice apart agree =
 
 -- a core with these parts stands for the log
 pub stands_with : (found : ℕ) (files : Files) (old new : Core) (queue : List Pending) (log : List LogEntry) → KeepsBeside old new → new.queue.items ≡ queue
-    → CoreStands old.farm (page_at files) (stamp_at files) (epoch_held files) old.flights queue old.asked old.begun old.epoch (drawn_of old) log → IsNumbered files → HasNoLaterStamp files → old.down ≡ not (is_up log) → drawn_of old ≤ most_stamps → BoundsSlices old.farm found files queue log → Agrees old.pages files → AreApart old.farm.level old.pages queue → StandsOver found files new log
-stands_with found files old new queue log kept is stands numbered order down few slices agree apart = record {
+    → CoreStands old.farm (page_at files) (stamp_at files) (epoch_held files) old.flights queue old.asked old.begun old.epoch (drawn_of old) log → IsNumbered files → HasNoLaterStamp files → AreHeadsBefore (head_at files) (stamp old.epoch (drawn_of old)) → old.down ≡ not (is_up log) → drawn_of old ≤ most_stamps → BoundsSlices old.farm found files queue log → Agrees old.pages files → AreNotesUncovered old.farm.level old.pages queue → StandsOver found files new log
+stands_with found files old new queue log kept is stands numbered order heads down few slices agree apart = record {
   stands = rw (kept.farm, kept.flights, is, kept.asked, kept.begun, kept.epoch) stands;
   numbered = numbered;
   order = order;
+  heads = rw (kept.asked, kept.begun, kept.epoch) heads;
   down_is = kept.down ∙ down;
   few = rw (kept.asked, kept.begun) few;
   slices = rw (kept.farm, is) slices;
@@ -91,12 +92,16 @@ module _ (found : ℕ) (core next : Core) (facts : CoverageFacts core.farm) (p :
   low : p.purge.stamp.epoch ≤ epoch_held files
   low = let le : p.purge.stamp.epoch ≤ core.epoch = epoch_below p.purge.stamp core.epoch (drawn_of core) here.flushing.each.0.drawn in omega (arith, le, s.stands.epochs.current)
 
-  apart : AreApart core.farm.level core.pages (p ∷ rest)
-  apart = subst (λ (l : List Pending). AreApart core.farm.level core.pages l) items s.knows.apart
+  apart : AreNotesUncovered core.farm.level core.pages (p ∷ rest)
+  apart = subst (λ (l : List Pending). AreNotesUncovered core.farm.level core.pages l) items s.knows.apart
 
   -- what is noted, no slice of this flush changes
   agree : (step : PurgeStep) → IsSlice p.purge q step files after → Agrees core.pages after
   agree step slice = slice_agrees keeps core.farm.level core.pages p.purge q step files after slice apart.0 s.knows.agree
+
+  -- it takes heads away, and sets none
+  heads : (step : PurgeStep) → IsSlice p.purge q step files after → AreHeadsBefore (head_at after) (stamp core.epoch (drawn_of core))
+  heads step slice = heads_changed (head_at files) (head_at after) (stamp core.epoch (drawn_of core)) (λ key good. ⊎_elim (λ same. inl same) (λ gone. inr (λ h is. absurd (cc (gone.1, is)))) (slice.heads key good)) s.heads
 
   first : IsOldest log p.number
   first = ((p.purge.inv, here.flushing.each.0.unfinished), λ w inv u. oldest p rest w inv here.flushing.each.1 (here.flushing.all w inv u))
@@ -114,7 +119,7 @@ module _ (found : ℕ) (core next : Core) (facts : CoverageFacts core.farm) (p :
   none_behind = record { touched = λ begun. absurd (cc begun); gone = λ k good del behind. absurd behind }
 
   ended : (step : PurgeStep) (outcome : FlushOutcome) → IsSlice p.purge q step files after → next.queue.items ≡ rest → CoreStands core.farm (page_at after) (stamp_at after) (epoch_held after) core.flights rest core.asked core.begun core.epoch (drawn_of core) (Ended p.number outcome ∷ log) → StandsOver found after next (Ended p.number outcome ∷ log)
-  ended step outcome slice is stands = stands_with found after core next rest (Ended p.number outcome ∷ log) kept is stands (numbered_same files after slice.number s.numbered) (slice.order low s.order) s.down_is s.few (names_end core.farm found files after p rest log slice.names bounds here.flushing.each.1 outcome) (agree step slice) apart.1
+  ended step outcome slice is stands = stands_with found after core next rest (Ended p.number outcome ∷ log) kept is stands (numbered_same files after slice.number s.numbered) (slice.order low s.order) (heads step slice) s.down_is s.few (names_end core.farm found files after p rest log slice.names bounds here.flushing.each.1 outcome) (agree step slice) apart.1
 
   fell : (step : PurgeStep) → IsSlice p.purge q step files after → next.queue.items ≡ rest → StandsOver found after next (Ended p.number Failed ∷ log)
   fell step slice is = ended step Failed slice is (failed core.farm facts (page_at after) (stamp_at after) (epoch_held after) core.flights (record { number = p.number; purge = forgotten }) rest core.asked core.begun core.epoch (drawn_of core) log (moved step slice forgotten (record { level = refl; inv = refl; stamp = refl }) none_behind))
@@ -126,7 +131,7 @@ module _ (found : ℕ) (core next : Core) (facts : CoverageFacts core.farm) (p :
         (first, tt),
         stands_with found after core next (record { number = p.number; purge = q } ∷ rest) (Sliced p.number ∷ log) kept is
             (went_on core.farm facts (page_at after) (stamp_at after) (epoch_held after) core.flights (record { number = p.number; purge = q }) rest core.asked core.begun core.epoch (drawn_of core) log (moved More slice q same progress))
-            (numbered_same files after slice.number s.numbered) (slice.order low s.order) s.down_is s.few
+            (numbered_same files after slice.number s.numbered) (slice.order low s.order) (heads More slice) s.down_is s.few
             (names_go_on core.farm found files after p rest log slice.names bounds q left.0 left.2 here.flushing.each.1 (subst (λ (x : ℕ). p.number ≤ x) s.stands.counts.flushes here.flushing.each.0.below))
             (agree More slice) (apart_first core.farm.level core.pages p (record { number = p.number; purge = q }) rest same apart),
       )
@@ -140,7 +145,7 @@ module _ (found : ℕ) (core next : Core) (facts : CoverageFacts core.farm) (p :
   purged_over NoMemory slice is = (((first, inl (inr refl)), tt), fell NoMemory slice is)
 
 pub purged_told : (found : ℕ) (core next : Core) (facts : CoverageFacts core.farm) (p : Pending) (rest : List Pending) (items : core.queue.items ≡ p ∷ rest) (kept : KeepsBeside core next) (q : Purge) (same : IsSamePurge p.purge q) (step : PurgeStep) (told new : Option Files) → CoveredIsForgotten
-    → Told (IsSlice p.purge q step) told new → next.queue.items ≡ queue_after step p.number q rest → ExtendsLogs core.farm (StandsFor found told core) (StandsFor found new next) (purged_under (outcome_of p.number step)) (purged_entries (outcome_of p.number step))
+    → Told (IsSlice p.purge q step) told new → next.queue.items ≡ queue_after step p.number q rest → ExtendsLogs core.farm (CoreStandsFor found told core) (CoreStandsFor found new next) (purged_under (outcome_of p.number step)) (purged_entries (outcome_of p.number step))
 purged_told found core next facts p rest items kept q same step None new keeps t is = extends (λ log s. absurd s)
 purged_told found core next facts p rest items kept q same step (Some files) None keeps t is = absurd t
 purged_told found core next facts p rest items kept q same step (Some files) (Some after) keeps t is = extends (λ log s. purged_over found core next facts p rest items kept q same files after keeps log s step t is)
@@ -153,7 +158,7 @@ queue_left step_done flush q rest queue is = is
 queue_left DiskFailed flush q rest queue is = is
 queue_left NoMemory flush q rest queue is = is
 
-apart_after : (step : PurgeStep) (p : Pending) (q : Purge) (rest : List Pending) (level : ℕ) (notes : PageIndex) → IsSamePurge p.purge q → AreApart level notes (p ∷ rest) → AreApart level notes (queue_after step p.number q rest)
+apart_after : (step : PurgeStep) (p : Pending) (q : Purge) (rest : List Pending) (level : ℕ) (notes : PageIndex) → IsSamePurge p.purge q → AreNotesUncovered level notes (p ∷ rest) → AreNotesUncovered level notes (queue_after step p.number q rest)
 apart_after More p q rest level notes same all = apart_first level notes p (record { number = p.number; purge = q }) rest same all
 apart_after step_done p q rest level notes same all = all.1
 apart_after DiskFailed p q rest level notes same all = all.1
@@ -169,23 +174,23 @@ module _ (core next : Core) (told new : Option Files) (queue : List Pending) (re
   next_is : next.queue.items ≡ queue_after made.step made.first.number made.purge made.rest
   next_is = queue_left made.step made.first.number made.purge made.rest next.queue.items (left ∙ (λ i. flushes_left_by (made.result_is i) (made.after_is i)))
 
-  pub step_log : CoverageFacts core.farm → CoveredIsForgotten → (found : ℕ) → ExtendsLogs core.farm (StandsFor found told core) (StandsFor found new next) (purged_under result) (purged_entries result)
-  step_log facts keeps found = subst (λ (r : Purged). ExtendsLogs core.farm (StandsFor found told core) (StandsFor found new next) (purged_under r) (purged_entries r)) (sym made.result_is)
+  pub step_log : CoverageFacts core.farm → CoveredIsForgotten → (found : ℕ) → ExtendsLogs core.farm (CoreStandsFor found told core) (CoreStandsFor found new next) (purged_under result) (purged_entries result)
+  step_log facts keeps found = subst (λ (r : Purged). ExtendsLogs core.farm (CoreStandsFor found told core) (CoreStandsFor found new next) (purged_under r) (purged_entries r)) (sym made.result_is)
       (purged_told found core next facts made.first made.rest made.queue_is kept made.purge made.same made.step told new keeps made.slice next_is)
 
   pub step_flushes : PurgedAs result (flush_numbers core.queue.items) (flush_numbers next.queue.items)
   step_flushes = rw (made.result_is, made.queue_is, next_is) (numbers_left made.step made.first made.purge made.rest)
 
   -- what is known of the files, whichever log there is
-  pub step_known : CoveredIsForgotten → Knows told core → Knows new next
+  pub step_known : CoveredIsForgotten → KnowsDisk told core → KnowsDisk new next
   step_known keeps k = by_told told new made.slice k
     where
-      queue_known : (queue : List Pending) (files after : Files) → queue ≡ made.first ∷ made.rest → IsSlice made.first.purge made.purge made.step files after → AreApart core.farm.level core.pages queue → Agrees core.pages files → (left : List Pending) → left ≡ queue_after made.step made.first.number made.purge made.rest → (Agrees core.pages after) × AreApart core.farm.level core.pages left
+      queue_known : (queue : List Pending) (files after : Files) → queue ≡ made.first ∷ made.rest → IsSlice made.first.purge made.purge made.step files after → AreNotesUncovered core.farm.level core.pages queue → Agrees core.pages files → (left : List Pending) → left ≡ queue_after made.step made.first.number made.purge made.rest → (Agrees core.pages after) × AreNotesUncovered core.farm.level core.pages left
       queue_known queue files after is slice apart agree left left_is =
-          let all : AreApart core.farm.level core.pages (made.first ∷ made.rest) = subst (λ (l : List Pending). AreApart core.farm.level core.pages l) is apart in
-          (slice_agrees keeps core.farm.level core.pages made.first.purge made.purge made.step files after slice all.0 agree, subst (λ (l : List Pending). AreApart core.farm.level core.pages l) (sym left_is) (apart_after made.step made.first made.purge made.rest core.farm.level core.pages made.same all))
+          let all : AreNotesUncovered core.farm.level core.pages (made.first ∷ made.rest) = subst (λ (l : List Pending). AreNotesUncovered core.farm.level core.pages l) is apart in
+          (slice_agrees keeps core.farm.level core.pages made.first.purge made.purge made.step files after slice all.0 agree, subst (λ (l : List Pending). AreNotesUncovered core.farm.level core.pages l) (sym left_is) (apart_after made.step made.first made.purge made.rest core.farm.level core.pages made.same all))
 
-      by_told : (t n : Option Files) → Told (IsSlice made.first.purge made.purge made.step) t n → Knows t core → Knows n next
+      by_told : (t n : Option Files) → Told (IsSlice made.first.purge made.purge made.step) t n → KnowsDisk t core → KnowsDisk n next
       by_told None None slice k = tt
       by_told None (Some after) slice k = absurd (cc slice)
       by_told (Some files) None slice k = tt

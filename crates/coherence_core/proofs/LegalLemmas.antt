@@ -1,5 +1,5 @@
 -- A session that goes on from a legal log.
-use Rattle.std.proofs.Common.{◌≡◌, ◌≢◌, ◌+◌, ◌∙◌, ℕ, false, List, [], ◌∷◌, Some, sym, ap, subst, eq-eqb, ne_eqb, ⊎_elim}
+use Rattle.std.proofs.Common.{◌≡◌, ◌≢◌, ◌+◌, ◌∙◌, ℕ, false, List, [], ◌∷◌, Some, sym, subst, eq-eqb, ne_eqb, ⊎_elim}
 use Rattle.std.specs.Prelude.{Ok}
 use Rattle.std.proofs.lemmas.Bool.{cases_eq}
 use Rattle.sp_outside.specs.Files.{Files}

@@ -1,14 +1,17 @@
 -- What a look at a page leaves noted, and what it answers.
-use Rattle.std.proofs.Common.{◌≡◌, ◌&&◌, ◌==◌, ℕ, Bool, true, false, Contains, Option, Some, None, refl, sym, ◌∙◌, ap, subst, if◌then◌else◌, length}
+use Rattle.std.proofs.Common.{◌≡◌, ◌&&◌, ◌||◌, ◌==◌, ℕ, Bool, true, false, not, List, [], ◌∷◌, Contains, Option, Some, None, refl, sym, ◌∙◌, ap, subst, if◌then◌else◌, length}
 use Rattle.std.specs.Prelude.{Result, Ok, Err, IfOk, IfSome, option_map}
+use Rattle.docroot_format.specs.Faults.{HasFileCause}
 use Rattle.docroot_format.specs.declared.fault.FileFault.{FileFault}
+use Rattle.docroot_format.specs.declared.fault.FileFault.TheVariants as file_fault
 use Rattle.std.specs.FinMap.{empty}
 use Rattle.std.specs.Option.{option_and_then}
 use Rattle.sp_base.specs.Texts.{Segments, Text}
 use Rattle.sp_base.specs.declared.answer.Answer.{Answer}
+use Rattle.sp_outside.specs.Calls.{Call}
 use Rattle.sp_outside.specs.Files.{Files, file_at}
-use Rattle.any_config.specs.declared.farm.Farm.{Farm}
-use Rattle.cover_rules.specs.Coverage.{covers, deletes, stat_folder, touched_of}
+use Rattle.docroot_changes.specs.DocrootCalls.{MakesDocrootCalls}
+use Rattle.cover_rules.specs.Coverage.{covers, deletes, outdates, stat_folder, touched_of}
 use Rattle.cover_rules.specs.Pages.{IsPageKey}
 use Rattle.cover_rules.specs.declared.invalidation.Invalidation.{Invalidation}
 use Rattle.cover_rules.specs.declared.page.PageKey.{PageKey}
@@ -20,12 +23,16 @@ use Rattle.cache_files.specs.declared.page.Page.{Page}
 use Rattle.stat_files.specs.Outdated.{outdates_page}
 use Rattle.stat_files.specs.Stamps.{stamp_at}
 use Rattle.page_index.specs.Agreement.{Agrees, HasNoneCovered}
-use Rattle.page_index.specs.Notes.{known_page, stamp_noted}
+use Rattle.page_index.specs.Notes.{known_page}
 use Rattle.page_index.specs.declared.index.PageIndex.{PageIndex}
 use Rattle.coherence_core.specs.Facts.{CoverageFacts}
-use Rattle.coherence_core.specs.Lookups.{IfAgreed, NotesHead, NotesPage, NotesStamp}
-use Rattle.coherence_core.specs.Notes.{HoldsStill}
+use Rattle.coherence_core.specs.Asking.{is_barred}
+use Rattle.coherence_core.specs.Lookups.{IfAgreed, IsLook, NotesHead, NotesPage, NotesStamp, ReadsFiles}
+use Rattle.coherence_core.specs.Notes.{AreNotesUncovered, HoldsStill}
 use Rattle.coherence_core.specs.Served.{served}
+use Rattle.coherence_core.specs.declared.look.Look.{Look}
+use Rattle.coherence_core.specs.declared.pending.Pending.{Pending}
+use Rattle.coherence_core.proofs.NoteLemmas.{apart_kept}
 
 -- ---- notes, one after another
 
@@ -41,20 +48,14 @@ told_still : (told : Option Files) (a b : PageIndex) → HoldsStill a b → IfSo
 told_still None a b still = tt
 told_still (Some files) a b still = (still files).agree
 
-pub notes_none : (farm : Farm) (key : PageKey) (is_free : Bool) (told : Option Files) (notes : PageIndex) → NotesPage farm key is_free told notes notes
-notes_none farm key is_free told notes = record { agree = told_stays told notes; apart = λ inv off none. none }
+pub notes_none : (look : Look) (told : Option Files) (notes : PageIndex) → NotesPage look told notes notes
+notes_none look told notes = record { agree = told_stays told notes; apart = λ all. all }
 
-pub notes_then : (farm : Farm) (key : PageKey) (is_free : Bool) (told : Option Files) (a b c : PageIndex) → NotesPage farm key is_free told a b → NotesPage farm key is_free told b c → NotesPage farm key is_free told a c
-notes_then farm key is_free told a b c first next = record {
-  agree = told_agrees told a b c first.agree next.agree;
-  apart = λ inv off none. next.apart inv off (first.apart inv off none);
-}
+pub notes_then : (look : Look) (told : Option Files) (a b c : PageIndex) → NotesPage look told a b → NotesPage look told b c → NotesPage look told a c
+notes_then look told a b c first next = record { agree = told_agrees told a b c first.agree next.agree; apart = λ all. next.apart (first.apart all) }
 
-pub notes_still : (farm : Farm) (key : PageKey) (is_free : Bool) (told : Option Files) (a b : PageIndex) → HoldsStill a b → NotesPage farm key is_free told a b
-notes_still farm key is_free told a b still = record {
-  agree = told_still told a b still;
-  apart = λ inv off none. (still empty).apart farm.level inv none;
-}
+pub notes_still : (look : Look) (told : Option Files) (a b : PageIndex) → HoldsStill a b → NotesPage look told a b
+notes_still look told a b still = record { agree = told_still told a b still; apart = apart_kept look.farm.now.level a b ((still empty).apart look.farm.now.level) look.queue.now.items }
 
 -- ---- what is noted of a part
 
@@ -78,18 +79,53 @@ pub head_read : (told : Option Files) (key : PageKey) (head : Option HeadNote) �
 head_read None key head is = tt
 head_read (Some files) key head is = sym is
 
--- the head of a free page
-pub noted_head : (farm : Farm) → CoverageFacts farm → (key : PageKey) (told : Option Files) (head : Option HeadNote) (a b : PageIndex) (is_free : Bool) → is_free ≡ true → NotesHead key head a b → IfSome told (λ files. head_at files key ≡ head) → NotesPage farm key is_free told a b
-noted_head farm facts key told head a b is_free free notes so = record {
-  agree = told_this told (λ files. head_at files key ≡ head) a b notes.agree so;
-  apart = λ inv off none. notes.apart farm.level inv (λ deleted. false_not_true (covers farm.level (is_auto farm key) inv key) (off free) (facts.deleted inv key deleted)) none;
+or_first : (a b : Bool) → (a || b) ≡ false → a ≡ false
+or_first true b e = e
+or_first false b e = refl
+
+or_second : (a b : Bool) → (a || b) ≡ false → b ≡ false
+or_second true b e = absurd (cc e)
+or_second false b e = e
+
+-- what covers none of the notes covers none still, where it doesn't cover the page, and no flush of the queue does
+free_apart : (level : ℕ) (auto : Bool) (key : PageKey) (a b : PageIndex) → ((inv : Invalidation) → covers level auto inv key ≡ false → HasNoneCovered level inv a → HasNoneCovered level inv b) → (queue : List Pending) → is_barred level auto (Some key) queue ≡ false → AreNotesUncovered level a queue → AreNotesUncovered level b queue
+free_apart level auto key a b each [] off all = tt
+free_apart level auto key a b each (p ∷ ps) off all = (
+  (all.0.0, each p.purge.inv (or_first (covers level auto p.purge.inv key) (is_barred level auto (Some key) ps) off) all.0.1),
+  free_apart level auto key a b each ps (or_second (covers level auto p.purge.inv key) (is_barred level auto (Some key) ps) off) all.1,
+)
+
+-- the head of a page that no flush covers
+pub noted_head : (look : Look) (told : Option Files) (head : Option HeadNote) (a b : PageIndex) → is_barred look.farm.now.level look.auto (Some look.key.now) look.queue.now.items ≡ false → NotesHead look.key.now head a b → IfSome told (λ files. head_at files look.key.now ≡ head) → NotesPage look told a b
+noted_head look told head a b free notes so = record {
+  agree = told_this told (λ files. head_at files look.key.now ≡ head) a b notes.agree so;
+  apart = free_apart look.farm.now.level look.auto look.key.now a b
+      (λ inv off none. notes.apart look.farm.now.level inv (λ deleted. false_not_true (deletes inv look.key.now) (or_first (deletes inv look.key.now) (outdates look.farm.now.level look.auto inv look.key.now) off) deleted) none)
+      look.queue.now.items free;
 }
 
--- the stamp that is asked for a free page
-pub noted_stamp : (farm : Farm) → CoverageFacts farm → (key : PageKey) → IsPageKey key → is_auto farm key ≡ true → (told : Option Files) (folder : Segments) → folder ≡ stat_folder farm.level key → (stamp : Option Stamp) (a b : PageIndex) (is_free : Bool) → is_free ≡ true → NotesStamp folder stamp a b → IfSome told (λ files. stamp_at files folder ≡ stamp) → NotesPage farm key is_free told a b
-noted_stamp farm facts key good auto told folder folder_is stamp a b is_free free notes so = record {
+-- the stamp that is asked for a page that no flush covers
+pub noted_stamp : (look : Look) → CoverageFacts look.farm.now → IsLook look → look.auto ≡ true → (told : Option Files) (folder : Segments) → folder ≡ stat_folder look.farm.now.level look.key.now → (stamp : Option Stamp) (a b : PageIndex) → is_barred look.farm.now.level look.auto (Some look.key.now) look.queue.now.items ≡ false → NotesStamp folder stamp a b → IfSome told (λ files. stamp_at files folder ≡ stamp) → NotesPage look told a b
+noted_stamp look facts is auto told folder folder_is stamp a b free notes so = record {
   agree = told_this told (λ files. stamp_at files folder ≡ stamp) a b notes.agree so;
-  apart = λ inv off none. notes.apart farm.level inv (λ touched. false_not_true (covers farm.level (is_auto farm key) inv key) (off free) (facts.touched inv key good auto (subst (λ (f : Segments). Contains (touched_of farm.level inv) f) folder_is touched))) none;
+  apart = free_apart look.farm.now.level look.auto look.key.now a b
+      (λ inv off none. notes.apart look.farm.now.level inv (λ touched. false_not_true (covers look.farm.now.level (is_auto look.farm.now look.key.now) inv look.key.now)
+      (subst (λ (x : Bool). covers look.farm.now.level x inv look.key.now ≡ false) is.auto off)
+      (facts.touched inv look.key.now is.page (sym is.auto ∙ auto) (subst (λ (f : Segments). Contains (touched_of look.farm.now.level inv) f) folder_is touched))) none)
+      look.queue.now.items free;
+}
+
+pub not_on : (b : Bool) → not b ≡ true → b ≡ false
+not_on true e = absurd (cc e)
+not_on false e = refl
+
+-- the head, the stamp and the hit of a page
+pub notes_with_body : (look : Look) (told : Option Files) (a b c d : PageIndex) (head : HeadNote) → IfAgreed told a (λ files. head_at files look.key.now ≡ Some head) → NotesPage look told a b → NotesPage look told b c → IfSome told (λ files. head_at files look.key.now ≡ Some head → Agrees c files → Agrees d files)
+    → ((level : ℕ) (inv : Invalidation) → HasNoneCovered level inv c → HasNoneCovered level inv d) → NotesPage look told a d
+notes_with_body look None a b c d head is first next body apart = record { agree = tt; apart = λ all. apart_kept look.farm.now.level c d (apart look.farm.now.level) look.queue.now.items (next.apart (first.apart all)) }
+notes_with_body look (Some files) a b c d head is first next body apart = record {
+  agree = λ agrees. body (is agrees) (next.agree (first.agree agrees));
+  apart = λ all. apart_kept look.farm.now.level c d (apart look.farm.now.level) look.queue.now.items (next.apart (first.apart all));
 }
 
 -- ---- what agrees
@@ -149,3 +185,21 @@ module _ (law : (files : Files) (key : PageKey) → page_at files key ≡ option
 
   pub fresh : (head : HeadNote) → head_at files key ≡ Some head → (auto && outdates_page stat head.stamp) ≡ false → (answer : Option Answer) → option_map (λ (p : Page). p.answer) (known_at files key head) ≡ answer → served auto stat (page_at files key) ≡ answer
   fresh head is off answer known = ap (served auto stat) (of_head (Some head) is) ∙ served_some auto stat head (file_at files (page_body_name key)) off ∙ known
+
+-- ---- one reading after another
+
+pub reads_ok : {A B : Type 0} (told after : Option Files) (faults now : ℕ) (asked made : Option (List Call)) (a : A) (b : B) → ReadsFiles told after faults now asked made (Ok a) → ReadsFiles told after faults now asked made (Ok b)
+reads_ok told after faults now asked made a b reads = record { files = reads.files; cause = reads.cause; calls = reads.calls }
+
+pub reads_then : {A B : Type 0} → ((before between after : Option (List Call)) → MakesDocrootCalls before between → MakesDocrootCalls between after → MakesDocrootCalls before after)
+    → (told mid after : Option Files) (faults between now : ℕ) (asked made last : Option (List Call)) (a : A) (result : Result B FileFault)
+    → ReadsFiles told mid faults between asked made (Ok a) → ReadsFiles mid after between now made last result → ReadsFiles told after faults now asked last result
+reads_then more told mid after faults between now asked made last a result first next = record {
+  files = next.files ∙ first.files;
+  cause = subst (λ (n : ℕ). HasFileCause n now result) first.cause next.cause;
+  calls = more asked made last first.calls next.calls;
+}
+
+pub reads_err : {A B : Type 0} (told after : Option Files) (faults now : ℕ) (asked made : Option (List Call)) (fault : FileFault) → ReadsFiles {T = A} told after faults now asked made (Err fault) → ReadsFiles {T = B} told after faults now asked made (Err fault)
+reads_err told after faults now asked made file_fault.Disk reads = record { files = reads.files; cause = reads.cause; calls = reads.calls }
+reads_err told after faults now asked made file_fault.NoMemory reads = record { files = reads.files; cause = reads.cause; calls = reads.calls }

@@ -9,24 +9,25 @@ use Rattle.cache_files.specs.declared.epoch.OpenFault.{OpenFault}
 use Rattle.cache_files.specs.declared.epoch.OpenFault.TheVariants as open_fault
 use Rattle.cache_files.specs.Epochs.{after_epoch, epoch_held, greatest_epoch as greatest_epoch, next_epoch}
 use Rattle.cache_files.specs.HeldStamps.{HasNoLaterStamp}
-use Rattle.cache_files.specs.Pages.{page_at}
+use Rattle.cache_files.specs.Pages.{head_at, page_at}
 use Rattle.stat_files.specs.Stamps.{stamp_at}
 use Rattle.docroot_changes.specs.Changes.{AddsNames, IsNextNumber, MayOpen, NumberSet, Told}
 use Rattle.flights.specs.declared.flight.Flight.{Flight}
 use Rattle.cache_log.specs.Entries.{LogEntry, Down, Ended, Failed, Up, downs_since, is_up, last_epoch}
 use Rattle.cache_log.specs.Rules.{AllAllowed, CallConditions, HasFallenShort, IsAboveAll, IsIdle}
 use Rattle.coherence_core.specs.Bounds.{BoundsSlices}
-use Rattle.coherence_core.specs.Cores.{ExtendsLogs, StandsFor, StandsOver, drawn_of, flush_numbers}
+use Rattle.coherence_core.specs.Cores.{ExtendsLogs, CoreStandsFor, StandsOver, drawn_of, flush_numbers}
 use Rattle.coherence_core.specs.Facts.{CoverageFacts}
 use Rattle.coherence_core.specs.Holds.{IsNumbered}
 use Rattle.coherence_core.specs.Sessions.{failed_entries, restarted_entries, restarted_under}
-use Rattle.coherence_core.specs.Stands.{CoreStands}
+use Rattle.coherence_core.specs.Stands.{AreHeadsBefore, CoreStands, stamp}
 use Rattle.page_index.specs.Agreement.{Agrees}
 use Rattle.coherence_core.specs.declared.core_state.Core.{Core}
 use Rattle.coherence_core.specs.declared.pending.Pending.{Pending}
 use Rattle.coherence_core.proofs.FlushLemmas.{oldest}
 use Rattle.coherence_core.proofs.SliceBounds.{names_end, names_stay}
 use Rattle.coherence_core.proofs.SliceSteps.{failed}
+use Rattle.coherence_core.proofs.StampLemmas.{before_epoch}
 use Rattle.coherence_core.proofs.RestartSteps.{down, same_files, up}
 use Rattle.coherence_core.proofs.CallLemmas.{allowed_append, extends, numbered_same}
 
@@ -90,11 +91,12 @@ module _ (found : ℕ) (core next : Core) (facts : CoverageFacts core.farm) (air
     idle : IsIdle LastLog
     idle = (λ n k a. quiet.1.0.flying.all n k a, λ v inv u. quiet.1.0.flushing.all v inv u)
 
-  over : (epoch : ℕ) (last : List LogEntry) → next.epoch ≡ epoch → CoreStands core.farm (page_at g) (stamp_at g) (epoch_held g) [] [] core.asked core.begun epoch (drawn_of core) last → IsNumbered g → HasNoLaterStamp g → next.down ≡ not (is_up last) → BoundsSlices core.farm found g [] last → StandsOver found g next last
-  over epoch last epoch_is stands numbered order down slices = record {
+  over : (epoch : ℕ) (last : List LogEntry) → next.epoch ≡ epoch → CoreStands core.farm (page_at g) (stamp_at g) (epoch_held g) [] [] core.asked core.begun epoch (drawn_of core) last → IsNumbered g → HasNoLaterStamp g → AreHeadsBefore (head_at g) (stamp epoch (drawn_of core)) → next.down ≡ not (is_up last) → BoundsSlices core.farm found g [] last → StandsOver found g next last
+  over epoch last epoch_is stands numbered order heads down slices = record {
     stands = rw (kept.farm, kept.flights ∙ air, kept.queue, kept.asked, kept.begun, epoch_is) stands;
     numbered = numbered;
     order = order;
+    heads = rw (kept.asked, kept.begun, epoch_is) heads;
     down_is = down;
     few = rw (kept.asked, kept.begun) s.few;
     slices = rw (kept.farm, kept.queue) slices;
@@ -115,7 +117,8 @@ module _ (found : ℕ) (core next : Core) (facts : CoverageFacts core.farm) (air
       let c : epoch_held f ≤ core.epoch + downs_since LastLog = q.1.0.epochs.risen in
       let d : 0 < core.epoch = q.1.0.epochs.first in (
         ((refl, idle (restarted_under (Ok e)) refl, subst (λ (x : ℕ). IsAboveAll x LastLog) (sym set.here.more) q.1.0.epochs.above, omega (arith, a, b, set.here.more), omega (arith, a, c, set.here.more)), q.0),
-        over e (Up e ∷ LastLog) epoch_is at_e (numbered_next e f g set.here) (set.order s.order) down_is
+        over e (Up e ∷ LastLog) epoch_is at_e (numbered_next e f g set.here) (set.order s.order)
+            (λ key h good is. before_epoch h.stamp core.epoch (drawn_of core) e (drawn_of core) (s.heads key h good (sym (set.beside.pages key good).head ∙ is)) (omega (arith, b, set.here.more))) down_is
             (names_stay core.farm found 0 f g [] LastLog (Up e ∷ LastLog) (set.again (omega (arith, b, d))) (omega arith) (λ v. refl) refl q.1.1),
       )
 
@@ -149,19 +152,19 @@ module _ (found : ℕ) (core next : Core) (facts : CoverageFacts core.farm) (air
         let b : core.epoch ≤ epoch_held f = q.1.0.epochs.current in
         let d : 0 < core.epoch = q.1.0.epochs.first in (
           ((refl, idle (restarted_under (Err fault)) refl, reason fault known), q.0),
-          over core.epoch (Down ∷ LastLog) epoch_is moved numbered_left (may.order s.order) down_is
+          over core.epoch (Down ∷ LastLog) epoch_is moved numbered_left (may.order s.order) (λ key h good is. s.heads key h good (sym (may.beside.pages key good).head ∙ is)) down_is
               (names_stay core.farm found 0 f g [] LastLog (Down ∷ LastLog) (may.again (omega (arith, b, d))) (omega arith) (λ v. refl) refl q.1.1),
         )
 
 -- ---- the same of a disk
 
-pub comes_up : (found : ℕ) (core next : Core) → CoverageFacts core.farm → core.flights ≡ [] → KeepsCounts core next → (e : ℕ) → next.epoch ≡ e → next.down ≡ false → (told new : Option Files) → Told (NumberSet e) told new → ExtendsLogs core.farm (StandsFor found told core) (StandsFor found new next) (restarted_under (Ok e)) (restarted_entries (flush_numbers core.queue.items) (Ok e))
+pub comes_up : (found : ℕ) (core next : Core) → CoverageFacts core.farm → core.flights ≡ [] → KeepsCounts core next → (e : ℕ) → next.epoch ≡ e → next.down ≡ false → (told new : Option Files) → Told (NumberSet e) told new → ExtendsLogs core.farm (CoreStandsFor found told core) (CoreStandsFor found new next) (restarted_under (Ok e)) (restarted_entries (flush_numbers core.queue.items) (Ok e))
 comes_up found core next facts air kept e epoch_is down_is None new t = extends (λ log s. absurd s)
 comes_up found core next facts air kept e epoch_is down_is (Some f) None t = absurd t
 comes_up found core next facts air kept e epoch_is down_is (Some f) (Some g) t = extends (λ log s. up_over found core next facts air kept f g log s e t epoch_is down_is)
 
 pub goes_down : (found : ℕ) (core next : Core) → CoverageFacts core.farm → core.flights ≡ [] → KeepsCounts core next → (fault : OpenFault) → next.epoch ≡ core.epoch → next.down ≡ true → (told new : Option Files) → Told (MayOpen fault) told new
-    → (fault ≢ open_fault.NoMemory → fault ≢ open_fault.Disk → IfSome told (λ f. next_epoch f ≡ Err fault)) → ExtendsLogs core.farm (StandsFor found told core) (StandsFor found new next) (restarted_under (Err fault)) (restarted_entries (flush_numbers core.queue.items) (Err fault))
+    → (fault ≢ open_fault.NoMemory → fault ≢ open_fault.Disk → IfSome told (λ f. next_epoch f ≡ Err fault)) → ExtendsLogs core.farm (CoreStandsFor found told core) (CoreStandsFor found new next) (restarted_under (Err fault)) (restarted_entries (flush_numbers core.queue.items) (Err fault))
 goes_down found core next facts air kept fault epoch_is down_is None new t known = extends (λ log s. absurd s)
 goes_down found core next facts air kept fault epoch_is down_is (Some f) None t known = absurd t
 goes_down found core next facts air kept fault epoch_is down_is (Some f) (Some g) t known = extends (λ log s. down_over found core next facts air kept f g log s fault t known epoch_is down_is)

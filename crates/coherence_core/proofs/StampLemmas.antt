@@ -2,10 +2,14 @@
 use Rattle.std.proofs.Common.{◌≡◌, ◌⊎◌, ◌<◌, ◌≤◌, ◌+◌, ◌&&◌, ℕ, Bool, true, false, not, Option, Some, None, if◌then◌else◌, refl, sym, ◌∙◌, ap, subst, arith, ⊎_elim}
 use Rattle.std.proofs.lemmas.Bool.Decides.{nat_tests}
 use Rattle.sp_base.specs.declared.answer.Answer.{Answer}
+use Rattle.cover_rules.specs.Pages.{IsPageKey}
+use Rattle.cover_rules.specs.declared.page.PageKey.{PageKey}
 use Rattle.cover_rules.specs.declared.stamp.Stamp.{Stamp}
+use Rattle.cache_files.specs.declared.head_note.HeadNote.{HeadNote}
 use Rattle.cache_files.specs.declared.page.Page.{Page}
 use Rattle.stat_files.specs.Outdated.{outdates_page, is_older}
 use Rattle.coherence_core.specs.Served.{served, Before, IsFresh}
+use Rattle.coherence_core.specs.Stands.{AreHeadsBefore}
 
 pub before_trans : (a b c : Stamp) → Before a b → Before b c → Before a c
 before_trans a b c x y = grind (arith, nat_tests)
@@ -15,6 +19,9 @@ before_not a x = grind (arith, nat_tests)
 
 pub before_next : (a : Stamp) (e d : ℕ) → Before a (record { epoch = e; count = d }) → Before a (record { epoch = e; count = d + 1 })
 before_next a e d x = grind (arith, nat_tests)
+
+pub before_later : (a : Stamp) (e d f : ℕ) → d ≤ f → Before a (record { epoch = e; count = d }) → Before a (record { epoch = e; count = f })
+before_later a e d f le x = grind (arith, nat_tests)
 
 pub drawn_next : (e d : ℕ) → Before (record { epoch = e; count = d }) (record { epoch = e; count = d + 1 })
 drawn_next e d = grind (arith, nat_tests)
@@ -31,6 +38,18 @@ epoch_below a e d x = grind (arith, nat_tests)
 -- before the first stamp of an epoch none is of that epoch or of a later one
 pub none_drawn : (a : Stamp) (e : ℕ) → Before a (record { epoch = e; count = 0 }) → e ≤ a.epoch → ⊥
 none_drawn a e x le = grind (arith, nat_tests)
+
+-- ---- heads
+
+-- as more stamps are drawn
+pub heads_later : (head : PageKey → Option HeadNote) (e d f : ℕ) → d ≤ f → AreHeadsBefore head (record { epoch = e; count = d }) → AreHeadsBefore head (record { epoch = e; count = f })
+heads_later head e d f le all key h good is = before_later h.stamp e d f le (all key h good is)
+
+-- as each head stays, or is gone, or is one with a stamp that was drawn
+pub heads_changed : (head after : PageKey → Option HeadNote) (next : Stamp) → ((key : PageKey) → IsPageKey key → (after key ≡ head key) ⊎ ((h : HeadNote) → after key ≡ Some h → Before h.stamp next)) → AreHeadsBefore head next → AreHeadsBefore after next
+heads_changed head after next each all key h good is = ⊎_elim (λ (same : after key ≡ head key). all key h good (sym same ∙ is)) (λ (new : (h : HeadNote) → after key ≡ Some h → Before h.stamp next). new h is) (each key good)
+
+-- ---- what is served
 
 pub fresh_from : (auto : Bool) (o : Option Stamp) (n : Stamp) → ((t : Stamp) → o ≡ Some t → Before t n) → IsFresh auto o n
 fresh_from false o n all = refl

@@ -102,6 +102,7 @@ module _ (farm : Farm) (facts : CoverageFacts farm) (f g : Files) (e : ℕ) (log
     stands = rw (farm_is, flights_is, queue_is, asked_is, begun_is, epoch_is) session_stands;
     numbered = numbered_next e f g set.here;
     order = set.order h.holds.order;
+    heads = rw (epoch_is, asked_is, begun_is) (λ key head good is. low_epoch head.stamp e 0 (above f e head.stamp h.holds.order next (inl (key, (good, (head, (sym (set.beside.pages key good).head ∙ is, refl)))))));
     down_is = down_is;
     few = rw (asked_is, begun_is) (omega arith);
     slices = rw (farm_is, queue_is, epoch_is) (names_found farm f g e log set.names);

@@ -25,7 +25,7 @@ use Rattle.coherence_core.specs.Served.{serves_page}
 use Rattle.coherence_core.specs.declared.answers.Requested.{Requested}
 use Rattle.cache_log.specs.Ids.{FlushId}
 use Rattle.coherence_core.specs.Cores.{drawn_of}
-use Rattle.coherence_core.specs.Notes.{HoldsStill, Knows, Learns, with_notes}
+use Rattle.coherence_core.specs.Notes.{HoldsStill, KnowsDisk, KnowsDiskWith, with_notes}
 use Rattle.page_index.specs.Agreement.{HasNoneCovered}
 use Rattle.page_index.specs.declared.index.PageIndex.{PageIndex}
 use Rattle.coherence_core.specs.declared.answers.Got.{Got}
@@ -124,13 +124,13 @@ IsLookedUp told farm key answer = IfSome told (λ files. serves_page farm (page_
 -- What a page that may be kept was found to be, by a core that had noted what is so, and has noted this then: a hit with the answer that the
 -- files give; memory ran out; or the publisher is asked, where the files give none or the disk failed.
 abbrev pub FoundAs : Option Files → Core → PageIndex → Core → PageKey → Got → Bool → Type 0
-FoundAs told old notes new key (got.Hit own answer) disk_failed = (new ≡ with_notes old notes) × (own ≡ key) × (disk_failed ≡ false) × (Knows told old → IsLookedUp told old.farm key (Some answer))
+FoundAs told old notes new key (got.Hit own answer) disk_failed = (new ≡ with_notes old notes) × (own ≡ key) × (disk_failed ≡ false) × (KnowsDisk told old → IsLookedUp told old.farm key (Some answer))
 FoundAs told old notes new key got.NoMemory disk_failed = new ≡ with_notes old notes
-FoundAs told old notes new key other disk_failed = AskedAs (with_notes old notes) new (Some key) (is_auto old.farm key) other × (disk_failed ≡ false → Knows told old → IsLookedUp told old.farm key None)
+FoundAs told old notes new key other disk_failed = AskedAs (with_notes old notes) new (Some key) (is_auto old.farm key) other × (disk_failed ≡ false → KnowsDisk told old → IsLookedUp told old.farm key None)
 
 -- What a request for a page that may be kept came to: what it was found to be, with what was noted meanwhile.
 abbrev pub KeyedAs : Option Files → Core → Core → PageKey → Got → Bool → Type 0
-KeyedAs told old new key got disk_failed = (notes : PageIndex) × (Learns told old notes × FoundAs told old notes new key got disk_failed)
+KeyedAs told old new key got disk_failed = (notes : PageIndex) × (KnowsDiskWith told old notes × FoundAs told old notes new key got disk_failed)
 
 -- ---- requests
 

@@ -1,12 +1,11 @@
 -- What a core and the files of a disk stand for, and how a call of the core extends it.
-use Rattle.std.specs.Prelude.{◌≡◌, ◌≤◌, ◌+◌, ◌++◌, ◌^◌, ℕ, Bool, true, false, not, List, [], ◌∷◌, Option, Some, None, map}
-use Rattle.sp_outside.specs.Causes.{Rose}
+use Rattle.std.specs.Prelude.{◌≡◌, ◌≤◌, ◌+◌, ◌++◌, ℕ, Bool, false, not, List, [], ◌∷◌, Option, Some, None, map}
 use Rattle.sp_outside.specs.Files.{Files}
 use Rattle.any_config.specs.declared.farm.Farm.{Farm}
 use Rattle.cover_rules.specs.declared.page.PageKey.{PageKey}
 use Rattle.cache_files.specs.Epochs.{epoch_held}
 use Rattle.cache_files.specs.HeldStamps.{HasNoLaterStamp}
-use Rattle.cache_files.specs.Pages.{page_at}
+use Rattle.cache_files.specs.Pages.{head_at, page_at}
 use Rattle.stat_files.specs.Stamps.{stamp_at}
 use Rattle.flights.specs.declared.flight.Flight.{Flight}
 use Rattle.flights.specs.Flights.{AreRising}
@@ -16,7 +15,7 @@ use Rattle.cache_log.specs.Rules.{AllAllowed, CallConditions}
 use Rattle.coherence_core.specs.Bounds.{BoundsSlices}
 use Rattle.coherence_core.specs.Holds.{IsNumbered}
 use Rattle.coherence_core.specs.Notes.{KnowsFiles}
-use Rattle.coherence_core.specs.Stands.{CoreStands}
+use Rattle.coherence_core.specs.Stands.{AreHeadsBefore, CoreStands, stamp}
 use Rattle.coherence_core.specs.declared.pending.Pending.{Pending}
 use Rattle.coherence_core.specs.declared.core_state.Core.{Core}
 use Rattle.cache_log.specs.Limits.{most_stamps}
@@ -27,20 +26,22 @@ use Rattle.cache_log.specs.Limits.{most_stamps}
 abbrev pub drawn_of : Core → ℕ
 drawn_of core = core.asked + core.begun
 
--- The core and the files stand for this log, in a session that found this many files, and what the core has noted of the files is so.
+-- The core and the files stand for this log, in a session that found this many files. Each head in the files has a stamp before the one that is
+-- drawn next, and what the core has noted of the files is so.
 pub record StandsOver (found : ℕ) (files : Files) (core : Core) (log : List LogEntry) : Type 0 where
   pub stands : CoreStands core.farm (page_at files) (stamp_at files) (epoch_held files) core.flights core.queue.items core.asked core.begun core.epoch (drawn_of core) log
   pub numbered : IsNumbered files
   pub order : HasNoLaterStamp files
+  pub heads : AreHeadsBefore (head_at files) (stamp core.epoch (drawn_of core))
   pub down_is : core.down ≡ not (is_up log)
   pub few : drawn_of core ≤ most_stamps
   pub slices : BoundsSlices core.farm found files core.queue.items log
   pub knows : KnowsFiles files core
 
 -- the same of a disk, where it tells its files
-abbrev pub StandsFor : ℕ → Option Files → Core → List LogEntry → Type 0
-StandsFor found None core log = ⊥
-StandsFor found (Some files) core log = StandsOver found files core log
+abbrev pub CoreStandsFor : ℕ → Option Files → Core → List LogEntry → Type 0
+CoreStandsFor found None core log = ⊥
+CoreStandsFor found (Some files) core log = StandsOver found files core log
 
 -- For each log that was stood for, the log with these entries, the newest first, is stood for, and they are allowed in a call under these
 -- conditions.
@@ -50,7 +51,7 @@ pub record ExtendsLogs (farm : Farm) (Old New : List LogEntry → Type 0) (under
 
 -- the same of a core and a disk before and after a call, in each session
 abbrev pub ExtendsCore : Option Files → Core → Option Files → Core → CallConditions → List LogEntry → Type 0
-ExtendsCore told core after next under entries = (found : ℕ) → ExtendsLogs core.farm (StandsFor found told core) (StandsFor found after next) under entries
+ExtendsCore told core after next under entries = (found : ℕ) → ExtendsLogs core.farm (CoreStandsFor found told core) (CoreStandsFor found after next) under entries
 
 -- ---- conditions
 

@@ -1,19 +1,26 @@
 -- What a look at a page notes of it.
-use Rattle.std.specs.Prelude.{◌≡◌, ℕ, Bool, true, false, Contains, Option, Some, IfSome}
+use Rattle.std.specs.Prelude.{◌≡◌, ℕ, true, Contains, List, Option, Some, Result, IfSome}
 use Rattle.sp_base.specs.Texts.{Segments, Text}
+use Rattle.sp_outside.specs.Calls.{Call}
 use Rattle.sp_outside.specs.Files.{Files}
-use Rattle.any_config.specs.declared.farm.Farm.{Farm}
-use Rattle.cover_rules.specs.Coverage.{covers, deletes, touched_of}
+use Rattle.cover_rules.specs.Coverage.{deletes, touched_of}
+use Rattle.cover_rules.specs.Pages.{IsPageKey}
 use Rattle.cover_rules.specs.declared.invalidation.Invalidation.{Invalidation}
 use Rattle.cover_rules.specs.declared.page.PageKey.{PageKey}
 use Rattle.cover_rules.specs.declared.stamp.Stamp.{Stamp}
+use Rattle.docroot_format.specs.Faults.{HasFileCause}
+use Rattle.docroot_format.specs.declared.fault.FileFault.{FileFault}
 use Rattle.cache_files.specs.Pages.{head_at, page_at}
 use Rattle.cache_files.specs.declared.head_note.HeadNote.{HeadNote}
 use Rattle.cache_files.specs.declared.page.Page.{Page}
 use Rattle.dispatch_rules.specs.Caching.{is_auto}
+use Rattle.docroot_changes.specs.DocrootCalls.{MakesDocrootCalls}
 use Rattle.page_index.specs.Agreement.{Agrees, HasNoneCovered}
 use Rattle.page_index.specs.declared.index.PageIndex.{PageIndex}
 use Rattle.stat_files.specs.Stamps.{stamp_at}
+use Rattle.coherence_core.specs.Notes.{AreNotesUncovered}
+use Rattle.coherence_core.specs.Served.{stat_for}
+use Rattle.coherence_core.specs.declared.look.Look.{Look}
 
 -- Something is noted, of which this may be so and which these invalidations cover: where it is so of files, notes that agreed with them do so
 -- still; and what covered nothing of the notes covers nothing still, unless it covers this.
@@ -45,12 +52,30 @@ NotesHit key body = NotesThis (λ files. (page : Page) × ((page_at files key �
 abbrev pub NotesStamp : Segments → Option Stamp → PageIndex → PageIndex → Type 0
 NotesStamp folder stamp = NotesThis (λ files. stamp_at files folder ≡ stamp) (IsTouched folder)
 
--- What a look at this page notes of it, over the files of a disk that tells them: notes that agreed with the files do so still; and what covered
--- nothing of the notes covers nothing still, unless it covers the page, where that is free to be noted.
-pub record NotesPage (farm : Farm) (key : PageKey) (is_free : Bool) (told : Option Files) (old new : PageIndex) : Type 0 where
+-- What a look at a page notes of it, over the files of a disk that tells them: notes that agreed with the files do so still; and where no
+-- unfinished flush covered any of them, none does still.
+pub record NotesPage (look : Look) (told : Option Files) (old new : PageIndex) : Type 0 where
   pub agree : IfSome told (λ files. Agrees old files → Agrees new files)
-  pub apart : (inv : Invalidation) → (is_free ≡ true → covers farm.level (is_auto farm key) inv key ≡ false) → HasNoneCovered farm.level inv old → HasNoneCovered farm.level inv new
+  pub apart : AreNotesUncovered look.farm.now.level old look.queue.now.items → AreNotesUncovered look.farm.now.level new look.queue.now.items
 
 -- this is so of the files of a disk, where it tells them and the notes agree with them
 abbrev pub IfAgreed : Option Files → PageIndex → (Files → Type 0) → Type 0
 IfAgreed told notes IsSo = IfSome told (λ files. Agrees notes files → IsSo files)
+
+-- ---- what a look goes by, and what it leaves of the disk
+
+-- What is said of a look at a page: it is the page of a key, and .stat files outdate it where the farm says so.
+pub record IsLook (look : Look) : Type 0 where
+  pub page : IsPageKey look.key.now
+  pub auto : look.auto ≡ is_auto look.farm.now look.key.now
+
+-- the stamp of the .stat file that is asked for the page
+abbrev pub stat_asked : Look → Files → Option Stamp
+stat_asked look files = stat_for look.farm.now (stamp_at files) look.key.now
+
+-- The files of a disk were only read: they are as they were, the fault is told by the disk's count, and only calls were made that the cache
+-- may make.
+pub record ReadsFiles {T : Type 0} (told after : Option Files) (faults now : ℕ) (asked made : Option (List Call)) (result : Result T FileFault) : Type 0 where
+  pub files : after ≡ told
+  pub cause : HasFileCause faults now result
+  pub calls : MakesDocrootCalls asked made

@@ -10,17 +10,17 @@ use Rattle.coherence_core.specs.declared.core_state.Core.{Core}
 use Rattle.coherence_core.specs.declared.pending.Pending.{Pending}
 
 -- no flush of the queue covers what is noted
-abbrev pub AreApart : ℕ → PageIndex → List Pending → Type 0
-AreApart level notes queue = AllByRecursion (λ (p : Pending). (p.purge.level ≡ level) × HasNoneCovered level p.purge.inv notes) queue
+abbrev pub AreNotesUncovered : ℕ → PageIndex → List Pending → Type 0
+AreNotesUncovered level notes queue = AllByRecursion (λ (p : Pending). (p.purge.level ≡ level) × HasNoneCovered level p.purge.inv notes) queue
 
 -- What is noted is what the files say, and no unfinished flush covers it.
 pub record KnowsFiles (files : Files) (core : Core) : Type 0 where
   pub agree : Agrees core.pages files
-  pub apart : AreApart core.farm.level core.pages core.queue.items
+  pub apart : AreNotesUncovered core.farm.level core.pages core.queue.items
 
 -- the same of a disk, where it tells its files
-abbrev pub Knows : Option Files → Core → Type 0
-Knows told core = IfSome told (λ files. KnowsFiles files core)
+abbrev pub KnowsDisk : Option Files → Core → Type 0
+KnowsDisk told core = IfSome told (λ files. KnowsFiles files core)
 
 -- what was so of the notes is so still: that they agree with the files, and that an invalidation covers none of what is noted
 pub record StaysKnown (files after : Files) (old new : PageIndex) : Type 0 where
@@ -40,5 +40,5 @@ abbrev pub with_notes : Core → PageIndex → Core
 with_notes core notes = record core { pages = notes }
 
 -- What is known of the files stays known, where the notes of the core are these.
-abbrev pub Learns : Option Files → Core → PageIndex → Type 0
-Learns told core notes = Knows told core → Knows told (with_notes core notes)
+abbrev pub KnowsDiskWith : Option Files → Core → PageIndex → Type 0
+KnowsDiskWith told core notes = KnowsDisk told core → KnowsDisk told (with_notes core notes)

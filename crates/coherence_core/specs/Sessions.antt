@@ -9,7 +9,7 @@ use Rattle.cache_log.specs.Ids.{FlightId, FlushId}
 use Rattle.cache_log.specs.Entries.{LogEntry, Ended, Failed, Lost, Up, Down as down_entry, Session}
 use Rattle.cache_log.specs.Rules.{CallConditions}
 use Rattle.coherence_core.specs.Holds.{Holds, HoldsClosed, files_counted}
-use Rattle.coherence_core.specs.Cores.{StandsFor, flushes_of}
+use Rattle.coherence_core.specs.Cores.{CoreStandsFor, flushes_of}
 use Rattle.coherence_core.specs.declared.core_state.Core.{Core}
 use Rattle.page_index.specs.Effects.{IsBare}
 
@@ -50,7 +50,7 @@ restarted_under opened = record { disk_failed = is_disk_failure opened; out_of_m
 -- as there were.
 abbrev pub BeginsSession : Farm → Option Files → Option Files → Core → Type 0
 BeginsSession farm None after core = Unit {0}
-BeginsSession farm (Some files) after core = (log : List LogEntry) → HoldsClosed farm files log → StandsFor (files_counted files) after core (Session core.epoch ∷ log)
+BeginsSession farm (Some files) after core = (log : List LogEntry) → HoldsClosed farm files log → CoreStandsFor (files_counted files) after core (Session core.epoch ∷ log)
 
 -- a core of this epoch in which nothing was done yet, and nothing noted
 pub record IsNewCore (farm : Farm) (epoch : ℕ) (core : Core) : Type 0 where

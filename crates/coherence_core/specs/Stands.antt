@@ -9,6 +9,7 @@ use Rattle.cover_rules.specs.declared.stamp.Stamp.{Stamp}
 use Rattle.cover_rules.specs.declared.invalidation.Invalidation.{Invalidation}
 use Rattle.cover_rules.specs.Coverage.{touched_of}
 use Rattle.dispatch_rules.specs.Caching.{is_auto}
+use Rattle.cache_files.specs.declared.head_note.HeadNote.{HeadNote}
 use Rattle.cache_files.specs.declared.page.Page.{Page}
 use Rattle.docroot_changes.specs.Changes.{IsStampFolder}
 use Rattle.flights.specs.declared.flight.Flight.{Flight}
@@ -40,6 +41,10 @@ pub record HoldsPages (farm : Farm) (page : Pages) (stat : Stamps) (log : List L
 pub record AreBefore (page : Pages) (stat : Stamps) (next : Stamp) : Type 0 where
   pub pages : (key : PageKey) (p : Page) → IsPageKey key → page key ≡ Some p → Before p.stamp next
   pub stats : (folder : Segments) (t : Stamp) → IsStampFolder folder → stat folder ≡ Some t → Before t next
+
+-- each head has a stamp before this one, also one whose body isn't there or doesn't fit
+abbrev pub AreHeadsBefore : (PageKey → Option HeadNote) → Stamp → Type 0
+AreHeadsBefore head next = (key : PageKey) (h : HeadNote) → IsPageKey key → head key ≡ Some h → Before h.stamp next
 
 -- ---- flights
 

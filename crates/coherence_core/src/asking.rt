@@ -1,5 +1,5 @@
 //! A flight that is asked.
-ghost use Rattle.std.specs.Prelude.{◌≡◌, ◌<◌, IfOk, IfSome, Some, length, not};
+ghost use Rattle.std.specs.Prelude.{◌≡◌, ◌<◌, IfOk, IfSome, Some, length};
 ghost use Rattle.cover_rules.specs.Pages.{IsPageKey};
 ghost use Rattle.flights.specs.Flights as flights;
 ghost use Rattle.coherence_core.specs.Asking as spec;
@@ -58,20 +58,6 @@ impl Core {
         }
     }
 
-    // Whether no unfinished flush covers the page.
-    pub(crate) fn is_free(&self, auto: bool, key: &PageKey) -> bool
-        ensures { result ≡ not (spec.is_barred self.now.farm.level auto (Some key.now) self.now.queue.items) }
-    {
-        !self.has_flush_of(auto, key)
-    }
-
-    fn has_flush_of(&self, auto: bool, key: &PageKey) -> bool
-        ensures { result ≡ spec.is_barred self.now.farm.level auto (Some key.now) self.now.queue.items }
-    {
-        let level = self.farm.level;
-        self.queue.iter().any(|flush| covers_key(level, auto, flush.purge.invalidation(), key))
-    }
-
     // Whether an unfinished flush covers the page.
     fn is_barred(&self, auto: bool, key: &Option<PageKey>) -> bool
         ensures { result ≡ spec.is_barred self.now.farm.level auto key.now self.now.queue.items }
@@ -90,7 +76,7 @@ fn covers_page(level: usize, auto: bool, inv: &Invalidation, key: &Option<PageKe
     }
 }
 
-fn covers_key(level: usize, auto: bool, inv: &Invalidation, key: &PageKey) -> bool
+pub(crate) fn covers_key(level: usize, auto: bool, inv: &Invalidation, key: &PageKey) -> bool
     ensures { result ≡ flights.covers_page level auto inv.now (Some key.now) }
 {
     covers(level, auto, inv, key)

@@ -6,7 +6,7 @@ ghost use Rattle.docroot_changes.specs.Changes.{Told};
 ghost use Rattle.docroot_changes.specs.DocrootCalls.{MakesDocrootCalls};
 ghost use Rattle.coherence_core.specs.Asking.{next_stamp};
 ghost use Rattle.coherence_core.specs.Cores.{FlightsRise, drawn_of};
-ghost use Rattle.coherence_core.specs.Notes.{Knows};
+ghost use Rattle.coherence_core.specs.Notes.{KnowsDisk};
 ghost use Rattle.coherence_core.specs.Openings.{OpensCore};
 ghost use Rattle.coherence_core.specs.Sessions.{BeginsSession, IsNewCore, KeepsHolds, OpensSession};
 ghost use Rattle.coherence_core.specs.declared.core_state.Core.{Core};
@@ -67,7 +67,7 @@ impl Core {
         ensures rising { IfOk result FlightsRise }
         ensures cause { HasOpenCause (D.faults disk.old) (D.faults disk.new) result }
         ensures calls { MakesDocrootCalls (D.calls disk.old) (D.calls disk.new) }
-        ensures knows { IfOk result (Knows (D.files disk.new)) }
+        ensures knows { IfOk result (KnowsDisk (D.files disk.new)) }
     {
         no_notes_agree_with_any_files();
         let Opened { flights, epoch } = open(alloc, disk)?;

@@ -8,7 +8,7 @@ ghost use Rattle.cache_log.specs.Entries.{Landed as landed_entry, Lost};
 ghost use Rattle.cache_log.specs.Rules.{CallConditions};
 ghost use Rattle.coherence_core.specs.Cores.{ExtendsCore, FlightsRise, KeepsFarm};
 ghost use Rattle.coherence_core.specs.Landings.{DeliveredAs, ForgetsFor, ForgetsFrom, IsKeptAs, IsKeptFrom, IsStored, fate_of, landed_under};
-ghost use Rattle.coherence_core.specs.Notes.{Knows};
+ghost use Rattle.coherence_core.specs.Notes.{KnowsDisk};
 ghost use Rattle.sp_outside.specs.Causes.{IsDiskFailure};
 
 use crate::answers::Landed;
@@ -47,7 +47,7 @@ impl Core {
         ensures queue { self.new.queue ≡ self.old.queue }
         ensures rising { FlightsRise self.old → FlightsRise self.new }
         ensures kept { KeepsFarm self.old self.new }
-        ensures knows { Knows (D.files disk.old) self.old → Knows (D.files disk.new) self.new }
+        ensures knows { KnowsDisk (D.files disk.old) self.old → KnowsDisk (D.files disk.new) self.new }
     {
         coverage_by_three_facts();
         the_numbers_of_flights_rise();
@@ -66,7 +66,7 @@ impl Core {
         ensures queue { self.new.queue ≡ self.old.queue }
         ensures rising { FlightsRise self.old → FlightsRise self.new }
         ensures kept { KeepsFarm self.old self.new }
-        ensures knows { (told : Option Files) → Knows told self.old → Knows told self.new }
+        ensures knows { (told : Option Files) → KnowsDisk told self.old → KnowsDisk told self.new }
     {
         the_numbers_of_flights_rise();
         self.flights.lose(ticket);

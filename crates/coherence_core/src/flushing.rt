@@ -3,7 +3,7 @@ ghost use Rattle.std.specs.Prelude.{◌≡◌, ◌<◌, length};
 ghost use Rattle.docroot_changes.specs.DocrootCalls.{MakesDocrootCalls};
 ghost use Rattle.coherence_core.specs.Cores.{ExtendsCore, KeepsFarm, flush_numbers};
 ghost use Rattle.coherence_core.specs.Flushes.{IsFirstSliced, PurgedAs, flushes_left_by, purged_entries, purged_under};
-ghost use Rattle.coherence_core.specs.Notes.{Knows};
+ghost use Rattle.coherence_core.specs.Notes.{KnowsDisk};
 ghost use Rattle.sp_outside.specs.Causes.{IsDiskFailure};
 
 use crate::answers::Purged;
@@ -27,7 +27,7 @@ impl Core {
         ensures flights { self.new.flights ≡ self.old.flights }
         ensures asked { self.new.asked ≡ self.old.asked }
         ensures kept { KeepsFarm self.old self.new }
-        ensures knows { Knows (D.files disk.old) self.old → Knows (D.files disk.new) self.new }
+        ensures knows { KnowsDisk (D.files disk.old) self.old → KnowsDisk (D.files disk.new) self.new }
     {
         coverage_by_three_facts();
         docroot_calls_add_up();

@@ -1,6 +1,6 @@
 //! What the core takes of the layers below, and what follows from what a core stands for: laws, on functions that do nothing but to call
 //! others.
-ghost use Rattle.std.specs.Prelude.{◌≡◌, ◌≤◌, ◌++◌, ℕ, IsTrue, List, [], ◌∷◌, Some, Ok};
+ghost use Rattle.std.specs.Prelude.{◌≡◌, ◌≤◌, ◌++◌, ℕ, Contains, IsTrue, List, [], ◌∷◌, Some, Ok};
 ghost use Rattle.std.specs.FinMap.{empty};
 ghost use Rattle.sp_base.specs.Texts.{Segments};
 ghost use Rattle.sp_base.specs.declared.answer.Answer.{Answer};
@@ -11,23 +11,27 @@ ghost use Rattle.cover_rules.specs.declared.page.PageKey.{PageKey};
 ghost use Rattle.cover_rules.specs.declared.stamp.Stamp.{Stamp};
 ghost use Rattle.dispatch_rules.specs.Caching.{is_auto};
 ghost use Rattle.docroot_format.specs.Names.{epoch_name};
+ghost use Rattle.cache_files.specs.declared.head_note.HeadNote.{HeadNote};
 ghost use Rattle.cache_files.specs.declared.page.Page.{Page};
 ghost use Rattle.cache_files.specs.Epochs.{next_epoch};
-ghost use Rattle.cache_files.specs.Pages.{page_at};
+ghost use Rattle.cache_files.specs.Pages.{head_at, page_at};
 ghost use Rattle.stat_files.specs.Stamps.{stamp_at};
 ghost use Rattle.docroot_changes.specs.Changes.{IsStampFolder};
+ghost use Rattle.flights.specs.declared.flight.Flight.{Flight};
 ghost use Rattle.cache_log.specs.Entries.{LogEntry, Session};
 ghost use Rattle.cache_log.specs.Hits.{MayHit};
 ghost use Rattle.cache_log.specs.Rules.{AllAllowed, CallConditions, IsIdle, IsLegal, KeepsBound};
+ghost use Rattle.coherence_core.specs.Asking.{next_stamp};
 ghost use Rattle.coherence_core.specs.Closings.{IsClosing};
 ghost use Rattle.coherence_core.specs.Cores.{StandsOver, flushes_of};
 ghost use Rattle.coherence_core.specs.Facts.{CoverageFacts};
 ghost use Rattle.coherence_core.specs.Holds.{Holds, HoldsClosed, files_counted};
 ghost use Rattle.coherence_core.specs.Openings.{IsCleared, IsCoreOpened};
-ghost use Rattle.coherence_core.specs.Served.{IsFresh, stat_for};
+ghost use Rattle.coherence_core.specs.Served.{Before, IsFresh, stat_for};
 ghost use Rattle.coherence_core.specs.Sessions.{closing_entries, failed_entries};
 ghost use Rattle.coherence_core.specs.StampTies.{IsStampOfTouch, MayHitOfStamp, first_epoch};
 ghost use Rattle.coherence_core.specs.declared.core_state.Core.{Core};
+ghost use Rattle.coherence_core.specs.declared.pending.Pending.{Pending};
 
 use cache_files::empty_files_hold_no_page;
 use cover_rules::{a_touch_outdates_the_pages_of_its_folders, the_key_of_a_path_is_a_page_key};
@@ -89,6 +93,16 @@ pub fn stamps_are_of_flights_and_flushes()
     ensures page { (found : ℕ) (files : Files) (core : Core) (log : List LogEntry) (key : PageKey) (page : Page) → StandsOver found files core log → IsPageKey key → page_at files key ≡ Some page → IsFresh (is_auto core.farm key) (stat_for core.farm (stamp_at files) key) page.stamp → first_epoch log ≤ page.stamp.epoch → MayHitOfStamp core.farm log key page.answer page.stamp }
     ensures hit { (farm : Farm) (log : List LogEntry) (key : PageKey) (answer : Answer) (stamp : Stamp) → MayHitOfStamp farm log key answer stamp → MayHit farm log key answer }
     ensures folder { (found : ℕ) (files : Files) (core : Core) (log : List LogEntry) (folder : Segments) (stamp : Stamp) → StandsOver found files core log → IsStampFolder folder → stamp_at files folder ≡ Some stamp → first_epoch log ≤ stamp.epoch → IsStampOfTouch core.farm log folder stamp }
+{}
+
+/// The stamp that is drawn next is after each that was drawn and still stands, also over a restart: that of each head in the files, whether or not
+/// its page's body is there and fits (`head`), of each `.stat` file (`folder`), of each flight in the air (`flight`), and of each unfinished flush
+/// (`flush`).
+pub fn each_stamp_is_before_the_next()
+    ensures head { (found : ℕ) (files : Files) (core : Core) (log : List LogEntry) (key : PageKey) (head : HeadNote) → StandsOver found files core log → IsPageKey key → head_at files key ≡ Some head → Before head.stamp (next_stamp core) }
+    ensures folder { (found : ℕ) (files : Files) (core : Core) (log : List LogEntry) (folder : Segments) (stamp : Stamp) → StandsOver found files core log → IsStampFolder folder → stamp_at files folder ≡ Some stamp → Before stamp (next_stamp core) }
+    ensures flight { (found : ℕ) (files : Files) (core : Core) (log : List LogEntry) (flight : Flight) → StandsOver found files core log → Contains core.flights flight → Before flight.stamp (next_stamp core) }
+    ensures flush { (found : ℕ) (files : Files) (core : Core) (log : List LogEntry) (flush : Pending) → StandsOver found files core log → Contains core.queue.items flush → Before flush.purge.stamp (next_stamp core) }
 {}
 
 /// Where a session was just opened, and no file is a page file or a .stat file, the core and the files stand for the log of this session alone.

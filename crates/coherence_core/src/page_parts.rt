@@ -3,21 +3,18 @@ ghost use Rattle.std.specs.Prelude.{◌≡◌, ◌&&◌, ℕ, IfOk, IfSome, IsTr
 ghost use Rattle.cover_rules.specs.Coverage.{stat_folder};
 ghost use Rattle.cover_rules.specs.Pages.{IsPageKey};
 ghost use Rattle.cover_rules.specs.declared.invalidation.Invalidation.{Invalidation};
-ghost use Rattle.dispatch_rules.specs.Caching.{is_auto};
-ghost use Rattle.docroot_format.specs.Faults.{HasFileCause};
 ghost use Rattle.docroot_changes.specs.Changes.{IsStampFolder};
-ghost use Rattle.docroot_changes.specs.DocrootCalls.{MakesDocrootCalls};
 ghost use Rattle.cache_files.specs.Pages.{head_at, known_at};
 ghost use Rattle.page_index.specs.Agreement.{Agrees, HasNoneCovered};
 ghost use Rattle.page_index.specs.Notes.{head_noted};
 ghost use Rattle.sp_base.specs.Paths.{is_path};
 ghost use Rattle.stat_files.specs.Outdated as outdated;
 ghost use Rattle.stat_files.specs.Stamps.{stamp_at};
-ghost use Rattle.coherence_core.specs.Lookups.{IfAgreed, NotesPage};
+ghost use Rattle.coherence_core.specs.Lookups.{IfAgreed, IsLook, NotesPage, ReadsFiles, stat_asked};
 
 use crate::laws::coverage_by_three_facts;
+use crate::look::{Look, may_be_noted};
 use crate::noting::{note_head, note_hit, note_stamp};
-use any_config::Farm;
 use cache_files::{HeadNote, a_page_is_its_head_and_its_body, get_head, get_known};
 use cover_rules::{PageKey, Stamp, stat_depth};
 use docroot_changes::{docroot_calls_add_up, pages_take_docroot_calls, stamps_take_docroot_calls};
@@ -35,21 +32,17 @@ pub(crate) fn head_of<D: Disk>(
     alloc: Global,
     disk: &mut D,
     pages: &mut PageIndex,
-    farm: &Farm,
-    key: &PageKey,
-    is_free: bool,
+    look: &Look,
 ) -> Result<Option<HeadNote>, FileFault>
-    requires { IsPageKey key.now }
-    ensures value { IfOk result (λ head. IfAgreed (D.files disk.old) pages.old (λ files. head_at files key.now ≡ head)) }
-    ensures notes { NotesPage farm.now key.now is_free (D.files disk.old) pages.old pages.new }
-    ensures files { D.files disk.new ≡ D.files disk.old }
-    ensures cause { HasFileCause (D.faults disk.old) (D.faults disk.new) result }
-    ensures calls { MakesDocrootCalls (D.calls disk.old) (D.calls disk.new) }
+    requires { IsLook look.now }
+    ensures value { IfOk result (λ head. IfAgreed (D.files disk.old) pages.old (λ files. head_at files look.now.key.now ≡ head)) }
+    ensures notes { NotesPage look.now (D.files disk.old) pages.old pages.new }
+    ensures reads { ReadsFiles (D.files disk.old) (D.files disk.new) (D.faults disk.old) (D.faults disk.new) (D.calls disk.old) (D.calls disk.new) result }
 {
     docroot_calls_add_up();
-    match noted_head(alloc, pages, key)? {
+    match noted_head(alloc, pages, look.key)? {
         Some(head) => Ok(head),
-        None => read_head(alloc, disk, pages, farm, key, is_free),
+        None => read_head(alloc, disk, pages, look),
     }
 }
 
@@ -79,24 +72,19 @@ fn read_head<D: Disk>(
     alloc: Global,
     disk: &mut D,
     pages: &mut PageIndex,
-    farm: &Farm,
-    key: &PageKey,
-    is_free: bool,
+    look: &Look,
 ) -> Result<Option<HeadNote>, FileFault>
-    requires { IsPageKey key.now }
-    ensures value { IfOk result (λ head. IfAgreed (D.files disk.old) pages.old (λ files. head_at files key.now ≡ head)) }
-    ensures notes { NotesPage farm.now key.now is_free (D.files disk.old) pages.old pages.new }
-    ensures files { D.files disk.new ≡ D.files disk.old }
-    ensures cause { HasFileCause (D.faults disk.old) (D.faults disk.new) result }
-    ensures calls { MakesDocrootCalls (D.calls disk.old) (D.calls disk.new) }
+    requires { IsLook look.now }
+    ensures value { IfOk result (λ head. IfAgreed (D.files disk.old) pages.old (λ files. head_at files look.now.key.now ≡ head)) }
+    ensures notes { NotesPage look.now (D.files disk.old) pages.old pages.new }
+    ensures reads { ReadsFiles (D.files disk.old) (D.files disk.new) (D.faults disk.old) (D.faults disk.new) (D.calls disk.old) (D.calls disk.new) result }
 {
-    coverage_by_three_facts();
     pages_take_docroot_calls();
-    let head = get_head(alloc, disk, key)?;
-    if !is_free {
+    let head = get_head(alloc, disk, look.key)?;
+    if !may_be_noted(look) {
         return Ok(head);
     }
-    note_head(alloc, pages, key, &head);
+    note_head(alloc, pages, look.key, &head);
     Ok(head)
 }
 
@@ -107,23 +95,17 @@ pub(crate) fn is_stale<D: Disk>(
     alloc: Global,
     disk: &mut D,
     pages: &mut PageIndex,
-    farm: &Farm,
-    key: &PageKey,
-    auto: bool,
-    is_free: bool,
+    look: &Look,
     page: Stamp,
 ) -> Result<bool, FileFault>
-    requires key { IsPageKey key.now }
-    requires auto { auto ≡ is_auto farm.now key.now }
-    ensures value { IfOk result (λ is. IfAgreed (D.files disk.old) pages.old (λ files. (auto && outdated.outdates_page (stamp_at files (stat_folder farm.now.level key.now)) page) ≡ is)) }
-    ensures notes { NotesPage farm.now key.now is_free (D.files disk.old) pages.old pages.new }
-    ensures files { D.files disk.new ≡ D.files disk.old }
-    ensures cause { HasFileCause (D.faults disk.old) (D.faults disk.new) result }
-    ensures calls { MakesDocrootCalls (D.calls disk.old) (D.calls disk.new) }
+    requires { IsLook look.now }
+    ensures value { IfOk result (λ is. IfAgreed (D.files disk.old) pages.old (λ files. (look.now.auto && outdated.outdates_page (stat_asked look.now files) page) ≡ is)) }
+    ensures notes { NotesPage look.now (D.files disk.old) pages.old pages.new }
+    ensures reads { ReadsFiles (D.files disk.old) (D.files disk.new) (D.faults disk.old) (D.faults disk.new) (D.calls disk.old) (D.calls disk.new) result }
 {
     docroot_calls_add_up();
-    if auto {
-        is_outdated(alloc, disk, pages, farm, key, is_free, page)
+    if look.auto {
+        is_outdated(alloc, disk, pages, look, page)
     } else {
         Ok(false)
     }
@@ -134,25 +116,24 @@ fn is_outdated<D: Disk>(
     alloc: Global,
     disk: &mut D,
     pages: &mut PageIndex,
-    farm: &Farm,
-    key: &PageKey,
-    is_free: bool,
+    look: &Look,
     page: Stamp,
 ) -> Result<bool, FileFault>
-    requires key { IsPageKey key.now }
-    requires auto { is_auto farm.now key.now ≡ true }
-    ensures value { IfOk result (λ is. IfAgreed (D.files disk.old) pages.old (λ files. outdated.outdates_page (stamp_at files (stat_folder farm.now.level key.now)) page ≡ is)) }
-    ensures notes { NotesPage farm.now key.now is_free (D.files disk.old) pages.old pages.new }
-    ensures files { D.files disk.new ≡ D.files disk.old }
-    ensures cause { HasFileCause (D.faults disk.old) (D.faults disk.new) result }
-    ensures calls { MakesDocrootCalls (D.calls disk.old) (D.calls disk.new) }
+    requires look { IsLook look.now }
+    requires auto { look.now.auto ≡ true }
+    ensures value { IfOk result (λ is. IfAgreed (D.files disk.old) pages.old (λ files. outdated.outdates_page (stat_asked look.now files) page ≡ is)) }
+    ensures notes { NotesPage look.now (D.files disk.old) pages.old pages.new }
+    ensures reads { ReadsFiles (D.files disk.old) (D.files disk.new) (D.faults disk.old) (D.faults disk.new) (D.calls disk.old) (D.calls disk.new) result }
 {
     coverage_by_three_facts();
     docroot_calls_add_up();
-    let folder = key.folder.first(alloc, stat_depth(farm.level, key))?;
+    let folder = look
+        .key
+        .folder
+        .first(alloc, stat_depth(look.farm.level, look.key))?;
     // The law of its calls speaks of a path, and that the folder is one is a clause of its depth.
     let _depth = folder.depth();
-    let stat = folder_stamp(alloc, disk, pages, farm, key, is_free, &folder)?;
+    let stat = folder_stamp(alloc, disk, pages, look, &folder)?;
     Ok(outdates_page(stat, page))
 }
 
@@ -161,26 +142,22 @@ fn folder_stamp<D: Disk>(
     alloc: Global,
     disk: &mut D,
     pages: &mut PageIndex,
-    farm: &Farm,
-    key: &PageKey,
-    is_free: bool,
+    look: &Look,
     folder: &Path,
 ) -> Result<Option<Stamp>, FileFault>
-    requires key { IsPageKey key.now }
-    requires auto { is_auto farm.now key.now ≡ true }
-    requires folder { folder.now ≡ stat_folder farm.now.level key.now }
+    requires look { IsLook look.now }
+    requires auto { look.now.auto ≡ true }
+    requires folder { folder.now ≡ stat_folder look.now.farm.now.level look.now.key.now }
     requires path { IsTrue (is_path folder.now) }
     requires stamp { IsStampFolder folder.now }
     ensures value { IfOk result (λ stamp. IfAgreed (D.files disk.old) pages.old (λ files. stamp_at files folder.now ≡ stamp)) }
-    ensures notes { NotesPage farm.now key.now is_free (D.files disk.old) pages.old pages.new }
-    ensures files { D.files disk.new ≡ D.files disk.old }
-    ensures cause { HasFileCause (D.faults disk.old) (D.faults disk.new) result }
-    ensures calls { MakesDocrootCalls (D.calls disk.old) (D.calls disk.new) }
+    ensures notes { NotesPage look.now (D.files disk.old) pages.old pages.new }
+    ensures reads { ReadsFiles (D.files disk.old) (D.files disk.new) (D.faults disk.old) (D.faults disk.new) (D.calls disk.old) (D.calls disk.new) result }
 {
     docroot_calls_add_up();
     match pages.stat(folder) {
         Some(stamp) => Ok(stamp),
-        None => read_stamp(alloc, disk, pages, farm, key, is_free, folder),
+        None => read_stamp(alloc, disk, pages, look, folder),
     }
 }
 
@@ -189,26 +166,22 @@ fn read_stamp<D: Disk>(
     alloc: Global,
     disk: &mut D,
     pages: &mut PageIndex,
-    farm: &Farm,
-    key: &PageKey,
-    is_free: bool,
+    look: &Look,
     folder: &Path,
 ) -> Result<Option<Stamp>, FileFault>
-    requires key { IsPageKey key.now }
-    requires auto { is_auto farm.now key.now ≡ true }
-    requires folder { folder.now ≡ stat_folder farm.now.level key.now }
+    requires look { IsLook look.now }
+    requires auto { look.now.auto ≡ true }
+    requires folder { folder.now ≡ stat_folder look.now.farm.now.level look.now.key.now }
     requires path { IsTrue (is_path folder.now) }
     ensures value { IfOk result (λ stamp. IfSome (D.files disk.old) (λ files. stamp_at files folder.now ≡ stamp)) }
-    ensures notes { NotesPage farm.now key.now is_free (D.files disk.old) pages.old pages.new }
-    ensures files { D.files disk.new ≡ D.files disk.old }
-    ensures cause { HasFileCause (D.faults disk.old) (D.faults disk.new) result }
-    ensures calls { MakesDocrootCalls (D.calls disk.old) (D.calls disk.new) }
+    ensures notes { NotesPage look.now (D.files disk.old) pages.old pages.new }
+    ensures reads { ReadsFiles (D.files disk.old) (D.files disk.new) (D.faults disk.old) (D.faults disk.new) (D.calls disk.old) (D.calls disk.new) result }
 {
     coverage_by_three_facts();
     folders_are_mangled();
     stamps_take_docroot_calls();
     let stamp = stamp_of(alloc, disk, folder)?;
-    if is_free {
+    if may_be_noted(look) {
         note_stamp(alloc, pages, folder, stamp);
     }
     Ok(stamp)
@@ -216,22 +189,19 @@ fn read_stamp<D: Disk>(
 
 // ---- the body
 
-// Reads the page under its head, and counts the hit where it may be noted.
+// Reads the page under its head, and counts the hit. That is noted of a page alone whose head is.
 pub(crate) fn read_body<D: Disk>(
     alloc: Global,
     disk: &mut D,
     pages: &mut PageIndex,
     key: &PageKey,
-    is_free: bool,
     head: &HeadNote,
 ) -> Result<Option<Answer>, FileFault>
     requires { IsPageKey key.now }
     ensures value { IfOk result (λ answer. IfSome (D.files disk.old) (λ files. option_map (λ page. page.answer) (known_at files key.now head.now) ≡ answer)) }
     ensures agree { IfSome (D.files disk.old) (λ files. head_at files key.now ≡ Some head.now → Agrees pages.old files → Agrees pages.new files) }
     ensures apart { (level : ℕ) (inv : Invalidation) → HasNoneCovered level inv pages.old → HasNoneCovered level inv pages.new }
-    ensures files { D.files disk.new ≡ D.files disk.old }
-    ensures cause { HasFileCause (D.faults disk.old) (D.faults disk.new) result }
-    ensures calls { MakesDocrootCalls (D.calls disk.old) (D.calls disk.new) }
+    ensures reads { ReadsFiles (D.files disk.old) (D.files disk.new) (D.faults disk.old) (D.faults disk.new) (D.calls disk.old) (D.calls disk.new) result }
 {
     a_page_is_its_head_and_its_body();
     pages_take_docroot_calls();
@@ -239,8 +209,6 @@ pub(crate) fn read_body<D: Disk>(
         return Ok(None);
     };
     let mut answer = page.answer;
-    if is_free {
-        note_hit(alloc, pages, key, &mut answer.body);
-    }
+    note_hit(alloc, pages, key, &mut answer.body);
     Ok(Some(answer))
 }

@@ -3,19 +3,20 @@ ghost use Rattle.std.specs.Prelude.{◌≡◌, ◌++◌, ℕ, false, IfOk, List}
 ghost use Rattle.cover_rules.specs.Pages.{IsPageKey};
 ghost use Rattle.dispatch_rules.specs.Caching.{is_auto};
 ghost use Rattle.docroot_changes.specs.DocrootCalls.{MakesDocrootCalls};
-ghost use Rattle.docroot_format.specs.Faults.{HasFileCause};
 ghost use Rattle.flights.specs.Flights.{numbers_of};
 ghost use Rattle.cache_log.specs.Entries.{LogEntry};
 ghost use Rattle.coherence_core.specs.Asking.{IsLookedUp, KeyedAs, RequestedAs};
-ghost use Rattle.coherence_core.specs.Cores.{ExtendsCore, FlightsRise, KeepsFarm, StandsFor, flight_labels, flush_numbers};
-ghost use Rattle.coherence_core.specs.Notes.{Knows, Learns, with_notes};
+ghost use Rattle.coherence_core.specs.Cores.{ExtendsCore, FlightsRise, KeepsFarm, CoreStandsFor, flight_labels, flush_numbers};
+ghost use Rattle.coherence_core.specs.Lookups.{ReadsFiles};
+ghost use Rattle.coherence_core.specs.Notes.{KnowsDisk, KnowsDiskWith, with_notes};
 ghost use Rattle.coherence_core.specs.Requests.{GotAs, got_entries, got_flights, got_flushes, got_labels, requested_under};
 ghost use Rattle.sp_outside.specs.Causes.{IsDiskFailure};
 
 use crate::answers::{Got, Requested};
 use crate::core_state::Core;
 use crate::laws::coverage_by_three_facts;
-use crate::lookup::look;
+use crate::look::Look;
+use crate::lookup::look_up;
 use cache_files::a_page_is_its_head_and_its_body;
 use cover_rules::PageKey;
 use dispatch_rules::{admits, auto_of, key_of};
@@ -37,7 +38,7 @@ impl Core {
         peer: &str,
     ) -> Requested
         ensures log { ExtendsCore (D.files disk.old) self.old (D.files disk.new) self.new (requested_under result) (got_entries result.got) }
-        ensures cause { (found : ℕ) (log : List LogEntry) → StandsFor found (D.files disk.old) self.old log → GotAs self.old log req.now peer.now result.disk_failed result.got }
+        ensures cause { (found : ℕ) (log : List LogEntry) → CoreStandsFor found (D.files disk.old) self.old log → GotAs self.old log req.now peer.now result.disk_failed result.got }
         ensures came { RequestedAs (D.files disk.old) self.old self.new req.now peer.now result }
         ensures files { D.files disk.new ≡ D.files disk.old }
         ensures disk_failed { IsDiskFailure (D.faults disk.old) (D.faults disk.new) result.disk_failed }
@@ -47,7 +48,7 @@ impl Core {
         ensures flushes { flush_numbers self.new.queue.items ≡ flush_numbers self.old.queue.items ++ got_flushes result.got }
         ensures rising { FlightsRise self.old → FlightsRise self.new }
         ensures kept { KeepsFarm self.old self.new }
-        ensures knows { Knows (D.files disk.old) self.old → Knows (D.files disk.new) self.new }
+        ensures knows { KnowsDisk (D.files disk.old) self.old → KnowsDisk (D.files disk.new) self.new }
     {
         a_page_is_its_head_and_its_body();
         coverage_by_three_facts();
@@ -115,14 +116,17 @@ impl Core {
         requires page { IsPageKey key.now }
         requires auto { auto ≡ is_auto self.old.farm key.now }
         ensures notes { self.new ≡ with_notes self.old self.new.pages }
-        ensures learns { Learns (D.files disk.old) self.old self.new.pages }
-        ensures value { IfOk result (λ found. Knows (D.files disk.old) self.old → IsLookedUp (D.files disk.old) self.old.farm key.now found) }
-        ensures files { D.files disk.new ≡ D.files disk.old }
-        ensures cause { HasFileCause (D.faults disk.old) (D.faults disk.new) result }
-        ensures calls { MakesDocrootCalls (D.calls disk.old) (D.calls disk.new) }
+        ensures learns { KnowsDiskWith (D.files disk.old) self.old self.new.pages }
+        ensures value { IfOk result (λ found. KnowsDisk (D.files disk.old) self.old → IsLookedUp (D.files disk.old) self.old.farm key.now found) }
+        ensures reads { ReadsFiles (D.files disk.old) (D.files disk.new) (D.faults disk.old) (D.faults disk.new) (D.calls disk.old) (D.calls disk.new) result }
     {
-        let is_free = self.is_free(auto, key);
-        look(alloc, disk, &mut self.pages, &self.farm, key, auto, is_free)
+        let look = Look {
+            farm: &self.farm,
+            queue: &self.queue,
+            key,
+            auto,
+        };
+        look_up(alloc, disk, &mut self.pages, &look)
     }
 }
 

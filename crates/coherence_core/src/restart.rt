@@ -4,7 +4,7 @@ ghost use Rattle.cache_files.specs.Epochs.{HasOpenCause, next_epoch};
 ghost use Rattle.docroot_changes.specs.Changes.{BesideNumber, Told};
 ghost use Rattle.docroot_changes.specs.DocrootCalls.{MakesDocrootCalls};
 ghost use Rattle.coherence_core.specs.Cores.{ExtendsCore, FlightsRise, flush_numbers};
-ghost use Rattle.coherence_core.specs.Notes.{Knows};
+ghost use Rattle.coherence_core.specs.Notes.{KnowsDisk};
 ghost use Rattle.coherence_core.specs.Sessions.{restarted_entries, restarted_under};
 
 use crate::core_state::Core;
@@ -32,7 +32,7 @@ impl Core {
         ensures files { Told BesideNumber (D.files disk.old) (D.files disk.new) }
         ensures cause { HasOpenCause (D.faults disk.old) (D.faults disk.new) result }
         ensures calls { MakesDocrootCalls (D.calls disk.old) (D.calls disk.new) }
-        ensures knows { Knows (D.files disk.new) self.new }
+        ensures knows { KnowsDisk (D.files disk.new) self.new }
     {
         coverage_by_three_facts();
         what_an_opening_sets();

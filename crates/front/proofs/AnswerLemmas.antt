@@ -20,7 +20,7 @@ use Rattle.invalidation.specs.Invalidations.{invalidation_of, is_invalidation}
 use Rattle.invalidation.specs.declared.inv_fault.InvFault.{InvFault}
 use Rattle.cache_log.specs.Entries.{LogEntry, flights_asked, flushes_begun, is_up, stamps_drawn}
 use Rattle.cache_log.specs.Rules.{IsOwed}
-use Rattle.coherence_core.specs.Cores.{ExtendsCore, FlightsRise, KeepsFarm, StandsFor, drawn_of, flight_labels, flights_of, flush_numbers, flushes_of}
+use Rattle.coherence_core.specs.Cores.{ExtendsCore, FlightsRise, KeepsFarm, CoreStandsFor, drawn_of, flight_labels, flights_of, flush_numbers, flushes_of}
 use Rattle.coherence_core.specs.Requests.{GotAs, HasRoomToFlush, MayFlush, ReachesCache, ReachesPublisher, got_entries, got_flights, got_flushes, got_labels, requested_under}
 use Rattle.coherence_core.specs.declared.answers.Got.{Got}
 use Rattle.coherence_core.specs.declared.answers.Requested.{Requested}

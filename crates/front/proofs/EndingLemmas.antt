@@ -21,7 +21,7 @@ use Rattle.flights.specs.declared.flight.Flight.{Flight}
 use Rattle.cache_log.specs.Entries.{Fate, Kept, Landed, LogEntry, Lost as lost_entry, Passed, Unkept, flights_asked, flushes_begun}
 use Rattle.cache_log.specs.Ids.{FlightId}
 use Rattle.cache_log.specs.Rules.{CallConditions, HasFallenShort, MayStore}
-use Rattle.coherence_core.specs.Cores.{ExtendsCore, FlightsRise, KeepsFarm, StandsFor, farm_of, flight_labels, flights_of, flush_numbers, flushes_of}
+use Rattle.coherence_core.specs.Cores.{ExtendsCore, FlightsRise, KeepsFarm, CoreStandsFor, farm_of, flight_labels, flights_of, flush_numbers, flushes_of}
 use Rattle.coherence_core.specs.Landings.{IsKeptAs, fate_of, landed_under}
 use Rattle.coherence_core.specs.declared.answers.Landed.{Landed as LandedAs}
 use Rattle.coherence_core.specs.declared.answers.Landed.TheVariants as landed
@@ -199,7 +199,7 @@ is-at core ts fs files faults w i t ticketed stands at =
 -- what stands behind the connections once the flight is out of the air, with the entry that says so
 over-behind : (core after_ : Core) (ts : List TicketedFlight) (fs : List Flushing) (files later : Option Files) (faults after_faults : ℕ) (w : RunState) (i : ℕ) (t : TicketedFlight) (answer : Answer) (entry : LogEntry)
     → BehindStandsFor (behind (record { core = core; flying = flying_of ts; flushes = fs }) files faults) w → IsAt core ts w i t → flights_of after_ ≡ without t.ticket (flights_of core) → after_.queue ≡ core.queue → KeepsFarm core after_
-    → StandsFor w.found later after_ (entry ∷ w.log) → flights_asked (entry ∷ w.log) ≡ flights_asked w.log → flushes_begun (entry ∷ w.log) ≡ flushes_begun w.log
+    → CoreStandsFor w.found later after_ (entry ∷ w.log) → flights_asked (entry ∷ w.log) ≡ flights_asked w.log → flushes_begun (entry ∷ w.log) ≡ flushes_begun w.log
     → BehindStandsFor (behind (record { core = after_; flying = flying_of (remove ts i); flushes = fs }) later after_faults) (over_with w t.flying.number answer entry (Some t.flying))
 over-behind core after_ ts fs files later faults after_faults w i t answer entry stands is flights queue farm core_is asked begun = record {
   core_is = core_is;

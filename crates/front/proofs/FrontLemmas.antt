@@ -15,7 +15,7 @@ use Rattle.dispatch_rules.specs.Caching.{cache_key}
 use Rattle.http_front.specs.Turns.{Waits}
 use Rattle.cache_log.specs.Entries.{LogEntry, flights_asked}
 use Rattle.cache_log.specs.Rules.{KeepsBound}
-use Rattle.coherence_core.specs.Cores.{StandsFor, StandsOver, flights_of, flushes_of}
+use Rattle.coherence_core.specs.Cores.{CoreStandsFor, StandsOver, flights_of, flushes_of}
 use Rattle.coherence_core.specs.Sessions.{BeginsSession}
 use Rattle.coherence_core.specs.declared.core_state.Core.{Core}
 use Rattle.connections.specs.Connections.{Connection}
@@ -218,7 +218,7 @@ board-tells p content b h step effect still tells = λ w stands.
     }
 
 -- ---- the notes of a step
-bound-of : ((found : ℕ) (files : Files) (core : Core) (log : List LogEntry) → StandsOver found files core log → KeepsBound core.farm found log) → (found : ℕ) (told : Option Files) (core : Core) (log : List LogEntry) → StandsFor found told core log → KeepsBound core.farm found log
+bound-of : ((found : ℕ) (files : Files) (core : Core) (log : List LogEntry) → StandsOver found files core log → KeepsBound core.farm found log) → (found : ℕ) (told : Option Files) (core : Core) (log : List LogEntry) → CoreStandsFor found told core log → KeepsBound core.farm found log
 bound-of bound found None core log stands = absurd stands
 bound-of bound found (Some files) core log stands = bound found files core log stands
 

@@ -10,7 +10,7 @@ use Rattle.cache_files.specs.declared.epoch.OpenFault.{OpenFault}
 use Rattle.cache_files.specs.declared.epoch.OpenFault.TheVariants as open_fault
 use Rattle.cache_log.specs.Entries.{Down as down_entry, Ended, Failed as failed_outcome, LogEntry, Up as up_entry, flights_asked, flushes_begun}
 use Rattle.cache_log.specs.Rules.{Allowed, CallConditions}
-use Rattle.coherence_core.specs.Cores.{ExtendsCore, StandsFor, flight_labels, flights_of, flushes_of}
+use Rattle.coherence_core.specs.Cores.{ExtendsCore, CoreStandsFor, flight_labels, flights_of, flushes_of}
 use Rattle.coherence_core.specs.Sessions.{failed_entries, restarted_entries, restarted_under}
 use Rattle.coherence_core.specs.declared.core_state.Core.{Core}
 use Rattle.connections.specs.Connections.{Connection, with_end}
@@ -78,7 +78,7 @@ added core after_ gs fs files later faults after_faults under entry empty flight
     let none : gs ≡ [] = no-labels w gs (sym (ap flight_labels empty) ∙ stands.flights_are) in
     record {
       stands = record {
-        core_is = subst (λ n. StandsFor n later after_ (entry ∷ s.log)) (sym cut.found) (subst (λ l. StandsFor w.found later after_ (entry ∷ l)) log_is (extends.stands w.log stands.core_is));
+        core_is = subst (λ n. CoreStandsFor n later after_ (entry ∷ s.log)) (sym cut.found) (subst (λ l. CoreStandsFor w.found later after_ (entry ∷ l)) log_is (extends.stands w.log stands.core_is));
         farm_is = cut.farm ∙ stands.farm_is ∙ sym farm;
         flying_is = stands.flying_is ∙ sym cut.flights;
         rising = subst (λ hs. AirRises 0 hs (flights_asked (entry ∷ s.log))) (sym none) (omega arith);

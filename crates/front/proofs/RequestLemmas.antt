@@ -20,7 +20,7 @@ use Rattle.invalidation.specs.Invalidations.{invalidation_of, is_invalidation}
 use Rattle.invalidation.specs.declared.inv_fault.InvFault.{InvFault}
 use Rattle.cache_log.specs.Entries.{LogEntry, flights_asked, flushes_begun, is_up, stamps_drawn}
 use Rattle.cache_log.specs.Rules.{IsOwed}
-use Rattle.coherence_core.specs.Cores.{ExtendsCore, FlightsRise, KeepsFarm, StandsFor, drawn_of, flight_labels, flights_of, flush_numbers, flushes_of}
+use Rattle.coherence_core.specs.Cores.{ExtendsCore, FlightsRise, KeepsFarm, CoreStandsFor, drawn_of, flight_labels, flights_of, flush_numbers, flushes_of}
 use Rattle.coherence_core.specs.Requests.{GotAs, HasRoomToFlush, MayFlush, ReachesCache, ReachesPublisher, got_entries, got_flights, got_flushes, got_labels, requested_under}
 use Rattle.coherence_core.specs.declared.answers.Got.{Got}
 use Rattle.coherence_core.specs.declared.answers.Requested.{Requested}
@@ -51,7 +51,7 @@ use Rattle.sp_outside.specs.Causes.{IsDiskFailure}
 -- what the core's answer says of it
 pub record CoreGot (old : Behind) (core : Core) (files : Option Files) (faults : ℕ) (request : Request) (peer : List ℕ) (disk_failed : Bool) (out : Got) : Type 0 where
   pub log : ExtendsCore old.files old.cache.core files core (requested_under (record { got = out; disk_failed = disk_failed })) (got_entries out)
-  pub cause : (found : ℕ) (log : List LogEntry) → StandsFor found old.files old.cache.core log → GotAs old.cache.core log request peer disk_failed out
+  pub cause : (found : ℕ) (log : List LogEntry) → CoreStandsFor found old.files old.cache.core log → GotAs old.cache.core log request peer disk_failed out
   pub disk : IsDiskFailure old.faults faults disk_failed
   pub labels : flight_labels (flights_of core) ≡ flight_labels (flights_of old.cache.core) ++ got_labels out
   pub flushes : flushes_of core ≡ flushes_of old.cache.core ++ got_flushes out
@@ -59,7 +59,7 @@ pub record CoreGot (old : Behind) (core : Core) (files : Option Files) (faults :
 
 pub core-got : (old : Behind) (core : Core) (files : Option Files) (faults : ℕ) (request : Request) (peer : List ℕ) (r : Requested) (out : Got) → r.got ≡ out
     → ExtendsCore old.files old.cache.core files core (requested_under r) (got_entries r.got)
-    → ((found : ℕ) (log : List LogEntry) → StandsFor found old.files old.cache.core log → GotAs old.cache.core log request peer r.disk_failed r.got)
+    → ((found : ℕ) (log : List LogEntry) → CoreStandsFor found old.files old.cache.core log → GotAs old.cache.core log request peer r.disk_failed r.got)
     → IsDiskFailure old.faults faults r.disk_failed → flight_labels (flights_of core) ≡ flight_labels (flights_of old.cache.core) ++ got_labels r.got → flushes_of core ≡ flushes_of old.cache.core ++ got_flushes r.got → KeepsFarm old.cache.core core
     → CoreGot old core files faults request peer r.disk_failed out
 core-got old core files faults request peer r out is log cause disk labels flushes kept = subst (CoreGot old core files faults request peer r.disk_failed) is (record { log = log; cause = cause; disk = disk; labels = labels; flushes = flushes; kept = kept })
@@ -73,11 +73,11 @@ told-failure before after true rose = rose
 told-failure before after false same = same
 
 -- ---- what standing for the log says
-pub down-is : (found : ℕ) (files : Option Files) (core : Core) (log : List LogEntry) → StandsFor found files core log → core.down ≡ not (is_up log)
+pub down-is : (found : ℕ) (files : Option Files) (core : Core) (log : List LogEntry) → CoreStandsFor found files core log → core.down ≡ not (is_up log)
 down-is found None core log stands = absurd stands
 down-is found (Some files) core log stands = stands.down_is
 
-pub drawn-is : (found : ℕ) (files : Option Files) (core : Core) (log : List LogEntry) → StandsFor found files core log → drawn_of core ≡ stamps_drawn log
+pub drawn-is : (found : ℕ) (files : Option Files) (core : Core) (log : List LogEntry) → CoreStandsFor found files core log → drawn_of core ≡ stamps_drawn log
 drawn-is found None core log stands = absurd stands
 drawn-is found (Some files) core log stands = stands.stands.counts.stamps
 

@@ -9,7 +9,7 @@ use Rattle.sp_outside.specs.Files.{Files}
 use Rattle.cache_log.specs.Entries.{Done as done_outcome, Ended as ended_entry, Failed as failed_outcome, LogEntry, FlushOutcome, Sliced as sliced_entry, flights_asked, flushes_begun}
 use Rattle.cache_log.specs.Ids.{FlushId}
 use Rattle.cache_log.specs.Rules.{CallConditions}
-use Rattle.coherence_core.specs.Cores.{ExtendsCore, KeepsFarm, StandsFor, flight_labels, flights_of, flushes_of}
+use Rattle.coherence_core.specs.Cores.{ExtendsCore, KeepsFarm, CoreStandsFor, flight_labels, flights_of, flushes_of}
 use Rattle.coherence_core.specs.Flushes.{PurgedAs, purged_entries, purged_under}
 use Rattle.coherence_core.specs.declared.answers.Purged.{Purged}
 use Rattle.coherence_core.specs.declared.answers.Purged.TheVariants as purged

@@ -2,6 +2,8 @@ pub mod TextLemmas
 pub mod WalkLemmas
 pub mod MarkLemmas
 pub mod MatchLemmas
+pub mod FrontLemmas
+pub mod DecidingLemmas
 pub mod LeadLemmas
 pub mod StandLemmas
 pub mod SoundLemmas

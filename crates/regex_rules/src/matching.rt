@@ -17,13 +17,13 @@ use std::mem;
 
 // The two sets of places: that of the text so far, and the one that a walk makes of it.
 #[derive(Drop)]
-struct Sets {
+pub(crate) struct Sets {
     olds: Marks,
     walk: Walk,
 }
 
 impl Sets {
-    fn new(alloc: Global, number: usize) -> Mem<Sets>
+    pub(crate) fn new(alloc: Global, number: usize) -> Mem<Sets>
         ensures { IfOk result (λ sets. sets.olds ≡ replicate number false) }
     {
         Ok(Sets {
@@ -37,7 +37,7 @@ impl Sets {
     }
 
     // Whether some row may take nothing.
-    fn take_nothing(&mut self, places: &[Place]) -> Mem<bool>
+    pub(crate) fn take_nothing(&mut self, places: &[Place]) -> Mem<bool>
         ensures answer { IfOk result (λ answer. answer ≡ spec.takes_nothing (spec.walked 0 places.now self.old.olds (spec.at (spec.begun true) [] []))) }
         ensures same { OnOk result (self.new.olds ≡ self.old.olds) }
     {
@@ -46,7 +46,7 @@ impl Sets {
     }
 
     // Takes one more character of the text: whether the text is now at the end of a row.
-    fn take(&mut self, c: char, places: &[Place], enters: bool) -> Mem<bool>
+    pub(crate) fn take(&mut self, c: char, places: &[Place], enters: bool) -> Mem<bool>
         ensures answer { IfOk result (λ answer. answer ≡ spec.answer_of (spec.walked c places.now self.old.olds (spec.at (spec.begun enters) [] []))) }
         ensures marks { OnOk result (self.new.olds ≡ (spec.walked c places.now self.old.olds (spec.at (spec.begun enters) [] [])).marks) }
     {

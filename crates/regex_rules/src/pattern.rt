@@ -2,10 +2,12 @@
 ghost use Rattle.std.specs.Prelude.{◌≡◌, ◌≢◌, ◌↔◌, IsTrue, IfOk, IfErr};
 ghost use Rattle.std.specs.Str.{chars};
 ghost use Rattle.regex_rules.specs.Trees.{Tree, tree_of};
+ghost use Rattle.regex_rules.specs.Fronts.{IsLastFront};
 ghost use Rattle.regex_rules.specs.Languages.{InLanguage};
 ghost use Rattle.regex_rules.specs.Spelling.{IsPattern};
 ghost use Rattle.regex_rules.specs.Faults.{IsFault};
 
+use crate::fronts::last_front;
 use crate::matching::is_match;
 use crate::read::read_places;
 use crate::{PatternFault, Place};
@@ -40,6 +42,7 @@ impl Pattern {
     pub fn read(alloc: Global, text: &str) -> Result<Pattern, PatternFault>
         ensures spelled { IfOk result (λ p. (tree : Tree) → IsPattern (chars text.now) tree ↔ tree ≡ tree_of p) }
         ensures fault { IfErr result (λ e. e ≢ PatternFault.NoMemory → IsFault e (chars text.now)) }
+        ensures none { IfErr result (λ e. e ≢ PatternFault.NoMemory → (tree : Tree) → IsPattern (chars text.now) tree → ⊥) }
     {
         match read_places(alloc, text) {
             Ok(places) => Ok(Pattern { places }),
@@ -53,5 +56,13 @@ impl Pattern {
         ensures { IfOk result (λ answer. IsTrue answer ↔ InLanguage (tree_of self.now) (chars text.now)) }
     {
         is_match(alloc, self.places.as_slice(), text)
+    }
+
+    /// How far the longest beginning of the text goes that is in the pattern's language, of those that end at a place or after it,
+    /// and at the text's end or before a `.` or `/`. One walk over the text finds it, which takes what a match takes.
+    pub fn longest_front(&self, alloc: Global, text: &str, from: usize) -> Mem<Option<usize>>
+        ensures { IfOk result (IsLastFront (tree_of self.now) text.now from) }
+    {
+        last_front(alloc, self.places.as_slice(), text, from)
     }
 }

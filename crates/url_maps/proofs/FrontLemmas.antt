@@ -1,0 +1,2 @@
+-- The first front among rows.
+use Rattle.std.proofs.Common.{◌≡◌}

@@ -1,0 +1,2 @@
+-- The rows of an index with the nodes that have a pattern.
+use Rattle.std.proofs.Common.{◌≡◌}

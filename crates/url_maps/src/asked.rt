@@ -21,7 +21,7 @@ pub(crate) struct HostText {
 }
 
 impl Model for HostText {
-    ghost use Rattle.std.specs.Prelude.{◌≡◌, ◌≤◌, ◌×◌, drop, length, take};
+    ghost use Rattle.std.specs.Prelude.{◌≡◌, ◌≤◌, drop, length, take};
     ghost use Rattle.sp_base.specs.Paths.{path_or_none};
     ghost use Rattle.resource_tree.specs.Content.{kid};
     ghost use Rattle.url_maps.specs.Patterns.{Asked, mappings_path};

@@ -1,6 +1,6 @@
 -- The first front among the rows of an index, and the pair that it gives.
 use Rattle.std.proofs.Common.{◌≡◌, ◌≢◌, ◌⊎◌, inl, inr, ◌≤◌, ◌<◌, ◌+◌, ◌-◌, ℕ, suc, Bool, true, false, cond, List, [], ◌∷◌, ◌++◌, Option, Some, None, take, drop, length, get_or, refl, sym, ◌∙◌, ap, subst, arith, ⊎_elim, length-append}
-use Rattle.std.specs.Prelude.{◌==◌, is_some, nat_lt, IsTrue}
+use Rattle.std.specs.Prelude.{◌==◌, is_some, nat_lt, IsTrue, if◌then◌else◌}
 use Rattle.std.specs.Borrow.{Bor}
 use Rattle.std.specs.Ordering.{is_lt}
 use Rattle.std.specs.Str.{chars}
@@ -20,13 +20,14 @@ use Rattle.url_maps.specs.declared.fronts.PatternFront.{PatternFront}
 use Rattle.url_maps.specs.declared.fronts.RowFront.{RowFront}
 use Rattle.url_maps.specs.declared.patterns.PatternNode.{PatternNode}
 use Rattle.url_maps.specs.declared.pairs.Pair.{Pair}
+use Rattle.url_maps.specs.declared.pairs.PairKind.{PairKind}
 use Rattle.url_maps.specs.declared.pairs.PairKind.TheVariants.{Pattern}
 use Rattle.url_maps.specs.Found.{IsBehind, IsFirstFront, IsFirstRow, IsLongestPair, first_row, is_ahead, pair_if_at}
 use Rattle.url_maps.specs.Mappings.{mapping_of}
-use Rattle.url_maps.specs.Pairs.{IsPairOf}
+use Rattle.url_maps.specs.Pairs.{Applies, IsPairOf, goes_on_after_prefix}
 use Rattle.url_maps.specs.Patterns.{Asked, GivesPair, HasPattern, IsFrontOf, IsLongestFront, IsPatternPair, mappings_path}
 use Rattle.url_maps.specs.PatternRows.{ArePatterns, HasRowOf, IsRowAt, IsRowOf, LeadsBy}
-use Rattle.url_maps.specs.Search.{IsMappingPair, IsOf}
+use Rattle.url_maps.specs.Search.{HasNoneBeyond, IsMappingPair, IsOf, is_prefix_end}
 use Rattle.url_maps.proofs.NameLemmas.{not_less, less_trans}
 use Rattle.url_maps.proofs.PatternLemmas.{kid_listed}
 use Rattle.url_maps.proofs.RowLemmas.{same_row}
@@ -138,6 +139,9 @@ module _ (rows : List PatternNode) (whole : List ℕ) (from : ℕ) where
         subst (λ b. IsFirstFront rows whole from (i + 1) (cond b (Some (record { at = at; row = row })) (Some best))) (sym behind) (kept best at last first (behind_it best at behind)))
         (cases_Bool (is_ahead at row.now.name best))
 
+    pub next_found : (best : Option RowFront) (front : Option ℕ) (result : Option RowFront) → IsLastFront (tree_of row.now.pattern) whole from front → IsFirstFront rows whole from i best → result ≡ first_row best front row → IsFirstFront rows whole from (i + 1) result
+    next_found best front result last first is = subst (λ (o : Option RowFront). IsFirstFront rows whole from (i + 1) o) (sym is) (next_front best front last first)
+
   pub whole_front : (n : ℕ) (best : Option RowFront) → length rows ≤ n → IsFirstFront rows whole from n best → IsFirstFront rows whole from (length rows) best
   whole_front n None over first = λ k row j lt there front. first k row j (omega (arith, lt, over)) there front
   whole_front n (Some best) over first = record {
@@ -148,12 +152,37 @@ module _ (rows : List PatternNode) (whole : List ℕ) (from : ℕ) where
     behind = λ k row j lt there front. first.behind k row j (omega (arith, lt, over)) there front;
   }
 
+cut_same : (text : List ℕ) → may_cut text ≡ true → is_prefix_end text ≡ true
+cut_same [] cut = refl
+cut_same (b ∷ rest) cut = cut
+
+cut_goes : (kind : PairKind) (text : List ℕ) → kind ≡ Pattern → is_prefix_end text ≡ true → goes_on_after_prefix kind text ≡ true
+cut_goes kind [] is cut = refl
+cut_goes kind (b ∷ rest) is cut = ap (λ k. goes_on_after_prefix k (b ∷ rest)) is ∙ cut
+
+-- the pair found is that of a prefix of its length, and a shorter prefix isn't looked at
+pub found_at : (tree : Content) (asked : Option Asked) (text prefix : List ℕ) (found : Option PatternFront) → prefix ≡ take (length prefix) text → IsLongestPair tree asked text found → HasNoneBeyond tree asked text (length prefix)
+    → IsOf Pattern tree asked prefix (pair_if_at (length prefix) found)
+found_at tree asked text prefix None is none beyond = λ pair kind has. none prefix pair (subst (λ k. IsPairOf k tree asked prefix pair) kind has)
+found_at tree asked text prefix (Some found) is (kind, within, cut, pair, longest) beyond = ⊎_elim
+    (λ (here : (found.at == length prefix) ≡ true).
+    let same : found.at ≡ length prefix = eqb-true found.at (length prefix) here in
+    subst (λ b. IsOf Pattern tree asked prefix (cond b (Some found.pair) None)) (sym here)
+    (kind, subst (λ k. IsPairOf k tree asked prefix found.pair) (sym kind) (subst (λ t. IsPairOf Pattern tree asked t found.pair) (ap (λ n. take n text) same ∙ sym is) pair)))
+    (λ (apart : (found.at == length prefix) ≡ false).
+    subst (λ b. IsOf Pattern tree asked prefix (cond b (Some found.pair) None)) (sym apart)
+    (λ other other_kind has.
+    let above : length prefix ≤ found.at = longest prefix other (subst (λ k. IsPairOf k tree asked prefix other) other_kind has) in
+    let after : length prefix < found.at = grind (arith, nat_tests) in
+    beyond found.at found.pair after (record { within = within; has = subst (λ k. IsPairOf k tree asked (take found.at text) found.pair) (sym kind) pair; continues = cut_goes found.pair.kind (drop found.at text) kind cut })))
+    (cases_Bool (found.at == length prefix))
+
 -- ---- HOST.PORT and the text
 
-abbrev whole_of : Asked → List ℕ
+abbrev pub whole_of : Asked → List ℕ
 whole_of asked = name_of asked.host_node ++ asked.text
 
-abbrev from_of : Asked → ℕ
+abbrev pub from_of : Asked → ℕ
 from_of asked = length (name_of asked.host_node)
 
 front_in : (pattern : Tree) (asked : Asked) (j : ℕ) → IsFront pattern (whole_of asked) (from_of asked) j → IsFrontOf pattern asked (j - from_of asked)
@@ -244,6 +273,7 @@ module _ (tree : Content) (good : IsTree (node_at tree)) (rows : List PatternNod
         } in (
           refl,
           within,
+          cut_same (drop at asked.text) front.cut,
           record {
             name = best.row.now.name;
             gives = gives;
@@ -259,3 +289,10 @@ module _ (tree : Content) (good : IsTree (node_at tree)) (rows : List PatternNod
               let behind = first.behind has.place has.row (from_of asked + length prefix) has.there.0 has.there (giver_front p.name prefix (other.target, other.away) g has) in
               ⊎_elim (λ (less : from_of asked + length prefix < best.at). omega (arith, less, after)) (λ tie. let same : from_of asked + length prefix ≡ best.at = tie.0 in omega (arith, same, after)) behind,
         )
+
+-- what is found among the rows of an index is so of its rows, of HOST.PORT and the text
+pub of_index : (rows of : List PatternNode) (whole : List ℕ) (from : ℕ) (asked : Asked) (o : Option RowFront) → rows ≡ of → whole ≡ whole_of asked → from ≡ from_of asked → IsFirstFront rows whole from (length rows) o
+    → IsFirstFront of (whole_of asked) (from_of asked) (length of) o
+of_index rows of whole from asked o same text host first =
+    subst (λ n. IsFirstFront of (whole_of asked) n (length of) o) host
+    (subst (λ t. IsFirstFront of t from (length of) o) text (subst (λ (rs : List PatternNode). IsFirstFront rs whole from (length rs) o) same first))

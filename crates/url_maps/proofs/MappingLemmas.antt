@@ -32,7 +32,7 @@ below_text : (below : List (List ℕ)) (b c : ℕ) (text : List ℕ) → text_of
 below_text [] b c text e = cc
 below_text (s ∷ below) b c text e = sym e
 
-some_path : (path whole : List (List ℕ)) → path_or_none whole ≡ Some path → path ≡ whole
+pub some_path : (path whole : List (List ℕ)) → path_or_none whole ≡ Some path → path ≡ whole
 some_path path whole is =
     ⊎_elim
     (λ (passes_it : is_path whole ≡ true). let e : Some whole ≡ Some path = sym (ap (λ b. if b then Some whole else None) passes_it) ∙ is in cc)

@@ -43,24 +43,24 @@ IsLast pattern asked n (Some at) = IsFrontOf pattern asked at × ((k : ℕ) → 
 IsLast pattern asked n None = (k : ℕ) → k < n → IsFrontOf pattern asked k → ⊥
 
 one_more : (pattern : Tree) (asked : Asked) (n : ℕ) (o : Option ℕ) → (IsFrontOf pattern asked n → ⊥) → IsLast pattern asked n o → IsLast pattern asked (suc n) o
-one_more pattern asked n None no last = λ k lt front. ⊎_elim
-    (λ (same : k ≡ n). no (subst (λ i. IsFrontOf pattern asked i) same front))
+one_more pattern asked n None lacks last = λ k lt front. ⊎_elim
+    (λ (same : k ≡ n). lacks (subst (λ i. IsFrontOf pattern asked i) same front))
     (λ (other : k ≢ n). last k (omega (arith, lt, other)) front)
     (cases_eq k n)
-one_more pattern asked n (Some at) no last = (last.0, λ k lt front. ⊎_elim
-    (λ (same : k ≡ n). absurd (no (subst (λ i. IsFrontOf pattern asked i) same front)))
+one_more pattern asked n (Some at) lacks last = (last.0, λ k lt front. ⊎_elim
+    (λ (same : k ≡ n). absurd (lacks (subst (λ i. IsFrontOf pattern asked i) same front)))
     (λ (other : k ≢ n). last.1 k (omega (arith, lt, other)) front)
     (cases_eq k n))
 
 last_told : (pattern : Tree) (asked : Asked) (n : ℕ) → n ≤ suc (length asked.text) → IsLast pattern asked n (last_front pattern asked n)
 last_told pattern asked zero within = λ k lt front. omega (arith, lt)
 last_told pattern asked (suc n) within = ⊎_elim
-    (λ (yes : is_front pattern asked n ≡ true).
-    subst (λ b. IsLast pattern asked (suc n) (cond b (Some n) (last_front pattern asked n))) (sym yes)
-    (front_is pattern asked n (omega (arith, within)) yes, λ k lt front. omega (arith, lt)))
-    (λ (no : is_front pattern asked n ≡ false).
-    subst (λ b. IsLast pattern asked (suc n) (cond b (Some n) (last_front pattern asked n))) (sym no)
-    (one_more pattern asked n (last_front pattern asked n) (λ front. true≢false (sym (front_only pattern asked n front) ∙ no)) (last_told pattern asked n (omega (arith, within)))))
+    (λ (fits : is_front pattern asked n ≡ true).
+    subst (λ b. IsLast pattern asked (suc n) (cond b (Some n) (last_front pattern asked n))) (sym fits)
+    (front_is pattern asked n (omega (arith, within)) fits, λ k lt front. omega (arith, lt)))
+    (λ (fails : is_front pattern asked n ≡ false).
+    subst (λ b. IsLast pattern asked (suc n) (cond b (Some n) (last_front pattern asked n))) (sym fails)
+    (one_more pattern asked n (last_front pattern asked n) (λ front. true≢false (sym (front_only pattern asked n front) ∙ fails)) (last_told pattern asked n (omega (arith, within)))))
     (cases_Bool (is_front pattern asked n))
 
 longest_told : (asked : Asked) (pattern : Tree) → IsLast pattern asked (suc (length asked.text)) (longest_front asked pattern)
@@ -123,17 +123,17 @@ module _ (tree : Content) (asked : Asked) (name prefix : List ℕ) (to : List �
       elim (node_at tree (kid mappings_path name)) as (λ o. node_at tree (kid mappings_path name) ≡ o → option_and_then (given_by asked prefix) o ≡ Some to → GivesPair tree asked name prefix to) [
         | None ↦ λ is none. cc
         | Some node ↦ λ is some. ⊎_elim
-            (λ (yes : has_front asked prefix node ≡ true). node_gives node is (sym (ap (λ b. cond b (mapping_of node) None) yes) ∙ some) yes)
-            (λ (no : has_front asked prefix node ≡ false). let none : None ≡ Some to = sym (ap (λ b. cond b (mapping_of node) None) no) ∙ some in cc)
+            (λ (fits : has_front asked prefix node ≡ true). node_gives node is (sym (ap (λ b. cond b (mapping_of node) None) fits) ∙ some) fits)
+            (λ (fails : has_front asked prefix node ≡ false). let none : None ≡ Some to = sym (ap (λ b. cond b (mapping_of node) None) fails) ∙ some in cc)
             (cases_Bool (has_front asked prefix node))
       ] refl e
 
   pub given_only : GivesPair tree asked name prefix to → given_at tree asked prefix name ≡ Some to
   given_only g =
       let fronts : option_and_then (longest_front asked) (node_pattern g.node) ≡ Some (length prefix) = ap (option_and_then (longest_front asked)) (pattern_has g.node g.pattern g.has) ∙ front_has asked prefix g.pattern g.front in
-      let yes : has_front asked prefix g.node ≡ true =
+      let fits : has_front asked prefix g.node ≡ true =
       ap (λ o. option_map_or (λ at. pointwise nat_eq prefix (take at asked.text)) o false) fronts ∙ ap (pointwise nat_eq prefix) (sym g.front.is) ∙ name_self prefix in
-      ap (option_and_then (given_by asked prefix)) g.there ∙ ap (λ b. cond b (mapping_of g.node) None) yes ∙ g.leads
+      ap (option_and_then (given_by asked prefix)) g.there ∙ ap (λ b. cond b (mapping_of g.node) None) fits ∙ g.leads
 
 -- ---- of several the one with the least name
 

@@ -1,21 +1,28 @@
 -- The rows of an index with the nodes that have a pattern.
-use Rattle.std.proofs.Common.{◌≡◌, ◌⊎◌, inl, inr, ◌≤◌, ◌<◌, ◌+◌, ℕ, Bool, true, false, List, [], ◌∷◌, ◌++◌, Option, Some, None, take, length, get_or, refl, sym, ◌∙◌, ap, subst, arith, ⊎_elim, length-append}
-use Rattle.std.specs.Prelude.{◌||◌, ◌&&◌, nat_eq, nat_le}
+use Rattle.std.proofs.Common.{◌≡◌, ◌↔◌, ◌⊎◌, inl, inr, ◌≤◌, ◌<◌, ◌+◌, ℕ, Bool, true, false, List, [], ◌∷◌, ◌++◌, Option, Some, None, Result, Ok, Err, take, length, get_or, refl, sym, ◌∙◌, ap, subst, arith, ⊎_elim, length-append}
+use Rattle.std.specs.Prelude.{IfOk, ◌≢◌, ◌||◌, ◌&&◌, is_some, nat_eq, nat_le, slice_get, unwrap_or, if◌then◌else◌}
 use Rattle.std.specs.Cmp.Lexicographic.{pointwise}
 use Rattle.std.specs.List.{list_any}
 use Rattle.std.specs.Map.{lookup}
 use Rattle.std.specs.Option.{option_map_or}
 use Rattle.std.proofs.lemmas.Bool.{cases_Bool, true≢false, false≢true, cases_lt}
-use Rattle.std.proofs.lemmas.List.{get_or-append, get_or-append_seam, get_or_default}
-use Rattle.std.proofs.lemmas.List.Folds.{list_any_more}
+use Rattle.std.proofs.lemmas.List.{get_or_append_left, get_or_default}
+use Rattle.std.proofs.Math.Seq.{get_or-append_seam}
+use Rattle.std.proofs.lemmas.List.Folds.{list_any_at, list_any_more}
+use Rattle.std.proofs.lemmas.Option.{get_or_from_slice_get, slice_get_within}
+use Rattle.std.specs.Str.{chars}
 use Rattle.sp_base.specs.Paths.{is_path, is_under, path_or_none}
 use Rattle.regex_rules.specs.Trees.{Tree, tree_of}
+use Rattle.regex_rules.specs.Spelling.{IsPattern}
+use Rattle.regex_rules.specs.declared.fault.PatternFault.{PatternFault}
+use Rattle.regex_rules.specs.declared.fault.PatternFault.TheVariants.{NoMemory as memory}
 use Rattle.resource_tree.specs.declared.nodes.Node.{Node}
 use Rattle.resource_tree.specs.declared.patch.PatchNode.{PatchNode}
 use Rattle.resource_tree.specs.Content.{Content, kid, node_at, same_path}
 use Rattle.resource_tree.specs.Patches.{PatchEntries, entry_at, left_by, patching_at}
 use Rattle.url_maps.specs.declared.patterns.PatternNode.{PatternNode}
-use Rattle.url_maps.specs.Patterns.{mappings_path}
+use Rattle.url_maps.specs.Mappings.{mapping_of}
+use Rattle.url_maps.specs.Patterns.{mappings_path, match_text}
 use Rattle.url_maps.specs.PatternRows.{AddsPattern, ArePatterns, ArePatternsAfter, AreRowsOfNames, HasRowOf, IsListed, IsRowAt, IsRowOf, IsRowOrNone, LeadsBy, is_of_family, touches}
 use Rattle.url_maps.proofs.NameLemmas.{is_named, name_from}
 use Rattle.url_maps.proofs.PathLemmas.{path_from_same}
@@ -30,6 +37,28 @@ patterns_by at later rows same are = record {
   all = λ name named node pattern valid there leads.
       are.all name (ap (λ o. is_named name (option_map_or (λ n. n.kids) o [])) (same mappings_path) ∙ named) node pattern valid (same (kid mappings_path name) ∙ there) leads;
 }
+
+-- ---- the row of a node
+
+pub no_text : (name : List ℕ) (node : Node) → match_text node ≡ None → IsRowOrNone name node None
+no_text name node none = λ pattern leads. let both : None ≡ Some leads.has.text = sym none ∙ leads.has.is in cc
+
+pub leads_nowhere : (name : List ℕ) (node : Node) → is_some (mapping_of node) ≡ false → IsRowOrNone name node None
+leads_nowhere name node none = λ pattern leads. absurd (true≢false (sym leads.leads ∙ none))
+
+one_text : (a b : List ℕ) → Some a ≡ Some b → a ≡ b
+one_text a b e = cc
+
+pub no_pattern : (name : List ℕ) (node : Node) (text : List ℕ) → match_text node ≡ Some text → ((tree : Tree) → IsPattern (chars text) tree → ⊥) → IsRowOrNone name node None
+no_pattern name node text is none = λ pattern leads. none pattern (subst (λ (t : List ℕ). IsPattern (chars t) pattern) (one_text leads.has.text text (sym leads.has.is ∙ is)) leads.has.reads)
+
+pub read_row : (name : List ℕ) (node : Node) (text : List ℕ) (row : PatternNode) → match_text node ≡ Some text → is_some (mapping_of node) ≡ true → ((tree : Tree) → IsPattern (chars text) tree ↔ tree ≡ tree_of row.pattern) → row.name ≡ name
+    → IsRowOrNone name node (Some row)
+read_row name node text row is leads spelled named = (
+  named,
+  record { has = record { text = text; is = is; reads = (spelled (tree_of row.pattern)).1 refl }; leads = leads },
+  λ pattern more. sym ((spelled pattern).0 (subst (λ (t : List ℕ). IsPattern (chars t) pattern) (one_text more.has.text text (sym more.has.is ∙ is)) more.has.reads)),
+)
 
 -- ---- one more name
 
@@ -57,10 +86,10 @@ pub adds_no_row : (at : Lookup) (name : List ℕ) (rows : List PatternNode) (nod
 adds_no_row at name rows node is none = adds_nothing at name rows (λ other pattern valid there leads. none pattern (subst (λ (n : Node). LeadsBy n pattern) (one_node other node (sym there ∙ is)) leads))
 
 row_at_end : (old : List PatternNode) (row : PatternNode) → IsRowAt (old ++ row ∷ []) (length old) row
-row_at_end old row = (omega (arith, length-append old (row ∷ [])), get_or-append_seam old (row ∷ []) row)
+row_at_end old row = (omega (arith, length-append old (row ∷ [])), get_or-append_seam old row [] row)
 
 row_before : (old : List PatternNode) (row other : PatternNode) (k : ℕ) → IsRowAt old k other → IsRowAt (old ++ row ∷ []) k other
-row_before old row other k there = (let lt = there.0 in omega (arith, lt, length-append old (row ∷ [])), get_or-append old (row ∷ []) other k there.0 ∙ there.1)
+row_before old row other k there = (let lt = there.0 in omega (arith, lt, length-append old (row ∷ [])), get_or_append_left old (row ∷ []) other k there.0 ∙ there.1)
 
 pub same_row : (rows : List PatternNode) (k i : ℕ) (row other : PatternNode) → k ≡ i → IsRowAt rows k row → IsRowAt rows i other → row ≡ other
 same_row rows k i row other same there also = sym there.1 ∙ ap (λ n. get_or rows n row) same ∙ get_or_default rows i row other also.0 ∙ also.1
@@ -69,7 +98,7 @@ same_row rows k i row other same there also = sym there.1 ∙ ap (λ n. get_or r
 pub adds_row : (at : Lookup) (name : List ℕ) (old new : List PatternNode) (node : Node) (row : PatternNode) → at (kid mappings_path name) ≡ Some node → IsRowOrNone name node (Some row) → new ≡ old ++ row ∷ [] → AddsPattern at name old new
 adds_row at name old new node row is (name_is, leads, only) pushed = subst (λ (rs : List PatternNode). AddsPattern at name old rs) (sym pushed) (record {
   rows_are = λ k other there. ⊎_elim
-      (λ (less : k < length old). inl (less, sym (get_or-append old (row ∷ []) other k less) ∙ there.1))
+      (λ (less : k < length old). inl (less, sym (get_or_append_left old (row ∷ []) other k less) ∙ there.1))
       (λ (more : length old ≤ k).
       let last : k ≡ length old = (let lt = there.0 in omega (arith, lt, more, length-append old (row ∷ []))) in
       inr (subst (λ (r : PatternNode). IsRowOf at r) (sym (same_row (old ++ row ∷ []) k (length old) other row last there (row_at_end old row)))
@@ -115,6 +144,24 @@ pub all_names : (at : Lookup) (node : Node) (names : List (List ℕ)) (rows : Li
 all_names at node names rows there is are =
     subst (λ (ns : List (List ℕ)). AreRowsOfNames at ns rows) (is ∙ sym (ap (λ (o : Option Node). option_map_or (λ n. n.kids) o []) there)) are
 
+-- those before a patch and after it
+pub patterns_over : (before after : Lookup) (rows : List PatternNode) (change : Option (List PatternNode)) → ArePatterns before rows → ArePatternsAfter before after change → ArePatterns after (unwrap_or change rows)
+patterns_over before after rows None are changes = changes rows are
+patterns_over before after rows (Some changed) are changes = changes
+
+-- ---- whether a patch has something there
+
+pub touch_here : (patch : PatchEntries) (parent : List (List ℕ)) (i : ℕ) (e : List (List ℕ) × PatchNode) → slice_get patch i ≡ Some e → is_of_family e.0 parent ≡ true → touches patch parent ≡ true
+touch_here patch parent i e is family =
+    let test = λ (entry : List (List ℕ) × PatchNode). is_of_family entry.0 parent in
+    list_any_at test patch i e (slice_get_within patch i e is) (ap test (get_or_from_slice_get patch i e e is) ∙ family)
+
+pub touch_next : (patch : PatchEntries) (parent : List (List ℕ)) (i : ℕ) (e : List (List ℕ) × PatchNode) → slice_get patch i ≡ Some e → is_of_family e.0 parent ≡ false → touches (take i patch) parent ≡ false → touches (take (i + 1) patch) parent ≡ false
+touch_next patch parent i e is apart none =
+    let test = λ (entry : List (List ℕ) × PatchNode). is_of_family entry.0 parent in
+    list_any_more test patch i e (slice_get_within patch i e is) ∙ ap (λ (y : List (List ℕ) × PatchNode). touches (take i patch) parent || test y) (get_or_from_slice_get patch i e e is)
+    ∙ ap (λ b. b || is_of_family e.0 parent) none ∙ apart
+
 -- ---- a patch that leaves them
 
 no_entry : (patch : PatchEntries) (parent path : List (List ℕ)) → touches patch parent ≡ false → is_of_family path parent ≡ true → entry_at patch path ≡ None
@@ -143,3 +190,9 @@ left_patterns tree patch none rows are =
       all = λ name named node pattern valid there leads.
           are.all name (sym (ap (λ (o : Option Node). is_named name (option_map_or (λ n. n.kids) o [])) parent) ∙ named) node pattern valid (sym (below name) ∙ there) leads;
     }
+
+-- a reading that fails for a fault of the text
+pub none_read : {E : Type 0} (name : List ℕ) (node : Node) (text : List ℕ) (fault : PatternFault) (r : Result (Option PatternNode) E) → match_text node ≡ Some text → (fault ≢ memory → (tree : Tree) → IsPattern (chars text) tree → ⊥) → IfOk r (λ o. (o ≡ None) × (fault ≢ memory))
+    → IfOk r (IsRowOrNone name node)
+none_read name node text fault (Ok o) is none (empty, apart) = subst (IsRowOrNone name node) (sym empty) (no_pattern name node text is (none apart))
+none_read name node text fault (Err e) is none ok = ok

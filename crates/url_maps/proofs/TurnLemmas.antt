@@ -1,6 +1,6 @@
 -- One turn more.
 use Rattle.std.proofs.Common.{◌≡◌, ◌<◌, ◌+◌, ◌-◌, ap, ℕ, zero, suc, true, false, List, ◌++◌, Option, Some, None, length, refl, sym, ◌∙◌, subst, arith, ⊎_elim, inl, inr}
-use Rattle.std.specs.Prelude.{nat_le, if◌then◌else◌}
+use Rattle.std.specs.Prelude.{nat_le, if◌then◌else◌, option_and_then}
 use Rattle.std.specs.List.{list_all}
 use Rattle.std.proofs.lemmas.Bool.{cases_Bool, true≢false, and_parts, and_from, leb-true}
 use Rattle.std.proofs.lemmas.Bool.Decides.{nat_tests}
@@ -14,6 +14,7 @@ use Rattle.url_maps.specs.declared.pairs.Pair.{Pair}
 use Rattle.url_maps.specs.Patterns.{Asked}
 use Rattle.url_maps.specs.Pairs.{Decides, HasMapping, HasNoPair}
 use Rattle.url_maps.specs.Turns.{Turns, leads, text_after}
+use Rattle.url_maps.proofs.MappingLemmas.{some_path}
 
 -- n - i turns are one and n - (i + 1) more
 one_less : (n i : ℕ) → i < n → n - i ≡ suc (n - (i + 1))
@@ -63,3 +64,11 @@ no_host_node tree good host_node none prefix pair m =
     let there : path_or_none host_node ≡ Some host_node = ap (λ b. if b then Some host_node else None) (path_above host_node m.below whole) in
     let both : Some host_node ≡ None = sym there ∙ none in
     cc
+
+pub some_host : (o : Option (List (List ℕ))) (host_node : List (List ℕ)) → Some host_node ≡ option_and_then path_or_none o → o ≡ Some host_node
+some_host None host_node e = cc
+some_host (Some path) host_node e = ap (λ p. Some p) (sym (some_path host_node path (sym e)))
+
+pub no_host : (tree : Content) → IsTree (node_at tree) → (o : Option (List (List ℕ))) → None ≡ option_and_then path_or_none o → (prefix : List ℕ) (pair : Pair) → HasMapping tree o prefix pair → ⊥
+no_host tree good None none prefix pair has = has
+no_host tree good (Some host_node) none prefix pair has = no_host_node tree good host_node (sym none) prefix pair has

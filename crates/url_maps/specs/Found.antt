@@ -1,5 +1,5 @@
 -- For the search alone: the pair that patterns give for what is asked, before the prefixes of its text are looked at.
-use Rattle.std.specs.Prelude.{⊤, ◌≡◌, ◌≤◌, ◌<◌, ◌⊎◌, ◌==◌, ℕ, Bool, nat_lt, Option, Some, None, List, if◌then◌else◌, length, take}
+use Rattle.std.specs.Prelude.{⊤, ◌≡◌, ◌≤◌, ◌<◌, ◌⊎◌, ◌==◌, ℕ, Bool, true, nat_lt, drop, Option, Some, None, List, if◌then◌else◌, length, take}
 use Rattle.std.specs.Borrow.{Bor}
 use Rattle.std.specs.Ordering.{is_lt}
 use Rattle.std.specs.declared.cmp.Ordering.TheVariants.{Less}
@@ -15,6 +15,7 @@ use Rattle.url_maps.specs.declared.pairs.PairKind.TheVariants.{Pattern}
 use Rattle.url_maps.specs.Patterns.{Asked}
 use Rattle.url_maps.specs.PatternRows.{IsRowAt}
 use Rattle.url_maps.specs.Pairs.{IsPairOf}
+use Rattle.url_maps.specs.Search.{is_prefix_end}
 
 -- the text is the one that is asked for, if one is
 abbrev pub IsTextOf : Option Asked → List ℕ → Type 0
@@ -49,9 +50,9 @@ first_row best None row = best
 first_row None (Some at) row = Some (record { at = at; row = row })
 first_row (Some old) (Some at) row = if is_ahead at row.now.name old then Some (record { at = at; row = row }) else Some old
 
--- The longest prefix with which a pattern gives a pair for what is asked, and that pair; or that there is none.
+-- The longest prefix with which a pattern gives a pair for what is asked, at whose end the text may be cut, and that pair; or that there is none.
 abbrev pub IsLongestPair : Content → Option Asked → List ℕ → Option PatternFront → Type 0
-IsLongestPair tree asked text (Some found) = (found.pair.kind ≡ Pattern) × (found.at ≤ length text) × IsPairOf Pattern tree asked (take found.at text) found.pair
+IsLongestPair tree asked text (Some found) = (found.pair.kind ≡ Pattern) × (found.at ≤ length text) × (is_prefix_end (drop found.at text) ≡ true) × IsPairOf Pattern tree asked (take found.at text) found.pair
     × ((prefix : List ℕ) (pair : Pair) → IsPairOf Pattern tree asked prefix pair → length prefix ≤ found.at)
 IsLongestPair tree asked text None = (prefix : List ℕ) (pair : Pair) → IsPairOf Pattern tree asked prefix pair → ⊥
 

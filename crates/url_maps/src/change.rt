@@ -10,7 +10,7 @@ use crate::MapIndex;
 use crate::claimed::vanity_texts;
 use crate::claims_change::ClaimsChange;
 use crate::parents::left_by;
-use crate::patterns::{PatternList, patterns_change};
+use crate::patterns::{PatternList, patterns_change, put_patterns};
 use crate::siblings::siblings_change;
 use resource_tree::{Patch, PatchNode, Tree};
 use sp_base::{Mem, Path};
@@ -63,9 +63,7 @@ impl MapIndex {
         } = change;
         self.aliases.change(aliases);
         self.vanity_paths.change(vanity_paths);
-        if let Some(patterns) = patterns {
-            self.patterns = patterns;
-        }
+        put_patterns(&mut self.patterns, patterns);
     }
 }
 

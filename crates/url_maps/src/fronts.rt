@@ -54,6 +54,8 @@ impl MapIndex {
         requires { IsIndexOf tree.now self.now }
         ensures { IfOk result (IsLongestPair tree.now (Some asked.now) asked.now.text) }
     {
+        // `len` says that the tree is one.
+        let _ = tree.len();
         let rows = self.patterns.as_slice();
         let Some(best) = first_front(alloc, rows, asked.whole(), asked.from())? else {
             return Ok(None);

@@ -1,5 +1,5 @@
 // The nodes directly below `/etc/map/http` with a pattern.
-ghost use Rattle.std.specs.Prelude.{◌≡◌, IfOk, OnOk, is_some};
+ghost use Rattle.std.specs.Prelude.{◌≡◌, ◌≢◌, IfOk, None, OnOk, is_some, unwrap_or};
 ghost use Rattle.resource_tree.specs.Content.{node_at};
 ghost use Rattle.resource_tree.specs.Patches.{patching_at};
 ghost use Rattle.url_maps.specs.Mappings.{mapping_of};
@@ -87,8 +87,17 @@ fn pattern_of(alloc: Global, name: &str, node: &Node) -> Mem<Option<PatternNode>
             name: TextBuf::of(alloc, name)?,
             pattern,
         })),
-        Err(PatternFault::NoMemory) => Err(NoMemory),
-        Err(_) => Ok(None),
+        Err(fault) => none_read(fault),
+    }
+}
+
+// A text with a fault is no pattern; want of memory is none of its faults.
+fn none_read(fault: PatternFault) -> Mem<Option<PatternNode>>
+    ensures { IfOk result (λ o. (o ≡ None) × (fault ≢ PatternFault.NoMemory)) }
+{
+    match fault {
+        PatternFault::NoMemory => Err(NoMemory),
+        PatternFault::BadPattern(_) | PatternFault::TooDeep(_) => Ok(None),
     }
 }
 
@@ -121,15 +130,24 @@ pub(crate) fn patterns_change(
     Ok(None)
 }
 
+// Puts the nodes with a pattern after a change in the place of those before it, where it has any.
+pub(crate) fn put_patterns(patterns: &mut PatternList, change: Option<PatternList>)
+    ensures { patterns.new ≡ unwrap_or change patterns.old }
+{
+    if let Some(changed) = change {
+        *patterns = changed;
+    }
+}
+
 // Whether a patch has something at a path, or at a kid's.
 fn touches(patch: &Patch, parent: &Path) -> bool
     ensures { result ≡ touches patch.now parent.now }
 {
     for place in 0..patch.len() {
-        let Some((path, _)) = patch.at(place) else {
+        let Some(entry) = patch.at(place) else {
             continue;
         };
-        if is_of_family(path, parent) {
+        if is_of_family(entry.0, parent) {
             return true;
         }
     }

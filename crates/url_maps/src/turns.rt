@@ -69,7 +69,8 @@ impl MapIndex {
         ensures { IfOk result (IsMapped tree.now host.now port text.now) }
     {
         let _ = tree.len();
-        let mut asked = Some(HostText::of(alloc, host, port, text)?);
+        let first = HostText::of(alloc, host, port, text)?;
+        let mut asked = Some(first);
         let mut text = TextBuf::of(alloc, text)?;
         for _ in 0..MOST_TURNS {
             let Some(step) = self.step(alloc, tree, &asked, text.text())? else {
@@ -97,10 +98,27 @@ impl MapIndex {
         ensures { IfOk result (IsTurn tree.now asked.now text.now) }
     {
         let known = self.known(alloc, tree, asked, text)?;
+        self.step_knowing(alloc, tree, asked, &known, text)
+    }
+
+    #[tactic(auto, using(crate::proofs::FrontLemmas::found_at))]
+    fn step_knowing(
+        &self,
+        alloc: Global,
+        tree: &Tree,
+        asked: &Option<HostText>,
+        known: &Known,
+        text: &str,
+    ) -> Mem<Option<MappingStep>>
+        requires index { IsIndexOf tree.now self.now }
+        requires reach { HasNoMappingBeyond tree.now (host_of asked.now) text.now known.now.reach }
+        requires pattern { IsLongestPair tree.now asked.now text.now known.now.pattern }
+        ensures { IfOk result (IsTurn tree.now asked.now text.now) }
+    {
         let mut prefix = text;
         loop {
             let rest = &text[prefix.len()..];
-            if let Some(pair) = self.best(alloc, tree, asked, &known, prefix, rest)? {
+            if let Some(pair) = self.best(alloc, tree, asked, known, prefix, rest)? {
                 return Ok(Some(MappingStep {
                     text: text_after(alloc, &pair, rest)?,
                     away: pair.away,

@@ -60,10 +60,13 @@ module _ (tree : Tree) (text : List ℕ) (from : ℕ) where
       (λ (less : k < place). before k less front)
       (λ (more : place ≤ k). let same : k ≡ place = omega (arith, lt, more) in none (subst (λ n. IsFront tree text from n) same front))
       (cases_lt k place)
-  upto place (Some last) none before = (before.0, λ k lt front. ⊎_elim
-      (λ (less : k < place). before.1 k less front)
-      (λ (more : place ≤ k). let same : k ≡ place = omega (arith, lt, more) in absurd (none (subst (λ n. IsFront tree text from n) same front)))
-      (cases_lt k place))
+  upto place (Some last) none before = (
+    before.0,
+    λ k lt front. ⊎_elim
+        (λ (less : k < place). before.1 k less front)
+        (λ (more : place ≤ k). let same : k ≡ place = omega (arith, lt, more) in absurd (none (subst (λ n. IsFront tree text from n) same front)))
+        (cases_lt k place),
+  )
 
   pub here : (answer : Bool) (place : ℕ) (rest : List ℕ) (last : Option ℕ) → place ≤ length text → rest ≡ drop place text → Says answer (InLanguage tree (chars (take place text))) → IsLastBefore tree text from place last
       → IsLastBefore tree text from (place + 1) (cond ((answer && nat_le from place) && may_cut rest) (Some place) last)
@@ -86,10 +89,13 @@ module _ (tree : Tree) (text : List ℕ) (from : ℕ) where
       (λ (less : k < place + 1). before k less front)
       (λ (more : place + 1 ≤ k). between_characters text rest left c place k is parts within (omega (arith, more)) lt front.cut)
       (cases_lt k (place + 1))
-  past place c rest left (Some last) is parts within before = (before.0, λ k lt front. ⊎_elim
-      (λ (less : k < place + 1). before.1 k less front)
-      (λ (more : place + 1 ≤ k). absurd (between_characters text rest left c place k is parts within (omega (arith, more)) lt front.cut))
-      (cases_lt k (place + 1)))
+  past place c rest left (Some last) is parts within before = (
+    before.0,
+    λ k lt front. ⊎_elim
+        (λ (less : k < place + 1). before.1 k less front)
+        (λ (more : place + 1 ≤ k). absurd (between_characters text rest left c place k is parts within (omega (arith, more)) lt front.cut))
+        (cases_lt k (place + 1)),
+  )
 
   pub over : (last : Option ℕ) → IsLastBefore tree text from (length text + 1) last → IsLastFront tree text from last
   over None before = λ k front. before k (let le = front.within in omega (arith, le)) front

@@ -22,7 +22,9 @@ mod walk;
 
 pub use character::{CharClass, CharRange, OneChar};
 pub use fault::PatternFault;
-pub use laws::{a_text_and_its_tree, a_text_spells_the_tree_it_is_read_as, the_language_of_a_tree_is_told};
+pub use laws::{
+    a_text_and_its_tree, a_text_spells_the_tree_it_is_read_as, the_language_of_a_tree_is_told,
+};
 pub use pattern::Pattern;
 pub use place::Place;
 pub use repeat::Repeat;

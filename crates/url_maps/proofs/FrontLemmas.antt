@@ -105,10 +105,13 @@ module _ (rows : List PatternNode) (whole : List ℕ) (from : ℕ) where
         let less : by_name row.now.name best.row.now.name ≡ Less = less_from (by_name row.now.name best.row.now.name) (sym (ap (λ b. cond b (is_lt (by_name row.now.name best.row.now.name)) (nat_lt best.at at)) tie) ∙ ahead) in
         ⊎_elim
         (λ (before : j < best.at). inl (omega (arith, before, same)))
-        (λ there_too. inr (there_too.0 ∙ sym same, inr (⊎_elim
-        (λ (one : other.name ≡ best.row.now.name). ap (by_name row.now.name) one ∙ less)
-        (λ (more : by_name best.row.now.name other.name ≡ Less). less_trans row.now.name best.row.now.name other.name less more)
-        there_too.1)))
+        (λ there_too. inr (
+          there_too.0 ∙ sym same,
+          inr (⊎_elim
+              (λ (one : other.name ≡ best.row.now.name). ap (by_name row.now.name) one ∙ less)
+              (λ (more : by_name best.row.now.name other.name ≡ Less). less_trans row.now.name best.row.now.name other.name less more)
+              there_too.1),
+        ))
         (first.behind k other j lt there front))
         (λ (apart : (at == best.at) ≡ false).
         let later : nat_lt best.at at ≡ true = sym (ap (λ b. cond b (is_lt (by_name row.now.name best.row.now.name)) (nat_lt best.at at)) apart) ∙ ahead in

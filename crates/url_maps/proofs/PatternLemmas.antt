@@ -47,10 +47,13 @@ one_more pattern asked n None lacks last = λ k lt front. ⊎_elim
     (λ (same : k ≡ n). lacks (subst (λ i. IsFrontOf pattern asked i) same front))
     (λ (other : k ≢ n). last k (omega (arith, lt, other)) front)
     (cases_eq k n)
-one_more pattern asked n (Some at) lacks last = (last.0, λ k lt front. ⊎_elim
-    (λ (same : k ≡ n). absurd (lacks (subst (λ i. IsFrontOf pattern asked i) same front)))
-    (λ (other : k ≢ n). last.1 k (omega (arith, lt, other)) front)
-    (cases_eq k n))
+one_more pattern asked n (Some at) lacks last = (
+  last.0,
+  λ k lt front. ⊎_elim
+      (λ (same : k ≡ n). absurd (lacks (subst (λ i. IsFrontOf pattern asked i) same front)))
+      (λ (other : k ≢ n). last.1 k (omega (arith, lt, other)) front)
+      (cases_eq k n),
+)
 
 last_told : (pattern : Tree) (asked : Asked) (n : ℕ) → n ≤ suc (length asked.text) → IsLast pattern asked n (last_front pattern asked n)
 last_told pattern asked zero within = λ k lt front. omega (arith, lt)

@@ -126,7 +126,11 @@ fn is_ahead(at: usize, name: &str, old: &RowFront) -> bool
 }
 
 // The pair found, where its prefix has this length.
-pub(crate) fn pair_if_at(alloc: Global, len: usize, found: &Option<PatternFront>) -> Mem<Option<Pair>>
+pub(crate) fn pair_if_at(
+    alloc: Global,
+    len: usize,
+    found: &Option<PatternFront>,
+) -> Mem<Option<Pair>>
     ensures { IfOk result (λ o. o ≡ pair_if_at len found.now) }
 {
     let Some(found) = found else {

@@ -116,11 +116,7 @@ fn leads(node: &Node) -> bool
 }
 
 // The nodes with a pattern after a patch, where it has something at `/etc/map/http` or directly below.
-pub(crate) fn patterns_change(
-    alloc: Global,
-    tree: &Tree,
-    patch: &Patch,
-) -> Mem<Option<PatternList>>
+pub(crate) fn patterns_change(alloc: Global, tree: &Tree, patch: &Patch) -> Mem<Option<PatternList>>
     ensures { IfOk result (ArePatternsAfter (node_at tree.now) (patching_at tree.now patch.now)) }
 {
     let parent = mappings_path(alloc)?;

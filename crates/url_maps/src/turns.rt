@@ -132,13 +132,7 @@ impl MapIndex {
     }
 
     // How far the prefix of a mapping may reach, and the pair that patterns give.
-    fn known(
-        &self,
-        alloc: Global,
-        tree: &Tree,
-        asked: &Option<HostText>,
-        text: &str,
-    ) -> Mem<Known>
+    fn known(&self, alloc: Global, tree: &Tree, asked: &Option<HostText>, text: &str) -> Mem<Known>
         requires index { IsIndexOf tree.now self.now }
         requires text { IsTextOf asked.now text.now }
         ensures reach { IfOk result (λ known. HasNoMappingBeyond tree.now (host_of asked.now) text.now known.reach) }

@@ -45,9 +45,11 @@ fn is_mapping_path(path: &Path) -> bool {
     path.seg(0) == Some("etc") && path.seg(1) == Some("map") && path.seg(2) == Some("http")
 }
 
+// Whether a node leads somewhere by its path: what a pattern matches isn't told by one.
 fn is_mapping(node: &Node) -> bool {
-    !value_texts(node.props.get("sling:internalRedirect")).is_empty()
-        || node.props.text("sling:redirect").is_some()
+    let leads = !value_texts(node.props.get("sling:internalRedirect")).is_empty()
+        || node.props.text("sling:redirect").is_some();
+    leads && node.props.get("sling:match").is_none()
 }
 
 // What a mapping is asked for: its path below the name of its host and port.

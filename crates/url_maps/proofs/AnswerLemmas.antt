@@ -14,18 +14,21 @@ use Rattle.resource_tree.specs.Content.{Content, IsTree, kid, name_of, node_at, 
 use Rattle.resource_tree.specs.Changes.{kids_at}
 use Rattle.url_maps.specs.declared.answer.MapAnswer.{MapAnswer}
 use Rattle.url_maps.specs.declared.pairs.Pair.{Pair}
-use Rattle.url_maps.specs.declared.pairs.PairKind.TheVariants.{Mapping, Alias, VanityPath}
+use Rattle.url_maps.specs.declared.pairs.PairKind.TheVariants.{Mapping, Pattern, Alias, VanityPath}
 use Rattle.url_maps.specs.Aliases.{IsAlias, has_alias}
 use Rattle.url_maps.specs.Answers.{alias_at, alias_with, answer_of, deciding_pair, earlier, earliest, is_without_pattern, map_answer, mapping_at, mapping_with, outcome, pair_at, pair_inside, pair_to, pair_with, sibling_with_alias, turn, vanity_at, vanity_nodes, vanity_with}
-use Rattle.url_maps.specs.Mappings.{IsPlain, has_match, mapping_of, host_node_of}
+use Rattle.url_maps.specs.Mappings.{IsPlain, has_match, mapping_of}
+use Rattle.url_maps.specs.Patterns.{Asked, asked_for, host_of}
+use Rattle.url_maps.specs.PatternAnswers.{pattern_with}
 use Rattle.url_maps.specs.Pairs.{Applies, Decides, HasNoPair, IsPair, IsPairOf, goes_on_after_prefix}
-use Rattle.url_maps.specs.Search.{IsBest, IsFirstPath, IsMappingPair, IsOf, is_prefix_end, mapped_path}
+use Rattle.url_maps.specs.Search.{IsBest, IsFirstPath, IsMappingOf, IsMappingPair, IsOf, is_prefix_end, mapped_path}
 use Rattle.url_maps.specs.Turns.{IsMapped, Turns, leads, most_turns, text_after}
 use Rattle.url_maps.specs.VanityPaths.{has_vanity_path, vanity_page, vanity_cmp, with_slash}
 use Rattle.sp_base.specs.Properties.{value_texts}
 use Rattle.url_maps.proofs.LawLemmas.{alias_path}
 use Rattle.url_maps.proofs.MappingLemmas.{IsSpelled, no_node_pair, no_path_pair, no_plain_pair, pair_at_node}
-use Rattle.url_maps.proofs.PairLemmas.{best_alias, best_last, best_mapping, goes_on_cut, none_best, none_of}
+use Rattle.url_maps.proofs.PairLemmas.{best_alias, best_last, best_mapping, best_pattern, goes_on_cut, mapping_pair, none_best, none_of}
+use Rattle.url_maps.proofs.PatternLemmas.{pattern_is}
 use Rattle.url_maps.proofs.PathLemmas.{IsReadBack, kid_name, kid_parent, kid_parts, path_from_same, same_path_self, valid_name}
 use Rattle.url_maps.proofs.VanityLemmas.{after_first, less_from, vanity_total}
 
@@ -185,27 +188,27 @@ has_node tree path text has =
 
 module _ (read : IsReadBack) (spelled : IsSpelled) (valid : (text : List ℕ) (path : List (List ℕ)) → path_of text ≡ Ok path → IsTrue (is_path path)) (tree : Content) (good : IsTree (node_at tree)) where
   mapping_there : (host_node : List (List ℕ)) (prefix : List ℕ) (path : List (List ℕ)) → mapped_path host_node prefix ≡ Some path → is_without_pattern tree host_node path ≡ true
-      → IsOf Mapping tree (Some host_node) prefix (option_map pair_to (option_and_then mapping_of (node_at tree path)))
+      → IsMappingOf tree (Some host_node) prefix (option_map pair_to (option_and_then mapping_of (node_at tree path)))
   mapping_there host_node prefix path at plain =
-      elim (node_at tree path) as (λ o. node_at tree path ≡ o → IsOf Mapping tree (Some host_node) prefix (option_map pair_to (option_and_then mapping_of o))) [
+      elim (node_at tree path) as (λ o. node_at tree path ≡ o → IsMappingOf tree (Some host_node) prefix (option_map pair_to (option_and_then mapping_of o))) [
         | None ↦ λ none. no_node_pair read tree good host_node prefix path at none
         | Some node ↦ λ there. pair_at_node read spelled tree good host_node prefix path node (option_map pair_to (mapping_of node)) at there (plain_is tree host_node path plain) (is_mapping_pair node (mapping_of node) refl)
       ] refl
 
-  mapping_at_is : (host_node : List (List ℕ)) (prefix : List ℕ) (path : List (List ℕ)) → mapped_path host_node prefix ≡ Some path → IsOf Mapping tree (Some host_node) prefix (mapping_at tree host_node path)
+  mapping_at_is : (host_node : List (List ℕ)) (prefix : List ℕ) (path : List (List ℕ)) → mapped_path host_node prefix ≡ Some path → IsMappingOf tree (Some host_node) prefix (mapping_at tree host_node path)
   mapping_at_is host_node prefix path at =
       let leads_to = option_map pair_to (option_and_then mapping_of (node_at tree path)) in
       ⊎_elim
-      (λ (plain : is_without_pattern tree host_node path ≡ true). subst (λ b. IsOf Mapping tree (Some host_node) prefix (cond b leads_to None)) (sym plain) (mapping_there host_node prefix path at plain))
+      (λ (plain : is_without_pattern tree host_node path ≡ true). subst (λ b. IsMappingOf tree (Some host_node) prefix (cond b leads_to None)) (sym plain) (mapping_there host_node prefix path at plain))
       (λ (fails : is_without_pattern tree host_node path ≡ false).
-      subst (λ b. IsOf Mapping tree (Some host_node) prefix (cond b leads_to None)) (sym fails)
+      subst (λ b. IsMappingOf tree (Some host_node) prefix (cond b leads_to None)) (sym fails)
       (no_plain_pair read tree good host_node prefix path at (λ plain. true≢false (sym (plain_only tree host_node path plain) ∙ fails))))
       (cases_Bool (is_without_pattern tree host_node path))
 
-  mapping_is : (host_node : Option (List (List ℕ))) (prefix : List ℕ) → IsOf Mapping tree host_node prefix (mapping_with tree host_node prefix)
-  mapping_is None prefix = λ pair is has. subst (λ kind. IsPairOf kind tree None prefix pair) is has
+  mapping_is : (host_node : Option (List (List ℕ))) (prefix : List ℕ) → IsMappingOf tree host_node prefix (mapping_with tree host_node prefix)
+  mapping_is None prefix = λ pair has. has
   mapping_is (Some host_node) prefix =
-      elim (mapped_path host_node prefix) as (λ o. mapped_path host_node prefix ≡ o → IsOf Mapping tree (Some host_node) prefix (option_and_then (mapping_at tree host_node) o)) [
+      elim (mapped_path host_node prefix) as (λ o. mapped_path host_node prefix ≡ o → IsMappingOf tree (Some host_node) prefix (option_and_then (mapping_at tree host_node) o)) [
         | None ↦ λ none. no_path_pair read tree good host_node prefix none
         | Some path ↦ λ at. mapping_at_is host_node prefix path at
       ] refl
@@ -331,63 +334,67 @@ module _ (read : IsReadBack) (spelled : IsSpelled) (valid : (text : List ℕ) (p
 
   -- ---- the pair that decides
 
-  best_is : (host_node : Option (List (List ℕ))) (prefix rest : List ℕ) → is_prefix_end rest ≡ true → IsBest tree host_node prefix rest (pair_with tree host_node prefix rest)
-  best_is host_node prefix rest cut =
+  best_is : (asked : Option Asked) (prefix rest : List ℕ) → is_prefix_end rest ≡ true → IsBest tree asked prefix rest (pair_with tree asked prefix rest)
+  best_is asked prefix rest cut =
       let vanity = cond (goes_on_after_prefix VanityPath rest) (vanity_with tree prefix) None in
-      elim (mapping_with tree host_node prefix) as (λ o. IsOf Mapping tree host_node prefix o → IsBest tree host_node prefix rest (option_or o (option_or (alias_with tree prefix) vanity))) [
-        | Some pair ↦ λ is. best_mapping tree host_node prefix rest cut pair is
+      elim (mapping_with tree (host_of asked) prefix) as (λ o. IsOf Mapping tree asked prefix o → IsBest tree asked prefix rest (option_or o (option_or (pattern_with tree asked prefix) (option_or (alias_with tree prefix) vanity)))) [
+        | Some pair ↦ λ is. best_mapping tree asked prefix rest cut pair is
         | None ↦ λ no_mapping.
-            elim (alias_with tree prefix) as (λ o. IsOf Alias tree None prefix o → IsBest tree host_node prefix rest (option_or o vanity)) [
-              | Some pair ↦ λ is. best_alias tree host_node prefix rest cut pair no_mapping is
-              | None ↦ λ lacks.
-                  let no_alias = none_of tree host_node prefix rest cut Alias (λ e. cc) lacks in
-                  ⊎_elim
-                  (λ (dot : goes_on_after_prefix VanityPath rest ≡ true).
-                  subst (λ b. IsBest tree host_node prefix rest (cond b (vanity_with tree prefix) None)) (sym dot)
-                  (best_last tree host_node prefix rest cut (vanity_with tree prefix) no_mapping no_alias dot (vanity_is prefix)))
-                  (λ (slash : goes_on_after_prefix VanityPath rest ≡ false).
-                  subst (λ b. IsBest tree host_node prefix rest (cond b (vanity_with tree prefix) None)) (sym slash)
-                  (none_best tree host_node prefix rest cut no_mapping no_alias (inr slash)))
-                  (cases_Bool (goes_on_after_prefix VanityPath rest))
-            ] (alias_is prefix)
-      ] (mapping_is host_node prefix)
+            elim (pattern_with tree asked prefix) as (λ o. IsOf Pattern tree asked prefix o → IsBest tree asked prefix rest (option_or o (option_or (alias_with tree prefix) vanity))) [
+              | Some pair ↦ λ is. best_pattern tree asked prefix rest cut pair no_mapping is
+              | None ↦ λ no_pattern.
+                  elim (alias_with tree prefix) as (λ o. IsOf Alias tree None prefix o → IsBest tree asked prefix rest (option_or o vanity)) [
+                    | Some pair ↦ λ is. best_alias tree asked prefix rest cut pair no_mapping no_pattern is
+                    | None ↦ λ lacks.
+                        let no_alias = none_of tree asked prefix rest cut Alias (λ e. cc) (λ e. cc) lacks in
+                        ⊎_elim
+                        (λ (dot : goes_on_after_prefix VanityPath rest ≡ true).
+                        subst (λ b. IsBest tree asked prefix rest (cond b (vanity_with tree prefix) None)) (sym dot)
+                        (best_last tree asked prefix rest cut (vanity_with tree prefix) no_mapping no_pattern no_alias dot (vanity_is prefix)))
+                        (λ (slash : goes_on_after_prefix VanityPath rest ≡ false).
+                        subst (λ b. IsBest tree asked prefix rest (cond b (vanity_with tree prefix) None)) (sym slash)
+                        (none_best tree asked prefix rest cut no_mapping no_pattern no_alias (inr slash)))
+                        (cases_Bool (goes_on_after_prefix VanityPath rest))
+                  ] (alias_is prefix)
+            ] (pattern_is tree good asked prefix)
+      ] (mapping_pair tree asked prefix (mapping_with tree (host_of asked) prefix) (mapping_is (host_of asked) prefix))
 
-  at_place : (host_node : Option (List (List ℕ))) (text : List ℕ) (at : ℕ) → IsBest tree host_node (take at text) (drop at text) (pair_at tree host_node text at)
-  at_place host_node text at =
+  at_place : (asked : Option Asked) (text : List ℕ) (at : ℕ) → IsBest tree asked (take at text) (drop at text) (pair_at tree asked text at)
+  at_place asked text at =
       let prefix = take at text in
       let rest = drop at text in
       ⊎_elim
-      (λ (cut : is_prefix_end rest ≡ true). subst (λ b. IsBest tree host_node prefix rest (cond b (pair_with tree host_node prefix rest) None)) (sym cut) (best_is host_node prefix rest cut))
+      (λ (cut : is_prefix_end rest ≡ true). subst (λ b. IsBest tree asked prefix rest (cond b (pair_with tree asked prefix rest) None)) (sym cut) (best_is asked prefix rest cut))
       (λ (whole : is_prefix_end rest ≡ false).
-      subst (λ b. IsBest tree host_node prefix rest (cond b (pair_with tree host_node prefix rest) None)) (sym whole)
+      subst (λ b. IsBest tree asked prefix rest (cond b (pair_with tree asked prefix rest) None)) (sym whole)
       (λ other has goes. true≢false (sym (goes_on_cut other.kind rest goes) ∙ whole)))
       (cases_Bool (is_prefix_end rest))
 
   -- what is decided
-  abbrev IsDecision : Option (List (List ℕ)) → List ℕ → Option (ℕ × Pair) → Type 0
-  IsDecision host_node text None = HasNoPair tree host_node text
-  IsDecision host_node text (Some (at, pair)) = Decides tree host_node text at pair
+  abbrev IsDecision : Option Asked → List ℕ → Option (ℕ × Pair) → Type 0
+  IsDecision asked text None = HasNoPair tree asked text
+  IsDecision asked text (Some (at, pair)) = Decides tree asked text at pair
 
-  decision_is : (host_node : Option (List (List ℕ))) (text : List ℕ) (n : ℕ) → n ≤ length text + 1 → ((k : ℕ) (pair : Pair) → n ≤ k → Applies tree host_node text k pair → ⊥) → IsDecision host_node text (deciding_pair tree host_node text n)
-  decision_is host_node text zero within beyond = λ k pair applies. beyond k pair (omega arith) applies
-  decision_is host_node text (suc n) within beyond =
-      elim (pair_at tree host_node text n) as (λ o. IsBest tree host_node (take n text) (drop n text) o → IsDecision host_node text (option_or (option_map (λ pair. (n, pair)) o) (deciding_pair tree host_node text n))) [
+  decision_is : (asked : Option Asked) (text : List ℕ) (n : ℕ) → n ≤ length text + 1 → ((k : ℕ) (pair : Pair) → n ≤ k → Applies tree asked text k pair → ⊥) → IsDecision asked text (deciding_pair tree asked text n)
+  decision_is asked text zero within beyond = λ k pair applies. beyond k pair (omega arith) applies
+  decision_is asked text (suc n) within beyond =
+      elim (pair_at tree asked text n) as (λ o. IsBest tree asked (take n text) (drop n text) o → IsDecision asked text (option_or (option_map (λ pair. (n, pair)) o) (deciding_pair tree asked text n))) [
         | Some pair ↦ λ best. record {
           applies = record { within = omega (arith, within); has = best.0; continues = best.1 };
           best = λ k other applies. ⊎_elim
               (λ (below : k < n). inl below)
               (λ (above : n ≤ k). ⊎_elim
               (λ (same : k ≡ n).
-              inr (same, best.2 other (subst (λ i. IsPair tree host_node (take i text) other) same applies.has) (ap (λ i. goes_on_after_prefix other.kind (drop i text)) (sym same) ∙ applies.continues)))
+              inr (same, best.2 other (subst (λ i. IsPair tree asked (take i text) other) same applies.has) (ap (λ i. goes_on_after_prefix other.kind (drop i text)) (sym same) ∙ applies.continues)))
               (λ (apart : k ≢ n). absurd (beyond k other (omega (arith, above, apart)) applies))
               (cases_eq k n))
               (cases_lt k n);
         }
-        | None ↦ λ none. decision_is host_node text n (omega (arith, within)) (λ k other above applies. ⊎_elim
-            (λ (same : k ≡ n). none other (subst (λ i. IsPair tree host_node (take i text) other) same applies.has) (ap (λ i. goes_on_after_prefix other.kind (drop i text)) (sym same) ∙ applies.continues))
+        | None ↦ λ none. decision_is asked text n (omega (arith, within)) (λ k other above applies. ⊎_elim
+            (λ (same : k ≡ n). none other (subst (λ i. IsPair tree asked (take i text) other) same applies.has) (ap (λ i. goes_on_after_prefix other.kind (drop i text)) (sym same) ∙ applies.continues))
             (λ (apart : k ≢ n). beyond k other (omega (arith, above, apart)) applies)
             (cases_eq k n))
-      ] (at_place host_node text n)
+      ] (at_place asked text n)
 
   -- ---- the turns
 
@@ -395,10 +402,10 @@ module _ (read : IsReadBack) (spelled : IsSpelled) (valid : (text : List ℕ) (p
   outcome_is (Some status) text further Further is = refl
   outcome_is None text further Further is = is text
 
-  pub turns_are : (n : ℕ) (host_node : Option (List (List ℕ))) (text : List ℕ) → Turns tree n host_node text (answer_of tree n host_node text)
-  turns_are zero host_node text = refl
-  turns_are (suc n) host_node text =
-      elim (deciding_pair tree host_node text (suc (length text))) as (λ o. IsDecision host_node text o → Turns tree (suc n) host_node text (turn text (answer_of tree n None) o)) [
+  pub turns_are : (n : ℕ) (asked : Option Asked) (text : List ℕ) → Turns tree n asked text (answer_of tree n asked text)
+  turns_are zero asked text = refl
+  turns_are (suc n) asked text =
+      elim (deciding_pair tree asked text (suc (length text))) as (λ o. IsDecision asked text o → Turns tree (suc n) asked text (turn text (answer_of tree n None) o)) [
         | None ↦ λ none. inl (none, refl)
         | Some (at, pair) ↦ λ decides. inr (record {
           at = at;
@@ -406,8 +413,8 @@ module _ (read : IsReadBack) (spelled : IsSpelled) (valid : (text : List ℕ) (p
           decides = decides;
           outcome = outcome_is pair.away (text_after pair at text) (answer_of tree n None) (Turns tree n None) (turns_are n None);
         })
-      ] (decision_is host_node text (suc (length text)) (omega arith) (λ k pair above applies. absurd (omega (arith, above, applies.within))))
+      ] (decision_is asked text (suc (length text)) (omega arith) (λ k pair above applies. absurd (omega (arith, above, applies.within))))
 
   pub map_answer_is : (host : List ℕ) (port : ℕ) (text : List ℕ) → IsMapped tree host port text (map_answer tree host port text)
   unfolding IsMapped map_answer
-  map_answer_is host port text = turns_are most_turns (Some (host_node_of host port)) text
+  map_answer_is host port text = turns_are most_turns (Some (asked_for host port text)) text

@@ -1,7 +1,9 @@
 -- At most one pair decides a turn, and a text has one answer.
 use Rattle.std.proofs.Common.{◌≡◌, ◌<◌, ◌≤◌, ℕ, zero, suc, true, List, ◌++◌, Option, Some, None, take, refl, sym, ◌∙◌, ap, subst, arith, ⊎_elim}
 use Rattle.std.specs.Prelude.{find}
+use Rattle.std.specs.Cmp.Lexicographic.{nat_list_cmp_total}
 use Rattle.std.specs.Ordering.{is_lt, ordering_reverse}
+use Rattle.sp_base.specs.Names.{by_name}
 use Rattle.std.specs.declared.cmp.Ordering.TheVariants.{Less, Greater}
 use Rattle.std.proofs.lemmas.Bool.{true≢false}
 use Rattle.sp_base.specs.Paths.{is_path, text_of}
@@ -10,9 +12,10 @@ use Rattle.resource_tree.specs.Changes.{kids_at}
 use Rattle.url_maps.specs.declared.answer.MapAnswer.{MapAnswer}
 use Rattle.url_maps.specs.declared.pairs.Pair.{Pair}
 use Rattle.url_maps.specs.declared.pairs.PairKind.{PairKind}
-use Rattle.url_maps.specs.declared.pairs.PairKind.TheVariants.{Mapping, Alias, VanityPath}
+use Rattle.url_maps.specs.declared.pairs.PairKind.TheVariants.{Mapping, Pattern, Alias, VanityPath}
 use Rattle.url_maps.specs.Aliases.{IsAlias, has_alias}
 use Rattle.url_maps.specs.Mappings.{IsMapping, mapping_of}
+use Rattle.url_maps.specs.Patterns.{Asked, IsPatternPair, mappings_path}
 use Rattle.url_maps.specs.Pairs.{Decides, IsPairOf, rank}
 use Rattle.url_maps.specs.Turns.{Turns, leads, text_after}
 use Rattle.url_maps.specs.VanityPaths.{IsVanityPath, vanity_page, vanity_cmp}
@@ -57,28 +60,53 @@ module _ (read : IsReadBack) (tree : Content) (good : IsTree (node_at tree)) whe
       (w.first path v.has))
       (v.first other w.has)
 
-  one_pair : (kind : PairKind) (host_node : Option (List (List ℕ))) (text : List ℕ) (pair other : Pair) → IsPairOf kind tree host_node text pair → IsPairOf kind tree host_node text other → (pair.target ≡ other.target) × (pair.away ≡ other.away)
+  one_pattern : (asked : Asked) (text : List ℕ) (to also : List ℕ × Option ℕ) → IsPatternPair tree asked text to → IsPatternPair tree asked text also → (to.0 ≡ also.0) × (to.1 ≡ also.1)
+  one_pattern asked text to also p q =
+      let names : p.name ≡ q.name = ⊎_elim
+      (λ (same : q.name ≡ p.name). sym same)
+      (λ (less : by_name p.name q.name ≡ Less). ⊎_elim
+      (λ (same : p.name ≡ q.name). same)
+      (λ (more : by_name q.name p.name ≡ Less). let turned : Less ≡ Greater = sym less ∙ nat_list_cmp_total.antisymm p.name q.name ∙ ap ordering_reverse more in absurd (true≢false (ap is_lt turned)))
+      (q.least p.name to p.gives))
+      (p.least q.name also q.gives)
+      in
+      let nodes : Some p.gives.node ≡ Some q.gives.node = sym p.gives.there ∙ ap (λ n. node_at tree (kid mappings_path n)) names ∙ q.gives.there in
+      let node : p.gives.node ≡ q.gives.node = cc in
+      let leads_to : Some to ≡ Some also = sym p.gives.leads ∙ ap mapping_of node ∙ q.gives.leads in
+      let both : to ≡ also = cc in
+      (ap (λ (t : List ℕ × Option ℕ). t.0) both, ap (λ (t : List ℕ × Option ℕ). t.1) both)
+
+  one_pair : (kind : PairKind) (asked : Option Asked) (text : List ℕ) (pair other : Pair) → IsPairOf kind tree asked text pair → IsPairOf kind tree asked text other → (pair.target ≡ other.target) × (pair.away ≡ other.away)
   one_pair Mapping None text pair other m n = absurd m
-  one_pair Mapping (Some host_node) text pair other m n = one_mapping host_node text pair.target other.target pair.away other.away m n
-  one_pair Alias host_node text pair other a b = (a.target ∙ ap text_of (one_alias text a.path b.path a.alias b.alias) ∙ sym b.target, a.inside ∙ sym b.inside)
-  one_pair VanityPath host_node text pair other v w = (v.target ∙ ap (λ p. text_of (vanity_page p)) (one_vanity text v.path w.path v.vanity_path w.vanity_path) ∙ sym w.target, v.inside ∙ sym w.inside)
+  one_pair Pattern None text pair other p q = absurd p
+  one_pair Pattern (Some asked) text pair other p q = one_pattern asked text (pair.target, pair.away) (other.target, other.away) p q
+  one_pair Mapping (Some asked) text pair other m n = one_mapping asked.host_node text pair.target other.target pair.away other.away m n
+  one_pair Alias asked text pair other a b = (a.target ∙ ap text_of (one_alias text a.path b.path a.alias b.alias) ∙ sym b.target, a.inside ∙ sym b.inside)
+  one_pair VanityPath asked text pair other v w = (v.target ∙ ap (λ p. text_of (vanity_page p)) (one_vanity text v.path w.path v.vanity_path w.vanity_path) ∙ sym w.target, v.inside ∙ sym w.inside)
 
   one_rank : (kind other : PairKind) → rank kind ≡ rank other → kind ≡ other
   one_rank Mapping Mapping e = refl
+  one_rank Mapping Pattern e = absurd (omega (arith, e))
   one_rank Mapping Alias e = absurd (omega (arith, e))
   one_rank Mapping VanityPath e = absurd (omega (arith, e))
+  one_rank Pattern Mapping e = absurd (omega (arith, e))
+  one_rank Pattern Pattern e = refl
+  one_rank Pattern Alias e = absurd (omega (arith, e))
+  one_rank Pattern VanityPath e = absurd (omega (arith, e))
   one_rank Alias Mapping e = absurd (omega (arith, e))
+  one_rank Alias Pattern e = absurd (omega (arith, e))
   one_rank Alias Alias e = refl
   one_rank Alias VanityPath e = absurd (omega (arith, e))
   one_rank VanityPath Mapping e = absurd (omega (arith, e))
+  one_rank VanityPath Pattern e = absurd (omega (arith, e))
   one_rank VanityPath Alias e = absurd (omega (arith, e))
   one_rank VanityPath VanityPath e = refl
 
   same_pair : (pair other : Pair) → pair.kind ≡ other.kind → pair.target ≡ other.target → pair.away ≡ other.away → pair ≡ other
   same_pair pair other kinds targets aways = λ i. record { kind = kinds i; target = targets i; away = aways i }
 
-  pub one_decides : (host_node : Option (List (List ℕ))) (text : List ℕ) (at k : ℕ) (pair other : Pair) → Decides tree host_node text at pair → Decides tree host_node text k other → (at ≡ k) × (pair ≡ other)
-  one_decides host_node text at k pair other d e = ⊎_elim
+  pub one_decides : (asked : Option Asked) (text : List ℕ) (at k : ℕ) (pair other : Pair) → Decides tree asked text at pair → Decides tree asked text k other → (at ≡ k) × (pair ≡ other)
+  one_decides asked text at k pair other d e = ⊎_elim
       (λ (less : k < at). ⊎_elim
       (λ (more : at < k). absurd (omega (arith, less, more)))
       (λ (same : (at ≡ k) × (rank other.kind ≤ rank pair.kind)). absurd (omega (arith, less, same.0)))
@@ -88,8 +116,8 @@ module _ (read : IsReadBack) (tree : Content) (good : IsTree (node_at tree)) whe
       (λ (back : (at ≡ k) × (rank other.kind ≤ rank pair.kind)).
       let ranks : rank pair.kind ≡ rank other.kind = omega (arith, same.1, back.1) in
       let kinds = one_rank pair.kind other.kind ranks in
-      let has : IsPairOf other.kind tree host_node (take k text) pair = subst (λ n. IsPairOf other.kind tree host_node (take n text) pair) back.0 (subst (λ kind. IsPairOf kind tree host_node (take at text) pair) kinds d.applies.has) in
-      let one = one_pair other.kind host_node (take k text) pair other has e.applies.has in
+      let has : IsPairOf other.kind tree asked (take k text) pair = subst (λ n. IsPairOf other.kind tree asked (take n text) pair) back.0 (subst (λ kind. IsPairOf kind tree asked (take at text) pair) kinds d.applies.has) in
+      let one = one_pair other.kind asked (take k text) pair other has e.applies.has in
       (back.0, same_pair pair other kinds one.0 one.1))
       (e.best at pair d.applies))
       (d.best k other e.applies)
@@ -98,9 +126,9 @@ module _ (read : IsReadBack) (tree : Content) (good : IsTree (node_at tree)) whe
   further_one (Some status) text further answer other same a b = a ∙ sym b
   further_one None text further answer other same a b = same a b
 
-  pub one_answer : (n : ℕ) (host_node : Option (List (List ℕ))) (text : List ℕ) (answer other : MapAnswer) → Turns tree n host_node text answer → Turns tree n host_node text other → answer ≡ other
-  one_answer zero host_node text answer other a b = a ∙ sym b
-  one_answer (suc n) host_node text answer other a b = ⊎_elim
+  pub one_answer : (n : ℕ) (asked : Option Asked) (text : List ℕ) (answer other : MapAnswer) → Turns tree n asked text answer → Turns tree n asked text other → answer ≡ other
+  one_answer zero asked text answer other a b = a ∙ sym b
+  one_answer (suc n) asked text answer other a b = ⊎_elim
       (λ ended. ⊎_elim
       (λ also. ended.1 ∙ sym also.1)
       (λ turn. absurd (ended.0 turn.at turn.pair turn.decides.applies))
@@ -108,7 +136,7 @@ module _ (read : IsReadBack) (tree : Content) (good : IsTree (node_at tree)) whe
       (λ turn. ⊎_elim
       (λ ended. absurd (ended.0 turn.at turn.pair turn.decides.applies))
       (λ next.
-      let one = one_decides host_node text turn.at next.at turn.pair next.pair turn.decides next.decides in
+      let one = one_decides asked text turn.at next.at turn.pair next.pair turn.decides next.decides in
       let moved = subst (λ (p : Pair). leads p.away (text_after p next.at text) (Turns tree n None (text_after p next.at text)) answer) one.1
       (subst (λ k. leads turn.pair.away (text_after turn.pair k text) (Turns tree n None (text_after turn.pair k text)) answer) one.0 turn.outcome) in
       further_one next.pair.away (text_after next.pair next.at text) (Turns tree n None (text_after next.pair next.at text)) answer other (one_answer n None (text_after next.pair next.at text) answer other) moved next.outcome)

@@ -6,6 +6,10 @@ pub mod VanityLemmas
 pub mod LeaderLemmas
 pub mod MappingLemmas
 pub mod PairLemmas
+pub mod NameLemmas
+pub mod PatternLemmas
+pub mod RowLemmas
+pub mod FrontLemmas
 pub mod TurnLemmas
 pub mod SiblingLemmas
 pub mod SharedLemmas

@@ -15,7 +15,7 @@ use Rattle.url_maps.specs.Mappings.{IsMapping, IsPlain, mapping_of}
 use Rattle.url_maps.specs.declared.pairs.Pair.{Pair}
 use Rattle.url_maps.specs.declared.pairs.PairKind.TheVariants.{Mapping}
 use Rattle.url_maps.specs.Pairs.{IsPair, IsPairOf}
-use Rattle.url_maps.specs.Search.{IsMappingPair, IsOf, below_host_node, mapped_path}
+use Rattle.url_maps.specs.Search.{IsMappingOf, IsMappingPair, below_host_node, mapped_path}
 use Rattle.url_maps.proofs.PathLemmas.{IsReadBack}
 
 -- a text that reads as a path is the path's
@@ -32,7 +32,7 @@ below_text : (below : List (List ℕ)) (b c : ℕ) (text : List ℕ) → text_of
 below_text [] b c text e = cc
 below_text (s ∷ below) b c text e = sym e
 
-some_path : (path whole : List (List ℕ)) → path_or_none whole ≡ Some path → path ≡ whole
+pub some_path : (path whole : List (List ℕ)) → path_or_none whole ≡ Some path → path ≡ whole
 some_path path whole is =
     ⊎_elim
     (λ (passes_it : is_path whole ≡ true). let e : Some whole ≡ Some path = sym (ap (λ b. if b then Some whole else None) passes_it) ∙ is in cc)
@@ -109,25 +109,22 @@ leads_nowhere read tree good host_node prefix target away path node is there non
 
 -- ---- the pair of a mapping
 
-mapping_of_pair : (tree : Content) (host_node : List (List ℕ)) (prefix : List ℕ) (pair : Pair) → pair.kind ≡ Mapping → IsPair tree (Some host_node) prefix pair → IsMapping tree host_node prefix pair.target pair.away
-mapping_of_pair tree host_node prefix pair is has = subst (λ kind. IsPairOf kind tree (Some host_node) prefix pair) is has
+pub no_path_pair : IsReadBack → (tree : Content) → IsTree (node_at tree) → (host_node : List (List ℕ)) (prefix : List ℕ) → mapped_path host_node prefix ≡ None → IsMappingOf tree (Some host_node) prefix None
+no_path_pair read tree good host_node prefix none pair has = no_mapped_path read tree good host_node prefix pair.target pair.away none has
 
-pub no_path_pair : IsReadBack → (tree : Content) → IsTree (node_at tree) → (host_node : List (List ℕ)) (prefix : List ℕ) → mapped_path host_node prefix ≡ None → IsOf Mapping tree (Some host_node) prefix None
-no_path_pair read tree good host_node prefix none pair is has = no_mapped_path read tree good host_node prefix pair.target pair.away none (mapping_of_pair tree host_node prefix pair is has)
+pub no_node_pair : IsReadBack → (tree : Content) → IsTree (node_at tree) → (host_node : List (List ℕ)) (prefix : List ℕ) (path : List (List ℕ)) → mapped_path host_node prefix ≡ Some path → node_at tree path ≡ None → IsMappingOf tree (Some host_node) prefix None
+no_node_pair read tree good host_node prefix path at none pair has = no_mapped_node read tree good host_node prefix pair.target pair.away path at none has
 
-pub no_node_pair : IsReadBack → (tree : Content) → IsTree (node_at tree) → (host_node : List (List ℕ)) (prefix : List ℕ) (path : List (List ℕ)) → mapped_path host_node prefix ≡ Some path → node_at tree path ≡ None → IsOf Mapping tree (Some host_node) prefix None
-no_node_pair read tree good host_node prefix path at none pair is has = no_mapped_node read tree good host_node prefix pair.target pair.away path at none (mapping_of_pair tree host_node prefix pair is has)
-
-pub no_plain_pair : IsReadBack → (tree : Content) → IsTree (node_at tree) → (host_node : List (List ℕ)) (prefix : List ℕ) (path : List (List ℕ)) → mapped_path host_node prefix ≡ Some path → (IsPlain tree host_node path → ⊥) → IsOf Mapping tree (Some host_node) prefix None
-no_plain_pair read tree good host_node prefix path at not pair is has = not_plain read tree good host_node prefix pair.target pair.away path at not (mapping_of_pair tree host_node prefix pair is has)
+pub no_plain_pair : IsReadBack → (tree : Content) → IsTree (node_at tree) → (host_node : List (List ℕ)) (prefix : List ℕ) (path : List (List ℕ)) → mapped_path host_node prefix ≡ Some path → (IsPlain tree host_node path → ⊥) → IsMappingOf tree (Some host_node) prefix None
+no_plain_pair read tree good host_node prefix path at not pair has = not_plain read tree good host_node prefix pair.target pair.away path at not has
 
 pub no_target_pair : IsReadBack → (tree : Content) → IsTree (node_at tree) → (host_node : List (List ℕ)) (prefix : List ℕ) (path : List (List ℕ)) (node : Node) → mapped_path host_node prefix ≡ Some path → node_at tree path ≡ Some node → IsMappingPair node None
-    → IsOf Mapping tree (Some host_node) prefix None
-no_target_pair read tree good host_node prefix path node at there none pair kind has = leads_nowhere read tree good host_node prefix pair.target pair.away path node at there none (mapping_of_pair tree host_node prefix pair kind has)
+    → IsMappingOf tree (Some host_node) prefix None
+no_target_pair read tree good host_node prefix path node at there none pair has = leads_nowhere read tree good host_node prefix pair.target pair.away path node at there none has
 
 pub pair_at_node : IsReadBack → IsSpelled → (tree : Content) → IsTree (node_at tree) → (host_node : List (List ℕ)) (prefix : List ℕ) (path : List (List ℕ)) (node : Node) (o : Option Pair) → mapped_path host_node prefix ≡ Some path → node_at tree path ≡ Some node
-    → IsPlain tree host_node path → IsMappingPair node o → IsOf Mapping tree (Some host_node) prefix o
+    → IsPlain tree host_node path → IsMappingPair node o → IsMappingOf tree (Some host_node) prefix o
 pair_at_node read spelled tree good host_node prefix path node (Some pair) at there plain is =
-    (is.0, subst (λ kind. IsPairOf kind tree (Some host_node) prefix pair) (sym is.0) (mapping_from tree host_node prefix path node pair.target pair.away (mapped_from spelled host_node path prefix at) there plain is.1))
+    (is.0, mapping_from tree host_node prefix path node pair.target pair.away (mapped_from spelled host_node path prefix at) there plain is.1)
 pair_at_node read spelled tree good host_node prefix path node None at there plain is =
     no_target_pair read tree good host_node prefix path node at there is

@@ -7,14 +7,16 @@ use Rattle.sp_base.specs.Paths.{path_of}
 use Rattle.sp_base.specs.Properties.{text_in}
 use Rattle.sp_base.specs.declared.path.PathFault.{PathFault}
 use Rattle.resource_tree.specs.declared.nodes.Node.{Node}
-use Rattle.resource_tree.specs.Content.{Content, node_at, prop_at}
+use Rattle.resource_tree.specs.Content.{Content, kid, node_at, prop_at}
 use Rattle.url_maps.specs.declared.answer.MapAnswer.{MapAnswer}
 use Rattle.url_maps.specs.declared.answer.MapAnswer.TheVariants.{Inside, Away}
 use Rattle.url_maps.specs.declared.pairs.Pair.{Pair}
 use Rattle.url_maps.specs.declared.pairs.PairKind.{PairKind}
 use Rattle.url_maps.specs.declared.pairs.PairKind.TheVariants.{Alias, VanityPath}
 use Rattle.url_maps.specs.Answers.{alias_at, alias_with, answer_of, deciding_pair, earliest, is_without_pattern, map_answer, mapping_at, mapping_with, outcome, pair_at, pair_inside, pair_to, pair_with, sibling_with_alias, turn, vanity_at, vanity_nodes, vanity_with}
-use Rattle.url_maps.specs.Mappings.{internal_target, is_redirect, mapping_of, redirect_status, redirect_target, host_node_of, status_in, mapping_status}
+use Rattle.url_maps.specs.Mappings.{internal_target, is_redirect, mapping_of, redirect_status, redirect_target, status_in, mapping_status}
+use Rattle.url_maps.specs.Patterns.{Asked, asked_for, host_of, mappings_path}
+use Rattle.url_maps.specs.PatternAnswers.{given_at, given_by, givers, has_front, least, pattern_pair, pattern_with}
 use Rattle.url_maps.specs.Pairs.{goes_on_after_prefix}
 use Rattle.url_maps.specs.Search.{is_prefix_end, mapped_path}
 use Rattle.url_maps.specs.Turns.{most_turns, text_after}
@@ -91,15 +93,36 @@ first_redirects : (o p : Option Pair) → Redirects o → Redirects p → Redire
 first_redirects None p first second = second
 first_redirects (Some pair) p first second = first
 
-place_redirects : (tree : Content) (host_node : Option (List (List ℕ))) (text : List ℕ) (at : ℕ) → Redirects (pair_at tree host_node text at)
-place_redirects tree host_node text at =
+given_leads : (asked : Asked) (prefix : List ℕ) (o : Option Node) → Leads (option_and_then (given_by asked prefix) o)
+given_leads asked prefix None = tt
+given_leads asked prefix (Some node) = either_leads (has_front asked prefix node) (mapping_of node) (mapping_leads node (internal_target node))
+  where
+    either_leads : (b : Bool) (o : Option (List ℕ × Option ℕ)) → Leads o → Leads (cond b o None)
+    either_leads true o leads = leads
+    either_leads false o leads = tt
+
+pair_redirects : (o : Option (List ℕ × Option ℕ)) → Leads o → Redirects (option_map pattern_pair o)
+pair_redirects None leads = tt
+pair_redirects (Some to) leads = leads
+
+named_redirects : (tree : Content) (asked : Asked) (prefix : List ℕ) (o : Option (List ℕ)) → Redirects (option_map pattern_pair (option_and_then (given_at tree asked prefix) o))
+named_redirects tree asked prefix None = tt
+named_redirects tree asked prefix (Some name) = pair_redirects (given_at tree asked prefix name) (given_leads asked prefix (node_at tree (kid mappings_path name)))
+
+pattern_redirects : (tree : Content) (asked : Option Asked) (prefix : List ℕ) → Redirects (pattern_with tree asked prefix)
+pattern_redirects tree None prefix = tt
+pattern_redirects tree (Some asked) prefix = named_redirects tree asked prefix (least (givers tree asked prefix))
+
+place_redirects : (tree : Content) (asked : Option Asked) (text : List ℕ) (at : ℕ) → Redirects (pair_at tree asked text at)
+place_redirects tree asked text at =
     let prefix = take at text in
     let rest = drop at text in
     let vanity = cond (goes_on_after_prefix VanityPath rest) (vanity_with tree prefix) None in
-    either (is_prefix_end rest) (pair_with tree host_node prefix rest)
-    (first_redirects (mapping_with tree host_node prefix) (option_or (alias_with tree prefix) vanity) (mapping_redirects tree host_node prefix)
+    either (is_prefix_end rest) (pair_with tree asked prefix rest)
+    (first_redirects (mapping_with tree (host_of asked) prefix) (option_or (pattern_with tree asked prefix) (option_or (alias_with tree prefix) vanity)) (mapping_redirects tree (host_of asked) prefix)
+    (first_redirects (pattern_with tree asked prefix) (option_or (alias_with tree prefix) vanity) (pattern_redirects tree asked prefix)
     (first_redirects (alias_with tree prefix) vanity (alias_redirects tree (path_of prefix))
-    (either (goes_on_after_prefix VanityPath rest) (vanity_with tree prefix) (vanity_redirects tree prefix (path_of prefix)))))
+    (either (goes_on_after_prefix VanityPath rest) (vanity_with tree prefix) (vanity_redirects tree prefix (path_of prefix))))))
 
 abbrev DecisionRedirects : Option (ℕ × Pair) → Type 0
 DecisionRedirects o = IfSome o (λ d. IfSome d.1.away IsRedirect)
@@ -108,9 +131,9 @@ later_redirects : (at : ℕ) (o : Option Pair) (p : Option (ℕ × Pair)) → Re
 later_redirects at None p first second = second
 later_redirects at (Some pair) p first second = first
 
-decision_redirects : (tree : Content) (host_node : Option (List (List ℕ))) (text : List ℕ) (n : ℕ) → DecisionRedirects (deciding_pair tree host_node text n)
-decision_redirects tree host_node text zero = tt
-decision_redirects tree host_node text (suc at) = later_redirects at (pair_at tree host_node text at) (deciding_pair tree host_node text at) (place_redirects tree host_node text at) (decision_redirects tree host_node text at)
+decision_redirects : (tree : Content) (asked : Option Asked) (text : List ℕ) (n : ℕ) → DecisionRedirects (deciding_pair tree asked text n)
+decision_redirects tree asked text zero = tt
+decision_redirects tree asked text (suc at) = later_redirects at (pair_at tree asked text at) (deciding_pair tree asked text at) (place_redirects tree asked text at) (decision_redirects tree asked text at)
 
 -- an answer that leads away does so by a status of a redirect
 abbrev AnswerRedirects : MapAnswer → Type 0
@@ -125,10 +148,10 @@ turn_redirects : (text : List ℕ) (further : List ℕ → MapAnswer) (o : Optio
 turn_redirects text further None is rest = tt
 turn_redirects text further (Some (at, pair)) is rest = outcome_redirects pair.away (text_after pair at text) further is rest
 
-answer_redirects : (tree : Content) (n : ℕ) (host_node : Option (List (List ℕ))) (text : List ℕ) → AnswerRedirects (answer_of tree n host_node text)
-answer_redirects tree zero host_node text = tt
-answer_redirects tree (suc n) host_node text = turn_redirects text (answer_of tree n None) (deciding_pair tree host_node text (suc (length text))) (decision_redirects tree host_node text (suc (length text))) (answer_redirects tree n None)
+answer_redirects : (tree : Content) (n : ℕ) (asked : Option Asked) (text : List ℕ) → AnswerRedirects (answer_of tree n asked text)
+answer_redirects tree zero asked text = tt
+answer_redirects tree (suc n) asked text = turn_redirects text (answer_of tree n None) (deciding_pair tree asked text (suc (length text))) (decision_redirects tree asked text (suc (length text))) (answer_redirects tree n None)
 
 pub away_redirects : (tree : Content) (host : List ℕ) (port : ℕ) (text target : List ℕ) (status : ℕ) → map_answer tree host port text ≡ Away status target → is_redirect status ≡ true
 unfolding map_answer
-away_redirects tree host port text target status is = subst AnswerRedirects is (answer_redirects tree most_turns (Some (host_node_of host port)) text)
+away_redirects tree host port text target status is = subst AnswerRedirects is (answer_redirects tree most_turns (Some (asked_for host port text)) text)

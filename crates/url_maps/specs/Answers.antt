@@ -14,7 +14,9 @@ use Rattle.url_maps.specs.declared.pairs.Pair.{Pair}
 use Rattle.url_maps.specs.declared.pairs.PairKind.{PairKind}
 use Rattle.url_maps.specs.declared.pairs.PairKind.TheVariants.{Mapping, Alias, VanityPath}
 use Rattle.url_maps.specs.Aliases.{has_alias}
-use Rattle.url_maps.specs.Mappings.{has_match, mapping_of, host_node_of}
+use Rattle.url_maps.specs.Mappings.{has_match, mapping_of}
+use Rattle.url_maps.specs.Patterns.{Asked, asked_for, host_of}
+use Rattle.url_maps.specs.PatternAnswers.{pattern_with}
 use Rattle.url_maps.specs.Pairs.{goes_on_after_prefix}
 use Rattle.url_maps.specs.Search.{is_prefix_end, mapped_path}
 use Rattle.url_maps.specs.Turns.{most_turns, text_after}
@@ -82,17 +84,17 @@ vanity_with tree prefix = vanity_at tree prefix (path_of prefix)
 -- ---- the pair that decides
 
 -- among those with a prefix, before the rest of a text
-abbrev pub pair_with : Content → Option (List (List ℕ)) → List ℕ → List ℕ → Option Pair
-pair_with tree host_node prefix rest = option_or (mapping_with tree host_node prefix) (option_or (alias_with tree prefix) (if goes_on_after_prefix VanityPath rest then vanity_with tree prefix else None))
+abbrev pub pair_with : Content → Option Asked → List ℕ → List ℕ → Option Pair
+pair_with tree asked prefix rest = option_or (mapping_with tree (host_of asked) prefix) (option_or (pattern_with tree asked prefix) (option_or (alias_with tree prefix) (if goes_on_after_prefix VanityPath rest then vanity_with tree prefix else None)))
 
 -- among those whose prefix ends at a place of a text
-abbrev pub pair_at : Content → Option (List (List ℕ)) → List ℕ → ℕ → Option Pair
-pair_at tree host_node text at = if is_prefix_end (drop at text) then pair_with tree host_node (take at text) (drop at text) else None
+abbrev pub pair_at : Content → Option Asked → List ℕ → ℕ → Option Pair
+pair_at tree asked text at = if is_prefix_end (drop at text) then pair_with tree asked (take at text) (drop at text) else None
 
 -- among those whose prefix ends before a place: the one at the last place, and that place
-abbrev pub deciding_pair : Content → Option (List (List ℕ)) → List ℕ → ℕ → Option (ℕ × Pair)
-deciding_pair tree host_node text zero = None
-deciding_pair tree host_node text (suc at) = option_or (option_map (λ pair. (at, pair)) (pair_at tree host_node text at)) (deciding_pair tree host_node text at)
+abbrev pub deciding_pair : Content → Option Asked → List ℕ → ℕ → Option (ℕ × Pair)
+deciding_pair tree asked text zero = None
+deciding_pair tree asked text (suc at) = option_or (option_map (λ pair. (at, pair)) (pair_at tree asked text at)) (deciding_pair tree asked text at)
 
 -- ---- the turns
 
@@ -107,10 +109,10 @@ turn text further None = Inside text
 turn text further (Some (at, pair)) = outcome pair.away (text_after pair at text) further
 
 -- the answer of n turns
-abbrev pub answer_of : Content → ℕ → Option (List (List ℕ)) → List ℕ → MapAnswer
-answer_of tree zero host_node text = Inside text
-answer_of tree (suc n) host_node text = turn text (answer_of tree n None) (deciding_pair tree host_node text (suc (length text)))
+abbrev pub answer_of : Content → ℕ → Option Asked → List ℕ → MapAnswer
+answer_of tree zero asked text = Inside text
+answer_of tree (suc n) asked text = turn text (answer_of tree n None) (deciding_pair tree asked text (suc (length text)))
 
 -- what the tree maps the text to, for a host and a port
 unfoldable pub map_answer : Content → List ℕ → ℕ → List ℕ → MapAnswer
-map_answer tree host port text = answer_of tree most_turns (Some (host_node_of host port)) text
+map_answer tree host port text = answer_of tree most_turns (Some (asked_for host port text)) text

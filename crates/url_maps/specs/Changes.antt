@@ -9,12 +9,16 @@ use Rattle.sp_base.specs.Paths.{is_path, parent_of, text_of}
 use Rattle.resource_tree.specs.declared.nodes.Node.{Node}
 use Rattle.resource_tree.specs.Content.{Content, node_at, same_path}
 use Rattle.resource_tree.specs.Patches as patches
+use Rattle.url_maps.specs.PatternRows.{ArePatternsAfter}
+use Rattle.url_maps.specs.declared.patterns.PatternNode.{PatternNode}
 use Rattle.url_maps.specs.Claims.{AreLed, Index, ClaimRows, claimants, claims_vanity_path, first_claimant, node_claims_vanity_path}
 
--- texts whose claimants change, each with those after the change: of an alias the first, of a vanity path all, led by the one that is named
+-- texts whose claimants change, each with those after the change: of an alias the first, of a vanity path all, led by the one that is named; and all nodes
+-- with a pattern after the change, where it may change any
 pub record Change : Type 0 where
   pub aliases : ClaimRows
   pub vanity_paths : ClaimRows
+  pub patterns : Option (List PatternNode)
 
 -- the claimants of a text with a change over them
 abbrev pub claimants_over : ClaimRows → ClaimRows → List ℕ → List (List (List ℕ))
@@ -44,6 +48,7 @@ pub record IsChangeOf (tree : Content) (patch : patches.PatchEntries) (change : 
   pub vanity_paths : AreChanged (claims_vanity_path tree) (patched_vanity_path tree patch) change.vanity_paths
   pub others : LeavesOthers tree patch change.vanity_paths
   pub leaders : AreLed (patches.patching_at tree patch) change.vanity_paths
+  pub patterns : ArePatternsAfter (node_at tree) (patches.patching_at tree patch) change.patterns
 
 -- The index has room for the change.
 abbrev pub HasRoom : Index → Change → Type 0

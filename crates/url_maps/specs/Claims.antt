@@ -14,6 +14,8 @@ use Rattle.resource_tree.specs.declared.nodes.Node.{Node}
 use Rattle.resource_tree.specs.Content.{Content, kid, node_at, prop_at, same_path}
 use Rattle.sp_base.specs.Properties.{value_texts}
 use Rattle.url_maps.specs.VanityPaths.{order_of, with_slash}
+use Rattle.url_maps.specs.PatternRows.{ArePatterns}
+use Rattle.url_maps.specs.declared.patterns.PatternNode.{PatternNode}
 
 -- texts, and the paths that claim each
 abbrev pub ClaimRows : Type 0
@@ -103,13 +105,15 @@ pub record Table : Type 0 where
   pub rows : ClaimRows
   pub room : ℕ
 
--- by their texts the siblings that are named by an alias, and the nodes with a vanity path
+-- by their texts the siblings that are named by an alias, and the nodes with a vanity path; and the nodes with a pattern
 pub record Index : Type 0 where
   pub aliases : Table
   pub vanity_paths : Table
+  pub patterns : List PatternNode
 
 -- The index is the tree's.
 pub record IsIndexOf (tree : Content) (index : Index) : Type 0 where
   pub aliases : NamesFirst (node_at tree) index.aliases.rows
   pub vanity_paths : AreClaims (claims_vanity_path tree) index.vanity_paths.rows
   pub leaders : AreLed (node_at tree) index.vanity_paths.rows
+  pub patterns : ArePatterns (node_at tree) index.patterns

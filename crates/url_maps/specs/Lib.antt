@@ -2,11 +2,15 @@ pub mod Words
 pub mod Aliases
 pub mod VanityPaths
 pub mod Mappings
+pub mod Patterns
 pub mod Pairs
 pub mod Turns
+pub mod PatternRows
 pub mod Claims
 pub mod Changes
 pub mod Noting
 pub mod Siblings
 pub mod Search
+pub mod Found
+pub mod PatternAnswers
 pub mod Answers

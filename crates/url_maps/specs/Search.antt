@@ -11,14 +11,20 @@ use Rattle.url_maps.specs.declared.turns.MappingStep.{MappingStep}
 use Rattle.url_maps.specs.declared.pairs.PairKind.TheVariants.{Mapping}
 use Rattle.url_maps.specs.Mappings.{has_match, mapping_of}
 use Rattle.resource_tree.specs.declared.nodes.Node.{Node}
+use Rattle.url_maps.specs.Patterns.{Asked}
 use Rattle.url_maps.specs.Pairs.{Applies, Decides, HasMapping, HasNoPair, IsPair, goes_on_after_prefix, rank}
 use Rattle.url_maps.specs.Turns.{text_after}
 use Rattle.url_maps.specs.VanityPaths.{vanity_cmp}
 
 -- the pair of a kind with a prefix, or that there is none
-abbrev pub IsOf : PairKind → Content → Option (List (List ℕ)) → List ℕ → Option Pair → Type 0
-IsOf kind tree host_node prefix (Some pair) = (pair.kind ≡ kind) × IsPair tree host_node prefix pair
-IsOf kind tree host_node prefix None = (pair : Pair) → pair.kind ≡ kind → IsPair tree host_node prefix pair → ⊥
+abbrev pub IsOf : PairKind → Content → Option Asked → List ℕ → Option Pair → Type 0
+IsOf kind tree asked prefix (Some pair) = (pair.kind ≡ kind) × IsPair tree asked prefix pair
+IsOf kind tree asked prefix None = (pair : Pair) → pair.kind ≡ kind → IsPair tree asked prefix pair → ⊥
+
+-- the pair of a mapping of a host node, or that there is none
+abbrev pub IsMappingOf : Content → Option (List (List ℕ)) → List ℕ → Option Pair → Type 0
+IsMappingOf tree host_node prefix (Some pair) = (pair.kind ≡ Mapping) × HasMapping tree host_node prefix pair
+IsMappingOf tree host_node prefix None = (pair : Pair) → HasMapping tree host_node prefix pair → ⊥
 
 -- whether no node is at a path
 abbrev pub is_free_at : Content → Option (List (List ℕ)) → Bool
@@ -66,27 +72,27 @@ IsLastSeparator text (Some at) = (at < length text) × (is_separator (slice_inde
 IsLastSeparator text None = (k : ℕ) → k < length text → is_separator (slice_index text k) ≡ false
 
 -- the pair that decides among those with a prefix, before the rest of a text
-abbrev pub IsBest : Content → Option (List (List ℕ)) → List ℕ → List ℕ → Option Pair → Type 0
-IsBest tree host_node prefix rest (Some pair) = IsPair tree host_node prefix pair × (goes_on_after_prefix pair.kind rest ≡ true)
-    × ((other : Pair) → IsPair tree host_node prefix other → goes_on_after_prefix other.kind rest ≡ true → rank pair.kind ≤ rank other.kind)
-IsBest tree host_node prefix rest None = (other : Pair) → IsPair tree host_node prefix other → goes_on_after_prefix other.kind rest ≡ true → ⊥
+abbrev pub IsBest : Content → Option Asked → List ℕ → List ℕ → Option Pair → Type 0
+IsBest tree asked prefix rest (Some pair) = IsPair tree asked prefix pair × (goes_on_after_prefix pair.kind rest ≡ true)
+    × ((other : Pair) → IsPair tree asked prefix other → goes_on_after_prefix other.kind rest ≡ true → rank pair.kind ≤ rank other.kind)
+IsBest tree asked prefix rest None = (other : Pair) → IsPair tree asked prefix other → goes_on_after_prefix other.kind rest ≡ true → ⊥
 
 -- no pair with a prefix of more bytes applies
-abbrev pub HasNoneBeyond : Content → Option (List (List ℕ)) → List ℕ → ℕ → Type 0
-HasNoneBeyond tree host_node text at = (k : ℕ) (pair : Pair) → at < k → Applies tree host_node text k pair → ⊥
+abbrev pub HasNoneBeyond : Content → Option Asked → List ℕ → ℕ → Type 0
+HasNoneBeyond tree asked text at = (k : ℕ) (pair : Pair) → at < k → Applies tree asked text k pair → ⊥
 
 -- what the pair that decides makes of a text
-pub record IsStep (tree : Content) (host_node : Option (List (List ℕ))) (text : List ℕ) (step : MappingStep) : Type 0 where
+pub record IsStep (tree : Content) (asked : Option Asked) (text : List ℕ) (step : MappingStep) : Type 0 where
   pub at : ℕ
   pub pair : Pair
-  pub decides : Decides tree host_node text at pair
+  pub decides : Decides tree asked text at pair
   pub text_is : step.text ≡ text_after pair at text
   pub away_is : step.away ≡ pair.away
 
 -- a turn, or that no pair applies
-abbrev pub IsTurn : Content → Option (List (List ℕ)) → List ℕ → Option MappingStep → Type 0
-IsTurn tree host_node text (Some step) = IsStep tree host_node text step
-IsTurn tree host_node text None = HasNoPair tree host_node text
+abbrev pub IsTurn : Content → Option Asked → List ℕ → Option MappingStep → Type 0
+IsTurn tree asked text (Some step) = IsStep tree asked text step
+IsTurn tree asked text None = HasNoPair tree asked text
 
 -- the path below a host node that a prefix names, where there is one
 abbrev pub below_host_node : List (List ℕ) → Option (List (List ℕ)) → Option (List (List ℕ))

@@ -6,13 +6,14 @@ use Rattle.url_maps.specs.declared.answer.MapAnswer.{MapAnswer}
 use Rattle.url_maps.specs.declared.answer.MapAnswer.TheVariants.{Inside, Away}
 use Rattle.url_maps.specs.declared.pairs.Pair.{Pair}
 use Rattle.url_maps.specs.declared.pairs.PairKind.{PairKind}
-use Rattle.url_maps.specs.declared.pairs.PairKind.TheVariants.{Mapping, Alias, VanityPath}
-use Rattle.url_maps.specs.Mappings.{host_node_of}
+use Rattle.url_maps.specs.declared.pairs.PairKind.TheVariants.{Mapping, Pattern, Alias, VanityPath}
+use Rattle.url_maps.specs.Patterns.{Asked, asked_for}
 use Rattle.url_maps.specs.Pairs.{Decides, HasNoPair}
 
 -- what follows the target: what followed the prefix, after a vanity path's target at least `.html`
 abbrev pub target_ending : PairKind → List ℕ → List ℕ
 target_ending Mapping rest = rest
+target_ending Pattern rest = rest
 target_ending Alias rest = rest
 target_ending VanityPath [] = codes ".html"
 target_ending VanityPath (b ∷ rest) = b ∷ rest
@@ -27,17 +28,17 @@ leads (Some status) text further answer = answer ≡ Away status text
 leads None text further answer = further answer
 
 -- a turn in which a pair decides
-pub record MappingTurn (tree : Content) (host_node : Option (List (List ℕ))) (text : List ℕ) (further : List ℕ → MapAnswer → Type 0) (answer : MapAnswer) : Type 0 where
+pub record MappingTurn (tree : Content) (asked : Option Asked) (text : List ℕ) (further : List ℕ → MapAnswer → Type 0) (answer : MapAnswer) : Type 0 where
   pub at : ℕ
   pub pair : Pair
-  pub decides : Decides tree host_node text at pair
+  pub decides : Decides tree asked text at pair
   pub outcome : leads pair.away (text_after pair at text) (further (text_after pair at text)) answer
 
--- What n turns make of a text, the first of them with the mappings of a host node: they end where no pair applies, where a pair leads away, or after the
+-- What n turns make of a text, the first of them with the mappings that are asked for: they end where no pair applies, where a pair leads away, or after the
 -- last.
-abbrev pub Turns : Content → ℕ → Option (List (List ℕ)) → List ℕ → MapAnswer → Type 0
-Turns tree zero host_node text answer = answer ≡ Inside text
-Turns tree (suc n) host_node text answer = (HasNoPair tree host_node text × (answer ≡ Inside text)) ⊎ MappingTurn tree host_node text (Turns tree n None) answer
+abbrev pub Turns : Content → ℕ → Option Asked → List ℕ → MapAnswer → Type 0
+Turns tree zero asked text answer = answer ≡ Inside text
+Turns tree (suc n) asked text answer = (HasNoPair tree asked text × (answer ≡ Inside text)) ⊎ MappingTurn tree asked text (Turns tree n None) answer
 
 -- the most turns (`docs/DECISIONS.md`, "Mappings")
 abbrev pub most_turns : ℕ
@@ -45,4 +46,4 @@ most_turns = 16
 
 -- The tree maps the text to the answer, for a host and a port: mappings count in the first turn alone.
 unfoldable pub IsMapped : Content → List ℕ → ℕ → List ℕ → MapAnswer → Type 0
-IsMapped tree host port text answer = Turns tree most_turns (Some (host_node_of host port)) text answer
+IsMapped tree host port text answer = Turns tree most_turns (Some (asked_for host port text)) text answer

@@ -10,17 +10,20 @@ use crate::MapIndex;
 use crate::claimed::vanity_texts;
 use crate::claims_change::ClaimsChange;
 use crate::parents::left_by;
+use crate::patterns::{PatternList, patterns_change, put_patterns};
 use crate::siblings::siblings_change;
 use resource_tree::{Patch, PatchNode, Tree};
 use sp_base::{Mem, Path};
 use std::alloc::Global;
 use std::marker::Model;
 
-/// What a patch changes in an index: the texts whose claimants change, and those after it.
+/// What a patch changes in an index: the texts whose claimants change, and those after it; and all patterns after it, where it may
+/// change any.
 #[derive(Drop)]
 pub struct IndexChange {
     aliases: ClaimsChange,
     vanity_paths: ClaimsChange,
+    patterns: Option<PatternList>,
 }
 
 impl Model for IndexChange {
@@ -28,13 +31,14 @@ impl Model for IndexChange {
 
     ghost Value = { Change };
 
-    ghost view = { λ c. record { aliases = c.aliases; vanity_paths = c.vanity_paths } };
+    ghost view = { λ c. record { aliases = c.aliases; vanity_paths = c.vanity_paths; patterns = c.patterns } };
 }
 
 impl MapIndex {
     /// What a patch of the tree changes in the index, for which room is made here: all memory that the change takes. It walks over
     /// the patch, over the kids of the nodes whose kids it changes or the aliases of whose kids, and over the claimants of the
-    /// vanity paths that the patch's nodes have before it or after it.
+    /// vanity paths that the patch's nodes have before it or after it. Where the patch has something at `/etc/map/http` or directly
+    /// below it reads the patterns of all nodes there.
     pub fn change_of(&mut self, alloc: Global, tree: &Tree, patch: &Patch) -> Mem<IndexChange>
         requires { IsIndexOf tree.now self.old }
         ensures change { IfOk result (IsChangeOf tree.now patch.now) }
@@ -55,9 +59,11 @@ impl MapIndex {
         let IndexChange {
             aliases,
             vanity_paths,
+            patterns,
         } = change;
         self.aliases.change(aliases);
         self.vanity_paths.change(vanity_paths);
+        put_patterns(&mut self.patterns, patterns);
     }
 }
 
@@ -68,6 +74,7 @@ fn change_by(alloc: Global, index: &MapIndex, tree: &Tree, patch: &Patch) -> Mem
     Ok(IndexChange {
         aliases: siblings_change(alloc, tree, patch)?,
         vanity_paths: vanity_change(alloc, index, tree, patch)?.led(alloc, tree, patch)?,
+        patterns: patterns_change(alloc, tree, patch)?,
     })
 }
 

@@ -1,9 +1,10 @@
-// The index of a tree's aliases and vanity paths.
+// The index of a tree's aliases, vanity paths and patterns.
 ghost use Rattle.std.specs.Prelude.{IfOk, OnOk};
 ghost use Rattle.url_maps.specs.Claims.{AddsClaims, IsIndexOf, node_claims_alias, node_claims_vanity_path};
 
 use crate::claimed::{aliases_of, vanity_paths_of};
 use crate::claims::Claims;
+use crate::patterns::{PatternList, patterns_of};
 use crate::siblings::first_siblings;
 use resource_tree::{Node, Patch, Tree};
 use sp_base::{Mem, Path};
@@ -11,11 +12,13 @@ use std::alloc::Global;
 use std::marker::Model;
 
 /// The aliases and the vanity paths of a tree, found by their texts: of an alias the first of the siblings that have it,
-/// of a vanity path the nodes that have it, and before the others the one that it names.
+/// of a vanity path the nodes that have it, and before the others the one that it names. And the patterns of the nodes directly
+/// below `/etc/map/http`, as they were read.
 #[derive(Drop)]
 pub struct MapIndex {
     pub(crate) aliases: Claims,
     pub(crate) vanity_paths: Claims,
+    pub(crate) patterns: PatternList,
 }
 
 impl Model for MapIndex {
@@ -23,7 +26,7 @@ impl Model for MapIndex {
 
     ghost Value = { Index };
 
-    ghost view = { λ i. record { aliases = i.aliases; vanity_paths = i.vanity_paths } };
+    ghost view = { λ i. record { aliases = i.aliases; vanity_paths = i.vanity_paths; patterns = i.patterns } };
 }
 
 impl MapIndex {
@@ -46,6 +49,7 @@ impl MapIndex {
         Ok(MapIndex {
             aliases,
             vanity_paths: vanity_paths.led(alloc, tree, &unchanged)?,
+            patterns: patterns_of(alloc, tree, &unchanged)?,
         })
     }
 }

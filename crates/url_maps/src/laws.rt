@@ -9,7 +9,8 @@ ghost use Rattle.resource_tree.specs.Changes.{kids_at};
 ghost use Rattle.url_maps.specs.Aliases.{IsAlias, has_alias, IsAtOrBefore};
 ghost use Rattle.url_maps.specs.VanityPaths.{IsVanityPath, has_vanity_path, vanity_order};
 ghost use Rattle.url_maps.specs.Answers.{map_answer};
-ghost use Rattle.url_maps.specs.Mappings.{is_redirect, host_node_of};
+ghost use Rattle.url_maps.specs.Mappings.{is_redirect};
+ghost use Rattle.url_maps.specs.Patterns.{Asked, asked_for};
 ghost use Rattle.url_maps.specs.Pairs.{Decides, HasNoPair};
 ghost use Rattle.url_maps.specs.Turns.{IsMapped};
 ghost use Rattle.url_maps.specs.declared.answer.MapAnswer.{MapAnswer};
@@ -20,12 +21,12 @@ use sp_base::a_path_and_its_text;
 
 /// A text to which no pair applies is mapped to itself.
 pub fn a_text_without_a_pair_is_mapped_to_itself()
-    ensures { (tree : Content) (host : List ℕ) (port : ℕ) (text : List ℕ) → HasNoPair tree (Some (host_node_of host port)) text → IsMapped tree host port text (Inside text) }
+    ensures { (tree : Content) (host : List ℕ) (port : ℕ) (text : List ℕ) → HasNoPair tree (Some (asked_for host port text)) text → IsMapped tree host port text (Inside text) }
 {}
 
 /// At most one pair decides a turn.
 pub fn at_most_one_pair_decides()
-    ensures { (tree : Content) (host_node : Option (List (List ℕ))) (text : List ℕ) (at k : ℕ) (pair other : Pair) → IsGood tree → Decides tree host_node text at pair → Decides tree host_node text k other → (at ≡ k) × (pair ≡ other) }
+    ensures { (tree : Content) (asked : Option Asked) (text : List ℕ) (at k : ℕ) (pair other : Pair) → IsGood tree → Decides tree asked text at pair → Decides tree asked text k other → (at ≡ k) × (pair ≡ other) }
 {
     a_path_and_its_text()
 }

@@ -4,10 +4,12 @@
 
 mod aliases;
 mod answer;
+mod asked;
 mod change;
 mod claimed;
 mod claims;
 mod claims_change;
+mod fronts;
 mod index;
 mod laws;
 mod leaders;
@@ -15,6 +17,7 @@ mod mappings;
 mod named_kids;
 mod pairs;
 mod parents;
+mod patterns;
 mod reach;
 mod siblings;
 mod turns;

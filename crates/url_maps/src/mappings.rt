@@ -1,55 +1,55 @@
 // The mappings of a host and a port.
-ghost use Rattle.std.specs.Prelude.{◌≡◌, ◌↔◌, IfOk, IsTrue, Some};
+ghost use Rattle.std.specs.Prelude.{◌≡◌, ◌↔◌, IfOk, IsTrue, Some, option_and_then, option_copied};
 ghost use Rattle.sp_base.specs.Paths.{path_or_none};
-ghost use Rattle.url_maps.specs.Mappings.{IsPlain, has_match, redirect_status, host_node_of, mapping_status};
-ghost use Rattle.url_maps.specs.Search.{IsBeyond, IsMappingPair, IsOf, mapped_path};
+ghost use Rattle.url_maps.specs.Mappings.{IsPlain, has_match, redirect_status, mapping_status};
+ghost use Rattle.url_maps.specs.Patterns.{host_of};
+ghost use Rattle.url_maps.specs.Search.{IsBeyond, IsMappingOf, IsMappingPair, mapped_path};
 
+use crate::asked::HostText;
 use crate::pairs::{Pair, PairKind};
 use crate::words::number;
 use resource_tree::{Node, Tree};
-use sp_base::{Mem, NoMemory, Path, PathFault, a_path_and_its_text, value_texts};
+use sp_base::{Mem, Path, a_path_and_its_text, value_texts};
 use std::alloc::Global;
 
 /// The status of a redirect whose mapping names none (RFC 9110, section 15.4.3).
 const FOUND: u16 = 302;
 
-// The path of the node with the mappings for a host and a port, where it may be one.
-pub(crate) fn host_node_of(alloc: Global, host: &str, port: u16) -> Mem<Option<Path>>
-    ensures { IfOk result (λ o. o ≡ path_or_none (host_node_of host.now port)) }
-{
-    let mut name = host.to_ascii_lowercase(alloc)?;
-    name.push_str(".")?;
-    name.push_str(format!(in alloc; "{port}")?.as_str())?;
-    match Path::read(alloc, "/etc/map/http") {
-        Ok(parent) => parent.child_or_none(alloc, name.as_str()),
-        Err(PathFault::NoMemory) => Err(NoMemory),
-        Err(_) => unreachable!(),
-    }
-}
-
-// The pair of a mapping of a host node, if there is a host node and the tree has one with this prefix, where no mapping's prefix has
-// more bytes than the reach.
+// The pair of a mapping of the host node, if mappings are asked for and the tree has one with this prefix, where no mapping's prefix
+// has more bytes than the reach.
 pub(crate) fn mapping_within(
     alloc: Global,
     tree: &Tree,
-    host_node: &Option<Path>,
+    asked: &Option<HostText>,
     reach: usize,
     prefix: &str,
 ) -> Mem<Option<Pair>>
-    requires { IsBeyond tree.now host_node.now prefix.now reach }
-    ensures { IfOk result (IsOf PairKind.Mapping tree.now host_node.now prefix.now) }
+    requires { IsBeyond tree.now (host_of asked.now) prefix.now reach }
+    ensures { IfOk result (IsMappingOf tree.now (host_of asked.now) prefix.now) }
 {
+    // `len` says that nodes are at paths alone.
+    let _ = tree.len();
     if prefix.len() > reach {
         return Ok(None);
     }
-    match host_node {
+    match host_node_of(asked) {
         Some(host_node) => mapping_below(alloc, tree, host_node, prefix),
         None => Ok(None),
     }
 }
 
+// The path of the host node, if there is one.
+pub(crate) fn host_node_of(asked: &Option<HostText>) -> Option<&Path>
+    ensures { option_copied result ≡ option_and_then path_or_none (host_of asked.now) }
+{
+    match asked {
+        Some(asked) => asked.host_node(),
+        None => None,
+    }
+}
+
 fn mapping_below(alloc: Global, tree: &Tree, host_node: &Path, prefix: &str) -> Mem<Option<Pair>>
-    ensures { IfOk result (IsOf PairKind.Mapping tree.now (Some host_node.now) prefix.now) }
+    ensures { IfOk result (IsMappingOf tree.now (Some host_node.now) prefix.now) }
 {
     a_path_and_its_text();
     let _ = tree.len();
@@ -109,7 +109,7 @@ pub(crate) fn has_match(tree: &Tree, path: &Path) -> bool
 
 // Where the node of a mapping leads.
 #[tactic(auto, unfolding(crate::specs::Mappings::internal_target, crate::specs::Mappings::redirect_target))]
-fn pair_of(alloc: Global, node: &Node) -> Mem<Option<Pair>>
+pub(crate) fn pair_of(alloc: Global, node: &Node) -> Mem<Option<Pair>>
     ensures { IfOk result (λ o. IsMappingPair node.now o) }
 {
     if let Some(target) = value_texts(node.props.get("sling:internalRedirect")).first() {

@@ -5,6 +5,7 @@ use sp_base::TextBuf;
 #[derive(Clone, Copy, Drop)]
 pub(crate) enum PairKind {
     Mapping,
+    Pattern,
     Alias,
     VanityPath,
 }

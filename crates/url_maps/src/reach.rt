@@ -1,7 +1,10 @@
 // How far into a text the prefix of a mapping may reach.
 ghost use Rattle.std.specs.Prelude.{◌≡◌, ◌++◌, IfOk, Some};
+ghost use Rattle.url_maps.specs.Patterns.{host_of};
 ghost use Rattle.url_maps.specs.Search.{HasNoMappingBeyond, IsBarredAt, is_passable};
 
+use crate::asked::HostText;
+use crate::mappings::host_node_of;
 use resource_tree::Tree;
 use sp_base::{Mem, Path, a_path_and_its_text, the_prefixes_of_a_path};
 use std::alloc::Global;
@@ -11,12 +14,14 @@ use std::alloc::Global;
 pub(crate) fn reach_of(
     alloc: Global,
     tree: &Tree,
-    host_node: &Option<Path>,
+    asked: &Option<HostText>,
     text: &str,
 ) -> Mem<usize>
-    ensures { IfOk result (HasNoMappingBeyond tree.now host_node.now text.now) }
+    ensures { IfOk result (HasNoMappingBeyond tree.now (host_of asked.now) text.now) }
 {
-    match host_node {
+    // `len` says that nodes are at paths alone.
+    let _ = tree.len();
+    match host_node_of(asked) {
         Some(host_node) => reach_below(alloc, tree, host_node, text),
         None => Ok(0),
     }

@@ -1,16 +1,20 @@
 //! The turns in which a text is mapped.
-ghost use Rattle.std.specs.Prelude.{◌≡◌, ◌==◌, ◌<◌, ◌++◌, true, IfOk, Some, None, option_copied, slice_index};
+ghost use Rattle.std.specs.Prelude.{◌≡◌, ◌==◌, ◌++◌, true, IfOk, length, option_copied, slice_index};
 ghost use Rattle.url_maps.specs.Answers.{map_answer};
 ghost use Rattle.url_maps.specs.Claims.{IsIndexOf};
-ghost use Rattle.url_maps.specs.Search.{IsBest, IsBeyond, IsLastSeparator, IsShorter, IsTurn, is_prefix_end, is_separator};
+ghost use Rattle.url_maps.specs.Found.{IsLongestPair, IsTextOf, pair_if_at};
+ghost use Rattle.url_maps.specs.Patterns.{host_of};
+ghost use Rattle.url_maps.specs.Search.{HasNoMappingBeyond, IsBest, IsBeyond, IsLastSeparator, IsOf, IsShorter, IsTurn, is_prefix_end, is_separator};
 ghost use Rattle.url_maps.specs.Turns.{IsMapped, target_ending};
 
-use crate::mappings::{host_node_of, mapping_within};
+use crate::asked::HostText;
+use crate::fronts::{PatternFront, pair_if_at};
+use crate::mappings::mapping_within;
 use crate::pairs::{Pair, PairKind};
 use crate::reach::reach_of;
 use crate::{MapAnswer, MapIndex, the_answer_is_mapped};
 use resource_tree::Tree;
-use sp_base::{Mem, Path, TextBuf};
+use sp_base::{Mem, TextBuf};
 use std::alloc::Global;
 
 /// The most turns of a text.
@@ -22,6 +26,15 @@ pub(crate) struct MappingStep {
     pub text: TextBuf,
     /// The status of a redirect, where the pair leads away.
     pub away: Option<u16>,
+}
+
+/// What a turn knows of its mappings before it looks at a prefix.
+#[derive(Drop)]
+pub(crate) struct Known {
+    /// The most bytes of the prefix of a mapping of the host node.
+    reach: usize,
+    /// Of the pairs that patterns give the one with the longest prefix.
+    pattern: Option<PatternFront>,
 }
 
 /// Maps the text of a request's path, for the host and the port that are asked. Without an index each call walks over the tree.
@@ -56,17 +69,18 @@ impl MapIndex {
         ensures { IfOk result (IsMapped tree.now host.now port text.now) }
     {
         let _ = tree.len();
-        let mut host_node = host_node_of(alloc, host, port)?;
+        let first = HostText::of(alloc, host, port, text)?;
+        let mut asked = Some(first);
         let mut text = TextBuf::of(alloc, text)?;
         for _ in 0..MOST_TURNS {
-            let Some(step) = self.step(alloc, tree, &host_node, text.text())? else {
+            let Some(step) = self.step(alloc, tree, &asked, text.text())? else {
                 return Ok(MapAnswer::Inside(text));
             };
             if let Some(status) = step.away {
                 return Ok(MapAnswer::Away(status, step.text));
             }
             text = step.text;
-            host_node = None;
+            asked = None;
         }
         Ok(MapAnswer::Inside(text))
     }
@@ -76,17 +90,35 @@ impl MapIndex {
         &self,
         alloc: Global,
         tree: &Tree,
-        host_node: &Option<Path>,
+        asked: &Option<HostText>,
         text: &str,
     ) -> Mem<Option<MappingStep>>
-        requires { IsIndexOf tree.now self.now }
-        ensures { IfOk result (IsTurn tree.now host_node.now text.now) }
+        requires index { IsIndexOf tree.now self.now }
+        requires text { IsTextOf asked.now text.now }
+        ensures { IfOk result (IsTurn tree.now asked.now text.now) }
     {
-        let reach = reach_of(alloc, tree, host_node, text)?;
+        let known = self.known(alloc, tree, asked, text)?;
+        self.step_knowing(alloc, tree, asked, &known, text)
+    }
+
+    #[tactic(auto, using(crate::proofs::FrontLemmas::found_at))]
+    fn step_knowing(
+        &self,
+        alloc: Global,
+        tree: &Tree,
+        asked: &Option<HostText>,
+        known: &Known,
+        text: &str,
+    ) -> Mem<Option<MappingStep>>
+        requires index { IsIndexOf tree.now self.now }
+        requires reach { HasNoMappingBeyond tree.now (host_of asked.now) text.now known.now.reach }
+        requires pattern { IsLongestPair tree.now asked.now text.now known.now.pattern }
+        ensures { IfOk result (IsTurn tree.now asked.now text.now) }
+    {
         let mut prefix = text;
         loop {
             let rest = &text[prefix.len()..];
-            if let Some(pair) = self.best(alloc, tree, host_node, reach, prefix, rest)? {
+            if let Some(pair) = self.best(alloc, tree, asked, known, prefix, rest)? {
                 return Ok(Some(MappingStep {
                     text: text_after(alloc, &pair, rest)?,
                     away: pair.away,
@@ -99,22 +131,39 @@ impl MapIndex {
         }
     }
 
+    // How far the prefix of a mapping may reach, and the pair that patterns give.
+    fn known(&self, alloc: Global, tree: &Tree, asked: &Option<HostText>, text: &str) -> Mem<Known>
+        requires index { IsIndexOf tree.now self.now }
+        requires text { IsTextOf asked.now text.now }
+        ensures reach { IfOk result (λ known. HasNoMappingBeyond tree.now (host_of asked.now) text.now known.reach) }
+        ensures pattern { IfOk result (λ known. IsLongestPair tree.now asked.now text.now known.pattern) }
+    {
+        Ok(Known {
+            reach: reach_of(alloc, tree, asked, text)?,
+            pattern: self.longest_pair(alloc, tree, asked, text)?,
+        })
+    }
+
     // The pair that decides among those with a prefix.
     fn best(
         &self,
         alloc: Global,
         tree: &Tree,
-        host_node: &Option<Path>,
-        reach: usize,
+        asked: &Option<HostText>,
+        known: &Known,
         prefix: &str,
         rest: &str,
     ) -> Mem<Option<Pair>>
         requires index { IsIndexOf tree.now self.now }
         requires cut { is_prefix_end rest.now ≡ true }
-        requires reach { IsBeyond tree.now host_node.now prefix.now reach }
-        ensures { IfOk result (IsBest tree.now host_node.now prefix.now rest.now) }
+        requires reach { IsBeyond tree.now (host_of asked.now) prefix.now known.now.reach }
+        requires pattern { IsOf PairKind.Pattern tree.now asked.now prefix.now (pair_if_at (length prefix.now) known.now.pattern) }
+        ensures { IfOk result (IsBest tree.now asked.now prefix.now rest.now) }
     {
-        if let Some(pair) = mapping_within(alloc, tree, host_node, reach, prefix)? {
+        if let Some(pair) = mapping_within(alloc, tree, asked, known.reach, prefix)? {
+            return Ok(Some(pair));
+        }
+        if let Some(pair) = pair_if_at(alloc, prefix.len(), &known.pattern)? {
             return Ok(Some(pair));
         }
         if let Some(pair) = self.alias_of(alloc, tree, prefix)? {

@@ -14,4 +14,5 @@ returns c =
       vanity_paths = changed_led at (claims_vanity_path tree) (patched_vanity_path tree patch) c.in_ok-vanity_change.field-0 c.in_ok-led.field-0 c.in_ok-led.ensures c.in_ok-vanity_change.ensures.changed;
       others = others_led tree patch at c.in_ok-vanity_change.field-0 c.in_ok-led.field-0 c.in_ok-led.ensures c.in_ok-vanity_change.ensures.others;
       leaders = rows_are_led at c.in_ok-vanity_change.field-0 c.in_ok-led.field-0 c.in_ok-led.ensures;
+      patterns = c.in_ok-patterns_change.ensures;
     }

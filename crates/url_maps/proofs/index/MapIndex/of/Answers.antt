@@ -5,6 +5,7 @@ use Rattle.resource_tree.specs.Patches.{PatchEntries, patching_at}
 use Rattle.resource_tree.specs.Rows.{AreRowsOf}
 use Rattle.url_maps.specs.Claims.{claimants, claims_alias, claims_vanity_path, node_claims_alias, node_claims_vanity_path}
 use Rattle.url_maps.specs.Noting.{PutsLeaderFirst}
+use Rattle.url_maps.specs.PatternRows.{ArePatterns}
 use Rattle.url_maps.proofs.ClaimLemmas.{alias_there, row_there, rows_more, vanity_path_there, whole_aliases, whole_vanity_paths}
 use Rattle.url_maps.proofs.index.MapIndex.of.Goals as goal
 
@@ -41,4 +42,5 @@ returns c =
       aliases = c.in_ok-aliases.ensures;
       vanity_paths = λ t q. (leads t).paths q ∙ old t q;
       leaders = λ t. (leads t).led;
+      patterns = subst (λ (rs : PatchEntries). ArePatterns (patching_at tree rs) c.in_ok-patterns_of.field-0) c.new-unchanged.ensures c.in_ok-patterns_of.ensures;
     }

@@ -58,13 +58,14 @@ pub literal_of_all : (scope : Bindings) (v : Out) (items : List (List ItemPiece)
     → AreItemPieces scope pieces (plain (codes ",") v)
 literal_of_all scope v items pieces list some known all = subst (AreItemPieces scope pieces) (sym (listed v list)) (of_all scope items (listed_texts v) pieces some known all)
 
+-- a text, or nothing, has no items
+pub text_has_no_items : (text : Option (List ℕ)) → listed_texts (text_or_nothing text) ≡ []
+text_has_no_items None = refl
+text_has_no_items (Some text) = refl
+
 -- what the resource has under a name of its own has no items
 pub field_has_no_items : (scope : Bindings) (name : List ℕ) → listed_texts (resource scope name) ≡ []
-field_has_no_items scope name = go (field scope name)
-  where
-    go : (text : Option (List ℕ)) → listed_texts (text_or_nothing text) ≡ []
-    go None = refl
-    go (Some text) = refl
+field_has_no_items scope name = text_has_no_items (field scope name)
 
 -- what an operand that is no property says of its items
 pub no_property : (scope : Bindings) (named : Option (Bor TextBuf)) (items : List (List ItemPiece)) (v : Out) → named ≡ None → KnowsItself scope (option_map (λ (name : Bor TextBuf). name.now) named) items v → HavePieces scope items (listed_texts v)

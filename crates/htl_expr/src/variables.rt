@@ -26,7 +26,7 @@ fn find_pair<'v>(pairs: &[(&'v str, &'v str)], name: &str) -> Option<&'v str>
     match pairs {
         [] => None,
         [pair, outer @ ..] => {
-            if pair.0 == name {
+            if name == pair.0 {
                 Some(pair.1)
             } else {
                 find_pair(outer, name)
@@ -42,7 +42,7 @@ fn find<'v>(vars: &Variables<'v>, name: &str) -> Option<&'v str>
     match vars {
         Variables::None => None,
         Variables::With(inner, text, outer) => {
-            if *inner == name {
+            if name == *inner {
                 Some(text)
             } else {
                 find(outer, name)

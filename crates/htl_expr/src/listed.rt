@@ -1,6 +1,6 @@
 //! A list as the texts of its items.
 
-ghost use Rattle.std.specs.Prelude.{◌≡◌, ◌<◌, [], IfOk, length, get_or, slice_get};
+ghost use Rattle.std.specs.Prelude.{◌≡◌, ◌<◌, [], IfOk, length, get_or, map, slice_get};
 ghost use Rattle.htl_expr.specs.Lent.{out_of_lent, listed_texts, plain_item};
 ghost use Rattle.htl_expr.specs.Value.{list_in};
 
@@ -96,7 +96,17 @@ pub(crate) fn items_of(value: Lent<'_>) -> Option<Listed<'_>>
     }
 }
 
+// The text of the item at a place of a list literal.
+#[tactic(auto, using(crate::proofs::SameItems::get_or_of_map))]
+fn literal_item<'v>(alloc: Global, items: &[Lent<'v>], place: usize) -> Mem<ItemText<'v>>
+    requires { place < length items.now }
+    ensures { IfOk result (λ text. text ≡ get_or (map plain_item items.now) place []) }
+{
+    text_of(alloc, &items[place])
+}
+
 // The text of the item at a place.
+#[tactic(auto, using(crate::proofs::Chains::items_out, crate::proofs::SameItems::get_or_of_map))]
 fn text_at<'v>(alloc: Global, list: &Lent<'v>, place: usize) -> Mem<ItemText<'v>>
     requires { place < length (listed_texts (out_of_lent list.now)) }
     ensures { IfOk result (λ text. text ≡ get_or (listed_texts (out_of_lent list.now)) place []) }
@@ -105,7 +115,7 @@ fn text_at<'v>(alloc: Global, list: &Lent<'v>, place: usize) -> Mem<ItemText<'v>
         Lent::Texts(texts) => Ok(lent_text(texts.as_slice()[place].text())),
         Lent::Longs(numbers) => Ok(made_text(long_text(alloc, numbers.as_slice()[place])?)),
         Lent::Truths(truths) => Ok(lent_text(truth_text(truths.as_slice()[place]))),
-        Lent::Items(items) => text_of(alloc, &items.as_slice()[place]),
+        Lent::Items(items) => literal_item(alloc, items.as_slice(), place),
         _ => Ok(lent_text("")),
     }
 }
@@ -119,6 +129,7 @@ impl<'v> Listed<'v> {
     }
 
     /// The text of the item at a place, counted from 0. It is lent where the item is a text or a truth, and else made.
+    #[tactic(auto, using(crate::proofs::Items::item_there, crate::proofs::Items::no_item))]
     pub fn item(&self, alloc: Global, place: usize) -> Mem<Option<ItemText<'v>>>
         ensures { IfOk result (λ item. item ≡ slice_get self.now place) }
     {

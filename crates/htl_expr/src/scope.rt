@@ -1,7 +1,9 @@
 //! The resource that an expression is evaluated for.
 
 ghost use Rattle.std.specs.Prelude.{◌≡◌, option_map};
+ghost use Rattle.htl_expr.specs.Bindings.{with_vars};
 ghost use Rattle.htl_expr.specs.Value as spec;
+ghost use Rattle.htl_expr.specs.Variables.{vars_of};
 ghost use Rattle.htl_expr.specs.Lent.{out_of_lent};
 
 use crate::lent::Lent;
@@ -27,6 +29,15 @@ impl<'a> Model for Scope<'a> {
     ghost Value = { Bindings };
 
     ghost view = { λ s. record { props = s.props.now; path = s.path.now; name = s.name.now; kind = s.kind.now; vars = vars_of s.vars.now } };
+}
+
+impl<'a> Scope<'a> {
+    /// The variables by themselves.
+    pub fn variables(&self) -> &'a Variables<'a>
+        ensures { with_vars self.now (vars_of result.now) ≡ self.now }
+    {
+        self.vars
+    }
 }
 
 /// A stored value.

@@ -338,7 +338,7 @@ impl Expr {
         match &self.expression.node {
             Some(node) => {
                 let mut resource = Evaluation::of(alloc, scope);
-                owned(alloc, &value(alloc, &mut resource, scope.vars, node)?.value)
+                owned(alloc, &value(alloc, &mut resource, scope.variables(), node)?.value)
             }
             None => Ok(Out::Nothing),
         }

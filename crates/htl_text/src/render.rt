@@ -87,7 +87,7 @@ impl Template {
     {
         let mut text = String::new(alloc);
         let mut resource = Evaluation::of(alloc, scope);
-        match self.write(&mut text, alloc, &mut resource, scope.vars) {
+        match self.write(&mut text, alloc, &mut resource, scope.variables()) {
             Ok(()) => Ok(TextBuf::from(text)),
             Err(fault) => Err(fault),
         }

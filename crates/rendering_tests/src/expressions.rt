@@ -27,16 +27,18 @@ fn reads_as_list(alloc: Global, scope: &Scope<'_>, text: &str, wanted: &str) -> 
 fn a_value_has_a_kind(rt: HostRuntime) {
     let props = PropList::new(rt.alloc());
     let vars = Variables::None;
-    assert!(rt; reads_as_list(rt.alloc(), &scope(&props, &vars), "[7, 8] @ join='; '", "7; 8"));
+    assert!(rt;
+        reads_as_list(
+            rt.alloc(),
+            &scope(&props, &vars),
+            "[7, 8] @ join='; '",
+            "7; 8"
+        )
+    );
 }
 
 // Writes an expression for a resource of which nothing is found out yet, where there is room for 5 bytes.
-fn is_too_long<'x>(
-    alloc: Global,
-    scope: &'x Scope<'x>,
-    page: &mut String,
-    e: &'x Expr,
-) -> bool {
+fn is_too_long<'x>(alloc: Global, scope: &'x Scope<'x>, page: &mut String, e: &'x Expr) -> bool {
     let mut evaluation = Evaluation::of(alloc, scope);
     matches!(
         e.write(page, alloc, &mut evaluation, scope.vars, 5),

@@ -110,7 +110,9 @@ fn lists_have_items(rt: HostRuntime) {
     let mut of = Evaluation::of(rt.alloc(), &scope);
     for (text, first, second) in &LISTED {
         let read = Expr::read(rt.alloc(), *text);
-        assert!(rt; matches!(&read, Ok(e) if lists(rt.alloc(), &mut of, &vars, e, (*first, *second))));
+        assert!(rt;
+            matches!(&read, Ok(e) if lists(rt.alloc(), &mut of, &vars, e, (*first, *second)))
+        );
     }
 }
 
@@ -167,11 +169,17 @@ fn faults_are_told_in_the_whole_text(rt: HostRuntime) {
 }
 
 // Writes a template for two items, one after another.
-fn writes_items(alloc: Global, of: &mut Evaluation<'_>, template: &Template, page: &mut String) -> bool {
+fn writes_items(
+    alloc: Global,
+    of: &mut Evaluation<'_>,
+    template: &Template,
+    page: &mut String,
+) -> bool {
     let none = Variables::None;
     let first = Variables::With("item", "a", &none);
     let second = Variables::With("item", "<", &none);
-    template.write(page, alloc, of, &first).is_ok() && template.write(page, alloc, of, &second).is_ok()
+    template.write(page, alloc, of, &first).is_ok()
+        && template.write(page, alloc, of, &second).is_ok()
 }
 
 #[test]

@@ -1,5 +1,6 @@
 -- The variables of a place, one over another.
-use Rattle.std.proofs.Common.{◌≡◌, ◌≤◌, ℕ, false, List, [], ◌∷◌, Bor, length, drop, get_or, nat_eq, refl, sym, ap, ◌∙◌, arith}
+use Rattle.std.proofs.Common.{◌≡◌, ◌≤◌, ◌-◌, ℕ, false, List, [], ◌∷◌, Bor, length, take, drop, get_or, nat_eq, refl, sym, ap, ◌∙◌, arith}
+use Rattle.std.proofs.lemmas.List.{take_all}
 use Rattle.std.specs.Cmp.Lexicographic.{pointwise}
 use Rattle.std.specs.Map.{lookup}
 use Rattle.htl_expr.specs.declared.variables.Variables.{Variables}
@@ -19,6 +20,7 @@ pairs_are pairs = ap vars_of (sym (vars.rolls-Pairs pairs)) ∙ fold-roll-Variab
 
 -- where the first pair has another name, the others have the text
 pub not_first : (name : List ℕ) (pairs : List (Bor (List ℕ) × Bor (List ℕ))) (default : Bor (List ℕ) × Bor (List ℕ)) → 1 ≤ length pairs → pointwise nat_eq name (get_or pairs 0 default).0.now ≡ false
-    → lookup (pointwise nat_eq name) (lent_pairs (drop 1 pairs)) ≡ lookup (pointwise nat_eq name) (lent_pairs pairs)
+    → lookup (pointwise nat_eq name) (lent_pairs (take (length pairs - 1) (drop 1 pairs))) ≡ lookup (pointwise nat_eq name) (lent_pairs pairs)
 not_first name [] default some other = absurd (omega (arith, some))
-not_first name (pair ∷ pairs) default some other = rw other refl
+not_first name (pair ∷ pairs) default some other =
+    ap (λ (ps : List (Bor (List ℕ) × Bor (List ℕ))). lookup (pointwise nat_eq name) (lent_pairs ps)) (take_all (length (pair ∷ pairs) - 1) pairs (omega arith)) ∙ rw other refl

@@ -1,9 +1,8 @@
 -- Steps of reading a template piece by piece.
-use Rattle.std.proofs.Common.{◌≡◌, ◌<◌, ◌≤◌, ◌+◌, ◌-◌, ℕ, zero, suc, true, false, ◌||◌, eqb, List, [], ◌∷◌, ◌++◌, take, drop, get_or, length, Option, Some, None, Result, Ok, Err, refl, ap, sym, ◌∙◌, arith, append_assoc, append-nil}
+use Rattle.std.proofs.Common.{◌≡◌, ◌<◌, ◌≤◌, ◌+◌, ◌-◌, ℕ, zero, suc, true, false, ◌||◌, eqb, List, [], ◌∷◌, ◌++◌, take, drop, get_or, length, Option, Some, None, Result, Ok, Err, refl, ap, sym, ◌∙◌, arith, append_assoc}
 use Rattle.std.proofs.Common.{drop-drop}
 use Rattle.std.specs.List.{flat_map}
-use Rattle.std.proofs.lemmas.List.{length-append, take_more}
-use Rattle.std.proofs.lemmas.Grind.{flat_map-append}
+use Rattle.std.proofs.lemmas.List.{length-append}
 use Rattle.std.proofs.lemmas.List.Folds.{length-flat_map-take}
 use Rattle.htl_syntax.specs.declared.expression.Expression.{Expression}
 use Rattle.htl_syntax.specs.declared.expression.ExprFault.{ExprFault}
@@ -120,9 +119,3 @@ piece_too_long g xs i x most leading now lt is e long =
     let whole = length-append leading (flat_map g xs) in
     let same = ap length e ∙ length-append leading (flat_map g (take i xs)) in
     omega (arith, within, parts, whole, same, long)
-
--- what one piece more writes
-pub piece_written : {X : Type 0} (g : X → List ℕ) (xs : List X) (i : ℕ) (x : X) (leading now new : List ℕ) → i < length xs → x ≡ get_or xs i x → now ≡ leading ++ flat_map g (take i xs) → new ≡ now ++ g x → new ≡ leading ++ flat_map g (take (i + 1) xs)
-piece_written g xs i x leading now new lt is e written =
-    written ∙ ap (λ (t : List ℕ). t ++ g x) e ∙ append_assoc leading (flat_map g (take i xs)) (g x)
-    ∙ ap (λ (t : List ℕ). leading ++ t) (ap (λ (t : List ℕ). flat_map g (take i xs) ++ t) (sym (append-nil (g x))) ∙ sym (flat_map-append g (take i xs) (x ∷ [])) ∙ ap (flat_map g) (ap (λ (n : X). take i xs ++ n ∷ []) is ∙ sym (take_more xs i x lt)))

@@ -44,12 +44,7 @@ pub(crate) fn all_pieces<'a>(
 }
 
 // Whether a piece has this text.
-fn has_text(
-    alloc: Global,
-    scope: &mut Evaluation,
-    piece: &ItemPiece,
-    text: &str,
-) -> Mem<bool>
+fn has_text(alloc: Global, scope: &mut Evaluation, piece: &ItemPiece, text: &str) -> Mem<bool>
     ensures same { IfOk result (λ same. same ≡ pointwise nat_eq (item_piece_text scope.old piece.now) text.now) }
     ensures scope { scope.new ≡ scope.old }
 {
@@ -62,12 +57,7 @@ fn has_text(
 
 // Whether two pieces have the same text. Properties are compared by their numbers.
 #[tactic(auto, using(crate::proofs::SameItems::same_swapped))]
-fn is_same_piece(
-    alloc: Global,
-    scope: &mut Evaluation,
-    a: &ItemPiece,
-    b: &ItemPiece,
-) -> Mem<bool>
+fn is_same_piece(alloc: Global, scope: &mut Evaluation, a: &ItemPiece, b: &ItemPiece) -> Mem<bool>
     ensures same { IfOk result (λ same. same ≡ pointwise nat_eq (item_piece_text scope.old a.now) (item_piece_text scope.old b.now)) }
     ensures scope { scope.new ≡ scope.old }
 {
@@ -150,12 +140,7 @@ fn same_in_prefix(
 }
 
 #[tactic(auto, using(crate::proofs::SameItems::get_or_of_map))]
-fn len_at(
-    alloc: Global,
-    scope: &mut Evaluation,
-    pieces: &[ItemPiece],
-    place: usize,
-) -> Mem<usize>
+fn len_at(alloc: Global, scope: &mut Evaluation, pieces: &[ItemPiece], place: usize) -> Mem<usize>
     requires { place < length pieces.now }
     ensures len { IfOk result (λ len. len ≡ length (get_or (piece_texts scope.old pieces.now) place [])) }
     ensures scope { scope.new ≡ scope.old }
@@ -164,11 +149,7 @@ fn len_at(
 }
 
 // How many bytes the pieces have, with a comma before each.
-fn len_with_commas(
-    alloc: Global,
-    scope: &mut Evaluation,
-    pieces: &[ItemPiece],
-) -> Mem<usize>
+fn len_with_commas(alloc: Global, scope: &mut Evaluation, pieces: &[ItemPiece]) -> Mem<usize>
     ensures len { IfOk result (λ len. len ≡ length (with_commas (piece_texts scope.old pieces.now))) }
     ensures scope { scope.new ≡ scope.old }
 {
@@ -230,11 +211,7 @@ fn push_piece_at(
 }
 
 // The texts of the pieces, with a comma before each.
-fn text_with_commas(
-    alloc: Global,
-    scope: &mut Evaluation,
-    pieces: &[ItemPiece],
-) -> Mem<TextBuf>
+fn text_with_commas(alloc: Global, scope: &mut Evaluation, pieces: &[ItemPiece]) -> Mem<TextBuf>
     ensures text { IfOk result (λ text. text ≡ with_commas (piece_texts scope.old pieces.now)) }
     ensures scope { scope.new ≡ scope.old }
 {

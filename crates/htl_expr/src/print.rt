@@ -204,7 +204,13 @@ impl Expr {
     {
         let mut text = String::new(alloc);
         let mut resource = Evaluation::of(alloc, scope);
-        match self.write(&mut text, alloc, &mut resource, scope.variables(), usize::MAX) {
+        match self.write(
+            &mut text,
+            alloc,
+            &mut resource,
+            scope.variables(),
+            usize::MAX,
+        ) {
             Ok(()) => Ok(TextBuf::from(text)),
             Err(_) => Err(NoMemory),
         }

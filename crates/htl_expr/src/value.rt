@@ -217,7 +217,11 @@ fn list_value<'v, 'a: 'v>(
 }
 
 // The property of this name, or nothing.
-fn property_operand<'v, 'a: 'v>(alloc: Global, scope: &Evaluation<'a>, name: &'v TextBuf) -> Operand<'v>
+fn property_operand<'v, 'a: 'v>(
+    alloc: Global,
+    scope: &Evaluation<'a>,
+    name: &'v TextBuf,
+) -> Operand<'v>
     ensures value { out_of_lent result.value ≡ spec.property scope.now name.now }
     ensures operand { IsOperand scope.now result }
 {
@@ -230,7 +234,11 @@ fn property_operand<'v, 'a: 'v>(alloc: Global, scope: &Evaluation<'a>, name: &'v
 
 // What the resource has under a name of its own.
 #[tactic(auto, using(crate::proofs::Items::field_has_no_items))]
-fn resource_operand<'v, 'a: 'v>(alloc: Global, scope: &Evaluation<'a>, name: &TextBuf) -> Operand<'v>
+fn resource_operand<'v, 'a: 'v>(
+    alloc: Global,
+    scope: &Evaluation<'a>,
+    name: &TextBuf,
+) -> Operand<'v>
     ensures value { out_of_lent result.value ≡ spec.resource scope.now name.now }
     ensures operand { IsOperand scope.now result }
 {
@@ -338,7 +346,10 @@ impl Expr {
         match &self.expression.node {
             Some(node) => {
                 let mut resource = Evaluation::of(alloc, scope);
-                owned(alloc, &value(alloc, &mut resource, scope.variables(), node)?.value)
+                owned(
+                    alloc,
+                    &value(alloc, &mut resource, scope.variables(), node)?.value,
+                )
             }
             None => Ok(Out::Nothing),
         }

@@ -5,3 +5,5 @@
 mod expressions;
 #[cfg(test)]
 mod faults;
+#[cfg(test)]
+mod variables;

@@ -37,3 +37,5 @@ pub mod DueEventLemmas
 pub mod FewLemmas
 pub mod RoundLemmas
 pub mod NothingDueLemmas
+pub mod UncachedLemmas
+pub mod UncachedRunLemmas

@@ -12,6 +12,7 @@ ghost use Rattle.run_laws.specs.Histories.{AnswersWhatCame, HasReadAll, came_sin
 ghost use Rattle.run_laws.specs.Named.{EventsNamePages};
 ghost use Rattle.run_laws.specs.Owned.{AnswersAreOwn, HitsAreEntries};
 ghost use Rattle.run_laws.specs.Renders.{ArePublished, IsNeverFixed, renders_of};
+ghost use Rattle.run_laws.specs.Uncached.{UncachedRunsLeaveNoChoice};
 ghost use Rattle.run_laws.specs.Logs.{HitsAreFresh, IsBeginning, KeptPagesAreOwed, KeptPagesAreServed, OwedHitsGiveWhatWasKept, RepliesInFlightAreNotStored, log_after};
 
 use cache_log::{
@@ -68,6 +69,13 @@ pub fn runs_with_memory_are_determined()
 {
     the_turns_of_a_beginning();
 }
+
+/// A run leaves no choice in which neither the disk fails nor memory runs out, and whose requests have no page in the cache and ask for no
+/// invalidation: no hit is given, no flush begins, and the cache doesn't go down. Its steps tell which requests may come: those that the bytes
+/// spell, or the first of these bytes, which come on a connection from a step on that opens it.
+pub fn runs_that_ask_no_cache_leave_no_choice()
+    ensures { UncachedRunsLeaveNoChoice }
+{}
 
 /// In two such runs of the same steps, before the same publisher and farm and on the same content and log, the streams end alike, if in the
 /// first no stream that is still read ends, after any event, within a target that isn't UTF-8 and can't become it, with its bytes or with the

@@ -1,21 +1,14 @@
 -- A run that asks for no page of the cache and for no invalidation leaves no choice, event by event.
-use Rattle.std.proofs.Common.{◌≡◌, ◌≢◌, ◌∙◌, ℕ, suc, ◌+◌, ◌-◌, ◌<◌, ◌≤◌, ◌++◌, Bool, true, false, List, [], ◌∷◌, Option, Some, None, IsTrue, length, map, refl, ap, sym, subst, inl, inr, ⊎_elim, arith, append_assoc, eq-eqb}
-use Rattle.std.specs.Prelude.{if◌then◌else◌, nat_eq, nat_le}
+use Rattle.std.proofs.Common.{◌≡◌, ◌∙◌, ℕ, ◌+◌, ◌<◌, ◌≤◌, ◌++◌, true, false, List, [], ◌∷◌, Option, Some, None, length, map, refl, ap, sym, inl, inr, ⊎_elim, arith}
 use Rattle.std.specs.List.{AllByRecursion}
-use Rattle.std.specs.Map.{update}
-use Rattle.std.specs.Option.{option_map}
-use Rattle.std.proofs.lemmas.Bool.{ne_eqb}
 use Rattle.sp_base.specs.Limits.{greatest_u64}
 use Rattle.sp_base.specs.declared.answer.Answer.{Answer}
 use Rattle.sp_base.specs.Requests.{Request}
 use Rattle.any_config.specs.declared.farm.Farm.{Farm}
 use Rattle.cover_rules.specs.declared.page.PageKey.{PageKey}
 use Rattle.cover_rules.specs.declared.invalidation.Invalidation.{Invalidation}
-use Rattle.http_front.specs.Turns.{End, SpellsTurns}
-use Rattle.http_front.specs.declared.turn.Turn.{Turn}
 use Rattle.cache_log.specs.Entries.{LogEntry, FlushOutcome, downs_since, last_epoch}
 use Rattle.cache_log.specs.Rules.{HasFallenShort}
-use Rattle.connections.specs.Connections.{Connection, fresh, with_due_continue, with_piece}
 use Rattle.connections.specs.Slots.{Response}
 use Rattle.run_events.specs.declared.conditions.Conditions.{Conditions}
 use Rattle.run_events.specs.declared.flying.Flying.{Flying}
@@ -27,17 +20,18 @@ use Rattle.run_events.specs.declared.step.Step.{Step}
 use Rattle.run_events.specs.declared.step.Step.TheVariants as step
 use Rattle.run_events.specs.States.{RunState, Start, start_of}
 use Rattle.run_events.specs.Points.{call_conditions}
-use Rattle.run_events.specs.Moves.{due_of_connection, flying_at, flush_at, on_connection, over_with, state_after_ask, state_after_ending, state_after_flush, state_after_hit, state_after_note, state_after_notes, treated_request}
+use Rattle.run_events.specs.Moves.{due_of_connection, flying_at, flush_at, over_with, state_after_ask, state_after_ending, state_after_flush, state_after_hit, state_after_note, state_after_notes, treated_request}
 use Rattle.run_events.specs.Restarts.{EndsRestart, Restarts, cut_notes, without_connections}
-use Rattle.run_events.specs.Events.{Event, HappensBy, PieceTo, Run, after_event, most_connections, state_after_going, state_after_opening, state_before_notes}
+use Rattle.run_events.specs.Events.{Event, HappensBy, Run, after_event, state_before_notes}
 use Rattle.run_laws.specs.Determined.{AreDetermined, LeavesNoChoice, event_steps}
 use Rattle.run_laws.specs.Logs.{IsBeginning}
-use Rattle.run_laws.specs.Uncached.{AreUnhindered, IsUnhindered, StepsAskNoCache, StreamAsksNoCache, UncachedRunsLeaveNoChoice, comes_on}
+use Rattle.run_laws.specs.Brought.{AreUnhindered, IsUnhindered, StepsAskNoCache, TurnsAskNoCache, UncachedRunsLeaveNoChoice}
+use Rattle.run_laws.proofs.BroughtLemmas.{begun_read, coming_by, later-bring}
 use Rattle.run_laws.proofs.EachNoteLemmas.{AllIn, IsOfEach, step-all}
 use Rattle.run_laws.proofs.EntryLemmas.{begun-log}
+use Rattle.run_laws.proofs.FormLemmas.{slice-form}
 use Rattle.run_laws.proofs.LogLemmas.{begun-farm}
-use Rattle.run_laws.proofs.PastLemmas.{longer, same-advanced}
-use Rattle.run_laws.proofs.UncachedLemmas.{AddsNoEpoch, AllRead, IsFree, Reads, Uncached, landing-free, next-free, read-later, read-none, reads-same, slice-free, uncached-note}
+use Rattle.run_laws.proofs.UncachedLemmas.{AddsNoEpoch, IsFree, Unasking, Uncached, landing-free, next-free, slice-free, uncached-note}
 
 -- ---- epochs
 -- the epoch to which the restarts of a log may have come
@@ -108,7 +102,7 @@ FreeIn farm coming w note = Uncached farm coming w → IsFree note
 each-free : (farm : Farm) (coming : ℕ → List ℕ) (s : Step) → (s ≡ step.Restart → ⊥) → IsOfEach (FreeIn farm coming) s
 each-free farm coming s other = record {
   due = λ m w c note gives uncached. next-free farm coming m w c w.slicing note uncached gives;
-  slice = λ w v note is uncached. slice-free v note is;
+  slice = λ m w v note gives uncached. slice-free v note (slice-form m v note gives);
   landing = λ w n note is uncached. landing-free n note is;
   lost = λ w n uncached. (tt, tt);
   idle = λ w uncached. (tt, tt);
@@ -175,80 +169,16 @@ restart-free w e unhindered room restarts =
       near = rw state (omega (arith, same, last.1));
     }
 
--- ---- what a step leaves to come
-begins-with : (d : ℕ) (bytes : List ℕ) (steps : List Step) → comes_on d (step.Piece d bytes ∷ steps) ≡ bytes ++ comes_on d steps
-begins-with d bytes steps = let here : nat_eq d d ≡ true = eq-eqb d d refl in rw here refl
-
-piece-apart : (d : ℕ) (bytes : List ℕ) (steps : List Step) (q : ℕ) → d ≢ q → comes_on q (step.Piece d bytes ∷ steps) ≡ comes_on q steps
-piece-apart d bytes steps q apart = let other : nat_eq d q ≡ false = ne_eqb d q apart in rw other refl
-
-going-apart : (d : ℕ) (steps : List Step) (q : ℕ) → d ≢ q → comes_on q (step.Gone d ∷ steps) ≡ comes_on q steps
-going-apart d steps q apart = let other : nat_eq d q ≡ false = ne_eqb d q apart in rw other refl
-
--- what is still to come by these steps
-abbrev pub coming_by : List Step → ℕ → List ℕ
-coming_by steps = λ c. comes_on c steps
-
-opened-uncached : (farm : Farm) (steps : List Step) (w : RunState) (d : ℕ) (peer : List ℕ) (at : Option Connection) → StreamAsksNoCache farm (comes_on d steps) → AllRead farm (coming_by steps) w.connection → AllRead farm (coming_by steps) (state_after_opening w d peer at).connection
-opened-uncached farm steps w d peer (Some k) asks all = all
-opened-uncached farm steps w d peer None asks all = by_room (nat_le most_connections w.connection_count)
-  where
-    new : (k : Connection) → Some (fresh peer) ≡ Some k → Reads farm (comes_on d steps) k
-    new k e = let same : fresh peer ≡ k = cc (e) in subst (Reads farm (comes_on d steps)) same (record { turns = tt; comes = λ reads_on. asks })
-
-    by_room : (full : Bool) → AllRead farm (coming_by steps) (if full then w else record w { connection = update nat_eq w.connection d (Some (fresh peer)); connection_count = w.connection_count + 1 }).connection
-    by_room true = all
-    by_room false = read-later farm (coming_by steps) (coming_by steps) w.connection d (Some (fresh peer)) (λ q apart. refl) all new
-
--- the connection reads the piece, unless it is closing
-fed-reads : (farm : Farm) (bytes later : List ℕ) (turns : List Turn) (ends : End) (k : Connection) → (k.closing ≡ false → SpellsTurns (k.stream ++ bytes) (k.turns ++ turns) ends) → Reads farm (bytes ++ later) k → Reads farm later (with_piece bytes turns ends k)
-fed-reads farm bytes later turns ends k spells reads = by_closing k.closing refl
-  where
-    by_closing : (b : Bool) → k.closing ≡ b → Reads farm later (if b then k else with_due_continue (longer bytes turns ends k))
-    by_closing true is = record { turns = reads.turns; comes = λ reads_on. absurd (let both : true ≡ false = sym is ∙ reads_on in let never : ⊥ = cc in never) }
-    by_closing false is =
-        let asks : StreamAsksNoCache farm (k.stream ++ (bytes ++ later)) = reads.comes is in
-        reads-same farm later (longer bytes turns ends k) (with_due_continue (longer bytes turns ends k)) (same-advanced (longer bytes turns ends k)) (record {
-          turns = asks (k.stream ++ bytes) later (k.turns ++ turns) ends (sym (append_assoc k.stream bytes later)) (spells is);
-          comes = λ reads_on. subst (StreamAsksNoCache farm) (sym (append_assoc k.stream bytes later)) asks;
-        })
-
-piece-uncached : (farm : Farm) (steps : List Step) (w : RunState) (e : Event) (d : ℕ) (bytes : List ℕ) (at : Option Connection) → w.connection d ≡ at → PieceTo w e d bytes at → AllRead farm (coming_by (step.Piece d bytes ∷ steps)) w.connection
-    → AllRead farm (coming_by steps) (on_connection w d (with_piece bytes e.turns e.ends)).connection
-piece-uncached farm steps w e d bytes at is to all =
-    read-later farm (coming_by (step.Piece d bytes ∷ steps)) (coming_by steps) w.connection d (option_map (with_piece bytes e.turns e.ends) (w.connection d)) (piece-apart d bytes steps) all (λ k some. by_open at is to k (ap (option_map (with_piece bytes e.turns e.ends)) (sym is) ∙ some))
-  where
-    by_open : (o : Option Connection) → w.connection d ≡ o → PieceTo w e d bytes o → (k : Connection) → option_map (with_piece bytes e.turns e.ends) o ≡ Some k → Reads farm (comes_on d steps) k
-    by_open None is to k some = absurd (let never : ⊥ = cc in never)
-    by_open (Some j) is to k some =
-        let now : with_piece bytes e.turns e.ends j ≡ k = cc (some) in
-        let reads : Reads farm (bytes ++ comes_on d steps) j = subst (λ xs. Reads farm xs j) (begins-with d bytes steps) (all d j is) in
-        subst (Reads farm (comes_on d steps)) now (fed-reads farm bytes (comes_on d steps) e.turns e.ends j to.spells reads)
-
-gone-uncached : (farm : Farm) (steps : List Step) (w : RunState) (d : ℕ) (at : Option Connection) → w.connection d ≡ at → AllRead farm (coming_by (step.Gone d ∷ steps)) w.connection → AllRead farm (coming_by steps) (state_after_going w d at).connection
-gone-uncached farm steps w d None is all = λ q k some.
-    let apart : d ≢ q = λ same. let none : None ≡ Some k = sym is ∙ ap w.connection same ∙ some in let never : ⊥ = cc in never in
-    subst (λ xs. Reads farm xs k) (going-apart d steps q apart) (all q k some)
-gone-uncached farm steps w d (Some j) is all = read-later farm (coming_by (step.Gone d ∷ steps)) (coming_by steps) w.connection d None (going-apart d steps) all (λ k some. absurd (let never : ⊥ = cc in never))
-
-begun-read : (farm : Farm) (steps : List Step) (w : RunState) (e : Event) (s : Step) → StepsAskNoCache farm (s ∷ steps) → HappensBy w e s → AllRead farm (coming_by (s ∷ steps)) w.connection → AllRead farm (coming_by steps) (state_before_notes w e s).connection
-begun-read farm steps w e (step.Opened d peer) asks happens all = opened-uncached farm steps w d peer (w.connection d) (asks [] d peer steps refl) all
-begun-read farm steps w e (step.Piece d bytes) asks happens all = piece-uncached farm steps w e d bytes (w.connection d) refl happens all
-begun-read farm steps w e (step.Gone d) asks happens all = gone-uncached farm steps w d (w.connection d) refl all
-begun-read farm steps w e (step.Direct target) asks happens all = all
-begun-read farm steps w e (step.Render pick) asks happens all = all
-begun-read farm steps w e (step.Deliver pick) asks happens all = all
-begun-read farm steps w e (step.Lose pick) asks happens all = all
-begun-read farm steps w e step.Purge asks happens all = all
-begun-read farm steps w e step.Restart asks happens all = λ q k some. absurd (let never : ⊥ = cc in never)
-
 -- ---- an event
 notes-uncached : (farm : Farm) (coming : ℕ → List ℕ) (w : RunState) (notes : List Note) → Uncached farm coming w → Uncached farm coming (state_after_notes w notes)
 notes-uncached farm coming w [] uncached = uncached
 notes-uncached farm coming w (note ∷ notes) uncached = notes-uncached farm coming (state_after_note w note) notes (uncached-note farm coming w note uncached)
 
 begun-uncached : (farm : Farm) (steps : List Step) (w : RunState) (e : Event) (s : Step) → StepsAskNoCache farm (s ∷ steps) → HappensBy w e s → Uncached farm (coming_by (s ∷ steps)) w → Uncached farm (coming_by steps) (state_before_notes w e s)
-begun-uncached farm steps w e s asks happens uncached = record { farm_is = (begun-farm w e s).farm ∙ uncached.farm_is; all = begun-read farm steps w e s asks happens uncached.all }
+begun-uncached farm steps w e s asks happens uncached = record {
+  farm_is = (begun-farm w e s).farm ∙ uncached.farm_is;
+  all = begun_read (TurnsAskNoCache farm) (Unasking farm) tt (λ stream turns is. is) steps w e s asks happens uncached.all;
+}
 
 event-free : (farm : Farm) (coming : ℕ → List ℕ) (w : RunState) (e : Event) (s : Step) → Uncached farm coming (state_before_notes w e s) → IsUnhindered e → reach w.log < greatest_u64 → HappensBy w e s → LeavesNone w (state_after_notes (state_before_notes w e s) e.body) e.body
 event-free farm coming w e (step.Opened d peer) uncached unhindered room happens = step-free farm coming w e (step.Opened d peer) (λ is. let never : ⊥ = cc in never) uncached happens
@@ -268,7 +198,7 @@ run-free farm w (e ∷ events) uncached asks room unhindered run =
     let steps : List Step = event_steps events in
     let begun = begun-uncached farm steps w e e.step asks run.0.0 uncached in
     let free = event-free farm (coming_by steps) w e e.step begun unhindered.0 (omega (arith, room)) run.0.0 in
-    let later : StepsAskNoCache farm steps = λ before c peer since is. asks (e.step ∷ before) c peer since (ap (λ xs. e.step ∷ xs) is) in
+    let later : StepsAskNoCache farm steps = later-bring (Unasking farm) e.step steps asks in
     (record { disk_worked = unhindered.0.disk_worked; had_memory = unhindered.0.had_memory; no_choice = free.no_choice },
      run-free farm (after_event w e) events (notes-uncached farm (coming_by steps) (state_before_notes w e e.step) e.body begun) later (omega (arith, room, free.near)) unhindered.1 run.1)
 

@@ -1,6 +1,6 @@
 pub mod Logs
 pub mod Determined
-pub mod Uncached
+pub mod Brought
 pub mod Histories
 pub mod Cuttings
 pub mod Renders

@@ -1,4 +1,4 @@
--- Runs whose requests have no page in the cache, and ask for no invalidation.
+-- Runs of which is known what their steps bring: requests that have no page in the cache and ask for no invalidation, or streams whose ends are told.
 use Rattle.std.specs.Prelude.{◌≡◌, ◌≤◌, ◌+◌, ◌++◌, ℕ, false, nat_eq, if◌then◌else◌, List, [], ◌∷◌, None, length}
 use Rattle.std.specs.List.{AllByRecursion}
 use Rattle.sp_base.specs.Limits.{greatest_u64}
@@ -6,6 +6,7 @@ use Rattle.sp_base.specs.Requests.{Request}
 use Rattle.any_config.specs.declared.farm.Farm.{Farm}
 use Rattle.dispatch_rules.specs.Caching.{cache_key}
 use Rattle.invalidation.specs.Invalidations.{is_invalidation}
+use Rattle.http_front.specs.OpenEnds.{LeavesEndOpen}
 use Rattle.http_front.specs.Turns.{End, SpellsTurns}
 use Rattle.http_front.specs.declared.turn.Turn.{Turn}
 use Rattle.http_front.specs.declared.turn.Turn.TheVariants.{Continue, Whole}
@@ -15,10 +16,28 @@ use Rattle.run_events.specs.declared.step.Step.{Step}
 use Rattle.run_events.specs.declared.step.Step.TheVariants.{Opened, Piece, Gone, Restart}
 use Rattle.run_events.specs.Events.{Event, Run}
 use Rattle.run_events.specs.States.{Start, start_of}
-use Rattle.run_laws.specs.Determined.{AreDetermined, event_steps}
+use Rattle.run_laws.specs.Determined.{AreDetermined, LeaveNoEndOpen, event_steps}
 use Rattle.run_laws.specs.Logs.{IsBeginning}
 
--- ---- what is asked
+-- ---- what comes
+
+-- the bytes that steps bring on a connection, one after another, until its client goes or all connections are shut
+abbrev pub comes_on : ConnectionId → List Step → List ℕ
+comes_on c [] = []
+comes_on c (Piece d bytes ∷ steps) = (if nat_eq d c then bytes else []) ++ comes_on c steps
+comes_on c (Gone d ∷ steps) = if nat_eq d c then [] else comes_on c steps
+comes_on c (Restart ∷ steps) = []
+comes_on c (_ ∷ steps) = comes_on c steps
+
+-- it is so with these bytes and the turns that they spell, and with each beginning of them, since not all that comes may be read
+abbrev pub EachBeginning : (List ℕ → List Turn → Type 0) → List ℕ → Type 0
+EachBeginning Is bytes = (stream rest : List ℕ) (turns : List Turn) (ends : End) → bytes ≡ stream ++ rest → SpellsTurns stream turns ends → Is stream turns
+
+-- So it is with what comes on each connection from each step on that opens it. (Whether the step opens it, or finds it there, isn't asked.)
+abbrev pub StepsBring : (List ℕ → List Turn → Type 0) → List Step → Type 0
+StepsBring Is steps = (before : List Step) (c : ConnectionId) (peer : List ℕ) (since : List Step) → steps ≡ before ++ Opened c peer ∷ since → EachBeginning Is (comes_on c since)
+
+-- ---- requests
 
 -- the request has no page in the cache, and asks for no invalidation
 pub record AsksNoCache (farm : Farm) (request : Request) : Type 0 where
@@ -30,21 +49,24 @@ abbrev pub TurnAsksNoCache : Farm → Turn → Type 0
 TurnAsksNoCache farm Continue = Unit {0}
 TurnAsksNoCache farm (Whole request) = AsksNoCache farm request
 
--- so it is with each turn that these bytes spell, or the first of them alone, since a stream may not be read to its end
-abbrev pub StreamAsksNoCache : Farm → List ℕ → Type 0
-StreamAsksNoCache farm bytes = (stream rest : List ℕ) (turns : List Turn) (ends : End) → bytes ≡ stream ++ rest → SpellsTurns stream turns ends → AllByRecursion (TurnAsksNoCache farm) turns
+-- so it is with each of the turns
+abbrev pub TurnsAskNoCache : Farm → List Turn → Type 0
+TurnsAskNoCache farm turns = AllByRecursion (TurnAsksNoCache farm) turns
 
--- the bytes that steps bring on a connection, one after another, until its client goes or all connections are shut
-abbrev pub comes_on : ConnectionId → List Step → List ℕ
-comes_on c [] = []
-comes_on c (Piece d bytes ∷ steps) = (if nat_eq d c then bytes else []) ++ comes_on c steps
-comes_on c (Gone d ∷ steps) = if nat_eq d c then [] else comes_on c steps
-comes_on c (Restart ∷ steps) = []
-comes_on c (_ ∷ steps) = comes_on c steps
-
--- So it is with what comes on each connection from each step on that opens it. (Whether that opens it, or finds it there, isn't asked.)
+-- so it is with each turn that the steps may bring
 abbrev pub StepsAskNoCache : Farm → List Step → Type 0
-StepsAskNoCache farm steps = (before : List Step) (c : ConnectionId) (peer : List ℕ) (since : List Step) → steps ≡ before ++ Opened c peer ∷ since → StreamAsksNoCache farm (comes_on c since)
+StepsAskNoCache farm steps = StepsBring (λ stream turns. TurnsAskNoCache farm turns) steps
+
+-- ---- ends
+
+-- no stream that the steps may bring ends, after its turns, within a target that isn't UTF-8 and can't become it, with its bytes or with the first
+-- 16,384 of the next head's
+abbrev pub StepsLeaveNoEndOpen : List Step → Type 0
+StepsLeaveNoEndOpen steps = StepsBring (λ stream turns. LeavesEndOpen stream turns → ⊥) steps
+
+-- The streams of such a run end so after no event.
+abbrev pub StepsTellTheEnds : Type 0
+StepsTellTheEnds = (s : Start) (events : List Event) → Run (start_of s) events → StepsLeaveNoEndOpen (event_steps events) → LeaveNoEndOpen (start_of s) events
 
 -- ---- what then leaves no choice
 

@@ -3,16 +3,17 @@ use Rattle.std.proofs.Common.{◌≡◌, ◌≢◌, ◌∙◌, ◌+◌, ◌≤�
 use Rattle.std.specs.List.{AllByRecursion, cons_option, filter_map}
 use Rattle.any_config.specs.declared.farm.Farm.{Farm}
 use Rattle.run_events.specs.Events.{Event, after_event}
-use Rattle.run_events.specs.States.{RunState, start_of}
+use Rattle.run_events.specs.States.{RunState, Start, start_of}
 use Rattle.run_events.specs.declared.step.Step.{Step}
-use Rattle.run_laws.specs.Determined.{AreDetermined, event_steps}
-use Rattle.run_laws.specs.Uncached.{AreUnhindered, EpochsLast, StepsAskNoCache, UncachedRunsLeaveNoChoice}
+use Rattle.run_laws.specs.Determined.{AreDetermined, LeaveNoEndOpen, StreamsWithMemoryEndAlike, event_steps}
+use Rattle.run_laws.specs.Brought.{AreUnhindered, EpochsLast, StepsAskNoCache, StepsLeaveNoEndOpen, StepsTellTheEnds, UncachedRunsLeaveNoChoice}
 use Rattle.replay_text.specs.Scenario.{IsActs, ReadsScenario}
 use Rattle.replay_text.specs.declared.event_line.EventLine.{EventLine}
 use Rattle.replay_text.specs.declared.event_line.EventLine.TheVariants as line
 use Rattle.replay_text.specs.declared.scenario.Scenario.{Scenario}
 use Rattle.sling_dispatch.specs.Runs.{AreArmed, IsArmed, IsSession, Unarmed, arming_of, asked_publisher_host, sling_start, step_of}
-use Rattle.sling_dispatch.specs.SessionsWithMemory.{HaveMemory, LeavesCacheAlone, PlanNoFailure, SessionsWithMemoryAreOne, UncachedScenariosAreOne}
+use Rattle.sling_dispatch.specs.SessionsWithMemory.{HaveMemory, LeavesCacheAlone, PlanNoFailure, SessionsWithMemoryAreOne, UncachedTextsAreOne, UncachedScenariosAreOne}
+use Rattle.sling_dispatch.proofs.MemoryLemmas.{TellsFirst, sessions-alike}
 use Rattle.sling_dispatch.proofs.SessionLemmas.{session_begins}
 use Rattle.sling_dispatch.proofs.WritableLemmas.{acts-short, events-few}
 
@@ -51,12 +52,14 @@ unhindered host w (act ∷ acts) (e ∷ events) none steps armed memory =
     (record { disk_worked = works-unarmed e.conditions.disk_failed here.0.may_fail; had_memory = memory.0 }, unhindered host (after_event w e) acts events none.1 later here.1 memory.1)
 
 -- ---- a session
+acts-are : (s : Scenario) (events : List Event) → (session : IsSession s [] events) → IsActs s.acts session.made
+acts-are s events session = subst (IsActs s.acts) (append-nil session.made) session.acts
+
 session-determined : UncachedRunsLeaveNoChoice → (bytes : List ℕ) (s : Scenario) (events : List Event) → ReadsScenario bytes s → LeavesCacheAlone s → IsSession s [] events → HaveMemory events → AreDetermined events
 session-determined law bytes s events read alone session memory =
     let host : List ℕ = asked_publisher_host session.farm in
-    let start = sling_start session.farm session.tree in
-    let acts : IsActs s.acts session.made = subst (IsActs s.acts) (append-nil session.made) session.acts in
-    let asks = alone session.made session.farm acts session.farm_reads in
+    let start : Start = sling_start session.farm session.tree in
+    let asks = alone session.made session.farm (acts-are s events session) session.farm_reads in
     let few : EpochsLast start events = omega (arith, events-few s [] events session, acts-short bytes s read) in
     law start events (session_begins session.farm session.tree) session.run (subst (StepsAskNoCache session.farm) (sym session.steps) asks.1) few
     (unhindered host (start_of start) session.made events asks.0 session.steps session.armed memory)
@@ -64,3 +67,12 @@ session-determined law bytes s events read alone session memory =
 pub uncached-scenarios : SessionsWithMemoryAreOne → UncachedRunsLeaveNoChoice → UncachedScenariosAreOne
 uncached-scenarios one law bytes s a b first second read alone ends memory other =
     one s a b first second ends (session-determined law bytes s a read alone first memory) (session-determined law bytes s b read alone second other)
+
+pub texts-alone : TellsFirst → SessionsWithMemoryAreOne → UncachedRunsLeaveNoChoice → StepsTellTheEnds → StreamsWithMemoryEndAlike → UncachedTextsAreOne
+texts-alone tells one law told streams bytes s a b first second read alone closed memory other =
+    let start : Start = sling_start first.farm first.tree in
+    let alike = sessions-alike tells s a b first second in
+    let p = session-determined law bytes s a read alone first memory in
+    let q = session-determined law bytes s b read alone second other in
+    let ends : LeaveNoEndOpen (start_of start) a = told start a first.run (subst StepsLeaveNoEndOpen (sym first.steps) (closed first.made first.farm (acts-are s a first) first.farm_reads)) in
+    one s a b first second (streams start a b (session_begins first.farm first.tree) first.run alike.run alike.steps p q ends) p q

@@ -198,9 +198,10 @@ run-free farm w (e ∷ events) uncached asks room unhindered run =
     let steps : List Step = event_steps events in
     let begun = begun-uncached farm steps w e e.step asks run.0.0 uncached in
     let free = event-free farm (coming_by steps) w e e.step begun unhindered.0 (omega (arith, room)) run.0.0 in
-    let later : StepsAskNoCache farm steps = later-bring (Unasking farm) e.step steps asks in
-    (record { disk_worked = unhindered.0.disk_worked; had_memory = unhindered.0.had_memory; no_choice = free.no_choice },
-     run-free farm (after_event w e) events (notes-uncached farm (coming_by steps) (state_before_notes w e e.step) e.body begun) later (omega (arith, room, free.near)) unhindered.1 run.1)
+    let later : StepsAskNoCache farm steps = later-bring (Unasking farm) e.step steps asks in (
+      record { disk_worked = unhindered.0.disk_worked; had_memory = unhindered.0.had_memory; no_choice = free.no_choice },
+      run-free farm (after_event w e) events (notes-uncached farm (coming_by steps) (state_before_notes w e e.step) e.body begun) later (omega (arith, room, free.near)) unhindered.1 run.1,
+    )
 
 pub uncached-runs : UncachedRunsLeaveNoChoice
 uncached-runs s events begins run asks room unhindered =

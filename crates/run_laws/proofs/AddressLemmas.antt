@@ -57,7 +57,7 @@ next-addressed s m w c (Some v) note gives = slice-addressed s w v note (slice-f
 each-addressed : (s : Step) → LeavesSession s → IsOfEach (IsAddressed s) s
 each-addressed s stays = record {
   due = λ m w c note gives. next-addressed s m w c w.slicing note gives;
-  slice = slice-addressed s;
+  slice = λ m w v note gives. slice-addressed s w v note (slice-form m v note gives);
   landing = landing-addressed s;
   lost = λ w n. tt;
   idle = λ w. tt;

@@ -11,11 +11,11 @@ use Rattle.run_events.specs.declared.note.Note.TheVariants.{Answer as answered, 
 use Rattle.run_events.specs.declared.step.Step.{Step}
 use Rattle.run_events.specs.declared.step.Step.TheVariants as step
 use Rattle.run_events.specs.States.{RunState}
-use Rattle.run_events.specs.Moves.{GivesNext, Serves, on_connection, state_after_note}
+use Rattle.run_events.specs.Moves.{GivesNext, GivesSlice, Serves, on_connection, state_after_note}
 use Rattle.run_events.specs.Events.{DeliverAs, DeliverTo, Event, HappensBy, LeadsNotes, LoseTo, PieceTo, PurgeTo, RenderTo, going, is_any, is_rendered, is_unrendered, most_connections, opening, picked_flight, state_before_notes}
 use Rattle.run_events.specs.Restarts.{without_connections}
 use Rattle.run_laws.specs.Addressed.{opened_by_step}
-use Rattle.run_laws.proofs.FormLemmas.{AreCutNotes, IsCutNote, IsLandingNote, IsSliceNote, landing-form, restart-cut, slice-form}
+use Rattle.run_laws.proofs.FormLemmas.{AreCutNotes, IsCutNote, IsLandingNote, landing-form, restart-cut}
 
 -- each note has the property, in the state in which it comes
 abbrev pub AllIn : (RunState → Note → Type 0) → RunState → List Note → Type 0
@@ -25,7 +25,7 @@ AllIn P w (note ∷ notes) = P w note × AllIn P (state_after_note w note) notes
 -- each note that may come in an event of this step has the property
 pub record IsOfEach (P : RunState → Note → Type 0) (s : Step) : Type 0 where
   pub due : (m : Conditions) (w : RunState) (c : ℕ) (note : Note) → GivesNext m w c w.slicing note → P w note
-  pub slice : (w : RunState) (v : ℕ) (note : Note) → IsSliceNote v note → P w note
+  pub slice : (m : Conditions) (w : RunState) (v : ℕ) (note : Note) → GivesSlice m v note → P w note
   pub landing : (w : RunState) (n : ℕ) (note : Note) → IsLandingNote n note → P w note
   pub lost : (w : RunState) (n : ℕ) → P w (Lost n)
   pub idle : (w : RunState) → P w Idle
@@ -78,7 +78,7 @@ loses-all P s each w e (Some f) to = leads-all P s each w e.conditions (Lost f.n
 
 purges-all : (P : RunState → Note → Type 0) (s : Step) (each : IsOfEach P s) (w : RunState) (e : Event) (flushes : List Flushing) → PurgeTo w e flushes → AllIn P w e.body
 purges-all P s each w e [] to = idle-all P s each w e.body to
-purges-all P s each w e (flush ∷ flushes) to = leads-all P s each w e.conditions to.0 flush.connection e.body (each.slice w flush.number to.0 (slice-form e.conditions flush.number to.0 to.1)) to.2
+purges-all P s each w e (flush ∷ flushes) to = leads-all P s each w e.conditions to.0 flush.connection e.body (each.slice e.conditions w flush.number to.0 to.1) to.2
 
 cuts-all : (P : RunState → Note → Type 0) (cut : (w : RunState) (note : Note) → IsCutNote note → P w note) (w : RunState) (notes : List Note) → AreCutNotes notes → AllIn P w notes
 cuts-all P cut w [] are = tt

@@ -87,7 +87,7 @@ gone-log : (w : RunState) (c : ℕ) (at : Option Connection) → (state_after_go
 gone-log w c None = refl
 gone-log w c (Some k) = refl
 
-begun-log : (w : RunState) (e : Event) (s : Step) → (state_before_notes w e s).log ≡ w.log
+pub begun-log : (w : RunState) (e : Event) (s : Step) → (state_before_notes w e s).log ≡ w.log
 begun-log w e (step.Opened c peer) = opened-log w c peer (w.connection c)
 begun-log w e (step.Piece c bytes) = refl
 begun-log w e (step.Gone c) = gone-log w c (w.connection c)

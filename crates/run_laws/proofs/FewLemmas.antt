@@ -94,7 +94,7 @@ cut-room w note is = tt
 each-room : (s : Step) → IsOfEach HasRoom s
 each-room s = record {
   due = λ m w c note gives. next-room m w c w.slicing note gives;
-  slice = slice-room;
+  slice = λ m w v note gives. slice-room w v note (slice-form m v note gives);
   landing = landing-room;
   lost = λ w n. tt;
   idle = λ w. tt;

@@ -37,3 +37,7 @@ pub mod DueEventLemmas
 pub mod FewLemmas
 pub mod RoundLemmas
 pub mod NothingDueLemmas
+pub mod BroughtLemmas
+pub mod UncachedLemmas
+pub mod UncachedRunLemmas
+pub mod AllowedLemmas

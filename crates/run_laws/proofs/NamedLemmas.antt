@@ -199,9 +199,9 @@ at-has-path (Continue ∷ turns) (suc n) request all e = at-has-path turns n req
 at-has-path (Whole first ∷ turns) (suc n) request all e = at-has-path turns n request all.1 e
 
 -- a turn that is due is the next one, of a connection that isn't closing
-record IsNext (k : Connection) (turn : Turn) : Type 0 where
-  reads_on : k.closing ≡ false
-  next : next_turn k ≡ Some turn
+pub record IsNext (k : Connection) (turn : Turn) : Type 0 where
+  pub reads_on : k.closing ≡ false
+  pub next : next_turn k ≡ Some turn
 
 end-treats : (end : End) (turn : Turn) → due_at_end end ≡ Treat turn → ⊥
 end-treats Waits turn e = cc (e)
@@ -227,7 +227,7 @@ slot-treats k (Some slot) turn e = by_answer (is_answered slot.response) e
     by_answer true e = absurd (let never : ⊥ = cc in never)
     by_answer false e = free-treats k turn e
 
-due-treats : (k : Connection) (turn : Turn) → model.due k ≡ Treat turn → IsNext k turn
+pub due-treats : (k : Connection) (turn : Turn) → model.due k ≡ Treat turn → IsNext k turn
 due-treats k turn e = by_over k.over e
   where
     by_over : (b : Bool) → (if b then Close else due_at_slot (slice_get k.slots k.sent) k) ≡ Treat turn → IsNext k turn

@@ -47,7 +47,7 @@ same-turn None d = same-here d
 same-turn (Some Continue) d = same-slot interim_slot d
 same-turn (Some (Whole request)) d = same-here d
 
-same-advanced : (d : Connection) → Same d (with_due_continue d)
+pub same-advanced : (d : Connection) → Same d (with_due_continue d)
 same-advanced d = by_test d.closing
   where
     by_test : (b : Bool) → Same d (if b then d else after_turn (next_turn d) d)

@@ -43,7 +43,7 @@ note-flush m w v c inv sound none comes (Some request) =
     sound-begun w.farm (call_conditions m false) w.flights w.flushes w.log (record { number = v; connection = c }) inv comes.next (comes.up, comes.next) (subst (λ o. Sound w.farm w.flights w.flushes o w.log) none sound)
 
 -- ---- notes that tell of a flush
-first-oldest : (w : RunState) (v : ℕ) → IsSound w → IsFirstFlush w.flushes v → IsOldest w.log v
+pub first-oldest : (w : RunState) (v : ℕ) → IsSound w → IsFirstFlush w.flushes v → IsOldest w.log v
 first-oldest w v sound first = subst (IsOldest w.log) first.number (sound-oldest w.farm w.flights first.flush first.others w.slicing w.log (subst (λ flushes. Sound w.farm w.flights flushes w.slicing w.log) first.is sound))
 
 first-at : (flushes : List Flushing) (v : ℕ) (first : IsFirstFlush flushes v) → flush_at v flushes ≡ Some first.flush
@@ -72,7 +72,7 @@ landing-sound under w n fate f at allowed sound = rw at (sound-over w.farm under
     asked_same : (fate : Fate) → flights_asked (Landed n (key_of w f.request) (answer_in (Some f)) fate ∷ w.log) ≡ flights_asked w.log
     asked_same fate = refl
 
-answered-in : (f : Flying) (answer : Answer) → f.rendered ≡ Some answer → answer_in (Some f) ≡ answer
+pub answered-in : (f : Flying) (answer : Answer) → f.rendered ≡ Some answer → answer_in (Some f) ≡ answer
 answered-in f answer is = rw is refl
 
 note-kept : (m : Conditions) (w : RunState) (n : ℕ) (key : PageKey) → IsSound w → LandingComes w n (λ k answer. (k ≡ Some key) × MayStore w.farm w.log n (Some key) answer) → IsSound (state_after_landing w n kept_fate (flying_at n w.flights))

@@ -1,5 +1,6 @@
 pub mod Logs
 pub mod Determined
+pub mod Brought
 pub mod Histories
 pub mod Cuttings
 pub mod Renders

@@ -1,5 +1,5 @@
 -- What a site's operator may rely on: of the log of the cache in every run.
-use Rattle.std.specs.Prelude.{◌≡◌, ◌⊎◌, ◌++◌, ℕ, List, [], ◌∷◌, Option, Some, Contains, false}
+use Rattle.std.specs.Prelude.{◌≡◌, ◌⊎◌, ◌++◌, ℕ, Bool, List, [], ◌∷◌, Option, Some, Contains, true, false}
 use Rattle.sp_base.specs.declared.answer.Answer.{Answer}
 use Rattle.sp_base.specs.Requests.{Request}
 use Rattle.any_config.specs.declared.farm.Farm.{Farm}
@@ -9,14 +9,16 @@ use Rattle.cache_log.specs.Entries.{Kept, Unkept, Passed, Done, Fate, LogEntry, 
 use Rattle.cache_log.specs.Flown.{IsLanding, IsOwedHit, IsUnfinishedFlush}
 use Rattle.cache_log.specs.Hits.{Covers}
 use Rattle.cache_log.specs.Ids.{FlightId, FlushId}
-use Rattle.cache_log.specs.Rules.{IsLegal, IsOwed}
+use Rattle.cache_log.specs.Rules.{AllAllowed, CallConditions, IsLegal, IsOwed}
 use Rattle.connections.specs.Ids.{ConnectionId}
 use Rattle.connections.specs.Slots.{IsHit}
 use Rattle.run_events.specs.declared.note.Note.{Note}
 use Rattle.run_events.specs.declared.note.Note.TheVariants.{Ask as asked_note, Hit as hit_note, Local as local_note, Flush as flush_note}
-use Rattle.run_events.specs.Events.{Event, Run, state_after_events, state_before_notes}
+use Rattle.run_events.specs.declared.step.Step.{Step}
+use Rattle.run_events.specs.declared.step.Step.TheVariants.{Restart}
+use Rattle.run_events.specs.Events.{Event, Happens, Run, after_event, state_after_events, state_before_notes}
 use Rattle.run_events.specs.Moves.{due_of_connection, state_after_note, treated_request}
-use Rattle.run_events.specs.Points.{IsHitOwed, key_of}
+use Rattle.run_events.specs.Points.{IsHitOwed, call_conditions, key_of}
 use Rattle.run_events.specs.States.{RunState, Start, start_of}
 
 -- a run begins so: a session has just begun, in a legal log
@@ -29,6 +31,24 @@ pub record IsBeginning (s : Start) : Type 0 where
 -- the log of the cache after these events
 abbrev pub log_after : Start → List Event → List LogEntry
 log_after s events = (state_after_events (start_of s) events).log
+
+-- ---- what an event adds
+
+-- the step is a restart
+abbrev pub is_restart : Step → Bool
+is_restart Restart = true
+is_restart _ = false
+
+-- The log went on, and each entry that was added is allowed by those before it, in a call under these conditions.
+pub record AddsAllowed (farm : Farm) (under : CallConditions) (before after : List LogEntry) : Type 0 where
+  pub added : List LogEntry
+  pub after_is : after ≡ added ++ before
+  pub allowed : AllAllowed farm under added before
+
+-- What an event adds to the log is allowed under what that very event ran under, and as in a restart only where it is one.
+abbrev pub EventsAddWhatIsAllowed : Type 0
+EventsAddWhatIsAllowed = (s : Start) (events : List Event) (e : Event) → IsBeginning s → Run (start_of s) events → Happens (state_after_events (start_of s) events) e
+    → AddsAllowed s.farm (call_conditions e.conditions (is_restart e.step)) (log_after s events) (after_event (state_after_events (start_of s) events) e).log
 
 -- ---- after a flush
 

@@ -12,7 +12,8 @@ ghost use Rattle.run_laws.specs.Histories.{AnswersWhatCame, HasReadAll, came_sin
 ghost use Rattle.run_laws.specs.Named.{EventsNamePages};
 ghost use Rattle.run_laws.specs.Owned.{AnswersAreOwn, HitsAreEntries};
 ghost use Rattle.run_laws.specs.Renders.{ArePublished, IsNeverFixed, renders_of};
-ghost use Rattle.run_laws.specs.Logs.{HitsAreFresh, IsBeginning, KeptPagesAreOwed, KeptPagesAreServed, OwedHitsGiveWhatWasKept, RepliesInFlightAreNotStored, log_after};
+ghost use Rattle.run_laws.specs.Brought.{StepsTellTheEnds, UncachedRunsLeaveNoChoice};
+ghost use Rattle.run_laws.specs.Logs.{EventsAddWhatIsAllowed, HitsAreFresh, IsBeginning, KeptPagesAreOwed, KeptPagesAreServed, OwedHitsGiveWhatWasKept, RepliesInFlightAreNotStored, log_after};
 
 use cache_log::{
     a_permitted_hit_was_asked_for_after_each_flush, owed_hits_are_of_landings,
@@ -34,6 +35,12 @@ pub fn events_extend()
 pub fn logs_are_legal()
     ensures legal { (s : Start) (events : List Event) → IsBeginning s → Run (start_of s) events → IsLegal s.farm (log_after s events) }
     ensures bound { (s : Start) (events : List Event) → IsBeginning s → Run (start_of s) events → KeepsBound s.farm s.found (log_after s events) }
+{}
+
+/// What an event adds to the log of the cache is allowed, entry by entry, under what that very event ran under. So where neither the disk failed
+/// nor memory ran out in it, no landing of it is maybe kept, no flush fails in it unless it is a restart, and no owed page is asked for.
+pub fn events_add_what_is_allowed()
+    ensures { EventsAddWhatIsAllowed }
 {}
 
 /// After a flush ended done, no hit on a page that it covers has an answer whose flight was asked before the flush ended: in that session and
@@ -68,6 +75,19 @@ pub fn runs_with_memory_are_determined()
 {
     the_turns_of_a_beginning();
 }
+
+/// A run leaves no choice in which neither the disk fails nor memory runs out, and whose requests have no page in the cache and ask for no
+/// invalidation: no hit is given, no flush begins, and the cache doesn't go down. Its steps tell which requests may come: those that the bytes
+/// spell, or the first of these bytes, which come on a connection from a step on that opens it.
+pub fn runs_that_ask_no_cache_leave_no_choice()
+    ensures { UncachedRunsLeaveNoChoice }
+{}
+
+/// If no stream ends within a target that isn't UTF-8 and can't become it, of those that the steps of a run may bring, then no stream of the run does
+/// after any event.
+pub fn steps_tell_the_ends_of_streams()
+    ensures { StepsTellTheEnds }
+{}
 
 /// In two such runs of the same steps, before the same publisher and farm and on the same content and log, the streams end alike, if in the
 /// first no stream that is still read ends, after any event, within a target that isn't UTF-8 and can't become it, with its bytes or with the

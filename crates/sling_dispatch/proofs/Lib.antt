@@ -11,6 +11,7 @@ pub mod RequestLemmas
 pub mod FilterLemmas
 pub mod SessionLemmas
 pub mod MemoryLemmas
+pub mod UncachedLemmas
 pub mod NumberLemmas
 pub mod WritableLemmas
 pub mod ServingLemmas

@@ -113,7 +113,7 @@ text-first [] b = omega arith
 text-first (l ∷ a) b = omega (arith, text-first a b, length-append l (10 ∷ text_of_lines (a ++ b)), length-append l (10 ∷ text_of_lines a))
 
 -- the acts of a scenario that is read are no more bytes than its text
-acts-short : (bytes : List ℕ) (s : Scenario) → ReadsScenario bytes s → length s.acts ≤ 67108864
+pub acts-short : (bytes : List ℕ) (s : Scenario) → ReadsScenario bytes s → length s.acts ≤ 67108864
 acts-short bytes s read =
     let spells = read.0 in
     let lines : List (List ℕ) = map line_of spells.acts in
@@ -125,7 +125,7 @@ acts-short bytes s read =
     let head : length (text_of_lines (spells.block ++ codes "." ∷ (spells.farm_lines ++ act_lines spells.acts))) ≤ length (text_of_lines (codes "scenario 1" ∷ codes "content" ∷ (spells.block ++ codes "." ∷ (spells.farm_lines ++ act_lines spells.acts)))) = text-more (codes "scenario 1" ∷ codes "content" ∷ []) (spells.block ++ codes "." ∷ (spells.farm_lines ++ act_lines spells.acts)) in
     omega (arith, acts, first, farm, dotted, block, head, ap length spells.text_is, read.1)
 
-events-few : (s : Scenario) (left : List EventLine) (events : List Event) → IsSession s left events → length events ≤ length s.acts
+pub events-few : (s : Scenario) (left : List EventLine) (events : List Event) → IsSession s left events → length events ≤ length s.acts
 events-few s left events session =
     let host = asked_publisher_host session.farm in
     let steps : length events ≡ length (filter_map (step_of host) session.made) = sym (length-map (λ (e : Event). e.step) events) ∙ ap length session.steps in

@@ -13,7 +13,7 @@ ghost use Rattle.replay_text.specs.Scenario.{ReadsScenario};
 ghost use Rattle.replay_text.specs.Transcript.{told_notes};
 ghost use Rattle.sling_dispatch.specs.SessionLaws.{SessionHitsAreFresh, SessionLogsAreLegal, SessionRepliesInFlightAreNotStored, SessionsServeKeptPages};
 ghost use Rattle.sling_dispatch.specs.ServedLaws.{ServedHitsAreFresh, ServedLogsAreLegal, ServedRepliesInFlightAreNotStored, ServedSessionsGoOn, ServedSessionsLeaveLegalLogs, ServedSessionsServeKeptPages, SessionsAreServed};
-ghost use Rattle.sling_dispatch.specs.SessionsWithMemory.{SessionsWithMemoryAreOne};
+ghost use Rattle.sling_dispatch.specs.SessionsWithMemory.{SessionsWithMemoryAreOne, UncachedTextsAreOne, UncachedScenariosAreOne};
 ghost use Rattle.sling_dispatch.specs.Endings.{Means, IsDue, IsReplay, HasContent, HasFarm};
 ghost use Rattle.sling_dispatch.specs.Forms.{AsksNumber};
 ghost use Rattle.sling_dispatch.specs.Reports.{StreamReport, RunCall, HasFailed, HasNotFailed};
@@ -30,7 +30,8 @@ use publisher::statuses_are_short;
 use replay_text::{a_transcript_tells_its_events, acts_are_told_by_their_lines, one_reading};
 use run_laws::{
     answers_of_hits_are_fresh, kept_pages_are_served, logs_are_legal, notes_name_pages,
-    replies_in_flight_are_not_stored, runs_with_memory_are_determined,
+    replies_in_flight_are_not_stored, runs_that_ask_no_cache_leave_no_choice,
+    runs_with_memory_are_determined, steps_tell_the_ends_of_streams, streams_with_memory_end_alike,
 };
 use serve_loop::{served_sessions_leave_legal_logs, sessions_begin_in_legal_logs};
 
@@ -82,6 +83,21 @@ pub fn a_session_with_memory_has_one_transcript()
 {
     acts_are_told_by_their_lines();
     runs_with_memory_are_determined();
+}
+
+/// A scenario whose acts plan no failure of the disk, and whose requests have no page in the cache and ask for no invalidation, has one
+/// transcript, where in no event memory runs out and the streams end alike (`ends`). They do if by its text no stream is left open: then only
+/// memory leaves a choice (`text`). What is asked of its acts and streams is asked of its text: of the turns that the bytes spell, or the first of
+/// these bytes, which come on a connection from an opening on. (It has too few lines for an epoch that doesn't fit 64 bits.)
+pub fn a_scenario_that_asks_no_cache_has_one_transcript()
+    ensures ends { UncachedScenariosAreOne }
+    ensures text { UncachedTextsAreOne }
+{
+    acts_are_told_by_their_lines();
+    a_session_with_memory_has_one_transcript();
+    runs_that_ask_no_cache_leave_no_choice();
+    steps_tell_the_ends_of_streams();
+    streams_with_memory_end_alike();
 }
 
 /// The log of the cache is legal in each session.

@@ -1,6 +1,6 @@
 -- A text that reaches no place, and isn't empty, is the beginning of none in the language.
-use Rattle.std.proofs.Common.{◌≡◌, ℕ, Bool, true, false, ◌&&◌, ◌||◌, List, [], ◌∷◌, ◌++◌, refl, sym, ◌∙◌, subst}
-use Rattle.std.specs.Prelude.{set, ⊤}
+use Rattle.std.proofs.Common.{◌≡◌, ℕ, Bool, true, false, ◌&&◌, ◌||◌, List, [], ◌∷◌, ◌++◌, refl, ap, sym, ◌∙◌, subst}
+use Rattle.std.specs.Prelude.{set, replicate, length, IfOk, Result, Ok, Err, ⊤}
 use Rattle.std.proofs.lemmas.Bool.{true≢false}
 use Rattle.regex_rules.specs.declared.place.Place.{Place}
 use Rattle.regex_rules.specs.declared.place.Place.TheVariants.{One, Open, Bar, Close}
@@ -10,10 +10,11 @@ use Rattle.regex_rules.specs.declared.level.Frame.{Frame}
 use Rattle.regex_rules.specs.declared.walk.Walk.{Walk}
 use Rattle.regex_rules.specs.Trees.{tree_of, places_of}
 use Rattle.regex_rules.specs.Languages.{InLanguage, is_one, may_lack, may_go_on}
-use Rattle.regex_rules.specs.Walks.{walked, at, begun, answer_of, past_place, past_piece}
+use Rattle.regex_rules.specs.Walks.{walked, at, begun, answer_of, takes_nothing, past_place, past_piece}
 use Rattle.regex_rules.specs.Off.{AreOff}
+use Rattle.regex_rules.proofs.TextLemmas.{Says, says_false}
 use Rattle.regex_rules.proofs.OffLemmas.{off_append, off_set}
-use Rattle.regex_rules.proofs.MatchLemmas.{Matched, more_matched, end_matched}
+use Rattle.regex_rules.proofs.MatchLemmas.{Matched, begin_matched, more_matched, end_matched}
 
 -- ---- a walk that reaches nothing
 
@@ -111,3 +112,31 @@ lost_matched places olds answer text [] c held off m inside =
 lost_matched places olds answer text (d ∷ rest) c held off m inside =
     let walk = walked c places olds (at (begun false) [] []) in
     lost_matched places walk.marks (answer_of walk) text rest d held (lost_step c places olds off).off (more_matched places olds answer false text (d ∷ rest) c held m) inside
+
+-- the same where the rest begins with a character
+pub none_goes_on : (places : List Place) (olds : List Bool) (answer : Bool) (text rest later : List ℕ) (c : ℕ) → places_of (tree_of places) ≡ places → AreOff olds
+    → Matched places olds answer false text rest → rest ≡ c ∷ later → Says false (InLanguage (tree_of places) text)
+none_goes_on places olds answer text rest later c held off m is =
+    says_false (lost_matched places olds answer text later c held off (subst (λ (l : List ℕ). Matched places olds answer false text l) is m))
+
+-- ---- the beginning
+
+pub nothing_matched : {E : Type 0} (places : List Place) (olds : List Bool) (text : List ℕ) (result : Result Bool E) → places_of (tree_of places) ≡ places → olds ≡ replicate (length places) false → text ≡ []
+    → IfOk result (λ answer. answer ≡ takes_nothing (walked 0 places olds (at (begun true) [] []))) → IfOk result (λ answer. Says answer (InLanguage (tree_of places) text))
+nothing_matched places olds text (Ok answer) held off none is =
+    let walk = walked 0 places (replicate (length places) false) (at (begun true) [] []) in
+    let first : answer ≡ takes_nothing walk = is ∙ ap (λ (o : List Bool). takes_nothing (walked 0 places o (at (begun true) [] []))) off in
+    let m = begin_matched places text held in
+    subst (λ (b : Bool). Says b (InLanguage (tree_of places) text)) (sym first)
+    (end_matched places (replicate (length places) false) (takes_nothing walk) true text (subst (λ (l : List ℕ). Matched places (replicate (length places) false) (takes_nothing walk) true text l) none m))
+nothing_matched places olds text (Err e) held off none is = tt
+
+pub begins_with : (places : List Place) (olds news : List Bool) (answer : Bool) (text rest : List ℕ) (c : ℕ) → places_of (tree_of places) ≡ places → olds ≡ replicate (length places) false → text ≡ c ∷ rest
+    → news ≡ (walked c places olds (at (begun true) [] [])).marks → answer ≡ answer_of (walked c places olds (at (begun true) [] [])) → Matched places news answer false text rest
+begins_with places olds news answer text rest c held off some marks is =
+    let none = replicate (length places) false in
+    let first = takes_nothing (walked 0 places none (at (begun true) [] [])) in
+    let walk = walked c places none (at (begun true) [] []) in
+    let m = more_matched places none first true text rest c held (subst (λ (l : List ℕ). Matched places none first true text l) some (begin_matched places text held)) in
+    subst (λ (o : List Bool). Matched places o answer false text rest) (sym (marks ∙ ap (λ (o : List Bool). (walked c places o (at (begun true) [] [])).marks) off))
+    (subst (λ (b : Bool). Matched places walk.marks b false text rest) (sym (is ∙ ap (λ (o : List Bool). answer_of (walked c places o (at (begun true) [] []))) off)) m)

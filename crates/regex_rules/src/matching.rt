@@ -66,7 +66,7 @@ impl Sets {
 }
 
 /// Whether the whole text is in the language of the pattern with these places.
-#[tactic(auto, using(crate::proofs::MatchLemmas::begin_matched, crate::proofs::MatchLemmas::more_matched, crate::proofs::MatchLemmas::end_matched, crate::proofs::LostLemmas::lost_matched))]
+#[tactic(auto, using(crate::proofs::MatchLemmas::more_matched, crate::proofs::MatchLemmas::end_matched))]
 pub(crate) fn is_match(alloc: Global, places: &[Place], text: &str) -> Mem<bool>
     requires { places_of (tree_of places.now) ≡ places.now }
     ensures { IfOk result (λ answer. IsTrue answer ↔ InLanguage (tree_of places.now) (chars text.now)) }

@@ -1,10 +1,9 @@
 -- A text that reaches no place, and isn't empty, is the beginning of none in the language.
-use Rattle.std.proofs.Common.{◌≡◌, ℕ, Bool, true, false, ◌&&◌, ◌||◌, List, [], ◌∷◌, ◌++◌, refl, ap, sym, ◌∙◌, subst}
+use Rattle.std.proofs.Common.{◌≡◌, ℕ, Bool, true, false, ◌&&◌, ◌||◌, List, [], ◌∷◌, refl, ap, sym, ◌∙◌, subst}
 use Rattle.std.specs.Prelude.{set, replicate, length, IfOk, Result, Ok, Err, ⊤}
 use Rattle.std.proofs.lemmas.Bool.{true≢false}
 use Rattle.regex_rules.specs.declared.place.Place.{Place}
 use Rattle.regex_rules.specs.declared.place.Place.TheVariants.{One, Open, Bar, Close}
-use Rattle.regex_rules.specs.declared.repeat.Repeat.{Repeat}
 use Rattle.regex_rules.specs.declared.level.Level.{Level}
 use Rattle.regex_rules.specs.declared.level.Frame.{Frame}
 use Rattle.regex_rules.specs.declared.walk.Walk.{Walk}

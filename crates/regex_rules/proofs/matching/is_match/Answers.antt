@@ -12,7 +12,7 @@ pub loop-c-init : goal.loop-c-init
 loop-c-init c = (
   IsUtf8-past_char c.args.text.now c.in-Some.later.now c.in-Some.first c.utf8.text c.in-Some.ensures.parts,
   begins_with c.args.places.now c.in_ok-sets.sets.olds c.take.new.self.olds c.in_ok-answer.answer (chars c.args.text.now) (chars c.in-Some.later.now) c.in-Some.first c.requires c.in_ok-sets.ensures c.in-Some.ensures.value
-  c.in_ok-answer.ensures.marks c.in_ok-answer.ensures.answer,
+      c.in_ok-answer.ensures.marks c.in_ok-answer.ensures.answer,
 )
 
 pub returns-then-are_off : goal.returns-then-are_off

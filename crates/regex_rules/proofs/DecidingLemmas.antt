@@ -1,5 +1,5 @@
 -- The tree that a text is read as is the one that it spells.
-use Rattle.std.proofs.Common.{◌≡◌, ◌≢◌, ◌↔◌, ℕ, List, Option, Some, None, Ok, Err, Result, refl, ap, sym, ◌∙◌}
+use Rattle.std.proofs.Common.{◌≡◌, ◌≢◌, ◌↔◌, ℕ, List, Option, Some, Ok, Err, Result, refl, ap, sym, ◌∙◌}
 use Rattle.regex_rules.specs.declared.fault.PatternFault.{PatternFault}
 use Rattle.regex_rules.specs.declared.fault.PatternFault.TheVariants.{NoMemory}
 use Rattle.regex_rules.specs.declared.place.Place.{Place}

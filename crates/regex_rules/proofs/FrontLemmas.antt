@@ -1,19 +1,21 @@
 -- The last place of a text up to which it is in a pattern's language.
-use Rattle.std.proofs.Common.{◌≡◌, ◌↔◌, ◌≤◌, ◌<◌, ◌+◌, ◌-◌, ℕ, suc, Bool, true, false, cond, List, [], ◌∷◌, ◌++◌, Option, Some, None, length, take, drop, get_or, refl, ap, sym, ◌∙◌, subst, arith, ⊎_elim, ◌⊎◌, inl, inr, length-append, length-drop}
-use Rattle.std.specs.Prelude.{◌≢◌, ◌&&◌, ◌||◌, ◌==◌, nat_le, encode_utf8, replicate}
+use Rattle.std.proofs.Common.{◌≡◌, ◌≤◌, ◌<◌, ◌+◌, ◌-◌, ℕ, Bool, true, false, cond, List, [], ◌∷◌, ◌++◌, Option, Some, None, length, take, drop, get_or, refl, ap, sym, ◌∙◌, subst, arith, ⊎_elim, length-append, length-drop}
+use Rattle.std.specs.Prelude.{◌&&◌, ◌||◌, ◌==◌, nat_le, encode_utf8, replicate}
 use Rattle.std.specs.Str.{chars, IsUtf8}
-use Rattle.std.proofs.lemmas.Bool.{cases_Bool, true≢false, and_parts, and_from, cases_lt, cases_eq, eqb-true, leb-true}
+use Rattle.std.proofs.lemmas.Bool.{cases_Bool, true≢false, and_parts, and_from, cases_lt, eqb-true, leb-true}
 use Rattle.std.proofs.lemmas.Bool.Decides.{nat_tests}
-use Rattle.std.proofs.lemmas.List.{append_cancel_right, take-append-drop, drop-drop, drop_at, get_or-drop}
-use Rattle.std.proofs.Math.Seq.{drop-cons}
-use Rattle.std.proofs.lemmas.Str.{inside_one, IsUtf8-take, IsUtf8-past_char, IsCharBoundary-from_drop, chars-append, length-encode, len_utf8_ascii}
+use Rattle.std.proofs.lemmas.List.{append-nil, append_cancel_right, take-append-drop, drop-drop, drop_at, get_or-drop}
+use Rattle.std.proofs.Math.Seq.{drop-cons, take-add, take-append-add, take-append_seam}
+use Rattle.std.proofs.lemmas.Str.{inside_one, IsUtf8-take, IsUtf8-past_char, IsCharBoundary-from_drop, chars-append, chars_past_char, length-encode, len_utf8_ascii}
 use Rattle.regex_rules.specs.declared.place.Place.{Place}
 use Rattle.regex_rules.specs.Trees.{Tree, tree_of, places_of}
 use Rattle.regex_rules.specs.Languages.{InLanguage}
 use Rattle.regex_rules.specs.Fronts.{IsFront, IsLastFront, may_cut}
+use Rattle.regex_rules.specs.Off.{AreOff}
 use Rattle.regex_rules.specs.Walks.{walked, at, begun, answer_of, takes_nothing}
 use Rattle.regex_rules.proofs.TextLemmas.{Says}
 use Rattle.regex_rules.proofs.MatchLemmas.{Matched, begin_matched, more_matched}
+use Rattle.regex_rules.proofs.LostLemmas.{lost_matched}
 
 -- the last front before a place
 abbrev pub IsLastBefore : Tree → List ℕ → ℕ → ℕ → Option ℕ → Type 0
@@ -165,3 +167,49 @@ module _ (places : List Place) (olds : List Bool) (answer enters : Bool) (text r
         utf8 = IsUtf8-past_char rest left c w.utf8 parts;
         before = subst (λ n. IsLastBefore (tree_of places) text from n found) next seen;
       }
+
+-- ---- where the text so far reaches no place
+
+-- what a character and more begins with
+one_and_more : (rest left : List ℕ) (c n : ℕ) → IsUtf8 rest → rest ≡ encode_utf8 c ++ left → length (encode_utf8 c) ≤ n → (more : List ℕ) × (chars (take n rest) ≡ c ∷ more)
+one_and_more rest left c n utf8 parts le =
+    let one = encode_utf8 c in
+    let size : length rest ≡ length one + length left = ap length parts ∙ length-append one left in
+    let after : left ≡ drop (length one) rest = sym (ap (drop (length one)) parts ∙ drop_at one left (length one) refl) in
+    let place = IsCharBoundary-from_drop rest (length one) (omega (arith, size)) (subst IsUtf8 after (IsUtf8-past_char rest left c utf8 parts)) in
+    let alone : IsUtf8 one = subst IsUtf8 (ap (take (length one)) parts ∙ take-append_seam one left) (IsUtf8-take rest (length one) utf8 place) in
+    let beyond = take (n - length one) left in
+    let number : n ≡ length one + (n - length one) = omega (arith, le) in
+    let cut : take n rest ≡ one ++ beyond = ap (take n) parts ∙ ap (λ m. take m (one ++ left)) number ∙ take-append-add one left (n - length one) in
+    (chars [] ++ chars beyond, ap chars cut ∙ chars-append one beyond alone ∙ ap (λ l. l ++ chars beyond) (chars_past_char one [] c alone (sym (append-nil one))))
+
+none_beyond : (tree : Tree) (text : List ℕ) (from place : ℕ) (last : Option ℕ) → IsLastBefore tree text from place last → ((k : ℕ) → place ≤ k → IsFront tree text from k → ⊥) → IsLastFront tree text from last
+none_beyond tree text from place None before none = λ k front. ⊎_elim (λ (less : k < place). before k less front) (λ (more : place ≤ k). none k more front) (cases_lt k place)
+none_beyond tree text from place (Some last) before none = (
+  before.0,
+  λ k front. ⊎_elim (λ (less : k < place). before.1 k less front) (λ (more : place ≤ k). absurd (none k more front)) (cases_lt k place),
+)
+
+-- no later beginning is in the language
+pub lost_walked : (places : List Place) (olds : List Bool) (answer : Bool) (text rest left : List ℕ) (from c : ℕ) (last found : Option ℕ) → IsUtf8 text → places_of (tree_of places) ≡ places → AreOff olds
+    → Walked places olds answer false text rest from last → rest ≡ encode_utf8 c ++ left
+    → found ≡ cond ((answer && nat_le from (length text - length rest)) && may_cut rest) (Some (length text - length rest)) last → IsLastFront (tree_of places) text from found
+lost_walked places olds answer text rest left from c last found utf8 held off w parts is =
+    let tree = tree_of places in
+    let place = length text - length rest in
+    let one = encode_utf8 c in
+    let within : place ≤ length text = omega arith in
+    let seen = past tree text from place c rest left found w.rest_is parts within
+    (subst (λ f. IsLastBefore tree text from (place + 1) f) (sym is) (looked places olds answer false text rest from last utf8 w)) in
+    none_beyond tree text from (place + length one) found seen
+    (λ k more front.
+    let n = k - place in
+    let on = one_and_more rest left c n w.utf8 parts (omega (arith, more)) in
+    let number : k ≡ place + n = omega (arith, more) in
+    let two : take k text ≡ take place text ++ take n rest = ap (λ m. take m text) number ∙ take-add place n text ∙ ap (λ l. take place text ++ take n l) (sym w.rest_is) in
+    let before = IsUtf8-take text place utf8 (IsCharBoundary-from_drop text place within (subst IsUtf8 w.rest_is w.utf8)) in
+    let read : w.matched.w ≡ chars (take place text) = matched_is text rest w.matched.w place utf8 w.utf8 within w.rest_is w.matched.parts in
+    let whole : chars (take k text) ≡ w.matched.w ++ (c ∷ on.0) =
+    ap chars two ∙ chars-append (take place text) (take n rest) before ∙ ap (λ l. chars (take place text) ++ l) on.1 ∙ ap (λ l. l ++ (c ∷ on.0)) (sym read) in
+    let matched : Matched places olds answer false (chars (take k text)) (c ∷ on.0) = record { w = w.matched.w; parts = whole; right = w.matched.right; answers = w.matched.answers; begins = w.matched.begins } in
+    lost_matched places olds answer (chars (take k text)) on.0 c held off matched front.matches)

@@ -3,6 +3,8 @@ pub mod CuttingLemmas
 pub mod WalkLemmas
 pub mod MarkLemmas
 pub mod MatchLemmas
+pub mod OffLemmas
+pub mod LostLemmas
 pub mod FrontLemmas
 pub mod DecidingLemmas
 pub mod LeadLemmas

@@ -4,5 +4,6 @@ pub mod Spelling
 pub mod Faults
 pub mod Deciding
 pub mod Fronts
+pub mod Off
 pub mod Walks
 pub mod Reading

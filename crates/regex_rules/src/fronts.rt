@@ -1,4 +1,5 @@
-//! How far into a text a beginning of it is in a pattern's language. The text is walked once, as for a match.
+//! How far into a text a beginning of it is in a pattern's language. The text is walked once, as for a match, as far
+//! as it reaches some place.
 ghost use Rattle.std.specs.Prelude.{◌≡◌, ◌&&◌, IfOk, Some, cond, nat_le};
 ghost use Rattle.regex_rules.specs.Trees.{tree_of, places_of};
 ghost use Rattle.regex_rules.specs.Fronts.{IsLastFront, may_cut};
@@ -31,6 +32,9 @@ pub(crate) fn last_front(
         let Some((c, left)) = first_char(rest) else {
             return Ok(last);
         };
+        if !enters && sets.are_off() {
+            return Ok(last);
+        }
         answer = sets.take(c, places, enters)?;
         enters = false;
         rest = left;

@@ -1,9 +1,11 @@
 //! Whether a whole text is in a pattern's language. The text is walked once. Between two characters it is known of each place of
-//! the pattern whether the text so far reaches it, so a match takes the number of characters times that of the places at most.
+//! the pattern whether the text so far reaches it, so a match takes the number of characters times that of the places at most. It
+//! ends where the text so far reaches no place.
 ghost use Rattle.std.specs.Prelude.{◌≡◌, ◌↔◌, ◌||◌, [], false, true, IsTrue, IfOk, OnOk, length, replicate};
 ghost use Rattle.std.specs.Str.{chars};
 ghost use Rattle.regex_rules.specs.Trees.{tree_of, places_of};
 ghost use Rattle.regex_rules.specs.Languages.{InLanguage};
+ghost use Rattle.regex_rules.specs.Off.{AreOff};
 ghost use Rattle.regex_rules.specs.Walks as spec;
 
 use crate::Place;
@@ -54,21 +56,32 @@ impl Sets {
         mem::swap(&mut self.walk.marks, &mut self.olds);
         Ok(self.walk.level.earlier_arrives || self.walk.level.arrives)
     }
+
+    // Whether the text so far reaches no place. Where it isn't empty, no text that goes on from it is in the language.
+    pub(crate) fn are_off(&self) -> bool
+        ensures { result ≡ true → AreOff self.now.olds }
+    {
+        self.olds.are_off()
+    }
 }
 
 /// Whether the whole text is in the language of the pattern with these places.
-#[tactic(auto, using(crate::proofs::MatchLemmas::begin_matched, crate::proofs::MatchLemmas::more_matched, crate::proofs::MatchLemmas::end_matched))]
+#[tactic(auto, using(crate::proofs::MatchLemmas::more_matched, crate::proofs::MatchLemmas::end_matched))]
 pub(crate) fn is_match(alloc: Global, places: &[Place], text: &str) -> Mem<bool>
     requires { places_of (tree_of places.now) ≡ places.now }
     ensures { IfOk result (λ answer. IsTrue answer ↔ InLanguage (tree_of places.now) (chars text.now)) }
 {
     let mut sets = Sets::new(alloc, places.len())?;
-    let mut answer = sets.take_nothing(places)?;
-    let mut enters = true;
-    let mut rest = text;
+    let Some((first, later)) = first_char(text) else {
+        return sets.take_nothing(places);
+    };
+    let mut answer = sets.take(first, places, true)?;
+    let mut rest = later;
     while let Some((c, later)) = first_char(rest) {
-        answer = sets.take(c, places, enters)?;
-        enters = false;
+        if sets.are_off() {
+            return Ok(false);
+        }
+        answer = sets.take(c, places, false)?;
         rest = later;
     }
     Ok(answer)

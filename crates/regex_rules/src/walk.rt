@@ -1,11 +1,12 @@
 //! One step of a match: over the places of a pattern once, with one more character of the text.
 ghost use Rattle.std.specs.Prelude.{◌≡◌, ◌≤◌, [], OnOk, length};
+ghost use Rattle.regex_rules.specs.Languages.{is_one};
 ghost use Rattle.regex_rules.specs.Walks as spec;
 
 use crate::frames::Frames;
 use crate::level::{Frame, Level};
 use crate::marks::Marks;
-use crate::{Place, Repeat};
+use crate::{OneChar, Place, Repeat};
 use sp_base::Mem;
 
 /// A walk over the places of a pattern: what is known of the innermost open rows and of those around them, and the marks of the
@@ -59,10 +60,11 @@ fn next_row(level: Level) -> Level
 }
 
 impl Walk {
-    fn pass_one(&mut self, fits: bool, repeat: Repeat, old: bool) -> Mem<()>
-        ensures { OnOk result (self.new ≡ spec.past_one fits repeat old self.old) }
+    // The character is looked at only where the text reaches the place.
+    fn pass_one(&mut self, c: char, one: &OneChar, repeat: Repeat, old: bool) -> Mem<()>
+        ensures { OnOk result (self.new ≡ spec.past_one (is_one one.now c) repeat old self.old) }
     {
-        let arrives = (self.level.here || (repeat.may_go_on() && old)) && fits;
+        let arrives = (self.level.here || (repeat.may_go_on() && old)) && one.is_one(c);
         self.level = past_piece(self.level, repeat.may_lack(), old, arrives);
         self.marks.push(arrives)
     }
@@ -104,7 +106,7 @@ impl Walk {
         ensures { OnOk result (self.new ≡ spec.past_place c place.now old self.old) }
     {
         match place {
-            Place::One(one, repeat) => self.pass_one(one.is_one(c), *repeat, old),
+            Place::One(one, repeat) => self.pass_one(c, one, *repeat, old),
             Place::Open => self.pass_open(old),
             Place::Bar => self.pass_bar(),
             Place::Close(repeat) => self.pass_close(*repeat, old),

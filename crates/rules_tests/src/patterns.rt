@@ -154,14 +154,22 @@ fn is_row(alloc: Global, row: &Row) -> Result<bool, PathFault> {
     Ok(held && !apart)
 }
 
+fn is_bad_kind(fault: &FarmFault, name: &str) -> bool {
+    match fault {
+        FarmFault::BadKind(own) => own.text() == name,
+        _ => false,
+    }
+}
+
 fn is_refused(alloc: Global, members: &str, name: &str) -> Mem<bool> {
     let text = farm_text(alloc, members)?;
-    match read_any(alloc, text.as_bytes()) {
-        Ok(file) => Ok(
-            matches!(farm_of(alloc, &file), Err(FarmFault::BadKind(own)) if own.text() == name),
-        ),
-        Err(_) => Ok(false),
-    }
+    let Ok(file) = read_any(alloc, text.as_bytes()) else {
+        return Ok(false);
+    };
+    let Err(fault) = farm_of(alloc, &file) else {
+        return Ok(false);
+    };
+    Ok(is_bad_kind(&fault, name))
 }
 
 #[test]

@@ -10,7 +10,7 @@ use Rattle.htl_expr.specs.declared.scope.Scope.{Scope}
 use Rattle.htl_syntax.specs.Fault.{expression_of}
 use Rattle.htl_expr.specs.Value.{print}
 use Rattle.htl_text.specs.declared.fault.TextFault.{TextFault}
-use Rattle.htl_text.specs.declared.fault.TextFault.TheVariants.{Unclosed, BadExpr}
+use Rattle.htl_text.specs.declared.fault.TextFault.TheVariants.{Unclosed, BadExpr, NoMemory}
 use Rattle.htl_text.specs.declared.piece.TemplatePiece.{TemplatePiece}
 use Rattle.htl_text.specs.declared.piece.TemplatePiece.TheVariants.{Plain, Value}
 use Rattle.htl_text.specs.declared.quotes.Quotes.{Quotes}
@@ -91,6 +91,21 @@ template_pieces all zero (c ∷ t) =
 -- what a text is read as: its pieces, or its first fault
 abbrev pub template_of : List ℕ → Result (List TemplatePiece) TextFault
 template_of t = template_pieces (length t) 0 t
+
+-- a fault of a text that begins at a place of another, by its place there
+abbrev pub fault_at : ℕ → TextFault → TextFault
+fault_at place (Unclosed n) = Unclosed (place + n)
+fault_at place (BadExpr n) = BadExpr (place + n)
+fault_at place NoMemory = NoMemory
+
+-- what is read of a text that begins at a place of another
+abbrev pub read_from : ℕ → Result (List TemplatePiece) TextFault → Result (List TemplatePiece) TextFault
+read_from place (Ok ps) = Ok ps
+read_from place (Err fault) = Err (fault_at place fault)
+
+-- what a text is read as that begins at a place of another: its pieces, or its first fault
+abbrev pub template_at : ℕ → List ℕ → Result (List TemplatePiece) TextFault
+template_at place t = read_from place (template_of t)
 
 -- how many bytes stand before the next "${"
 unfoldable pub opening_len : List ℕ → ℕ

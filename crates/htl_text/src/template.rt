@@ -1,15 +1,15 @@
 //! A template, and how it is read.
 
-ghost use Rattle.std.specs.Prelude.{◌≡◌, ◌≢◌, ◌<◌, ◌++◌, true, IfOk, IfErr, OnOk, Ok, Err, length};
+ghost use Rattle.std.specs.Prelude.{◌≡◌, ◌≢◌, ◌<◌, ◌++◌, ◌+◌, true, IfOk, IfErr, OnOk, Ok, Err, length};
 ghost use Rattle.htl_text.specs.Template as spec;
-ghost use Rattle.htl_text.specs.Template.{template_of};
+ghost use Rattle.htl_text.specs.Template.{fault_at, template_at, template_of};
 
 use crate::fault::TextFault;
 use crate::piece::TemplatePiece;
 use crate::quotes::closing;
 use crate::scan::{plain, tail};
 use htl_expr::{Expr, ExprFault};
-use sp_base::{Items, Mem, TextBuf};
+use sp_base::{Items, Mem, NoMemory, TextBuf};
 use std::alloc::Global;
 use std::marker::Model;
 
@@ -64,7 +64,42 @@ fn push_plain(pieces: &mut Items<TemplatePiece>, text: TextBuf) -> Mem<()>
     Ok(())
 }
 
+// The place in another text of a place in a text that begins in it.
+fn place_from(place: usize, within: usize) -> Mem<usize>
+    ensures { IfOk result (λ sum. sum ≡ place + within) }
+{
+    place.checked_add(within).ok_or(NoMemory)
+}
+
+// A fault by its place in another text. No text has more bytes than fit into memory.
+fn moved(place: usize, fault: TextFault) -> TextFault
+    ensures { result ≢ TextFault.NoMemory → result ≡ fault_at place fault }
+{
+    match fault {
+        TextFault::Unclosed(within) => match place_from(place, within) {
+            Ok(sum) => TextFault::Unclosed(sum),
+            Err(NoMemory) => TextFault::NoMemory,
+        },
+        TextFault::BadExpr(within) => match place_from(place, within) {
+            Ok(sum) => TextFault::BadExpr(sum),
+            Err(NoMemory) => TextFault::NoMemory,
+        },
+        TextFault::NoMemory => TextFault::NoMemory,
+    }
+}
+
 impl Template {
+    /// Reads a template that begins at a place of another text. The places of its faults are in that text.
+    pub fn read_at(alloc: Global, text: &str, place: usize) -> Result<Template, TextFault>
+        ensures ok { IfOk result (λ t. template_at place text.now ≡ Ok t) }
+        ensures err { IfErr result (λ f. f ≢ TextFault.NoMemory → template_at place text.now ≡ Err f) }
+    {
+        match Template::read(alloc, text) {
+            Ok(template) => Ok(template),
+            Err(fault) => Err(moved(place, fault)),
+        }
+    }
+
     /// Reads a template. Of several faults it answers the one that comes first in the text.
     pub fn read(alloc: Global, text: &str) -> Result<Template, TextFault>
         ensures ok { IfOk result (λ t. template_of text.now ≡ Ok t) }

@@ -1,0 +1,5 @@
+pub mod ElementText
+pub mod Markup
+pub mod Attributes
+pub mod LentValues
+pub mod Reading

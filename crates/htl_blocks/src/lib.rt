@@ -1,0 +1,19 @@
+//! Block statements of the HTML Template Language (HTL specification 1.4, "Block Statements"): a script read as text and elements.
+#![tactic(auto)]
+
+mod attribute;
+mod attributes;
+mod block;
+mod blocks;
+mod cut;
+mod fault;
+mod markup;
+mod quoting;
+mod reader;
+mod statement;
+mod value;
+
+pub use attribute::{Attributes, Body, Unwrap};
+pub use block::{Block, Tag};
+pub use blocks::Blocks;
+pub use fault::BlockFault;

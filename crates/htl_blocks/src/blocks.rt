@@ -34,6 +34,13 @@ impl Model for Blocks {
 }
 
 impl Blocks {
+    /// The blocks of the script, in their order.
+    pub fn blocks(&self) -> &[Block]
+        ensures { result.now ≡ self.now }
+    {
+        self.blocks.as_slice()
+    }
+
     /// Reads a script. Of several faults it answers the one that comes first in the text.
     pub fn read(alloc: Global, text: &str) -> Result<Blocks, BlockFault>
         ensures ok { IfOk result (λ b. blocks_of text.now ≡ Ok b) }

@@ -1,1 +1,5 @@
-
+mod Tags
+mod Parts
+mod Trimmed
+mod Runs
+mod Steps

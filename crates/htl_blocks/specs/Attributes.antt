@@ -1,6 +1,6 @@
 -- The attributes of a tag that are block statements (HTML Template Language specification 1.4, "Block Statements").
 use Rattle.std.specs.Prelude.{ℕ, zero, suc, ◌+◌, Bool, true, false, not, nat_eq, ◌||◌, ◌&&◌, ◌==◌, if◌then◌else◌, List, [], ◌∷◌, ◌++◌, length, take, drop, codes, Option, Some, None, is_none, Result, Ok, Err}
-use Rattle.std.specs.List.{starts_with, prefix_len, position_or_len, list_all}
+use Rattle.std.specs.List.{starts_with, list_all}
 use Rattle.std.specs.Cmp.Lexicographic.{pointwise}
 use Rattle.htl_syntax.specs.Tokens.{begins, is_blank, is_quote, is_first, is_word_byte}
 use Rattle.htl_text.specs.declared.piece.TemplatePiece.{TemplatePiece}
@@ -17,7 +17,8 @@ use Rattle.htl_blocks.specs.declared.attribute.Unwrap.{Unwrap}
 use Rattle.htl_blocks.specs.declared.attribute.Unwrap.TheVariants as unwrap
 use Rattle.htl_blocks.specs.declared.statement.Statement.{Statement}
 use Rattle.htl_blocks.specs.declared.statement.Statement.TheVariants as statement
-use Rattle.htl_blocks.specs.Markup.{begins_tag, quoting_step}
+use Rattle.htl_blocks.specs.Markup.{begins_tag, quoting_step, run_bytes}
+use Rattle.htl_blocks.specs.declared.byte_run.ByteRun.TheVariants as run
 
 -- what the names of block statements begin with
 abbrev pub statement_prefix : List ℕ
@@ -37,17 +38,13 @@ statement_place quoting n (c ∷ t) = if begins_statement quoting c t then Some 
 unfoldable pub is_block_tag : List ℕ → Bool
 is_block_tag part = begins_tag part && not (is_none (statement_place Outside 0 part))
 
--- the bytes of an attribute's name: neither blanks nor "=", ">", "/" and quote marks
-abbrev pub is_key_byte : ℕ → Bool
-is_key_byte c = not (is_blank c || (is_quote c || (c == 61 || (c == 62 || c == 47))))
-
 -- how many bytes an attribute's name has
 abbrev pub key_len : List ℕ → ℕ
-key_len t = prefix_len is_key_byte t
+key_len t = run_bytes run.Key t
 
 -- how many bytes stand before the next quote mark of this kind
 abbrev pub quoted_len : ℕ → List ℕ → ℕ
-quoted_len mark t = position_or_len (λ c. c == mark) t
+quoted_len mark t = run_bytes (run.Quoted mark) t
 
 -- a text without the blanks at its end
 unfoldable pub end_trimmed : List ℕ → List ℕ
@@ -157,7 +154,7 @@ known_attribute (Some s) v = statement_attribute s v
 
 -- the attribute of a block statement, where it is one: its name begins the text
 unfoldable pub attribute_of : List ℕ → Option Attribute
-attribute_of t = known_attribute (statement_of (take (key_len t) t)) ((value_read (drop (key_len t) t)).0)
+attribute_of t = known_attribute (statement_of (take (key_len t) t)) (value_read (drop (key_len t) t)).0
 
 -- no statement
 abbrev pub no_attributes : Attributes
@@ -177,7 +174,7 @@ with_known a (Some b) = with_attribute a b
 
 -- the text after the attribute at the beginning
 unfoldable pub after_attribute : List ℕ → List ℕ
-after_attribute t = drop (value_len ((value_read (drop (key_len t) t)).0)) (drop (key_len t) t)
+after_attribute t = (value_read (drop (key_len t) t)).1
 
 -- on with what was found, unless there is a fault
 abbrev pub added : (Attributes → List ℕ → Option (Attributes × List ℕ)) → List ℕ → Option Attributes → Option (Attributes × List ℕ)

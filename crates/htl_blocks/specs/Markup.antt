@@ -1,15 +1,31 @@
 -- The tags of a script, its end tags, and the bytes between them (HTML Living Standard, 13.1.2 "Elements"). `parts_after` is needed by `parts` and proofs alone.
 use Rattle.std.specs.Prelude.{ℕ, zero, suc, ◌+◌, ◌-◌, Bool, true, false, not, nat_eq, nat_le, ◌||◌, ◌&&◌, ◌==◌, if◌then◌else◌, List, [], ◌∷◌, length, take, drop, codes, slice_index, Option, Some, None, is_none}
-use Rattle.std.specs.List.{starts_with, prefix_len, list_any}
+use Rattle.std.specs.List.{position_or_len}
 use Rattle.std.specs.Str.{str_eq_ignore_ascii_case}
 use Rattle.sp_base.specs.Bytes.{begins_with_byte, is_digit}
-use Rattle.htl_syntax.specs.Tokens.{begins, is_letter, is_quote}
+use Rattle.htl_syntax.specs.Tokens.{begins, is_letter, is_blank, is_quote}
+use Rattle.htl_blocks.specs.declared.byte_run.ByteRun.{ByteRun}
+use Rattle.htl_blocks.specs.declared.byte_run.ByteRun.TheVariants as run
 use Rattle.htl_blocks.specs.declared.quoting.Quoting.{Quoting}
 use Rattle.htl_blocks.specs.declared.quoting.Quoting.TheVariants.{Outside, Within}
 
 -- a tag's name is of letters, digits and "-"
 abbrev pub is_name_byte : ℕ → Bool
 is_name_byte c = is_letter c || (is_digit c || c == 45)
+
+-- a blank, a quote mark, "=", ">" or "/" ends the name of an attribute
+abbrev pub ends_key : ℕ → Bool
+ends_key c = is_blank c || (is_quote c || (c == 61 || (c == 62 || c == 47)))
+
+-- the byte that ends a run: of a tag's name, of an attribute's name, of what stands in quotes
+abbrev pub ends : ByteRun → ℕ → Bool
+ends run.Name c = not (is_name_byte c)
+ends run.Key c = ends_key c
+ends (run.Quoted mark) c = c == mark
+
+-- how many of the first bytes belong to a run
+unfoldable pub run_bytes : ByteRun → List ℕ → ℕ
+run_bytes kind t = position_or_len (ends kind) t
 
 -- names are compared without case
 abbrev pub same_name : List ℕ → List ℕ → Bool
@@ -49,7 +65,7 @@ is_ended t = not (is_none (tag_end Outside 0 t))
 
 -- how many bytes at the beginning belong to a name
 abbrev pub name_len : List ℕ → ℕ
-name_len t = prefix_len is_name_byte t
+name_len t = run_bytes run.Name t
 
 -- the name that a tag has after its "<"
 unfoldable pub tag_name : List ℕ → List ℕ
@@ -59,9 +75,13 @@ tag_name t = take (name_len (drop 1 t)) (drop 1 t)
 unfoldable pub end_tag_name : List ℕ → List ℕ
 end_tag_name t = take (name_len (drop 2 t)) (drop 2 t)
 
+-- a name, and ">" right after it
+abbrev pub ends_after_name : List ℕ → Bool
+ends_after_name t = begins is_letter t && begins_with_byte 62 (drop (name_len t) t)
+
 -- an end tag stands at the beginning: "</", a name, and ">" right after it
 unfoldable pub begins_end_tag : List ℕ → Bool
-begins_end_tag t = begins_with_byte 60 t && (begins_with_byte 47 (drop 1 t) && (begins is_letter (drop 2 t) && begins_with_byte 62 (drop (name_len (drop 2 t)) (drop 2 t))))
+begins_end_tag t = begins_with_byte 60 t && (begins_with_byte 47 (drop 1 t) && ends_after_name (drop 2 t))
 
 -- how many bytes the first part of a text has: a tag, an end tag, or one byte
 unfoldable pub part_len : List ℕ → ℕ
@@ -100,12 +120,12 @@ unfoldable pub closes : List ℕ → List ℕ → Bool
 closes name part = begins_end_tag part && same_name (end_tag_name part) name
 
 -- how many tags of this name wait for their end tags after a part
-abbrev pub open_after : List ℕ → ℕ → List ℕ → ℕ
-open_after name open part = if closes name part then open - 1 else (if opens name part then open + 1 else open)
+abbrev pub waiting_after : List ℕ → ℕ → List ℕ → ℕ
+waiting_after name waiting part = if closes name part then waiting - 1 else (if opens name part then waiting + 1 else waiting)
 
 -- How many bytes stand before the end tag that closes an element of this name: the first that closes none of the tags of this name between.
--- So many of them are open, and n bytes are passed.
+-- So many of them are waiting, and n bytes are passed.
 unfoldable pub inside_len : List ℕ → ℕ → ℕ → List (List ℕ) → Option ℕ
-inside_len name open n [] = None
-inside_len name open n (part ∷ more) =
-    if open == 0 && closes name part then Some n else inside_len name (open_after name open part) (n + length part) more
+inside_len name waiting n [] = None
+inside_len name waiting n (part ∷ more) =
+    if waiting == 0 && closes name part then Some n else inside_len name (waiting_after name waiting part) (n + length part) more

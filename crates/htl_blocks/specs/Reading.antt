@@ -110,23 +110,18 @@ blocks_read one end (suc turns) found t =
     with_blocks found (run_blocks (end - length t) (run_of t)) then λ found_too.
     to_element one (blocks_read one end turns) found_too (after_run t)
 
--- where no level is left no content is read, since the element is too deep
-abbrev pub no_content : ℕ → List ℕ → Result (List Block) BlockFault
-no_content end t = Ok []
+-- the content of an element above which so many levels may nest, the element's among them; where none may, the element is too deep, and its content is never read
+unfoldable pub content_within : ℕ → ℕ → List ℕ → Result (List Block) BlockFault
+content_within zero end t = Ok []
+content_within (suc levels) end t = blocks_read (element levels (content_within levels) end) end (length t) [] t
 
 -- the blocks of a text that ends at a place of the whole, where so many levels may nest
-unfoldable pub blocks_within : ℕ → ℕ → List ℕ → Result (List Block) BlockFault
-blocks_within zero end t = blocks_read (element 0 no_content end) end (length t) [] t
-blocks_within (suc levels) end t = blocks_read (element (suc levels) (blocks_within levels) end) end (length t) [] t
-
--- the content of an element at this level
-unfoldable pub content_within : ℕ → ℕ → List ℕ → Result (List Block) BlockFault
-content_within zero = no_content
-content_within (suc levels) = blocks_within levels
+abbrev pub blocks_within : ℕ → ℕ → List ℕ → Result (List Block) BlockFault
+blocks_within levels end t = content_within (suc levels) end t
 
 -- the element at the beginning of a text, where so many levels may nest
 abbrev pub element_within : ℕ → ℕ → List ℕ → Result (Block × List ℕ) BlockFault
-element_within levels = element levels (content_within levels)
+element_within levels end t = element levels (content_within levels) end t
 
 -- what a script is read as: its blocks, or its first fault
 abbrev pub blocks_of : List ℕ → Result (List Block) BlockFault

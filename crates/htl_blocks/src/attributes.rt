@@ -4,7 +4,8 @@ ghost use Rattle.std.specs.Prelude.{◌≡◌, ◌++◌, IfOk, Some, option_map,
 ghost use Rattle.htl_blocks.specs.Attributes as spec;
 
 use crate::attribute::{Attribute, Attributes};
-use crate::markup::{is_blank, statement_place, tail};
+use crate::byte_run::is_blank;
+use crate::markup::{statement_place, tail};
 use crate::value::{after_attribute, attribute_of};
 use sp_base::{Mem, TextBuf};
 use std::alloc::Global;
@@ -78,6 +79,7 @@ fn end_trimmed(text: &str) -> &str
 }
 
 /// The text before the next statement, and the statement with what follows it.
+#[tactic(auto, unfolding(crate::specs::Attributes::statement_split))]
 fn statement_split(text: &str) -> Option<(&str, &str)>
     ensures { option_map (λ x. (x.0.now, x.1.now)) result ≡ spec.statement_split text.now }
 {

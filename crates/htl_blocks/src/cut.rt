@@ -1,6 +1,6 @@
 //! Where block elements stand in a text.
 
-ghost use Rattle.std.specs.Prelude.{◌≡◌, ◌<◌, IfSome, IfOk, IfErr, Some, None, Ok, Err, true, false, take, drop};
+ghost use Rattle.std.specs.Prelude.{◌≡◌, ◌==◌, ◌&&◌, ◌<◌, ◌+◌, IfSome, IfOk, IfErr, Some, None, Ok, Err, true, false, take, drop};
 ghost use Rattle.htl_blocks.specs.Markup as spec;
 ghost use Rattle.htl_blocks.specs.Reading as reading;
 
@@ -46,6 +46,7 @@ fn run_len(text: &[u8]) -> usize
 }
 
 /// The text before the first block tag, and the text from there on.
+#[tactic(auto, unfolding(crate::specs::Reading::run_of, crate::specs::Reading::after_run))]
 pub fn run(text: &str) -> (&str, &str)
     ensures run { result.0.now ≡ reading.run_of text.now }
     ensures rest { result.1.now ≡ reading.after_run text.now }
@@ -54,17 +55,24 @@ pub fn run(text: &str) -> (&str, &str)
 }
 
 /// How many tags of a name wait for their end tags after a part.
-fn open_after(name: &[u8], open: usize, part: &[u8]) -> usize
-    requires { open < usize.MAX }
-    ensures { result ≡ spec.open_after name.now open part.now }
+fn waiting_after(name: &[u8], waiting: usize, part: &[u8]) -> usize
+    requires { waiting < usize.MAX }
+    ensures { result ≡ spec.waiting_after name.now waiting part.now }
 {
     if closes(name, part) {
-        open.saturating_sub(1)
+        waiting.saturating_sub(1)
     } else if opens(name, part) {
-        open + 1
+        waiting + 1
     } else {
-        open
+        waiting
     }
+}
+
+/// Whether a part is the end tag that closes the element.
+fn is_end(name: &[u8], waiting: usize, part: &[u8]) -> bool
+    ensures { result ≡ (waiting == 0) && spec.closes name.now part.now }
+{
+    waiting == 0 && closes(name, part)
 }
 
 /// How many bytes stand before the end tag that closes an element of this name.
@@ -72,15 +80,15 @@ fn open_after(name: &[u8], open: usize, part: &[u8]) -> usize
 fn inside_len(name: &[u8], text: &[u8]) -> Option<usize>
     ensures { result ≡ spec.inside_len name.now 0 0 (spec.parts text.now) }
 {
-    let mut open = 0;
+    let mut waiting = 0;
     let mut len = 0;
     let mut rest = text;
     while !rest.is_empty() {
         let (part, later) = first_part(rest);
-        if open == 0 && closes(name, part) {
+        if is_end(name, waiting, part) {
             return Some(len);
         }
-        open = open_after(name, open, part);
+        waiting = waiting_after(name, waiting, part);
         len += part.len();
         rest = later;
     }
@@ -104,6 +112,7 @@ fn cut_at<'a>(tag: &'a str, text: &'a str, len: usize) -> Cut<'a>
 }
 
 /// The tag at the beginning, and the text after it, where the tag has its end.
+#[tactic(auto, unfolding(crate::specs::Markup::is_ended, crate::specs::Markup::tag_len))]
 fn tag_split(text: &str) -> Option<(&str, &str)>
     ensures none { result ≡ None → spec.is_ended text.now ≡ false }
     ensures some { IfSome result (λ x. (spec.is_ended text.now ≡ true) × (x.0.now ≡ take (spec.tag_len text.now) text.now) × (x.1.now ≡ drop (spec.tag_len text.now) text.now)) }

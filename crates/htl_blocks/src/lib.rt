@@ -5,6 +5,7 @@ mod attribute;
 mod attributes;
 mod block;
 mod blocks;
+mod byte_run;
 mod cut;
 mod fault;
 mod markup;

@@ -1,43 +1,13 @@
 //! Tags and end tags at the beginning of a text.
 
-ghost use Rattle.std.specs.Prelude.{◌≡◌, ◌+◌, ◌<◌, ◌∷◌, drop, length, slice_index};
-ghost use Rattle.sp_base.specs.Bytes.{is_digit};
+ghost use Rattle.std.specs.Prelude.{◌≡◌, IfSome, ◌+◌, ◌<◌, ◌≤◌, ◌∷◌, drop, length, slice_index};
 ghost use Rattle.htl_syntax.specs.Tokens as tokens;
 ghost use Rattle.htl_blocks.specs.Attributes as attributes;
 ghost use Rattle.htl_blocks.specs.Markup as spec;
 
+use crate::byte_run::{ByteRun, is_first, is_letter, run_bytes};
 use crate::quoting::{Quoting, begins_statement, ends_tag, step};
 use sp_base::begins_with_byte;
-
-pub fn is_blank(c: u8) -> bool
-    ensures { result ≡ tokens.is_blank c }
-{
-    c == b' ' || (c == b'\t' || (c == b'\n' || c == b'\r'))
-}
-
-pub fn is_quote(c: u8) -> bool
-    ensures { result ≡ tokens.is_quote c }
-{
-    c == b'\'' || c == b'"'
-}
-
-fn is_digit(c: u8) -> bool
-    ensures { result ≡ is_digit c }
-{
-    c >= b'0' && c <= b'9'
-}
-
-fn is_letter(c: u8) -> bool
-    ensures { result ≡ tokens.is_letter c }
-{
-    (c >= b'A' && c <= b'Z') || (c >= b'a' && c <= b'z')
-}
-
-fn is_name_byte(c: u8) -> bool
-    ensures { result ≡ spec.is_name_byte c }
-{
-    is_letter(c) || (is_digit(c) || c == b'-')
-}
 
 #[tactic(auto, unfolding(htl_syntax::specs::Tokens::begins))]
 fn letter_at(text: &[u8]) -> bool
@@ -47,18 +17,6 @@ fn letter_at(text: &[u8]) -> bool
         [] => false,
         [c, ..] => is_letter(*c),
     }
-}
-
-fn is_first(c: u8) -> bool
-    ensures { result ≡ tokens.is_first c }
-{
-    is_letter(c) || c == b'_'
-}
-
-pub fn is_word(c: u8) -> bool
-    ensures { result ≡ tokens.is_word_byte c }
-{
-    is_first(c) || is_digit(c)
 }
 
 #[tactic(auto, unfolding(htl_syntax::specs::Tokens::begins))]
@@ -95,16 +53,10 @@ pub fn after(place: usize, text: &[u8]) -> &[u8]
 
 /// How many bytes at the beginning belong to a name.
 fn name_len(text: &[u8]) -> usize
-    ensures { result ≡ spec.name_len text.now }
+    ensures value { result ≡ spec.name_len text.now }
+    ensures within { result ≤ length text.now }
 {
-    let mut len = 0;
-    for c in text {
-        if !is_name_byte(*c) {
-            return len;
-        }
-        len += 1;
-    }
-    len
+    run_bytes(ByteRun::Name, text)
 }
 
 /// Whether a tag begins the text.
@@ -115,22 +67,27 @@ fn begins_tag(text: &[u8]) -> bool
     begins_with_byte(b'<', text) && letter_at(after(1, text))
 }
 
+/// Whether a name and a `>` right after it begin the text.
+fn ends_after_name(text: &[u8]) -> bool
+    ensures { result ≡ spec.ends_after_name text.now }
+{
+    letter_at(text) && begins_with_byte(b'>', after(name_len(text), text))
+}
+
 /// Whether an end tag begins the text.
 #[tactic(auto, unfolding(crate::specs::Markup::begins_end_tag))]
 fn begins_end_tag(text: &[u8]) -> bool
     ensures { result ≡ spec.begins_end_tag text.now }
 {
-    if !(begins_with_byte(b'<', text) && begins_with_byte(b'/', after(1, text))) {
-        return false;
-    }
-    let name = after(2, text);
-    letter_at(name) && begins_with_byte(b'>', after(name_len(name), name))
+    begins_with_byte(b'<', text)
+        && (begins_with_byte(b'/', after(1, text)) && ends_after_name(after(2, text)))
 }
 
 /// The place of the `>` that ends a tag.
 #[tactic(auto, unfolding(crate::specs::Markup::tag_end))]
 pub fn tag_end(text: &[u8]) -> Option<usize>
-    ensures { result ≡ spec.tag_end Quoting.Outside 0 text.now }
+    ensures value { result ≡ spec.tag_end Quoting.Outside 0 text.now }
+    ensures within { IfSome result (λ place. place < length text.now) }
 {
     let mut quoting = Quoting::Outside;
     let mut len = 0;
@@ -149,7 +106,8 @@ pub fn tag_end(text: &[u8]) -> Option<usize>
 /// The place of the blank before the first block statement of a tag.
 #[tactic(auto, unfolding(crate::specs::Attributes::statement_place))]
 pub fn statement_place(text: &[u8]) -> Option<usize>
-    ensures { result ≡ attributes.statement_place Quoting.Outside 0 text.now }
+    ensures value { result ≡ attributes.statement_place Quoting.Outside 0 text.now }
+    ensures within { IfSome result (λ place. place < length text.now) }
 {
     let mut quoting = Quoting::Outside;
     let mut len = 0;
@@ -168,7 +126,7 @@ pub fn statement_place(text: &[u8]) -> Option<usize>
 /// How many bytes the first part has: a tag, an end tag, or one byte.
 #[tactic(auto, unfolding(crate::specs::Markup::part_len, crate::specs::Markup::tag_len))]
 pub fn part_len(text: &[u8]) -> usize
-    ensures value { result ≡ spec.part_len text.now }
+    ensures { result ≡ spec.part_len text.now }
 {
     if begins_tag(text) {
         match tag_end(text) {
@@ -176,7 +134,7 @@ pub fn part_len(text: &[u8]) -> usize
             None => text.len(),
         }
     } else if begins_end_tag(text) {
-        name_len(after(2, text)) + 3
+        name_len(after(2, text)).saturating_add(3)
     } else {
         1
     }

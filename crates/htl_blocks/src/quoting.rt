@@ -4,7 +4,7 @@ ghost use Rattle.std.specs.Prelude.{◌≡◌};
 ghost use Rattle.htl_blocks.specs.Attributes.{begins_statement};
 ghost use Rattle.htl_blocks.specs.Markup as spec;
 
-use crate::markup::{is_blank, is_quote};
+use crate::byte_run::{is_blank, is_quote};
 
 /// Where a byte of a tag stands.
 #[derive(Clone, Copy, Drop)]

@@ -70,6 +70,7 @@ fn tag_of(alloc: Global, levels: u32, place: usize, tag: &str) -> Result<Boxed<T
 
 /// The element at the beginning of a text that ends at a place of the whole, and what follows it.
 #[cycle(reader)]
+#[tactic(auto, unfolding(crate::specs::Reading::element))]
 fn element(
     alloc: Global,
     levels: u32,
@@ -92,6 +93,7 @@ fn element(
 
 /// The blocks of a text that ends at a place of the whole, where so many levels may nest.
 #[cycle(reader)]
+#[tactic(auto, unfolding(crate::specs::Reading::content_within, crate::specs::Reading::blocks_read))]
 pub fn blocks(
     alloc: Global,
     levels: u32,

@@ -6,7 +6,8 @@ ghost use Rattle.htl_blocks.specs.Attributes as spec;
 ghost use Rattle.htl_blocks.specs.LentValues.{value_shown};
 
 use crate::attribute::{Attribute, Body, Unwrap};
-use crate::markup::{first_at, is_blank, is_quote, is_word, tail};
+use crate::byte_run::{ByteRun, is_quote, is_word, run_bytes};
+use crate::markup::{first_at, tail};
 use crate::statement::Statement;
 use htl_text::{Template, TextFault};
 use sp_base::{Mem, NoMemory, TextBuf};
@@ -20,46 +21,12 @@ pub enum LentValue<'a> {
     Quoted(&'a str),
 }
 
-fn is_key_byte(c: u8) -> bool
-    ensures { result ≡ spec.is_key_byte c }
-{
-    !(is_blank(c) || (is_quote(c) || (c == b'=' || (c == b'>' || c == b'/'))))
-}
-
-/// How many bytes an attribute's name has.
-fn key_len(text: &[u8]) -> usize
-    ensures { result ≡ spec.key_len text.now }
-{
-    let mut len = 0;
-    for c in text {
-        if !is_key_byte(*c) {
-            return len;
-        }
-        len += 1;
-    }
-    len
-}
-
-/// How many bytes stand before the next mark.
-fn quoted_len(mark: u8, text: &[u8]) -> usize
-    ensures { result ≡ spec.quoted_len mark text.now }
-{
-    let mut len = 0;
-    for c in text {
-        if *c == mark {
-            return len;
-        }
-        len += 1;
-    }
-    len
-}
-
 /// The name of the attribute at the beginning, and the text after the name.
 fn key_split(text: &str) -> (&str, &str)
     ensures key { result.0.now ≡ take (spec.key_len text.now) text.now }
     ensures rest { result.1.now ≡ drop (spec.key_len text.now) text.now }
 {
-    text.split_at(key_len(text.as_bytes()))
+    text.split_at(run_bytes(ByteRun::Key, text.as_bytes()))
 }
 
 /// The text between quote marks, and what follows the second one.
@@ -68,7 +35,7 @@ fn quoted(text: &str, mark: u8) -> (&str, &str)
     ensures value { result.0.now ≡ take (spec.quoted_len mark text.now) text.now }
     ensures rest { result.1.now ≡ drop (spec.quoted_len mark text.now + 1) text.now }
 {
-    let (value, rest) = text.split_at(quoted_len(mark, text.as_bytes()));
+    let (value, rest) = text.split_at(run_bytes(ByteRun::Quoted(mark), text.as_bytes()));
     (value, tail(rest))
 }
 

@@ -3,3 +3,5 @@ mod Parts
 mod Trimmed
 mod Runs
 mod Steps
+mod Balance
+mod Plain

@@ -1,5 +1,5 @@
 -- Runs of bytes at the beginning of a text.
-use Rattle.std.proofs.Common.{◌≡◌, ◌<◌, ◌≤◌, ℕ, Bool, true, false, cond, nat_lt, List, Option, Some, None, MatchOption, length, slice_index, refl, sym, ◌∙◌, rules, arith}
+use Rattle.std.proofs.Common.{◌≡◌, ◌<◌, ◌≤◌, ◌+◌, ℕ, zero, suc, Bool, true, false, cond, nat_lt, List, [], ◌∷◌, drop, Option, Some, None, MatchOption, length, slice_index, refl, sym, ◌∙◌, rules, arith}
 use Rattle.std.specs.Str.{IsCharBoundary}
 use Rattle.std.specs.List.{position, position_or_len}
 use Rattle.std.proofs.lemmas.List.Sums.{prefix_len-le-length, passes_at_first}
@@ -33,3 +33,33 @@ key_boundary t = (run_within Key t, λ lt big. let x = key_ascii _ (passes_at_fi
 pub quoted_boundary : (mark : ℕ) (t : List ℕ) → is_quote mark ≡ true → IsCharBoundary t (run_bytes (Quoted mark) t)
 unfolding run_bytes
 quoted_boundary mark t h = (run_within (Quoted mark) t, λ lt big. let x = byte_is _ _ (passes_at_first (ends (Quoted mark)) t 0 lt) in let y = quote_ascii mark h in omega (arith, x, y, big))
+
+pub drop_one_more : (n : ℕ) (t : List ℕ) → drop 1 (drop n t) ≡ drop (n + 1) t
+drop_one_more zero t = refl
+drop_one_more (suc n) [] = let more : suc n + 1 ≡ suc (n + 1) = omega arith in rw more refl
+drop_one_more (suc n) (c ∷ t) = let more : suc n + 1 ≡ suc (n + 1) = omega arith in rw more (drop_one_more n t)
+
+index_drop : (n : ℕ) (t : List ℕ) → slice_index (drop n t) 0 ≡ slice_index t n
+index_drop zero t = refl
+index_drop (suc n) [] = refl
+index_drop (suc n) (c ∷ t) = index_drop n t
+
+past_end : (n : ℕ) (t : List ℕ) → length t ≤ n → slice_index t n ≡ 0
+past_end n [] h = refl
+past_end zero (c ∷ t) h = absurd (omega (arith, h))
+past_end (suc n) (c ∷ t) h = past_end n t (omega (arith, h))
+
+-- what stands after quotes begins with their mark, or is empty
+pub quoted_rest : (mark : ℕ) (t : List ℕ) → is_quote mark ≡ true → slice_index (drop (run_bytes (Quoted mark) t) t) 0 < 128
+unfolding run_bytes
+quoted_rest mark t h = rw (index_drop (position_or_len (ends (Quoted mark)) t) t) (go (nat_lt (position_or_len (ends (Quoted mark)) t) (length t)) refl)
+  where
+    go : (b : Bool) → nat_lt (position_or_len (ends (Quoted mark)) t) (length t) ≡ b → slice_index t (position_or_len (ends (Quoted mark)) t) < 128
+    go true e =
+        let lt : position_or_len (ends (Quoted mark)) t < length t = grind (arith, nat_tests) in
+        let x = byte_is _ _ (passes_at_first (ends (Quoted mark)) t 0 lt) in
+        let y = quote_ascii mark h in
+        omega (arith, x, y)
+    go false e =
+        let none = past_end (position_or_len (ends (Quoted mark)) t) t (grind (arith, nat_tests)) in
+        omega (arith, none)

@@ -3,3 +3,4 @@ pub mod Markup
 pub mod Attributes
 pub mod LentValues
 pub mod Reading
+pub mod Laws

@@ -1,4 +1,4 @@
--- A script read as blocks, from left to right (HTML Template Language specification 1.4, "Block Statements"). The grammar is Spelling.antt.
+-- A script read as blocks, from left to right (HTML Template Language specification 1.4, "Block Statements"). `start_fault` is needed by a private function alone.
 use Rattle.std.specs.Prelude.{ℕ, zero, suc, ◌+◌, ◌-◌, Bool, true, false, not, nat_eq, ◌||◌, ◌&&◌, ◌==◌, if◌then◌else◌, List, [], ◌∷◌, ◌++◌, length, take, drop, Option, Some, None, Result, Ok, Err}
 use Rattle.htl_text.specs.declared.piece.TemplatePiece.{TemplatePiece}
 use Rattle.htl_text.specs.declared.fault.TextFault.{TextFault}
@@ -110,7 +110,7 @@ blocks_read one end (suc turns) found t =
     with_blocks found (run_blocks (end - length t) (run_of t)) then λ found_too.
     to_element one (blocks_read one end turns) found_too (after_run t)
 
--- the content of an element above which so many levels may nest, the element's among them; where none may, the element is too deep, and its content is never read
+-- What is read inside an element where so many levels may nest, its own among them. Where none may, the element is too deep, and nothing inside it is read.
 unfoldable pub content_within : ℕ → ℕ → List ℕ → Result (List Block) BlockFault
 content_within zero end t = Ok []
 content_within (suc levels) end t = blocks_read (element levels (content_within levels) end) end (length t) [] t

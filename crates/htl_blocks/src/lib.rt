@@ -8,6 +8,7 @@ mod blocks;
 mod byte_run;
 mod cut;
 mod fault;
+mod laws;
 mod markup;
 mod quoting;
 mod reader;
@@ -18,3 +19,6 @@ pub use attribute::{Attributes, Body, Unwrap};
 pub use block::{Block, Tag};
 pub use blocks::Blocks;
 pub use fault::BlockFault;
+pub use laws::{
+    a_text_without_blocks_is_a_template, an_end_tag_closes_what_is_balanced, the_parts_are_the_text,
+};

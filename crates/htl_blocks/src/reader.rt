@@ -71,12 +71,7 @@ fn tag_of(alloc: Global, levels: u32, place: usize, tag: &str) -> Result<Boxed<T
 /// The element at the beginning of a text that ends at a place of the whole, and what follows it.
 #[cycle(reader)]
 #[tactic(auto, unfolding(crate::specs::Reading::element))]
-fn element(
-    alloc: Global,
-    levels: u32,
-    end: usize,
-    text: &str,
-) -> Result<(Block, &str), BlockFault>
+fn element(alloc: Global, levels: u32, end: usize, text: &str) -> Result<(Block, &str), BlockFault>
     ensures ok { IfOk result (λ x. spec.element_within levels end text.now ≡ Ok (x.0, x.1.now)) }
     ensures err { IfErr result (λ f. f ≢ BlockFault.NoMemory → spec.element_within levels end text.now ≡ Err f) }
 {

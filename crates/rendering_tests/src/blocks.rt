@@ -89,30 +89,57 @@ fn reads(alloc: Global, text: &str, wanted: &str) -> bool {
 const READINGS: [(&str, &str); 20] = [
     ("a${x}b", "a$b"),
     ("a < b <3 <p id='${x}'>c</p >", "a < b <3 <p id='$'>c</p >"),
-    ("<p data-sly-test=\"${x}\" id=\"c\">y</p>z", "[test <p id=\"c\">|y|</p>]z"),
-    ("<p\n\t data-sly-test='${x}'\n id=a>y</p>", "[test <p\n id=a>|y|</p>]"),
+    (
+        "<p data-sly-test=\"${x}\" id=\"c\">y</p>z",
+        "[test <p id=\"c\">|y|</p>]z",
+    ),
+    (
+        "<p\n\t data-sly-test='${x}'\n id=a>y</p>",
+        "[test <p\n id=a>|y|</p>]",
+    ),
     ("<p data-sly-list=\"${x}\">y</p>", "[list item <p>|y|</p>]"),
-    ("<p data-sly-list._k9=\"${x}\">${_k9}</p>", "[list _k9 <p>|$|</p>]"),
+    (
+        "<p data-sly-list._k9=\"${x}\">${_k9}</p>",
+        "[list _k9 <p>|$|</p>]",
+    ),
     ("a<b data-sly-text=\"${x}\">y</b>", "a[text <b>|y|</b>]"),
     ("<p data-sly-unwrap>y</p>", "[unwrap <p>|y|</p>]"),
     ("<p data-sly-unwrap=\"\">y</p>", "[unwrap <p>|y|</p>]"),
     ("<p data-sly-unwrap='${x}'>y</p>", "[unwrap? <p>|y|</p>]"),
-    ("<p data-sly-include=\"a.html\"/>y</p>", "[include <p/>||]y</p>"),
+    (
+        "<p data-sly-include=\"a.html\"/>y</p>",
+        "[include <p/>||]y</p>",
+    ),
     ("<p data-sly-resource='b'></p>", "[resource <p>||</p>]"),
     (
         "<p data-sly-unwrap data-sly-text='${x}' data-sly-list='${y}' data-sly-test='z'></p>",
         "[test list item text unwrap <p>||</p>]",
     ),
-    ("<br data-sly-test=\"${x}\">y<IMG data-sly-test='' id=i>", "[test <br>||]y[test <IMG id=i>||]"),
-    ("<p data-sly-test=\"${x}\"><p>a</p><P/>b</P>c", "[test <p>|<p>a</p><P/>b|</P>]c"),
-    ("<!-- <p data-sly-text='x'>y</p> -->", "<!-- [text <p>|y|</p>] -->"),
-    ("<a title=\"<p data-sly-text='x'>\">y</a>", "<a title=\"<p data-sly-text='x'>\">y</a>"),
+    (
+        "<br data-sly-test=\"${x}\">y<IMG data-sly-test='' id=i>",
+        "[test <br>||]y[test <IMG id=i>||]",
+    ),
+    (
+        "<p data-sly-test=\"${x}\"><p>a</p><P/>b</P>c",
+        "[test <p>|<p>a</p><P/>b|</P>]c",
+    ),
+    (
+        "<!-- <p data-sly-text='x'>y</p> -->",
+        "<!-- [text <p>|y|</p>] -->",
+    ),
+    (
+        "<a title=\"<p data-sly-text='x'>\">y</a>",
+        "<a title=\"<p data-sly-text='x'>\">y</a>",
+    ),
     ("<p data-sly-test='${a > \"b\"}'>c</p>", "[test <p>|c|</p>]"),
     (
         "<ul data-sly-test='x'><li data-sly-list='${x}'>${item}</li>,</ul>",
         "[test <ul>|[list item <li>|$|</li>],|</ul>]",
     ),
-    ("<p data-sly-test='x'>a</b><q x='</p>'></p>", "[test <p>|a</b><q x='</p>'>|</p>]"),
+    (
+        "<p data-sly-test='x'>a</b><q x='</p>'></p>",
+        "[test <p>|a</b><q x='</p>'>|</p>]",
+    ),
 ];
 
 #[test]
@@ -153,7 +180,11 @@ const FAULTS: [(&str, &str, usize); 20] = [
     ("<p data-sly-foo=\"x\"></p>", "bad", 0),
     ("a<p data-sly-test='x' data-sly-test='y'></p>", "bad", 1),
     ("<p data-sly-text='x' data-sly-include='b'></p>", "bad", 0),
-    ("<p data-sly-list='${x}' data-sly-list.a='${x}'></p>", "bad", 0),
+    (
+        "<p data-sly-list='${x}' data-sly-list.a='${x}'></p>",
+        "bad",
+        0,
+    ),
     ("<p data-sly-test></p>", "bad", 0),
     ("<p data-sly-test=x></p>", "bad", 0),
     ("<p data-sly-test = 'x'></p>", "bad", 0),
@@ -188,6 +219,10 @@ fn nested(alloc: Global, levels: usize) -> Mem<String> {
 
 #[test]
 fn thirty_two_levels_nest(rt: HostRuntime) {
-    assert!(rt; matches!(nested(rt.alloc(), 32), Ok(text) if Blocks::read(rt.alloc(), text.as_str()).is_ok()));
-    assert!(rt; matches!(nested(rt.alloc(), 33), Ok(text) if faults(rt.alloc(), text.as_str(), "deep", 608)));
+    assert!(rt;
+        matches!(nested(rt.alloc(), 32), Ok(text) if Blocks::read(rt.alloc(), text.as_str()).is_ok())
+    );
+    assert!(rt;
+        matches!(nested(rt.alloc(), 33), Ok(text) if faults(rt.alloc(), text.as_str(), "deep", 608))
+    );
 }

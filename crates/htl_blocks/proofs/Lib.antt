@@ -4,4 +4,5 @@ mod Trimmed
 mod Runs
 mod Steps
 mod Balance
+mod Turns
 mod Plain

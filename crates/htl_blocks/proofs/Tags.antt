@@ -9,7 +9,7 @@ use Rattle.htl_syntax.specs.Tokens.{begins, is_blank, is_quote, is_letter}
 use Rattle.htl_blocks.specs.declared.quoting.Quoting.{Quoting}
 use Rattle.htl_blocks.specs.declared.quoting.Quoting.TheVariants.{Outside, Within}
 use Rattle.htl_blocks.specs.Markup.{quoting_step, ends_tag, tag_end, ended_len, tag_len, begins_tag, begins_end_tag, name_len, part_len}
-use Rattle.htl_blocks.specs.Attributes.{begins_statement, statement_place}
+use Rattle.htl_blocks.specs.Attributes.{begins_statement, statement_place, mark_at}
 
 pub and_left : (a b : Bool) → (a && b) ≡ true → a ≡ true
 and_left true b e = refl
@@ -122,3 +122,35 @@ ended_boundary t n utf8 e =
     let same : n - 0 ≡ n = omega arith in
     let there : slice_index t n ≡ 62 = rw same at x.2 in
     IsCharBoundary-after_ascii t n utf8 (omega (arith, x.1)) (omega (arith, there))
+
+-- a text may be cut before the blank of a block statement
+pub statement_boundary : (t : List ℕ) (n : ℕ) → statement_place Outside 0 t ≡ Some n → IsCharBoundary t n
+statement_boundary t n e =
+    let x = statement_at Outside 0 t n e in
+    let same : n - 0 ≡ n = omega arith in
+    let there : slice_index t n < 128 = rw same at x.2 in
+    IsCharBoundary-before_ascii t n (omega (arith, x.1)) there
+
+index_drop : (n : ℕ) (t : List ℕ) → slice_index (drop n t) 0 ≡ slice_index t n
+index_drop zero t = refl
+index_drop (suc n) [] = refl
+index_drop (suc n) (c ∷ t) = index_drop n t
+
+pub statement_first : (t : List ℕ) (n : ℕ) → statement_place Outside 0 t ≡ Some n → slice_index (drop n t) 0 < 128
+statement_first t n e =
+    let x = statement_at Outside 0 t n e in
+    let same : n - 0 ≡ n = omega arith in
+    let there : slice_index t n < 128 = rw same at x.2 in
+    rw (index_drop n t) there
+
+-- the byte that begins a text
+pub first_is : (c : ℕ) (t : List ℕ) → c < 128 → begins_with_byte c t ≡ true → slice_index t 0 < 128
+first_is c t lt h = let x = byte_there c 0 t h in let same = x.1 in omega (arith, same, lt)
+
+pub mark_first : (t : List ℕ) (mark : ℕ) → mark_at t ≡ Some mark → (slice_index t 0 < 128) × (is_quote mark ≡ true)
+mark_first [] mark h = absurd cc
+mark_first (c ∷ t) mark h = go (is_quote c) refl h
+  where
+    go : (b : Bool) → is_quote c ≡ b → cond b (Some c) None ≡ Some mark → (c < 128) × (is_quote mark ≡ true)
+    go true e x = let same : c ≡ mark = cc in (quote_ascii c e, ap is_quote (sym same) ∙ e)
+    go false e x = absurd cc

@@ -1,8 +1,9 @@
 -- Blanks at the end of a text.
-use Rattle.std.proofs.Common.{◌≡◌, ◌<◌, ◌≤◌, ◌+◌, ℕ, zero, suc, Bool, true, false, cond, ◌&&◌, eqb, List, [], ◌∷◌, ◌++◌, take, length, slice_index, refl, ap, sym, ◌∙◌, rules, arith}
+use Rattle.std.proofs.Common.{◌≡◌, ◌<◌, ◌≤◌, ◌+◌, ◌-◌, ℕ, zero, suc, Bool, true, false, cond, ◌&&◌, eqb, List, [], ◌∷◌, ◌++◌, take, length, get_or, slice_index, refl, ap, sym, ◌∙◌, rules, arith}
 use Rattle.std.specs.Str.{IsCharBoundary}
 use Rattle.std.proofs.lemmas.Str.{IsCharBoundary-before_ascii, IsCharBoundary-end}
-use Rattle.std.proofs.lemmas.List.{length-append}
+use Rattle.std.proofs.lemmas.List.{take_all, take_more}
+use Rattle.std.proofs.lemmas.Bool.Decides.{nat_tests}
 use Rattle.htl_syntax.specs.Tokens.{is_blank}
 use Rattle.htl_blocks.specs.Attributes.{end_trimmed, trimmed_len}
 use Rattle.htl_blocks.proofs.Tags.{and_left, blank_ascii}
@@ -39,21 +40,37 @@ pub trimmed_boundary : (t : List ℕ) → IsCharBoundary t (trimmed_len t)
 trimmed_boundary t = (trimmed_within t, λ lt big. let x = trimmed_there t lt in omega (arith, x, big))
 
 -- a blank at the end is dropped
-pub trimmed_blank : (c : ℕ) (t : List ℕ) → is_blank c ≡ true → end_trimmed (t ++ c ∷ []) ≡ end_trimmed t
+trimmed_blank : (t : List ℕ) (c : ℕ) → is_blank c ≡ true → end_trimmed (t ++ c ∷ []) ≡ end_trimmed t
 unfolding end_trimmed
-trimmed_blank c [] h = rw h refl
-trimmed_blank c (d ∷ t) h = rw (trimmed_blank c t h) refl
+trimmed_blank [] c e = rw e refl
+trimmed_blank (d ∷ t) c e = rw (trimmed_blank t c e) refl
+
+nonempty : (t : List ℕ) (c : ℕ) → eqb (length (t ++ c ∷ [])) 0 ≡ false
+nonempty [] c = refl
+nonempty (d ∷ t) c = grind (arith, nat_tests)
 
 -- a text that ends in another byte stays
-pub trimmed_full : (c : ℕ) (t : List ℕ) → is_blank c ≡ false → end_trimmed (t ++ c ∷ []) ≡ t ++ c ∷ []
+trimmed_full : (t : List ℕ) (c : ℕ) → is_blank c ≡ false → end_trimmed (t ++ c ∷ []) ≡ t ++ c ∷ []
 unfolding end_trimmed
-trimmed_full c [] h = rw h refl
-trimmed_full c (d ∷ t) h = rw (trimmed_full c t h) (go (is_blank d))
+trimmed_full [] c e = rw e refl
+trimmed_full (d ∷ t) c e = rw (trimmed_full t c e, nonempty t c) (go (is_blank d))
   where
-    go : (b : Bool) → cond (b && eqb (length (t ++ c ∷ [])) 0) [] (d ∷ (t ++ c ∷ [])) ≡ d ∷ (t ++ c ∷ [])
+    go : (x : Bool) → cond (x && false) [] (d ∷ (t ++ c ∷ [])) ≡ d ∷ (t ++ c ∷ [])
+    go true = refl
     go false = refl
-    go true = let size = length-append t (c ∷ []) in none (length (t ++ c ∷ [])) (omega (arith, size))
-      where
-        none : (n : ℕ) → 0 < n → cond (eqb n 0) [] (d ∷ (t ++ c ∷ [])) ≡ d ∷ (t ++ c ∷ [])
-        none zero lt = absurd (omega (arith, lt))
-        none (suc n) lt = refl
+
+last_is : (rest : List ℕ) → 1 ≤ length rest → take (length rest - 1) rest ++ get_or rest (length rest - 1) 0 ∷ [] ≡ rest
+last_is rest some =
+    let n : length rest - 1 + 1 ≡ length rest = omega (arith, some) in
+    sym (take_more rest (length rest - 1) 0 (omega (arith, some))) ∙ rw n (take_all (length rest) rest (omega arith))
+
+-- the last byte is no blank
+pub ends_in_other : (rest text : List ℕ) → 1 ≤ length rest → is_blank (get_or rest (length rest - 1) 0) ≡ false → trimmed_len rest ≡ trimmed_len text → length rest ≡ trimmed_len text
+ends_in_other rest text some word inv =
+    let e = last_is rest some in
+    ap length (sym e ∙ sym (trimmed_full (take (length rest - 1) rest) (get_or rest (length rest - 1) 0) word) ∙ ap end_trimmed e) ∙ inv
+
+-- the last byte is a blank
+pub ends_in_blank : (rest text : List ℕ) → 1 ≤ length rest → is_blank (get_or rest (length rest - 1) 0) ≡ true → trimmed_len rest ≡ trimmed_len text → trimmed_len (take (length rest - 1) rest) ≡ trimmed_len text
+ends_in_blank rest text some blank inv =
+    ap length (sym (trimmed_blank (take (length rest - 1) rest) (get_or rest (length rest - 1) 0) blank) ∙ ap end_trimmed (last_is rest some)) ∙ inv

@@ -1,5 +1,5 @@
 -- Turns of the loops that read a script and a tag.
-use Rattle.std.proofs.Common.{◌≡◌, ◌<◌, ◌≤◌, ◌+◌, ◌-◌, ℕ, zero, suc, Bool, true, false, cond, eqb, List, [], ◌∷◌, ◌++◌, length, Option, Some, None, Result, Ok, Err, refl, ap, sym, ◌∙◌, arith}
+use Rattle.std.proofs.Common.{◌≡◌, ◌<◌, ◌≤◌, ◌+◌, ◌-◌, ℕ, zero, suc, Bool, true, false, cond, eqb, List, [], ◌∷◌, ◌++◌, take, drop, length, Option, Some, None, Result, Ok, Err, refl, ap, sym, ◌∙◌, arith}
 use Rattle.htl_text.specs.Template.{template_of}
 use Rattle.htl_blocks.specs.ElementText.{ElementText}
 use Rattle.htl_blocks.specs.declared.fault.BlockFault.{BlockFault}
@@ -8,7 +8,9 @@ use Rattle.htl_blocks.specs.declared.attribute.Attributes.{Attributes}
 use Rattle.htl_blocks.specs.declared.block.Block.{Block}
 use Rattle.htl_blocks.specs.declared.block.Block.TheVariants as block
 use Rattle.htl_blocks.specs.declared.block.Tag.{Tag}
-use Rattle.htl_blocks.specs.Attributes.{tag_attributes, attributes_read, to_statement, added, statement_split, with_known, attribute_of, after_attribute}
+use Rattle.htl_blocks.specs.declared.quoting.Quoting.TheVariants.{Outside}
+use Rattle.htl_blocks.proofs.Runs.{drop_one_more}
+use Rattle.htl_blocks.specs.Attributes.{statement_place, end_trimmed, tag_attributes, attributes_read, to_statement, added, statement_split, with_known, attribute_of, after_attribute}
 use Rattle.htl_blocks.specs.Reading.{◌then◌, run_of, after_run, run_blocks, with_blocks, to_element, blocks_read, element, element_cut, tag_of, known_tag, start_tag, content_within}
 
 -- ---- blocks
@@ -124,3 +126,7 @@ attributes_end all turn found kept t lt a =
 pub attributes_done : (all turn : ℕ) (found : Attributes) (kept t : List ℕ) → all ≤ turn → attributes_read (all - turn) found kept t ≡ Some (found, kept ++ t)
 unfolding attributes_read
 attributes_done all turn found kept t h = let none : all - turn ≡ 0 = omega (arith, h) in rw none refl
+
+pub split_is : (t : List ℕ) (n : ℕ) → statement_place Outside 0 t ≡ Some n → Some (end_trimmed (take n t), drop 1 (drop n t)) ≡ statement_split t
+unfolding statement_split
+split_is t n e = rw (e, drop_one_more n t) refl

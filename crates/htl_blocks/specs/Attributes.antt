@@ -2,6 +2,7 @@
 use Rattle.std.specs.Prelude.{ℕ, zero, suc, ◌+◌, Bool, true, false, not, nat_eq, ◌||◌, ◌&&◌, ◌==◌, if◌then◌else◌, List, [], ◌∷◌, ◌++◌, length, take, drop, codes, Option, Some, None, is_none, Result, Ok, Err}
 use Rattle.std.specs.List.{starts_with, list_all}
 use Rattle.std.specs.Cmp.Lexicographic.{pointwise}
+use Rattle.sp_base.specs.Bytes.{begins_with_byte}
 use Rattle.htl_syntax.specs.Tokens.{begins, is_blank, is_quote, is_first, is_word_byte}
 use Rattle.htl_text.specs.declared.piece.TemplatePiece.{TemplatePiece}
 use Rattle.htl_text.specs.declared.fault.TextFault.{TextFault}
@@ -61,15 +62,27 @@ pub data ValueText : Type 0 where
   unquoted : ValueText
   quoted : List ℕ → ValueText
 
+-- the quote mark that begins a text
+abbrev pub mark_at : List ℕ → Option ℕ
+mark_at [] = None
+mark_at (c ∷ t) = if is_quote c then Some c else None
+
+-- the text between quote marks, of which the first was read, and what follows the second
+abbrev pub quoted_at : ℕ → List ℕ → ValueText × List ℕ
+quoted_at mark t = (quoted (take (quoted_len mark t) t), drop (quoted_len mark t + 1) t)
+
+-- the value after its first quote mark, where there is one
+abbrev pub value_at_mark : Option ℕ → List ℕ → ValueText × List ℕ
+value_at_mark None t = (unquoted, t)
+value_at_mark (Some mark) t = quoted_at mark (drop 1 t)
+
 -- the value after "=", and what follows it
 abbrev pub value_after : List ℕ → ValueText × List ℕ
-value_after [] = (unquoted, [])
-value_after (mark ∷ t) = if is_quote mark then (quoted (take (quoted_len mark t) t), drop (quoted_len mark t + 1) t) else (unquoted, mark ∷ t)
+value_after t = value_at_mark (mark_at t) t
 
 -- the value that stands right after an attribute's name, and what follows it
 unfoldable pub value_read : List ℕ → ValueText × List ℕ
-value_read [] = (none, [])
-value_read (c ∷ t) = if c == 61 then value_after t else (none, c ∷ t)
+value_read t = if begins_with_byte 61 t then value_after (drop 1 t) else (none, t)
 
 -- one piece at most
 abbrev pub at_most_one : List TemplatePiece → Option (List TemplatePiece)

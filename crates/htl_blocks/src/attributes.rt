@@ -58,6 +58,7 @@ fn with_attribute(attributes: Attributes, attribute: Attribute) -> Option<Attrib
 }
 
 /// How many bytes stand before the blanks at the end.
+#[tactic(auto, unfolding(crate::specs::Attributes::end_trimmed))]
 fn trimmed_len(text: &[u8]) -> usize
     ensures { result ≡ spec.trimmed_len text.now }
 {
@@ -68,7 +69,7 @@ fn trimmed_len(text: &[u8]) -> usize
         }
         rest = leading;
     }
-    0
+    rest.len()
 }
 
 /// A text without the blanks at its end.
@@ -83,9 +84,13 @@ fn end_trimmed(text: &str) -> &str
 fn statement_split(text: &str) -> Option<(&str, &str)>
     ensures { option_map (λ x. (x.0.now, x.1.now)) result ≡ spec.statement_split text.now }
 {
-    let place = statement_place(text.as_bytes())?;
-    let (before, rest) = text.split_at(place);
-    Some((end_trimmed(before), tail(rest)))
+    match statement_place(text.as_bytes()) {
+        Some(place) => {
+            let (before, rest) = text.split_at(place);
+            Some((end_trimmed(before), tail(rest)))
+        }
+        None => None,
+    }
 }
 
 /// One statement more, where it is an attribute and there is none like it.

@@ -10,7 +10,7 @@ use crate::byte_run::{ByteRun, is_quote, is_word, run_bytes};
 use crate::markup::{first_at, tail};
 use crate::statement::Statement;
 use htl_text::{Template, TextFault};
-use sp_base::{Mem, NoMemory, TextBuf};
+use sp_base::{Mem, NoMemory, TextBuf, begins_with_byte};
 use std::alloc::Global;
 
 /// The text of an attribute's value, lent.
@@ -39,20 +39,26 @@ fn quoted(text: &str, mark: u8) -> (&str, &str)
     (value, tail(rest))
 }
 
+/// The quote mark that begins a text.
+fn mark_at(text: &[u8]) -> Option<u8>
+    ensures { result ≡ spec.mark_at text.now }
+{
+    match text {
+        [] => None,
+        [c, ..] => { if is_quote(*c) { Some(*c) } else { None } }
+    }
+}
+
 /// The value after `=`, and what follows it.
 fn value_after(text: &str) -> (LentValue<'_>, &str)
     ensures { (value_shown result.0, result.1.now) ≡ spec.value_after text.now }
 {
-    match text.as_bytes() {
-        [] => (LentValue::Unquoted, text),
-        [mark, ..] => {
-            if is_quote(*mark) {
-                let (value, rest) = quoted(tail(text), *mark);
-                (LentValue::Quoted(value), rest)
-            } else {
-                (LentValue::Unquoted, text)
-            }
+    match mark_at(text.as_bytes()) {
+        Some(mark) => {
+            let (value, rest) = quoted(tail(text), mark);
+            (LentValue::Quoted(value), rest)
         }
+        None => (LentValue::Unquoted, text),
     }
 }
 
@@ -61,15 +67,10 @@ fn value_after(text: &str) -> (LentValue<'_>, &str)
 fn value(text: &str) -> (LentValue<'_>, &str)
     ensures { (value_shown result.0, result.1.now) ≡ spec.value_read text.now }
 {
-    match text.as_bytes() {
-        [] => (LentValue::Missing, text),
-        [c, ..] => {
-            if *c == b'=' {
-                value_after(tail(text))
-            } else {
-                (LentValue::Missing, text)
-            }
-        }
+    if begins_with_byte(b'=', text.as_bytes()) {
+        value_after(tail(text))
+    } else {
+        (LentValue::Missing, text)
     }
 }
 

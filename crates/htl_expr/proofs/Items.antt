@@ -1,6 +1,8 @@
 -- The items of a list literal and their pieces.
-use Rattle.std.proofs.Common.{◌≡◌, ◌<◌, ℕ, zero, suc, nat_eq, Bool, true, Result, IfOk, Bor, List, [], ◌∷◌, ◌++◌, Option, None, Some, codes, flat_map, length, get_or, map, option_map, refl, sym, ap, subst, ◌∙◌, append-nil, arith}
+use Rattle.std.proofs.Common.{◌≡◌, ◌<◌, ◌≤◌, ℕ, zero, suc, nat_eq, Bool, true, Result, IfOk, Bor, List, [], ◌∷◌, ◌++◌, Option, None, Some, codes, flat_map, length, get_or, map, option_map, refl, sym, ap, subst, ◌∙◌, append-nil, arith}
+use Rattle.std.proofs.lemmas.Option.{slice_get-get_or, slice_get_past}
 use Rattle.std.specs.Cmp.Lexicographic.{pointwise}
+use Rattle.std.specs.List.{slice_get}
 use mathlib.Core.List.{map-append}
 use Rattle.sp_base.specs.declared.text.TextBuf.{TextBuf}
 use Rattle.htl_expr.specs.Bindings.{Bindings}
@@ -58,13 +60,14 @@ pub literal_of_all : (scope : Bindings) (v : Out) (items : List (List ItemPiece)
     → AreItemPieces scope pieces (plain (codes ",") v)
 literal_of_all scope v items pieces list some known all = subst (AreItemPieces scope pieces) (sym (listed v list)) (of_all scope items (listed_texts v) pieces some known all)
 
+-- a text, or nothing, has no items
+pub text_has_no_items : (text : Option (List ℕ)) → listed_texts (text_or_nothing text) ≡ []
+text_has_no_items None = refl
+text_has_no_items (Some text) = refl
+
 -- what the resource has under a name of its own has no items
 pub field_has_no_items : (scope : Bindings) (name : List ℕ) → listed_texts (resource scope name) ≡ []
-field_has_no_items scope name = go (field scope name)
-  where
-    go : (text : Option (List ℕ)) → listed_texts (text_or_nothing text) ≡ []
-    go None = refl
-    go (Some text) = refl
+field_has_no_items scope name = text_has_no_items (field scope name)
 
 -- what an operand that is no property says of its items
 pub no_property : (scope : Bindings) (named : Option (Bor TextBuf)) (items : List (List ItemPiece)) (v : Out) → named ≡ None → KnowsItself scope (option_map (λ (name : Bor TextBuf). name.now) named) items v → HavePieces scope items (listed_texts v)
@@ -88,3 +91,10 @@ same_by_text r x y z is known = subst (λ (t : List ℕ). IfOk r (λ same. same 
 
 pub same_by_other_text : {E : Type 0} (r : Result Bool E) (x y z : List ℕ) → y ≡ z → IfOk r (λ same. same ≡ pointwise nat_eq x y) → IfOk r (λ same. same ≡ pointwise nat_eq x z)
 same_by_other_text r x y z is known = subst (λ (t : List ℕ). IfOk r (λ same. same ≡ pointwise nat_eq x t)) is known
+
+-- an item that is there, and one that isn't
+pub item_there : (texts : List (List ℕ)) (place : ℕ) → place < length texts → Some (get_or texts place []) ≡ slice_get texts place
+item_there texts place lt = sym (slice_get-get_or texts place [] lt)
+
+pub no_item : (texts : List (List ℕ)) (place : ℕ) → length texts ≤ place → None ≡ slice_get texts place
+no_item texts place le = sym (slice_get_past texts place le)

@@ -9,3 +9,4 @@ pub mod PieceLemmas
 pub mod Items
 pub mod Places
 pub mod Remembered
+pub mod VariableLemmas

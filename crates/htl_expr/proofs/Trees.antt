@@ -14,6 +14,7 @@ use Rattle.htl_syntax.specs.declared.node.Comparison.{Comparison}
 use Rattle.htl_expr.specs.declared.out.Out.{Out}
 use Rattle.htl_expr.specs.declared.out.Out.TheVariants as out
 use Rattle.htl_expr.specs.declared.scope.Scope.{Scope}
+use Rattle.htl_expr.specs.Bindings.{with_vars}
 use Rattle.htl_expr.specs.Lent.{out_step, out_of_lent}
 use Rattle.htl_expr.specs.Value.{is_true, and_values, or_values, comparison_holds, value_step, value}
 
@@ -22,6 +23,10 @@ and_is s first more = ap (value s) (sym (rolls-And first more)) ∙ fold-roll-Ex
 
 or_is : (s : Scope) (first : ExprNode) (more : List ExprNode) → value s (Or first more) ≡ or_values (value s first) (map (value s) more)
 or_is s first more = ap (value s) (sym (rolls-Or first more)) ∙ fold-roll-ExprNode Out (value_step s) (ExprNode-F.Or first more)
+
+-- the same variables for a resource that stayed the same
+pub same_with_vars : (vars : List (List ℕ × List ℕ)) (after s : Scope) → after ≡ s → with_vars after vars ≡ with_vars s vars
+same_with_vars vars after s same = ap (λ (t : Scope). with_vars t vars) same
 
 -- the first operand was evaluated before, and the others are for the resource as it then is
 pub and_whole : (s after : Scope) (node first lent : ExprNode) (more lents : List ExprNode) (a : Out) → after ≡ s → node ≡ And first more → lent ≡ first → lents ≡ more → a ≡ value s lent

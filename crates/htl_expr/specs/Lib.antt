@@ -1,8 +1,10 @@
 pub mod Bindings
 pub mod ComparedValue
 pub mod Lent
+pub mod Listed
 pub mod Pieces
 pub mod Print
 pub mod Remembered
 pub mod Value
+pub mod Variables
 pub mod Writing

@@ -2,6 +2,7 @@
 use Rattle.std.specs.Prelude.{ℕ, ℤ, pos, Bool, true, false, not, nat_eq, int_lt, int_le, ◌==◌, if◌then◌else◌, List, [], ◌∷◌, Option, Some, None, codes, length, map}
 use Rattle.std.specs.Fmt.{signed_decimal}
 use Rattle.std.specs.FinMap.Entries.{find}
+use Rattle.std.specs.Map.{lookup}
 use Rattle.std.specs.Ordering.{int_eq}
 use Rattle.std.specs.Cmp.Lexicographic.{pointwise}
 use Rattle.sp_base.specs.Names.{by_name}
@@ -96,12 +97,16 @@ text_or_nothing (Some text) = out.Text text
 abbrev pub resource : Scope → List ℕ → Out
 resource scope name = text_or_nothing (field scope name)
 
+-- the variable that has this name
+abbrev pub variable : Scope → List ℕ → Out
+variable scope name = text_or_nothing (lookup (pointwise nat_eq name) scope.vars)
+
 -- a node, with the values of the nodes that it holds
 abbrev pub value_step : Scope → ExprNode-F Out → Out
 value_step scope (ExprNode-F.Text text) = out.Text text
 value_step scope (ExprNode-F.Long n) = out.Long n
 value_step scope (ExprNode-F.Truth b) = out.Truth b
-value_step scope (ExprNode-F.Variable name) = out.Nothing
+value_step scope (ExprNode-F.Variable name) = variable scope name
 value_step scope (ExprNode-F.Property name) = property scope name
 value_step scope (ExprNode-F.Resource name) = resource scope name
 value_step scope (ExprNode-F.List items) = out.List (item_texts items)
@@ -124,6 +129,15 @@ value_or_nothing scope (Some node) = value scope node
 -- the value of a whole expression; an empty one is nothing
 abbrev pub expr_value : Scope → Expression → Out
 expr_value scope e = value_or_nothing scope e.node
+
+-- the items of a list as texts; what is no list has none
+abbrev pub list_in : Out → Option (List (List ℕ))
+list_in (out.List texts) = Some texts
+list_in _ = None
+
+-- the text of a whole expression before it is escaped
+abbrev pub plain_text : Scope → Expression → List ℕ
+plain_text scope e = plain (join_text e.join) (expr_value scope e)
 
 -- the text that a whole expression writes
 abbrev pub print : Scope → Expression → List ℕ

@@ -32,12 +32,12 @@ fn is_at_most(a: &Lent, b: &Lent) -> bool
 }
 
 /// Whether a comparison holds between two operands.
-pub(crate) fn operands_compare<'a>(
+pub(crate) fn operands_compare<'v, 'a: 'v>(
     alloc: Global,
     scope: &mut Evaluation<'a>,
     comparison: Comparison,
-    a: &Operand<'a>,
-    b: &Operand<'a>,
+    a: &Operand<'v>,
+    b: &Operand<'v>,
 ) -> Mem<bool>
     requires first { lent.IsOperand scope.old a.now }
     requires second { lent.IsOperand scope.old b.now }
@@ -55,11 +55,11 @@ pub(crate) fn operands_compare<'a>(
 }
 
 // Whether two operands are the same. Properties are compared by their numbers.
-fn operands_are_same<'a>(
+fn operands_are_same<'v, 'a: 'v>(
     alloc: Global,
     scope: &mut Evaluation<'a>,
-    a: &Operand<'a>,
-    b: &Operand<'a>,
+    a: &Operand<'v>,
+    b: &Operand<'v>,
 ) -> Mem<bool>
     requires first { lent.IsOperand scope.old a.now }
     requires second { lent.IsOperand scope.old b.now }
@@ -74,11 +74,11 @@ fn operands_are_same<'a>(
 
 // Whether two operands are the same, of which one at least is no property.
 #[tactic(auto, using(crate::proofs::SameItems::same_lists))]
-fn others_are_same<'a>(
+fn others_are_same<'v, 'a: 'v>(
     alloc: Global,
     scope: &mut Evaluation<'a>,
-    a: &Operand<'a>,
-    b: &Operand<'a>,
+    a: &Operand<'v>,
+    b: &Operand<'v>,
 ) -> Mem<bool>
     requires first { lent.IsOperand scope.old a.now }
     requires second { lent.IsOperand scope.old b.now }

@@ -60,6 +60,7 @@ impl<'a> Evaluation<'a> {
                 path: scope.path,
                 name: scope.name,
                 kind: scope.kind,
+                vars: scope.vars,
             },
             classes: Classes::new(alloc),
             lists: BTreeMap::new(alloc),

@@ -31,12 +31,12 @@ fn stored_item<'a>(scope: &Scope<'a>, name: &TextBuf, place: usize) -> ItemPiece
 
 // The item at a place of a property, as a piece. The only item of a list has the text that the list has as an item.
 #[tactic(auto, using(crate::proofs::Items::only_item))]
-fn property_piece<'a>(
+fn property_piece<'v, 'a: 'v>(
     scope: &Scope<'a>,
-    name: &'a TextBuf,
+    name: &'v TextBuf,
     items: usize,
     place: usize,
-) -> ItemPiece<'a>
+) -> ItemPiece<'v>
     requires items { items ≡ length (listed_texts (spec.property scope.now name.now)) }
     requires within { place < items }
     ensures { item_piece_text scope.now result ≡ get_or (listed_texts (spec.property scope.now name.now)) place [] }
@@ -57,12 +57,12 @@ fn pieces_at<'a, 'b>(items: &'b Items<Items<ItemPiece<'a>>>, place: usize) -> &'
 }
 
 // Whether a list has at a place an item with the text of these pieces.
-fn has_pieces_at<'a>(
+fn has_pieces_at<'v, 'a: 'v>(
     alloc: Global,
     scope: &mut Evaluation<'a>,
-    list: &Operand<'a>,
+    list: &Operand<'v>,
     place: usize,
-    pieces: &[ItemPiece<'a>],
+    pieces: &[ItemPiece<'v>],
 ) -> Mem<bool>
     requires list { IsOperand scope.old list.now }
     requires within { place < length (listed_texts (out_of_lent list.now.value)) }
@@ -80,11 +80,11 @@ fn has_pieces_at<'a>(
 }
 
 // Whether two lists have the same item at a place.
-fn has_same_item_at<'a>(
+fn has_same_item_at<'v, 'a: 'v>(
     alloc: Global,
     scope: &mut Evaluation<'a>,
-    a: &Operand<'a>,
-    b: &Operand<'a>,
+    a: &Operand<'v>,
+    b: &Operand<'v>,
     place: usize,
 ) -> Mem<bool>
     requires first { IsOperand scope.old a.now }
@@ -106,11 +106,11 @@ fn has_same_item_at<'a>(
 
 /// Whether two lists have the same items, of which each or one is a list literal.
 #[tactic(auto, using(crate::proofs::SameItems::unequal_lengths))]
-pub(crate) fn has_same_texts<'a>(
+pub(crate) fn has_same_texts<'v, 'a: 'v>(
     alloc: Global,
     scope: &mut Evaluation<'a>,
-    a: &Operand<'a>,
-    b: &Operand<'a>,
+    a: &Operand<'v>,
+    b: &Operand<'v>,
 ) -> Mem<bool>
     requires first { IsOperand scope.old a.now }
     requires second { IsOperand scope.old b.now }

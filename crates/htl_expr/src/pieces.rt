@@ -44,12 +44,7 @@ pub(crate) fn all_pieces<'a>(
 }
 
 // Whether a piece has this text.
-fn has_text<'a>(
-    alloc: Global,
-    scope: &mut Evaluation<'a>,
-    piece: &ItemPiece<'a>,
-    text: &str,
-) -> Mem<bool>
+fn has_text(alloc: Global, scope: &mut Evaluation, piece: &ItemPiece, text: &str) -> Mem<bool>
     ensures same { IfOk result (λ same. same ≡ pointwise nat_eq (item_piece_text scope.old piece.now) text.now) }
     ensures scope { scope.new ≡ scope.old }
 {
@@ -62,12 +57,7 @@ fn has_text<'a>(
 
 // Whether two pieces have the same text. Properties are compared by their numbers.
 #[tactic(auto, using(crate::proofs::SameItems::same_swapped))]
-fn is_same_piece<'a>(
-    alloc: Global,
-    scope: &mut Evaluation<'a>,
-    a: &ItemPiece<'a>,
-    b: &ItemPiece<'a>,
-) -> Mem<bool>
+fn is_same_piece(alloc: Global, scope: &mut Evaluation, a: &ItemPiece, b: &ItemPiece) -> Mem<bool>
     ensures same { IfOk result (λ same. same ≡ pointwise nat_eq (item_piece_text scope.old a.now) (item_piece_text scope.old b.now)) }
     ensures scope { scope.new ≡ scope.old }
 {
@@ -85,7 +75,7 @@ fn is_same_piece<'a>(
 }
 
 // How many bytes a piece has.
-fn piece_len<'a>(alloc: Global, scope: &mut Evaluation<'a>, piece: &ItemPiece<'a>) -> Mem<usize>
+fn piece_len(alloc: Global, scope: &mut Evaluation, piece: &ItemPiece) -> Mem<usize>
     ensures len { IfOk result (λ len. len ≡ length (item_piece_text scope.old piece.now)) }
     ensures scope { scope.new ≡ scope.old }
 {
@@ -97,11 +87,11 @@ fn piece_len<'a>(alloc: Global, scope: &mut Evaluation<'a>, piece: &ItemPiece<'a
 }
 
 // Adds the text of a piece.
-fn push_piece<'a>(
+fn push_piece(
     text: &mut String,
     alloc: Global,
-    scope: &mut Evaluation<'a>,
-    piece: &ItemPiece<'a>,
+    scope: &mut Evaluation,
+    piece: &ItemPiece,
 ) -> Mem<()>
     ensures text { OnOk result (string_bytes text.new ≡ string_bytes text.old ++ item_piece_text scope.old piece.now) }
     ensures scope { scope.new ≡ scope.old }
@@ -115,11 +105,11 @@ fn push_piece<'a>(
 }
 
 #[tactic(auto, using(crate::proofs::SameItems::get_or_of_map))]
-fn is_same_piece_at<'a>(
+fn is_same_piece_at(
     alloc: Global,
-    scope: &mut Evaluation<'a>,
-    a: &[ItemPiece<'a>],
-    b: &[ItemPiece<'a>],
+    scope: &mut Evaluation,
+    a: &[ItemPiece],
+    b: &[ItemPiece],
     place: usize,
 ) -> Mem<bool>
     requires within { place < length a.now }
@@ -131,11 +121,11 @@ fn is_same_piece_at<'a>(
 }
 
 // How many of the first pieces are the same, place by place.
-fn same_in_prefix<'a>(
+fn same_in_prefix(
     alloc: Global,
-    scope: &mut Evaluation<'a>,
-    a: &[ItemPiece<'a>],
-    b: &[ItemPiece<'a>],
+    scope: &mut Evaluation,
+    a: &[ItemPiece],
+    b: &[ItemPiece],
 ) -> Mem<usize>
     ensures agree { IfOk result (AgreeUpTo (piece_texts scope.old a.now) (piece_texts scope.old b.now)) }
     ensures differs { IfOk result (DifferAt (piece_texts scope.old a.now) (piece_texts scope.old b.now)) }
@@ -150,12 +140,7 @@ fn same_in_prefix<'a>(
 }
 
 #[tactic(auto, using(crate::proofs::SameItems::get_or_of_map))]
-fn len_at<'a>(
-    alloc: Global,
-    scope: &mut Evaluation<'a>,
-    pieces: &[ItemPiece<'a>],
-    place: usize,
-) -> Mem<usize>
+fn len_at(alloc: Global, scope: &mut Evaluation, pieces: &[ItemPiece], place: usize) -> Mem<usize>
     requires { place < length pieces.now }
     ensures len { IfOk result (λ len. len ≡ length (get_or (piece_texts scope.old pieces.now) place [])) }
     ensures scope { scope.new ≡ scope.old }
@@ -164,11 +149,7 @@ fn len_at<'a>(
 }
 
 // How many bytes the pieces have, with a comma before each.
-fn len_with_commas<'a>(
-    alloc: Global,
-    scope: &mut Evaluation<'a>,
-    pieces: &[ItemPiece<'a>],
-) -> Mem<usize>
+fn len_with_commas(alloc: Global, scope: &mut Evaluation, pieces: &[ItemPiece]) -> Mem<usize>
     ensures len { IfOk result (λ len. len ≡ length (with_commas (piece_texts scope.old pieces.now))) }
     ensures scope { scope.new ≡ scope.old }
 {
@@ -194,11 +175,11 @@ fn longer_by(len: usize, more: usize) -> Mem<usize>
 }
 
 // Whether pieces at a place have as many bytes.
-fn is_as_long_at<'a>(
+fn is_as_long_at(
     alloc: Global,
-    scope: &mut Evaluation<'a>,
-    a: &[ItemPiece<'a>],
-    b: &[ItemPiece<'a>],
+    scope: &mut Evaluation,
+    a: &[ItemPiece],
+    b: &[ItemPiece],
     place: usize,
 ) -> Mem<bool>
     ensures long { IfOk result (λ long. long ≡ true → (place < length a.now) × (place < length b.now) × (length (get_or (piece_texts scope.old a.now) place []) ≡ length (get_or (piece_texts scope.old b.now) place []))) }
@@ -214,11 +195,11 @@ fn is_as_long_at<'a>(
 
 // Adds a comma and the text of the piece at a place.
 #[tactic(auto, using(crate::proofs::SameItems::get_or_of_map))]
-fn push_piece_at<'a>(
+fn push_piece_at(
     text: &mut String,
     alloc: Global,
-    scope: &mut Evaluation<'a>,
-    pieces: &[ItemPiece<'a>],
+    scope: &mut Evaluation,
+    pieces: &[ItemPiece],
     place: usize,
 ) -> Mem<()>
     requires { place < length pieces.now }
@@ -230,11 +211,7 @@ fn push_piece_at<'a>(
 }
 
 // The texts of the pieces, with a comma before each.
-fn text_with_commas<'a>(
-    alloc: Global,
-    scope: &mut Evaluation<'a>,
-    pieces: &[ItemPiece<'a>],
-) -> Mem<TextBuf>
+fn text_with_commas(alloc: Global, scope: &mut Evaluation, pieces: &[ItemPiece]) -> Mem<TextBuf>
     ensures text { IfOk result (λ text. text ≡ with_commas (piece_texts scope.old pieces.now)) }
     ensures scope { scope.new ≡ scope.old }
 {
@@ -246,11 +223,11 @@ fn text_with_commas<'a>(
 }
 
 // Whether two items have the same text, by their bytes.
-fn have_same_bytes<'a>(
+fn have_same_bytes(
     alloc: Global,
-    scope: &mut Evaluation<'a>,
-    a: &[ItemPiece<'a>],
-    b: &[ItemPiece<'a>],
+    scope: &mut Evaluation,
+    a: &[ItemPiece],
+    b: &[ItemPiece],
 ) -> Mem<bool>
     ensures same { IfOk result (λ same. same ≡ pointwise nat_eq (with_commas (piece_texts scope.old a.now)) (with_commas (piece_texts scope.old b.now))) }
     ensures scope { scope.new ≡ scope.old }
@@ -262,11 +239,11 @@ fn have_same_bytes<'a>(
 
 /// Whether two items have the same text, by their pieces: they are the same, or the first that differ are as long, or all together are
 /// not as long. Where none of this tells, the texts are put together.
-pub(crate) fn have_same_text<'a>(
+pub(crate) fn have_same_text(
     alloc: Global,
-    scope: &mut Evaluation<'a>,
-    a: &[ItemPiece<'a>],
-    b: &[ItemPiece<'a>],
+    scope: &mut Evaluation,
+    a: &[ItemPiece],
+    b: &[ItemPiece],
 ) -> Mem<bool>
     ensures same { IfOk result (λ same. same ≡ pointwise nat_eq (with_commas (piece_texts scope.old a.now)) (with_commas (piece_texts scope.old b.now))) }
     ensures scope { scope.new ≡ scope.old }

@@ -3,7 +3,9 @@
 ghost use Rattle.std.specs.Prelude.{◌≡◌, ◌≢◌, ◌≤◌, ◌<◌, ◌++◌, [], IfOk, IfErr, OnOk, OnErr, string_bytes, map, length};
 ghost use Rattle.htl_expr.specs.Lent.{out_of_lent, plain_item, IsOperand};
 ghost use Rattle.htl_expr.specs.Print as spec;
-ghost use Rattle.htl_expr.specs.Value.{print};
+ghost use Rattle.htl_expr.specs.Bindings.{with_vars};
+ghost use Rattle.htl_expr.specs.Value.{plain_text, print};
+ghost use Rattle.htl_expr.specs.Variables.{vars_of};
 ghost use Rattle.htl_expr.specs.Writing.{Wrote};
 
 use crate::empty_join::push_joined;
@@ -15,6 +17,7 @@ use crate::lists::{long_text, push_longs, push_texts, push_truths, truth_text};
 use crate::room::WriteFault;
 use crate::scope::Scope;
 use crate::value::value;
+use crate::variables::Variables;
 use htl_syntax::Context;
 use sp_base::{Mem, NoMemory, TextBuf};
 use std::alloc::Global;
@@ -86,13 +89,13 @@ pub(crate) fn push_value(
 
 // Items with nothing between them may write nothing, so that a property's are put together once.
 #[tactic(auto, using(crate::proofs::Chains::items_out))]
-fn push_closed<'a>(
+fn push_closed(
     text: &mut String,
     alloc: Global,
-    scope: &mut Evaluation<'a>,
+    scope: &mut Evaluation,
     most: usize,
     context: Option<Context>,
-    operand: &Operand<'a>,
+    operand: &Operand,
 ) -> Result<(), WriteFault>
     requires room { length (string_bytes text.old) ≤ most }
     requires operand { IsOperand scope.old operand.now }
@@ -108,14 +111,14 @@ fn push_closed<'a>(
 }
 
 // Writes what an expression gives.
-fn push_operand<'a>(
+fn push_operand(
     text: &mut String,
     alloc: Global,
-    scope: &mut Evaluation<'a>,
+    scope: &mut Evaluation,
     most: usize,
     context: Option<Context>,
     join: &str,
-    operand: &Operand<'a>,
+    operand: &Operand,
 ) -> Result<(), WriteFault>
     requires room { length (string_bytes text.old) ≤ most }
     requires operand { IsOperand scope.old operand.now }
@@ -139,55 +142,51 @@ fn join_text(join: &Option<TextBuf>) -> &str
 }
 
 impl Expr {
-    // What `write` does to a text that is within the limit.
+    // Writes the value in a context after what a text has that is within the limit.
     #[tactic(auto, using(crate::proofs::EscapeLemmas::in_context_none))]
-    fn push_print<'a>(
-        &'a self,
-        alloc: Global,
+    pub(crate) fn push_in<'v, 'a: 'v>(
+        &'v self,
         text: &mut String,
-        scope: &mut Evaluation<'a>,
+        alloc: Global,
+        of: &mut Evaluation<'a>,
+        vars: &'v Variables<'v>,
         most: usize,
+        context: Option<Context>,
     ) -> Result<(), WriteFault>
         requires { length (string_bytes text.old) ≤ most }
-        ensures text { Wrote most result (string_bytes text.old) (print scope.old self.now) (string_bytes text.new) }
-        ensures scope { scope.new ≡ scope.old }
+        ensures text { Wrote most result (string_bytes text.old) (spec.in_context context (plain_text (with_vars of.old (vars_of vars.now)) self.now)) (string_bytes text.new) }
+        ensures resource { of.new ≡ of.old }
     {
         match &self.expression.node {
             Some(node) => {
-                let operand = value(alloc, scope, node)?;
-                push_operand(
-                    text,
-                    alloc,
-                    scope,
-                    most,
-                    self.expression.context,
-                    join_text(&self.expression.join),
-                    &operand,
-                )
+                let operand = value(alloc, of, vars, node)?;
+                let join = join_text(&self.expression.join);
+                push_operand(text, alloc, of, most, context, join, &operand)
             }
             None => Ok(()),
         }
     }
 
-    /// Writes what the expression prints for a resource after what a text has, if they have at most `most` bytes together.
-    pub fn write<'a>(
-        &'a self,
-        alloc: Global,
+    /// Writes what the expression prints for a resource and variables after what a text has, if they have at most `most` bytes together.
+    pub fn write<'v, 'a: 'v>(
+        &'v self,
         text: &mut String,
-        scope: &mut Evaluation<'a>,
+        alloc: Global,
+        of: &mut Evaluation<'a>,
+        vars: &'v Variables<'v>,
         most: usize,
     ) -> Result<(), WriteFault>
-        ensures ok { OnOk result ((string_bytes text.new ≡ string_bytes text.old ++ print scope.old self.now) × (length (string_bytes text.new) ≤ most)) }
-        ensures err { IfErr result (λ f. f ≢ WriteFault.NoMemory → (f ≡ WriteFault.TooLong) × (most < length (string_bytes text.old ++ print scope.old self.now))) }
+        ensures ok { OnOk result ((string_bytes text.new ≡ string_bytes text.old ++ print (with_vars of.old (vars_of vars.now)) self.now) × (length (string_bytes text.new) ≤ most)) }
+        ensures err { IfErr result (λ f. f ≢ WriteFault.NoMemory → (f ≡ WriteFault.TooLong) × (most < length (string_bytes text.old ++ print (with_vars of.old (vars_of vars.now)) self.now))) }
         // A text that isn't written whole isn't written in part.
         ensures kept { OnErr result (string_bytes text.new ≡ string_bytes text.old) }
-        ensures scope { scope.new ≡ scope.old }
+        ensures resource { of.new ≡ of.old }
     {
         let len = text.as_str().len();
         if len > most {
             return Err(WriteFault::TooLong);
         }
-        match self.push_print(alloc, text, scope, most) {
+        match self.push_in(text, alloc, of, vars, most, self.expression.context) {
             Ok(()) => Ok(()),
             Err(fault) => {
                 text.truncate(len);
@@ -204,8 +203,14 @@ impl Expr {
         ensures inert { IfOk result (spec.IsInert self.now.context) }
     {
         let mut text = String::new(alloc);
-        let mut scope = Evaluation::of(alloc, scope);
-        match self.write(alloc, &mut text, &mut scope, usize::MAX) {
+        let mut resource = Evaluation::of(alloc, scope);
+        match self.write(
+            &mut text,
+            alloc,
+            &mut resource,
+            scope.variables(),
+            usize::MAX,
+        ) {
             Ok(()) => Ok(TextBuf::from(text)),
             Err(_) => Err(NoMemory),
         }

@@ -1,29 +1,43 @@
 //! The resource that an expression is evaluated for.
 
 ghost use Rattle.std.specs.Prelude.{◌≡◌, option_map};
+ghost use Rattle.htl_expr.specs.Bindings.{with_vars};
 ghost use Rattle.htl_expr.specs.Value as spec;
+ghost use Rattle.htl_expr.specs.Variables.{vars_of};
 ghost use Rattle.htl_expr.specs.Lent.{out_of_lent};
 
 use crate::lent::Lent;
+use crate::variables::Variables;
 use sp_base::{PropList, Value};
 use std::marker::Model;
 
-/// The properties of a resource, its path, the last segment of its path, and its resource type, all lent. Contracts see them as a record
-/// of the same names.
+/// The properties of a resource, its path, the last segment of its path, and its resource type, and the variables, all lent. Contracts
+/// see them as a record of the same names.
 #[derive(Drop)]
 pub struct Scope<'a> {
     pub props: &'a PropList,
     pub path: &'a str,
     pub name: &'a str,
     pub kind: &'a str,
+    pub vars: &'a Variables<'a>,
 }
 
 impl<'a> Model for Scope<'a> {
     ghost use Rattle.htl_expr.specs.Bindings.{Bindings};
+    ghost use Rattle.htl_expr.specs.Variables.{vars_of};
 
     ghost Value = { Bindings };
 
-    ghost view = { λ s. record { props = s.props.now; path = s.path.now; name = s.name.now; kind = s.kind.now } };
+    ghost view = { λ s. record { props = s.props.now; path = s.path.now; name = s.name.now; kind = s.kind.now; vars = vars_of s.vars.now } };
+}
+
+impl<'a> Scope<'a> {
+    /// The variables by themselves.
+    pub fn variables(&self) -> &'a Variables<'a>
+        ensures { with_vars self.now (vars_of result.now) ≡ self.now }
+    {
+        self.vars
+    }
 }
 
 /// A stored value.

@@ -111,10 +111,11 @@ read_more all place old mid new prefix remainder after rest text e h ep x plain 
     ∙ ap (before old) (sym (plain_before prefix e later) ∙ ap (with_plain prefix) (sym follows) ∙ plain all)
     ∙ inv)
 
--- what the pieces so far and one more write is too long already
-pub piece_too_long : {X : Type 0} (g : X → List ℕ) (xs : List X) (i : ℕ) (x : X) (most : ℕ) (old : List ℕ) → i < length xs → x ≡ get_or xs i x → old ≡ flat_map g (take i xs) → most < length (old ++ g x) → most < length (flat_map g xs)
-piece_too_long g xs i x most old lt is e long =
+-- what stood there, what the pieces so far write, and what one more writes are too long already
+pub piece_too_long : {X : Type 0} (g : X → List ℕ) (xs : List X) (i : ℕ) (x : X) (most : ℕ) (leading now : List ℕ) → i < length xs → x ≡ get_or xs i x → now ≡ leading ++ flat_map g (take i xs) → most < length (now ++ g x) → most < length (leading ++ flat_map g xs)
+piece_too_long g xs i x most leading now lt is e long =
     let within = rw (sym is) at (length-flat_map-take g xs i x lt) in
-    let parts = length-append old (g x) in
-    let same = ap length e in
-    omega (arith, within, parts, same, long)
+    let parts = length-append now (g x) in
+    let whole = length-append leading (flat_map g xs) in
+    let same = ap length e ∙ length-append leading (flat_map g (take i xs)) in
+    omega (arith, within, parts, whole, same, long)

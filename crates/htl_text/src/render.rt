@@ -2,12 +2,14 @@
 
 ghost use Rattle.std.specs.Prelude.{◌≡◌, ◌≢◌, ◌<◌, ◌≤◌, ◌++◌, IfOk, IfErr, OnOk, string_bytes, length};
 ghost use Rattle.sp_base.specs.Limits.{most_rendered_bytes};
+ghost use Rattle.htl_expr.specs.Bindings.{with_vars};
+ghost use Rattle.htl_expr.specs.Variables.{vars_of};
 ghost use Rattle.htl_text.specs.Template as spec;
 
 use crate::fault::RenderFault;
 use crate::piece::TemplatePiece;
 use crate::template::Template;
-use htl_expr::{Evaluation, Scope, WriteFault};
+use htl_expr::{Evaluation, Scope, Variables, WriteFault};
 use sp_base::{MOST_RENDERED_BYTES, TextBuf};
 use std::alloc::Global;
 
@@ -24,23 +26,25 @@ fn push_plain(text: &mut String, plain: &str) -> Result<(), RenderFault>
 }
 
 // What a piece writes, where there is room for it.
-fn push_piece<'a>(
+fn push_piece<'v, 'a: 'v>(
     text: &mut String,
     alloc: Global,
-    scope: &mut Evaluation<'a>,
-    piece: &'a TemplatePiece,
+    of: &mut Evaluation<'a>,
+    vars: &'v Variables<'v>,
+    piece: &'v TemplatePiece,
 ) -> Result<(), RenderFault>
     requires { length (string_bytes text.old) ≤ most_rendered_bytes }
-    ensures ok { OnOk result ((string_bytes text.new ≡ string_bytes text.old ++ spec.piece_text scope.old piece.now) × (length (string_bytes text.new) ≤ most_rendered_bytes)) }
-    ensures err { IfErr result (λ f. f ≢ RenderFault.NoMemory → (f ≡ RenderFault.TooLong) × (most_rendered_bytes < length (string_bytes text.old ++ spec.piece_text scope.old piece.now))) }
-    ensures scope { scope.new ≡ scope.old }
+    ensures ok { OnOk result ((string_bytes text.new ≡ string_bytes text.old ++ spec.piece_text (with_vars of.old (vars_of vars.now)) piece.now) × (length (string_bytes text.new) ≤ most_rendered_bytes)) }
+    ensures err { IfErr result (λ f. f ≢ RenderFault.NoMemory → (f ≡ RenderFault.TooLong) × (most_rendered_bytes < length (string_bytes text.old ++ spec.piece_text (with_vars of.old (vars_of vars.now)) piece.now))) }
+    ensures resource { of.new ≡ of.old }
 {
     match piece {
         TemplatePiece::Plain(plain) => push_plain(text, plain.text()),
         TemplatePiece::Value(expression) => match expression.write(
-            alloc,
             text,
-            scope,
+            alloc,
+            of,
+            vars,
             MOST_RENDERED_BYTES,
         ) {
             Ok(()) => Ok(()),
@@ -51,19 +55,41 @@ fn push_piece<'a>(
 }
 
 impl Template {
+    /// Writes what the template writes for a resource and variables after what a text has, if they have at most 4,194,304 bytes together.
+    /// A text that isn't written whole may be written in part.
+    pub fn write<'v, 'a: 'v>(
+        &'v self,
+        text: &mut String,
+        alloc: Global,
+        of: &mut Evaluation<'a>,
+        vars: &'v Variables<'v>,
+    ) -> Result<(), RenderFault>
+        ensures ok { OnOk result ((string_bytes text.new ≡ string_bytes text.old ++ spec.template_output (with_vars of.old (vars_of vars.now)) self.now) × (length (string_bytes text.new) ≤ most_rendered_bytes)) }
+        ensures err { IfErr result (λ f. f ≢ RenderFault.NoMemory → (f ≡ RenderFault.TooLong) × (most_rendered_bytes < length (string_bytes text.old ++ spec.template_output (with_vars of.old (vars_of vars.now)) self.now))) }
+        ensures resource { of.new ≡ of.old }
+    {
+        if text.as_str().len() > MOST_RENDERED_BYTES {
+            return Err(RenderFault::TooLong);
+        }
+        for piece in self.pieces.as_slice() {
+            match push_piece(text, alloc, of, vars, piece) {
+                Ok(()) => {}
+                Err(fault) => return Err(fault),
+            }
+        }
+        Ok(())
+    }
+
     /// The text that the template writes for a resource, where it has at most 4,194,304 bytes.
     pub fn render<'a>(&'a self, alloc: Global, scope: &Scope<'a>) -> Result<TextBuf, RenderFault>
         ensures ok { IfOk result (λ text. (text ≡ spec.template_output scope.now self.now) × (length text ≤ most_rendered_bytes)) }
         ensures err { IfErr result (λ f. f ≢ RenderFault.NoMemory → (f ≡ RenderFault.TooLong) × (most_rendered_bytes < length (spec.template_output scope.now self.now))) }
     {
         let mut text = String::new(alloc);
-        let mut evaluation = Evaluation::of(alloc, scope);
-        for piece in self.pieces.as_slice() {
-            match push_piece(&mut text, alloc, &mut evaluation, piece) {
-                Ok(()) => {}
-                Err(fault) => return Err(fault),
-            }
+        let mut resource = Evaluation::of(alloc, scope);
+        match self.write(&mut text, alloc, &mut resource, scope.variables()) {
+            Ok(()) => Ok(TextBuf::from(text)),
+            Err(fault) => Err(fault),
         }
-        Ok(TextBuf::from(text))
     }
 }

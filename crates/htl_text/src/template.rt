@@ -68,12 +68,16 @@ fn push_plain(pieces: &mut Items<TemplatePiece>, text: TextBuf) -> Mem<()>
 fn place_from(place: usize, within: usize) -> Mem<usize>
     ensures { IfOk result (λ sum. sum ≡ place + within) }
 {
-    place.checked_add(within).ok_or(NoMemory)
+    match place.checked_add(within) {
+        Some(sum) => Ok(sum),
+        None => Err(NoMemory),
+    }
 }
 
 // A fault by its place in another text. No text has more bytes than fit into memory.
 fn moved(place: usize, fault: TextFault) -> TextFault
-    ensures { result ≢ TextFault.NoMemory → result ≡ fault_at place fault }
+    ensures some { result ≢ TextFault.NoMemory → fault ≢ TextFault.NoMemory }
+    ensures moved { result ≢ TextFault.NoMemory → result ≡ fault_at place fault }
 {
     match fault {
         TextFault::Unclosed(within) => match place_from(place, within) {

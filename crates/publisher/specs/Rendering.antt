@@ -1,5 +1,5 @@
 -- What the publisher answers: the first of these that applies.
-use Rattle.std.specs.Prelude.{◌==◌, ◌&&◌, ◌||◌, ℕ, Bool, nat_eq, nat_le, if◌then◌else◌, List, Option, Some, None, option_and_then, codes, length}
+use Rattle.std.specs.Prelude.{◌==◌, ◌&&◌, ◌||◌, ℕ, Bool, nat_eq, nat_le, if◌then◌else◌, List, [], Option, Some, None, option_and_then, codes, length}
 use Rattle.std.specs.Cmp.Lexicographic.{pointwise}
 use Rattle.sp_base.specs.Limits.{most_rendered_bytes}
 use Rattle.sp_base.specs.Paths.{text_of}
@@ -100,9 +100,9 @@ script_for tree parts res = option_and_then (script_text tree) (first_script tre
 abbrev pub html_kind : List ℕ
 html_kind = codes "text/html;charset=utf-8"
 
--- what the expressions of a script are evaluated for: a resource's properties, its path, its name and its type
+-- what the expressions of a script are evaluated for: a resource's properties, its path, its name and its type, without variables
 abbrev pub scope_of : Resource → Scope
-scope_of res = record { props = res.props; path = text_of res.path; name = name_of res.path; kind = type_text res.props }
+scope_of res = record { props = res.props; path = text_of res.path; name = name_of res.path; kind = type_text res.props; vars = [] }
 
 -- what a script's template writes for a resource; a text that is no template is an error
 abbrev pub script_representation : Resource → Reading → Answer

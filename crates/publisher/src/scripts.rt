@@ -7,7 +7,7 @@ use crate::methods::mark_of;
 use crate::representations::representation_of;
 use crate::templates::Reading;
 use error_answers::error_answer;
-use htl_expr::Scope;
+use htl_expr::{Scope, Variables};
 use htl_text::{RenderFault, Template};
 use resource_tree::Res;
 use sp_base::{Answer, Mark, Mem, NoMemory};
@@ -36,11 +36,13 @@ fn written_representation(
 fn template_representation(alloc: Global, template: &Template, res: &Res) -> Mem<Answer>
     ensures { IfOk result (λ a. a ≡ representation_of html_kind (mark_of res.now) (written_by (scope_of res.now) template.now)) }
 {
+    let vars = Variables::None;
     let scope = Scope {
         props: res.props(),
         path: res.path().as_text(),
         name: res.path().name(),
         kind: type_text(res.props()),
+        vars: &vars,
     };
     written_representation(alloc, template, &scope, mark_of(res))
 }

@@ -1,15 +1,16 @@
 //! What the program doesn't ask for: the value of an expression and its text by themselves, and what a text is after a write that was refused.
 //! Tables of what expressions print are stored runs of the program (examples/runs/expressions).
-use htl_expr::{Evaluation, Expr, Out, Scope, WriteFault};
+use htl_expr::{Evaluation, Expr, Out, Scope, Variables, WriteFault};
 use sp_base::{PropList, Value};
 use std::alloc::Global;
 
-fn scope(props: &PropList) -> Scope<'_> {
+fn scope<'s>(props: &'s PropList, vars: &'s Variables<'s>) -> Scope<'s> {
     Scope {
         props,
         path: "/content/en",
         name: "en",
         kind: "s/page",
+        vars,
     }
 }
 
@@ -25,19 +26,27 @@ fn reads_as_list(alloc: Global, scope: &Scope<'_>, text: &str, wanted: &str) -> 
 #[test]
 fn a_value_has_a_kind(rt: HostRuntime) {
     let props = PropList::new(rt.alloc());
-    assert!(rt; reads_as_list(rt.alloc(), &scope(&props), "[7, 8] @ join='; '", "7; 8"));
+    let vars = Variables::None;
+    assert!(rt;
+        reads_as_list(
+            rt.alloc(),
+            &scope(&props, &vars),
+            "[7, 8] @ join='; '",
+            "7; 8"
+        )
+    );
 }
 
 // Writes an expression for a resource of which nothing is found out yet, where there is room for 5 bytes.
-fn is_too_long<'x>(alloc: Global, scope: &'x Scope<'x>, page: &mut String, e: &Expr) -> bool {
+fn is_too_long<'x>(alloc: Global, scope: &'x Scope<'x>, page: &mut String, e: &'x Expr) -> bool {
     let mut evaluation = Evaluation::of(alloc, scope);
     matches!(
-        e.write(alloc, page, &mut evaluation, 5),
+        e.write(page, alloc, &mut evaluation, scope.vars, 5),
         Err(WriteFault::TooLong)
     )
 }
 
-fn leaves_the_page<'x>(alloc: Global, scope: &'x Scope<'x>, e: &Expr) -> bool {
+fn leaves_the_page<'x>(alloc: Global, scope: &'x Scope<'x>, e: &'x Expr) -> bool {
     let mut page = String::new(alloc);
     page.push_str("<p>").is_ok()
         && is_too_long(alloc, scope, &mut page, e)
@@ -62,7 +71,8 @@ const LONGER: [&str; 6] = [
 fn a_refused_write_leaves_the_page(rt: HostRuntime) {
     let mut props = PropList::new(rt.alloc());
     let _ = props.put(rt.alloc(), "n", Value::Long(123));
+    let vars = Variables::None;
     for text in &LONGER {
-        assert!(rt; is_not_written(rt.alloc(), &scope(&props), *text));
+        assert!(rt; is_not_written(rt.alloc(), &scope(&props, &vars), *text));
     }
 }

@@ -7,3 +7,5 @@ mod blocks;
 mod expressions;
 #[cfg(test)]
 mod faults;
+#[cfg(test)]
+mod variables;

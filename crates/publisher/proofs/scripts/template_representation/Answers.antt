@@ -1,6 +1,7 @@
 use Rattle.std.proofs.Common.{◌≡◌, ◌∙◌, ap}
 use Rattle.sp_base.specs.Paths.{name_of, text_of}
 use Rattle.type_chain.specs.Chain.{type_text}
+use Rattle.htl_expr.proofs.VariableLemmas.{none_are}
 use Rattle.publisher.specs.Rendering.{mark_of}
 use Rattle.publisher.proofs.scripts.template_representation.Goals as goal
 
@@ -12,4 +13,4 @@ returns c =
     let name : c.name.result.now ≡ name_of res.path = c.name.ensures.name ∙ ap name_of c.path-2.ensures in
     let kind : c.type_text.result.now ≡ type_text res.props = c.type_text.ensures ∙ ap type_text c.props-2.ensures in
     let mark : c.mark_of.result ≡ mark_of res = c.mark_of.ensures in
-    rw (props, path, name, kind, mark) at c.written_representation.ensures
+    rw (props, path, name, kind, mark, none_are) at c.written_representation.ensures

@@ -80,23 +80,23 @@ tag_has_level levels place t x e = go levels (tag_attributes t) e
     go zero (Some a) h = absurd cc
     go (suc n) (Some a) h = omega arith
 
-pub element_is : (levels : ℕ) (inner : ℕ → List ℕ → Result (List Block) BlockFault) (end : ℕ) (t : List ℕ) (cut : ElementText) (tag : Tag) (content : List Block) → element_cut (end - length t) t ≡ Ok cut → tag_of levels (end - length t) cut.tag ≡ Ok tag → inner ((end - length cut.rest) - length cut.end_tag) cut.inside ≡ Ok content
+pub element_is : (levels : ℕ) (inner : ℕ → List ℕ → Result (List Block) BlockFault) (end : ℕ) (t : List ℕ) (place at : ℕ) (cut : ElementText) (tag : Tag) (content : List Block) → place ≡ end - length t → at ≡ (end - length cut.rest) - length cut.end_tag → element_cut place t ≡ Ok cut → tag_of levels place cut.tag ≡ Ok tag → inner at cut.inside ≡ Ok content
     → element levels inner end t ≡ Ok (block.Element tag content cut.end_tag, cut.rest)
 unfolding element
-element_is levels inner end t cut tag content a b c = rw (a, b, c) refl
+element_is levels inner end t place at cut tag content p q a b c = rw (← p, a, b, ← q, c) refl
 
-pub element_open : (levels : ℕ) (inner : ℕ → List ℕ → Result (List Block) BlockFault) (end : ℕ) (t : List ℕ) (f : BlockFault) → element_cut (end - length t) t ≡ Err f → element levels inner end t ≡ Err f
+pub element_open : (levels : ℕ) (inner : ℕ → List ℕ → Result (List Block) BlockFault) (end : ℕ) (t : List ℕ) (place : ℕ) (f : BlockFault) → place ≡ end - length t → element_cut place t ≡ Err f → element levels inner end t ≡ Err f
 unfolding element
-element_open levels inner end t f a = rw a refl
+element_open levels inner end t place f p a = rw (← p, a) refl
 
-pub element_tag_fails : (levels : ℕ) (inner : ℕ → List ℕ → Result (List Block) BlockFault) (end : ℕ) (t : List ℕ) (cut : ElementText) (f : BlockFault) → element_cut (end - length t) t ≡ Ok cut → tag_of levels (end - length t) cut.tag ≡ Err f → element levels inner end t ≡ Err f
+pub element_tag_fails : (levels : ℕ) (inner : ℕ → List ℕ → Result (List Block) BlockFault) (end : ℕ) (t : List ℕ) (place : ℕ) (cut : ElementText) (f : BlockFault) → place ≡ end - length t → element_cut place t ≡ Ok cut → tag_of levels place cut.tag ≡ Err f → element levels inner end t ≡ Err f
 unfolding element
-element_tag_fails levels inner end t cut f a b = rw (a, b) refl
+element_tag_fails levels inner end t place cut f p a b = rw (← p, a, b) refl
 
-pub element_content_fails : (levels : ℕ) (inner : ℕ → List ℕ → Result (List Block) BlockFault) (end : ℕ) (t : List ℕ) (cut : ElementText) (tag : Tag) (f : BlockFault) → element_cut (end - length t) t ≡ Ok cut → tag_of levels (end - length t) cut.tag ≡ Ok tag → inner ((end - length cut.rest) - length cut.end_tag) cut.inside ≡ Err f
+pub element_content_fails : (levels : ℕ) (inner : ℕ → List ℕ → Result (List Block) BlockFault) (end : ℕ) (t : List ℕ) (place at : ℕ) (cut : ElementText) (tag : Tag) (f : BlockFault) → place ≡ end - length t → at ≡ (end - length cut.rest) - length cut.end_tag → element_cut place t ≡ Ok cut → tag_of levels place cut.tag ≡ Ok tag → inner at cut.inside ≡ Err f
     → element levels inner end t ≡ Err f
 unfolding element
-element_content_fails levels inner end t cut tag f a b c = rw (a, b, c) refl
+element_content_fails levels inner end t place at cut tag f p q a b c = rw (← p, a, b, ← q, c) refl
 
 -- ---- the statements of a tag
 

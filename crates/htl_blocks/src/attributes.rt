@@ -103,6 +103,14 @@ fn with_known(attributes: Attributes, attribute: Option<Attribute>) -> Option<At
     }
 }
 
+/// The statements with the one that begins this text, where it is one and there is none like it.
+fn added(alloc: Global, found: Attributes, statement: &str) -> Mem<Option<Attributes>>
+    ensures { IfOk result (λ o. o ≡ spec.with_known found (spec.attribute_of statement.now)) }
+{
+    let attribute = attribute_of(alloc, statement)?;
+    Ok(with_known(found, attribute))
+}
+
 fn finished(found: Attributes, kept: String, rest: &str) -> Mem<Option<(Attributes, TextBuf)>>
     ensures { IfOk result (λ o. o ≡ Some (found, string_bytes kept ++ rest.now)) }
 {
@@ -112,7 +120,6 @@ fn finished(found: Attributes, kept: String, rest: &str) -> Mem<Option<(Attribut
 }
 
 /// What a tag says: its statements, and its text without them; nothing, where one is no attribute.
-#[tactic(auto, unfolding(crate::specs::Attributes::attributes_read))]
 pub fn tag_attributes(alloc: Global, tag: &str) -> Mem<Option<(Attributes, TextBuf)>>
     ensures { IfOk result (λ o. o ≡ spec.tag_attributes tag.now) }
 {
@@ -120,16 +127,18 @@ pub fn tag_attributes(alloc: Global, tag: &str) -> Mem<Option<(Attributes, TextB
     let mut kept = String::new(alloc);
     let mut rest = tag;
     for _turn in 0..tag.len() {
-        let Some((before, statement)) = statement_split(rest) else {
-            return finished(found, kept, rest);
-        };
-        let attribute = attribute_of(alloc, statement)?;
-        let Some(more) = with_known(found, attribute) else {
-            return Ok(None);
-        };
-        found = more;
-        kept.push_str(before)?;
-        rest = after_attribute(statement);
+        match statement_split(rest) {
+            None => return finished(found, kept, rest),
+            Some((before, statement)) => {
+                let next = added(alloc, found, statement)?;
+                match next {
+                    None => return Ok(None),
+                    Some(more) => found = more,
+                }
+                kept.push_str(before)?;
+                rest = after_attribute(statement);
+            }
+        }
     }
     finished(found, kept, rest)
 }

@@ -1,30 +1,22 @@
 //! Where block elements stand in a text.
 
 ghost use Rattle.std.specs.Prelude.{◌≡◌, ◌==◌, ◌&&◌, ◌<◌, ◌+◌, IfSome, IfOk, IfErr, Some, None, Ok, Err, true, false, take, drop};
+ghost use Rattle.htl_blocks.specs.LentValues.{cut_shown};
 ghost use Rattle.htl_blocks.specs.Markup as spec;
 ghost use Rattle.htl_blocks.specs.Reading as reading;
 
 use crate::fault::BlockFault;
 use crate::markup::{
-    after, closes, first_part, has_no_content, is_block_tag, opens, part_len, tag_end, tag_name,
+    closes, first_part, has_no_content, is_block_tag, opens, part_len, tag_end, tag_name,
 };
-use std::marker::Model;
 
-/// An element at the beginning of a text, and what follows it. Contracts see the four texts.
+/// An element at the beginning of a text, and what follows it.
 #[derive(Drop)]
 pub struct Cut<'a> {
     pub tag: &'a str,
     pub inside: &'a str,
     pub end_tag: &'a str,
     pub rest: &'a str,
-}
-
-impl<'a> Model for Cut<'a> {
-    ghost use Rattle.htl_blocks.specs.ElementText.{ElementText};
-
-    ghost Value = { ElementText };
-
-    ghost view = { λ c. record { tag = c.tag.now; inside = c.inside.now; end_tag = c.end_tag.now; rest = c.rest.now } };
 }
 
 /// How many bytes stand before the first block tag.
@@ -99,7 +91,7 @@ fn inside_len(name: &[u8], text: &[u8]) -> Option<usize>
 #[tactic(auto, unfolding(crate::specs::Markup::part_len))]
 fn cut_at<'a>(tag: &'a str, text: &'a str, len: usize) -> Cut<'a>
     requires { spec.inside_len (spec.tag_name tag.now) 0 0 (spec.parts text.now) ≡ Some len }
-    ensures { Ok result ≡ reading.cut_at 0 tag.now text.now (Some len) }
+    ensures { Ok (cut_shown result) ≡ reading.cut_at 0 tag.now text.now (Some len) }
 {
     let (inside, from_end_tag) = text.split_at(len);
     let (end_tag, rest) = from_end_tag.split_at(part_len(from_end_tag.as_bytes()));
@@ -125,7 +117,7 @@ fn tag_split(text: &str) -> Option<(&str, &str)>
 
 /// The parts of an element with this tag, before this rest.
 fn cut_after<'a>(place: usize, tag: &'a str, rest: &'a str) -> Result<Cut<'a>, BlockFault>
-    ensures ok { IfOk result (λ cut. reading.cut_after place tag.now rest.now ≡ Ok cut) }
+    ensures ok { IfOk result (λ cut. reading.cut_after place tag.now rest.now ≡ Ok (cut_shown cut)) }
     ensures err { IfErr result (λ f. reading.cut_after place tag.now rest.now ≡ Err f) }
 {
     if has_no_content(tag.as_bytes()) {
@@ -145,7 +137,7 @@ fn cut_after<'a>(place: usize, tag: &'a str, rest: &'a str) -> Result<Cut<'a>, B
 /// The parts of the element at the beginning.
 #[tactic(auto, unfolding(crate::specs::Reading::element_cut))]
 pub fn element_cut(place: usize, text: &str) -> Result<Cut<'_>, BlockFault>
-    ensures ok { IfOk result (λ cut. reading.element_cut place text.now ≡ Ok cut) }
+    ensures ok { IfOk result (λ cut. reading.element_cut place text.now ≡ Ok (cut_shown cut)) }
     ensures err { IfErr result (λ f. reading.element_cut place text.now ≡ Err f) }
 {
     match tag_split(text) {

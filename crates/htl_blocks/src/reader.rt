@@ -15,6 +15,13 @@ use sp_base::TextBuf;
 use sqlite_items::{Boxed, Items};
 use std::alloc::Global;
 
+/// The place of a text that ends at a place.
+fn place_of(end: usize, text: &str) -> usize
+    ensures { result ≡ end - length text.now }
+{
+    end.saturating_sub(text.len())
+}
+
 /// Adds the text before a block element, where it isn't empty.
 #[tactic(auto, unfolding(crate::specs::Reading::run_blocks))]
 fn push_run(
@@ -75,12 +82,10 @@ fn element(alloc: Global, levels: u32, end: usize, text: &str) -> Result<(Block,
     ensures ok { IfOk result (λ x. spec.element_within levels end text.now ≡ Ok (x.0, x.1.now)) }
     ensures err { IfErr result (λ f. f ≢ BlockFault.NoMemory → spec.element_within levels end text.now ≡ Err f) }
 {
-    let place = end.saturating_sub(text.len());
+    let place = place_of(end, text);
     let cut = element_cut(place, text)?;
     let tag = tag_of(alloc, levels, place, cut.tag)?;
-    let inside_end = end
-        .saturating_sub(cut.rest.len())
-        .saturating_sub(cut.end_tag.len());
+    let inside_end = place_of(place_of(end, cut.rest), cut.end_tag);
     let content = blocks(alloc, levels.saturating_sub(1), inside_end, cut.inside)?;
     let end_tag = TextBuf::of(alloc, cut.end_tag)?;
     Ok((Block::Element(tag, content, end_tag), cut.rest))
@@ -102,7 +107,7 @@ pub fn blocks(
     let mut rest = text;
     for _turn in 0..text.len() {
         let (before, element_text) = run(rest);
-        push_run(&mut found, alloc, end.saturating_sub(rest.len()), before)?;
+        push_run(&mut found, alloc, place_of(end, rest), before)?;
         if element_text.is_empty() {
             return Ok(found);
         }

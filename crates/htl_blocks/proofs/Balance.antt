@@ -1,9 +1,9 @@
 -- The end tag that closes an element.
-use Rattle.std.proofs.Common.{◌≡◌, ◌<◌, ◌≤◌, ◌+◌, ◌-◌, ℕ, zero, suc, Bool, true, false, cond, ◌&&◌, eqb, List, [], ◌∷◌, ◌++◌, drop, length, Option, Some, None, refl, ap, sym, subst, ◌∙◌, rules, arith, append_assoc}
+use Rattle.std.proofs.Common.{◌≡◌, ◌<◌, ◌≤◌, ◌+◌, ◌-◌, ℕ, zero, suc, Bool, true, false, cond, not, ◌&&◌, eqb, List, [], ◌∷◌, ◌++◌, drop, length, Option, Some, None, refl, ap, sym, subst, ◌∙◌, rules, arith, append_assoc}
 use Rattle.std.proofs.lemmas.Bool.Decides.{nat_tests}
 use Rattle.sp_base.specs.Bytes.{begins_with_byte}
 use Rattle.htl_syntax.specs.Tokens.{begins, is_letter}
-use Rattle.htl_blocks.specs.Markup.{begins_tag, begins_end_tag, ends_after_name, opens, closes, waiting_after, inside_len}
+use Rattle.htl_blocks.specs.Markup.{same_name, tag_name, end_tag_name, is_self_closed, begins_tag, begins_end_tag, ends_after_name, opens, closes, waiting_after, inside_len}
 use Rattle.htl_blocks.specs.Laws.{Balanced, Closes, bytes_of}
 use Rattle.htl_blocks.specs.Laws as laws
 use Rattle.htl_blocks.proofs.Tags.{and_left, and_right, byte_is}
@@ -32,11 +32,11 @@ element_before : (name p end : List ℕ) (w : ℕ) (inner more : List (List ℕ)
 element_before name p end zero inner more k a b c x =
     let place = x.place in
     let sum = bytes_of_both inner (end ∷ x.inner) in
-    record { inner = p ∷ (inner ++ end ∷ x.inner); end_tag = x.end_tag; more = x.more; split = ap (λ (l : List (List ℕ)). p ∷ (inner ++ end ∷ l)) x.split ∙ regrouped p end inner x.inner (x.end_tag ∷ x.more); balanced = laws.element a b c x.balanced; closed = x.closed; place = omega (arith, place, sum) }
+    record { inner = p ∷ (inner ++ end ∷ x.inner); end_tag = x.end_tag; more = x.more; split = ap (λ (l : List (List ℕ)). p ∷ (inner ++ end ∷ l)) x.split ∙ regrouped p end inner x.inner (x.end_tag ∷ x.more); balanced = laws.element p end inner x.inner a b c x.balanced; closed = x.closed; place = omega (arith, place, sum) }
 element_before name p end (suc w) inner more k a b c x =
     let sum = bytes_of_both inner (end ∷ x.0) in
     let place = x.8 in
-    (p ∷ (inner ++ end ∷ x.0), x.1, x.2, x.3, ap (λ (l : List (List ℕ)). p ∷ (inner ++ end ∷ l)) x.4 ∙ regrouped p end inner x.0 (x.1 ∷ x.2), laws.element a b c x.5, x.6, x.7, omega (arith, place, sum))
+    (p ∷ (inner ++ end ∷ x.0), x.1, x.2, x.3, ap (λ (l : List (List ℕ)). p ∷ (inner ++ end ∷ l)) x.4 ∙ regrouped p end inner x.0 (x.1 ∷ x.2), laws.element p end inner x.0 a b c x.5, x.6, x.7, omega (arith, place, sum))
 
 -- the element that was opened is one more
 opened : (name p : List ℕ) (w : ℕ) (ps : List (List ℕ)) (k : ℕ) → opens name p ≡ true → Waits name (suc w) ps k → Waits name w (p ∷ ps) (length p + k)
@@ -108,8 +108,8 @@ letter_is_no_slash (c ∷ t) h = go (eqb c 47) refl
 opens_no_end : (name p : List ℕ) → opens name p ≡ true → closes name p ≡ false
 unfolding opens closes begins_tag begins_end_tag
 opens_no_end name p h =
-    let x = letter_is_no_slash (drop 1 p) (and_right _ _ (and_left _ _ h)) in
-    rw x (none (begins_with_byte 60 p) _)
+    let x = letter_is_no_slash (drop 1 p) (and_right (begins_with_byte 60 p) (begins is_letter (drop 1 p)) (and_left (begins_with_byte 60 p && begins is_letter (drop 1 p)) (same_name (tag_name p) name && not (is_self_closed p)) h)) in
+    rw x (none (begins_with_byte 60 p) (same_name (end_tag_name p) name))
   where
     none : (b c : Bool) → ((b && false) && c) ≡ false
     none true c = refl
@@ -121,7 +121,7 @@ passed name w n _ more laws.nothing = ap (λ (k : ℕ). inside_len name w k more
 passed name w n _ more (laws.other {p = p} {more = inner} a b x) =
     let sum : (n + length p) + bytes_of inner ≡ n + (length p + bytes_of inner) = omega arith in
     other_step name p w n (inner ++ more) a b ∙ passed name w (n + length p) inner more x ∙ ap (λ (k : ℕ). inside_len name w k more) sum
-passed name w n _ more (laws.element {p = p} {end = end} {inner = inner} {more = later} a x c y) =
+passed name w n _ more (laws.element p end inner later a x c y) =
     let both = bytes_of_both inner (end ∷ later) in
     let sum : (((n + length p) + bytes_of inner) + length end) + bytes_of later ≡ n + (length p + bytes_of (inner ++ end ∷ later)) = omega (arith, both) in
     open_step name p w n ((inner ++ end ∷ later) ++ more) a (opens_no_end name p a)

@@ -45,7 +45,7 @@ block_place (suc n) (c ∷ t) h =
     let ih = block_place n t (omega (arith, h)) in
     let more : suc n + run_len (parts_after n t) ≡ suc (n + run_len (parts_after n t)) = omega arith in
     rw more (omega (arith, ih.0), λ lt. ih.1 (omega (arith, lt)))
-block_place zero (c ∷ t) h = go (is_block_tag (take (part_len (c ∷ t)) (c ∷ t))) refl
+block_place zero (c ∷ t) h = go (is_block_tag (take (part_len (c ∷ t)) (c ∷ t))) refl (λ k. block_place (part_len (c ∷ t) - 1) t k)
   where
     within : (1 ≤ part_len (c ∷ t)) × (part_len (c ∷ t) ≤ length (c ∷ t))
     within = part_within (c ∷ t) (omega arith)
@@ -54,11 +54,12 @@ block_place zero (c ∷ t) h = go (is_block_tag (take (part_len (c ∷ t)) (c �
     size = length-take-le (part_len (c ∷ t)) (c ∷ t) within.1
 
     go : (b : Bool) → is_block_tag (take (part_len (c ∷ t)) (c ∷ t)) ≡ b
+        → (part_len (c ∷ t) - 1 ≤ length t → ((part_len (c ∷ t) - 1) + run_len (parts_after (part_len (c ∷ t) - 1) t) ≤ length t) × ((part_len (c ∷ t) - 1) + run_len (parts_after (part_len (c ∷ t) - 1) t) < length t → slice_index t ((part_len (c ∷ t) - 1) + run_len (parts_after (part_len (c ∷ t) - 1) t)) ≡ 60))
         → (0 + cond b 0 (length (take (part_len (c ∷ t)) (c ∷ t)) + run_len (parts_after (part_len (c ∷ t) - 1) t)) ≤ length (c ∷ t))
         × (0 + cond b 0 (length (take (part_len (c ∷ t)) (c ∷ t)) + run_len (parts_after (part_len (c ∷ t) - 1) t)) < length (c ∷ t) → slice_index (c ∷ t) (0 + cond b 0 (length (take (part_len (c ∷ t)) (c ∷ t)) + run_len (parts_after (part_len (c ∷ t) - 1) t))) ≡ 60)
-    go true e = (omega arith, λ lt. sym (first_of (part_len (c ∷ t)) c t within.0) ∙ block_first _ e)
-    go false e =
-        let ih = block_place (part_len (c ∷ t) - 1) t (omega (arith, within.1, within.0)) in
+    go true e later = (omega arith, λ lt. sym (first_of (part_len (c ∷ t)) c t within.0) ∙ block_first (take (part_len (c ∷ t)) (c ∷ t)) e)
+    go false e later =
+        let ih = later (omega (arith, within.1, within.0)) in
         let more : 0 + (length (take (part_len (c ∷ t)) (c ∷ t)) + run_len (parts_after (part_len (c ∷ t) - 1) t)) ≡ suc ((part_len (c ∷ t) - 1) + run_len (parts_after (part_len (c ∷ t) - 1) t)) = omega (arith, size, within.0) in
         rw more (omega (arith, ih.0), λ lt. ih.1 (omega (arith, lt)))
 
@@ -101,7 +102,7 @@ closes_at name waiting n zero (c ∷ t) m h e = go (eqb waiting 0 && closes name
     size = length-take-le (part_len (c ∷ t)) (c ∷ t) within.1
 
     here : eqb waiting 0 && closes name (take (part_len (c ∷ t)) (c ∷ t)) ≡ true → n ≡ m → (place : ℕ) → place + n ≡ 0 + m → ClosesAt (c ∷ t) place
-    here x same zero q = record { within = omega arith; end_tag = ends name _ (and_right (eqb waiting 0) _ x) }
+    here x same zero q = record { within = omega arith; end_tag = ends name (take (part_len (c ∷ t)) (c ∷ t)) (and_right (eqb waiting 0) (closes name (take (part_len (c ∷ t)) (c ∷ t))) x) }
     here x same (suc place) q = absurd (omega (arith, q, same))
 
     later : (n + length (take (part_len (c ∷ t)) (c ∷ t)) ≤ m) × ((place : ℕ) → place + (n + length (take (part_len (c ∷ t)) (c ∷ t))) ≡ (part_len (c ∷ t) - 1) + m → ClosesAt t place) → (place : ℕ) → place + n ≡ 0 + m → ClosesAt (c ∷ t) place
@@ -136,7 +137,7 @@ inside_boundary name t m e =
     let lt = x.within in
     let left : length (drop m t) ≡ length t - m = length-drop m t in
     let some : 0 < length (drop m t) = omega (arith, lt, left) in
-    let first = sym (take_first (part_len (drop m t)) (drop m t) (part_within (drop m t) some).0) ∙ end_tag_first _ x.end_tag in
+    let first = sym (take_first (part_len (drop m t)) (drop m t) (part_within (drop m t) some).0) ∙ end_tag_first (take (part_len (drop m t)) (drop m t)) x.end_tag in
     let there = sym (index_drop m t) ∙ first in
     IsCharBoundary-before_ascii t m lt (omega (arith, there))
   where
@@ -147,7 +148,7 @@ inside_boundary name t m e =
 
 no_end_tag : (c : ℕ) → begins_end_tag (c ∷ []) ≡ true → ⊥
 unfolding begins_end_tag begins_with_byte
-no_end_tag c h = let x = and_right _ _ h in absurd cc
+no_end_tag c h = let x = and_right (eqb c 60) false h in absurd cc
 
 -- and after it
 pub end_tag_boundary : (u : List ℕ) → IsUtf8 u → 0 < length u → begins_end_tag (take (part_len u) u) ≡ true → IsCharBoundary u (part_len u)

@@ -28,11 +28,11 @@ key_ascii c h = grind (arith, nat_tests)
 
 pub key_boundary : (t : List ℕ) → IsCharBoundary t (run_bytes Key t)
 unfolding run_bytes
-key_boundary t = (run_within Key t, λ lt big. let x = key_ascii _ (passes_at_first (ends Key) t 0 lt) in omega (arith, x, big))
+key_boundary t = (run_within Key t, λ lt big. let x = key_ascii (slice_index t (position_or_len (ends Key) t)) (passes_at_first (ends Key) t 0 lt) in omega (arith, x, big))
 
 pub quoted_boundary : (mark : ℕ) (t : List ℕ) → is_quote mark ≡ true → IsCharBoundary t (run_bytes (Quoted mark) t)
 unfolding run_bytes
-quoted_boundary mark t h = (run_within (Quoted mark) t, λ lt big. let x = byte_is _ _ (passes_at_first (ends (Quoted mark)) t 0 lt) in let y = quote_ascii mark h in omega (arith, x, y, big))
+quoted_boundary mark t h = (run_within (Quoted mark) t, λ lt big. let x = byte_is (slice_index t (position_or_len (ends (Quoted mark)) t)) mark (passes_at_first (ends (Quoted mark)) t 0 lt) in let y = quote_ascii mark h in omega (arith, x, y, big))
 
 pub drop_one_more : (n : ℕ) (t : List ℕ) → drop 1 (drop n t) ≡ drop (n + 1) t
 drop_one_more zero t = refl
@@ -57,7 +57,7 @@ quoted_rest mark t h = rw (index_drop (position_or_len (ends (Quoted mark)) t) t
     go : (b : Bool) → nat_lt (position_or_len (ends (Quoted mark)) t) (length t) ≡ b → slice_index t (position_or_len (ends (Quoted mark)) t) < 128
     go true e =
         let lt : position_or_len (ends (Quoted mark)) t < length t = grind (arith, nat_tests) in
-        let x = byte_is _ _ (passes_at_first (ends (Quoted mark)) t 0 lt) in
+        let x = byte_is (slice_index t (position_or_len (ends (Quoted mark)) t)) mark (passes_at_first (ends (Quoted mark)) t 0 lt) in
         let y = quote_ascii mark h in
         omega (arith, x, y)
     go false e =

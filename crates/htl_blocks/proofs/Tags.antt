@@ -8,7 +8,7 @@ use Rattle.sp_base.specs.Bytes.{begins_with_byte}
 use Rattle.htl_syntax.specs.Tokens.{begins, is_blank, is_quote, is_letter}
 use Rattle.htl_blocks.specs.declared.quoting.Quoting.{Quoting}
 use Rattle.htl_blocks.specs.declared.quoting.Quoting.TheVariants.{Outside, Within}
-use Rattle.htl_blocks.specs.Markup.{quoting_step, ends_tag, tag_end, ended_len, tag_len, begins_tag, begins_end_tag, name_len, part_len}
+use Rattle.htl_blocks.specs.Markup.{quoting_step, ends_tag, tag_end, ended_len, tag_len, begins_tag, begins_end_tag, ends_after_name, name_len, part_len}
 use Rattle.htl_blocks.specs.Attributes.{begins_statement, statement_place, mark_at}
 
 pub and_left : (a b : Bool) → (a && b) ≡ true → a ≡ true
@@ -21,6 +21,9 @@ and_right false b e = absurd cc
 
 pub byte_is : (a b : ℕ) → eqb a b ≡ true → a ≡ b
 byte_is a b e = search rules
+
+pub full : (c : ℕ) (t : List ℕ) → eqb (length (c ∷ t)) 0 ≡ false
+full c t = grind (arith, nat_tests)
 
 pub blank_ascii : (c : ℕ) → is_blank c ≡ true → c < 128
 blank_ascii c h = grind (arith, nat_tests)
@@ -78,9 +81,9 @@ index_past_two (a ∷ b ∷ t) i = let more : i + 2 ≡ suc (suc i) = omega arit
 pub end_tag_at : (t : List ℕ) → begins_end_tag t ≡ true → (name_len (drop 2 t) + 2 < length t) × (slice_index t (name_len (drop 2 t) + 2) ≡ 62)
 unfolding begins_end_tag
 end_tag_at t h =
-    let a = and_right _ _ h in
-    let b = and_right _ _ a in
-    let d = and_right _ _ b in
+    let a = and_right (begins_with_byte 60 t) (begins_with_byte 47 (drop 1 t) && ends_after_name (drop 2 t)) h in
+    let b = and_right (begins_with_byte 47 (drop 1 t)) (ends_after_name (drop 2 t)) a in
+    let d = and_right (begins is_letter (drop 2 t)) (begins_with_byte 62 (drop (name_len (drop 2 t)) (drop 2 t))) b in
     let x = byte_there 62 (name_len (drop 2 t)) (drop 2 t) d in
     let size = length-drop 2 t in
     (omega (arith, x.0, size), sym (index_past_two t (name_len (drop 2 t))) ∙ x.1)

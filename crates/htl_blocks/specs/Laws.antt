@@ -12,7 +12,7 @@ pub data HasNoBlock : List (List ℕ) → Type 0 where
 pub data Balanced (name : List ℕ) : List (List ℕ) → Type 0 where
   nothing : Balanced name []
   other : {p : List ℕ} {more : List (List ℕ)} → opens name p ≡ false → closes name p ≡ false → Balanced name more → Balanced name (p ∷ more)
-  element : {p end : List ℕ} {inner more : List (List ℕ)} → opens name p ≡ true → Balanced name inner → closes name end ≡ true → Balanced name more → Balanced name (p ∷ (inner ++ end ∷ more))
+  element : (p end : List ℕ) (inner more : List (List ℕ)) → opens name p ≡ true → Balanced name inner → closes name end ≡ true → Balanced name more → Balanced name (p ∷ (inner ++ end ∷ more))
 
 -- how many bytes parts have together
 abbrev pub bytes_of : List (List ℕ) → ℕ

@@ -1,12 +1,15 @@
 //! The block statements of a tag, and its text without them.
 
-ghost use Rattle.std.specs.Prelude.{◌≡◌, ◌++◌, IfOk, Some, option_map, string_bytes};
+ghost use Rattle.std.specs.Prelude.{◌≡◌, ◌≢◌, ◌++◌, IfOk, IfErr, Some, None, option_map, string_bytes};
 ghost use Rattle.htl_blocks.specs.Attributes as spec;
+ghost use Rattle.htl_blocks.specs.declared.attribute.Attribute.TheVariants as attribute;
 
-use crate::attribute::{Attribute, Attributes};
+use crate::attribute::{Attribute, Attributes, Body, Unwrap};
 use crate::byte_run::is_blank;
+use crate::fault::BlockFault;
 use crate::markup::{statement_place, tail};
 use crate::value::{after_attribute, attribute_of};
+use htl_text::Template;
 use sp_base::{Mem, TextBuf};
 use std::alloc::Global;
 
@@ -23,38 +26,60 @@ impl Attributes {
     }
 }
 
+fn with_test(attributes: Attributes, value: Template) -> Option<Attributes>
+    ensures { result ≡ spec.with_attribute attributes (attribute.Test value) }
+{
+    let mut attributes = attributes;
+    if attributes.test.is_some() {
+        return None;
+    }
+    attributes.test = Some(value);
+    Some(attributes)
+}
+
+fn with_list(attributes: Attributes, name: TextBuf, value: Template) -> Option<Attributes>
+    ensures { result ≡ spec.with_attribute attributes (attribute.List name value) }
+{
+    let mut attributes = attributes;
+    if attributes.list.is_some() {
+        return None;
+    }
+    attributes.list = Some((name, value));
+    Some(attributes)
+}
+
+fn with_body(attributes: Attributes, body: Body) -> Option<Attributes>
+    ensures { result ≡ spec.with_attribute attributes (attribute.Body body) }
+{
+    let mut attributes = attributes;
+    if attributes.body.is_some() {
+        return None;
+    }
+    attributes.body = Some(body);
+    Some(attributes)
+}
+
+fn with_unwrap(attributes: Attributes, unwrap: Unwrap) -> Option<Attributes>
+    ensures { result ≡ spec.with_attribute attributes (attribute.Unwrap unwrap) }
+{
+    let mut attributes = attributes;
+    if attributes.unwrap.is_some() {
+        return None;
+    }
+    attributes.unwrap = Some(unwrap);
+    Some(attributes)
+}
+
 /// One statement more, where there is none like it.
 fn with_attribute(attributes: Attributes, attribute: Attribute) -> Option<Attributes>
     ensures { result ≡ spec.with_attribute attributes attribute }
 {
-    let mut attributes = attributes;
     match attribute {
-        Attribute::Test(value) => {
-            if attributes.test.is_some() {
-                return None;
-            }
-            attributes.test = Some(value);
-        }
-        Attribute::List(name, value) => {
-            if attributes.list.is_some() {
-                return None;
-            }
-            attributes.list = Some((name, value));
-        }
-        Attribute::Body(body) => {
-            if attributes.body.is_some() {
-                return None;
-            }
-            attributes.body = Some(body);
-        }
-        Attribute::Unwrap(unwrap) => {
-            if attributes.unwrap.is_some() {
-                return None;
-            }
-            attributes.unwrap = Some(unwrap);
-        }
+        Attribute::Test(value) => with_test(attributes, value),
+        Attribute::List(name, value) => with_list(attributes, name, value),
+        Attribute::Body(body) => with_body(attributes, body),
+        Attribute::Unwrap(unwrap) => with_unwrap(attributes, unwrap),
     }
-    Some(attributes)
 }
 
 /// How many bytes stand before the blanks at the end.
@@ -93,52 +118,55 @@ fn statement_split(text: &str) -> Option<(&str, &str)>
     }
 }
 
-/// One statement more, where it is an attribute and there is none like it.
-fn with_known(attributes: Attributes, attribute: Option<Attribute>) -> Option<Attributes>
-    ensures { result ≡ spec.with_known attributes attribute }
+/// The statements with the one that begins this text, where it is one and there is none like it.
+fn added(
+    alloc: Global,
+    place: usize,
+    found: Attributes,
+    statement: &str,
+) -> Result<Attributes, BlockFault>
+    ensures ok { IfOk result (λ a. spec.with_known found (spec.attribute_of statement.now) ≡ Some a) }
+    ensures err { IfErr result (λ f. f ≢ BlockFault.NoMemory → (f ≡ BlockFault.BadBlock place) × (spec.with_known found (spec.attribute_of statement.now) ≡ None)) }
 {
-    match attribute {
-        Some(attribute) => with_attribute(attributes, attribute),
-        None => None,
+    let Some(attribute) = attribute_of(alloc, statement)? else {
+        return Err(BlockFault::BadBlock(place));
+    };
+    match with_attribute(found, attribute) {
+        Some(more) => Ok(more),
+        None => Err(BlockFault::BadBlock(place)),
     }
 }
 
-/// The statements with the one that begins this text, where it is one and there is none like it.
-fn added(alloc: Global, found: Attributes, statement: &str) -> Mem<Option<Attributes>>
-    ensures { IfOk result (λ o. o ≡ spec.with_known found (spec.attribute_of statement.now)) }
-{
-    let attribute = attribute_of(alloc, statement)?;
-    Ok(with_known(found, attribute))
-}
-
-fn finished(found: Attributes, kept: String, rest: &str) -> Mem<Option<(Attributes, TextBuf)>>
-    ensures { IfOk result (λ o. o ≡ Some (found, string_bytes kept ++ rest.now)) }
+fn finished(found: Attributes, kept: String, rest: &str) -> Mem<(Attributes, TextBuf)>
+    ensures { IfOk result (λ x. x ≡ (found, string_bytes kept ++ rest.now)) }
 {
     let mut kept = kept;
     kept.push_str(rest)?;
-    Ok(Some((found, TextBuf::from(kept))))
+    Ok((found, TextBuf::from(kept)))
 }
 
-/// What a tag says: its statements, and its text without them; nothing, where one is no attribute.
-pub fn tag_attributes(alloc: Global, tag: &str) -> Mem<Option<(Attributes, TextBuf)>>
-    ensures { IfOk result (λ o. o ≡ spec.tag_attributes tag.now) }
+/// What a tag at a place says: its statements, and its text without them.
+pub fn tag_attributes(
+    alloc: Global,
+    place: usize,
+    tag: &str,
+) -> Result<(Attributes, TextBuf), BlockFault>
+    ensures ok { IfOk result (λ x. spec.tag_attributes tag.now ≡ Some x) }
+    ensures err { IfErr result (λ f. f ≢ BlockFault.NoMemory → (f ≡ BlockFault.BadBlock place) × (spec.tag_attributes tag.now ≡ None)) }
 {
     let mut found = Attributes::none();
     let mut kept = String::new(alloc);
     let mut rest = tag;
     for _turn in 0..tag.len() {
         match statement_split(rest) {
-            None => return finished(found, kept, rest),
+            None => return Ok(finished(found, kept, rest)?),
             Some((before, statement)) => {
-                let next = added(alloc, found, statement)?;
-                match next {
-                    None => return Ok(None),
-                    Some(more) => found = more,
-                }
+                let more = added(alloc, place, found, statement)?;
+                found = more;
                 kept.push_str(before)?;
                 rest = after_attribute(statement);
             }
         }
     }
-    finished(found, kept, rest)
+    Ok(finished(found, kept, rest)?)
 }

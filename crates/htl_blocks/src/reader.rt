@@ -65,9 +65,7 @@ fn tag_of(alloc: Global, levels: u32, place: usize, tag: &str) -> Result<Boxed<T
     ensures ok { IfOk result (λ x. spec.tag_of levels place tag.now ≡ Ok x) }
     ensures err { IfErr result (λ f. f ≢ BlockFault.NoMemory → spec.tag_of levels place tag.now ≡ Err f) }
 {
-    let Some((attributes, kept)) = tag_attributes(alloc, tag)? else {
-        return Err(BlockFault::BadBlock(place));
-    };
+    let (attributes, kept) = tag_attributes(alloc, place, tag)?;
     if levels == 0 {
         return Err(BlockFault::TooDeep(place));
     }

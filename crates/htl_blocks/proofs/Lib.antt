@@ -5,4 +5,5 @@ mod Runs
 mod Steps
 mod Balance
 mod Turns
+pub mod Values
 mod Plain

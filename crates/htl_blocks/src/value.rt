@@ -123,6 +123,7 @@ fn value_of(alloc: Global, text: &str) -> Mem<Option<Template>>
     }
 }
 
+#[tactic(auto, using(crate::proofs::Values::few_pieces, crate::proofs::Values::many_pieces))]
 fn one_piece(template: Template) -> Option<Template>
     ensures { result ≡ spec.at_most_one template }
 {

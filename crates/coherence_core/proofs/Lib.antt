@@ -3,6 +3,7 @@ mod CoverageLemmas
 mod FlightLemmas
 mod FlushLemmas
 mod TieLemmas
+mod DrawnLemmas
 mod RequestSteps
 mod LandingSteps
 mod SliceSteps

@@ -26,6 +26,9 @@ before_later a e d f le x = grind (arith, nat_tests)
 pub drawn_next : (e d : ℕ) → Before (record { epoch = e; count = d }) (record { epoch = e; count = d + 1 })
 drawn_next e d = grind (arith, nat_tests)
 
+pub drawn_later : (e d f : ℕ) → d < f → Before (record { epoch = e; count = d }) (record { epoch = e; count = f })
+drawn_later e d f lt = grind (arith, nat_tests)
+
 pub before_epoch : (a : Stamp) (e d f g : ℕ) → Before a (record { epoch = e; count = d }) → e < f → Before a (record { epoch = f; count = g })
 before_epoch a e d f g x lt = grind (arith, nat_tests)
 

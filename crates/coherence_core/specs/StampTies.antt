@@ -30,6 +30,13 @@ first_epoch (_ ∷ log) = first_epoch log
 abbrev pub stamp_after : List LogEntry → Stamp
 stamp_after log = record { epoch = last_epoch log; count = stamps_drawn log }
 
+-- each stamp that was drawn, for a flight as it was asked or for a flush as it began, in this session or before it; the last one first
+abbrev pub drawn_stamps : List LogEntry → List Stamp
+drawn_stamps [] = []
+drawn_stamps (Asked number key ∷ log) = stamp_after log ∷ drawn_stamps log
+drawn_stamps (Begun number inv ∷ log) = stamp_after log ∷ drawn_stamps log
+drawn_stamps (_ ∷ log) = drawn_stamps log
+
 -- the flight was asked in this session, and this stamp was drawn for it
 abbrev pub IsFlightStamp : List LogEntry → FlightId → Stamp → Type 0
 IsFlightStamp [] flight stamp = ⊥
@@ -43,6 +50,10 @@ IsFlushStamp [] flush inv stamp = ⊥
 IsFlushStamp (Begun number begun ∷ log) flush inv stamp = ((number ≡ flush) × (begun ≡ inv) × (stamp ≡ stamp_after log)) ⊎ IsFlushStamp log flush inv stamp
 IsFlushStamp (Session epoch ∷ log) flush inv stamp = ⊥
 IsFlushStamp (_ ∷ log) flush inv stamp = IsFlushStamp log flush inv stamp
+
+-- this stamp was drawn in this session, for a flight or for a flush
+abbrev pub IsStampOfSession : List LogEntry → Stamp → Type 0
+IsStampOfSession log stamp = ((flight : FlightId) × IsFlightStamp log flight stamp) ⊎ ((flush : FlushId) × (inv : Invalidation) × IsFlushStamp log flush inv stamp)
 
 -- A hit on the page may be answered so by a flight of this session that has this stamp: it landed and was kept or unkept with this answer, no
 -- landing of the page was kept since, and no flush that covers the page has ended done since it was asked.

@@ -1,6 +1,6 @@
 //! What the core takes of the layers below, and what follows from what a core stands for: laws, on functions that do nothing but to call
 //! others.
-ghost use Rattle.std.specs.Prelude.{◌≡◌, ◌≤◌, ◌++◌, ℕ, Contains, IsTrue, List, [], ◌∷◌, Some, Ok};
+ghost use Rattle.std.specs.Prelude.{◌≡◌, ◌≤◌, ◌++◌, ℕ, AllPairs, Contains, IsTrue, List, [], ◌∷◌, Some, Ok};
 ghost use Rattle.std.specs.FinMap.{empty};
 ghost use Rattle.sp_base.specs.Texts.{Segments};
 ghost use Rattle.sp_base.specs.declared.answer.Answer.{Answer};
@@ -29,7 +29,7 @@ ghost use Rattle.coherence_core.specs.Holds.{Holds, HoldsClosed, files_counted};
 ghost use Rattle.coherence_core.specs.Openings.{IsCleared, IsCoreOpened};
 ghost use Rattle.coherence_core.specs.Served.{Before, IsFresh, stat_for};
 ghost use Rattle.coherence_core.specs.Sessions.{closing_entries, failed_entries};
-ghost use Rattle.coherence_core.specs.StampTies.{IsStampOfTouch, MayHitOfStamp, first_epoch};
+ghost use Rattle.coherence_core.specs.StampTies.{IsStampOfSession, IsStampOfTouch, MayHitOfStamp, drawn_stamps, first_epoch, stamp_after};
 ghost use Rattle.coherence_core.specs.declared.core_state.Core.{Core};
 ghost use Rattle.coherence_core.specs.declared.pending.Pending.{Pending};
 
@@ -97,12 +97,24 @@ pub fn stamps_are_of_flights_and_flushes()
 
 /// The stamp that is drawn next is after each that was drawn and still stands, also over a restart: that of each head in the files, whether or not
 /// its page's body is there and fits (`head`), of each `.stat` file (`folder`), of each flight in the air (`flight`), and of each unfinished flush
-/// (`flush`).
+/// (`flush`). It is the one that the log tells (`next`), and where that is legal it is after each that was drawn, also in sessions before, and
+/// also after one that stands nowhere any more (`drawn`).
 pub fn each_stamp_is_before_the_next()
     ensures head { (found : ℕ) (files : Files) (core : Core) (log : List LogEntry) (key : PageKey) (head : HeadNote) → StandsOver found files core log → IsPageKey key → head_at files key ≡ Some head → Before head.stamp (next_stamp core) }
     ensures folder { (found : ℕ) (files : Files) (core : Core) (log : List LogEntry) (folder : Segments) (stamp : Stamp) → StandsOver found files core log → IsStampFolder folder → stamp_at files folder ≡ Some stamp → Before stamp (next_stamp core) }
     ensures flight { (found : ℕ) (files : Files) (core : Core) (log : List LogEntry) (flight : Flight) → StandsOver found files core log → Contains core.flights flight → Before flight.stamp (next_stamp core) }
     ensures flush { (found : ℕ) (files : Files) (core : Core) (log : List LogEntry) (flush : Pending) → StandsOver found files core log → Contains core.queue.items flush → Before flush.purge.stamp (next_stamp core) }
+    ensures next { (found : ℕ) (files : Files) (core : Core) (log : List LogEntry) → StandsOver found files core log → next_stamp core ≡ stamp_after log }
+    ensures drawn { (found : ℕ) (files : Files) (core : Core) (log : List LogEntry) (stamp : Stamp) → StandsOver found files core log → IsLegal core.farm log → Contains (drawn_stamps log) stamp → Before stamp (next_stamp core) }
+{}
+
+/// Of the stamps that were drawn in a legal log, and of the one that is drawn next, each is after all that were drawn before it, over restarts and
+/// over sessions (`rising`). What was drawn is each stamp that a session of the log drew at any time, for a flight or for a flush (`each`), and no
+/// other (`only`).
+pub fn each_draw_is_after_those_before_it()
+    ensures rising { (farm : Farm) (log : List LogEntry) → IsLegal farm log → AllPairs (λ later earlier. Before earlier later) (stamp_after log ∷ drawn_stamps log) }
+    ensures each { (since before : List LogEntry) (stamp : Stamp) → IsStampOfSession before stamp → Contains (drawn_stamps (since ++ before)) stamp }
+    ensures only { (log : List LogEntry) (stamp : Stamp) → Contains (drawn_stamps log) stamp → (since : List LogEntry) × (before : List LogEntry) × (log ≡ since ++ before) × IsStampOfSession before stamp }
 {}
 
 /// Where a session was just opened, and no file is a page file or a .stat file, the core and the files stand for the log of this session alone.

@@ -1,3 +1,4 @@
+use Rattle.coherence_core.proofs.DrawnLemmas.{core_next, core_drawn}
 use Rattle.coherence_core.proofs.FlightLemmas.{flying_in}
 use Rattle.coherence_core.proofs.FlushLemmas.{flushing_in}
 use Rattle.coherence_core.proofs.laws.each_stamp_is_before_the_next.Goals as goal
@@ -13,3 +14,9 @@ returns-clause-flight c = λ found files core log flight s there. (flying_in cor
 
 pub returns-clause-flush : goal.returns-clause-flush
 returns-clause-flush c = λ found files core log flush s there. (flushing_in core.farm _ log core.begun _ core.queue.items flush s.stands.flushing.each there).drawn
+
+pub returns-clause-next : goal.returns-clause-next
+returns-clause-next c = core_next
+
+pub returns-clause-drawn : goal.returns-clause-drawn
+returns-clause-drawn c = core_drawn

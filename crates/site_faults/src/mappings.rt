@@ -1,7 +1,7 @@
 //! Mappings that lead nowhere, or in a circle.
 ghost use Rattle.url_maps.specs.Claims.{IsIndexOf};
 
-use crate::pattern_samples::sample_of;
+use crate::pattern_samples::{Sample, sample_of};
 use overlay_merge::MergedView;
 use regex_rules::{Pattern, PatternFault};
 use resource_tree::{Node, Tree};
@@ -171,11 +171,11 @@ fn pattern_end(
         Err(PatternFault::NoMemory) => return Err(NoMemory),
         Err(_) => return Ok(MappingEnd::Somewhere),
     };
-    let Some(sample) = sample_of(alloc, &pattern, text.text())? else {
+    let Some(Sample { host, path }) = sample_of(alloc, &pattern, text.text())? else {
         return Ok(MappingEnd::Somewhere);
     };
-    match host_and_port(sample.host.text()) {
-        Some(asked) => end_of(alloc, tree, index, asked, sample.path),
+    match host_and_port(host.text()) {
+        Some(asked) => end_of(alloc, tree, index, asked, path),
         None => Ok(MappingEnd::Somewhere),
     }
 }

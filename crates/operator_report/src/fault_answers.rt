@@ -11,7 +11,7 @@ const PHRASE: usize = 12;
 /// How an answer of 503 ends after which the connection closes.
 const CLOSING_503: &[u8] = b"Connection: close\r\n\r\n503 Service Unavailable\n";
 
-/// What an answer is to, as far as what came before it tells.
+/// What an answer is to, where that is known.
 #[derive(Clone, Copy, Drop)]
 pub enum AnswerTo {
     Flush,
@@ -51,8 +51,9 @@ fn cause_of_500(to: AnswerTo) -> &'static str {
 // A flush that finds no place leaves its connection open, but where its client asked otherwise.
 fn cause_of_503(answer: &[u8], to: AnswerTo) -> &'static str {
     match (answer.ends_with(CLOSING_503), to) {
-        (false, _) => "256 flushes are unfinished",
+        (false, _) | (true, AnswerTo::Flush) => "256 flushes are unfinished",
         (true, AnswerTo::Page) => "64 requests of this connection wait",
-        (true, _) => "64 requests of this connection wait, or 256 flushes are unfinished",
+        (true, AnswerTo::Unknown) =>
+            "64 requests of this connection wait, or 256 flushes are unfinished",
     }
 }

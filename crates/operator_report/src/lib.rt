@@ -2,11 +2,12 @@
 #![tactic(auto)]
 
 mod fault_answers;
-mod last_request;
 mod object_count;
+mod open_requests;
 mod report;
 mod reported_inputs;
 mod reported_world;
+mod request_head;
 
 pub use report::Report;
 pub use reported_inputs::ReportedInputs;

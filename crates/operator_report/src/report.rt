@@ -1,8 +1,8 @@
 //! The lines.
 
 use crate::fault_answers::{cause_of, fault_status};
-use crate::last_request::LastRequest;
 use crate::object_count::object_count;
+use crate::open_requests::OpenRequests;
 use any_config::read_any;
 use farm_members::passed_members;
 use std::alloc::Global;
@@ -96,13 +96,13 @@ impl<R: Eprint + Files + Env + Drop> Report<R> {
         );
     }
 
-    /// Tells an answer on a connection, where its status is 500 and above.
-    pub(crate) fn answer(&self, conn: u32, answer: &[u8], last: &LastRequest) {
+    /// Tells an answer on a connection, where its status is 500 and above. The request is named where that is known which it is to.
+    pub(crate) fn answer(&self, conn: u32, answer: &[u8], open: &OpenRequests) {
         let Some(status) = fault_status(answer) else {
             return;
         };
-        let cause = cause_of(status, answer, last.answered(conn));
-        let _ = match last.on(conn) {
+        let cause = cause_of(status, answer, open.answer_to(conn));
+        let _ = match open.asked(conn) {
             Some(asked) => eprintln!(self.rt; "sling_dispatch: {status} to {asked}: {cause}"),
             None => eprintln!(self.rt; "sling_dispatch: {status} on connection {conn}: {cause}"),
         };

@@ -1,7 +1,7 @@
 //! A world that is told of.
 ghost use Rattle.std.specs.Prelude.{◌≡◌};
 
-use crate::last_request::LastRequest;
+use crate::open_requests::OpenRequests;
 use crate::report::Report;
 use outside_world::{Happening, SendFault, Work, World, WorldFault};
 use sp_outside::Words;
@@ -19,7 +19,7 @@ pub struct ReportedWorld<'a, W: World + Drop, L: Words + Drop, R: Eprint + Files
     world: W,
     words: &'a L,
     report: &'a Report<R>,
-    last: LastRequest,
+    open: OpenRequests,
     // Whether `next` was called, and whether it answered.
     was_asked: bool,
     is_open: bool,
@@ -45,7 +45,7 @@ impl<'a, W: World + Drop, L: Words + Drop, R: Eprint + Files + Env + Drop> Repor
             world,
             words,
             report,
-            last: LastRequest::new(alloc),
+            open: OpenRequests::new(alloc),
             was_asked: false,
             is_open: false,
         }
@@ -70,6 +70,14 @@ impl<'a, W: World + Drop, L: Words + Drop, R: Eprint + Files + Env + Drop> Repor
         }
     }
 
+    // Tells an answer that is about to be sent.
+    fn tell_answer(&mut self, conn: u32, answer: &[u8])
+        ensures { self.new.world ≡ self.old.world }
+    {
+        self.report.answer(conn, answer, &self.open);
+        self.open.answered(conn, answer);
+    }
+
     // Looks at what came.
     fn see(&mut self, alloc: Global, happening: &Happening)
         ensures { self.new.world ≡ self.old.world }
@@ -78,8 +86,10 @@ impl<'a, W: World + Drop, L: Words + Drop, R: Eprint + Files + Env + Drop> Repor
             self.is_open = true;
             self.tell_opening(alloc);
         }
-        if let Happening::Piece(conn, bytes) = happening {
-            self.last.see(*conn, bytes.bytes());
+        match happening {
+            Happening::Opened(conn, _) => self.open.open(alloc, *conn),
+            Happening::Piece(conn, bytes) => self.open.see(*conn, bytes.bytes()),
+            _ => {}
         }
     }
 }
@@ -106,7 +116,7 @@ impl<'a, W: World + Drop, L: Words + Drop, R: Eprint + Files + Env + Drop> World
     }
 
     fn send(&mut self, alloc: Global, conn: u32, bytes: &[u8]) -> Result<(), SendFault> {
-        self.report.answer(conn, bytes, &self.last);
+        self.tell_answer(conn, bytes);
         self.world.send(alloc, conn, bytes)
     }
 
@@ -117,7 +127,7 @@ impl<'a, W: World + Drop, L: Words + Drop, R: Eprint + Files + Env + Drop> World
         head: &[u8],
         body: &[u8],
     ) -> Result<(), SendFault> {
-        self.report.answer(conn, head, &self.last);
+        self.tell_answer(conn, head);
         self.world.send_both(alloc, conn, head, body)
     }
 

@@ -13,8 +13,14 @@ fn push(out: &mut Vec<u8>, bytes: &[u8]) -> Mem<()> {
     Ok(())
 }
 
-// What is wrong at a place of a text: a line that says so, and the text with a caret.
-fn push_placed(alloc: Global, out: &mut Vec<u8>, text: &[u8], at: usize, what: &[u8]) -> Mem<()> {
+/// What is wrong at a place of a text: a line that says so, and the text with a caret.
+pub fn push_placed(
+    alloc: Global,
+    out: &mut Vec<u8>,
+    text: &[u8],
+    at: usize,
+    what: &[u8],
+) -> Mem<()> {
     push_place(alloc, out, text, at)?;
     push(out, what)?;
     push(out, b"\n")?;

@@ -1,11 +1,12 @@
 //! Warnings, as lines.
 
+use crate::lines::push_placed;
 use any_config::AnyNode;
 use farm_members::passed_members;
 use resource_tree::Tree;
 use site_faults::{
-    IdleCause, MappingEnd, idle_entries, idle_hidings, lost_mappings, shared_claims,
-    unreached_scripts, unrendered_types,
+    IdleCause, MappingEnd, MatchFault, idle_entries, idle_hidings, idle_matches, lost_mappings,
+    shared_claims, unreached_scripts, unrendered_types,
 };
 use sp_base::{Mem, TextBuf};
 use std::alloc::Global;
@@ -87,7 +88,74 @@ fn warn_of_mappings(lines: &mut WarningLines, alloc: Global, tree: &Tree) -> Mem
             MappingEnd::InCircles => {
                 warn(lines, alloc, &[node, ": redirects in a circle"])?;
             }
+            MappingEnd::PassedOver(above) => {
+                warn(
+                    lines,
+                    alloc,
+                    &[
+                        node,
+                        ": maps nothing below ",
+                        above.as_text(),
+                        ", which has a sling:match",
+                    ],
+                )?;
+            }
         }
+    }
+    Ok(())
+}
+
+// What is wrong at a place of a text, without the end of its last line.
+fn placed(alloc: Global, text: &str, at: usize, what: &str) -> Mem<String> {
+    let mut bytes = Vec::new(alloc);
+    push_placed(alloc, &mut bytes, text.as_bytes(), at, what.as_bytes())?;
+    let mut shown = String::new(alloc);
+    if let Ok(lines) = str::from_utf8(&bytes) {
+        shown.push_str(lines.trim_end_matches('\n'))?;
+    }
+    Ok(shown)
+}
+
+fn warn_at(
+    lines: &mut WarningLines,
+    alloc: Global,
+    node: &str,
+    place: (&str, usize),
+    what: &str,
+) -> Mem<()> {
+    let shown = placed(alloc, place.0, place.1, what)?;
+    warn(lines, alloc, &[node, ":", shown.as_str()])
+}
+
+fn warn_of_match(
+    lines: &mut WarningLines,
+    alloc: Global,
+    node: &str,
+    fault: &MatchFault,
+) -> Mem<()> {
+    match fault {
+        MatchFault::Misplaced => {
+            let what =
+                ": sling:match counts directly below /etc/map/http alone; this node and all below it map nothing";
+            warn(lines, alloc, &[node, what])
+        }
+        MatchFault::NoText => warn(lines, alloc, &[node, ": sling:match is no text"]),
+        MatchFault::NoPattern(text, at) => {
+            let what = "no pattern of sling:match goes on with this";
+            warn_at(lines, alloc, node, (text.text(), *at), what)
+        }
+        MatchFault::TooDeep(text, at) => {
+            let what = "a pattern of sling:match nests deeper than 32 brackets";
+            warn_at(lines, alloc, node, (text.text(), *at), what)
+        }
+        MatchFault::NoTarget => warn(lines, alloc, &[node, ": sling:match without a target"]),
+    }
+}
+
+fn warn_of_matches(lines: &mut WarningLines, alloc: Global, tree: &Tree) -> Mem<()> {
+    let told = idle_matches(alloc, tree)?;
+    for idle in told.as_slice() {
+        warn_of_match(lines, alloc, idle.node.as_text(), &idle.fault)?;
     }
     Ok(())
 }
@@ -116,6 +184,7 @@ pub fn content_warnings(alloc: Global, tree: &Tree) -> Mem<WarningLines> {
     warn_of_types(&mut lines, alloc, tree)?;
     warn_of_claims(&mut lines, alloc, tree)?;
     warn_of_mappings(&mut lines, alloc, tree)?;
+    warn_of_matches(&mut lines, alloc, tree)?;
     warn_of_hidings(&mut lines, alloc, tree)?;
     Ok(lines)
 }

@@ -1,15 +1,20 @@
 //! Mappings that lead nowhere, or in a circle.
 ghost use Rattle.url_maps.specs.Claims.{IsIndexOf};
 
+use crate::pattern_samples::{Sample, sample_of};
 use overlay_merge::MergedView;
+use regex_rules::{Pattern, PatternFault};
 use resource_tree::{Node, Tree};
-use sp_base::{Items, Mem, Path, TextBuf, value_texts};
+use sp_base::{Items, Mem, NoMemory, Path, TextBuf, value_texts};
 use std::alloc::Global;
 use url_maps::{MapAnswer, MapIndex};
 use url_split::split;
 
 /// How many redirects a client follows before it gives up.
 const MOST_REDIRECTS: usize = 16;
+
+/// The depth of the nodes of hosts, and of those with a pattern: `/etc/map/http`, and their name.
+const HOST_DEPTH: usize = 4;
 
 /// Where a mapping leads.
 #[derive(Drop)]
@@ -20,6 +25,8 @@ pub enum MappingEnd {
     Nowhere(TextBuf),
     /// From redirect to redirect.
     InCircles,
+    /// Nowhere, since the node at this path, above it, has a `sling:match`.
+    PassedOver(Path),
 }
 
 /// A mapping that leads to no resource.
@@ -41,21 +48,27 @@ fn host_and_port(name: &str) -> Option<(&str, u16)> {
 }
 
 // Whether a path is that of a mapping: `/etc/map/http`, a name, and what follows.
-fn is_mapping_path(path: &Path) -> bool {
-    path.seg(0) == Some("etc") && path.seg(1) == Some("map") && path.seg(2) == Some("http")
+pub(crate) fn is_mapping_path(path: &Path) -> bool {
+    path.seg(0) == Some("etc")
+        && path.seg(1) == Some("map")
+        && path.seg(2) == Some("http")
+        && path.depth() >= HOST_DEPTH
 }
 
-// Whether a node leads somewhere by its path: what a pattern matches isn't told by one.
-fn is_mapping(node: &Node) -> bool {
-    let leads = !value_texts(node.props.get("sling:internalRedirect")).is_empty()
-        || node.props.text("sling:redirect").is_some();
-    leads && node.props.get("sling:match").is_none()
+// Whether a node has a target.
+pub(crate) fn leads(node: &Node) -> bool {
+    !value_texts(node.props.get("sling:internalRedirect")).is_empty()
+        || node.props.text("sling:redirect").is_some()
+}
+
+fn has_match(node: &Node) -> bool {
+    node.props.get("sling:match").is_some()
 }
 
 // What a mapping is asked for: its path below the name of its host and port.
 fn prefix_of(alloc: Global, path: &Path) -> Mem<TextBuf> {
     let mut text = String::new(alloc);
-    for place in 4..path.depth() {
+    for place in HOST_DEPTH..path.depth() {
         if let Some(segment) = path.seg(place) {
             text.push_str("/")?;
             text.push_str(segment)?;
@@ -108,30 +121,63 @@ fn inside_end(alloc: Global, tree: &Tree, text: TextBuf) -> Mem<MappingEnd> {
     }
 }
 
-// Tells the mapping at a path, where it leads to no resource.
-fn tell_mapping(
-    told: &mut LostMappingList,
+// The path of the node above a mapping for whose `sling:match` it is passed over.
+fn passed_over_for(alloc: Global, tree: &Tree, path: &Path) -> Mem<Option<Path>> {
+    for depth in HOST_DEPTH..path.depth() {
+        let above = path.first(alloc, depth)?;
+        if let Some(node) = tree.node(&above) {
+            if has_match(node) {
+                return Ok(Some(above));
+            }
+        }
+    }
+    Ok(None)
+}
+
+// Where a mapping by its path leads.
+fn plain_end(alloc: Global, tree: &Tree, index: &MapIndex, path: &Path) -> Mem<MappingEnd>
+    requires { IsIndexOf tree.now index.now }
+{
+    if let Some(above) = passed_over_for(alloc, tree, path)? {
+        return Ok(MappingEnd::PassedOver(above));
+    }
+    match path.seg(3) {
+        Some(name) => match host_and_port(name) {
+            Some(asked) => end_of(alloc, tree, index, asked, prefix_of(alloc, path)?),
+            None => Ok(MappingEnd::Somewhere),
+        },
+        None => Ok(MappingEnd::Somewhere),
+    }
+}
+
+// Where a mapping by a pattern leads, by a text that it matches. What is wrong with the pattern itself is told elsewhere.
+fn pattern_end(
     alloc: Global,
     tree: &Tree,
     index: &MapIndex,
     path: &Path,
-) -> Mem<()>
+    node: &Node,
+) -> Mem<MappingEnd>
     requires { IsIndexOf tree.now index.now }
 {
-    let Some(name) = path.seg(3) else {
-        return Ok(());
-    };
-    let Some(asked) = host_and_port(name) else {
-        return Ok(());
-    };
-    let end = end_of(alloc, tree, index, asked, prefix_of(alloc, path)?)?;
-    if !matches!(end, MappingEnd::Somewhere) {
-        told.push(LostMapping {
-            node: path.duplicate(alloc)?,
-            end,
-        })?;
+    if path.depth() != HOST_DEPTH {
+        return Ok(MappingEnd::Somewhere);
     }
-    Ok(())
+    let Some(text) = node.props.text("sling:match") else {
+        return Ok(MappingEnd::Somewhere);
+    };
+    let pattern = match Pattern::read(alloc, text.text()) {
+        Ok(pattern) => pattern,
+        Err(PatternFault::NoMemory) => return Err(NoMemory),
+        Err(_) => return Ok(MappingEnd::Somewhere),
+    };
+    let Some(Sample { host, path }) = sample_of(alloc, &pattern, text.text())? else {
+        return Ok(MappingEnd::Somewhere);
+    };
+    match host_and_port(host.text()) {
+        Some(asked) => end_of(alloc, tree, index, asked, path),
+        None => Ok(MappingEnd::Somewhere),
+    }
 }
 
 /// The mappings that lead to no resource, in no order that is promised.
@@ -140,8 +186,18 @@ pub fn lost_mappings(alloc: Global, tree: &Tree) -> Mem<LostMappingList> {
     let mut told = Items::new(alloc);
     let rows = tree.rows(alloc)?;
     for row in rows.as_slice() {
-        if is_mapping_path(row.0) && is_mapping(row.1) {
-            tell_mapping(&mut told, alloc, tree, &index, row.0)?;
+        if is_mapping_path(row.0) && leads(row.1) {
+            let end = if has_match(row.1) {
+                pattern_end(alloc, tree, &index, row.0, row.1)?
+            } else {
+                plain_end(alloc, tree, &index, row.0)?
+            };
+            if !matches!(end, MappingEnd::Somewhere) {
+                told.push(LostMapping {
+                    node: row.0.duplicate(alloc)?,
+                    end,
+                })?;
+            }
         }
     }
     Ok(told)

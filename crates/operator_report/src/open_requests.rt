@@ -1,0 +1,164 @@
+//! The requests that are to be answered.
+
+use crate::fault_answers::AnswerTo;
+use crate::request_head::{asked_in, body_to_come};
+use std::alloc::Global;
+
+/// The most bytes of a method and a target that are told.
+const MOST_TOLD: usize = 200;
+
+/// Connections with this number and above are not looked at: a server has none.
+const MOST_CONNECTIONS: usize = 1_024;
+
+/// How an answer begins after which another comes to the same request.
+const INTERIM: &[u8] = b"HTTP/1.1 1";
+
+/// The path of a flush, as clients spell it. It may be spelled with escapes too.
+const FLUSH: &str = "/dispatcher/invalidate.cache";
+
+// What is known of the requests of a connection.
+#[derive(Clone, Copy, Drop)]
+enum Known {
+    /// All that came were answered, and what comes next begins one.
+    Answered,
+    /// The first that isn't answered, and how many bytes of its body are to come; none where what comes after it isn't known.
+    Asked(Option<usize>),
+    Nothing,
+}
+
+#[derive(Drop)]
+struct Connection {
+    known: Known,
+    // The method and the target of what was asked last. Printable ASCII alone.
+    text: String,
+}
+
+fn printed(byte: u8) -> char {
+    match byte {
+        b' '..=b'~' => byte as char,
+        _ => '?',
+    }
+}
+
+impl Connection {
+    fn new(alloc: Global) -> Connection {
+        Connection {
+            known: Known::Nothing,
+            text: String::new(alloc),
+        }
+    }
+
+    fn see(&mut self, piece: &[u8]) {
+        self.known = match self.known {
+            Known::Answered => self.begin(piece),
+            Known::Asked(Some(left)) => Known::Asked(left.checked_sub(piece.len())),
+            known => known,
+        };
+    }
+
+    // Looks at a piece with which a request begins.
+    fn begin(&mut self, piece: &[u8]) -> Known {
+        let Some(asked) = asked_in(piece) else {
+            return Known::Nothing;
+        };
+        self.text.clear();
+        for byte in asked.iter().take(MOST_TOLD) {
+            // Without memory for it less is told.
+            let _ = self.text.push(printed(*byte));
+        }
+        Known::Asked(body_to_come(piece))
+    }
+
+    // What follows an answer begins a request only where nothing else came with what was asked, and all of it came.
+    fn answered(&mut self) {
+        self.known = match self.known {
+            Known::Asked(Some(0)) => Known::Answered,
+            _ => Known::Nothing,
+        };
+    }
+}
+
+/// For each connection the request that is answered next, where that is known for sure.
+#[derive(Drop)]
+pub struct OpenRequests {
+    // By their numbers.
+    connections: Vec<Connection>,
+}
+
+// What an answer to this method and this target is to.
+fn answer_to(asked: &str) -> AnswerTo {
+    let target = match asked.find(' ') {
+        Some(blank) => &asked[blank + 1..],
+        None => return AnswerTo::Unknown,
+    };
+    let path = match target.find('?') {
+        Some(query) => &target[..query],
+        None => target,
+    };
+    if path == FLUSH {
+        AnswerTo::Flush
+    } else if path.contains('%') {
+        AnswerTo::Unknown
+    } else {
+        AnswerTo::Page
+    }
+}
+
+impl OpenRequests {
+    pub fn new(alloc: Global) -> OpenRequests {
+        OpenRequests {
+            connections: Vec::new(alloc),
+        }
+    }
+
+    /// Takes note of a connection that was opened. A number may be that of one that is over.
+    pub fn open(&mut self, alloc: Global, conn: u32) {
+        let place = conn as usize;
+        if place >= MOST_CONNECTIONS {
+            return;
+        }
+        for _ in self.connections.len()..place + 1 {
+            // Without memory for it nothing is known of it.
+            if self.connections.push(Connection::new(alloc)).is_err() {
+                return;
+            }
+        }
+        if let Some(connection) = self.connections.get_mut(place) {
+            connection.known = Known::Answered;
+        }
+    }
+
+    /// Looks at a piece that was read.
+    pub fn see(&mut self, conn: u32, piece: &[u8]) {
+        if let Some(connection) = self.connections.get_mut(conn as usize) {
+            connection.see(piece);
+        }
+    }
+
+    /// Takes note of an answer that was sent.
+    pub fn answered(&mut self, conn: u32, answer: &[u8]) {
+        if answer.starts_with(INTERIM) {
+            return;
+        }
+        if let Some(connection) = self.connections.get_mut(conn as usize) {
+            connection.answered();
+        }
+    }
+
+    /// The method and the target of the request that is answered next, where that is known.
+    pub fn asked(&self, conn: u32) -> Option<&str> {
+        let connection = self.connections.get(conn as usize)?;
+        match connection.known {
+            Known::Asked(_) if !connection.text.is_empty() => Some(connection.text.as_str()),
+            _ => None,
+        }
+    }
+
+    /// What the next answer is to.
+    pub fn answer_to(&self, conn: u32) -> AnswerTo {
+        match self.asked(conn) {
+            Some(asked) => answer_to(asked),
+            None => AnswerTo::Unknown,
+        }
+    }
+}

@@ -1,0 +1,148 @@
+//! A text for each pattern that it matches, if one is easily found.
+
+use regex_rules::Pattern;
+use sp_base::{Mem, TextBuf};
+use std::alloc::Global;
+
+/// The host that is tried where a pattern names none.
+const USUAL_HOST: &str = "localhost.80";
+
+/// What stands for any character.
+const ANY: char = 'a';
+
+// Where a character of a pattern stands.
+#[derive(Clone, Copy, Drop)]
+enum Within {
+    Row,
+    Escape,
+    /// After the `[` of a class.
+    ClassStart,
+    ClassStartEscape,
+    Class,
+    ClassEscape,
+}
+
+// What a pattern's characters spell, with each sign for a repeat taken for once, and of rows and classes the first.
+#[derive(Drop)]
+struct Sampler {
+    text: String,
+    within: Within,
+    // Where a row that isn't the first is passed over, how many brackets are open in it.
+    passed: Option<usize>,
+}
+
+impl Sampler {
+    fn put(&mut self, character: char) -> Mem<()> {
+        if self.passed.is_none() {
+            self.text.push(character)?;
+        }
+        Ok(())
+    }
+
+    fn open(&mut self) {
+        self.passed = self.passed.map(|depth| depth.saturating_add(1));
+    }
+
+    fn close(&mut self) {
+        self.passed = match self.passed {
+            Some(0) | None => None,
+            Some(depth) => Some(depth - 1),
+        };
+    }
+
+    fn part(&mut self) {
+        if self.passed.is_none() {
+            self.passed = Some(0);
+        }
+    }
+
+    // Takes a character that stands in a row.
+    fn take_in_row(&mut self, character: char) -> Mem<Within> {
+        match character {
+            '\\' => return Ok(Within::Escape),
+            '[' => return Ok(Within::ClassStart),
+            '(' => self.open(),
+            ')' => self.close(),
+            '|' => self.part(),
+            '*' | '+' | '?' | '^' | '$' => {}
+            '.' => self.put(ANY)?,
+            _ => self.put(character)?,
+        }
+        Ok(Within::Row)
+    }
+
+    fn take(&mut self, character: char) -> Mem<()> {
+        self.within = match (self.within, character) {
+            (Within::Row, _) => self.take_in_row(character)?,
+            (Within::Escape, _) => {
+                self.put(character)?;
+                Within::Row
+            }
+            (Within::ClassStart, '\\') => Within::ClassStartEscape,
+            (Within::ClassStart, '^') => {
+                self.put(ANY)?;
+                Within::Class
+            }
+            (Within::ClassStart, _) | (Within::ClassStartEscape, _) => {
+                self.put(character)?;
+                Within::Class
+            }
+            (Within::Class, ']') => Within::Row,
+            (Within::Class, '\\') => Within::ClassEscape,
+            (Within::Class, _) | (Within::ClassEscape, _) => Within::Class,
+        };
+        Ok(())
+    }
+}
+
+// What is put together from a pattern's text.
+fn spelled(alloc: Global, pattern: &str) -> Mem<String> {
+    let mut sampler = Sampler {
+        text: String::new(alloc),
+        within: Within::Row,
+        passed: None,
+    };
+    for character in pattern.chars() {
+        sampler.take(character)?;
+    }
+    Ok(sampler.text)
+}
+
+/// A host with its port, and a path at it.
+#[derive(Drop)]
+pub struct Sample {
+    pub host: TextBuf,
+    pub path: TextBuf,
+}
+
+fn sample_at(alloc: Global, pattern: &Pattern, host: &str, path: &str) -> Mem<Option<Sample>> {
+    let mut whole = String::from_str(alloc, host)?;
+    whole.push_str(path)?;
+    if !pattern.matches(alloc, whole.as_str())? {
+        return Ok(None);
+    }
+    Ok(Some(Sample {
+        host: TextBuf::of(alloc, host)?,
+        path: TextBuf::of(alloc, path)?,
+    }))
+}
+
+/// A host with its port and a path that the pattern matches, if the first rows spell one. The text is that of the pattern.
+pub fn sample_of(alloc: Global, pattern: &Pattern, text: &str) -> Mem<Option<Sample>> {
+    let whole = spelled(alloc, text)?;
+    let whole = whole.as_str();
+    let (host, path) = match whole.find('/') {
+        Some(at) => (&whole[..at], &whole[at..]),
+        None => (whole, ""),
+    };
+    let has_port = match host.rfind('.') {
+        Some(at) => host[at + 1..].parse::<u16>().is_ok(),
+        None => false,
+    };
+    sample_at(
+        alloc,
+        pattern,
+        if has_port { host } else { USUAL_HOST },
+        path,
+    )
+}

@@ -134,7 +134,7 @@ pub fn a_session_begins_in_a_legal_log()
     ensures first { (farm : Farm) (epoch : ℕ) → IsLegal farm (Session epoch ∷ []) }
 {}
 
-/// No files hold the empty log.
+/// A document root without files holds the empty log.
 pub fn no_files_hold_the_empty_log()
     ensures { (farm : Farm) → HoldsClosed farm empty [] }
 {

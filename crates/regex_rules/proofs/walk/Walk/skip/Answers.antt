@@ -15,8 +15,7 @@ returns-then-not-is_idle-clause-same c = c.loop-at.invariant.2
 
 pub loop-at-preserved : goal.loop-at-preserved
 loop-at-preserved c =
-    let later = c.loop-at.invariant.0 in
-    (
+    let later = c.loop-at.invariant.0 in (
       omega (arith, later),
       ap (λ (k : Walk). k.level.here) c.in_ok-pass_idle.ensures,
       λ n. idle_walked n c.args.places.now c.args.olds.now c.loop-at.at c.index-places-at.result (get_or c.args.olds.now c.loop-at.at false) c.loop-at.self c.pass_idle.new.self

@@ -5,7 +5,6 @@ pub mod MarkLemmas
 pub mod MatchLemmas
 pub mod OffLemmas
 pub mod LostLemmas
-pub mod IdleLemmas
 pub mod FrontLemmas
 pub mod DecidingLemmas
 pub mod LeadLemmas

@@ -36,7 +36,7 @@ record Lost (level : Level) (around : List Frame) (marks : List Bool) : Type 0 w
 abbrev IsLost : Walk → Type 0
 IsLost walk = Lost walk.level walk.around walk.marks
 
-pub none_takes : (here again fits : Bool) → here ≡ false → ((here || (again && false)) && fits) ≡ false
+none_takes : (here again fits : Bool) → here ≡ false → ((here || (again && false)) && fits) ≡ false
 none_takes false true fits e = refl
 none_takes false false fits e = refl
 none_takes true again fits e = absurd cc
@@ -45,11 +45,11 @@ none_past : (b lacks more : Bool) → b ≡ false → more ≡ false → ((b && 
 none_past false lacks more e f = f
 none_past true lacks more e f = absurd cc
 
-pub none_or : (a b : Bool) → a ≡ false → b ≡ false → (a || b) ≡ false
+none_or : (a b : Bool) → a ≡ false → b ≡ false → (a || b) ≡ false
 none_or false b e f = f
 none_or true b e f = absurd cc
 
-pub none_and : (a b : Bool) → b ≡ false → (a && b) ≡ false
+none_and : (a b : Bool) → b ≡ false → (a && b) ≡ false
 none_and true b e = e
 none_and false b e = refl
 

@@ -1,6 +1,6 @@
 -- What the functions that match promise one another: one step of a match goes over the places of a pattern once, with one more character of the text.
 -- A reader of what a pattern matches needs none of it.
-use Rattle.std.specs.Prelude.{ℕ, Bool, true, false, ◌&&◌, ◌||◌, not, List, [], ◌∷◌, ◌++◌, length, set}
+use Rattle.std.specs.Prelude.{ℕ, Bool, true, false, ◌&&◌, ◌||◌, List, [], ◌∷◌, ◌++◌, length, set}
 use Rattle.regex_rules.specs.declared.repeat.Repeat.{Repeat}
 use Rattle.regex_rules.specs.declared.place.Place.{Place}
 use Rattle.regex_rules.specs.declared.place.Place.TheVariants.{One, Open, Bar, Close}
@@ -76,28 +76,6 @@ past_place c (One one repeat) old walk = past_one (is_one one c) repeat old walk
 past_place c Open old walk = past_open old walk
 past_place c Bar old walk = past_bar walk
 past_place c (Close repeat) old walk = past_close repeat old walk
-
--- one character that has to stand at its place, which the text before didn't reach
-abbrev pub is_idle : Place → Bool → Bool
-is_idle (One one repeat) old = not (may_lack repeat || old)
-is_idle Open old = false
-is_idle Bar old = false
-is_idle (Close repeat) old = false
-
--- past such a place, where the text doesn't reach the one before it
-abbrev pub past_idle : Walk → Walk
-past_idle walk = record {
-  level = record {
-    enters = walk.level.enters;
-    here = false;
-    arrives = false;
-    lacks = false;
-    earlier_arrives = walk.level.earlier_arrives;
-    earlier_lacks = walk.level.earlier_lacks;
-  };
-  around = walk.around;
-  marks = walk.marks ++ false ∷ [];
-}
 
 -- past all these places, by their old marks
 unfoldable pub walked : ℕ → List Place → List Bool → Walk → Walk

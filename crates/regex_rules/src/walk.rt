@@ -1,5 +1,5 @@
 //! One step of a match: over the places of a pattern once, with one more character of the text.
-ghost use Rattle.std.specs.Prelude.{◌≡◌, ◌≤◌, ℕ, [], IfOk, OnOk, drop, length};
+ghost use Rattle.std.specs.Prelude.{◌≡◌, ◌≤◌, [], OnOk, length};
 ghost use Rattle.regex_rules.specs.Languages.{is_one};
 ghost use Rattle.regex_rules.specs.Walks as spec;
 
@@ -59,16 +59,6 @@ fn next_row(level: Level) -> Level
     }
 }
 
-// Whether a character has to stand at this place, which the text before didn't reach.
-fn is_idle(place: &Place, old: bool) -> bool
-    ensures { result ≡ spec.is_idle place.now old }
-{
-    match place {
-        Place::One(_, repeat) => !(repeat.may_lack() || old),
-        _ => false,
-    }
-}
-
 impl Walk {
     // The character is looked at only where the text reaches the place.
     fn pass_one(&mut self, c: char, one: &OneChar, repeat: Repeat, old: bool) -> Mem<()>
@@ -123,39 +113,6 @@ impl Walk {
         }
     }
 
-    fn pass_idle(&mut self) -> Mem<()>
-        ensures { OnOk result (self.new ≡ spec.past_idle self.old) }
-    {
-        self.level = Level {
-            enters: self.level.enters,
-            here: false,
-            arrives: false,
-            lacks: false,
-            earlier_arrives: self.level.earlier_arrives,
-            earlier_lacks: self.level.earlier_lacks,
-        };
-        self.marks.push(false)
-    }
-
-    // Goes over the places that the text can't reach by one more character: up to which one.
-    fn skip(&mut self, places: &[Place], olds: &[bool], from: usize) -> Mem<usize>
-        ensures later { IfOk result (λ at. from ≤ at) }
-        ensures same { IfOk result (λ at. (c : ℕ) → spec.walked c (drop at places.now) (drop at olds.now) self.new ≡ spec.walked c (drop from places.now) (drop from olds.now) self.old) }
-    {
-        let mut at = from;
-        if self.level.here {
-            return Ok(at);
-        }
-        while at < places.len() && at < olds.len() {
-            if !is_idle(&places[at], olds[at]) {
-                return Ok(at);
-            }
-            self.pass_idle()?;
-            at += 1;
-        }
-        Ok(at)
-    }
-
     /// Goes over all places with this character, from the marks of the text before it.
     pub(crate) fn go(&mut self, c: char, places: &[Place], olds: &[bool], enters: bool) -> Mem<()>
         ensures { OnOk result (self.new ≡ spec.walked c places.now olds.now (spec.at (spec.begun enters) [] [])) }
@@ -163,10 +120,10 @@ impl Walk {
         self.level = begun(enters);
         self.around.clear();
         self.marks.clear();
-        let mut at = self.skip(places, olds, 0)?;
+        let mut at = 0;
         while at < places.len() && at < olds.len() {
             self.pass(c, &places[at], olds[at])?;
-            at = self.skip(places, olds, at + 1)?;
+            at += 1;
         }
         Ok(())
     }

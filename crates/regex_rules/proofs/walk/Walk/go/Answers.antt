@@ -1,7 +1,4 @@
-use Rattle.std.proofs.Common.{◌∙◌, sym, ap, refl, arith, Bool, List, [], false, get_or}
-use Rattle.regex_rules.specs.declared.level.Level.{Level}
-use Rattle.regex_rules.specs.declared.level.Frame.{Frame}
-use Rattle.regex_rules.specs.declared.walk.Walk.{Walk}
+use Rattle.std.proofs.Common.{◌∙◌, sym, refl, arith, [], false, get_or}
 use Rattle.regex_rules.specs.Walks.{walked, at, begun}
 use Rattle.regex_rules.proofs.WalkLemmas.{over_places, over_marks, walked_on}
 use Rattle.regex_rules.proofs.walk.Walk.go.Goals as goal
@@ -12,16 +9,7 @@ returns-else-at-olds c = sym (over_marks c.args.c c.args.places.now c.args.olds.
 pub returns-after-loop-at : goal.returns-after-loop-at
 returns-after-loop-at c = sym (over_places c.args.c c.args.places.now c.args.olds.now c.loop-at.at c.loop-at.self (omega arith)) ∙ c.loop-at.invariant
 
-pub loop-at-init : goal.loop-at-init
-loop-at-init c =
-    let walk : Level → List Frame → List Bool → Walk = λ level around marks. walked c.args.c c.args.places.now c.args.olds.now (at level around marks) in
-    c.in_ok-at.ensures.same c.args.c
-    ∙ ap (λ level. walk level c.clear.new.self c.clear-2.new.self) c.begun-self.ensures
-    ∙ ap (λ around. walk (begun c.args.enters) around c.clear-2.new.self) c.clear.ensures
-    ∙ ap (λ marks. walk (begun c.args.enters) [] marks) c.clear-2.ensures
-
 pub loop-at-preserved : goal.loop-at-preserved
 loop-at-preserved c =
-    c.in_ok-at-2.ensures.same c.args.c
-    ∙ walked_on c.args.c c.args.places.now c.args.olds.now c.loop-at.at c.index-places-at.result (get_or c.args.olds.now c.loop-at.at false) c.loop-at.self c.pass.new.self
+    walked_on c.args.c c.args.places.now c.args.olds.now c.loop-at.at c.index-places-at.result (get_or c.args.olds.now c.loop-at.at false) c.loop-at.self c.pass.new.self
     (walked c.args.c c.args.places.now c.args.olds.now (at (begun c.args.enters) [] [])) c.loop-at-test.true c.if-at-olds.true c.index-places-at.is refl c.in_ok-pass.ensures c.loop-at.invariant

@@ -25,10 +25,6 @@ impl Ready {
         self.queue.is_empty()
     }
 
-    pub fn len(&self) -> usize {
-        self.queue.len()
-    }
-
     /// Puts a place at the end, where it isn't among them.
     pub fn push(&mut self, place: u32) -> Mem<()> {
         let Some(queued) = self.queued.get_mut(place as usize) else {

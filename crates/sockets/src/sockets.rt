@@ -25,6 +25,9 @@ const LISTENER: u32 = MOST_PLACES;
 /// The most events that one wait tells of.
 const MOST_EVENTS: usize = 256;
 
+/// The most turns between two looks at what the system tells.
+const MOST_TURNS: u32 = 64;
+
 /// How long one wait may be, in milliseconds.
 const LONGEST_WAIT: u64 = 100;
 
@@ -40,9 +43,8 @@ pub(crate) struct Sockets {
     places: Places,
     ready: Ready,
     buffer: ReadBuffer,
-    // How many turns there are until the next wait: one for each place that was ready after the last, so that none has two before another
-    // that is ready has one.
-    turns: usize,
+    // How many turns there were since the last wait.
+    turns: u32,
     // The time at the last wait.
     now: Duration,
     // The time of the last look at who is silent.
@@ -94,12 +96,11 @@ impl Sockets {
     ) -> Result<Happening, WorldFault>
         ensures { IfOk result HasSize }
     {
-        if self.ready.is_empty() || self.turns == 0 {
+        if self.ready.is_empty() || self.turns >= MOST_TURNS {
             self.wait(clock, self.patience(work))?;
             self.look_round()?;
-            self.turns = self.ready.len();
         }
-        self.turns = self.turns.saturating_sub(1);
+        self.turns = self.turns.saturating_add(1);
         match self.ready.pop() {
             None => Ok(Happening::Quiet),
             Some(LISTENER) => Ok(self.accept(alloc)?),
@@ -117,6 +118,7 @@ impl Sockets {
 
     // Waits for what the system tells, and takes it.
     fn wait<C: Clock>(&mut self, clock: &C, longest: Duration) -> Result<(), WorldFault> {
+        self.turns = 0;
         if let Err(fault) = self.poll.poll(&mut self.events, Some(longest)) {
             return Err(world_fault(&fault));
         }

@@ -62,6 +62,10 @@ files_read notes farm key files = head_file notes key ++ files_under notes farm 
 
 -- ---- the calls that read them
 
+-- the calls that read these files
+abbrev pub gets : List Text → List (Bool → Call)
+gets names = map (λ name. Get name) names
+
 -- The first of these files were read, or none, and at the next one the disk failed.
 abbrev pub FailsAt : Option (List Call) → Option (List Call) → List Text → Type 0
 FailsAt asked made [] = ⊥
@@ -72,12 +76,12 @@ FailsAt asked made (name ∷ names) = (made ≡ told_call asked (Get name false)
 abbrev pub AreRead : {T : Type 0} → Option (List Call) → Option (List Call) → List Text → Result T FileFault → Type 0
 AreRead asked made names (Ok _) = made ≡ told_calls asked (map (λ name. Get name true) names)
 AreRead asked made names (Err Disk) = FailsAt asked made names
-AreRead asked made names (Err NoMemory) = MadeFirst asked made (map Get names)
+AreRead asked made names (Err NoMemory) = MadeFirst asked made (gets names)
 
 -- Which calls a look at a page made: of the files that it may read the first ones were read, whatever is noted; and where the notes agree with the
 -- files that the disk tells, those were read that it reads over them.
 pub record ReadsPage {T : Type 0} (told : Option Files) (asked made : Option (List Call)) (notes : PageIndex) (farm : Farm) (key : PageKey) (result : Result T FileFault) : Type 0 where
-  pub first : MadeFirst asked made (map Get (page_files notes farm key))
+  pub first : MadeFirst asked made (gets (page_files notes farm key))
   pub read : IfAgreed told notes (λ files. AreRead asked made (files_read notes farm key files) result)
 
 -- ---- the calls of a request

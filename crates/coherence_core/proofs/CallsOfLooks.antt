@@ -127,7 +127,7 @@ known_body notes key page is = ap (λ (o : Option Page). unless_noted o (page_bo
 known_head : (notes : PageIndex) (key : PageKey) (page : Page) → known_page notes key ≡ Some page → head_file notes key ≡ []
 known_head notes key page is = of_note (page_noted notes key) is
   where
-    of_note : (o : Option PageNote) → option_and_then page_from o ≡ Some page → unless_noted (option_map (λ note. note.head) o) (page_head_name key) ≡ []
+    of_note : (o : Option PageNote) → option_and_then page_from o ≡ Some page → unless_noted (option_map (λ (note : PageNote). note.head) o) (page_head_name key) ≡ []
     of_note None e = absurd (cc e)
     of_note (Some note) e = refl
 
@@ -165,8 +165,8 @@ look_known law told asked made notes farm key good page known result reads = rec
 -- the head couldn't be read
 pub look_headfault : {A B : Type 0} (told : Option Files) (asked made : Told) (notes : PageIndex) (farm : Farm) (key : PageKey) (fault : FileFault) → AreRead {T = A} asked made (head_file notes key) (Err fault) → ReadsPage {T = B} told asked made notes farm key (Err fault)
 look_headfault {A} {B} told asked made notes farm key fault reads = record {
-  first = read_first {A} (Err fault) (head_file notes key) (stat_file notes farm key ++ body_file notes key) asked made reads;
-  read = agreed_of told notes (λ files. AreRead {T = B} asked made (files_read notes farm key files) (Err fault)) (λ files agrees. read_more {A} {B} fault (head_file notes key) (files_under notes farm key files (head_at files key)) asked made reads);
+  first = read_first {A = A} (Err fault) (head_file notes key) (stat_file notes farm key ++ body_file notes key) asked made reads;
+  read = agreed_of told notes (λ files. AreRead {T = B} asked made (files_read notes farm key files) (Err fault)) (λ files agrees. read_more {A = A} {B = B} fault (head_file notes key) (files_under notes farm key files (head_at files key)) asked made reads);
 }
 
 -- there is no head
@@ -198,10 +198,10 @@ outdated_before look looks told mid same old new notes head is outdated = subst 
 -- the .stat file couldn't be read
 pub look_statfault : {A B C : Type 0} (told : Option Files) (asked mid made : Told) (notes : PageIndex) (farm : Farm) (key : PageKey) (head : HeadNote) (a : A) (fault : FileFault) → AreRead asked mid (head_file notes key) (Ok a) → IfAgreed told notes (λ files. head_at files key ≡ Some head)
     → AreRead {T = B} mid made (stat_file notes farm key) (Err fault) → ReadsPage {T = C} told asked made notes farm key (Err fault)
-look_statfault {A} {B} {C} told asked mid made notes farm key head a fault reads there stat = under_head {A} {C} told asked mid made notes farm key head a (Err fault) reads there
-    (read_first {B} (Err fault) (stat_file notes farm key) (body_file notes key) mid made stat)
+look_statfault {A} {B} {C} told asked mid made notes farm key head a fault reads there stat = under_head {A = A} {B = C} told asked mid made notes farm key head a (Err fault) reads there
+    (read_first {A = B} (Err fault) (stat_file notes farm key) (body_file notes key) mid made stat)
     (agreed_of told notes (λ files. AreRead {T = C} mid made (files_under notes farm key files (Some head)) (Err fault))
-    (λ files agrees. read_more {B} {C} fault (stat_file notes farm key) (if is_outdated farm.level (is_auto farm key) files key head.stamp then [] else body_file notes key) mid made stat))
+    (λ files agrees. read_more {A = B} {B = C} fault (stat_file notes farm key) (if is_outdated farm.level (is_auto farm key) files key head.stamp then [] else body_file notes key) mid made stat))
 
 -- the page is outdated
 pub look_stale : {A B C : Type 0} (told : Option Files) (asked mid made : Told) (notes : PageIndex) (farm : Farm) (key : PageKey) (head : HeadNote) (a : A) (b : B) (c : C) → AreRead asked mid (head_file notes key) (Ok a) → IfAgreed told notes (λ files. head_at files key ≡ Some head)
@@ -256,19 +256,19 @@ ended_ok told asked made notes farm key a requested failed reads = subst (λ (r 
 look_err : {A B : Type 0} (told : Option Files) (asked made : Told) (notes : PageIndex) (farm : Farm) (key : PageKey) (fault : FileFault) → ReadsPage {T = A} told asked made notes farm key (Err fault) → ReadsPage {T = B} told asked made notes farm key (Err fault)
 look_err {A} {B} told asked made notes farm key fault reads = record {
   first = reads.first;
-  read = agreed_map told notes (λ files. AreRead {T = A} asked made (files_read notes farm key files) (Err fault)) (λ files. AreRead {T = B} asked made (files_read notes farm key files) (Err fault)) (λ files agrees is. read_err {A} {B} fault (files_read notes farm key files) asked made is) reads.read;
+  read = agreed_map told notes (λ files. AreRead {T = A} asked made (files_read notes farm key files) (Err fault)) (λ files. AreRead {T = B} asked made (files_read notes farm key files) (Err fault)) (λ files agrees is. read_err {A = A} {B = B} fault (files_read notes farm key files) asked made is) reads.read;
 }
 
 pub ended_disk : {A : Type 0} (told : Option Files) (asked made : Told) (notes : PageIndex) (farm : Farm) (key : PageKey) (requested : Requested) → requested.disk_failed ≡ true → ReadsPage {T = A} told asked made notes farm key (Err file_fault.Disk) → ReadsPage told asked made notes farm key (ended_as requested)
-ended_disk {A} told asked made notes farm key requested failed reads = subst (λ (r : Result ⊤ FileFault). ReadsPage told asked made notes farm key r) (sym (as_disk requested failed)) (look_err {A} {⊤} told asked made notes farm key file_fault.Disk reads)
+ended_disk {A} told asked made notes farm key requested failed reads = subst (λ (r : Result ⊤ FileFault). ReadsPage told asked made notes farm key r) (sym (as_disk requested failed)) (look_err {A = A} {B = ⊤} told asked made notes farm key file_fault.Disk reads)
 
 pub ended_dry : {A : Type 0} (told : Option Files) (asked made : Told) (notes : PageIndex) (farm : Farm) (key : PageKey) (requested : Requested) → requested.disk_failed ≡ false → requested.got ≡ got.NoMemory → ReadsPage {T = A} told asked made notes farm key (Err file_fault.NoMemory) → ReadsPage told asked made notes farm key (ended_as requested)
-ended_dry {A} told asked made notes farm key requested failed dry reads = subst (λ (r : Result ⊤ FileFault). ReadsPage told asked made notes farm key r) (sym (as_dry requested failed dry)) (look_err {A} {⊤} told asked made notes farm key file_fault.NoMemory reads)
+ended_dry {A} told asked made notes farm key requested failed dry reads = subst (λ (r : Result ⊤ FileFault). ReadsPage told asked made notes farm key r) (sym (as_dry requested failed dry)) (look_err {A = A} {B = ⊤} told asked made notes farm key file_fault.NoMemory reads)
 
 -- memory ran out before anything was asked, whatever the request is for
 pub asks_unbegun : (told : Option Files) (asked : Told) (core : Core) (key : Option PageKey) (requested : Requested) → requested.disk_failed ≡ false → requested.got ≡ got.NoMemory → AsksDisk told asked asked core key requested
 asks_unbegun told asked core None requested failed dry = refl
-asks_unbegun told asked core (Some key) requested failed dry = ended_dry {⊤} told asked asked core.pages core.farm key requested failed dry (look_unbegun {⊤} told asked core.pages core.farm key)
+asks_unbegun told asked core (Some key) requested failed dry = ended_dry {A = ⊤} told asked asked core.pages core.farm key requested failed dry (look_unbegun {A = ⊤} told asked core.pages core.farm key)
 
 pub asks_none : (told : Option Files) (asked : Told) (core : Core) (key : Option PageKey) (requested : Requested) → key ≡ None → AsksDisk told asked asked core key requested
 asks_none told asked core key requested is = subst (λ (k : Option PageKey). AsksDisk told asked asked core k requested) (sym is) refl

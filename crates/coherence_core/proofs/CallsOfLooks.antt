@@ -45,15 +45,15 @@ all_got names = map (λ name. Get name true) names
 
 -- ---- one call
 
-pub one_read : {T : Type 0} (result : Result T FileFault) (asked made : Told) (name : Text) → IfOk result (λ _. made ≡ told_call asked (Get name true)) → IfErr result (IsCallLeft asked made (Get name)) → AreRead asked made (name ∷ []) result
-one_read (Ok value) asked made name ok err = ok
-one_read (Err file_fault.Disk) asked made name ok err = ⊎_elim (λ none. absurd (cc none.0)) (λ more. ⊎_elim (λ failed. inl failed) (λ done. absurd (cc done.0)) more) err
-one_read (Err file_fault.NoMemory) asked made name ok err = ⊎_elim (λ none. inl none.1) (λ more. ⊎_elim (λ failed. inr (inl failed)) (λ done. inr (inr done.1)) more) err
+-- a reading by one call failed
+pub err_read : (fault : FileFault) (asked made : Told) (name : Text) → IsCallLeft asked made (Get name) fault → AreRead {T = ⊤} asked made (name ∷ []) (Err fault)
+err_read file_fault.Disk asked made name err = ⊎_elim (λ none. absurd (cc none.0)) (λ more. ⊎_elim (λ failed. inl failed) (λ done. absurd (cc done.0)) more) err
+err_read file_fault.NoMemory asked made name err = ⊎_elim (λ none. inl none.1) (λ more. ⊎_elim (λ failed. inr (inl failed)) (λ done. inr (inr done.1)) more) err
 
-pub stamp_read_once : {T : Type 0} (result : Result T FileFault) (asked made : Told) (name : Text) → IsOneCall asked made (Get name) result → AreRead asked made (name ∷ []) result
-stamp_read_once (Ok value) asked made name one = one
-stamp_read_once (Err file_fault.Disk) asked made name one = inl one
-stamp_read_once (Err file_fault.NoMemory) asked made name one = ⊎_elim (λ none. inl none) (λ failed. inr (inl failed)) one
+-- the same of a call that tells no more
+pub err_read_once : (fault : FileFault) (asked made : Told) (name : Text) → IsOneCall {T = ⊤} asked made (Get name) (Err fault) → AreRead {T = ⊤} asked made (name ∷ []) (Err fault)
+err_read_once file_fault.Disk asked made name one = inl one
+err_read_once file_fault.NoMemory asked made name one = ⊎_elim (λ none. inl none) (λ failed. inr (inl failed)) one
 
 -- ---- calls after calls
 
@@ -65,9 +65,6 @@ then_any P step (x ∷ xs) ys asked mid is p = step asked x (xs ++ ys) (then_any
 none_first : (made : Told) (xs : List Text) → MadeFirst made made (gets xs)
 none_first made [] = refl
 none_first made (x ∷ xs) = inl refl
-
-pub unread : {A : Type 0} (xs : List Text) (made : Told) → AreRead {T = A} made made xs (Err file_fault.NoMemory)
-unread xs made = none_first made xs
 
 first_then : (xs ys : List Text) (asked mid made : Told) → mid ≡ told_calls asked (all_got xs) → MadeFirst mid made (gets ys) → MadeFirst asked made (gets (xs ++ ys))
 first_then xs ys asked mid made is first = then_any (λ t ns. MadeFirst t made (gets ns)) (λ t x ns p. inr (inr p)) xs ys asked mid is first
@@ -85,20 +82,15 @@ fails_first [] asked made is = absurd is
 fails_first (x ∷ xs) asked made is = ⊎_elim (λ failed. inr (inl failed)) (λ later. inr (inr (fails_first xs (told_call asked (Get x true)) made later))) is
 
 -- one reading after another
-pub read_then : {A B : Type 0} (a : A) (result : Result B FileFault) (xs ys : List Text) (asked mid made : Told) → AreRead asked mid xs (Ok a) → AreRead mid made ys result → AreRead asked made (xs ++ ys) result
-read_then a (Ok b) xs ys asked mid made first next = then_any (λ t ns. made ≡ told_calls t (all_got ns)) (λ t x ns p. p) xs ys asked mid first next
-read_then a (Err file_fault.Disk) xs ys asked mid made first next = then_any (λ t ns. FailsAt t made ns) (λ t x ns p. inr p) xs ys asked mid first next
-read_then a (Err file_fault.NoMemory) xs ys asked mid made first next = first_then xs ys asked mid made first next
+pub read_then : {B : Type 0} (result : Result B FileFault) (xs ys : List Text) (asked mid made : Told) → mid ≡ told_calls asked (all_got xs) → AreRead mid made ys result → AreRead asked made (xs ++ ys) result
+read_then (Ok b) xs ys asked mid made first next = then_any (λ t ns. made ≡ told_calls t (all_got ns)) (λ t x ns p. p) xs ys asked mid first next
+read_then (Err file_fault.Disk) xs ys asked mid made first next = then_any (λ t ns. FailsAt t made ns) (λ t x ns p. inr p) xs ys asked mid first next
+read_then (Err file_fault.NoMemory) xs ys asked mid made first next = first_then xs ys asked mid made first next
 
 -- a reading that failed is one of more files
-pub read_more : {A B : Type 0} (fault : FileFault) (xs ys : List Text) (asked made : Told) → AreRead {T = A} asked made xs (Err fault) → AreRead {T = B} asked made (xs ++ ys) (Err fault)
+pub read_more : (fault : FileFault) (xs ys : List Text) (asked made : Told) → AreRead {T = ⊤} asked made xs (Err fault) → AreRead {T = ⊤} asked made (xs ++ ys) (Err fault)
 read_more file_fault.Disk xs ys asked made is = fails_more xs ys asked made is
 read_more file_fault.NoMemory xs ys asked made is = first_more xs ys asked made is
-
--- the same of the files themselves
-pub read_err : {A B : Type 0} (fault : FileFault) (xs : List Text) (asked made : Told) → AreRead {T = A} asked made xs (Err fault) → AreRead {T = B} asked made xs (Err fault)
-read_err file_fault.Disk xs asked made is = is
-read_err file_fault.NoMemory xs asked made is = is
 
 -- the first of them were read, and maybe of more
 pub read_first : {A : Type 0} (result : Result A FileFault) (xs ys : List Text) (asked made : Told) → AreRead asked made xs result → MadeFirst asked made (gets (xs ++ ys))
@@ -117,6 +109,9 @@ stat_auto notes farm key auto same on = ap (λ (b : Bool). if b then folder_file
 
 pub stat_off : (notes : PageIndex) (farm : Farm) (key : PageKey) (auto : Bool) → auto ≡ is_auto farm key → auto ≡ false → stat_file notes farm key ≡ []
 stat_off notes farm key auto same off = ap (λ (b : Bool). if b then folder_file notes (stat_folder farm.level key) else []) (sym same ∙ off)
+
+pub stat_before : {A : Type 0} (result : Result A FileFault) (old new : PageIndex) (farm : Farm) (key : PageKey) (asked made : Told) → ((folder : Segments) → stamp_noted new folder ≡ stamp_noted old folder) → AreRead asked made (stat_file new farm key) result → AreRead asked made (stat_file old farm key) result
+stat_before result old new farm key asked made same is = subst (λ (ns : List Text). AreRead asked made ns result) (stat_as_before old new farm key same) is
 
 pub unknown_body : (notes : PageIndex) (key : PageKey) → known_page notes key ≡ None → body_file notes key ≡ page_body_name key ∷ []
 unknown_body notes key is = ap (λ (o : Option Page). unless_noted o (page_body_name key)) is
@@ -150,7 +145,7 @@ none_either false xs is = is
 pub look_known : {A : Type 0} (law : (files : Files) (key : PageKey) → page_at files key ≡ option_and_then (known_at files key) (head_at files key)) (told : Option Files) (asked made : Told) (notes : PageIndex) (farm : Farm) (key : PageKey) → IsPageKey key → (page : Page) → known_page notes key ≡ Some page
     → (result : Result A FileFault) → AreRead asked made (stat_file notes farm key) result → ReadsPage told asked made notes farm key result
 look_known law told asked made notes farm key good page known result reads = record {
-  first = subst (λ (hs : List Text). MadeFirst asked made (gets (hs ++ stat_file notes farm key ++ body_file notes key))) (sym (known_head notes key page known)) (read_first result (stat_file notes farm key) (body_file notes key) asked made reads);
+  first = subst (λ (hs : List Text). MadeFirst asked made (gets (hs ++ (stat_file notes farm key ++ body_file notes key)))) (sym (known_head notes key page known)) (read_first result (stat_file notes farm key) (body_file notes key) asked made reads);
   read = agreed_of told notes (λ files. AreRead asked made (files_read notes farm key files) result)
       (λ files agrees. subst (λ (hs : List Text). AreRead asked made (hs ++ files_under notes farm key files (head_at files key)) result) (sym (known_head notes key page known))
       (of_head files (head_at files key) (sym (law files key) ∙ agrees.pages key page good known)));
@@ -163,29 +158,29 @@ look_known law told asked made notes farm key good page known result reads = rec
         (subst (λ (ns : List Text). AreRead asked made ns result) (sym (append-nil (stat_file notes farm key))) reads)
 
 -- the head couldn't be read
-pub look_headfault : {A B : Type 0} (told : Option Files) (asked made : Told) (notes : PageIndex) (farm : Farm) (key : PageKey) (fault : FileFault) → AreRead {T = A} asked made (head_file notes key) (Err fault) → ReadsPage {T = B} told asked made notes farm key (Err fault)
-look_headfault {A} {B} told asked made notes farm key fault reads = record {
-  first = read_first {A = A} (Err fault) (head_file notes key) (stat_file notes farm key ++ body_file notes key) asked made reads;
-  read = agreed_of told notes (λ files. AreRead {T = B} asked made (files_read notes farm key files) (Err fault)) (λ files agrees. read_more {A = A} {B = B} fault (head_file notes key) (files_under notes farm key files (head_at files key)) asked made reads);
+pub look_headfault : {B : Type 0} (told : Option Files) (asked made : Told) (notes : PageIndex) (farm : Farm) (key : PageKey) (fault : FileFault) → AreRead {T = ⊤} asked made (head_file notes key) (Err fault) → ReadsPage {T = B} told asked made notes farm key (Err fault)
+look_headfault {B} told asked made notes farm key fault reads = record {
+  first = read_first {A = ⊤} (Err fault) (head_file notes key) (stat_file notes farm key ++ body_file notes key) asked made reads;
+  read = agreed_of told notes (λ files. AreRead {T = B} asked made (files_read notes farm key files) (Err fault)) (λ files agrees. read_more fault (head_file notes key) (files_under notes farm key files (head_at files key)) asked made reads);
 }
 
 -- there is no head
-pub look_headless : {A B : Type 0} (told : Option Files) (asked made : Told) (notes : PageIndex) (farm : Farm) (key : PageKey) (a : A) (b : B) → AreRead asked made (head_file notes key) (Ok a) → IfAgreed told notes (λ files. head_at files key ≡ None) → ReadsPage told asked made notes farm key (Ok b)
-look_headless told asked made notes farm key a b reads none = record {
-  first = read_first (Ok a) (head_file notes key) (stat_file notes farm key ++ body_file notes key) asked made reads;
+pub look_headless : {B : Type 0} (told : Option Files) (asked made : Told) (notes : PageIndex) (farm : Farm) (key : PageKey) (b : B) → made ≡ told_calls asked (all_got (head_file notes key)) → IfAgreed told notes (λ files. head_at files key ≡ None) → ReadsPage told asked made notes farm key (Ok b)
+look_headless told asked made notes farm key b reads none = record {
+  first = read_first (Ok b) (head_file notes key) (stat_file notes farm key ++ body_file notes key) asked made reads;
   read = agreed_map told notes (λ files. head_at files key ≡ None) (λ files. AreRead asked made (files_read notes farm key files) (Ok b))
       (λ files agrees is. subst (λ (o : Option HeadNote). AreRead asked made (head_file notes key ++ files_under notes farm key files o) (Ok b)) (sym is)
       (subst (λ (ns : List Text). AreRead asked made ns (Ok b)) (sym (append-nil (head_file notes key))) reads)) none;
 }
 
 -- what is read under a head
-under_head : {A B : Type 0} (told : Option Files) (asked mid made : Told) (notes : PageIndex) (farm : Farm) (key : PageKey) (head : HeadNote) (a : A) (result : Result B FileFault) → AreRead asked mid (head_file notes key) (Ok a) → IfAgreed told notes (λ files. head_at files key ≡ Some head)
+under_head : {B : Type 0} (told : Option Files) (asked mid made : Told) (notes : PageIndex) (farm : Farm) (key : PageKey) (head : HeadNote) (result : Result B FileFault) → mid ≡ told_calls asked (all_got (head_file notes key)) → IfAgreed told notes (λ files. head_at files key ≡ Some head)
     → MadeFirst mid made (gets (stat_file notes farm key ++ body_file notes key)) → IfAgreed told notes (λ files. AreRead mid made (files_under notes farm key files (Some head)) result) → ReadsPage told asked made notes farm key result
-under_head told asked mid made notes farm key head a result reads there first read = record {
+under_head told asked mid made notes farm key head result reads there first read = record {
   first = first_then (head_file notes key) (stat_file notes farm key ++ body_file notes key) asked mid made reads first;
   read = agreed_both told notes (λ files. head_at files key ≡ Some head) (λ files. AreRead mid made (files_under notes farm key files (Some head)) result) (λ files. AreRead asked made (files_read notes farm key files) result)
       (λ files agrees is under. subst (λ (o : Option HeadNote). AreRead asked made (head_file notes key ++ files_under notes farm key files o) result) (sym is)
-      (read_then a result (head_file notes key) (files_under notes farm key files (Some head)) asked mid made reads under)) there read;
+      (read_then result (head_file notes key) (files_under notes farm key files (Some head)) asked mid made reads under)) there read;
 }
 
 -- what a look knows of the stamp, said of the notes before it
@@ -196,28 +191,28 @@ outdated_before look looks told mid same old new notes head is outdated = subst 
     (subst (λ (t : Option Files). IfAgreed t new (λ files. (look.auto && outdates_page (stat_asked look files) head.stamp) ≡ is)) same outdated))
 
 -- the .stat file couldn't be read
-pub look_statfault : {A B C : Type 0} (told : Option Files) (asked mid made : Told) (notes : PageIndex) (farm : Farm) (key : PageKey) (head : HeadNote) (a : A) (fault : FileFault) → AreRead asked mid (head_file notes key) (Ok a) → IfAgreed told notes (λ files. head_at files key ≡ Some head)
-    → AreRead {T = B} mid made (stat_file notes farm key) (Err fault) → ReadsPage {T = C} told asked made notes farm key (Err fault)
-look_statfault {A} {B} {C} told asked mid made notes farm key head a fault reads there stat = under_head {A = A} {B = C} told asked mid made notes farm key head a (Err fault) reads there
-    (read_first {A = B} (Err fault) (stat_file notes farm key) (body_file notes key) mid made stat)
+pub look_statfault : {C : Type 0} (told : Option Files) (asked mid made : Told) (notes : PageIndex) (farm : Farm) (key : PageKey) (head : HeadNote) (fault : FileFault) → mid ≡ told_calls asked (all_got (head_file notes key)) → IfAgreed told notes (λ files. head_at files key ≡ Some head)
+    → AreRead {T = ⊤} mid made (stat_file notes farm key) (Err fault) → ReadsPage {T = C} told asked made notes farm key (Err fault)
+look_statfault {C} told asked mid made notes farm key head fault reads there stat = under_head {B = C} told asked mid made notes farm key head (Err fault) reads there
+    (read_first {A = ⊤} (Err fault) (stat_file notes farm key) (body_file notes key) mid made stat)
     (agreed_of told notes (λ files. AreRead {T = C} mid made (files_under notes farm key files (Some head)) (Err fault))
-    (λ files agrees. read_more {A = B} {B = C} fault (stat_file notes farm key) (if is_outdated farm.level (is_auto farm key) files key head.stamp then [] else body_file notes key) mid made stat))
+    (λ files agrees. read_more fault (stat_file notes farm key) (if is_outdated farm.level (is_auto farm key) files key head.stamp then [] else body_file notes key) mid made stat))
 
 -- the page is outdated
-pub look_stale : {A B C : Type 0} (told : Option Files) (asked mid made : Told) (notes : PageIndex) (farm : Farm) (key : PageKey) (head : HeadNote) (a : A) (b : B) (c : C) → AreRead asked mid (head_file notes key) (Ok a) → IfAgreed told notes (λ files. head_at files key ≡ Some head)
-    → AreRead mid made (stat_file notes farm key) (Ok b) → IfAgreed told notes (λ files. is_outdated farm.level (is_auto farm key) files key head.stamp ≡ true) → ReadsPage told asked made notes farm key (Ok c)
-look_stale told asked mid made notes farm key head a b c reads there stat outdated = under_head told asked mid made notes farm key head a (Ok c) reads there
-    (read_first (Ok b) (stat_file notes farm key) (body_file notes key) mid made stat)
+pub look_stale : {C : Type 0} (told : Option Files) (asked mid made : Told) (notes : PageIndex) (farm : Farm) (key : PageKey) (head : HeadNote) (c : C) → mid ≡ told_calls asked (all_got (head_file notes key)) → IfAgreed told notes (λ files. head_at files key ≡ Some head)
+    → made ≡ told_calls mid (all_got (stat_file notes farm key)) → IfAgreed told notes (λ files. is_outdated farm.level (is_auto farm key) files key head.stamp ≡ true) → ReadsPage told asked made notes farm key (Ok c)
+look_stale told asked mid made notes farm key head c reads there stat outdated = under_head told asked mid made notes farm key head (Ok c) reads there
+    (read_first (Ok c) (stat_file notes farm key) (body_file notes key) mid made stat)
     (agreed_map told notes (λ files. is_outdated farm.level (is_auto farm key) files key head.stamp ≡ true) (λ files. AreRead mid made (files_under notes farm key files (Some head)) (Ok c))
     (λ files agrees is. subst (λ (t : Bool). AreRead mid made (stat_file notes farm key ++ (if t then [] else body_file notes key)) (Ok c)) (sym is)
     (subst (λ (ns : List Text). AreRead mid made ns (Ok c)) (sym (append-nil (stat_file notes farm key))) stat)) outdated)
 
 -- the body was read, or couldn't be
-pub look_body : {A B C : Type 0} (told : Option Files) (asked mid between made : Told) (notes : PageIndex) (farm : Farm) (key : PageKey) (head : HeadNote) (a : A) (b : B) (result : Result C FileFault) → AreRead asked mid (head_file notes key) (Ok a) → IfAgreed told notes (λ files. head_at files key ≡ Some head)
-    → AreRead mid between (stat_file notes farm key) (Ok b) → IfAgreed told notes (λ files. is_outdated farm.level (is_auto farm key) files key head.stamp ≡ false) → known_page notes key ≡ None → AreRead between made (page_body_name key ∷ []) result → ReadsPage told asked made notes farm key result
-look_body told asked mid between made notes farm key head a b result reads there stat fresh unknown body =
-    let whole = read_then b result (stat_file notes farm key) (body_file notes key) mid between made stat (subst (λ (ns : List Text). AreRead between made ns result) (sym (unknown_body notes key unknown)) body) in
-    under_head told asked mid made notes farm key head a result reads there
+pub look_body : {C : Type 0} (told : Option Files) (asked mid between made : Told) (notes : PageIndex) (farm : Farm) (key : PageKey) (head : HeadNote) (result : Result C FileFault) → mid ≡ told_calls asked (all_got (head_file notes key)) → IfAgreed told notes (λ files. head_at files key ≡ Some head)
+    → between ≡ told_calls mid (all_got (stat_file notes farm key)) → IfAgreed told notes (λ files. is_outdated farm.level (is_auto farm key) files key head.stamp ≡ false) → known_page notes key ≡ None → AreRead between made (page_body_name key ∷ []) result → ReadsPage told asked made notes farm key result
+look_body told asked mid between made notes farm key head result reads there stat fresh unknown body =
+    let whole = read_then result (stat_file notes farm key) (body_file notes key) mid between made stat (subst (λ (ns : List Text). AreRead between made ns result) (sym (unknown_body notes key unknown)) body) in
+    under_head told asked mid made notes farm key head result reads there
     (read_all result (stat_file notes farm key ++ body_file notes key) mid made whole)
     (agreed_map told notes (λ files. is_outdated farm.level (is_auto farm key) files key head.stamp ≡ false) (λ files. AreRead mid made (files_under notes farm key files (Some head)) result)
     (λ files agrees is. subst (λ (t : Bool). AreRead mid made (stat_file notes farm key ++ (if t then [] else body_file notes key)) result) (sym is) whole) fresh)
@@ -232,31 +227,31 @@ look_unbegun {A} told asked notes farm key = record {
 }
 
 as_disk : (requested : Requested) → requested.disk_failed ≡ true → ended_as requested ≡ Err file_fault.Disk
-as_disk requested failed = ap (λ (b : Bool). if b then Err file_fault.Disk else (if is_got_dry requested.got then Err file_fault.NoMemory else Ok tt)) failed
+as_disk requested failed = ap (λ (b : Bool). if b then Err file_fault.Disk else (if is_got_dry requested.got then Err file_fault.NoMemory else Ok (tt {0}))) failed
 
-as_other : (requested : Requested) → requested.disk_failed ≡ false → ended_as requested ≡ (if is_got_dry requested.got then Err file_fault.NoMemory else Ok tt)
-as_other requested failed = ap (λ (b : Bool). if b then Err file_fault.Disk else (if is_got_dry requested.got then Err file_fault.NoMemory else Ok tt)) failed
+as_other : (requested : Requested) → requested.disk_failed ≡ false → ended_as requested ≡ (if is_got_dry requested.got then Err file_fault.NoMemory else Ok (tt {0}))
+as_other requested failed = ap (λ (b : Bool). if b then Err file_fault.Disk else (if is_got_dry requested.got then Err file_fault.NoMemory else Ok (tt {0}))) failed
 
 as_dry : (requested : Requested) → requested.disk_failed ≡ false → requested.got ≡ got.NoMemory → ended_as requested ≡ Err file_fault.NoMemory
-as_dry requested failed dry = as_other requested failed ∙ ap (λ (g : Got). if is_got_dry g then Err file_fault.NoMemory else Ok tt) dry
+as_dry requested failed dry = as_other requested failed ∙ ap (λ (g : Got). if is_got_dry g then Err file_fault.NoMemory else Ok (tt {0})) dry
 
 pub ended_ok : {A : Type 0} (told : Option Files) (asked made : Told) (notes : PageIndex) (farm : Farm) (key : PageKey) (a : A) (requested : Requested) → requested.disk_failed ≡ false → ReadsPage told asked made notes farm key (Ok a) → ReadsPage told asked made notes farm key (ended_as requested)
 ended_ok told asked made notes farm key a requested failed reads = subst (λ (r : Result ⊤ FileFault). ReadsPage told asked made notes farm key r) (sym (as_other requested failed)) (by_test (is_got_dry requested.got))
   where
-    by_test : (b : Bool) → ReadsPage told asked made notes farm key (if b then Err file_fault.NoMemory else Ok tt)
+    by_test : (b : Bool) → ReadsPage {T = ⊤} told asked made notes farm key (if b then Err file_fault.NoMemory else Ok (tt {0}))
     by_test true = record {
       first = reads.first;
       read = agreed_map told notes (λ files. AreRead asked made (files_read notes farm key files) (Ok a)) (λ files. AreRead {T = ⊤} asked made (files_read notes farm key files) (Err file_fault.NoMemory)) (λ files agrees is. read_all (Ok a) (files_read notes farm key files) asked made is) reads.read;
     }
     by_test false = record {
       first = reads.first;
-      read = agreed_map told notes (λ files. AreRead asked made (files_read notes farm key files) (Ok a)) (λ files. AreRead asked made (files_read notes farm key files) (Ok tt)) (λ files agrees is. is) reads.read;
+      read = agreed_map told notes (λ files. AreRead asked made (files_read notes farm key files) (Ok a)) (λ files. AreRead {T = ⊤} asked made (files_read notes farm key files) (Ok (tt {0}))) (λ files agrees is. is) reads.read;
     }
 
 look_err : {A B : Type 0} (told : Option Files) (asked made : Told) (notes : PageIndex) (farm : Farm) (key : PageKey) (fault : FileFault) → ReadsPage {T = A} told asked made notes farm key (Err fault) → ReadsPage {T = B} told asked made notes farm key (Err fault)
 look_err {A} {B} told asked made notes farm key fault reads = record {
   first = reads.first;
-  read = agreed_map told notes (λ files. AreRead {T = A} asked made (files_read notes farm key files) (Err fault)) (λ files. AreRead {T = B} asked made (files_read notes farm key files) (Err fault)) (λ files agrees is. read_err {A = A} {B = B} fault (files_read notes farm key files) asked made is) reads.read;
+  read = agreed_map told notes (λ files. AreRead {T = A} asked made (files_read notes farm key files) (Err fault)) (λ files. AreRead {T = B} asked made (files_read notes farm key files) (Err fault)) (λ files agrees is. is) reads.read;
 }
 
 pub ended_disk : {A : Type 0} (told : Option Files) (asked made : Told) (notes : PageIndex) (farm : Farm) (key : PageKey) (requested : Requested) → requested.disk_failed ≡ true → ReadsPage {T = A} told asked made notes farm key (Err file_fault.Disk) → ReadsPage told asked made notes farm key (ended_as requested)

@@ -49,7 +49,7 @@ body_file notes key = unless_noted (known_page notes key) (page_body_name key)
 
 -- the files that a look at a page may read, in their order
 abbrev pub page_files : PageIndex → Farm → PageKey → List Text
-page_files notes farm key = head_file notes key ++ stat_file notes farm key ++ body_file notes key
+page_files notes farm key = head_file notes key ++ (stat_file notes farm key ++ body_file notes key)
 
 -- Which of them it reads once it has the head: none where there is no head; else the .stat file, and, unless that outdates the page, the body.
 abbrev pub files_under : PageIndex → Farm → PageKey → Files → Option HeadNote → List Text

@@ -31,6 +31,7 @@ pub(crate) fn look_up<D: Disk>(
     ensures reads { ReadsFiles (D.files disk.old) (D.files disk.new) (D.faults disk.old) (D.faults disk.new) (D.calls disk.old) (D.calls disk.new) result }
     ensures asks { ReadsPage (D.files disk.old) (D.calls disk.old) (D.calls disk.new) pages.old look.now.farm.now look.now.key.now result }
 {
+    a_page_is_its_head_and_its_body();
     docroot_calls_add_up();
     match pages.page(alloc, look.key)? {
         Some(page) => {

@@ -1,5 +1,6 @@
 use Rattle.std.proofs.Common.{◌∙◌, sym, rules}
-use Rattle.coherence_core.proofs.CallsOfLooks.{one_read}
+use Rattle.std.proofs.lemmas.Result.{err_from_is_err_and}
+use Rattle.coherence_core.proofs.CallsOfLooks.{err_read}
 use Rattle.coherence_core.proofs.LookLemmas.{head_read, not_on, noted_head}
 use Rattle.coherence_core.proofs.page_parts.read_head.Goals as goal
 
@@ -16,10 +17,6 @@ pub returns-clause-reads : goal.returns-clause-reads
 returns-clause-reads g c = record { files = search rules; cause = search rules; calls = c.pages_take_docroot_calls.ensures.head c.get_head.result _ _ c.args.look.now.key.now c.requires.page c.get_head.ensures.made c.get_head.ensures.left }
 
 pub returns-in_err-head-clause-asks : goal.returns-in_err-head-clause-asks
-returns-in_err-head-clause-asks g c = one_read c.get_head.result _ _ _ c.get_head.ensures.made c.get_head.ensures.left
-
-pub returns-then-not-may_be_noted-clause-asks : goal.returns-then-not-may_be_noted-clause-asks
-returns-then-not-may_be_noted-clause-asks g c = one_read c.get_head.result _ _ _ c.get_head.ensures.made c.get_head.ensures.left
-
-pub returns-clause-asks : goal.returns-clause-asks
-returns-clause-asks g c = one_read c.get_head.result _ _ _ c.get_head.ensures.made c.get_head.ensures.left
+returns-in_err-head-clause-asks g c =
+    let p = err_from_is_err_and c.from_residual.result c.from_residual.ensures.1 in
+    rw (p.1, p.2) (err_read _ _ _ _ c.in_err-head.ensures.left)

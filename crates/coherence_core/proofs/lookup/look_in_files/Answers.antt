@@ -1,5 +1,5 @@
 use Rattle.std.proofs.Common.{sym, rules}
-use Rattle.std.specs.Prelude.{Err, Ok}
+use Rattle.std.specs.Prelude.{⊤, Err, Ok, true, false}
 use Rattle.std.proofs.lemmas.Result.{err_from_is_err_and}
 use Rattle.coherence_core.proofs.CallsOfLooks.{look_body, look_headfault, look_headless, look_stale, look_statfault, outdated_before, stat_before}
 use Rattle.coherence_core.proofs.LookLemmas.{notes_then, notes_with_body}
@@ -29,7 +29,7 @@ returns-in_err-head-clause-asks g c =
 pub returns-in_err-is_stale-clause-asks : goal.returns-in_err-is_stale-clause-asks
 returns-in_err-is_stale-clause-asks g c =
     let p = err_from_is_err_and c.from_residual-in_err-is_stale.result c.from_residual-in_err-is_stale.ensures.1 in
-    rw (p.1, p.2) (look_statfault (g.D.Disk.files c.args.disk.now) _ _ _ c.args.pages.now c.args.look.now.farm.now c.args.look.now.key.now c.in-Some.head _ c.in_ok-head.ensures.asks (rw (c.in-Some.is) at c.in_ok-head.ensures.value) (stat_before (Err c.in_err-is_stale.field-0.0) c.args.pages.now c.head_of.new.pages c.args.look.now.farm.now c.args.look.now.key.now _ _ c.head_of.ensures.stamps c.in_err-is_stale.ensures.asks))
+    rw (p.1, p.2) (look_statfault (g.D.Disk.files c.args.disk.now) _ _ _ c.args.pages.now c.args.look.now.farm.now c.args.look.now.key.now c.in-Some.head _ c.in_ok-head.ensures.asks (rw (c.in-Some.is) at c.in_ok-head.ensures.value) (stat_before {A = ⊤} (Err c.in_err-is_stale.field-0.0) c.args.pages.now c.head_of.new.pages c.args.look.now.farm.now c.args.look.now.key.now _ _ c.head_of.ensures.stamps c.in_err-is_stale.ensures.asks))
 
 pub returns-then-branch-clause-asks : goal.returns-then-branch-clause-asks
 returns-then-branch-clause-asks g c = look_stale (g.D.Disk.files c.args.disk.now) _ _ _ c.args.pages.now c.args.look.now.farm.now c.args.look.now.key.now c.in-Some.head _ c.in_ok-head.ensures.asks (rw (c.in-Some.is) at c.in_ok-head.ensures.value) (stat_before (Ok c.in_ok-is_stale.field-0) c.args.pages.now c.head_of.new.pages c.args.look.now.farm.now c.args.look.now.key.now _ _ c.head_of.ensures.stamps c.in_ok-is_stale.ensures.asks) (outdated_before c.args.look.now c.requires.look (g.D.Disk.files c.args.disk.now) (g.D.Disk.files c.head_of.new.disk) c.head_of.ensures.reads.files c.args.pages.now c.head_of.new.pages c.head_of.ensures.notes c.in-Some.head true (rw (c.if-branch.true) at c.in_ok-is_stale.ensures.value))

@@ -8,4 +8,4 @@ folder_stamp-requires-clause-stamp g c = rw (c.in_ok-folder.ensures, c.stat_dept
 pub returns-in_err-stat-clause-asks : goal.returns-in_err-stat-clause-asks
 returns-in_err-stat-clause-asks g c =
     let p = err_from_is_err_and c.from_residual-in_err-stat.result c.from_residual-in_err-stat.ensures.1 in
-    rw (p.1, p.2) (rw (sym c.stat_depth.ensures, sym c.in_ok-folder.ensures) c.in_err-stat.ensures.asks)
+    rw (p.1, p.2) (rw (c.in_ok-folder.ensures, c.stat_depth.ensures) at c.in_err-stat.ensures.asks)

@@ -12,4 +12,4 @@ pub returns-in-Ok-Some-clause-asks : goal.returns-in-Ok-Some-clause-asks
 returns-in-Ok-Some-clause-asks g c = ended_ok _ _ _ _ _ _ _ c.without_fault-in-Ok-Some.result c.without_fault-in-Ok-Some.ensures.disk_failed c.in-Ok-Some.ensures.asks
 
 pub returns-in-Ok-Some-clause-keyed : goal.returns-in-Ok-Some-clause-keyed
-returns-in-Ok-Some-clause-keyed g c = rw (c.without_fault-in-Ok-Some.ensures.got, c.without_fault-in-Ok-Some.ensures.disk_failed) (c.find.new.self.pages, (c.in-Ok-Some.ensures.learns, (c.in-Ok-Some.ensures.notes, refl, refl, c.in-Ok-Some.ensures.value)))
+returns-in-Ok-Some-clause-keyed g c = rw (c.without_fault-in-Ok-Some.ensures.got, c.without_fault-in-Ok-Some.ensures.disk_failed) (c.find.new.self.pages, (c.in-Ok-Some.ensures.learns, (c.in-Ok-Some.ensures.notes, refl, refl, rw (c.in-Ok-Some.field-0-is) at c.in-Ok-Some.ensures.value)))

@@ -25,10 +25,6 @@ impl Ready {
         self.queue.is_empty()
     }
 
-    pub fn len(&self) -> usize {
-        self.queue.len()
-    }
-
     /// Puts a place at the end, where it isn't among them.
     pub fn push(&mut self, place: u32) -> Mem<()> {
         let Some(queued) = self.queued.get_mut(place as usize) else {
@@ -37,6 +33,16 @@ impl Ready {
         if !*queued {
             *queued = true;
             self.queue.push_back(place)?;
+        }
+        Ok(())
+    }
+
+    /// Takes all places of another, in their order, to the end.
+    pub fn take_all(&mut self, other: &mut Ready) -> Mem<()> {
+        for _ in 0..other.queue.len() {
+            if let Some(place) = other.pop() {
+                self.push(place)?;
+            }
         }
         Ok(())
     }

@@ -39,10 +39,10 @@ pub(crate) struct Sockets {
     listening: Listening,
     places: Places,
     ready: Ready,
-    buffer: ReadBuffer,
-    // How many turns there are until the next wait: one for each place that was ready after the last, so that none has two before another
+    // The places whose turn is to come again after the next wait, behind those that it tells of, so that none has two turns before another
     // that is ready has one.
-    turns: usize,
+    again: Ready,
+    buffer: ReadBuffer,
     // The time at the last wait.
     now: Duration,
     // The time of the last look at who is silent.
@@ -78,8 +78,8 @@ impl Sockets {
             listening,
             places: Places::new(alloc)?,
             ready: Ready::new(alloc, MOST_PLACES + 1)?,
+            again: Ready::new(alloc, MOST_PLACES + 1)?,
             buffer: ReadBuffer::new(alloc)?,
-            turns: 0,
             now: Duration::ZERO,
             looked: Duration::ZERO,
         })
@@ -94,12 +94,11 @@ impl Sockets {
     ) -> Result<Happening, WorldFault>
         ensures { IfOk result HasSize }
     {
-        if self.ready.is_empty() || self.turns == 0 {
+        if self.ready.is_empty() {
             self.wait(clock, self.patience(work))?;
             self.look_round()?;
-            self.turns = self.ready.len();
+            self.ready.take_all(&mut self.again)?;
         }
-        self.turns = self.turns.saturating_sub(1);
         match self.ready.pop() {
             None => Ok(Happening::Quiet),
             Some(LISTENER) => Ok(self.accept(alloc)?),
@@ -110,7 +109,7 @@ impl Sockets {
     // How long the next wait may be.
     fn patience(&self, work: Work) -> Duration {
         match work {
-            Work::Idle if self.ready.is_empty() => Duration::from_millis(LONGEST_WAIT),
+            Work::Idle if self.again.is_empty() => Duration::from_millis(LONGEST_WAIT),
             _ => Duration::ZERO,
         }
     }
@@ -165,7 +164,7 @@ impl Sockets {
         let Some((stream, address)) = self.listening.accept() else {
             return Ok(Happening::Quiet);
         };
-        self.ready.push(LISTENER)?;
+        self.again.push(LISTENER)?;
         self.let_in(alloc, place, stream, address)
     }
 
@@ -204,7 +203,7 @@ impl Sockets {
         let happening = told(alloc, place, heard, &self.buffer.bytes)?;
         match self.places.settle(place) {
             Fate::Rests => {}
-            Fate::Due => self.ready.push(place)?,
+            Fate::Due => self.again.push(place)?,
             Fate::Free => self.listen_again()?,
         }
         Ok(happening)

@@ -16,6 +16,7 @@ mod FlushingLemmas
 mod SessionLemmas
 mod LookupLemmas
 mod LookLemmas
+mod CallsOfLooks
 mod AskingLemmas
 mod RequestLemmas
 mod StartLemmas

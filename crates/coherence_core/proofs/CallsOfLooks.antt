@@ -1,8 +1,7 @@
 -- The files that a look at a page reads, part after part.
-use Rattle.std.proofs.Common.{◌≡◌, ◌⊎◌, ◌++◌, append-nil, inl, inr, ⊎_elim, Bool, true, false, List, [], ◌∷◌, Option, Some, None, refl, sym, ◌∙◌, ap, subst, if◌then◌else◌, map, not, ◌||◌}
-use Rattle.std.specs.Prelude.{⊤, ◌&&◌, Result, Ok, Err, IfErr, IfOk, IfSome, option_map}
+use Rattle.std.proofs.Common.{◌≡◌, ◌⊎◌, ◌++◌, append-nil, inl, inr, ⊎_elim, Bool, true, false, List, [], ◌∷◌, Option, Some, None, refl, sym, ◌∙◌, ap, subst, if◌then◌else◌, map}
+use Rattle.std.specs.Prelude.{⊤, ◌&&◌, Result, Ok, Err, option_map}
 use Rattle.std.specs.Option.{option_and_then}
-use Rattle.sp_base.specs.Requests.{Request}
 use Rattle.sp_base.specs.Texts.{Segments, Text}
 use Rattle.sp_outside.specs.Calls.{Call, Get, MadeFirst, told_call, told_calls}
 use Rattle.sp_outside.specs.Files.{Files}
@@ -11,8 +10,7 @@ use Rattle.cover_rules.specs.Coverage.{stat_folder}
 use Rattle.cover_rules.specs.Pages.{IsPageKey}
 use Rattle.cover_rules.specs.declared.page.PageKey.{PageKey}
 use Rattle.cover_rules.specs.declared.stamp.Stamp.{Stamp}
-use Rattle.dispatch_rules.specs.Admission.{admits}
-use Rattle.dispatch_rules.specs.Caching.{cache_key, is_auto}
+use Rattle.dispatch_rules.specs.Caching.{is_auto}
 use Rattle.docroot_format.specs.Faults.{IsOneCall}
 use Rattle.docroot_format.specs.Names.{stat_name}
 use Rattle.docroot_format.specs.declared.fault.FileFault.{FileFault}
@@ -20,20 +18,14 @@ use Rattle.docroot_format.specs.declared.fault.FileFault.TheVariants as file_fau
 use Rattle.cache_files.specs.Pages.{IsCallLeft, head_at, known_at, page_at, page_body_name, page_head_name}
 use Rattle.cache_files.specs.declared.head_note.HeadNote.{HeadNote}
 use Rattle.cache_files.specs.declared.page.Page.{Page}
-use Rattle.invalidation.specs.Invalidations.{is_invalidation}
-use Rattle.page_index.specs.Agreement.{Agrees}
-use Rattle.page_index.specs.Notes.{head_noted, known_page, page_from, page_noted, stamp_noted}
+use Rattle.page_index.specs.Notes.{known_page, page_from, page_noted, stamp_noted}
 use Rattle.page_index.specs.declared.index.PageIndex.{PageIndex}
 use Rattle.page_index.specs.declared.page_note.PageNote.{PageNote}
 use Rattle.stat_files.specs.Outdated.{is_outdated, outdates_page}
-use Rattle.stat_files.specs.Stamps.{stamp_at}
-use Rattle.coherence_core.specs.LookCalls.{AreRead, AsksDisk, FailsAt, ReadsPage, body_file, ended_as, files_read, files_under, folder_file, gets, head_file, page_asked, page_files, stat_file, unless_noted}
+use Rattle.coherence_core.specs.LookCalls.{AreRead, FailsAt, ReadsPage, body_file, ended_as, files_read, files_under, gets, head_file, stat_file, unless_noted}
 use Rattle.coherence_core.specs.Lookups.{IfAgreed, IsLook, NotesPage, stat_asked}
 use Rattle.coherence_core.specs.Requests.{is_got_dry}
-use Rattle.coherence_core.specs.declared.answers.Got.{Got}
-use Rattle.coherence_core.specs.declared.answers.Got.TheVariants as got
 use Rattle.coherence_core.specs.declared.answers.Requested.{Requested}
-use Rattle.coherence_core.specs.declared.core_state.Core.{Core}
 use Rattle.coherence_core.specs.declared.look.Look.{Look}
 use Rattle.coherence_core.proofs.LookLemmas.{agreed_before, agreed_both, agreed_map, agreed_of}
 
@@ -104,12 +96,6 @@ read_first (Err file_fault.NoMemory) xs ys asked made is = first_more xs ys aske
 pub stat_as_before : (old new : PageIndex) (farm : Farm) (key : PageKey) → ((folder : Segments) → stamp_noted new folder ≡ stamp_noted old folder) → stat_file new farm key ≡ stat_file old farm key
 stat_as_before old new farm key same = ap (λ (o : Option (Option Stamp)). if is_auto farm key then unless_noted o (stat_name (stat_folder farm.level key)) else []) (same (stat_folder farm.level key))
 
-pub stat_auto : (notes : PageIndex) (farm : Farm) (key : PageKey) (auto : Bool) → auto ≡ is_auto farm key → auto ≡ true → stat_file notes farm key ≡ folder_file notes (stat_folder farm.level key)
-stat_auto notes farm key auto same on = ap (λ (b : Bool). if b then folder_file notes (stat_folder farm.level key) else []) (sym same ∙ on)
-
-pub stat_off : (notes : PageIndex) (farm : Farm) (key : PageKey) (auto : Bool) → auto ≡ is_auto farm key → auto ≡ false → stat_file notes farm key ≡ []
-stat_off notes farm key auto same off = ap (λ (b : Bool). if b then folder_file notes (stat_folder farm.level key) else []) (sym same ∙ off)
-
 pub stat_before : {A : Type 0} (result : Result A FileFault) (old new : PageIndex) (farm : Farm) (key : PageKey) (asked made : Told) → ((folder : Segments) → stamp_noted new folder ≡ stamp_noted old folder) → AreRead asked made (stat_file new farm key) result → AreRead asked made (stat_file old farm key) result
 stat_before result old new farm key asked made same is = subst (λ (ns : List Text). AreRead asked made ns result) (stat_as_before old new farm key same) is
 
@@ -125,12 +111,6 @@ known_head notes key page is = of_note (page_noted notes key) is
     of_note : (o : Option PageNote) → option_and_then page_from o ≡ Some page → unless_noted (option_map (λ (note : PageNote). note.head) o) (page_head_name key) ≡ []
     of_note None e = absurd (cc e)
     of_note (Some note) e = refl
-
-pub noted_none : {A : Type 0} (o : Option A) (name : Text) (value : A) → o ≡ Some value → unless_noted o name ≡ []
-noted_none o name value is = ap (λ x. unless_noted x name) is
-
-pub noted_one : {A : Type 0} (o : Option A) (name : Text) → o ≡ None → unless_noted o name ≡ name ∷ []
-noted_one o name is = ap (λ x. unless_noted x name) is
 
 pub read_all : {A : Type 0} (result : Result A FileFault) (xs : List Text) (asked made : Told) → AreRead asked made xs result → MadeFirst asked made (gets xs)
 read_all result xs asked made is = subst (λ (ns : List Text). MadeFirst asked made (gets ns)) (append-nil xs) (read_first result xs [] asked made is)
@@ -219,22 +199,11 @@ look_body told asked mid between made notes farm key head result reads there sta
 
 -- ---- a request
 
--- memory ran out before anything was asked
-pub look_unbegun : {A : Type 0} (told : Option Files) (asked : Told) (notes : PageIndex) (farm : Farm) (key : PageKey) → ReadsPage {T = A} told asked asked notes farm key (Err file_fault.NoMemory)
-look_unbegun {A} told asked notes farm key = record {
-  first = none_first asked (page_files notes farm key);
-  read = agreed_of told notes (λ files. AreRead {T = A} asked asked (files_read notes farm key files) (Err file_fault.NoMemory)) (λ files agrees. none_first asked (files_read notes farm key files));
-}
-
-as_disk : (requested : Requested) → requested.disk_failed ≡ true → ended_as requested ≡ Err file_fault.Disk
-as_disk requested failed = ap (λ (b : Bool). if b then Err file_fault.Disk else (if is_got_dry requested.got then Err file_fault.NoMemory else Ok (tt {0}))) failed
-
+-- what a request ended as, where the disk didn't fail
 as_other : (requested : Requested) → requested.disk_failed ≡ false → ended_as requested ≡ (if is_got_dry requested.got then Err file_fault.NoMemory else Ok (tt {0}))
 as_other requested failed = ap (λ (b : Bool). if b then Err file_fault.Disk else (if is_got_dry requested.got then Err file_fault.NoMemory else Ok (tt {0}))) failed
 
-as_dry : (requested : Requested) → requested.disk_failed ≡ false → requested.got ≡ got.NoMemory → ended_as requested ≡ Err file_fault.NoMemory
-as_dry requested failed dry = as_other requested failed ∙ ap (λ (g : Got). if is_got_dry g then Err file_fault.NoMemory else Ok (tt {0})) dry
-
+-- a look that was answered, as the request tells it
 pub ended_ok : {A : Type 0} (told : Option Files) (asked made : Told) (notes : PageIndex) (farm : Farm) (key : PageKey) (a : A) (requested : Requested) → requested.disk_failed ≡ false → ReadsPage told asked made notes farm key (Ok a) → ReadsPage told asked made notes farm key (ended_as requested)
 ended_ok told asked made notes farm key a requested failed reads = subst (λ (r : Result ⊤ FileFault). ReadsPage told asked made notes farm key r) (sym (as_other requested failed)) (by_test (is_got_dry requested.got))
   where
@@ -247,41 +216,3 @@ ended_ok told asked made notes farm key a requested failed reads = subst (λ (r 
       first = reads.first;
       read = agreed_map told notes (λ files. AreRead asked made (files_read notes farm key files) (Ok a)) (λ files. AreRead {T = ⊤} asked made (files_read notes farm key files) (Ok (tt {0}))) (λ files agrees is. is) reads.read;
     }
-
-look_err : {A B : Type 0} (told : Option Files) (asked made : Told) (notes : PageIndex) (farm : Farm) (key : PageKey) (fault : FileFault) → ReadsPage {T = A} told asked made notes farm key (Err fault) → ReadsPage {T = B} told asked made notes farm key (Err fault)
-look_err {A} {B} told asked made notes farm key fault reads = record {
-  first = reads.first;
-  read = agreed_map told notes (λ files. AreRead {T = A} asked made (files_read notes farm key files) (Err fault)) (λ files. AreRead {T = B} asked made (files_read notes farm key files) (Err fault)) (λ files agrees is. is) reads.read;
-}
-
-pub ended_disk : {A : Type 0} (told : Option Files) (asked made : Told) (notes : PageIndex) (farm : Farm) (key : PageKey) (requested : Requested) → requested.disk_failed ≡ true → ReadsPage {T = A} told asked made notes farm key (Err file_fault.Disk) → ReadsPage told asked made notes farm key (ended_as requested)
-ended_disk {A} told asked made notes farm key requested failed reads = subst (λ (r : Result ⊤ FileFault). ReadsPage told asked made notes farm key r) (sym (as_disk requested failed)) (look_err {A = A} {B = ⊤} told asked made notes farm key file_fault.Disk reads)
-
-pub ended_dry : {A : Type 0} (told : Option Files) (asked made : Told) (notes : PageIndex) (farm : Farm) (key : PageKey) (requested : Requested) → requested.disk_failed ≡ false → requested.got ≡ got.NoMemory → ReadsPage {T = A} told asked made notes farm key (Err file_fault.NoMemory) → ReadsPage told asked made notes farm key (ended_as requested)
-ended_dry {A} told asked made notes farm key requested failed dry reads = subst (λ (r : Result ⊤ FileFault). ReadsPage told asked made notes farm key r) (sym (as_dry requested failed dry)) (look_err {A = A} {B = ⊤} told asked made notes farm key file_fault.NoMemory reads)
-
--- memory ran out before anything was asked, whatever the request is for
-pub asks_unbegun : (told : Option Files) (asked : Told) (core : Core) (key : Option PageKey) (requested : Requested) → requested.disk_failed ≡ false → requested.got ≡ got.NoMemory → AsksDisk told asked asked core key requested
-asks_unbegun told asked core None requested failed dry = refl
-asks_unbegun told asked core (Some key) requested failed dry = ended_dry {A = ⊤} told asked asked core.pages core.farm key requested failed dry (look_unbegun {A = ⊤} told asked core.pages core.farm key)
-
-pub asks_none : (told : Option Files) (asked : Told) (core : Core) (key : Option PageKey) (requested : Requested) → key ≡ None → AsksDisk told asked asked core key requested
-asks_none told asked core key requested is = subst (λ (k : Option PageKey). AsksDisk told asked asked core k requested) (sym is) refl
-
--- which page is asked for
-pub asked_down : (core : Core) (req : Request) → core.down ≡ true → page_asked core req ≡ None
-asked_down core req down = ap (λ (b : Bool). if b || is_invalidation req || not (admits core.farm req) then None else cache_key core.farm req) down
-
-pub asked_flush : (core : Core) (req : Request) → core.down ≡ false → is_invalidation req ≡ true → page_asked core req ≡ None
-asked_flush core req down flush = ap (λ (b : Bool). if b || is_invalidation req || not (admits core.farm req) then None else cache_key core.farm req) down
-    ∙ ap (λ (b : Bool). if b || not (admits core.farm req) then None else cache_key core.farm req) flush
-
-asked_page : (core : Core) (req : Request) → core.down ≡ false → is_invalidation req ≡ false → page_asked core req ≡ (if not (admits core.farm req) then None else cache_key core.farm req)
-asked_page core req down flush = ap (λ (b : Bool). if b || is_invalidation req || not (admits core.farm req) then None else cache_key core.farm req) down
-    ∙ ap (λ (b : Bool). if b || not (admits core.farm req) then None else cache_key core.farm req) flush
-
-pub asked_denied : (core : Core) (req : Request) → core.down ≡ false → is_invalidation req ≡ false → admits core.farm req ≡ false → page_asked core req ≡ None
-asked_denied core req down flush denied = asked_page core req down flush ∙ ap (λ (b : Bool). if not b then None else cache_key core.farm req) denied
-
-pub asked_admitted : (core : Core) (req : Request) → core.down ≡ false → is_invalidation req ≡ false → admits core.farm req ≡ true → page_asked core req ≡ cache_key core.farm req
-asked_admitted core req down flush admitted = asked_page core req down flush ∙ ap (λ (b : Bool). if not b then None else cache_key core.farm req) admitted

@@ -4,7 +4,7 @@ use Rattle.page_index.specs.declared.index.PageIndex.{PageIndex}
 use Rattle.sp_base.specs.Texts.{Segments}
 use Rattle.coherence_core.specs.Lookups.{stat_asked}
 use Rattle.coherence_core.specs.Notes.{HoldsStill}
-use Rattle.coherence_core.proofs.CallsOfLooks.{look_known, look_unbegun, stat_before}
+use Rattle.coherence_core.proofs.CallsOfLooks.{look_known, stat_before}
 use Rattle.coherence_core.proofs.LookLemmas.{known_value, notes_still, notes_then}
 use Rattle.coherence_core.proofs.lookup.look_up.Goals as goal
 

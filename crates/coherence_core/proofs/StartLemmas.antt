@@ -147,8 +147,8 @@ held found files core log s = record { pages = s.stands.holds; numbered = s.numb
 none_there : (o : Option Text) (bytes : Text) → o ≡ None → o ≡ Some bytes → ⊥
 none_there o bytes none is = cc (none, is)
 
-pub empty_held : (farm : Farm) → ((key : PageKey) → HasNoPage empty key) → HasNoLaterStamp empty → epoch_held empty ≡ 0 → next_epoch empty ≡ Ok 1 → ((folder : Segments) → stamp_at empty folder ≡ None) → HoldsClosed farm empty []
-empty_held farm no_page later epoch next no_stamp = record {
+pub empty_held : (farm : Farm) → ((key : PageKey) → HasNoPage empty key) → HasNoLaterStamp empty → epoch_held empty ≡ 0 → next_epoch empty ≡ Ok 1 → HoldsClosed farm empty []
+empty_held farm no_page later epoch next = record {
   holds = record {
     pages = record {
       may = λ key answer good is. absurd (cc (is, ap (λ (o : Option Page). served (is_auto farm key) (stat_for farm (stamp_at empty) key) o) (no_page key).page));

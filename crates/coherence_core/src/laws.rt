@@ -41,13 +41,10 @@ use cache_files::{
     empty_files_hold_no_page,
 };
 use cover_rules::{a_touch_outdates_the_pages_of_its_folders, the_key_of_a_path_is_a_page_key};
-use docroot_format::{
-    folders_are_mangled, folders_of_stamps_are_paths, names_tell_their_files,
-};
+use docroot_format::{folders_are_mangled, folders_of_stamps_are_paths, names_tell_their_files};
 use flights::the_numbers_of_flights_rise;
 use page_index::no_notes_agree_with_any_files;
 use sp_outside::files_have_names;
-use stat_files::empty_files_hold_no_stamp;
 
 /// What is covered is what is deleted or what a touched folder outdates.
 pub fn coverage_by_three_facts()
@@ -155,5 +152,4 @@ pub fn no_files_hold_the_empty_log()
     ensures { (farm : Farm) → HoldsClosed farm empty [] }
 {
     empty_files_hold_no_page();
-    empty_files_hold_no_stamp();
 }

@@ -1,5 +1,5 @@
 -- What a session leaves, wherever it ends.
-use Rattle.std.proofs.Common.{◌≡◌, ◌++◌, append_assoc, ℕ, true, false, List, [], ◌∷◌, Some, refl, sym, ◌∙◌, ap, subst, arith, eq-eqb}
+use Rattle.std.proofs.Common.{◌≡◌, ◌++◌, append_assoc, ℕ, true, false, List, [], ◌∷◌, refl, sym, ◌∙◌, ap, subst, arith, eq-eqb}
 use Rattle.sp_outside.specs.Files.{Files}
 use Rattle.any_config.specs.declared.farm.Farm.{Farm}
 use Rattle.cache_files.specs.Epochs.{epoch_held}

@@ -11,6 +11,7 @@ mod RestartSteps
 mod SliceBounds
 mod NoteLemmas
 mod CallLemmas
+mod StatFileLemmas
 mod DeliveryLemmas
 mod FlushingLemmas
 mod SessionLemmas

@@ -78,6 +78,7 @@ module _ (found : ℕ) (core : Core) (up : core.down ≡ false) where
       stands = hit core.farm (page_at files) (stamp_at files) (epoch_held files) core.flights core.queue.items core.asked core.begun core.epoch (drawn_of core) log s.stands key;
       numbered = s.numbered;
       order = s.order;
+      formed = s.formed;
       heads = s.heads;
       down_is = s.down_is;
       few = s.few;
@@ -113,6 +114,7 @@ module _ (found : ℕ) (core : Core) (up : core.down ≡ false) where
             (rise 0 core.asked flight core.flights s.stands.flying.rising (omega arith)) (λ k is. (page_of_key k is, auto_is k is)) (free files log) (bar files log s));
         numbered = s.numbered;
         order = s.order;
+        formed = s.formed;
         heads = heads_later (head_at files) core.epoch (drawn_of core) (core.asked + 1 + core.begun) (omega arith) s.heads;
         down_is = s.down_is;
         few = omega (arith, left);
@@ -141,6 +143,7 @@ module _ (found : ℕ) (core : Core) (up : core.down ≡ false) where
             stands = rw (b.farm, b.flights, b.queue, b.asked, b.begun, b.epoch) (begin_stands files log s);
             numbered = s.numbered;
             order = s.order;
+            formed = s.formed;
             heads = rw (b.asked, b.begun, b.epoch) (heads_later (head_at files) core.epoch (drawn_of core) (core.asked + (core.begun + 1)) (omega arith) s.heads);
             down_is = b.down ∙ s.down_is;
             few = rw (b.asked, b.begun) (omega (arith, left));

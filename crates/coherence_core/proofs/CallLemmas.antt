@@ -70,6 +70,7 @@ over_same found files old new log same s = record {
   stands = rw (same.farm, same.flights, same.queue, same.asked, same.begun, same.epoch) s.stands;
   numbered = s.numbered;
   order = s.order;
+  formed = s.formed;
   heads = rw (same.asked, same.begun, same.epoch) s.heads;
   down_is = same.down ∙ s.down_is;
   few = rw (same.asked, same.begun) s.few;
@@ -79,7 +80,7 @@ over_same found files old new log same s = record {
 
 -- so does one that has noted something, if that is known
 pub noting_over : (found : ℕ) (files : Files) (core : Core) (notes : PageIndex) (log : List LogEntry) → StandsOver found files core log → KnowsFiles files (with_notes core notes) → StandsOver found files (with_notes core notes) log
-noting_over found files core notes log s known = record { stands = s.stands; numbered = s.numbered; order = s.order; heads = s.heads; down_is = s.down_is; few = s.few; slices = s.slices; knows = known }
+noting_over found files core notes log s known = record { stands = s.stands; numbered = s.numbered; order = s.order; formed = s.formed; heads = s.heads; down_is = s.down_is; few = s.few; slices = s.slices; knows = known }
 
 pub stands_same : (found : ℕ) (told : Option Files) (old new : Core) (log : List LogEntry) → IsSameCore old new → CoreStandsFor found told old log → CoreStandsFor found told new log
 stands_same found None old new log same s = s

@@ -20,7 +20,7 @@ use Rattle.cache_files.specs.Changes.{HasPage}
 use Rattle.cache_files.specs.HeldStamps.{KeepsOrder}
 use Rattle.cache_files.specs.Pages.{IsPagePut, head_at, page_at, page_of}
 use Rattle.stat_files.specs.Stamps.{stamp_at}
-use Rattle.docroot_changes.specs.Changes.{BesidePage, MayPut, PageSet}
+use Rattle.docroot_changes.specs.Changes.{BesidePage, MayPut, PageSet, Told}
 use Rattle.flights.specs.ClearPages.{ClearPage}
 use Rattle.flights.specs.declared.flight.Flight.{Flight}
 use Rattle.flights.specs.declared.landing.Landing.{Landing}
@@ -33,6 +33,7 @@ use Rattle.cache_log.specs.Rules.{CallConditions, MayStore}
 use Rattle.coherence_core.specs.Bounds.{BoundsSlices, most_files}
 use Rattle.coherence_core.specs.Cores.{ExtendsLogs, CoreStandsFor, StandsOver, conditions_of_call, drawn_of}
 use Rattle.coherence_core.specs.Facts.{CoverageFacts}
+use Rattle.coherence_core.specs.Holds.{KeepsStatFiles}
 use Rattle.coherence_core.specs.Notes.{KnowsFiles, StaysKnown, StaysTold}
 use Rattle.page_index.specs.Agreement.{Agrees, HasNoneCovered}
 use Rattle.page_index.specs.Effects.{ForgetsPage, IsFewer}
@@ -54,6 +55,7 @@ use Rattle.coherence_core.proofs.LandingSteps.{kept, lost, passed, unkept}
 use Rattle.coherence_core.proofs.RestartSteps.{same_files}
 use Rattle.coherence_core.proofs.SliceBounds.{adds_none, names_stay}
 use Rattle.coherence_core.proofs.CallLemmas.{extends, key_cases, numbered_same, told_map, told_same}
+use Rattle.coherence_core.proofs.StatFileLemmas.{kept_formed}
 
 -- ---- answers
 
@@ -110,6 +112,7 @@ module _ (found : ℕ) (core : Core) (n : ℕ) (f : Flight) (at : flight_at n co
       stands = lost core.farm (page_at files) (stamp_at files) (epoch_held files) core.flights core.queue.items core.asked core.begun core.epoch (drawn_of core) log s.stands n (rising files log s);
       numbered = s.numbered;
       order = s.order;
+      formed = s.formed;
       heads = s.heads;
       down_is = s.down_is;
       few = s.few;
@@ -135,6 +138,7 @@ module _ (found : ℕ) (core : Core) (n : ℕ) (f : Flight) (at : flight_at n co
       stands = passed core.farm (page_at files) (stamp_at files) (epoch_held files) core.flights core.queue.items core.asked core.begun core.epoch (drawn_of core) log s.stands n (rising files log s) f.key a;
       numbered = s.numbered;
       order = s.order;
+      formed = s.formed;
       heads = s.heads;
       down_is = s.down_is;
       few = s.few;
@@ -154,7 +158,7 @@ module _ (found : ℕ) (core : Core) (n : ℕ) (f : Flight) (at : flight_at n co
 
   -- a landing whose flight is clear
   module _ (facts : CoverageFacts core.farm) (notes : PageIndex) (c : ClearPage) (clear : (f.voided ≡ false) × (f.key ≡ Some c.key) × (c.stamp ≡ f.stamp)) (a : Answer) where
-    module _ (files after : Files) (stays : StaysKnown files after core.pages notes) (log : List LogEntry) (s : StandsOver found files core log) where
+    module _ (files after : Files) (stays : StaysKnown files after core.pages notes) (keeps : KeepsStatFiles files after) (log : List LogEntry) (s : StandsOver found files core log) where
       clear_here : IsClear core.farm log n c.key
       clear_here = let k = known files log s in subst (λ (m : ℕ). IsClear core.farm log m c.key) k.1 ((k.0.keyed c.key clear.1).clear clear.0)
 
@@ -181,6 +185,7 @@ module _ (found : ℕ) (core : Core) (n : ℕ) (f : Flight) (at : flight_at n co
             (same_files core.farm facts (page_at after) (page_at after) (stamp_at files) (stamp_at after) (λ k good. refl) (λ g good. beside.stamps g good.bytes) (epoch_held files) (without n core.flights) core.queue.items core.asked core.begun core.epoch (drawn_of core) next_log stands);
         numbered = numbered_same files after beside.number s.numbered;
         order = order low_here s.order;
+        formed = kept_formed files after keeps s.formed;
         heads = heads;
         down_is = down;
         few = s.few;
@@ -238,18 +243,18 @@ module _ (found : ℕ) (core : Core) (n : ℕ) (f : Flight) (at : flight_at n co
           (names_stay core.farm found 2 files after core.queue.items log (Landed n (Some c.key) a Unkept ∷ log) t.names (two_more core.farm found log (landings_stored log + 1) refl (flushes_begun log) refl) (λ v. refl) refl s.slices)
           (unkept core.farm (page_at files) (stamp_at files) (epoch_held files) core.flights core.queue.items core.asked core.begun core.epoch (drawn_of core) log s.stands n (rising files log s) c.key a (page_of c.stamp a.kind a.body) (stored_is c.stamp a storable) (page_at after) (put_may fault t) clear_here own_here drew_here facts)
 
-    for_key : (told new : Option Files) (out : LandedAs) → StaysTold core.pages notes told new → IsStored c.key c.stamp a out told new → ExtendsLogs core.farm (CoreStandsFor found told core) (CoreStandsFor found new (record core { flights = next; pages = notes })) (landed_under out) (Landed n (Some c.key) a (fate_of out) ∷ [])
-    for_key None new out stays t = extends (λ log s. absurd s)
-    for_key (Some files) None out stays t = absurd stays
-    for_key (Some files) (Some after) (landed.Kept k) stays t = extends (λ log s. (((air_here files after stays log s, (t.0, clear_here files after stays log s)), tt), whole files after stays log s t.0 t.1))
-    for_key (Some files) (Some after) landed.Passed stays t = subst (λ (told : Option Files). ExtendsLogs core.farm (StandsOver found files core) (CoreStandsFor found told (record core { flights = next; pages = notes })) (landed_under landed.Passed) (Landed n (Some c.key) a Passed ∷ [])) (sym t.1)
+    for_key : (told new : Option Files) (out : LandedAs) → StaysTold core.pages notes told new → Told KeepsStatFiles told new → IsStored c.key c.stamp a out told new → ExtendsLogs core.farm (CoreStandsFor found told core) (CoreStandsFor found new (record core { flights = next; pages = notes })) (landed_under out) (Landed n (Some c.key) a (fate_of out) ∷ [])
+    for_key None new out stays keeps t = extends (λ log s. absurd s)
+    for_key (Some files) None out stays keeps t = absurd stays
+    for_key (Some files) (Some after) (landed.Kept k) stays keeps t = extends (λ log s. (((air_here files after stays keeps log s, (t.0, clear_here files after stays keeps log s)), tt), whole files after stays keeps log s t.0 t.1))
+    for_key (Some files) (Some after) landed.Passed stays keeps t = subst (λ (told : Option Files). ExtendsLogs core.farm (StandsOver found files core) (CoreStandsFor found told (record core { flights = next; pages = notes })) (landed_under landed.Passed) (Landed n (Some c.key) a Passed ∷ [])) (sym t.1)
         (subst (λ (x : Option PageKey). ExtendsLogs core.farm (StandsOver found files core) (StandsOver found files (record core { flights = next; pages = notes })) (landed_under landed.Passed) (Landed n x a Passed ∷ [])) clear.1
         (gone_passed notes (Some files) (subst (λ (told : Option Files). StaysTold core.pages notes (Some files) told) t.1 stays) (landed_under landed.Passed) a (λ fs log s may. let is_so : is_storable a ≡ true = (subst (λ (x : Option PageKey). MayStore core.farm log n x a) clear.1 may).0 in absurd (cc (is_so, t.0)))))
-    for_key (Some files) (Some after) landed.DiskFailed stays t = extends (λ log s. (((air_here files after stays log s, (t.0, clear_here files after stays log s), inl refl), tt), part files after stays log s Disk t.0 t.1))
-    for_key (Some files) (Some after) landed.NoMemory stays t = extends (λ log s. (((air_here files after stays log s, (t.0, clear_here files after stays log s), inr refl), tt), part files after stays log s NoMemory t.0 t.1))
+    for_key (Some files) (Some after) landed.DiskFailed stays keeps t = extends (λ log s. (((air_here files after stays keeps log s, (t.0, clear_here files after stays keeps log s), inl refl), tt), part files after stays keeps log s Disk t.0 t.1))
+    for_key (Some files) (Some after) landed.NoMemory stays keeps t = extends (λ log s. (((air_here files after stays keeps log s, (t.0, clear_here files after stays keeps log s), inr refl), tt), part files after stays keeps log s NoMemory t.0 t.1))
 
-    gone_stored : (told new : Option Files) (out : LandedAs) → StaysTold core.pages notes told new → IsStored c.key c.stamp a out told new → ExtendsLogs core.farm (CoreStandsFor found told core) (CoreStandsFor found new (record core { flights = next; pages = notes })) (landed_under out) (Landed n f.key a (fate_of out) ∷ [])
-    gone_stored told new out stays t = subst (λ (x : Option PageKey). ExtendsLogs core.farm (CoreStandsFor found told core) (CoreStandsFor found new (record core { flights = next; pages = notes })) (landed_under out) (Landed n x a (fate_of out) ∷ [])) (sym clear.1) (for_key told new out stays t)
+    gone_stored : (told new : Option Files) (out : LandedAs) → StaysTold core.pages notes told new → Told KeepsStatFiles told new → IsStored c.key c.stamp a out told new → ExtendsLogs core.farm (CoreStandsFor found told core) (CoreStandsFor found new (record core { flights = next; pages = notes })) (landed_under out) (Landed n f.key a (fate_of out) ∷ [])
+    gone_stored told new out stays keeps t = subst (λ (x : Option PageKey). ExtendsLogs core.farm (CoreStandsFor found told core) (CoreStandsFor found new (record core { flights = next; pages = notes })) (landed_under out) (Landed n x a (fate_of out) ∷ [])) (sym clear.1) (for_key told new out stays keeps t)
 
 -- ---- what is known after a landing
 
@@ -284,7 +289,7 @@ module _ (laws : NoteLaws) where
 -- ---- what a landing came to
 
 module _ (core : Core) (n : ℕ) (f : Flight) (at : flight_at n core.flights ≡ Some f) (next : List Flight) (is : next ≡ without n core.flights)
-    (left : (least number most : ℕ) (flights : List Flight) → AreRising least flights most → AreRising least (without number flights) most) (facts : CoverageFacts core.farm) (notes : PageIndex) (a : Answer) (told new : Option Files) (stays : StaysTold core.pages notes told new) where
+    (left : (least number most : ℕ) (flights : List Flight) → AreRising least flights most → AreRising least (without number flights) most) (facts : CoverageFacts core.farm) (notes : PageIndex) (a : Answer) (told new : Option Files) (stays : StaysTold core.pages notes told new) (keeps : Told KeepsStatFiles told new) where
   stays_same : new ≡ told → StaysTold core.pages notes told told
   stays_same same = subst (λ (t : Option Files). StaysTold core.pages notes told t) same stays
 
@@ -294,7 +299,7 @@ module _ (core : Core) (n : ℕ) (f : Flight) (at : flight_at n core.flights ≡
   pub landing_owes : (landing : Landing) (out : LandedAs) → LandsAs f landing → IsKeptFrom landing a out told new → (found : ℕ) → ExtendsLogs core.farm (CoreStandsFor found told core) (CoreStandsFor found new (record core { flights = next; pages = notes })) (landed_under out) (Landed n f.key a (fate_of out) ∷ [])
   landing_owes Unkeyed out lands kept found = passed_on found out kept.0 kept.1 (unkeyed found core n f at next is left notes told (stays_same kept.1) (conditions_of_call false false) a lands)
   landing_owes (Voided key) out lands kept found = passed_on found out kept.0 kept.1 (voided found core n f at next is left notes told (stays_same kept.1) (conditions_of_call false false) a key lands)
-  landing_owes (Clear c) out lands kept found = gone_stored found core n f at next is left facts notes c lands a told new out stays kept.0
+  landing_owes (Clear c) out lands kept found = gone_stored found core n f at next is left facts notes c lands a told new out stays keeps kept.0
 
 -- the same without a log
 delivered_clear : (f : Flight) (c : ClearPage) (a : Answer) (told new : Option Files) (out : LandedAs) → (f.voided ≡ false) × (f.key ≡ Some c.key) × (c.stamp ≡ f.stamp) → IsStored c.key c.stamp a out told new → DeliveredAs f a out told new

@@ -1,9 +1,7 @@
 -- What a session leaves, wherever it ends.
-use Rattle.std.proofs.Common.{◌≡◌, ◌<◌, ◌++◌, ◌^◌, append_assoc, ℕ, true, false, List, [], ◌∷◌, Some, refl, sym, ◌∙◌, ap, subst, arith, eq-eqb}
-use Rattle.sp_base.specs.Texts.{Text}
+use Rattle.std.proofs.Common.{◌≡◌, ◌++◌, append_assoc, ℕ, true, false, List, [], ◌∷◌, refl, sym, ◌∙◌, ap, subst, arith, eq-eqb}
 use Rattle.sp_outside.specs.Files.{Files}
 use Rattle.any_config.specs.declared.farm.Farm.{Farm}
-use Rattle.docroot_format.specs.Readings.{epoch_of}
 use Rattle.cache_files.specs.Epochs.{epoch_held}
 use Rattle.cache_files.specs.Pages.{page_at}
 use Rattle.stat_files.specs.Stamps.{stamp_at}
@@ -23,7 +21,6 @@ use Rattle.coherence_core.proofs.CallLemmas.{allowed_append}
 use Rattle.coherence_core.proofs.LandingSteps.{lost}
 use Rattle.coherence_core.proofs.SessionLemmas.{all_failed}
 use Rattle.coherence_core.proofs.SliceBounds.{adds_none, names_stay}
-use Rattle.coherence_core.proofs.StartLemmas.{formed}
 
 -- ---- flights that are lost
 
@@ -74,16 +71,15 @@ module _ (found : ℕ) (files : Files) (core : Core) (log : List LogEntry) (s : 
     closing_stands : StandsClosed (closing_entries core ++ log)
     closing_stands = subst StandsClosed (sym (append_assoc failed_of lost_of log)) (all_failed found core.farm facts files core.asked core.begun core.epoch (drawn_of core) under restarts core.queue.items (lost_of ++ log) landed.1).1.0
 
-  module _ (fits : (text : Text) (epoch : ℕ) → epoch_of text ≡ Some epoch → (0 < epoch) × (epoch < 2 ^ 64)) where
-    pub closed : HoldsClosed core.farm files (closing_entries core ++ log)
-    closed =
-        let end = closing_stands (record { disk_failed = false; out_of_memory = false; restarts = true }) refl in
-        record {
-          holds = record { pages = end.holds; numbered = s.numbered; above = end.epochs.above; order = s.order; formed = formed found files core log s fits };
-          idle = (λ n k air. end.flying.all n k air, λ v inv u. end.flushing.all v inv u);
-        }
+  pub closed : HoldsClosed core.farm files (closing_entries core ++ log)
+  closed =
+      let end = closing_stands (record { disk_failed = false; out_of_memory = false; restarts = true }) refl in
+      record {
+        holds = record { pages = end.holds; numbered = s.numbered; above = end.epochs.above; order = s.order; formed = s.formed };
+        idle = (λ n k air. end.flying.all n k air, λ v inv u. end.flushing.all v inv u);
+      }
 
-    pub closed_landed : core.flights ≡ [] → HoldsClosed core.farm files (failed_of ++ log)
-    closed_landed air = subst (λ (l : List LogEntry). HoldsClosed core.farm files l)
-        (append_assoc failed_of lost_of log ∙ ap (λ (l : List Flight). failed_of ++ (lost_entries (numbers_of l) ++ log)) air)
-        closed
+  pub closed_landed : core.flights ≡ [] → HoldsClosed core.farm files (failed_of ++ log)
+  closed_landed air = subst (λ (l : List LogEntry). HoldsClosed core.farm files l)
+      (append_assoc failed_of lost_of log ∙ ap (λ (l : List Flight). failed_of ++ (lost_entries (numbers_of l) ++ log)) air)
+      closed

@@ -9,7 +9,7 @@ use Rattle.docroot_changes.specs.Changes.{Told}
 use Rattle.invalidation.specs.declared.purge.Purge.{Purge}
 use Rattle.invalidation.specs.declared.purge.PurgeStep.{PurgeStep}
 use Rattle.invalidation.specs.declared.purge.PurgeStep.TheVariants.{More, Done as step_done, DiskFailed, NoMemory}
-use Rattle.invalidation.specs.Slices.{IsSamePurge, IsSlice, Progress}
+use Rattle.invalidation.specs.Slices.{IsSamePurge, IsSlice, IsStatOf, IsTakenFrom, Progress, folders_of}
 use Rattle.cache_log.specs.Ids.{FlushId}
 use Rattle.cache_log.specs.Entries.{LogEntry, Done, Ended, Failed, FlushOutcome, Sliced, is_up}
 use Rattle.cache_log.specs.Rules.{AllAllowed, IsOldest}
@@ -17,7 +17,7 @@ use Rattle.coherence_core.specs.Bounds.{BoundsSlices}
 use Rattle.coherence_core.specs.Cores.{ExtendsLogs, CoreStandsFor, StandsOver, drawn_of, flush_numbers}
 use Rattle.coherence_core.specs.Facts.{CoverageFacts}
 use Rattle.coherence_core.specs.Flushes.{IsFirstSliced, PurgedAs, flushes_left_by, outcome_of, purged_entries, purged_under}
-use Rattle.coherence_core.specs.Holds.{IsNumbered}
+use Rattle.coherence_core.specs.Holds.{AreStatsFormed, IsNumbered}
 use Rattle.coherence_core.specs.Notes.{AreNotesUncovered, KnowsDisk}
 use Rattle.cover_rules.specs.declared.invalidation.Invalidation.{Invalidation}
 use Rattle.page_index.specs.Agreement.{Agrees, ChangesCovered, HasNoneCovered}
@@ -32,6 +32,7 @@ use Rattle.coherence_core.proofs.FlushLemmas.{oldest}
 use Rattle.coherence_core.proofs.SliceBounds.{names_end, names_go_on}
 use Rattle.coherence_core.proofs.SliceSteps.{done, failed, sliced, went_on}
 use Rattle.coherence_core.proofs.CallLemmas.{extends, numbered_same}
+use Rattle.coherence_core.proofs.StatFileLemmas.{TextLaws, flush_reads, slice_formed}
 use Rattle.cache_log.specs.Limits.{most_stamps}
 
 -- the queue after it
@@ -70,11 +71,12 @@ slice_agrees keeps level notes before left step files after slice apart agree =
 
 -- a core with these parts stands for the log
 pub stands_with : (found : ℕ) (files : Files) (old new : Core) (queue : List Pending) (log : List LogEntry) → KeepsBeside old new → new.queue.items ≡ queue
-    → CoreStands old.farm (page_at files) (stamp_at files) (epoch_held files) old.flights queue old.asked old.begun old.epoch (drawn_of old) log → IsNumbered files → HasNoLaterStamp files → AreHeadsBefore (head_at files) (stamp old.epoch (drawn_of old)) → old.down ≡ not (is_up log) → drawn_of old ≤ most_stamps → BoundsSlices old.farm found files queue log → Agrees old.pages files → AreNotesUncovered old.farm.level old.pages queue → StandsOver found files new log
-stands_with found files old new queue log kept is stands numbered order heads down few slices agree apart = record {
+    → CoreStands old.farm (page_at files) (stamp_at files) (epoch_held files) old.flights queue old.asked old.begun old.epoch (drawn_of old) log → IsNumbered files → HasNoLaterStamp files → AreStatsFormed files → AreHeadsBefore (head_at files) (stamp old.epoch (drawn_of old)) → old.down ≡ not (is_up log) → drawn_of old ≤ most_stamps → BoundsSlices old.farm found files queue log → Agrees old.pages files → AreNotesUncovered old.farm.level old.pages queue → StandsOver found files new log
+stands_with found files old new queue log kept is stands numbered order formed heads down few slices agree apart = record {
   stands = rw (kept.farm, kept.flights, is, kept.asked, kept.begun, kept.epoch) stands;
   numbered = numbered;
   order = order;
+  formed = formed;
   heads = rw (kept.asked, kept.begun, kept.epoch) heads;
   down_is = kept.down ∙ down;
   few = rw (kept.asked, kept.begun) few;
@@ -82,7 +84,7 @@ stands_with found files old new queue log kept is stands numbered order heads do
   knows = record { agree = rw (kept.pages) agree; apart = rw (kept.farm, kept.pages, is) apart };
 }
 
-module _ (found : ℕ) (core next : Core) (facts : CoverageFacts core.farm) (p : Pending) (rest : List Pending) (items : core.queue.items ≡ p ∷ rest) (kept : KeepsBeside core next) (q : Purge) (same : IsSamePurge p.purge q) (files after : Files) (keeps : CoveredIsForgotten) (log : List LogEntry) (s : StandsOver found files core log) where
+module _ (found : ℕ) (core next : Core) (facts : CoverageFacts core.farm) (p : Pending) (rest : List Pending) (items : core.queue.items ≡ p ∷ rest) (kept : KeepsBeside core next) (q : Purge) (same : IsSamePurge p.purge q) (files after : Files) (keeps : CoveredIsForgotten) (texts : TextLaws) (log : List LogEntry) (s : StandsOver found files core log) where
   here : CoreStands core.farm (page_at files) (stamp_at files) (epoch_held files) core.flights (p ∷ rest) core.asked core.begun core.epoch (drawn_of core) log
   here = subst (λ (l : List Pending). CoreStands core.farm (page_at files) (stamp_at files) (epoch_held files) core.flights l core.asked core.begun core.epoch (drawn_of core) log) items s.stands
 
@@ -98,6 +100,11 @@ module _ (found : ℕ) (core next : Core) (facts : CoverageFacts core.farm) (p :
   -- what is noted, no slice of this flush changes
   agree : (step : PurgeStep) → IsSlice p.purge q step files after → Agrees core.pages after
   agree step slice = slice_agrees keeps core.farm.level core.pages p.purge q step files after slice apart.0 s.knows.agree
+
+  -- each .stat file is of its form: what the flush writes reads
+  formed : (step : PurgeStep) → IsSlice p.purge q step files after → AreStatsFormed after
+  formed step slice = slice_formed (IsTakenFrom p.purge.inv p.purge.place) (IsStatOf (folders_of p.purge.level p.purge.inv p.purge.place)) p.purge.stamp files after
+      (flush_reads texts files p.purge.stamp (drawn_of core) log p.number p.purge.inv low here.tied.flushing.0 s.stands.counts.stamps s.few) slice.files s.formed
 
   -- it takes heads away, and sets none
   heads : (step : PurgeStep) → IsSlice p.purge q step files after → AreHeadsBefore (head_at after) (stamp core.epoch (drawn_of core))
@@ -119,7 +126,7 @@ module _ (found : ℕ) (core next : Core) (facts : CoverageFacts core.farm) (p :
   none_behind = record { touched = λ begun. absurd (cc begun); gone = λ k good del behind. absurd behind }
 
   ended : (step : PurgeStep) (outcome : FlushOutcome) → IsSlice p.purge q step files after → next.queue.items ≡ rest → CoreStands core.farm (page_at after) (stamp_at after) (epoch_held after) core.flights rest core.asked core.begun core.epoch (drawn_of core) (Ended p.number outcome ∷ log) → StandsOver found after next (Ended p.number outcome ∷ log)
-  ended step outcome slice is stands = stands_with found after core next rest (Ended p.number outcome ∷ log) kept is stands (numbered_same files after slice.number s.numbered) (slice.order low s.order) (heads step slice) s.down_is s.few (names_end core.farm found files after p rest log slice.names bounds here.flushing.each.1 outcome) (agree step slice) apart.1
+  ended step outcome slice is stands = stands_with found after core next rest (Ended p.number outcome ∷ log) kept is stands (numbered_same files after slice.number s.numbered) (slice.order low s.order) (formed step slice) (heads step slice) s.down_is s.few (names_end core.farm found files after p rest log slice.names bounds here.flushing.each.1 outcome) (agree step slice) apart.1
 
   fell : (step : PurgeStep) → IsSlice p.purge q step files after → next.queue.items ≡ rest → StandsOver found after next (Ended p.number Failed ∷ log)
   fell step slice is = ended step Failed slice is (failed core.farm facts (page_at after) (stamp_at after) (epoch_held after) core.flights (record { number = p.number; purge = forgotten }) rest core.asked core.begun core.epoch (drawn_of core) log (moved step slice forgotten (record { level = refl; inv = refl; stamp = refl }) none_behind))
@@ -131,7 +138,7 @@ module _ (found : ℕ) (core next : Core) (facts : CoverageFacts core.farm) (p :
         (first, tt),
         stands_with found after core next (record { number = p.number; purge = q } ∷ rest) (Sliced p.number ∷ log) kept is
             (went_on core.farm facts (page_at after) (stamp_at after) (epoch_held after) core.flights (record { number = p.number; purge = q }) rest core.asked core.begun core.epoch (drawn_of core) log (moved More slice q same progress))
-            (numbered_same files after slice.number s.numbered) (slice.order low s.order) (heads More slice) s.down_is s.few
+            (numbered_same files after slice.number s.numbered) (slice.order low s.order) (formed More slice) (heads More slice) s.down_is s.few
             (names_go_on core.farm found files after p rest log slice.names bounds q left.0 left.2 here.flushing.each.1 (subst (λ (x : ℕ). p.number ≤ x) s.stands.counts.flushes here.flushing.each.0.below))
             (agree More slice) (apart_first core.farm.level core.pages p (record { number = p.number; purge = q }) rest same apart),
       )
@@ -144,11 +151,11 @@ module _ (found : ℕ) (core next : Core) (facts : CoverageFacts core.farm) (p :
   purged_over DiskFailed slice is = (((first, inl (inl refl)), tt), fell DiskFailed slice is)
   purged_over NoMemory slice is = (((first, inl (inr refl)), tt), fell NoMemory slice is)
 
-pub purged_told : (found : ℕ) (core next : Core) (facts : CoverageFacts core.farm) (p : Pending) (rest : List Pending) (items : core.queue.items ≡ p ∷ rest) (kept : KeepsBeside core next) (q : Purge) (same : IsSamePurge p.purge q) (step : PurgeStep) (told new : Option Files) → CoveredIsForgotten
+pub purged_told : (found : ℕ) (core next : Core) (facts : CoverageFacts core.farm) (p : Pending) (rest : List Pending) (items : core.queue.items ≡ p ∷ rest) (kept : KeepsBeside core next) (q : Purge) (same : IsSamePurge p.purge q) (step : PurgeStep) (told new : Option Files) → CoveredIsForgotten → TextLaws
     → Told (IsSlice p.purge q step) told new → next.queue.items ≡ queue_after step p.number q rest → ExtendsLogs core.farm (CoreStandsFor found told core) (CoreStandsFor found new next) (purged_under (outcome_of p.number step)) (purged_entries (outcome_of p.number step))
-purged_told found core next facts p rest items kept q same step None new keeps t is = extends (λ log s. absurd s)
-purged_told found core next facts p rest items kept q same step (Some files) None keeps t is = absurd t
-purged_told found core next facts p rest items kept q same step (Some files) (Some after) keeps t is = extends (λ log s. purged_over found core next facts p rest items kept q same files after keeps log s step t is)
+purged_told found core next facts p rest items kept q same step None new keeps texts t is = extends (λ log s. absurd s)
+purged_told found core next facts p rest items kept q same step (Some files) None keeps texts t is = absurd t
+purged_told found core next facts p rest items kept q same step (Some files) (Some after) keeps texts t is = extends (λ log s. purged_over found core next facts p rest items kept q same files after keeps texts log s step t is)
 
 -- ---- the whole call
 
@@ -174,9 +181,9 @@ module _ (core next : Core) (told new : Option Files) (queue : List Pending) (re
   next_is : next.queue.items ≡ queue_after made.step made.first.number made.purge made.rest
   next_is = queue_left made.step made.first.number made.purge made.rest next.queue.items (left ∙ (λ i. flushes_left_by (made.result_is i) (made.after_is i)))
 
-  pub step_log : CoverageFacts core.farm → CoveredIsForgotten → (found : ℕ) → ExtendsLogs core.farm (CoreStandsFor found told core) (CoreStandsFor found new next) (purged_under result) (purged_entries result)
-  step_log facts keeps found = subst (λ (r : Purged). ExtendsLogs core.farm (CoreStandsFor found told core) (CoreStandsFor found new next) (purged_under r) (purged_entries r)) (sym made.result_is)
-      (purged_told found core next facts made.first made.rest made.queue_is kept made.purge made.same made.step told new keeps made.slice next_is)
+  pub step_log : CoverageFacts core.farm → CoveredIsForgotten → TextLaws → (found : ℕ) → ExtendsLogs core.farm (CoreStandsFor found told core) (CoreStandsFor found new next) (purged_under result) (purged_entries result)
+  step_log facts keeps texts found = subst (λ (r : Purged). ExtendsLogs core.farm (CoreStandsFor found told core) (CoreStandsFor found new next) (purged_under r) (purged_entries r)) (sym made.result_is)
+      (purged_told found core next facts made.first made.rest made.queue_is kept made.purge made.same made.step told new keeps texts made.slice next_is)
 
   pub step_flushes : PurgedAs result (flush_numbers core.queue.items) (flush_numbers next.queue.items)
   step_flushes = rw (made.result_is, made.queue_is, next_is) (numbers_left made.step made.first made.purge made.rest)

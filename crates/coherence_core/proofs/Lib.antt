@@ -11,11 +11,13 @@ mod RestartSteps
 mod SliceBounds
 mod NoteLemmas
 mod CallLemmas
+mod StatFileLemmas
 mod DeliveryLemmas
 mod FlushingLemmas
 mod SessionLemmas
 mod LookupLemmas
 mod LookLemmas
+mod CallsOfLooks
 mod AskingLemmas
 mod RequestLemmas
 mod StartLemmas

@@ -133,6 +133,7 @@ module _ (files : Files) (cleared : IsCleared files)
       stands = rw (o.flights, o.queue, o.asked, o.begun) log_stands;
       numbered = o.numbered;
       order = none_later;
+      formed = λ name bytes is at. absurd (cc (at, cleared.stats name is));
       heads = λ key head good is. absurd (cc (is, no_head key good));
       down_is = o.up;
       few = rw (o.asked, o.begun) (omega arith);

@@ -18,7 +18,7 @@ use Rattle.cache_log.specs.Rules.{AllAllowed, CallConditions, HasFallenShort, Is
 use Rattle.coherence_core.specs.Bounds.{BoundsSlices}
 use Rattle.coherence_core.specs.Cores.{ExtendsLogs, CoreStandsFor, StandsOver, drawn_of, flush_numbers}
 use Rattle.coherence_core.specs.Facts.{CoverageFacts}
-use Rattle.coherence_core.specs.Holds.{IsNumbered}
+use Rattle.coherence_core.specs.Holds.{IsNumbered, KeepsStatFiles}
 use Rattle.coherence_core.specs.Sessions.{failed_entries, restarted_entries, restarted_under}
 use Rattle.coherence_core.specs.Stands.{AreHeadsBefore, CoreStands, stamp}
 use Rattle.page_index.specs.Agreement.{Agrees}
@@ -30,6 +30,7 @@ use Rattle.coherence_core.proofs.SliceSteps.{failed}
 use Rattle.coherence_core.proofs.StampLemmas.{before_epoch}
 use Rattle.coherence_core.proofs.RestartSteps.{down, same_files, up}
 use Rattle.coherence_core.proofs.CallLemmas.{allowed_append, extends, numbered_same}
+use Rattle.coherence_core.proofs.StatFileLemmas.{kept_formed}
 
 -- ---- flushes that are cut off
 
@@ -79,7 +80,7 @@ pub record KeepsCounts (old new : Core) : Type 0 where
   pub begun : new.begun ≡ old.begun
   pub pages : (files : Files) → Agrees new.pages files
 
-module _ (found : ℕ) (core next : Core) (facts : CoverageFacts core.farm) (air : core.flights ≡ []) (kept : KeepsCounts core next) (f g : Files) (log : List LogEntry) (s : StandsOver found f core log) where
+module _ (found : ℕ) (core next : Core) (facts : CoverageFacts core.farm) (air : core.flights ≡ []) (kept : KeepsCounts core next) (f g : Files) (keeps : KeepsStatFiles f g) (log : List LogEntry) (s : StandsOver found f core log) where
   abbrev LastLog : List LogEntry
   LastLog = failed_entries (flush_numbers core.queue.items) ++ log
 
@@ -96,6 +97,7 @@ module _ (found : ℕ) (core next : Core) (facts : CoverageFacts core.farm) (air
     stands = rw (kept.farm, kept.flights ∙ air, kept.queue, kept.asked, kept.begun, epoch_is) stands;
     numbered = numbered;
     order = order;
+    formed = kept_formed f g keeps s.formed;
     heads = rw (kept.asked, kept.begun, epoch_is) heads;
     down_is = down;
     few = rw (kept.asked, kept.begun) s.few;
@@ -158,13 +160,13 @@ module _ (found : ℕ) (core next : Core) (facts : CoverageFacts core.farm) (air
 
 -- ---- the same of a disk
 
-pub comes_up : (found : ℕ) (core next : Core) → CoverageFacts core.farm → core.flights ≡ [] → KeepsCounts core next → (e : ℕ) → next.epoch ≡ e → next.down ≡ false → (told new : Option Files) → Told (NumberSet e) told new → ExtendsLogs core.farm (CoreStandsFor found told core) (CoreStandsFor found new next) (restarted_under (Ok e)) (restarted_entries (flush_numbers core.queue.items) (Ok e))
-comes_up found core next facts air kept e epoch_is down_is None new t = extends (λ log s. absurd s)
-comes_up found core next facts air kept e epoch_is down_is (Some f) None t = absurd t
-comes_up found core next facts air kept e epoch_is down_is (Some f) (Some g) t = extends (λ log s. up_over found core next facts air kept f g log s e t epoch_is down_is)
+pub comes_up : (found : ℕ) (core next : Core) → CoverageFacts core.farm → core.flights ≡ [] → KeepsCounts core next → (e : ℕ) → next.epoch ≡ e → next.down ≡ false → (told new : Option Files) → Told (NumberSet e) told new → Told KeepsStatFiles told new → ExtendsLogs core.farm (CoreStandsFor found told core) (CoreStandsFor found new next) (restarted_under (Ok e)) (restarted_entries (flush_numbers core.queue.items) (Ok e))
+comes_up found core next facts air kept e epoch_is down_is None new t keeps = extends (λ log s. absurd s)
+comes_up found core next facts air kept e epoch_is down_is (Some f) None t keeps = absurd t
+comes_up found core next facts air kept e epoch_is down_is (Some f) (Some g) t keeps = extends (λ log s. up_over found core next facts air kept f g keeps log s e t epoch_is down_is)
 
-pub goes_down : (found : ℕ) (core next : Core) → CoverageFacts core.farm → core.flights ≡ [] → KeepsCounts core next → (fault : OpenFault) → next.epoch ≡ core.epoch → next.down ≡ true → (told new : Option Files) → Told (MayOpen fault) told new
+pub goes_down : (found : ℕ) (core next : Core) → CoverageFacts core.farm → core.flights ≡ [] → KeepsCounts core next → (fault : OpenFault) → next.epoch ≡ core.epoch → next.down ≡ true → (told new : Option Files) → Told (MayOpen fault) told new → Told KeepsStatFiles told new
     → (fault ≢ open_fault.NoMemory → fault ≢ open_fault.Disk → IfSome told (λ f. next_epoch f ≡ Err fault)) → ExtendsLogs core.farm (CoreStandsFor found told core) (CoreStandsFor found new next) (restarted_under (Err fault)) (restarted_entries (flush_numbers core.queue.items) (Err fault))
-goes_down found core next facts air kept fault epoch_is down_is None new t known = extends (λ log s. absurd s)
-goes_down found core next facts air kept fault epoch_is down_is (Some f) None t known = absurd t
-goes_down found core next facts air kept fault epoch_is down_is (Some f) (Some g) t known = extends (λ log s. down_over found core next facts air kept f g log s fault t known epoch_is down_is)
+goes_down found core next facts air kept fault epoch_is down_is None new t keeps known = extends (λ log s. absurd s)
+goes_down found core next facts air kept fault epoch_is down_is (Some f) None t keeps known = absurd t
+goes_down found core next facts air kept fault epoch_is down_is (Some f) (Some g) t keeps known = extends (λ log s. down_over found core next facts air kept f g keeps log s fault t known epoch_is down_is)

@@ -13,7 +13,7 @@ use Rattle.cache_log.specs.Ids.{FlightId, FlushId}
 use Rattle.cache_log.specs.Entries.{LogEntry, is_up}
 use Rattle.cache_log.specs.Rules.{AllAllowed, CallConditions}
 use Rattle.coherence_core.specs.Bounds.{BoundsSlices}
-use Rattle.coherence_core.specs.Holds.{IsNumbered}
+use Rattle.coherence_core.specs.Holds.{AreStatsFormed, IsNumbered}
 use Rattle.coherence_core.specs.Notes.{KnowsFiles}
 use Rattle.coherence_core.specs.Stands.{AreHeadsBefore, CoreStands, stamp}
 use Rattle.coherence_core.specs.declared.pending.Pending.{Pending}
@@ -26,12 +26,13 @@ use Rattle.cache_log.specs.Limits.{most_stamps}
 abbrev pub drawn_of : Core → ℕ
 drawn_of core = core.asked + core.begun
 
--- The core and the files stand for this log, in a session that found this many files. Each head in the files has a stamp before the one that is
--- drawn next, and what the core has noted of the files is so.
+-- The core and the files stand for this log, in a session that found this many files. Each .stat file is of its form, each head in the files has a
+-- stamp before the one that is drawn next, and what the core has noted of the files is so.
 pub record StandsOver (found : ℕ) (files : Files) (core : Core) (log : List LogEntry) : Type 0 where
   pub stands : CoreStands core.farm (page_at files) (stamp_at files) (epoch_held files) core.flights core.queue.items core.asked core.begun core.epoch (drawn_of core) log
   pub numbered : IsNumbered files
   pub order : HasNoLaterStamp files
+  pub formed : AreStatsFormed files
   pub heads : AreHeadsBefore (head_at files) (stamp core.epoch (drawn_of core))
   pub down_is : core.down ≡ not (is_up log)
   pub few : drawn_of core ≤ most_stamps

@@ -8,6 +8,7 @@ pub mod Notes
 pub mod Lookups
 pub mod Cores
 pub mod Requests
+pub mod LookCalls
 pub mod Asking
 pub mod Landings
 pub mod Flushes

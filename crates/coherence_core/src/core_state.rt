@@ -12,16 +12,13 @@ ghost use Rattle.coherence_core.specs.Sessions.{BeginsSession, IsNewCore, KeepsH
 ghost use Rattle.coherence_core.specs.declared.core_state.Core.{Core};
 ghost use Rattle.cache_log.specs.Limits.{most_stamps};
 
-use crate::laws::coverage_by_three_facts;
+use crate::laws::{coverage_by_three_facts, puts_and_openings_keep_stat_files};
 use crate::pending::Pending;
 use any_config::Farm;
-use cache_files::{
-    OpenFault, a_failed_opening_leaves_the_old_number_or_the_next, a_page_has_a_held_stamp,
-    a_session_is_after_every_stamp, open_epoch,
-};
+use cache_files::{OpenFault, a_page_has_a_held_stamp, a_session_is_after_every_stamp, open_epoch};
 use cover_rules::Stamp;
 use docroot_changes::{an_opening_takes_docroot_calls, docroot_calls_add_up, what_an_opening_sets};
-use docroot_format::names_are_apart;
+use docroot_format::names_tell_their_files;
 use flights::Flights;
 use page_index::{PageIndex, no_notes_agree_with_any_files};
 use sp_outside::Disk;
@@ -137,8 +134,8 @@ fn open<D: Disk>(alloc: Global, disk: &mut D) -> Result<Opened, OpenFault>
     a_session_is_after_every_stamp();
     a_stamp_is_held_or_the_greatest();
     a_page_has_a_held_stamp();
-    a_failed_opening_leaves_the_old_number_or_the_next();
-    names_are_apart();
+    puts_and_openings_keep_stat_files();
+    names_tell_their_files();
     no_notes_agree_with_any_files();
     let flights = Flights::new(alloc)?;
     match open_epoch(alloc, disk) {

@@ -2,18 +2,20 @@
 ghost use Rattle.std.specs.Prelude.{◌≡◌, ◌<◌, ◌^◌, ◌∷◌, [], ℕ, Option, Some, IfSome, IsSome, IsTrue, length};
 ghost use Rattle.sp_base.specs.MediaTypes.{is_kind};
 ghost use Rattle.sp_outside.specs.Files.{Files};
+ghost use Rattle.docroot_changes.specs.Changes.{Told};
 ghost use Rattle.docroot_changes.specs.DocrootCalls.{MakesDocrootCalls};
 ghost use Rattle.flights.specs.Flights.{flight_at, without};
 ghost use Rattle.cache_log.specs.Entries.{Landed as landed_entry, Lost};
 ghost use Rattle.cache_log.specs.Rules.{CallConditions};
 ghost use Rattle.coherence_core.specs.Cores.{ExtendsCore, FlightsRise, KeepsFarm};
+ghost use Rattle.coherence_core.specs.Holds.{KeepsStatFiles};
 ghost use Rattle.coherence_core.specs.Landings.{DeliveredAs, ForgetsFor, ForgetsFrom, IsKeptAs, IsKeptFrom, IsStored, fate_of, landed_under};
 ghost use Rattle.coherence_core.specs.Notes.{KnowsDisk};
 ghost use Rattle.sp_outside.specs.Causes.{IsDiskFailure};
 
 use crate::answers::Landed;
 use crate::core_state::Core;
-use crate::laws::coverage_by_three_facts;
+use crate::laws::{coverage_by_three_facts, puts_and_openings_keep_stat_files};
 use cache_files::put_page;
 use cover_rules::Stamp;
 use dispatch_rules::storable;
@@ -83,6 +85,7 @@ fn keep<D: Disk>(
 ) -> Landed
     requires { IsTrue (is_kind answer.now.kind) }
     ensures kept { IsKeptFrom landing answer.now result (D.files disk.old) (D.files disk.new) }
+    ensures stats { Told KeepsStatFiles (D.files disk.old) (D.files disk.new) }
     ensures notes { ForgetsFrom landing result pages.old pages.new }
     ensures disk_failed { IsDiskFailure (D.faults disk.old) (D.faults disk.new) (landed_under result).disk_failed }
     ensures calls { MakesDocrootCalls (D.calls disk.old) (D.calls disk.new) }
@@ -106,12 +109,14 @@ fn store<D: Disk>(
 ) -> Landed
     requires { IsTrue (is_kind answer.now.kind) }
     ensures stored { IsStored clear.key clear.stamp answer.now result (D.files disk.old) (D.files disk.new) }
+    ensures stats { Told KeepsStatFiles (D.files disk.old) (D.files disk.new) }
     ensures notes { ForgetsFor clear.key result pages.old pages.new }
     ensures key { IsKeptAs (Some clear.key) result }
     ensures disk_failed { IsDiskFailure (D.faults disk.old) (D.faults disk.new) (landed_under result).disk_failed }
     ensures calls { MakesDocrootCalls (D.calls disk.old) (D.calls disk.new) }
 {
     what_a_put_sets();
+    puts_and_openings_keep_stat_files();
     pages_take_docroot_calls();
     docroot_calls_add_up();
     let stamp = clear.stamp();

@@ -11,6 +11,7 @@ use crate::core_state::Core;
 use crate::laws::coverage_by_three_facts;
 use crate::pending::Pending;
 use docroot_changes::docroot_calls_add_up;
+use docroot_format::{texts_are_read_back, what_reads_is_its_text};
 use invalidation::PurgeStep;
 use page_index::a_flush_leaves_what_it_does_not_cover;
 use sp_outside::Disk;
@@ -32,6 +33,8 @@ impl Core {
         coverage_by_three_facts();
         docroot_calls_add_up();
         a_flush_leaves_what_it_does_not_cover();
+        texts_are_read_back();
+        what_reads_is_its_text();
         if self.queue.is_empty() {
             return Purged::Idle;
         }

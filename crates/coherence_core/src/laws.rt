@@ -1,9 +1,10 @@
 //! What the core takes of the layers below, and what follows from what a core stands for: laws, on functions that do nothing but to call
 //! others.
-ghost use Rattle.std.specs.Prelude.{◌≡◌, ◌≤◌, ◌++◌, ℕ, AllPairs, Contains, IsTrue, List, [], ◌∷◌, Some, Ok};
+ghost use Rattle.std.specs.Prelude.{◌≡◌, ◌≤◌, ◌++◌, ℕ, AllPairs, Contains, IsTrue, List, [], ◌∷◌, Option, Some, Ok};
 ghost use Rattle.std.specs.FinMap.{empty};
 ghost use Rattle.sp_base.specs.Texts.{Segments};
 ghost use Rattle.sp_base.specs.declared.answer.Answer.{Answer};
+ghost use Rattle.sp_outside.specs.Calls.{Call};
 ghost use Rattle.sp_outside.specs.Files.{Files, file_at};
 ghost use Rattle.any_config.specs.declared.farm.Farm.{Farm};
 ghost use Rattle.cover_rules.specs.Pages.{IsPageKey};
@@ -11,12 +12,14 @@ ghost use Rattle.cover_rules.specs.declared.page.PageKey.{PageKey};
 ghost use Rattle.cover_rules.specs.declared.stamp.Stamp.{Stamp};
 ghost use Rattle.dispatch_rules.specs.Caching.{is_auto};
 ghost use Rattle.docroot_format.specs.Names.{epoch_name};
+ghost use Rattle.docroot_format.specs.declared.fault.FileFault.{FileFault};
 ghost use Rattle.cache_files.specs.declared.head_note.HeadNote.{HeadNote};
+ghost use Rattle.cache_files.specs.declared.epoch.OpenFault.{OpenFault};
 ghost use Rattle.cache_files.specs.declared.page.Page.{Page};
-ghost use Rattle.cache_files.specs.Epochs.{next_epoch};
-ghost use Rattle.cache_files.specs.Pages.{head_at, page_at};
+ghost use Rattle.cache_files.specs.Epochs.{IsOpenLeft, next_epoch, told_with_epoch};
+ghost use Rattle.cache_files.specs.Pages.{IsPutLeft, head_at, page_at, told_with_page};
 ghost use Rattle.stat_files.specs.Stamps.{stamp_at};
-ghost use Rattle.docroot_changes.specs.Changes.{IsStampFolder};
+ghost use Rattle.docroot_changes.specs.Changes.{IsStampFolder, Told};
 ghost use Rattle.flights.specs.declared.flight.Flight.{Flight};
 ghost use Rattle.cache_log.specs.Entries.{LogEntry, Session};
 ghost use Rattle.cache_log.specs.Hits.{MayHit};
@@ -25,7 +28,7 @@ ghost use Rattle.coherence_core.specs.Asking.{next_stamp};
 ghost use Rattle.coherence_core.specs.Closings.{IsClosing};
 ghost use Rattle.coherence_core.specs.Cores.{StandsOver, flushes_of};
 ghost use Rattle.coherence_core.specs.Facts.{CoverageFacts};
-ghost use Rattle.coherence_core.specs.Holds.{Holds, HoldsClosed, files_counted};
+ghost use Rattle.coherence_core.specs.Holds.{Holds, HoldsClosed, KeepsStatFiles, files_counted};
 ghost use Rattle.coherence_core.specs.Openings.{IsCleared, IsCoreOpened};
 ghost use Rattle.coherence_core.specs.Served.{Before, IsFresh, stat_for};
 ghost use Rattle.coherence_core.specs.Sessions.{closing_entries, failed_entries};
@@ -33,15 +36,15 @@ ghost use Rattle.coherence_core.specs.StampTies.{IsStampOfSession, IsStampOfTouc
 ghost use Rattle.coherence_core.specs.declared.core_state.Core.{Core};
 ghost use Rattle.coherence_core.specs.declared.pending.Pending.{Pending};
 
-use cache_files::empty_files_hold_no_page;
-use cover_rules::{a_touch_outdates_the_pages_of_its_folders, the_key_of_a_path_is_a_page_key};
-use docroot_format::{
-    folders_are_mangled, folders_of_stamps_are_paths, names_tell_their_files,
-    what_reads_is_its_text,
+use cache_files::{
+    a_failed_opening_leaves_the_old_number_or_the_next, a_failed_put_leaves_whole_pages,
+    empty_files_hold_no_page,
 };
+use cover_rules::{a_touch_outdates_the_pages_of_its_folders, the_key_of_a_path_is_a_page_key};
+use docroot_format::{folders_are_mangled, folders_of_stamps_are_paths, names_tell_their_files};
 use flights::the_numbers_of_flights_rise;
 use page_index::no_notes_agree_with_any_files;
-use stat_files::empty_files_hold_no_stamp;
+use sp_outside::files_have_names;
 
 /// What is covered is what is deleted or what a touched folder outdates.
 pub fn coverage_by_three_facts()
@@ -53,13 +56,24 @@ pub fn coverage_by_three_facts()
     folders_of_stamps_are_paths();
 }
 
+/// Neither a put of a page nor an opening changes a `.stat` file, whether it is done (`put`, `opened`) or fails (`put_failed`, `opening_failed`).
+pub fn puts_and_openings_keep_stat_files()
+    ensures put { (before after : Option Files) (key : PageKey) (stamp : Stamp) (answer : Answer) → IsPageKey key → after ≡ told_with_page before key stamp answer → Told KeepsStatFiles before after }
+    ensures put_failed { (asked made : Option (List Call)) (before after : Option Files) (key : PageKey) (stamp : Stamp) (answer : Answer) (fault : FileFault) → IsPageKey key → IsPutLeft asked made before after key stamp answer fault → Told KeepsStatFiles before after }
+    ensures opened { (before after : Option Files) (epoch : ℕ) → after ≡ told_with_epoch before epoch → Told KeepsStatFiles before after }
+    ensures opening_failed { (asked made : Option (List Call)) (before after : Option Files) (fault : OpenFault) → IsOpenLeft asked made before after fault → Told KeepsStatFiles before after }
+{
+    files_have_names();
+    names_tell_their_files();
+    a_failed_put_leaves_whole_pages();
+    a_failed_opening_leaves_the_old_number_or_the_next();
+}
+
 /// Where a core and the files stand for a log, the files hold it, and the slices of each flush keep the bound.
 pub fn the_files_hold_what_stands()
     ensures holds { (found : ℕ) (files : Files) (core : Core) (log : List LogEntry) → StandsOver found files core log → Holds core.farm files log }
     ensures bound { (found : ℕ) (files : Files) (core : Core) (log : List LogEntry) → StandsOver found files core log → KeepsBound core.farm found log }
-{
-    what_reads_is_its_text();
-}
+{}
 
 /// Wherever a session ends, also in the middle of it, its files hold its log once that is closed: where each flight that is in the air is lost,
 /// and then each unfinished flush is cut off. A restart allows this. With nothing in the air the flushes alone are cut off.
@@ -69,7 +83,6 @@ pub fn a_session_may_end_at_any_time()
     ensures allowed { (found : ℕ) (files : Files) (core : Core) (log : List LogEntry) (under : CallConditions) → StandsOver found files core log → IsTrue under.restarts → AllAllowed core.farm under (closing_entries core) log }
 {
     coverage_by_three_facts();
-    what_reads_is_its_text();
     the_numbers_of_flights_rise();
 }
 
@@ -139,5 +152,4 @@ pub fn no_files_hold_the_empty_log()
     ensures { (farm : Farm) → HoldsClosed farm empty [] }
 {
     empty_files_hold_no_page();
-    empty_files_hold_no_stamp();
 }

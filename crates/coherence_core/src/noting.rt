@@ -1,6 +1,8 @@
 //! What is noted of a page as it is looked up. A note for which there is no memory falls.
 ghost use Rattle.std.specs.Prelude.{◌≡◌, IfOk};
 ghost use Rattle.page_index.specs.Agreement.{HasNoneCovered};
+ghost use Rattle.page_index.specs.Notes.{stamp_noted};
+ghost use Rattle.sp_base.specs.Texts.{Segments};
 ghost use Rattle.coherence_core.specs.Notes.{HoldsStill};
 ghost use Rattle.coherence_core.specs.Lookups.{NotesHead, NotesHit, NotesStamp};
 
@@ -21,7 +23,8 @@ pub(crate) fn note_head(
     key: &PageKey,
     head: &Option<HeadNote>,
 )
-    ensures { NotesHead key.now head.now pages.old pages.new }
+    ensures notes { NotesHead key.now head.now pages.old pages.new }
+    ensures stamps { (folder : Segments) → stamp_noted pages.new folder ≡ stamp_noted pages.old folder }
 {
     a_noted_head_agrees();
     forgotten_notes_agree();
@@ -46,7 +49,8 @@ fn copy_of_any(alloc: Global, head: &Option<HeadNote>) -> Mem<Option<HeadNote>>
 
 // Lets what is noted of a page stay longer than what nobody asks for.
 pub(crate) fn keep_asked(pages: &mut PageIndex, key: &PageKey)
-    ensures { HoldsStill pages.old pages.new }
+    ensures notes { HoldsStill pages.old pages.new }
+    ensures stamps { (folder : Segments) → stamp_noted pages.new folder ≡ stamp_noted pages.old folder }
 {
     forgotten_notes_agree();
     fewer_notes_agree();

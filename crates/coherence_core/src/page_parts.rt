@@ -1,15 +1,18 @@
 //! The parts of a page: its head, the stamp of its folder and its body, as they are noted, and else as the files have them.
-ghost use Rattle.std.specs.Prelude.{◌≡◌, ◌&&◌, ℕ, IfOk, IfSome, IsTrue, Some, true, option_map};
+ghost use Rattle.std.specs.Prelude.{◌≡◌, ◌&&◌, ◌∷◌, [], ℕ, IfOk, IfSome, IsTrue, Some, true, option_map};
 ghost use Rattle.cover_rules.specs.Coverage.{stat_folder};
 ghost use Rattle.cover_rules.specs.Pages.{IsPageKey};
 ghost use Rattle.cover_rules.specs.declared.invalidation.Invalidation.{Invalidation};
 ghost use Rattle.docroot_changes.specs.Changes.{IsStampFolder};
-ghost use Rattle.cache_files.specs.Pages.{head_at, known_at};
+ghost use Rattle.cache_files.specs.Pages.{head_at, known_at, page_body_name, page_head_name};
+ghost use Rattle.docroot_format.specs.Names.{stat_name};
 ghost use Rattle.page_index.specs.Agreement.{Agrees, HasNoneCovered};
-ghost use Rattle.page_index.specs.Notes.{head_noted};
+ghost use Rattle.page_index.specs.Notes.{head_noted, stamp_noted};
 ghost use Rattle.sp_base.specs.Paths.{is_path};
+ghost use Rattle.sp_base.specs.Texts.{Segments};
 ghost use Rattle.stat_files.specs.Outdated as outdated;
 ghost use Rattle.stat_files.specs.Stamps.{stamp_at};
+ghost use Rattle.coherence_core.specs.LookCalls.{AreRead, folder_file, head_file, stat_file};
 ghost use Rattle.coherence_core.specs.Lookups.{IfAgreed, IsLook, NotesPage, ReadsFiles, stat_asked};
 
 use crate::laws::coverage_by_three_facts;
@@ -38,6 +41,8 @@ pub(crate) fn head_of<D: Disk>(
     ensures value { IfOk result (λ head. IfAgreed (D.files disk.old) pages.old (λ files. head_at files look.now.key.now ≡ head)) }
     ensures notes { NotesPage look.now (D.files disk.old) pages.old pages.new }
     ensures reads { ReadsFiles (D.files disk.old) (D.files disk.new) (D.faults disk.old) (D.faults disk.new) (D.calls disk.old) (D.calls disk.new) result }
+    ensures asks { AreRead (D.calls disk.old) (D.calls disk.new) (head_file pages.old look.now.key.now) result }
+    ensures stamps { (folder : Segments) → stamp_noted pages.new folder ≡ stamp_noted pages.old folder }
 {
     docroot_calls_add_up();
     match noted_head(alloc, pages, look.key)? {
@@ -78,6 +83,8 @@ fn read_head<D: Disk>(
     ensures value { IfOk result (λ head. IfAgreed (D.files disk.old) pages.old (λ files. head_at files look.now.key.now ≡ head)) }
     ensures notes { NotesPage look.now (D.files disk.old) pages.old pages.new }
     ensures reads { ReadsFiles (D.files disk.old) (D.files disk.new) (D.faults disk.old) (D.faults disk.new) (D.calls disk.old) (D.calls disk.new) result }
+    ensures asks { AreRead (D.calls disk.old) (D.calls disk.new) (page_head_name look.now.key.now ∷ []) result }
+    ensures stamps { (folder : Segments) → stamp_noted pages.new folder ≡ stamp_noted pages.old folder }
 {
     pages_take_docroot_calls();
     let head = get_head(alloc, disk, look.key)?;
@@ -102,6 +109,7 @@ pub(crate) fn is_stale<D: Disk>(
     ensures value { IfOk result (λ is. IfAgreed (D.files disk.old) pages.old (λ files. (look.now.auto && outdated.outdates_page (stat_asked look.now files) page) ≡ is)) }
     ensures notes { NotesPage look.now (D.files disk.old) pages.old pages.new }
     ensures reads { ReadsFiles (D.files disk.old) (D.files disk.new) (D.faults disk.old) (D.faults disk.new) (D.calls disk.old) (D.calls disk.new) result }
+    ensures asks { AreRead (D.calls disk.old) (D.calls disk.new) (stat_file pages.old look.now.farm.now look.now.key.now) result }
 {
     docroot_calls_add_up();
     if look.auto {
@@ -124,6 +132,7 @@ fn is_outdated<D: Disk>(
     ensures value { IfOk result (λ is. IfAgreed (D.files disk.old) pages.old (λ files. outdated.outdates_page (stat_asked look.now files) page ≡ is)) }
     ensures notes { NotesPage look.now (D.files disk.old) pages.old pages.new }
     ensures reads { ReadsFiles (D.files disk.old) (D.files disk.new) (D.faults disk.old) (D.faults disk.new) (D.calls disk.old) (D.calls disk.new) result }
+    ensures asks { AreRead (D.calls disk.old) (D.calls disk.new) (folder_file pages.old (stat_folder look.now.farm.now.level look.now.key.now)) result }
 {
     coverage_by_three_facts();
     docroot_calls_add_up();
@@ -153,6 +162,7 @@ fn folder_stamp<D: Disk>(
     ensures value { IfOk result (λ stamp. IfAgreed (D.files disk.old) pages.old (λ files. stamp_at files folder.now ≡ stamp)) }
     ensures notes { NotesPage look.now (D.files disk.old) pages.old pages.new }
     ensures reads { ReadsFiles (D.files disk.old) (D.files disk.new) (D.faults disk.old) (D.faults disk.new) (D.calls disk.old) (D.calls disk.new) result }
+    ensures asks { AreRead (D.calls disk.old) (D.calls disk.new) (folder_file pages.old folder.now) result }
 {
     docroot_calls_add_up();
     match pages.stat(folder) {
@@ -176,6 +186,7 @@ fn read_stamp<D: Disk>(
     ensures value { IfOk result (λ stamp. IfSome (D.files disk.old) (λ files. stamp_at files folder.now ≡ stamp)) }
     ensures notes { NotesPage look.now (D.files disk.old) pages.old pages.new }
     ensures reads { ReadsFiles (D.files disk.old) (D.files disk.new) (D.faults disk.old) (D.faults disk.new) (D.calls disk.old) (D.calls disk.new) result }
+    ensures asks { AreRead (D.calls disk.old) (D.calls disk.new) (stat_name folder.now ∷ []) result }
 {
     coverage_by_three_facts();
     folders_are_mangled();
@@ -202,6 +213,7 @@ pub(crate) fn read_body<D: Disk>(
     ensures agree { IfSome (D.files disk.old) (λ files. head_at files key.now ≡ Some head.now → Agrees pages.old files → Agrees pages.new files) }
     ensures apart { (level : ℕ) (inv : Invalidation) → HasNoneCovered level inv pages.old → HasNoneCovered level inv pages.new }
     ensures reads { ReadsFiles (D.files disk.old) (D.files disk.new) (D.faults disk.old) (D.faults disk.new) (D.calls disk.old) (D.calls disk.new) result }
+    ensures asks { AreRead (D.calls disk.old) (D.calls disk.new) (page_body_name key.now ∷ []) result }
 {
     a_page_is_its_head_and_its_body();
     pages_take_docroot_calls();

@@ -1,5 +1,5 @@
 //! A request that comes to the cache.
-ghost use Rattle.std.specs.Prelude.{◌≡◌, ◌++◌, ℕ, false, IfOk, List};
+ghost use Rattle.std.specs.Prelude.{◌≡◌, ◌++◌, ℕ, false, IfOk, List, Some};
 ghost use Rattle.cover_rules.specs.Pages.{IsPageKey};
 ghost use Rattle.dispatch_rules.specs.Caching.{is_auto};
 ghost use Rattle.docroot_changes.specs.DocrootCalls.{MakesDocrootCalls};
@@ -7,6 +7,7 @@ ghost use Rattle.flights.specs.Flights.{numbers_of};
 ghost use Rattle.cache_log.specs.Entries.{LogEntry};
 ghost use Rattle.coherence_core.specs.Asking.{IsLookedUp, KeyedAs, RequestedAs};
 ghost use Rattle.coherence_core.specs.Cores.{ExtendsCore, FlightsRise, KeepsFarm, CoreStandsFor, flight_labels, flush_numbers};
+ghost use Rattle.coherence_core.specs.LookCalls.{AsksDisk, ReadsPage, page_asked};
 ghost use Rattle.coherence_core.specs.Lookups.{ReadsFiles};
 ghost use Rattle.coherence_core.specs.Notes.{KnowsDisk, KnowsDiskWith, with_notes};
 ghost use Rattle.coherence_core.specs.Requests.{GotAs, got_entries, got_flights, got_flushes, got_labels, requested_under};
@@ -43,6 +44,7 @@ impl Core {
         ensures files { D.files disk.new ≡ D.files disk.old }
         ensures disk_failed { IsDiskFailure (D.faults disk.old) (D.faults disk.new) result.disk_failed }
         ensures calls { MakesDocrootCalls (D.calls disk.old) (D.calls disk.new) }
+        ensures asks { AsksDisk (D.files disk.old) (D.calls disk.old) (D.calls disk.new) self.old (page_asked self.old req.now) result }
         ensures flights { numbers_of self.new.flights ≡ numbers_of self.old.flights ++ got_flights result.got }
         ensures labels { flight_labels self.new.flights ≡ flight_labels self.old.flights ++ got_labels result.got }
         ensures flushes { flush_numbers self.new.queue.items ≡ flush_numbers self.old.queue.items ++ got_flushes result.got }
@@ -62,6 +64,7 @@ impl Core {
         ensures files { D.files disk.new ≡ D.files disk.old }
         ensures disk_failed { IsDiskFailure (D.faults disk.old) (D.faults disk.new) result.disk_failed }
         ensures calls { MakesDocrootCalls (D.calls disk.old) (D.calls disk.new) }
+        ensures asks { AsksDisk (D.files disk.old) (D.calls disk.old) (D.calls disk.new) self.old (page_asked self.old req.now) result }
     {
         docroot_calls_add_up();
         if self.down {
@@ -89,6 +92,7 @@ impl Core {
         ensures files { D.files disk.new ≡ D.files disk.old }
         ensures disk_failed { IsDiskFailure (D.faults disk.old) (D.faults disk.new) result.disk_failed }
         ensures calls { MakesDocrootCalls (D.calls disk.old) (D.calls disk.new) }
+        ensures asks { AsksDisk (D.files disk.old) (D.calls disk.old) (D.calls disk.new) self.old (Some key) result }
     {
         docroot_calls_add_up();
         let Ok(auto) = auto_of(alloc, &self.farm, &key) else {
@@ -119,6 +123,7 @@ impl Core {
         ensures learns { KnowsDiskWith (D.files disk.old) self.old self.new.pages }
         ensures value { IfOk result (λ found. KnowsDisk (D.files disk.old) self.old → IsLookedUp (D.files disk.old) self.old.farm key.now found) }
         ensures reads { ReadsFiles (D.files disk.old) (D.files disk.new) (D.faults disk.old) (D.faults disk.new) (D.calls disk.old) (D.calls disk.new) result }
+        ensures asks { ReadsPage (D.files disk.old) (D.calls disk.old) (D.calls disk.new) self.old.pages self.old.farm key.now result }
     {
         let look = Look {
             farm: &self.farm,

@@ -8,7 +8,7 @@ ghost use Rattle.coherence_core.specs.Notes.{KnowsDisk};
 ghost use Rattle.coherence_core.specs.Sessions.{restarted_entries, restarted_under};
 
 use crate::core_state::Core;
-use crate::laws::coverage_by_three_facts;
+use crate::laws::{coverage_by_three_facts, puts_and_openings_keep_stat_files};
 use cache_files::{OpenFault, open_epoch};
 use docroot_changes::{an_opening_takes_docroot_calls, what_an_opening_sets};
 use page_index::no_notes_agree_with_any_files;
@@ -36,6 +36,7 @@ impl Core {
     {
         coverage_by_three_facts();
         what_an_opening_sets();
+        puts_and_openings_keep_stat_files();
         an_opening_takes_docroot_calls();
         no_notes_agree_with_any_files();
         self.queue.clear();

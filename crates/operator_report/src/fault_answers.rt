@@ -8,7 +8,9 @@ const STATUS: usize = 9;
 
 const PHRASE: usize = 12;
 
-/// How an answer of 503 ends after which the connection closes.
+/// How an answer ends after which the connection closes: the head, as it comes alone after a HEAD, and the body of a 503.
+const CLOSING: &[u8] = b"Connection: close\r\n\r\n";
+
 const CLOSING_503: &[u8] = b"Connection: close\r\n\r\n503 Service Unavailable\n";
 
 /// What an answer is to, where that is known.
@@ -50,7 +52,8 @@ fn cause_of_500(to: AnswerTo) -> &'static str {
 
 // A flush that finds no place leaves its connection open, but where its client asked otherwise.
 fn cause_of_503(answer: &[u8], to: AnswerTo) -> &'static str {
-    match (answer.ends_with(CLOSING_503), to) {
+    let closes = answer.ends_with(CLOSING) || answer.ends_with(CLOSING_503);
+    match (closes, to) {
         (false, _) | (true, AnswerTo::Flush) => "256 flushes are unfinished",
         (true, AnswerTo::Page) => "64 requests of this connection wait",
         (true, AnswerTo::Unknown) =>

@@ -1,7 +1,7 @@
 //! The requests that are to be answered.
 
 use crate::fault_answers::AnswerTo;
-use crate::request_head::{asked_in, body_to_come};
+use crate::request_head::{asked_in, body_to_come, path_in};
 use std::alloc::Global;
 
 /// The most bytes of a method and a target that are told.
@@ -13,8 +13,8 @@ const MOST_CONNECTIONS: usize = 1_024;
 /// How an answer begins after which another comes to the same request.
 const INTERIM: &[u8] = b"HTTP/1.1 1";
 
-/// The path of a flush, as clients spell it. It may be spelled with escapes too.
-const FLUSH: &str = "/dispatcher/invalidate.cache";
+/// The path of a flush, which may have a slash at its end. It may be spelled with escapes too.
+const FLUSH: &[u8] = b"/dispatcher/invalidate.cache";
 
 // What is known of the requests of a connection.
 #[derive(Clone, Copy, Drop)]
@@ -29,8 +29,10 @@ enum Known {
 #[derive(Drop)]
 struct Connection {
     known: Known,
-    // The method and the target of what was asked last. Printable ASCII alone.
+    // The method and the target of what was asked last. Printable ASCII alone, and empty where there was no memory for it.
     text: String,
+    // What an answer to it is to.
+    to: AnswerTo,
 }
 
 fn printed(byte: u8) -> char {
@@ -40,11 +42,26 @@ fn printed(byte: u8) -> char {
     }
 }
 
+// What an answer to this method and this target is to.
+fn answer_to(asked: &[u8]) -> AnswerTo {
+    let Some(path) = path_in(asked) else {
+        return AnswerTo::Unknown;
+    };
+    if path.contains(&b'%') {
+        AnswerTo::Unknown
+    } else if path.strip_suffix(b"/".as_slice()).unwrap_or(path) == FLUSH {
+        AnswerTo::Flush
+    } else {
+        AnswerTo::Page
+    }
+}
+
 impl Connection {
     fn new(alloc: Global) -> Connection {
         Connection {
             known: Known::Nothing,
             text: String::new(alloc),
+            to: AnswerTo::Unknown,
         }
     }
 
@@ -61,12 +78,20 @@ impl Connection {
         let Some(asked) = asked_in(piece) else {
             return Known::Nothing;
         };
+        self.to = answer_to(asked);
+        self.print(asked);
+        Known::Asked(body_to_come(piece))
+    }
+
+    // Keeps what is told of a request: a text with a hole would name another.
+    fn print(&mut self, asked: &[u8]) {
         self.text.clear();
         for byte in asked.iter().take(MOST_TOLD) {
-            // Without memory for it less is told.
-            let _ = self.text.push(printed(*byte));
+            if self.text.push(printed(*byte)).is_err() {
+                self.text.clear();
+                return;
+            }
         }
-        Known::Asked(body_to_come(piece))
     }
 
     // What follows an answer begins a request only where nothing else came with what was asked, and all of it came.
@@ -83,25 +108,6 @@ impl Connection {
 pub struct OpenRequests {
     // By their numbers.
     connections: Vec<Connection>,
-}
-
-// What an answer to this method and this target is to.
-fn answer_to(asked: &str) -> AnswerTo {
-    let target = match asked.find(' ') {
-        Some(blank) => &asked[blank + 1..],
-        None => return AnswerTo::Unknown,
-    };
-    let path = match target.find('?') {
-        Some(query) => &target[..query],
-        None => target,
-    };
-    if path == FLUSH {
-        AnswerTo::Flush
-    } else if path.contains('%') {
-        AnswerTo::Unknown
-    } else {
-        AnswerTo::Page
-    }
 }
 
 impl OpenRequests {
@@ -156,9 +162,9 @@ impl OpenRequests {
 
     /// What the next answer is to.
     pub fn answer_to(&self, conn: u32) -> AnswerTo {
-        match self.asked(conn) {
-            Some(asked) => answer_to(asked),
-            None => AnswerTo::Unknown,
+        match self.connections.get(conn as usize) {
+            Some(connection) if matches!(connection.known, Known::Asked(_)) => connection.to,
+            _ => AnswerTo::Unknown,
         }
     }
 }

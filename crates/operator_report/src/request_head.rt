@@ -48,6 +48,16 @@ pub fn asked_in(piece: &[u8]) -> Option<&[u8]> {
     None
 }
 
+/// The path in a method and a target, as it came.
+pub fn path_in(asked: &[u8]) -> Option<&[u8]> {
+    let blank = asked.iter().position(|byte| *byte == b' ')?;
+    let target = asked.get(blank..)?.strip_prefix(b" ".as_slice())?;
+    match target.iter().position(|byte| *byte == b'?') {
+        Some(mark) => target.get(..mark),
+        None => Some(target),
+    }
+}
+
 // What stands in a line after the name of the field with the length.
 fn length_text(line: &[u8]) -> Option<&[u8]> {
     let name = line.get(..LENGTH_FIELD.len())?;

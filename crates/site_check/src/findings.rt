@@ -9,7 +9,7 @@ use content_json::{ContentFault, read_tree};
 use resource_tree::Tree;
 use script_rank::script_text;
 use site_faults::{ScriptFault, script_faults};
-use sp_base::{Mem, NoMemory, Path};
+use sp_base::{Mem, NoMemory, Path, TextBuf};
 use std::alloc::Global;
 use std::hash::RandomState;
 
@@ -28,10 +28,26 @@ pub fn find(alloc: Global, seeds: RandomState, content: &[u8], any: &[u8]) -> Me
         faults: 0,
         warnings: 0,
     };
-    find_in_content(&mut found, alloc, seeds, content)?;
+    let ask = ask_of(alloc, any)?;
+    find_in_content(&mut found, alloc, seeds, content, &ask)?;
     find_in_file(&mut found, alloc, any)?;
     push_counts(alloc, &mut found.text, found.faults, found.warnings)?;
     Ok(found)
+}
+
+// The host and the port at which the publisher is asked: those of the farm, and of none where the farm is refused.
+fn ask_of(alloc: Global, any: &[u8]) -> Mem<(TextBuf, u16)> {
+    let usual = (TextBuf::of(alloc, "localhost")?, 80u16);
+    let top = match read_any(alloc, any) {
+        Ok(top) => top,
+        Err(AnyFault::NoMemory) => return Err(NoMemory),
+        Err(_) => return Ok(usual),
+    };
+    match farm_of(alloc, &top) {
+        Ok(farm) => Ok((farm.ask_host.duplicate(alloc)?, farm.ask_port)),
+        Err(FarmFault::NoMemory) => Err(NoMemory),
+        Err(_) => Ok(usual),
+    }
 }
 
 fn find_in_content(
@@ -39,9 +55,10 @@ fn find_in_content(
     alloc: Global,
     seeds: RandomState,
     content: &[u8],
+    ask: &(TextBuf, u16),
 ) -> Mem<()> {
     match read_tree(alloc, seeds, content) {
-        Ok(tree) => find_in_tree(found, alloc, &tree),
+        Ok(tree) => find_in_tree(found, alloc, &tree, ask),
         Err(ContentFault::NoMemory) => Err(NoMemory),
         Err(fault) => {
             found.faults = found.faults.saturating_add(1);
@@ -50,12 +67,13 @@ fn find_in_content(
     }
 }
 
-fn find_in_tree(found: &mut Findings, alloc: Global, tree: &Tree) -> Mem<()> {
+fn find_in_tree(found: &mut Findings, alloc: Global, tree: &Tree, ask: &(TextBuf, u16)) -> Mem<()> {
     let told = script_faults(alloc, tree)?;
     for (path, fault) in &told {
         find_script(found, alloc, tree, path, *fault)?;
     }
-    add_warnings(found, &content_warnings(alloc, tree)?)
+    let lines = content_warnings(alloc, tree, ask.0.text(), ask.1)?;
+    add_warnings(found, &lines)
 }
 
 fn add_warnings(found: &mut Findings, lines: &WarningLines) -> Mem<()> {

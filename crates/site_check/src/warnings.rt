@@ -72,8 +72,14 @@ fn warn_of_claims(lines: &mut WarningLines, alloc: Global, tree: &Tree) -> Mem<(
     Ok(())
 }
 
-fn warn_of_mappings(lines: &mut WarningLines, alloc: Global, tree: &Tree) -> Mem<()> {
-    let told = lost_mappings(alloc, tree)?;
+fn warn_of_mappings(
+    lines: &mut WarningLines,
+    alloc: Global,
+    tree: &Tree,
+    host: &str,
+    port: u16,
+) -> Mem<()> {
+    let told = lost_mappings(alloc, tree, host, port)?;
     for lost in told.as_slice() {
         let node = lost.node.as_text();
         match &lost.end {
@@ -177,13 +183,13 @@ fn warn_of_hidings(lines: &mut WarningLines, alloc: Global, tree: &Tree) -> Mem<
     Ok(())
 }
 
-/// What is likely to be a mistake in a content.
-pub fn content_warnings(alloc: Global, tree: &Tree) -> Mem<WarningLines> {
+/// What is likely to be a mistake in a content, where the publisher is asked at a host and a port.
+pub fn content_warnings(alloc: Global, tree: &Tree, host: &str, port: u16) -> Mem<WarningLines> {
     let mut lines = BTreeMap::new(alloc);
     warn_of_scripts(&mut lines, alloc, tree)?;
     warn_of_types(&mut lines, alloc, tree)?;
     warn_of_claims(&mut lines, alloc, tree)?;
-    warn_of_mappings(&mut lines, alloc, tree)?;
+    warn_of_mappings(&mut lines, alloc, tree, host, port)?;
     warn_of_matches(&mut lines, alloc, tree)?;
     warn_of_hidings(&mut lines, alloc, tree)?;
     Ok(lines)

@@ -38,10 +38,18 @@ pub struct LostMapping {
 
 pub type LostMappingList = Items<LostMapping>;
 
-// The host and the port that the name of a node below /etc/map/http is for.
+// The host and the port that the name of a node below /etc/map/http is for. None where no request is for it: a request's host is in
+// lower case, and its port as numbers are written.
 fn host_and_port(name: &str) -> Option<(&str, u16)> {
+    if name.as_bytes().iter().any(|byte| byte.is_ascii_uppercase()) {
+        return None;
+    }
     let at = name.rfind('.')?;
-    match name[at + 1..].parse() {
+    let port = &name[at + 1..];
+    if port.starts_with('0') || port.starts_with('+') {
+        return None;
+    }
+    match port.parse() {
         Ok(port) => Some((&name[..at], port)),
         Err(_) => None,
     }
@@ -77,44 +85,58 @@ fn prefix_of(alloc: Global, path: &Path) -> Mem<TextBuf> {
     Ok(TextBuf::from(text))
 }
 
-// The path that a redirect asks this server for, if it asks this one.
+// The path that a redirect asks this server for, without a slash at its end, if it asks this one. None, too, where the path may be
+// read as another text: with an escape, a mangled prefix, or a segment that a client takes away.
 fn asked_again(target: &str) -> Option<&str> {
     if !target.starts_with('/') || target.starts_with("//") {
         return None;
     }
-    match target.find(|c: char| c == '?' || c == '#') {
-        Some(at) => Some(&target[..at]),
-        None => Some(target),
+    let path = match target.find(|c: char| c == '?' || c == '#') {
+        Some(at) => &target[..at],
+        None => target,
+    };
+    if path.contains('%') || path.contains("/_") || path.contains("/.") {
+        return None;
+    }
+    match path.strip_suffix('/') {
+        Some(shorter) if !shorter.is_empty() => Some(shorter),
+        _ => Some(path),
     }
 }
 
-// Where a text leads for a host and a port.
+// Where a text leads that is asked for at the host and the port of this name. Redirects are followed where the publisher is asked, and
+// nowhere else.
 fn end_of(
     alloc: Global,
     tree: &Tree,
     index: &MapIndex,
-    asked: (&str, u16),
+    asked: &str,
+    name: &str,
     text: TextBuf,
 ) -> Mem<MappingEnd>
     requires { IsIndexOf tree.now index.now }
 {
+    let Some((host, port)) = host_and_port(name) else {
+        return Ok(MappingEnd::Somewhere);
+    };
     let mut text = text;
     for _ in 0..MOST_REDIRECTS {
-        match index.map_in(alloc, tree, asked.0, asked.1, text.text())? {
+        match index.map_in(alloc, tree, host, port, text.text())? {
             MapAnswer::Inside(inside) => {
                 return inside_end(alloc, tree, inside);
             }
             MapAnswer::Away(_, target) => match asked_again(target.text()) {
-                Some(again) => text = TextBuf::of(alloc, again)?,
-                None => return Ok(MappingEnd::Somewhere),
+                Some(again) if name == asked => text = TextBuf::of(alloc, again)?,
+                _ => return Ok(MappingEnd::Somewhere),
             },
         }
     }
     Ok(MappingEnd::InCircles)
 }
 
+// An empty target leaves what follows the prefix, which is known to the one who asks.
 fn inside_end(alloc: Global, tree: &Tree, text: TextBuf) -> Mem<MappingEnd> {
-    if split(alloc, &MergedView { tree }, text.text())?.is_some() {
+    if text.text().is_empty() || split(alloc, &MergedView { tree }, text.text())?.is_some() {
         Ok(MappingEnd::Somewhere)
     } else {
         Ok(MappingEnd::Nowhere(text))
@@ -135,17 +157,20 @@ fn passed_over_for(alloc: Global, tree: &Tree, path: &Path) -> Mem<Option<Path>>
 }
 
 // Where a mapping by its path leads.
-fn plain_end(alloc: Global, tree: &Tree, index: &MapIndex, path: &Path) -> Mem<MappingEnd>
+fn plain_end(
+    alloc: Global,
+    tree: &Tree,
+    index: &MapIndex,
+    asked: &str,
+    path: &Path,
+) -> Mem<MappingEnd>
     requires { IsIndexOf tree.now index.now }
 {
     if let Some(above) = passed_over_for(alloc, tree, path)? {
         return Ok(MappingEnd::PassedOver(above));
     }
     match path.seg(3) {
-        Some(name) => match host_and_port(name) {
-            Some(asked) => end_of(alloc, tree, index, asked, prefix_of(alloc, path)?),
-            None => Ok(MappingEnd::Somewhere),
-        },
+        Some(name) => end_of(alloc, tree, index, asked, name, prefix_of(alloc, path)?),
         None => Ok(MappingEnd::Somewhere),
     }
 }
@@ -155,6 +180,7 @@ fn pattern_end(
     alloc: Global,
     tree: &Tree,
     index: &MapIndex,
+    asked: &str,
     path: &Path,
     node: &Node,
 ) -> Mem<MappingEnd>
@@ -171,26 +197,33 @@ fn pattern_end(
         Err(PatternFault::NoMemory) => return Err(NoMemory),
         Err(_) => return Ok(MappingEnd::Somewhere),
     };
-    let Some(Sample { host, path }) = sample_of(alloc, &pattern, text.text())? else {
-        return Ok(MappingEnd::Somewhere);
-    };
-    match host_and_port(host.text()) {
-        Some(asked) => end_of(alloc, tree, index, asked, path),
+    match sample_of(alloc, &pattern, text.text(), asked)? {
+        Some(Sample { host, path }) => end_of(alloc, tree, index, asked, host.text(), path),
         None => Ok(MappingEnd::Somewhere),
     }
 }
 
-/// The mappings that lead to no resource, in no order that is promised.
-pub fn lost_mappings(alloc: Global, tree: &Tree) -> Mem<LostMappingList> {
+// The name of the node of a host and a port.
+fn name_of(alloc: Global, host: &str, port: u16) -> Mem<String> {
+    let mut name = host.to_ascii_lowercase(alloc)?;
+    name.push_str(".")?;
+    name.push_str(port.to_string(alloc)?.as_str())?;
+    Ok(name)
+}
+
+/// The mappings that lead to no resource, in no order that is promised, where the publisher is asked at a host and a port.
+pub fn lost_mappings(alloc: Global, tree: &Tree, host: &str, port: u16) -> Mem<LostMappingList> {
     let index = MapIndex::of(alloc, tree)?;
+    let name = name_of(alloc, host, port)?;
+    let asked = name.as_str();
     let mut told = Items::new(alloc);
     let rows = tree.rows(alloc)?;
     for row in rows.as_slice() {
         if is_mapping_path(row.0) && leads(row.1) {
             let end = if has_match(row.1) {
-                pattern_end(alloc, tree, &index, row.0, row.1)?
+                pattern_end(alloc, tree, &index, asked, row.0, row.1)?
             } else {
-                plain_end(alloc, tree, &index, row.0)?
+                plain_end(alloc, tree, &index, asked, row.0)?
             };
             if !matches!(end, MappingEnd::Somewhere) {
                 told.push(LostMapping {

@@ -4,7 +4,7 @@ use regex_rules::Pattern;
 use sp_base::{Mem, TextBuf};
 use std::alloc::Global;
 
-/// The host that is tried where a pattern names none.
+/// The host that is tried where a pattern matches none at which the publisher is asked, and names none.
 const USUAL_HOST: &str = "localhost.80";
 
 /// What stands for any character.
@@ -127,22 +127,29 @@ fn sample_at(alloc: Global, pattern: &Pattern, host: &str, path: &str) -> Mem<Op
     }))
 }
 
-/// A host with its port and a path that the pattern matches, if the first rows spell one. The text is that of the pattern.
-pub fn sample_of(alloc: Global, pattern: &Pattern, text: &str) -> Mem<Option<Sample>> {
+fn has_port(host: &str) -> bool {
+    match host.rfind('.') {
+        Some(at) => host[at + 1..].parse::<u16>().is_ok(),
+        None => false,
+    }
+}
+
+/// A host with its port and a path that the pattern matches, if the first rows spell one. The host at which the publisher is asked is
+/// tried first, and then the one that the rows spell, in lower case as requests have it. The text is that of the pattern.
+pub fn sample_of(alloc: Global, pattern: &Pattern, text: &str, asked: &str) -> Mem<Option<Sample>> {
     let whole = spelled(alloc, text)?;
     let whole = whole.as_str();
     let (host, path) = match whole.find('/') {
         Some(at) => (&whole[..at], &whole[at..]),
         None => (whole, ""),
     };
-    let has_port = match host.rfind('.') {
-        Some(at) => host[at + 1..].parse::<u16>().is_ok(),
-        None => false,
-    };
-    sample_at(
-        alloc,
-        pattern,
-        if has_port { host } else { USUAL_HOST },
-        path,
-    )
+    let sample = sample_at(alloc, pattern, asked, path)?;
+    if sample.is_some() {
+        return Ok(sample);
+    }
+    if !has_port(host) {
+        return sample_at(alloc, pattern, USUAL_HOST, path);
+    }
+    let host = host.to_ascii_lowercase(alloc)?;
+    sample_at(alloc, pattern, host.as_str(), path)
 }

@@ -37,6 +37,16 @@ impl Ready {
         Ok(())
     }
 
+    /// Takes all places of another, in their order, to the end.
+    pub fn take_all(&mut self, other: &mut Ready) -> Mem<()> {
+        for _ in 0..other.queue.len() {
+            if let Some(place) = other.pop() {
+                self.push(place)?;
+            }
+        }
+        Ok(())
+    }
+
     /// Takes the place whose turn it is.
     pub fn pop(&mut self) -> Option<u32> {
         let place = self.queue.pop_front()?;

@@ -25,9 +25,6 @@ const LISTENER: u32 = MOST_PLACES;
 /// The most events that one wait tells of.
 const MOST_EVENTS: usize = 256;
 
-/// The most turns between two looks at what the system tells.
-const MOST_TURNS: u32 = 64;
-
 /// How long one wait may be, in milliseconds.
 const LONGEST_WAIT: u64 = 100;
 
@@ -42,9 +39,10 @@ pub(crate) struct Sockets {
     listening: Listening,
     places: Places,
     ready: Ready,
+    // The places whose turn is to come again after the next wait, behind those that it tells of, so that none has two turns before another
+    // that is ready has one.
+    again: Ready,
     buffer: ReadBuffer,
-    // How many turns there were since the last wait.
-    turns: u32,
     // The time at the last wait.
     now: Duration,
     // The time of the last look at who is silent.
@@ -80,8 +78,8 @@ impl Sockets {
             listening,
             places: Places::new(alloc)?,
             ready: Ready::new(alloc, MOST_PLACES + 1)?,
+            again: Ready::new(alloc, MOST_PLACES + 1)?,
             buffer: ReadBuffer::new(alloc)?,
-            turns: 0,
             now: Duration::ZERO,
             looked: Duration::ZERO,
         })
@@ -96,11 +94,11 @@ impl Sockets {
     ) -> Result<Happening, WorldFault>
         ensures { IfOk result HasSize }
     {
-        if self.ready.is_empty() || self.turns >= MOST_TURNS {
+        if self.ready.is_empty() {
             self.wait(clock, self.patience(work))?;
             self.look_round()?;
+            self.ready.take_all(&mut self.again)?;
         }
-        self.turns = self.turns.saturating_add(1);
         match self.ready.pop() {
             None => Ok(Happening::Quiet),
             Some(LISTENER) => Ok(self.accept(alloc)?),
@@ -111,14 +109,13 @@ impl Sockets {
     // How long the next wait may be.
     fn patience(&self, work: Work) -> Duration {
         match work {
-            Work::Idle if self.ready.is_empty() => Duration::from_millis(LONGEST_WAIT),
+            Work::Idle if self.again.is_empty() => Duration::from_millis(LONGEST_WAIT),
             _ => Duration::ZERO,
         }
     }
 
     // Waits for what the system tells, and takes it.
     fn wait<C: Clock>(&mut self, clock: &C, longest: Duration) -> Result<(), WorldFault> {
-        self.turns = 0;
         if let Err(fault) = self.poll.poll(&mut self.events, Some(longest)) {
             return Err(world_fault(&fault));
         }
@@ -167,7 +164,7 @@ impl Sockets {
         let Some((stream, address)) = self.listening.accept() else {
             return Ok(Happening::Quiet);
         };
-        self.ready.push(LISTENER)?;
+        self.again.push(LISTENER)?;
         self.let_in(alloc, place, stream, address)
     }
 
@@ -206,7 +203,7 @@ impl Sockets {
         let happening = told(alloc, place, heard, &self.buffer.bytes)?;
         match self.places.settle(place) {
             Fate::Rests => {}
-            Fate::Due => self.ready.push(place)?,
+            Fate::Due => self.again.push(place)?,
             Fate::Free => self.listen_again()?,
         }
         Ok(happening)

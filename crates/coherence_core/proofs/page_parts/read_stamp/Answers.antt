@@ -1,4 +1,6 @@
 use Rattle.std.proofs.Common.{◌∙◌, sym, rules}
+use Rattle.std.proofs.lemmas.Result.{err_from_is_err_and}
+use Rattle.coherence_core.proofs.CallsOfLooks.{err_read_once}
 use Rattle.coherence_core.proofs.LookLemmas.{not_on, noted_stamp, stamp_read}
 use Rattle.coherence_core.proofs.page_parts.read_stamp.Goals as goal
 
@@ -13,3 +15,8 @@ returns-then-may_be_noted-clause-reads g c = record { files = search rules; caus
 
 pub returns-else-may_be_noted-clause-reads : goal.returns-else-may_be_noted-clause-reads
 returns-else-may_be_noted-clause-reads g c = record { files = search rules; cause = search rules; calls = c.stamps_take_docroot_calls.ensures.read c.stamp_of.result _ _ _ c.requires.path c.stamp_of.ensures.made }
+
+pub returns-in_err-stamp-clause-asks : goal.returns-in_err-stamp-clause-asks
+returns-in_err-stamp-clause-asks g c =
+    let p = err_from_is_err_and c.from_residual.result c.from_residual.ensures.1 in
+    rw (p.1, p.2) (err_read_once _ _ _ _ c.in_err-stamp.ensures.made)

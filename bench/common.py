@@ -1,4 +1,5 @@
-"""What the measuring scripts share."""
+"""What the measuring scripts share. It needs a C compiler for what starts a measured command, and ends where the memory that it shows isn't
+that of the measured program alone."""
 
 import atexit
 import collections

@@ -68,6 +68,8 @@ class Server:
 
     def __init__(self, name, folder, port):
         self.name, self.folder, self.port, self.process = name, f"{folder}/{name}", port, None
+        # Words that stand before its command.
+        self.before = []
         os.makedirs(self.folder, exist_ok=True)
 
     def begin(self, command, target):
@@ -75,7 +77,7 @@ class Server:
         began = time.monotonic()
         with open(f"{self.folder}/said", "wb") as said:
             self.process = subprocess.Popen(
-                command, cwd=self.folder, stdin=subprocess.DEVNULL, stdout=said, stderr=said, preexec_fn=pinned(2)
+                [*self.before, *command], cwd=self.folder, stdin=subprocess.DEVNULL, stdout=said, stderr=said, preexec_fn=pinned(2)
             )
         while time.monotonic() - began < 120:
             if self.process.poll() is not None:

@@ -8,3 +8,9 @@ abbrev pub FillsFront : Heard → List ℕ → Type 0
 FillsFront (Bytes count) room = (1 ≤ count) × (count ≤ length room)
 FillsFront Gone room = Unit {0}
 FillsFront Nothing room = Unit {0}
+
+-- no more bytes than these were read
+abbrev pub HasAtMost : Heard → ℕ → Type 0
+HasAtMost (Bytes count) most = count ≤ most
+HasAtMost Gone most = Unit {0}
+HasAtMost Nothing most = Unit {0}

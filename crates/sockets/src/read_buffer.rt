@@ -4,9 +4,8 @@ ghost use Rattle.std.specs.Prelude.{◌≤◌, length};
 use sp_base::Mem;
 use std::alloc::Global;
 
-/// The most bytes that one read takes, so that one happening holds no more than the answers of these many bytes of requests, for which
-/// all others wait: most heads fit in, and some ten of the shortest requests.
-const READ_ROOM: usize = 1_024;
+/// The most bytes that one read takes.
+const READ_ROOM: usize = 16_384;
 
 /// Room for one read.
 #[derive(Drop)]

@@ -1,6 +1,6 @@
 //! One client's socket.
-ghost use Rattle.std.specs.Prelude.{◌≤◌, length, IfSome};
-ghost use Rattle.sockets.specs.Heard.{FillsFront};
+ghost use Rattle.std.specs.Prelude.{◌≡◌, ◌≤◌, length, IfSome, max};
+ghost use Rattle.sockets.specs.Heard.{FillsFront, HasAtMost};
 
 use crate::unsent::{Broken, Peer, Unsent};
 use mio::event::Event;
@@ -12,6 +12,10 @@ use std::time::Duration;
 
 /// With more bytes than these unsent a client isn't read: it is to take its answers first.
 const MOST_UNSENT_BESIDE_READING: usize = 65_536;
+
+/// As many bytes a read may take of a client that was just answered: one happening then holds no more than the answers of these many bytes of
+/// requests, for which all others wait. Most heads fit in, and some ten of the shortest requests.
+const SHORTEST_READ: usize = 1_024;
 
 /// How long what a client sends is dropped after the last byte went to it. A socket that is closed with bytes unread is reset, and the
 /// reset may take the answer with it.
@@ -68,6 +72,8 @@ pub(crate) struct Socket {
     is_due: bool,
     // When bytes last came or went.
     moved: Duration,
+    // How many bytes were told since something was last sent.
+    unanswered: usize,
 }
 
 impl Peer for TcpStream {
@@ -101,6 +107,7 @@ impl Socket {
             is_ending: false,
             is_due: false,
             moved: now,
+            unanswered: 0,
         }
     }
 
@@ -174,7 +181,8 @@ impl Socket {
     /// One read, as far as it is told or dropped. The room isn't empty.
     pub fn hear(&mut self, room: &mut [u8], now: Duration) -> Heard
         requires { 1 ≤ length room.old }
-        ensures { FillsFront result room.new }
+        ensures fills { FillsFront result room.new }
+        ensures most { HasAtMost result (max 1024 self.old.unanswered) }
     {
         self.is_due = false;
         match self.stage {
@@ -217,12 +225,15 @@ impl Socket {
         }
     }
 
-    // One read whose bytes are told.
+    // One read whose bytes are told. It takes no more than were told since something was last sent, where these are many: so a long body is
+    // read by large pieces, and requests that are answered by small ones.
     fn listen(&mut self, room: &mut [u8], now: Duration) -> Heard
         requires { 1 ≤ length room.old }
-        ensures { FillsFront result room.new }
+        ensures fills { FillsFront result room.new }
+        ensures most { HasAtMost result (max 1024 self.old.unanswered) }
     {
-        match self.read(room) {
+        let most = self.unanswered.max(SHORTEST_READ).min(room.len());
+        match self.read(&mut room[..most]) {
             None => Heard::Nothing,
             Some(0) => {
                 self.stage = if self.unsent.is_empty() {
@@ -234,6 +245,7 @@ impl Socket {
             }
             Some(count) => {
                 self.moved = now;
+                self.unanswered = self.unanswered.saturating_add(count);
                 Heard::Bytes(count)
             }
         }
@@ -255,7 +267,10 @@ impl Socket {
         head: &[u8],
         body: &[u8],
         now: Duration,
-    ) -> Result<(), Broken> {
+    ) -> Result<(), Broken>
+        ensures { self.new.unanswered ≡ 0 }
+    {
+        self.unanswered = 0;
         let waits = !self.unsent.is_empty();
         let sent = self.unsent.send(alloc, &mut self.stream, head, body);
         if !waits {

@@ -1,4 +1,3 @@
-use Rattle.std.proofs.Common.{◌++◌}
 use Rattle.sockets.proofs.Giving.{given_at_once, given_nothing, given_then_flushed, cut_off, on_any_err, on_any_ok}
 use Rattle.sockets.proofs.unsent.Unsent.pass_on.Goals as goal
 

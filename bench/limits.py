@@ -12,11 +12,11 @@ import time
 from common import own_mounts
 
 NOBODY = 65534
-DISK = "2m"
+DISK_SIZE = "2m"
 DESCRIPTORS = 64
 CROWD = 80
 PATIENCE = 5
-# What a server may answer under a limit in the place of what was asked.
+# What a server may answer in the place of what was asked, where it can't open files or write them.
 REFUSALS = (500, 503, 507)
 
 # Both clocks go back by an hour at each hundredth look. They begin late enough for that.
@@ -37,6 +37,9 @@ int clock_gettime(clockid_t clock, struct timespec *now) {
 class Limit:
     """One that denies nothing."""
 
+    # What may be answered in the place of what was asked.
+    refusals = ()
+
     def __init__(self, server):
         self.server, self.docroot = server, f"{server.folder}/docroot"
 
@@ -56,6 +59,8 @@ class Limit:
 class Descriptors(Limit):
     """64 descriptors, which clients take that say nothing."""
 
+    refusals = REFUSALS
+
     def __init__(self, server):
         super().__init__(server)
         self.crowd = []
@@ -63,7 +68,8 @@ class Descriptors(Limit):
     def impose(self):
         resource.prlimit(self.server.process.pid, resource.RLIMIT_NOFILE, (DESCRIPTORS, DESCRIPTORS))
         with contextlib.suppress(OSError):
-            self.crowd += [socket.create_connection(("127.0.0.1", self.server.port), PATIENCE) for _ in range(CROWD - len(self.crowd))]
+            while len(self.crowd) < CROWD:
+                self.crowd.append(socket.create_connection(("127.0.0.1", self.server.port), PATIENCE))
 
     def lift(self):
         for client in self.crowd:
@@ -81,6 +87,8 @@ class FewDescriptors(Descriptors):
 class Disk(Limit):
     """One whose docroot is on a small disk of its own, beside which others may write."""
 
+    refusals = REFUSALS
+
     def __init__(self, server):
         super().__init__(server)
         self.disk = f"{server.folder}/disk"
@@ -88,14 +96,15 @@ class Disk(Limit):
     def begin(self):
         own_mounts()
         os.makedirs(self.disk, exist_ok=True)
-        subprocess.run(["mount", "-t", "tmpfs", "-o", f"size={DISK}", "none", self.disk], check=True)
+        subprocess.run(["mount", "-t", "tmpfs", "-o", f"size={DISK_SIZE}", "none", self.disk], check=True)
         os.mkdir(f"{self.disk}/docroot")
         shutil.rmtree(self.docroot, ignore_errors=True)
         os.symlink("disk/docroot", self.docroot)
 
     def end(self):
-        os.remove(self.docroot)
+        # While it is busy this is tried again, so the link goes last.
         subprocess.run(["umount", self.disk], check=True)
+        os.remove(self.docroot)
 
 
 class FullDisk(Disk):

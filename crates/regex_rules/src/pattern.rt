@@ -10,6 +10,7 @@ ghost use Rattle.regex_rules.specs.Reading.{pattern_of};
 
 use crate::fronts::last_front;
 use crate::matching::is_match;
+use crate::positions::Positions;
 use crate::read::read_places;
 use crate::{PatternFault, Place};
 use sp_base::Mem;
@@ -20,6 +21,8 @@ use std::marker::Model;
 #[derive(Drop)]
 pub struct Pattern {
     pub(crate) places: Vec<Place>,
+    // Where the pattern has at most 64 characters.
+    positions: Option<Positions>,
 }
 
 impl Model for Pattern {
@@ -47,18 +50,26 @@ impl Pattern {
         ensures none { IfErr result (λ e. e ≢ PatternFault.NoMemory → (tree : Tree) → IsPattern (chars text.now) tree → ⊥) }
     {
         match read_places(alloc, text) {
-            Ok(places) => Ok(Pattern { places }),
+            Ok(places) => {
+                let positions = Positions::of(alloc, places.as_slice())?;
+                Ok(Pattern { places, positions })
+            }
             Err(fault) => Err(fault),
         }
     }
 
     /// Whether the whole text is in the pattern's language. The time that it takes is the number of the text's characters times that
-    /// of the pattern's at most. Memory is taken for two sets of the pattern's places, and for its open brackets.
+    /// of the pattern's at most. Of a pattern with at most 64 characters no memory is taken; of a longer one that for two sets of its places,
+    /// and for its open brackets.
     pub fn matches(&self, alloc: Global, text: &str) -> Mem<bool>
         ensures value { IfOk result (λ answer. answer ≡ in_language (tree_of self.now) (chars text.now)) }
         ensures relation { IfOk result (λ answer. IsTrue answer ↔ InLanguage (tree_of self.now) (chars text.now)) }
     {
-        is_match(alloc, self.places.as_slice(), text)
+        let places = self.places.as_slice();
+        match &self.positions {
+            Some(positions) => Ok(positions.is_match(places, text)),
+            None => is_match(alloc, places, text),
+        }
     }
 
     /// How far the longest beginning of the text goes that is in the pattern's language, of those that end at a place or after it,

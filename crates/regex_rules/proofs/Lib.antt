@@ -3,6 +3,9 @@ pub mod CuttingLemmas
 pub mod WalkLemmas
 pub mod MarkLemmas
 pub mod MatchLemmas
+pub mod BitLemmas
+pub mod PartLemmas
+pub mod WayLemmas
 pub mod OffLemmas
 pub mod LostLemmas
 pub mod FrontLemmas

@@ -6,4 +6,5 @@ pub mod Deciding
 pub mod Fronts
 pub mod Off
 pub mod Walks
+pub mod Positions
 pub mod Reading

@@ -1,11 +1,10 @@
 -- Sets of characters as numbers.
 use Rattle.std.proofs.Common.{◌≡◌, ◌≢◌, ◌↔◌, ◌⊎◌, inl, inr, ℕ, ◌+◌, ◌^◌, ◌%◌, ◌<◌, ◌≤◌, Bool, true, false, refl, ap, sym, ◌∙◌, subst, arith, min, max, bit_and, bit_or, if◌then◌else◌, mod-eq_of_lt, pow_pos}
-use Rattle.std.proofs.Math.Pow.{pow_below}
+use Rattle.std.proofs.lemmas.Nat.{pow_below}
 use Rattle.std.specs.Int.{bit_at}
 use Rattle.std.proofs.lemmas.Bool.{cases_eq}
 use Rattle.std.proofs.lemmas.Nat.Bits.{bit_at-lt, bit_at_and, bit_at_or, bit_at-zero, bit_at-pow_same, bit_at-pow_other, same_from_bits}
-use Rattle.regex_rules.specs.declared.linking.Piece.{Piece}
-use Rattle.regex_rules.specs.Positions.{Has, bit_of, then, either}
+use Rattle.regex_rules.specs.Positions.{Has, bit_of}
 
 pub has_or : (a b p : ℕ) → Has (bit_or a b) p ↔ (Has a p ⊎ Has b p)
 unfolding Has

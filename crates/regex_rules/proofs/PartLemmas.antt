@@ -3,7 +3,7 @@ use Rattle.std.proofs.Common.{◌≡◌, ◌↔◌, ◌⊎◌, inl, inr, ℕ, �
 use Rattle.regex_rules.specs.declared.linking.Piece.{Piece}
 use Rattle.regex_rules.specs.declared.repeat.Repeat.{Repeat}
 use Rattle.regex_rules.specs.Languages.{Texts, Cut, Repeated, may_lack, may_go_on}
-use Rattle.regex_rules.specs.Positions.{Has, then, so_often, Joins}
+use Rattle.regex_rules.specs.Positions.{Has, followed, so_often, Joins}
 use Rattle.regex_rules.proofs.TextLemmas.{Reach, Inside, Says, cut_parts, reach_step, reach_inside, enters_inside}
 use Rattle.regex_rules.proofs.BitLemmas.{has_if}
 
@@ -25,11 +25,11 @@ module _ (P L A : Texts) (repeat : Repeat) (row next : Piece) (AtRow : ℕ → T
     (at_row : (q : ℕ) → AtRow q w → q < mid) (at_next : (q : ℕ) → AtNext (Inside (Cut P L) repeat A) q w → mid ≤ q)
     (last_row : (q : ℕ) → Has row.last q → q < mid) (last_next : (q : ℕ) → Has next.last q → mid ≤ q) where
 
-  pub both_end : Reach P (Cut L (Repeated repeat A)) w ↔ ((q : ℕ) × (AtRow q w ⊎ AtNext (Inside (Cut P L) repeat A) q w) × Has (then row (so_often repeat next)).last q)
+  pub both_end : Reach P (Cut L (Repeated repeat A)) w ↔ ((q : ℕ) × (AtRow q w ⊎ AtNext (Inside (Cut P L) repeat A) q w) × Has (followed row (so_often repeat next)).last q)
   both_end = (λ r. there ((reach_step P L (Repeated repeat A) w).1 r), λ s. back s.0 s.1 ((has_if (may_lack repeat || next.lacks) next.last row.last s.0).0 s.2))
     where
       there : (Reach P L w × Repeated repeat A []) ⊎ Reach (Cut P L) (Repeated repeat A) w
-          → (q : ℕ) × (AtRow q w ⊎ AtNext (Inside (Cut P L) repeat A) q w) × Has (then row (so_often repeat next)).last q
+          → (q : ℕ) × (AtRow q w ⊎ AtNext (Inside (Cut P L) repeat A) q w) × Has (followed row (so_often repeat next)).last q
       there (inl (reach, none)) =
           let s = row_ends.0 reach in
           (s.0, inl s.1, (has_if (may_lack repeat || next.lacks) next.last row.last s.0).1 (inr (next_lacks.1 none, s.2)))
@@ -45,7 +45,7 @@ module _ (P L A : Texts) (repeat : Repeat) (row next : Piece) (AtRow : ℕ → T
       back q (inr a) (inr (lacks, last)) = clash q mid (last_row q last) (at_next q a)
 
   -- where the piece begins, and where it begins again
-  pub piece_begins : ((P w × (row.lacks ≡ true)) ⊎ EndsIn AtRow row.last w) ⊎ ((may_go_on repeat ≡ true) × EndsIn (AtNext (Inside (Cut P L) repeat A)) next.last w) ↔ Inside (Cut P L) repeat A w
+  pub piece_begins : (((P w × (row.lacks ≡ true)) ⊎ EndsIn AtRow row.last w) ⊎ ((may_go_on repeat ≡ true) × EndsIn (AtNext (Inside (Cut P L) repeat A)) next.last w)) ↔ Inside (Cut P L) repeat A w
   piece_begins = (λ s. (enters_inside (Cut P L) repeat A w).0 (there s), λ i. back ((enters_inside (Cut P L) repeat A w).1 i))
     where
       there : ((P w × (row.lacks ≡ true)) ⊎ EndsIn AtRow row.last w) ⊎ ((may_go_on repeat ≡ true) × EndsIn (AtNext (Inside (Cut P L) repeat A)) next.last w)

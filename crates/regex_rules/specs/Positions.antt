@@ -25,47 +25,47 @@ count (Or rows) = count rows
 
 -- ---- with which characters the texts of rows may begin and end, and whether nothing is one of them
 
-abbrev pub piece : ℕ → ℕ → Bool → Piece
-piece first last lacks = record { first = first; last = last; lacks = lacks }
+abbrev pub piece_of : ℕ → ℕ → Bool → Piece
+piece_of first last lacks = record { first = first; last = last; lacks = lacks }
 
 -- a row before its first piece, and no rows
 abbrev pub empty_row : Piece
-empty_row = piece 0 0 true
+empty_row = piece_of 0 0 true
 
 abbrev pub no_rows : Piece
-no_rows = piece 0 0 false
+no_rows = piece_of 0 0 false
 
 -- one of both
 abbrev pub either : Piece → Piece → Piece
-either one other = piece (bit_or one.first other.first) (bit_or one.last other.last) (one.lacks || other.lacks)
+either one other = piece_of (bit_or one.first other.first) (bit_or one.last other.last) (one.lacks || other.lacks)
 
 -- the one after the other
-abbrev pub then : Piece → Piece → Piece
-then row next =
-    piece (if row.lacks then bit_or row.first next.first else row.first) (if next.lacks then bit_or next.last row.last else next.last) (row.lacks && next.lacks)
+abbrev pub followed : Piece → Piece → Piece
+followed row next =
+    piece_of (if row.lacks then bit_or row.first next.first else row.first) (if next.lacks then bit_or next.last row.last else next.last) (row.lacks && next.lacks)
 
 -- a piece that stands so often
 abbrev pub so_often : Repeat → Piece → Piece
-so_often repeat one = piece one.first one.last (may_lack repeat || one.lacks)
+so_often repeat one = piece_of one.first one.last (may_lack repeat || one.lacks)
 
 -- one character
-abbrev pub only : ℕ → Piece
-only p = piece (bit_of p) (bit_of p) false
+abbrev pub one_at : ℕ → Piece
+one_at p = piece_of (bit_of p) (bit_of p) false
 
 -- the last row of a tree, and those before it together; its characters are counted from a number on
-abbrev pub row : Which → Tree → ℕ → Piece
-row Last Empty n = empty_row
-row Last (Char rows one repeat) n = then (row Last rows n) (so_often repeat (only (n + count rows)))
-row Last (Bracket rows inner repeat) n = then (row Last rows n) (so_often repeat (either (row Earlier inner (n + count rows)) (row Last inner (n + count rows))))
-row Last (Or rows) n = empty_row
-row Earlier Empty n = no_rows
-row Earlier (Char rows one repeat) n = row Earlier rows n
-row Earlier (Bracket rows inner repeat) n = row Earlier rows n
-row Earlier (Or rows) n = either (row Earlier rows n) (row Last rows n)
+abbrev pub row_at : Which → Tree → ℕ → Piece
+row_at Last Empty n = empty_row
+row_at Last (Char rows one repeat) n = followed (row_at Last rows n) (so_often repeat (one_at (n + count rows)))
+row_at Last (Bracket rows inner repeat) n = followed (row_at Last rows n) (so_often repeat (either (row_at Earlier inner (n + count rows)) (row_at Last inner (n + count rows))))
+row_at Last (Or rows) n = empty_row
+row_at Earlier Empty n = no_rows
+row_at Earlier (Char rows one repeat) n = row_at Earlier rows n
+row_at Earlier (Bracket rows inner repeat) n = row_at Earlier rows n
+row_at Earlier (Or rows) n = either (row_at Earlier rows n) (row_at Last rows n)
 
 -- all rows together
-abbrev pub whole : Tree → ℕ → Piece
-whole tree n = either (row Earlier tree n) (row Last tree n)
+abbrev pub rows_at : Tree → ℕ → Piece
+rows_at tree n = either (row_at Earlier tree n) (row_at Last tree n)
 
 -- ---- which characters may come after which
 
@@ -75,8 +75,8 @@ Joins row next repeat q p = Has next.first p × (Has row.last q ⊎ ((may_go_on 
 
 abbrev pub Follows : Tree → ℕ → ℕ → ℕ → Type 0
 Follows Empty n q p = ⊥
-Follows (Char rows one repeat) n q p = Follows rows n q p ⊎ Joins (row Last rows n) (only (n + count rows)) repeat q p
-Follows (Bracket rows inner repeat) n q p = Follows rows n q p ⊎ (Follows inner (n + count rows) q p ⊎ Joins (row Last rows n) (whole inner (n + count rows)) repeat q p)
+Follows (Char rows one repeat) n q p = Follows rows n q p ⊎ Joins (row_at Last rows n) (one_at (n + count rows)) repeat q p
+Follows (Bracket rows inner repeat) n q p = Follows rows n q p ⊎ (Follows inner (n + count rows) q p ⊎ Joins (row_at Last rows n) (rows_at inner (n + count rows)) repeat q p)
 Follows (Or rows) n q p = Follows rows n q p
 
 -- a character of a text may stand at this one of the pattern
@@ -90,11 +90,11 @@ Takes (Or rows) n p c = Takes rows n p c
 
 -- from a character of the pattern on, the text is taken up to an end
 abbrev pub GoesOn : Tree → ℕ → List ℕ → Type 0
-GoesOn tree p [] = Has (whole tree 0).last p
+GoesOn tree p [] = Has (rows_at tree 0).last p
 GoesOn tree p (c ∷ cs) = (q : ℕ) × Follows tree 0 p q × Takes tree 0 q c × GoesOn tree q cs
 
 -- Each character of the text is taken by one of the pattern: the first by one with which texts begin, each next one by one that may come after the one before, the last
 -- by one with which texts end. The empty text is taken where nothing is a text of the pattern.
 abbrev pub IsWay : Tree → List ℕ → Type 0
-IsWay tree [] = (whole tree 0).lacks ≡ true
-IsWay tree (c ∷ cs) = (p : ℕ) × Has (whole tree 0).first p × Takes tree 0 p c × GoesOn tree p cs
+IsWay tree [] = (rows_at tree 0).lacks ≡ true
+IsWay tree (c ∷ cs) = (p : ℕ) × Has (rows_at tree 0).first p × Takes tree 0 p c × GoesOn tree p cs

@@ -6,6 +6,8 @@ pub mod MatchLemmas
 pub mod BitLemmas
 pub mod PartLemmas
 pub mod WayLemmas
+pub mod LinkLemmas
+pub mod KeptLemmas
 pub mod OffLemmas
 pub mod LostLemmas
 pub mod FrontLemmas

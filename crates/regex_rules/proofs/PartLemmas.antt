@@ -24,7 +24,6 @@ module _ (P L A : Texts) (repeat : Repeat) (row next : Piece) (AtRow : ℕ → T
     (row_ends : Reach P L w ↔ EndsIn AtRow row.last w) (next_ends : Reach (Inside (Cut P L) repeat A) A w ↔ EndsIn (AtNext (Inside (Cut P L) repeat A)) next.last w)
     (at_row : (q : ℕ) → AtRow q w → q < mid) (at_next : (q : ℕ) → AtNext (Inside (Cut P L) repeat A) q w → mid ≤ q)
     (last_row : (q : ℕ) → Has row.last q → q < mid) (last_next : (q : ℕ) → Has next.last q → mid ≤ q) where
-
   pub both_end : Reach P (Cut L (Repeated repeat A)) w ↔ ((q : ℕ) × (AtRow q w ⊎ AtNext (Inside (Cut P L) repeat A) q w) × Has (followed row (so_often repeat next)).last q)
   both_end = (λ r. there ((reach_step P L (Repeated repeat A) w).1 r), λ s. back s.0 s.1 ((has_if (may_lack repeat || next.lacks) next.last row.last s.0).0 s.2))
     where
@@ -65,7 +64,6 @@ module _ (P L A : Texts) (repeat : Repeat) (row next : Piece) (AtRow : ℕ → T
       (next_step : AtNext (Inside (Cut P L) repeat A) p v ↔ (TakesNext × Comes (Inside (Cut P L) repeat A w) (Has next.first p) (AtNext (Inside (Cut P L) repeat A)) FollowNext w))
       (takes_row : TakesRow → p < mid) (takes_next : TakesNext → mid ≤ p) (first_row : FirstRow → p < mid) (first_next : Has next.first p → mid ≤ p)
       (follow_row : (q : ℕ) → FollowRow q → (q < mid) × (p < mid)) (follow_next : (q : ℕ) → FollowNext q → (mid ≤ q) × (mid ≤ p)) where
-
     abbrev pub Step : Type 0
     Step =
         (TakesRow ⊎ TakesNext)

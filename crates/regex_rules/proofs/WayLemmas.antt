@@ -92,7 +92,7 @@ row_spans (Bracket rows inner repeat) Last n small =
     let high = n + (count rows + count inner) in
     spans_then n high (row_at Last rows n) (so_often repeat (either (row_at Earlier inner m) (row_at Last inner m))) (spans_wide n n m high (row_at Last rows n) (omega arith) (omega arith) (row_spans rows Last n (omega (arith, small))))
     (spans_so_often n high repeat (either (row_at Earlier inner m) (row_at Last inner m)) (spans_wide m n (m + count inner) high (either (row_at Earlier inner m) (row_at Last inner m)) (omega arith) (omega arith)
-        (spans_either m (m + count inner) (row_at Earlier inner m) (row_at Last inner m) (row_spans inner Earlier m (omega (arith, small))) (row_spans inner Last m (omega (arith, small))))))
+    (spans_either m (m + count inner) (row_at Earlier inner m) (row_at Last inner m) (row_spans inner Earlier m (omega (arith, small))) (row_spans inner Last m (omega (arith, small))))))
 row_spans (Bracket rows inner repeat) Earlier n small =
     spans_wide n n (n + count rows) (n + (count rows + count inner)) (row_at Earlier rows n) (omega arith) (omega arith) (row_spans rows Earlier n (omega (arith, small)))
 row_spans (Or rows) Last n small = spans_none n (n + count rows) true
@@ -148,7 +148,7 @@ row_lacks (Bracket rows inner repeat) Last n =
     let m = n + count rows in
     lacks_past (Repeated repeat (InLanguage inner)) rows (row_at Last rows n).lacks (may_lack repeat || ((row_at Earlier inner m).lacks || (row_at Last inner m).lacks)) (row_lacks rows Last n)
     (so_often_lacks repeat (InLanguage inner) ((row_at Earlier inner m).lacks || (row_at Last inner m).lacks)
-        (says_or (row_at Earlier inner m).lacks (row_at Last inner m).lacks (row_lacks inner Earlier m) (row_lacks inner Last m)))
+    (says_or (row_at Earlier inner m).lacks (row_at Last inner m).lacks (row_lacks inner Earlier m) (row_lacks inner Last m)))
 row_lacks (Bracket rows inner repeat) Earlier n = row_lacks rows Earlier n
 row_lacks (Or rows) Last n = says_true refl
 row_lacks (Or rows) Earlier n = says_or (row_at Earlier rows n).lacks (row_at Last rows n).lacks (row_lacks rows Earlier n) (row_lacks rows Last n)
@@ -207,8 +207,8 @@ row_ends (Bracket rows inner repeat) Last P n w small =
     (row_lacks rows Last n) (so_often_lacks repeat (InLanguage inner) (rows_at inner m).lacks (whole_lacks inner m))
     (row_ends rows Last P n w (omega (arith, small)))
     (iff_then (flip (reach_or Q (InRow Earlier inner) (InRow Last inner) w))
-        (ends_either (Reach Q (InRow Earlier inner) w) (Reach Q (InRow Last inner) w) (λ q v. At Q inner m q v) (row_at Earlier inner m).last (row_at Last inner m).last w
-            (row_ends inner Earlier Q m w (omega (arith, small))) (row_ends inner Last Q m w (omega (arith, small)))))
+    (ends_either (Reach Q (InRow Earlier inner) w) (Reach Q (InRow Last inner) w) (λ q v. At Q inner m q v) (row_at Earlier inner m).last (row_at Last inner m).last w
+    (row_ends inner Earlier Q m w (omega (arith, small))) (row_ends inner Last Q m w (omega (arith, small)))))
     (λ q a. (at_within rows P n q w a).1) (λ q a. (at_within inner Q m q w a).0)
     (λ q h. ((row_spans rows Last n (omega (arith, small))).last q h).1) (λ q h. ((whole_spans inner m (omega (arith, small))).last q h).0)
 row_ends (Bracket rows inner repeat) Earlier P n w small =
@@ -220,13 +220,13 @@ row_ends (Or rows) Last P n w small = (λ r. absurd (reach_whole P w r), λ e. a
 row_ends (Or rows) Earlier P n w small =
     iff_then (flip (reach_or P (InRow Earlier rows) (InRow Last rows) w))
     (ends_either (Reach P (InRow Earlier rows) w) (Reach P (InRow Last rows) w) (λ q v. At P rows n q v) (row_at Earlier rows n).last (row_at Last rows n).last w
-        (row_ends rows Earlier P n w small) (row_ends rows Last P n w small))
+    (row_ends rows Earlier P n w small) (row_ends rows Last P n w small))
 
 pub whole_ends : (tree : Tree) (P : Texts) (n : ℕ) (w : List ℕ) → n + count tree ≤ 64 → Reach P (InLanguage tree) w ↔ EndsIn (λ q v. At P tree n q v) (rows_at tree n).last w
 whole_ends tree P n w small =
     iff_then (flip (reach_or P (InRow Earlier tree) (InRow Last tree) w))
     (ends_either (Reach P (InRow Earlier tree) w) (Reach P (InRow Last tree) w) (λ q v. At P tree n q v) (row_at Earlier tree n).last (row_at Last tree n).last w
-        (row_ends tree Earlier P n w small) (row_ends tree Last P n w small))
+    (row_ends tree Earlier P n w small) (row_ends tree Last P n w small))
 
 -- ---- one more character
 
@@ -290,38 +290,38 @@ step (Char rows one repeat) P n w c p small =
     let lt : m < 64 = omega (arith, small) in
     iff_then
     (both_step P (InRow Last rows) (IsOne one) repeat (row_at Last rows n) (one_at m) (λ q v. At P rows n q v) (λ R q v. (q ≡ m) × Reach R (IsOne one) v) m w
-        (row_lacks rows Last n) (so_often_lacks repeat (IsOne one) false (says_false (one_is_some one)))
-        (row_ends rows Last P n w (omega (arith, small))) (only_end Q one m w lt)
-        (λ q a. (at_within rows P n q w a).1) (λ q a. le_of_eq (sym a.0))
-        (λ q h. ((row_spans rows Last n (omega (arith, small))).last q h).1) (λ q h. le_of_eq (sym ((has_only m q lt).0 h)))
-        (w ++ c ∷ []) p (Takes rows n p c) ((p ≡ m) × (is_one one c ≡ true)) (Has (rows_at rows n).first p) (λ q. Follows rows n q p) (λ q. ⊥)
-        (step rows P n w c p (omega (arith, small))) (only_step Q one m p c w lt)
-        (λ t. (takes_within rows n p c t).1) (λ t. le_of_eq (sym t.0)) (λ h. ((whole_spans rows n (omega (arith, small))).first p h).1) (λ h. le_of_eq (sym ((has_only m p lt).0 h)))
-        (λ q f. let r = follows_within rows n q p (omega (arith, small)) f in (r.0.1, r.1.1)) (λ q f. absurd f))
+    (row_lacks rows Last n) (so_often_lacks repeat (IsOne one) false (says_false (one_is_some one)))
+    (row_ends rows Last P n w (omega (arith, small))) (only_end Q one m w lt)
+    (λ q a. (at_within rows P n q w a).1) (λ q a. le_of_eq (sym a.0))
+    (λ q h. ((row_spans rows Last n (omega (arith, small))).last q h).1) (λ q h. le_of_eq (sym ((has_only m q lt).0 h)))
+    (w ++ c ∷ []) p (Takes rows n p c) ((p ≡ m) × (is_one one c ≡ true)) (Has (rows_at rows n).first p) (λ q. Follows rows n q p) (λ q. ⊥)
+    (step rows P n w c p (omega (arith, small))) (only_step Q one m p c w lt)
+    (λ t. (takes_within rows n p c t).1) (λ t. le_of_eq (sym t.0)) (λ h. ((whole_spans rows n (omega (arith, small))).first p h).1) (λ h. le_of_eq (sym ((has_only m p lt).0 h)))
+    (λ q f. let r = follows_within rows n q p (omega (arith, small)) f in (r.0.1, r.1.1)) (λ q f. absurd f))
     (comes_as (Takes (Char rows one repeat) n p c) (P w) (Has (rows_at rows n).first p ⊎ (((row_at Last rows n).lacks ≡ true) × Has (bit_of m) p)) (Has (rows_at (Char rows one repeat) n).first p)
-        (λ q v. At P (Char rows one repeat) n q v) (λ q. Follows rows n q p ⊎ (⊥ ⊎ Joins (row_at Last rows n) (one_at m) repeat q p)) (λ q. Follows (Char rows one repeat) n q p) w
-        (first_more (row_at Earlier rows n) (row_at Last rows n) (so_often repeat (one_at m)) p) (λ q. without (Follows rows n q p) (Joins (row_at Last rows n) (one_at m) repeat q p)))
+    (λ q v. At P (Char rows one repeat) n q v) (λ q. Follows rows n q p ⊎ (⊥ ⊎ Joins (row_at Last rows n) (one_at m) repeat q p)) (λ q. Follows (Char rows one repeat) n q p) w
+    (first_more (row_at Earlier rows n) (row_at Last rows n) (so_often repeat (one_at m)) p) (λ q. without (Follows rows n q p) (Joins (row_at Last rows n) (one_at m) repeat q p)))
 step (Bracket rows inner repeat) P n w c p small =
     let m = n + count rows in
     let Q : Texts = Inside (Next P rows) repeat (InLanguage inner) in
     let within : m + count inner ≤ 64 = omega (arith, small) in
     iff_then
     (both_step P (InRow Last rows) (InLanguage inner) repeat (row_at Last rows n) (rows_at inner m) (λ q v. At P rows n q v) (λ R q v. At R inner m q v) m w
-        (row_lacks rows Last n) (so_often_lacks repeat (InLanguage inner) (rows_at inner m).lacks (whole_lacks inner m))
-        (row_ends rows Last P n w (omega (arith, small))) (whole_ends inner Q m w within)
-        (λ q a. (at_within rows P n q w a).1) (λ q a. (at_within inner Q m q w a).0)
-        (λ q h. ((row_spans rows Last n (omega (arith, small))).last q h).1) (λ q h. ((whole_spans inner m within).last q h).0)
-        (w ++ c ∷ []) p (Takes rows n p c) (Takes inner m p c) (Has (rows_at rows n).first p) (λ q. Follows rows n q p) (λ q. Follows inner m q p)
-        (step rows P n w c p (omega (arith, small))) (step inner Q m w c p within)
-        (λ t. (takes_within rows n p c t).1) (λ t. (takes_within inner m p c t).0) (λ h. ((whole_spans rows n (omega (arith, small))).first p h).1) (λ h. ((whole_spans inner m within).first p h).0)
-        (λ q f. let r = follows_within rows n q p (omega (arith, small)) f in (r.0.1, r.1.1)) (λ q f. let r = follows_within inner m q p within f in (r.0.0, r.1.0)))
+    (row_lacks rows Last n) (so_often_lacks repeat (InLanguage inner) (rows_at inner m).lacks (whole_lacks inner m))
+    (row_ends rows Last P n w (omega (arith, small))) (whole_ends inner Q m w within)
+    (λ q a. (at_within rows P n q w a).1) (λ q a. (at_within inner Q m q w a).0)
+    (λ q h. ((row_spans rows Last n (omega (arith, small))).last q h).1) (λ q h. ((whole_spans inner m within).last q h).0)
+    (w ++ c ∷ []) p (Takes rows n p c) (Takes inner m p c) (Has (rows_at rows n).first p) (λ q. Follows rows n q p) (λ q. Follows inner m q p)
+    (step rows P n w c p (omega (arith, small))) (step inner Q m w c p within)
+    (λ t. (takes_within rows n p c t).1) (λ t. (takes_within inner m p c t).0) (λ h. ((whole_spans rows n (omega (arith, small))).first p h).1) (λ h. ((whole_spans inner m within).first p h).0)
+    (λ q f. let r = follows_within rows n q p (omega (arith, small)) f in (r.0.1, r.1.1)) (λ q f. let r = follows_within inner m q p within f in (r.0.0, r.1.0)))
     (comes_as (Takes (Bracket rows inner repeat) n p c) (P w) (Has (rows_at rows n).first p ⊎ (((row_at Last rows n).lacks ≡ true) × Has (rows_at inner m).first p)) (Has (rows_at (Bracket rows inner repeat) n).first p)
-        (λ q v. At P (Bracket rows inner repeat) n q v) (λ q. Follows (Bracket rows inner repeat) n q p) (λ q. Follows (Bracket rows inner repeat) n q p) w
-        (first_more (row_at Earlier rows n) (row_at Last rows n) (so_often repeat (rows_at inner m)) p) (λ q. itself (Follows (Bracket rows inner repeat) n q p)))
+    (λ q v. At P (Bracket rows inner repeat) n q v) (λ q. Follows (Bracket rows inner repeat) n q p) (λ q. Follows (Bracket rows inner repeat) n q p) w
+    (first_more (row_at Earlier rows n) (row_at Last rows n) (so_often repeat (rows_at inner m)) p) (λ q. itself (Follows (Bracket rows inner repeat) n q p)))
 step (Or rows) P n w c p small =
     iff_then (step rows P n w c p small)
     (comes_as (Takes rows n p c) (P w) (Has (rows_at rows n).first p) (Has (rows_at (Or rows) n).first p) (λ q v. At P rows n q v) (λ q. Follows rows n q p) (λ q. Follows rows n q p) w
-        (first_bar (rows_at rows n).first p) (λ q. itself (Follows rows n q p)))
+    (first_bar (rows_at rows n).first p) (λ q. itself (Follows rows n q p)))
 
 -- ---- whole texts
 

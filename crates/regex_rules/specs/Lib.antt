@@ -7,4 +7,5 @@ pub mod Fronts
 pub mod Off
 pub mod Walks
 pub mod Positions
+pub mod Linkings
 pub mod Reading

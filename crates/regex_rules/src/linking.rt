@@ -1,4 +1,10 @@
 //! Which characters of a pattern may come after which, by its places in their order.
+ghost use Rattle.std.specs.Prelude.{◌≡◌, ◌∷◌, false, OnOk, IfOk, bit_or, if◌then◌else◌};
+ghost use Rattle.regex_rules.specs.Positions as sets;
+ghost use Rattle.regex_rules.specs.Linkings as spec;
+
+use crate::follow_table::FollowTable;
+use crate::open_rows::OpenRows;
 use crate::{Place, Repeat};
 use sp_base::Mem;
 use std::alloc::Global;
@@ -12,129 +18,148 @@ pub(crate) struct Piece {
     pub(crate) lacks: bool,
 }
 
-impl Piece {
-    // A row before its first piece.
-    fn empty_row() -> Piece {
-        Piece {
-            first: 0,
-            last: 0,
-            lacks: true,
-        }
-    }
-
-    fn no_rows() -> Piece {
-        Piece {
-            first: 0,
-            last: 0,
-            lacks: false,
-        }
-    }
-
-    fn or(self, other: Piece) -> Piece {
-        Piece {
-            first: self.first | other.first,
-            last: self.last | other.last,
-            lacks: self.lacks || other.lacks,
-        }
-    }
-
-    fn then(self, next: Piece) -> Piece {
-        Piece {
-            first: if self.lacks {
-                self.first | next.first
-            } else {
-                self.first
-            },
-            last: if next.lacks {
-                self.last | next.last
-            } else {
-                next.last
-            },
-            lacks: self.lacks && next.lacks,
-        }
+// A row before its first piece.
+fn empty_row() -> Piece
+    ensures { result ≡ sets.empty_row }
+{
+    Piece {
+        first: 0,
+        last: 0,
+        lacks: true,
     }
 }
 
-/// The innermost open rows: those before the last one together, and the last one.
+fn no_rows() -> Piece
+    ensures { result ≡ sets.no_rows }
+{
+    Piece {
+        first: 0,
+        last: 0,
+        lacks: false,
+    }
+}
+
+// One of both.
+fn either(one: Piece, other: Piece) -> Piece
+    ensures { result ≡ sets.either one other }
+{
+    Piece {
+        first: one.first | other.first,
+        last: one.last | other.last,
+        lacks: one.lacks || other.lacks,
+    }
+}
+
+// A set, and where something holds those of another one too.
+fn with(set: u64, more: bool, others: u64) -> u64
+    ensures { result ≡ (if more then bit_or set others else set) }
+{
+    if more { set | others } else { set }
+}
+
+// The one after the other.
+fn followed(row: Piece, next: Piece) -> Piece
+    ensures { result ≡ sets.followed row next }
+{
+    Piece {
+        first: with(row.first, row.lacks, next.first),
+        last: with(next.last, next.lacks, row.last),
+        lacks: row.lacks && next.lacks,
+    }
+}
+
+fn so_often(repeat: Repeat, one: Piece) -> Piece
+    ensures { result ≡ sets.so_often repeat one }
+{
+    Piece {
+        first: one.first,
+        last: one.last,
+        lacks: repeat.may_lack() || one.lacks,
+    }
+}
+
+/// Some rows: those before the last one together, and the last one.
 #[derive(Clone, Copy, Drop)]
-struct Rows {
-    earlier: Piece,
-    row: Piece,
+pub(crate) struct Rows {
+    pub(crate) earlier: Piece,
+    pub(crate) row: Piece,
 }
 
-impl Rows {
-    fn begun() -> Rows {
-        Rows {
-            earlier: Piece::no_rows(),
-            row: Piece::empty_row(),
-        }
+fn begun() -> Rows
+    ensures { result ≡ spec.begun }
+{
+    Rows {
+        earlier: no_rows(),
+        row: empty_row(),
     }
 }
 
-/// A pattern whose places are gone over: what may come after each of its characters, the rows that are open, and the bit of the next
-/// character.
+/// A pattern whose places are gone over: what may come after each of its characters, the innermost open rows and those around them, and
+/// the bit of the next character.
 #[derive(Drop)]
 pub(crate) struct Linking {
-    follow: Vec<u64>,
-    rows: Rows,
-    around: Vec<Rows>,
-    bit: u64,
+    pub(crate) follow: FollowTable,
+    pub(crate) rows: Rows,
+    pub(crate) around: OpenRows,
+    pub(crate) bit: u64,
 }
 
 impl Linking {
     /// No places yet, of a pattern with so many characters.
-    pub(crate) fn new(alloc: Global, count: usize) -> Mem<Linking> {
+    pub(crate) fn new(alloc: Global, number: usize) -> Mem<Linking>
+        ensures { IfOk result (λ linking. linking ≡ spec.unlinked number) }
+    {
         Ok(Linking {
-            follow: vec![in alloc; 0u64; count]?,
-            rows: Rows::begun(),
-            around: Vec::new(alloc),
+            follow: FollowTable::new(alloc, number)?,
+            rows: begun(),
+            around: OpenRows::new(alloc),
             bit: 1,
         })
     }
 
-    // Notes that these characters may come after those.
-    fn link(&mut self, after: u64, next: u64) {
-        let mut left = after;
-        for follow in self.follow.iter_mut() {
-            if left & 1 == 1 {
-                *follow |= next;
-            }
-            left >>= 1;
-        }
-    }
-
     // The last row goes on with this piece.
-    fn add(&mut self, piece: Piece, repeat: Repeat) {
+    fn add(&mut self, piece: Piece, repeat: Repeat)
+        ensures { self.new ≡ spec.added piece repeat self.old.follow self.old.rows self.old.around self.old.bit }
+    {
         if repeat.may_go_on() {
-            self.link(piece.last, piece.first);
+            self.follow.link(piece.last, piece.first);
         }
-        self.link(self.rows.row.last, piece.first);
-        let lacks = piece.lacks || repeat.may_lack();
-        self.rows.row = self.rows.row.then(Piece { lacks, ..piece });
+        self.follow.link(self.rows.row.last, piece.first);
+        self.rows.row = followed(self.rows.row, so_often(repeat, piece));
     }
 
-    fn add_one(&mut self, repeat: Repeat) {
+    fn pass_one(&mut self, repeat: Repeat)
+        ensures { self.new ≡ spec.added (sets.piece_of self.old.bit self.old.bit false) repeat self.old.follow self.old.rows self.old.around (spec.next_bit self.old.bit) }
+    {
         let piece = Piece {
             first: self.bit,
             last: self.bit,
             lacks: false,
         };
         self.add(piece, repeat);
-        self.bit = self.bit.wrapping_shl(1);
+        self.bit = self.bit.wrapping_mul(2);
     }
 
-    fn open(&mut self) -> Mem<()> {
+    fn pass_open(&mut self) -> Mem<()>
+        ensures { OnOk result (self.new ≡ spec.linking_at self.old.follow spec.begun (self.old.rows ∷ self.old.around) self.old.bit) }
+    {
         self.around.push(self.rows)?;
-        self.rows = Rows::begun();
+        self.rows = begun();
         Ok(())
     }
 
-    fn next_row(&mut self) {
-        self.rows.earlier = self.whole();
-        self.rows.row = Piece::empty_row();
+    fn pass_bar(&mut self)
+        ensures { self.new ≡ spec.linking_at self.old.follow (record { earlier = sets.either self.old.rows.earlier self.old.rows.row; row = sets.empty_row }) self.old.around self.old.bit }
+    {
+        self.rows = Rows {
+            earlier: self.whole(),
+            row: empty_row(),
+        };
     }
 
-    fn close(&mut self, repeat: Repeat) {
+    fn pass_close(&mut self, repeat: Repeat)
+        ensures { self.new ≡ spec.closed repeat self.old self.old.around }
+    {
         let Some(outer) = self.around.pop() else {
             return;
         };
@@ -143,24 +168,41 @@ impl Linking {
         self.add(piece, repeat);
     }
 
-    /// Goes over the next place.
-    pub(crate) fn take(&mut self, place: &Place) -> Mem<()> {
+    fn pass(&mut self, place: &Place) -> Mem<()>
+        ensures { OnOk result (self.new ≡ spec.past place.now self.old) }
+    {
         match place {
-            Place::One(_, repeat) => self.add_one(*repeat),
-            Place::Open => self.open()?,
-            Place::Bar => self.next_row(),
-            Place::Close(repeat) => self.close(*repeat),
+            Place::One(_, repeat) => self.pass_one(*repeat),
+            Place::Open => self.pass_open()?,
+            Place::Bar => self.pass_bar(),
+            Place::Close(repeat) => self.pass_close(*repeat),
+        }
+        Ok(())
+    }
+
+    /// Goes over all these places.
+    pub(crate) fn go(&mut self, places: &[Place]) -> Mem<()>
+        ensures { OnOk result (self.new ≡ spec.linked places.now self.old) }
+    {
+        let mut at = 0;
+        while at < places.len() {
+            self.pass(&places[at])?;
+            at += 1;
         }
         Ok(())
     }
 
     /// The open rows together.
-    pub(crate) fn whole(&self) -> Piece {
-        self.rows.earlier.or(self.rows.row)
+    pub(crate) fn whole(&self) -> Piece
+        ensures { result ≡ sets.either self.now.rows.earlier self.now.rows.row }
+    {
+        either(self.rows.earlier, self.rows.row)
     }
 
     /// What may come after each of the characters.
-    pub(crate) fn into_follow(self) -> Vec<u64> {
+    pub(crate) fn into_follow(self) -> FollowTable
+        ensures { result ≡ self.follow }
+    {
         self.follow
     }
 }

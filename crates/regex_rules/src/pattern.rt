@@ -26,15 +26,16 @@ pub struct Pattern {
 }
 
 impl Model for Pattern {
-    ghost use Rattle.std.specs.Prelude.{◌≡◌, List};
+    ghost use Rattle.std.specs.Prelude.{◌≡◌, List, IfSome};
     ghost use Rattle.regex_rules.specs.Trees.{tree_of, places_of};
+    ghost use Rattle.regex_rules.specs.Linkings.{IsTable};
     ghost use Rattle.regex_rules.specs.declared.place.Place.{Place};
 
     ghost Value = { List Place };
 
     ghost view = { λ p. p.places.items };
 
-    ghost invariant = { λ p. places_of (tree_of p.places.items) ≡ p.places.items };
+    ghost invariant = { λ p. (places_of (tree_of p.places.items) ≡ p.places.items) × IfSome p.positions (IsTable p.places.items) };
 }
 
 impl Pattern {

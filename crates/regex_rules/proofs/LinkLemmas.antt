@@ -1,5 +1,6 @@
 -- Gone over place by place, a pattern's places give which of its characters may come after which, and which take one of a text.
-use Rattle.std.proofs.Common.{◌≡◌, ◌↔◌, ◌⊎◌, inl, inr, ℕ, zero, suc, ◌+◌, ◌*◌, ◌/◌, ◌%◌, ◌^◌, ◌<◌, ◌≤◌, ◌==◌, Bool, true, false, List, [], ◌∷◌, ◌++◌, length, get_or, replicate, refl, ap, sym, ◌∙◌, subst, append_assoc, append-nil, arith, bit_or, if◌then◌else◌, eqb-true, eq-eqb, add-zero, pow-suc, drop-cons, take-suc-set, drop-set-lt, take_all, drop, take, set, add-one}
+use Rattle.std.proofs.Common.{◌≡◌, ◌↔◌, ◌⊎◌, inl, inr, ℕ, zero, suc, ◌+◌, ◌*◌, ◌/◌, ◌%◌, ◌^◌, ◌<◌, ◌≤◌, ◌==◌, Bool, true, false, List, [], ◌∷◌, ◌++◌, length, get_or, replicate, refl, ap, sym, ◌∙◌, subst, append_assoc, append-nil, arith, bit_or, if◌then◌else◌, eqb-true, eq-eqb, add-zero, pow-suc, drop-cons, take-suc-set, drop-set-lt, take_all, drop, take, set, add-one, length-append, below_more}
+use Rattle.std.proofs.lemmas.List.{get_or_append_left, get_or_push}
 use Rattle.std.proofs.lemmas.Nat.Bits.{bit_at_lowest, bit_at-suc}
 use Rattle.std.specs.Int.{bit_at}
 use Rattle.regex_rules.specs.declared.character.OneChar.{OneChar}
@@ -295,3 +296,13 @@ count_on places i count v whole place lt e f h =
 
 pub count_over : (places : List Place) (i count whole : ℕ) → length places ≤ i → count + ones (drop i places) ≡ whole → count ≡ whole
 count_over places i count whole le h = let none : ones (drop i places) ≡ 0 = ap ones (drop_past places i le) in omega (arith, none, h)
+
+-- a list of answers with one more
+pub one_more_listed : (xs ys : List ℕ) (n x : ℕ) (f : ℕ → ℕ) → ys ≡ xs ++ x ∷ [] → length xs ≡ n → x ≡ f n → ((k : ℕ) → k < n → get_or xs k 0 ≡ f k)
+    → (length ys ≡ n + 1) × ((k : ℕ) → k < n + 1 → get_or ys k 0 ≡ f k)
+one_more_listed xs ys n x f e len is all =
+    let size : length ys ≡ length xs + 1 = ap length e ∙ length-append xs (x ∷ []) in (
+      omega (arith, size, len),
+      below_more (λ k. get_or ys k 0 ≡ f k) n (λ k lt. ap (λ (l : List ℕ). get_or l k 0) e ∙ get_or_append_left xs (x ∷ []) 0 k (omega (arith, lt, len)) ∙ all k lt)
+          (ap (λ (l : List ℕ). get_or l n 0) e ∙ get_or_push xs x 0 n len ∙ is),
+    )

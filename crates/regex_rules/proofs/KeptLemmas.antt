@@ -1,6 +1,7 @@
 -- What a match by sets of characters knows between two characters of a text.
-use Rattle.std.proofs.Common.{◌≡◌, ◌≢◌, ◌↔◌, ◌⊎◌, inl, inr, ℕ, zero, suc, ◌+◌, ◌-◌, ◌*◌, ◌/◌, ◌%◌, ◌^◌, ◌<◌, ◌≤◌, ◌==◌, Bool, true, false, not, List, [], ◌∷◌, ◌++◌, length, get_or, replicate, IsTrue, refl, ap, sym, ◌∙◌, subst, append_assoc, append-nil, arith, bit_and, bit_or, eqb-true, eq-eqb, length-replicate, true≢false, w64}
+use Rattle.std.proofs.Common.{◌≡◌, ◌≢◌, ◌↔◌, ◌⊎◌, inl, inr, ℕ, zero, suc, ◌+◌, ◌-◌, ◌*◌, ◌/◌, ◌%◌, ◌^◌, ◌<◌, ◌≤◌, ◌==◌, Bool, true, false, not, List, [], ◌∷◌, ◌++◌, length, get_or, replicate, IsTrue, refl, ap, sym, ◌∙◌, subst, append_assoc, append-nil, arith, bit_and, bit_or, eqb-true, eq-eqb, true≢false, Vec, w64}
 use Rattle.std.proofs.lemmas.Bool.{cases_eq, cases_lt}
+use Rattle.std.proofs.lemmas.List.{length-replicate}
 use Rattle.std.proofs.lemmas.Nat.{and_le_l}
 use Rattle.std.proofs.lemmas.Nat.Bits.{bit_at-lt, bit_at_and, bit_at_above, bit_at_clear_same, bit_at_clear_other}
 use Rattle.std.specs.Int.{bit_at, bit_not}
@@ -27,7 +28,7 @@ bit_first : bit_of 0 ≡ 1
 unfolding bit_of
 bit_first = refl
 
-get_none : (n q : ℕ) → get_or (replicate n 0) q 0 ≡ 0
+get_none : (n q : ℕ) → ◌≡◌ {A = ℕ} (get_or (replicate n 0) q 0) 0
 get_none zero q = refl
 get_none (suc n) zero = refl
 get_none (suc n) (suc q) = get_none n q
@@ -78,14 +79,27 @@ module _ (places : List Place) (held : places_of (tree_of places) ≡ places) wh
           λ f. subst (λ (l : List ℕ). Has (get_or l q 0) p) (sym same) (says.1 (inr f)),
         )
 
+-- the table that is made of them
+pub made : (places : List Place) (number : ℕ) (before after : Linking) (one : Piece) (sets : List ℕ) (listed : Vec ℕ) → number ≡ ones places → number ≤ 64 → before ≡ unlinked number
+    → after ≡ linked places before → one ≡ either after.rows.earlier after.rows.row → sets ≡ after.follow → ((c : ℕ) → c < length listed.items → get_or listed.items c 0 ≡ takers_of c places)
+    → IsTable places (record { whole = one; follow = sets; listed = listed })
+made places number before after one sets listed counted few begins goes whole_of follow_of all =
+    let same : after ≡ linked places (unlinked (ones places)) = goes ∙ ap (linked places) (begins ∙ ap unlinked counted) in
+    record {
+      few = omega (arith, counted, few);
+      whole = whole_of ∙ ap (λ (l : Linking). either l.rows.earlier l.rows.row) same;
+      follow = follow_of ∙ ap (λ (l : Linking). l.follow) same;
+      listed = all;
+    }
+
 -- ---- between two characters
 
 -- the characters read so far, at least one, and those of the pattern that took the last of them
-pub record Kept (tree : Tree) (text rest : List ℕ) (ends : ℕ) : Type 0 where
+pub record Kept (tree : Tree) (text rest : List ℕ) (set : ℕ) : Type 0 where
   pub w : List ℕ
   pub some : (w ≡ []) → ⊥
   pub parts : text ≡ w ++ rest
-  pub ends : (p : ℕ) → Has ends p ↔ At Whole tree 0 p w
+  pub ends : (p : ℕ) → Has set p ↔ At Whole tree 0 p w
 
 pub nothing_kept : (tree : Tree) (text : List ℕ) (answer : Bool) → text ≡ [] → answer ≡ (rows_at tree 0).lacks → Says answer (InLanguage tree text)
 nothing_kept tree text answer none is =

@@ -271,7 +271,7 @@ takers_say c (Or rows) n set p small = takers_say c rows n set p small
 -- ---- how many characters
 
 ones_more : (xs ys : List Place) → ones (xs ++ ys) ≡ ones xs + ones ys
-ones_more [] ys = refl
+ones_more [] ys = omega arith
 ones_more (One one repeat ∷ xs) ys = let ih = ones_more xs ys in omega (arith, ih)
 ones_more (Open ∷ xs) ys = ones_more xs ys
 ones_more (Bar ∷ xs) ys = ones_more xs ys

@@ -343,7 +343,7 @@ way_there tree small (c ∷ cs) w p some a (q, f, t, g) =
     subst (λ (l : List ℕ). InLanguage tree l) (append_assoc w (c ∷ []) cs)
     (way_there tree small cs (w ++ c ∷ []) q (snoc_is_some w c) ((step tree Whole 0 w c q (omega (arith, small))).1 (t, inr (p, a, f))) g)
 
-way_back : (tree : Tree) → count tree ≤ 64 → (cs w : List ℕ) → ((w ≡ []) → ⊥) → InLanguage tree (w ++ cs) → (p : ℕ) × At Whole tree 0 p w × GoesOn tree p cs
+pub way_back : (tree : Tree) → count tree ≤ 64 → (cs w : List ℕ) → ((w ≡ []) → ⊥) → InLanguage tree (w ++ cs) → (p : ℕ) × At Whole tree 0 p w × GoesOn tree p cs
 way_back tree small [] w some l = (text_ends tree w small some).0 (subst (λ (t : List ℕ). InLanguage tree t) (append-nil w) l)
 way_back tree small (c ∷ cs) w some l =
     let s = way_back tree small cs (w ++ c ∷ []) (snoc_is_some w c) (subst (λ (t : List ℕ). InLanguage tree t) (sym (append_assoc w (c ∷ []) cs)) l) in

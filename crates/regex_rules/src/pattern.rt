@@ -1,11 +1,12 @@
 //! A pattern, and which texts it matches.
-ghost use Rattle.std.specs.Prelude.{◌≡◌, ◌≢◌, ◌↔◌, IsTrue, IfOk, IfErr, Ok, Err};
+ghost use Rattle.std.specs.Prelude.{◌≡◌, ◌≢◌, ◌↔◌, IsTrue, IfOk, IfErr, IfSome, Ok, Err};
 ghost use Rattle.std.specs.Str.{chars};
-ghost use Rattle.regex_rules.specs.Trees.{Tree, tree_of};
+ghost use Rattle.regex_rules.specs.Trees.{Tree, tree_of, places_of};
 ghost use Rattle.regex_rules.specs.Fronts.{IsLastFront};
 ghost use Rattle.regex_rules.specs.Languages.{InLanguage, in_language};
 ghost use Rattle.regex_rules.specs.Spelling.{IsPattern};
 ghost use Rattle.regex_rules.specs.Faults.{IsFault};
+ghost use Rattle.regex_rules.specs.Linkings.{IsTable};
 ghost use Rattle.regex_rules.specs.Reading.{pattern_of};
 
 use crate::fronts::last_front;
@@ -38,6 +39,23 @@ impl Model for Pattern {
     ghost invariant = { λ p. (places_of (tree_of p.places.items) ≡ p.places.items) × IfSome p.positions (IsTable p.places.items) };
 }
 
+// Whether a text is in the language of the pattern with these places, by its sets of characters where it has them.
+fn is_matched(
+    alloc: Global,
+    places: &[Place],
+    positions: &Option<Positions>,
+    text: &str,
+) -> Mem<bool>
+    requires places { places_of (tree_of places.now) ≡ places.now }
+    requires table { IfSome positions.now (IsTable places.now) }
+    ensures { IfOk result (λ answer. IsTrue answer ↔ InLanguage (tree_of places.now) (chars text.now)) }
+{
+    match positions {
+        Some(positions) => Ok(positions.is_match(places, text)),
+        None => is_match(alloc, places, text),
+    }
+}
+
 impl Pattern {
     /// Reads a pattern. `.` is any character but a newline, `[..]` one of a class, `\` takes away what the next character means, and
     /// any other character is itself. `*`, `+` and `?` say how often what stands before them stands, `|` parts rows of which one is
@@ -66,11 +84,7 @@ impl Pattern {
         ensures value { IfOk result (λ answer. answer ≡ in_language (tree_of self.now) (chars text.now)) }
         ensures relation { IfOk result (λ answer. IsTrue answer ↔ InLanguage (tree_of self.now) (chars text.now)) }
     {
-        let places = self.places.as_slice();
-        match &self.positions {
-            Some(positions) => Ok(positions.is_match(places, text)),
-            None => is_match(alloc, places, text),
-        }
+        is_matched(alloc, self.places.as_slice(), &self.positions, text)
     }
 
     /// How far the longest beginning of the text goes that is in the pattern's language, of those that end at a place or after it,

@@ -9,4 +9,4 @@ returns c = ap (λ (s : Takers). s.set) (sym (stood_over c.args.c c.args.places.
 
 pub loop-at-preserved : goal.loop-at-preserved
 loop-at-preserved c =
-    stood_on c.args.c c.args.places.now c.loop-at.at c.index-places-at.result c.loop-at.found c.pass.result (stood c.args.c c.args.places.now nothing_taken) c.loop-at-test.true c.index-places-at.is c.pass.ensures c.loop-at.invariant
+    stood_on c.args.c c.args.places.now c.loop-at.at c.index-places-at.result c.loop-at.found c.pass-found.result (stood c.args.c c.args.places.now nothing_taken) c.loop-at-test.true c.index-places-at.is c.pass-found.ensures c.loop-at.invariant

@@ -5,7 +5,7 @@ use Rattle.regex_rules.proofs.KeptLemmas.{lowest_gone, gather, gathered, gather_
 use Rattle.regex_rules.proofs.follow_table.FollowTable.after.Goals as goal
 
 pub ends-init : goal.ends-init
-ends-init c = gather_begins c.as_slice.result.now c.args.ends
+ends-init c = gather_begins c.as_slice-sets.result.now c.args.ends
 
 pub ends-smaller : goal.ends-smaller
 ends-smaller c =
@@ -16,7 +16,7 @@ pub ends-preserved : goal.ends-preserved
 ends-preserved c =
     let lowest = bit_at-trailing_zeros w64 c.ends.left (omega arith) (search rules) in
     let gone = lowest_gone c.ends.left (trailing_zeros w64 c.ends.left) lowest.0 (search rules) lowest.1 in
-    gather c.as_slice.result.now c.args.ends c.ends.next c.ends.left _ (trailing_zeros w64 c.ends.left) c.set_at.result gone.1 c.set_at.ensures c.ends.invariant
+    gather c.as_slice-sets.result.now c.args.ends c.ends.next c.ends.left _ (trailing_zeros w64 c.ends.left) c.set_at-next.result gone.1 c.set_at-next.ensures c.ends.invariant
 
 pub returns : goal.returns
-returns c = gathered c.as_slice.result.now c.args.ends c.ends.next c.ends.left (omega arith) c.ends.invariant
+returns c = gathered c.as_slice-sets.result.now c.args.ends c.ends.next c.ends.left (omega arith) c.ends.invariant

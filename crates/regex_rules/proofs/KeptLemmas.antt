@@ -1,5 +1,5 @@
 -- What a match by sets of characters knows between two characters of a text.
-use Rattle.std.proofs.Common.{◌≡◌, ◌≢◌, ◌↔◌, ◌⊎◌, inl, inr, ℕ, zero, suc, ◌+◌, ◌-◌, ◌*◌, ◌/◌, ◌%◌, ◌^◌, ◌<◌, ◌≤◌, ◌==◌, Bool, true, false, not, List, [], ◌∷◌, ◌++◌, length, get_or, replicate, IsTrue, refl, ap, sym, ◌∙◌, subst, append_assoc, append-nil, arith, bit_and, bit_or, eqb-true, eq-eqb, true≢false, Vec, w64}
+use Rattle.std.proofs.Common.{◌≡◌, ◌≢◌, ◌↔◌, ◌⊎◌, inl, inr, ℕ, zero, suc, ◌+◌, ◌-◌, ◌*◌, ◌/◌, ◌%◌, ◌^◌, ◌<◌, ◌≤◌, ◌==◌, Bool, true, false, not, List, [], ◌∷◌, ◌++◌, length, get_or, replicate, IsTrue, refl, ap, sym, ◌∙◌, subst, append_assoc, append-nil, arith, bit_and, bit_or, eqb-true, eq-eqb, true≢false, w64}
 use Rattle.std.proofs.lemmas.Bool.{cases_eq, cases_lt}
 use Rattle.std.proofs.lemmas.List.{length-replicate}
 use Rattle.std.proofs.lemmas.Nat.{and_le_l}
@@ -80,10 +80,10 @@ module _ (places : List Place) (held : places_of (tree_of places) ≡ places) wh
         )
 
 -- the table that is made of them
-pub made : (places : List Place) (number : ℕ) (before after : Linking) (one : Piece) (sets : List ℕ) (listed : Vec ℕ) → number ≡ ones places → number ≤ 64 → before ≡ unlinked number
-    → after ≡ linked places before → one ≡ either after.rows.earlier after.rows.row → sets ≡ after.follow → ((c : ℕ) → c < length listed.items → get_or listed.items c 0 ≡ takers_of c places)
-    → IsTable places (record { whole = one; follow = sets; listed = listed })
-made places number before after one sets listed counted few begins goes whole_of follow_of all =
+pub made : (places : List Place) (number : ℕ) (before after : Linking) (self : Positions) → number ≡ ones places → number ≤ 64 → before ≡ unlinked number
+    → after ≡ linked places before → self.whole ≡ either after.rows.earlier after.rows.row → self.follow ≡ after.follow
+    → ((c : ℕ) → c < length self.listed.items → get_or self.listed.items c 0 ≡ takers_of c places) → IsTable places self
+made places number before after self counted few begins goes whole_of follow_of all =
     let same : after ≡ linked places (unlinked (ones places)) = goes ∙ ap (linked places) (begins ∙ ap unlinked counted) in
     record {
       few = omega (arith, counted, few);
@@ -163,7 +163,7 @@ none_kept tree text rest ends few none k = says_false no
 -- the end of a text
 pub end_kept : (tree : Tree) (text : List ℕ) (ends end : ℕ) (answer : Bool) → count tree ≤ 64 → end ≡ (rows_at tree 0).last
     → (answer ≡ not (bit_and ends end == 0)) → Kept tree text [] ends → Says answer (InLanguage tree text)
-end_kept tree text ends end answer few ends_are said k = (λ yes. inside (in_language tree text) refl (sym is ∙ yes), λ l. is ∙ outside l)
+end_kept tree text ends end answer few ends_are said k = (λ passed. inside (in_language tree text) refl (sym is ∙ passed), λ l. is ∙ outside l)
   where
     last : ℕ
     last = (rows_at tree 0).last
@@ -192,17 +192,17 @@ end_kept tree text ends end answer few ends_are said k = (λ yes. inside (in_lan
         let e = ends_in l in
         off (bit_and ends last == 0) (λ zero_is. has_nothing e.0 (subst (λ (n : ℕ). Has n e.0) (eqb-true (bit_and ends last) 0 zero_is) e.1))
       where
-        off : (b : Bool) → (b ≡ true → ⊥) → not b ≡ true
-        off true no = absurd (no refl)
-        off false no = refl
+        off : (b : Bool) → ((b ≡ true) → ⊥) → not b ≡ true
+        off true never = absurd (never refl)
+        off false _ = refl
 
     inside : (b : Bool) → in_language tree text ≡ b → not (bit_and ends last == 0) ≡ true → InLanguage tree text
-    inside true e yes = (tells_language tree text).0 e
-    inside false e yes =
+    inside true e passed = (tells_language tree text).0 e
+    inside false e passed =
         let empty : bit_and ends last ≡ 0 =
         none_is_zero (bit_and ends last) (λ p h. let told : in_language tree text ≡ true = (tells_language tree text).1 (language p h) in both_ways e told)
         in
-        absurd (turned yes (ap (λ (n : ℕ). not (n == 0)) empty))
+        absurd (turned passed (ap (λ (n : ℕ). not (n == 0)) empty))
       where
         both_ways : in_language tree text ≡ false → in_language tree text ≡ true → ⊥
         both_ways f t = true≢false (sym t ∙ f)

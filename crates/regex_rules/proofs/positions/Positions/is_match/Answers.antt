@@ -34,9 +34,9 @@ loop-c-preserved c =
     let self = c.args.self.now in
     let text = chars c.args.text.now in (
       IsUtf8-past_char c.loop-c.rest.now c.in-Some-first_char.later.now c.in-Some-first_char.c c.loop-c.invariant.0 c.in-Some-first_char.ensures.parts,
-      more_kept (tree_of c.args.places.now) text (chars c.in-Some-first_char.later.now) c.loop-c.ends c.in-Some-first_char.c c.takers-in-loop-c.result c.after.result self.follow
+      more_kept (tree_of c.args.places.now) text (chars c.in-Some-first_char.later.now) c.loop-c.ends c.in-Some-first_char.c c.takers-in-Some-first_char.result c.after.result self.follow
           (few_of c.args.places.now held self c.requires.table)
-          (λ p. subst (λ (n : ℕ). Has n p ↔ Takes (tree_of c.args.places.now) 0 p c.in-Some-first_char.c) (sym c.takers-in-loop-c.ensures) (takers_are c.args.places.now held c.in-Some-first_char.c p c.requires.table.few))
+          (λ p. subst (λ (n : ℕ). Has n p ↔ Takes (tree_of c.args.places.now) 0 p c.in-Some-first_char.c) (sym c.takers-in-Some-first_char.ensures) (takers_are c.args.places.now held c.in-Some-first_char.c p c.requires.table.few))
           (follow_is c.args.places.now held self c.requires.table) c.after.ensures
           (subst (λ (l : List ℕ). Kept (tree_of c.args.places.now) text l c.loop-c.ends) c.in-Some-first_char.ensures.value c.loop-c.invariant.1),
     )

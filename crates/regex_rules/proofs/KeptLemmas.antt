@@ -1,24 +1,23 @@
 -- What a match by sets of characters knows between two characters of a text.
-use Rattle.std.proofs.Common.{◌≡◌, ◌≢◌, ◌↔◌, ◌⊎◌, inl, inr, ℕ, zero, suc, ◌+◌, ◌-◌, ◌*◌, ◌/◌, ◌%◌, ◌^◌, ◌<◌, ◌≤◌, ◌==◌, Bool, true, false, not, List, [], ◌∷◌, ◌++◌, length, get_or, replicate, IsTrue, refl, ap, sym, ◌∙◌, subst, append_assoc, append-nil, arith, bit_and, bit_or, eqb-true, eq-eqb, true≢false, w64}
+use Rattle.std.proofs.Common.{◌≡◌, ◌↔◌, ◌⊎◌, inl, inr, ℕ, zero, suc, ◌+◌, ◌*◌, ◌%◌, ◌^◌, ◌<◌, ◌≤◌, ◌==◌, Bool, true, false, not, List, [], ◌∷◌, ◌++◌, length, get_or, replicate, refl, ap, sym, ◌∙◌, subst, append_assoc, append-nil, arith, bit_and, bit_or, eqb-true, true≢false, w64}
 use Rattle.std.proofs.lemmas.Bool.{cases_eq, cases_lt}
 use Rattle.std.proofs.lemmas.List.{length-replicate}
 use Rattle.std.proofs.lemmas.Nat.{and_le_l}
 use Rattle.std.proofs.lemmas.Nat.Bits.{bit_at-lt, bit_at_and, bit_at_above, bit_at_clear_same, bit_at_clear_other}
 use Rattle.std.specs.Int.{bit_at, bit_not}
-use Rattle.regex_rules.specs.declared.linking.Piece.{Piece}
 use Rattle.regex_rules.specs.declared.linking.Linking.{Linking}
 use Rattle.regex_rules.specs.declared.takers.Takers.{Takers}
 use Rattle.regex_rules.specs.declared.positions.Positions.{Positions}
 use Rattle.regex_rules.specs.declared.place.Place.{Place}
-use Rattle.regex_rules.specs.Trees.{Tree, Empty, Char, Bracket, Or, places_of, tree_of}
+use Rattle.regex_rules.specs.Trees.{Tree, places_of, tree_of}
 use Rattle.regex_rules.specs.Languages.{InLanguage, in_language}
-use Rattle.regex_rules.specs.Positions.{Has, bit_of, count, either, rows_at, Follows, Takes, GoesOn}
+use Rattle.regex_rules.specs.Positions.{Has, bit_of, count, either, rows_at, Follows, Takes}
 use Rattle.regex_rules.specs.Linkings.{linked, linking_at, begun, unlinked, stood, takers_of, nothing_taken, ones, IsTable}
-use Rattle.regex_rules.proofs.TextLemmas.{Whole, Says, says_iff, says_false, iff_then, cons_is_some}
+use Rattle.regex_rules.proofs.TextLemmas.{Whole, Says, says_false}
 use Rattle.regex_rules.proofs.MatchLemmas.{snoc_is_some}
 use Rattle.regex_rules.proofs.CuttingLemmas.{tells_language}
 use Rattle.regex_rules.proofs.BitLemmas.{has_or, has_and, has_nothing, none_is_zero}
-use Rattle.regex_rules.proofs.PartLemmas.{EndsIn, Comes}
+use Rattle.regex_rules.proofs.PartLemmas.{Comes}
 use Rattle.regex_rules.proofs.WayLemmas.{At, at_within, at_nothing, step, text_ends, whole_lacks, way_back}
 use Rattle.regex_rules.proofs.LinkLemmas.{links, rows_of, table, table_says, stands, takers, takers_at, takers_say, ones_of, none_linked, none_stood}
 

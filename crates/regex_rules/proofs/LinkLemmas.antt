@@ -1,9 +1,7 @@
 -- Gone over place by place, a pattern's places give which of its characters may come after which, and which take one of a text.
-use Rattle.std.proofs.Common.{◌≡◌, ◌↔◌, ◌⊎◌, inl, inr, ℕ, zero, suc, ◌+◌, ◌*◌, ◌/◌, ◌%◌, ◌^◌, ◌<◌, ◌≤◌, ◌==◌, Bool, true, false, List, [], ◌∷◌, ◌++◌, length, get_or, replicate, refl, ap, sym, ◌∙◌, subst, append_assoc, append-nil, arith, bit_or, if◌then◌else◌, eqb-true, eq-eqb, add-zero, pow-suc, drop-cons, take-suc-set, drop-set-lt, take_all, drop, take, set, add-one, length-append, below_more}
+use Rattle.std.proofs.Common.{◌≡◌, ◌↔◌, ◌⊎◌, inl, inr, ℕ, zero, suc, ◌+◌, ◌/◌, ◌%◌, ◌<◌, ◌≤◌, ◌==◌, Bool, true, false, List, [], ◌∷◌, ◌++◌, length, get_or, refl, ap, sym, ◌∙◌, subst, append_assoc, append-nil, arith, bit_or, if◌then◌else◌, eqb-true, eq-eqb, add-zero, pow-suc, take-suc-set, drop-set-lt, take_all, drop, take, set, add-one, length-append, below_more}
 use Rattle.std.proofs.lemmas.List.{get_or_append_left, get_or_push}
 use Rattle.std.proofs.lemmas.Nat.Bits.{bit_at_lowest, bit_at-suc}
-use Rattle.std.specs.Int.{bit_at}
-use Rattle.regex_rules.specs.declared.character.OneChar.{OneChar}
 use Rattle.regex_rules.specs.declared.linking.Piece.{Piece}
 use Rattle.regex_rules.specs.declared.linking.Rows.{Rows}
 use Rattle.regex_rules.specs.declared.linking.Linking.{Linking}
@@ -13,11 +11,11 @@ use Rattle.regex_rules.specs.declared.place.Place.{Place}
 use Rattle.regex_rules.specs.declared.place.Place.TheVariants.{One, Open, Bar, Close}
 use Rattle.regex_rules.specs.Trees.{Tree, Empty, Char, Bracket, Or, places_of}
 use Rattle.regex_rules.specs.Languages.{is_one, may_go_on, Last, Earlier}
-use Rattle.regex_rules.specs.Positions.{Has, bit_of, count, either, followed, one_at, row_at, rows_at, Joins, Follows, Takes}
-use Rattle.regex_rules.specs.Linkings.{next_bit, link, join, begun, linking_at, past, linked, stand, one_stand, stood, ones}
+use Rattle.regex_rules.specs.Positions.{Has, bit_of, count, one_at, row_at, rows_at, Joins, Follows, Takes}
+use Rattle.regex_rules.specs.Linkings.{next_bit, link, join, begun, linking_at, past, linked, stand, stood, ones}
 use Rattle.regex_rules.proofs.TextLemmas.{iff_then, iff_or}
 use Rattle.regex_rules.proofs.WalkLemmas.{item_at, drop_past}
-use Rattle.regex_rules.proofs.BitLemmas.{has_or, has_if, has_only}
+use Rattle.regex_rules.proofs.BitLemmas.{has_if, has_only}
 
 -- ---- bits
 

@@ -1,12 +1,12 @@
 -- The texts of a pattern are those that have a way through its characters.
-use Rattle.std.proofs.Common.{◌≡◌, ◌↔◌, ◌⊎◌, inl, inr, ℕ, suc, ◌+◌, ◌<◌, ◌≤◌, Bool, true, false, ◌&&◌, ◌||◌, List, [], ◌∷◌, ◌++◌, refl, ap, sym, ◌∙◌, subst, append_assoc, append-nil, arith, bit_or, le_of_eq}
+use Rattle.std.proofs.Common.{◌≡◌, ◌↔◌, ◌⊎◌, inl, inr, ℕ, suc, ◌+◌, ◌<◌, ◌≤◌, Bool, true, false, ◌||◌, List, [], ◌∷◌, ◌++◌, refl, sym, subst, append_assoc, append-nil, arith, bit_or, le_of_eq}
 use Rattle.regex_rules.specs.declared.character.OneChar.{OneChar}
 use Rattle.regex_rules.specs.declared.linking.Piece.{Piece}
 use Rattle.regex_rules.specs.declared.repeat.Repeat.{Repeat}
 use Rattle.regex_rules.specs.Trees.{Tree, Empty, Char, Bracket, Or}
-use Rattle.regex_rules.specs.Languages.{Texts, Cut, Repeated, IsOne, is_one, may_lack, may_go_on, Which, Last, Earlier, InRow, InLanguage}
+use Rattle.regex_rules.specs.Languages.{Texts, Repeated, IsOne, is_one, may_lack, may_go_on, Which, Last, Earlier, InRow, InLanguage}
 use Rattle.regex_rules.specs.Positions.{Has, bit_of, count, piece_of, either, followed, so_often, one_at, row_at, rows_at, Joins, Follows, Takes, GoesOn, IsWay}
-use Rattle.regex_rules.proofs.TextLemmas.{Reach, Inside, Whole, Says, says_or, says_iff, says_true, says_false, iff_then, iff_or, repeated_empty, one_end, reach_nothing, reach_whole, reach_or}
+use Rattle.regex_rules.proofs.TextLemmas.{Reach, Inside, Whole, Says, says_or, says_iff, says_true, says_false, iff_then, repeated_empty, one_end, reach_nothing, reach_whole, reach_or}
 use Rattle.regex_rules.proofs.MarkLemmas.{Next, lacks_past, says_itself}
 use Rattle.regex_rules.proofs.MatchLemmas.{reaches_whole, snoc_is_some}
 use Rattle.regex_rules.proofs.BitLemmas.{has_or, has_nothing, has_only, has_if}

@@ -1,6 +1,6 @@
 -- What the functions promise one another that go over the places of a pattern to find which of its characters may come after which, and which take a character of a text.
 -- A reader of what a pattern matches needs none of it.
-use Rattle.std.specs.Prelude.{◌≡◌, ℕ, ◌+◌, ◌*◌, ◌/◌, ◌%◌, ◌^◌, ◌<◌, ◌≤◌, ◌==◌, Bool, true, false, List, [], ◌∷◌, if◌then◌else◌, bit_or, length, slice_index, replicate}
+use Rattle.std.specs.Prelude.{◌≡◌, ℕ, ◌+◌, ◌*◌, ◌/◌, ◌%◌, ◌^◌, ◌<◌, ◌≤◌, ◌==◌, Bool, false, List, [], ◌∷◌, if◌then◌else◌, bit_or, length, slice_index, replicate}
 use Rattle.regex_rules.specs.declared.linking.Piece.{Piece}
 use Rattle.regex_rules.specs.declared.linking.Rows.{Rows}
 use Rattle.regex_rules.specs.declared.linking.Linking.{Linking}
@@ -9,9 +9,8 @@ use Rattle.regex_rules.specs.declared.positions.Positions.{Positions}
 use Rattle.regex_rules.specs.declared.repeat.Repeat.{Repeat}
 use Rattle.regex_rules.specs.declared.place.Place.{Place}
 use Rattle.regex_rules.specs.declared.place.Place.TheVariants.{One, Open, Bar, Close}
-use Rattle.regex_rules.specs.Trees.{Tree, Empty, Char, Bracket, Or, tree_of}
-use Rattle.regex_rules.specs.Languages.{is_one, may_go_on, Last, Earlier}
-use Rattle.regex_rules.specs.Positions.{count, piece_of, empty_row, no_rows, either, followed, so_often, one_at, row_at, rows_at}
+use Rattle.regex_rules.specs.Languages.{is_one, may_go_on}
+use Rattle.regex_rules.specs.Positions.{piece_of, empty_row, no_rows, either, followed, so_often}
 
 -- the bit after this one, in 64 bits
 abbrev pub next_bit : ℕ → ℕ

@@ -2,7 +2,6 @@
 -- A reader of what a pattern matches needs none of it: law `the_ways_are_the_language` says that it gives the same texts.
 use Rattle.std.specs.Prelude.{◌≡◌, ℕ, suc, ◌+◌, ◌^◌, ◌%◌, Bool, true, false, ◌&&◌, ◌||◌, List, [], ◌∷◌, ◌⊎◌, if◌then◌else◌, bit_or}
 use Rattle.std.specs.Int.{bit_at}
-use Rattle.regex_rules.specs.declared.character.OneChar.{OneChar}
 use Rattle.regex_rules.specs.declared.linking.Piece.{Piece}
 use Rattle.regex_rules.specs.declared.repeat.Repeat.{Repeat}
 use Rattle.regex_rules.specs.Trees.{Tree, Empty, Char, Bracket, Or}

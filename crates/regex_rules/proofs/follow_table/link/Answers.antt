@@ -1,4 +1,4 @@
-use Rattle.std.proofs.Common.{refl, arith}
+use Rattle.std.proofs.Common.{arith}
 use Rattle.regex_rules.specs.Linkings.{link}
 use Rattle.regex_rules.proofs.LinkLemmas.{link_on, link_over}
 use Rattle.regex_rules.proofs.follow_table.link.Goals as goal

@@ -1,4 +1,4 @@
-use Rattle.std.proofs.Common.{◌≡◌, ◌↔◌, ◌∷◌, ℕ, List, ap, sym, subst, refl}
+use Rattle.std.proofs.Common.{◌↔◌, ℕ, List, ap, sym, subst}
 use Rattle.std.specs.Str.{chars}
 use Rattle.std.proofs.lemmas.Str.{IsUtf8-past_char}
 use Rattle.regex_rules.specs.declared.linking.Piece.{Piece}

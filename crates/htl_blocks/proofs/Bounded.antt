@@ -1,5 +1,5 @@
 -- Pieces, and how many bytes and inclusions they have.
-use Rattle.std.proofs.Common.{◌≡◌, ◌≢◌, ◌≤◌, ◌<◌, ◌+◌, ℕ, Bool, true, false, List, [], ◌∷◌, ◌++◌, length, refl, ap, sym, ◌∙◌, arith}
+use Rattle.std.proofs.Common.{◌≡◌, ◌≢◌, ◌≤◌, ◌<◌, ◌+◌, ℕ, Bool, true, false, List, [], ◌∷◌, ◌++◌, length, refl, ap, sym, ◌∙◌, arith, zero-add}
 use Rattle.std.proofs.lemmas.Bool.{false≢true}
 use Rattle.std.proofs.lemmas.List.Sums.{sum_by-append}
 use Rattle.std.specs.List.{sum_by, count_by}
@@ -19,14 +19,14 @@ text_more ps [] h = absurd (h refl)
 text_more ps (c ∷ t) h = refl
 
 pub text_len_more : (ps : List Piece) (t : List ℕ) → text_len (ps ++ piece.Text t ∷ []) ≡ text_len ps + length t
-text_len_more ps t = let both = sum_by-append piece_len ps (piece.Text t ∷ []) in omega (arith, both)
+text_len_more ps t = let both = sum_by-append piece_len ps (piece.Text t ∷ []) in let one : text_len (piece.Text t ∷ []) ≡ length t = zero-add (length t) in omega (arith, both, one)
 
 pub text_len_with : (ps : List Piece) (t : List ℕ) → text_len (with_text ps t) ≡ text_len ps + length t
 text_len_with ps [] = let none : text_len ps ≡ text_len ps + 0 = omega arith in none
 text_len_with ps (c ∷ t) = text_len_more ps (c ∷ t)
 
 pub same_included : (ps : List Piece) (t : List ℕ) → included (ps ++ piece.Text t ∷ []) ≡ included ps
-same_included ps t = let both = count-append puts_in ps (piece.Text t ∷ []) in omega (arith, both)
+same_included ps t = let both = count-append puts_in ps (piece.Text t ∷ []) in let none : included (piece.Text t ∷ []) ≡ 0 = refl in omega (arith, both, none)
 
 pub included_with : (ps : List Piece) (t : List ℕ) → included (with_text ps t) ≡ included ps
 included_with ps [] = refl

@@ -13,6 +13,11 @@ use Rattle.htl_blocks.specs.declared.run_fault.RunFault.TheVariants.{TooLong, To
 use Rattle.htl_blocks.specs.Sheets.{SheetText, empty_sheet, kept_part, kept, with_parts, IsOver}
 use Rattle.htl_blocks.proofs.SheetLemmas.{count-append}
 
+-- where all is kept, what is seen is kept
+pub all_are_seen : (ps : List Part) → kept keep.All ps ≡ seen ps
+all_are_seen [] = refl
+all_are_seen (p ∷ ps) = ap (λ (qs : List Part). seen_part p ++ qs) (all_are_seen ps)
+
 text_of_kept_part : (k : Keeping) (p : Part) → text_of (kept_part k p) ≡ part_text p
 text_of_kept_part keep.All (Byte c) = refl
 text_of_kept_part keep.All Round = refl

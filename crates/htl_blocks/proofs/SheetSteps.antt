@@ -1,8 +1,9 @@
 -- One step of writing: a text, or a piece that is put in.
-use Rattle.std.proofs.Common.{◌≡◌, ◌≢◌, ◌≤◌, ◌<◌, ◌+◌, ◌⊎◌, inl, inr, ℕ, Bool, true, false, List, [], ◌∷◌, ◌++◌, map, length, Result, Ok, Err, OnOk, IfErr, refl, ap, sym, subst, ◌∙◌, arith, append_assoc, length-append, append-nil}
+use Rattle.std.proofs.Common.{◌≡◌, ◌≢◌, ◌≤◌, ◌<◌, ◌+◌, ◌⊎◌, inl, inr, ℕ, Bool, true, false, List, [], ◌∷◌, ◌++◌, map, length, Result, Ok, Err, OnOk, IfErr, refl, ap, sym, subst, ◌∙◌, arith, append_assoc, length-append, append-nil, zero-add}
 use Rattle.std.proofs.lemmas.Bool.{false≢true}
 use Rattle.std.proofs.lemmas.List.{map-append}
 use Rattle.std.proofs.lemmas.List.Concat.{flat_map-append}
+use Rattle.std.proofs.lemmas.List.Sums.{sum_by-append}
 use Rattle.std.specs.List.{flat_map}
 use Rattle.sp_base.specs.Limits.{most_rendered_bytes}
 use Rattle.htl_expr.specs.Bindings.{Bindings}
@@ -86,19 +87,27 @@ template_result r old scope after k pieces tail more new n view same ok err =
 
 -- ---- pieces
 
+one_len : (scope : Bindings) (p : Piece) → length (text_of (piece_parts scope p)) ≡ text_len (p ∷ [])
+one_len scope (piece.Text t) = ap (length {A = ℕ}) (text_of_text t) ∙ sym (zero-add (length t))
+one_len scope (piece.Script name frame) = refl
+one_len scope (piece.Resource name) = refl
+
+-- a text has the bytes of its pieces
 pub text_len_is : (scope : Bindings) (pieces : List Piece) → length (text_of (pieces_parts scope pieces)) ≡ text_len pieces
 text_len_is scope [] = refl
 text_len_is scope (p ∷ ps) =
     let both = ap (length {A = ℕ}) (flat_map-append part_text (piece_parts scope p) (pieces_parts scope ps)) in
     let lens = length-append (text_of (piece_parts scope p)) (text_of (pieces_parts scope ps)) in
+    let whole = sum_by-append piece_len (p ∷ []) ps in
     let more = text_len_is scope ps in let one = one_len scope p in
-    omega (arith, both, lens, more, one)
-  where
-    one_len : (scope : Bindings) (p : Piece) → length (text_of (piece_parts scope p)) ≡ piece_len p
-    one_len scope (piece.Text t) = ap (length {A = ℕ}) (text_of_text t)
-    one_len scope (piece.Script name frame) = refl
-    one_len scope (piece.Resource name) = refl
+    omega (arith, both, lens, whole, more, one)
 
+one_count : (scope : Bindings) (p : Piece) → inclusions (piece_parts scope p) ≡ included (p ∷ [])
+one_count scope (piece.Text t) = none_in t
+one_count scope (piece.Script name frame) = refl
+one_count scope (piece.Resource name) = refl
+
+-- what is put in stands in its pieces
 pub inclusions_are : (scope : Bindings) (pieces : List Piece) → inclusions (pieces_parts scope pieces) ≡ included pieces
 inclusions_are scope [] = refl
 inclusions_are scope (p ∷ ps) =
@@ -106,11 +115,6 @@ inclusions_are scope (p ∷ ps) =
     let whole = count-append puts_in (p ∷ []) ps in
     let more = inclusions_are scope ps in let one = one_count scope p in
     omega (arith, both, whole, more, one)
-  where
-    one_count : (scope : Bindings) (p : Piece) → inclusions (piece_parts scope p) ≡ included (p ∷ [])
-    one_count scope (piece.Text t) = none_in t
-    one_count scope (piece.Script name frame) = refl
-    one_count scope (piece.Resource name) = refl
 
 -- a text more
 pub text_more_parts : (scope : Bindings) (ps : List Piece) (t : List ℕ) → pieces_parts scope (with_text ps t) ≡ pieces_parts scope ps ++ text_parts t

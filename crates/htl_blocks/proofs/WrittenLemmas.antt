@@ -150,3 +150,14 @@ pub from_empty : {A : Type 0} (r : Result A RunFault) (s0 s1 : SheetText) (scope
     → s0 ≡ empty_sheet scope what → with_vars scope vars ≡ scope → Wrote r s0 s1 (g (with_vars s0.scope vars)) → Wrote r (empty_sheet scope what) s1 (g scope)
 from_empty r s0 s1 scope what vars g empty seen w =
     subst (λ (s : Bindings). Wrote r (empty_sheet scope what) s1 (g s)) seen (subst (λ (s : SheetText). Wrote r s s1 (g (with_vars s.scope vars))) empty w)
+
+-- one round more
+pub rounds_more : (scope : Bindings) (rounds : List RoundOf) (i : ℕ) (d one : RoundOf) (vars more : List (List ℕ × List ℕ)) → i < length rounds → one ≡ get_or rounds i d
+    → with_vars scope vars ≡ within scope (take i rounds) → with_vars scope more ≡ with_round (with_vars scope vars) one → with_vars scope more ≡ within scope (take (i + 1) rounds)
+rounds_more scope rounds i d one vars more lt is known e =
+    e ∙ ap (λ (here : Bindings). with_round here one) known ∙ sym (fold-append with_round scope (take i rounds) (one ∷ []))
+    ∙ ap (within scope) (ap (λ (r : RoundOf). take i rounds ++ r ∷ []) is ∙ sym (take_more rounds i d lt))
+
+-- the variables of all rounds
+pub rounds_done : (scope : Bindings) (rounds : List RoundOf) (i : ℕ) (vars : List (List ℕ × List ℕ)) → length rounds ≤ i → with_vars scope vars ≡ within scope (take i rounds) → vars ≡ (within scope rounds).vars
+rounds_done scope rounds i vars le known = ap (λ (here : Bindings). here.vars) known ∙ ap (λ (rs : List RoundOf). (within scope rs).vars) (take_all i rounds le)

@@ -133,6 +133,7 @@ fn in_round<'a>(
 }
 
 /// The variables of a place, each with its text.
+#[tactic(auto, using(crate::proofs::WrittenLemmas::rounds_more, crate::proofs::WrittenLemmas::rounds_done))]
 pub fn variables_of<'a>(alloc: Global, scope: &Scope<'a>, frame: &Frame<'a>) -> Mem<OwnedVariables>
     ensures { IfOk result (λ all. all ≡ (within scope.now frame.now.rounds).vars) }
 {

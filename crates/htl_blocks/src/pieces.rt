@@ -55,6 +55,7 @@ fn written<'a>(
 }
 
 // The fault where there is too much but maybe not too much text.
+#[tactic(auto, using(crate::proofs::PieceLemmas::many_is_refused, crate::proofs::PieceLemmas::alone_is_refused))]
 fn fault_beside<'a>(alloc: Global, scope: &Scope<'a>, all: &'a [Block]) -> RunFault
     requires { IsOver RunFault.TooMany (with_parts (empty_sheet scope.now Keeping.All) (blocks_parts scope.now all.now)) }
     ensures { result ≢ RunFault.NoMemory → IsRefused result (blocks_parts scope.now all.now) }
@@ -68,6 +69,7 @@ fn fault_beside<'a>(alloc: Global, scope: &Scope<'a>, all: &'a [Block]) -> RunFa
 impl Blocks {
     /// What the script writes for a resource and variables, with what is put in from elsewhere. Where there is too much of the rest and too
     /// much text, it is the text that is told; but after 1,000,000 rounds nothing more is looked at.
+    #[tactic(auto, using(crate::proofs::PieceLemmas::all_are_seen, crate::proofs::PieceLemmas::all_fits, crate::proofs::PieceLemmas::long_is_refused))]
     pub fn pieces<'a>(&'a self, alloc: Global, scope: &Scope<'a>) -> Result<PieceList<'a>, RunFault>
         ensures parts { IfOk result (λ l. (l.scope ≡ scope.now) × (l.parts ≡ seen (blocks_parts scope.now self.now)) × (l.rounds ≡ rounds (blocks_parts scope.now self.now))) }
         ensures fits { IfOk result (λ l. Fits (blocks_parts scope.now self.now)) }

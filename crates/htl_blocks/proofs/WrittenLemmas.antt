@@ -161,3 +161,7 @@ rounds_more scope rounds i d one vars more lt is known e =
 -- the variables of all rounds
 pub rounds_done : (scope : Bindings) (rounds : List RoundOf) (i : ℕ) (vars : List (List ℕ × List ℕ)) → length rounds ≤ i → with_vars scope vars ≡ within scope (take i rounds) → vars ≡ (within scope rounds).vars
 rounds_done scope rounds i vars le known = ap (λ (here : Bindings). here.vars) known ∙ ap (λ (rs : List RoundOf). (within scope rs).vars) (take_all i rounds le)
+
+-- the variables of a place
+pub place_vars : (scope : Bindings) (rounds : List RoundOf) (vars : List (List ℕ × List ℕ)) → within scope rounds ≡ with_vars scope vars → (within scope rounds).vars ≡ vars
+place_vars scope rounds vars h = ap (λ (here : Bindings). here.vars) h

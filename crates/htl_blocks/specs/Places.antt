@@ -1,12 +1,11 @@
--- Places, lists and items while a script is written. Only proofs and private functions need this.
-use Rattle.std.specs.Prelude.{◌≡◌, ℕ, Some}
+-- Places and lists while a script is written. Only proofs and private functions need this.
+use Rattle.std.specs.Prelude.{◌≡◌, Some}
 use Rattle.htl_expr.specs.Bindings.{Bindings, with_vars}
 use Rattle.htl_expr.specs.Value.{list_in}
 use Rattle.htl_expr.specs.Variables.{vars_of}
 use Rattle.htl_blocks.specs.declared.place.Place.{Place}
 use Rattle.htl_blocks.specs.declared.repetition.Repetition.{Repetition}
-use Rattle.htl_blocks.specs.declared.repetition.Step.{Step}
-use Rattle.htl_blocks.specs.Pieces.{item_of, within}
+use Rattle.htl_blocks.specs.Pieces.{within}
 use Rattle.htl_blocks.specs.Written.{statement_value}
 
 -- what the expressions see at a place
@@ -20,7 +19,3 @@ IsPlaceIn scope place = within scope place.frame.now.rounds ≡ seen_at scope pl
 -- the items are those of the list
 abbrev pub HasItems : Bindings → Repetition → Type 0
 HasItems scope repetition = Some repetition.items ≡ list_in (statement_value scope repetition.list.now)
-
--- the item is that of the round
-abbrev pub HasItem : Bindings → Step → Type 0
-HasItem scope step = step.item.now ≡ item_of scope step.round

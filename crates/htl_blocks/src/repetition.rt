@@ -1,20 +1,14 @@
-//! The list of an element while its items are written.
+//! What is written once for each item of a list.
 
-use crate::piece::Round;
+use crate::attribute::Body;
 use htl_expr::Listed;
 use htl_text::Template;
 
-/// The variable that has the items of a list, the list, and its items.
+/// The list of an element, its items, the variable that has them, and what the element has in place of its content.
 #[derive(Drop)]
 pub struct Repetition<'v, 'a> {
     pub name: &'a str,
     pub list: &'a Template,
     pub items: Listed<'v>,
-}
-
-/// A round with its item.
-#[derive(Clone, Copy, Drop)]
-pub struct Step<'v, 'a> {
-    pub round: Round<'a>,
-    pub item: &'v str,
+    pub body: &'a Option<Body>,
 }

@@ -1,22 +1,22 @@
 //! What blocks write.
 
-ghost use Rattle.std.specs.Prelude.{◌≡◌, ◌≢◌, [], ◌∷◌, IfOk, Some};
-ghost use Rattle.std.specs.List.{flat_map};
+ghost use Rattle.std.specs.Prelude.{◌≡◌, ◌≢◌, ◌<◌, [], ◌∷◌, IfOk, Some, length};
+ghost use Rattle.std.specs.List.{flat_map, slice_index_or};
 ghost use Rattle.htl_expr.specs.Bindings.{with_vars};
 ghost use Rattle.htl_expr.specs.Variables.{vars_of};
 ghost use Rattle.htl_text.specs.Template.{template_output};
-ghost use Rattle.htl_blocks.specs.Places.{HasItem, HasItems, IsPlaceIn, seen_at};
+ghost use Rattle.htl_blocks.specs.Places.{HasItems, IsPlaceIn, seen_at};
 ghost use Rattle.htl_blocks.specs.Sheets.{Wrote};
 ghost use Rattle.htl_blocks.specs.Written as spec;
 
 use crate::attribute::Body;
 use crate::block::Block;
+use crate::element_tags::ElementTags;
 use crate::piece::Round;
 use crate::place::Place;
-use crate::repetition::{Repetition, Step};
+use crate::repetition::Repetition;
 use crate::run_fault::RunFault;
 use crate::sheet::{Sheet, include_resource, include_script, keeps_tags, listed, passes, write};
-use crate::tags::Tags;
 use htl_expr::Variables;
 use htl_text::Template;
 use sp_base::TextBuf;
@@ -68,28 +68,39 @@ fn inside<'v, 'a: 'v>(
     }
 }
 
-/// What stands in an element for an item of its list.
+/// What stands in an element for the item at a place of its list.
 #[cycle(written)]
 fn round<'v, 'a: 'v>(
     sheet: &mut Sheet<'a>,
     alloc: Global,
     place: &Place<'v, 'a>,
-    body: &'a Option<Body>,
     content: &'a [Block],
-    step: &Step<'v, 'a>,
+    repetition: &Repetition<'v, 'a>,
+    index: usize,
 ) -> Result<(), RunFault>
     requires place { IsPlaceIn sheet.old.scope place.now }
-    requires item { HasItem (seen_at sheet.old.scope place.now) step.now }
-    ensures { Wrote result sheet.old sheet.new (spec.round_parts step.now.round.name.now (spec.body_parts body.now (λ scope. spec.blocks_parts scope content.now)) (seen_at sheet.old.scope place.now) step.now.item.now) }
+    requires items { HasItems (seen_at sheet.old.scope place.now) repetition.now }
+    requires index { index < length repetition.now.items }
+    ensures { Wrote result sheet.old sheet.new (spec.round_parts repetition.now.name.now (spec.body_parts repetition.now.body.now (λ scope. spec.blocks_parts scope content.now)) (seen_at sheet.old.scope place.now) (slice_index_or repetition.now.items index [])) }
 {
-    let frame = place.frame.within(alloc, step.round)?;
-    let vars = Variables::With(step.round.name, step.item, &*place.vars);
+    let Some(item) = repetition.items.item(alloc, index)? else {
+        return Ok(());
+    };
+    let frame = place.frame.within(
+        alloc,
+        Round {
+            list: repetition.list,
+            name: repetition.name,
+            place: index,
+        },
+    )?;
     sheet.begin_round()?;
+    let vars = Variables::With(repetition.name, item.text(), &*place.vars);
     let inner = Place {
         vars: &vars,
         frame: &frame,
     };
-    inside(sheet, alloc, &inner, body, content)
+    inside(sheet, alloc, &inner, repetition.body, content)
 }
 
 /// What stands in an element for each item of its list.
@@ -98,27 +109,15 @@ fn rounds<'v, 'a: 'v>(
     sheet: &mut Sheet<'a>,
     alloc: Global,
     place: &Place<'v, 'a>,
-    body: &'a Option<Body>,
     content: &'a [Block],
     repetition: &Repetition<'v, 'a>,
 ) -> Result<(), RunFault>
     requires place { IsPlaceIn sheet.old.scope place.now }
     requires items { HasItems (seen_at sheet.old.scope place.now) repetition.now }
-    ensures { Wrote result sheet.old sheet.new (flat_map (spec.round_parts repetition.now.name.now (spec.body_parts body.now (λ scope. spec.blocks_parts scope content.now)) (seen_at sheet.old.scope place.now)) repetition.now.items) }
+    ensures { Wrote result sheet.old sheet.new (flat_map (spec.round_parts repetition.now.name.now (spec.body_parts repetition.now.body.now (λ scope. spec.blocks_parts scope content.now)) (seen_at sheet.old.scope place.now)) repetition.now.items) }
 {
     for index in 0..repetition.items.len() {
-        let Some(item) = repetition.items.item(alloc, index)? else {
-            return Ok(());
-        };
-        let step = Step {
-            round: Round {
-                list: repetition.list,
-                name: repetition.name,
-                place: index,
-            },
-            item: item.text(),
-        };
-        round(sheet, alloc, place, body, content, &step)?;
+        round(sheet, alloc, place, content, repetition, index)?;
     }
     Ok(())
 }
@@ -129,7 +128,7 @@ fn once<'v, 'a: 'v>(
     sheet: &mut Sheet<'a>,
     alloc: Global,
     place: &Place<'v, 'a>,
-    tags: &Tags<'a>,
+    tags: &ElementTags<'a>,
     content: &'a [Block],
 ) -> Result<(), RunFault>
     requires { IsPlaceIn sheet.old.scope place.now }
@@ -148,13 +147,13 @@ fn for_items<'v, 'a: 'v>(
     sheet: &mut Sheet<'a>,
     alloc: Global,
     place: &Place<'v, 'a>,
-    tags: &Tags<'a>,
+    tags: &ElementTags<'a>,
     content: &'a [Block],
     repetition: &Repetition<'v, 'a>,
 ) -> Result<(), RunFault>
     requires place { IsPlaceIn sheet.old.scope place.now }
     requires items { HasItems (seen_at sheet.old.scope place.now) repetition.now }
-    ensures { Wrote result sheet.old sheet.new (spec.between_tags tags.now.start.now tags.now.end.now (seen_at sheet.old.scope place.now) (spec.repeated repetition.now.name.now (spec.body_parts tags.now.start.now.attributes.body (λ scope. spec.blocks_parts scope content.now)) (seen_at sheet.old.scope place.now) (Some repetition.now.items))) }
+    ensures { Wrote result sheet.old sheet.new (spec.between_tags tags.now.start.now tags.now.end.now (seen_at sheet.old.scope place.now) (spec.repeated repetition.now.name.now (spec.body_parts repetition.now.body.now (λ scope. spec.blocks_parts scope content.now)) (seen_at sheet.old.scope place.now) (Some repetition.now.items))) }
 {
     if repetition.items.len() == 0 {
         return Ok(());
@@ -162,7 +161,7 @@ fn for_items<'v, 'a: 'v>(
     let start = tags.start;
     let keeps = keeps_tags(sheet, alloc, place.vars, &start.attributes.unwrap)?;
     open_tag(sheet, alloc, place.vars, keeps, &start.start)?;
-    rounds(sheet, alloc, place, &start.attributes.body, content, repetition)?;
+    rounds(sheet, alloc, place, content, repetition)?;
     close_tag(sheet, keeps, tags.end)
 }
 
@@ -172,7 +171,7 @@ fn repeated<'v, 'a: 'v>(
     sheet: &mut Sheet<'a>,
     alloc: Global,
     place: &Place<'v, 'a>,
-    tags: &Tags<'a>,
+    tags: &ElementTags<'a>,
     content: &'a [Block],
     list: &'a (TextBuf, Template),
 ) -> Result<(), RunFault>
@@ -186,6 +185,7 @@ fn repeated<'v, 'a: 'v>(
         name: list.0.text(),
         list: &list.1,
         items,
+        body: &tags.start.attributes.body,
     };
     for_items(sheet, alloc, place, tags, content, &repetition)
 }
@@ -196,7 +196,7 @@ fn element<'v, 'a: 'v>(
     sheet: &mut Sheet<'a>,
     alloc: Global,
     place: &Place<'v, 'a>,
-    tags: &Tags<'a>,
+    tags: &ElementTags<'a>,
     content: &'a [Block],
 ) -> Result<(), RunFault>
     requires { IsPlaceIn sheet.old.scope place.now }
@@ -226,7 +226,7 @@ fn block<'v, 'a: 'v>(
     match one {
         Block::Text(template) => write(sheet, alloc, place.vars, template),
         Block::Element(tag, content, end_tag) => {
-            let tags = Tags {
+            let tags = ElementTags {
                 start: tag.get(),
                 end: end_tag.text(),
             };

@@ -10,4 +10,4 @@ invariant-blocks-loop-one l = l.sheet ≡ with_parts l.fn.sheet (blocks_parts (s
 
 abbrev pub invariant-rounds-loop-index : goal.invariant-rounds-loop-index
 invariant-rounds-loop-index l =
-    l.sheet ≡ with_parts l.fn.sheet (flat_map (round_parts l.fn.repetition.name.now (body_parts l.fn.body (λ scope. blocks_parts scope l.fn.content)) (seen_at l.fn.sheet.scope l.fn.place)) (take l.index l.fn.repetition.items))
+    l.sheet ≡ with_parts l.fn.sheet (flat_map (round_parts l.fn.repetition.name.now (body_parts l.fn.repetition.body.now (λ scope. blocks_parts scope l.fn.content)) (seen_at l.fn.sheet.scope l.fn.place)) (take l.index l.fn.repetition.items))

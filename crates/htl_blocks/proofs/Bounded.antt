@@ -5,7 +5,7 @@ use Rattle.std.proofs.lemmas.List.Sums.{sum_by-append}
 use Rattle.std.specs.List.{sum_by, count_by}
 use Rattle.htl_blocks.specs.declared.piece.Piece.{Piece}
 use Rattle.htl_blocks.specs.declared.piece.Piece.TheVariants as piece
-use Rattle.htl_blocks.specs.Pieces.{included, piece_len, puts_in, text_len, with_text}
+use Rattle.htl_blocks.specs.Pieces.{inclusion_count, piece_len, puts_in, text_len, with_text}
 use Rattle.htl_blocks.proofs.SheetLemmas.{count-append}
 
 -- an empty text is no piece
@@ -25,14 +25,14 @@ pub text_len_with : (ps : List Piece) (t : List ℕ) → text_len (with_text ps 
 text_len_with ps [] = let none : text_len ps ≡ text_len ps + 0 = omega arith in none
 text_len_with ps (c ∷ t) = text_len_more ps (c ∷ t)
 
-pub same_included : (ps : List Piece) (t : List ℕ) → included (ps ++ piece.Text t ∷ []) ≡ included ps
-same_included ps t = let both = count-append puts_in ps (piece.Text t ∷ []) in let none : included (piece.Text t ∷ []) ≡ 0 = refl in omega (arith, both, none)
+pub same_included : (ps : List Piece) (t : List ℕ) → inclusion_count (ps ++ piece.Text t ∷ []) ≡ inclusion_count ps
+same_included ps t = let both = count-append puts_in ps (piece.Text t ∷ []) in let none : inclusion_count (piece.Text t ∷ []) ≡ 0 = refl in omega (arith, both, none)
 
-pub included_with : (ps : List Piece) (t : List ℕ) → included (with_text ps t) ≡ included ps
+pub included_with : (ps : List Piece) (t : List ℕ) → inclusion_count (with_text ps t) ≡ inclusion_count ps
 included_with ps [] = refl
 included_with ps (c ∷ t) = same_included ps (c ∷ t)
 
-one_in : (p : Piece) → puts_in p ≡ true → included (p ∷ []) ≡ 1
+one_in : (p : Piece) → puts_in p ≡ true → inclusion_count (p ∷ []) ≡ 1
 one_in (piece.Text t) h = absurd (false≢true h)
 one_in (piece.Script name frame) h = refl
 one_in (piece.Resource name) h = refl
@@ -42,7 +42,7 @@ no_text_in (piece.Text t) h = absurd (false≢true h)
 no_text_in (piece.Script name frame) h = refl
 no_text_in (piece.Resource name) h = refl
 
-pub one_included : (ps : List Piece) (p : Piece) → puts_in p ≡ true → included (ps ++ p ∷ []) ≡ included ps + 1
+pub one_included : (ps : List Piece) (p : Piece) → puts_in p ≡ true → inclusion_count (ps ++ p ∷ []) ≡ inclusion_count ps + 1
 one_included ps p h = let both = count-append puts_in ps (p ∷ []) in let one = one_in p h in omega (arith, both, one)
 
 pub same_len : (ps : List Piece) (p : Piece) → puts_in p ≡ true → text_len (ps ++ p ∷ []) ≡ text_len ps

@@ -15,4 +15,5 @@ pub mod Bounded
 pub mod SheetSteps
 pub mod ElementLemmas
 pub mod WrittenLemmas
+pub mod ElementSteps
 pub mod PieceLemmas

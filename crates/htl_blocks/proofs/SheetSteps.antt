@@ -14,7 +14,7 @@ use Rattle.htl_blocks.specs.declared.keeping.Keeping.TheVariants as keep
 use Rattle.htl_blocks.specs.declared.run_fault.RunFault.{RunFault}
 use Rattle.htl_blocks.specs.declared.run_fault.RunFault.TheVariants.{TooLong, TooMany, NoMemory}
 use Rattle.htl_blocks.specs.Parts.{Part, Byte, Round, Script, Resource, text_parts, part_text, text_of, is_inclusion, inclusions, is_round, rounds}
-use Rattle.htl_blocks.specs.Pieces.{included, piece_len, piece_parts, pieces_parts, puts_in, text_len, with_text}
+use Rattle.htl_blocks.specs.Pieces.{inclusion_count, piece_len, piece_parts, pieces_parts, puts_in, text_len, with_text}
 use Rattle.htl_blocks.specs.Refused.{most_inclusions, most_rounds}
 use Rattle.htl_blocks.specs.Sheets.{SheetText, IsOver, Wrote, kept, kept_part, with_parts}
 use Rattle.htl_blocks.proofs.SheetLemmas.{count-append, over_more, with_none}
@@ -102,13 +102,13 @@ text_len_is scope (p ∷ ps) =
     let more = text_len_is scope ps in let one = one_len scope p in
     omega (arith, both, lens, whole, more, one)
 
-one_count : (scope : Bindings) (p : Piece) → inclusions (piece_parts scope p) ≡ included (p ∷ [])
+one_count : (scope : Bindings) (p : Piece) → inclusions (piece_parts scope p) ≡ inclusion_count (p ∷ [])
 one_count scope (piece.Text t) = none_in t
 one_count scope (piece.Script name frame) = refl
 one_count scope (piece.Resource name) = refl
 
 -- what is put in stands in its pieces
-pub inclusions_are : (scope : Bindings) (pieces : List Piece) → inclusions (pieces_parts scope pieces) ≡ included pieces
+pub inclusions_are : (scope : Bindings) (pieces : List Piece) → inclusions (pieces_parts scope pieces) ≡ inclusion_count pieces
 inclusions_are scope [] = refl
 inclusions_are scope (p ∷ ps) =
     let both = count-append is_inclusion (piece_parts scope p) (pieces_parts scope ps) in
@@ -174,7 +174,7 @@ text_stops f old scope k ps tail n new more view h = λ ne.
 -- a piece is put in after the text before it, or there are too many
 pub inclusion_result : {A : Type 0} (r : Result A RunFault) (old : SheetText) (scope : Bindings) (k : Keeping) (ps mid new : List Piece) (p : Piece) (tail : List ℕ) (n : ℕ)
     → sheet_of scope k (pieces_parts scope ps) tail n ≡ old → k ≡ keep.All → puts_in p ≡ true → mid ≡ with_text ps tail
-    → OnOk r (new ≡ mid ++ p ∷ []) → IfErr r (λ f. f ≢ NoMemory → (f ≡ TooMany) × (most_inclusions ≤ included mid))
+    → OnOk r (new ≡ mid ++ p ∷ []) → IfErr r (λ f. f ≢ NoMemory → (f ≡ TooMany) × (most_inclusions ≤ inclusion_count mid))
     → Wrote r old (sheet_of scope k (pieces_parts scope new) [] n) (piece_parts scope p)
 inclusion_result (Ok x) old scope k ps mid new p tail n view all h is ok err =
     let made : List Part → ℕ → SheetText = λ parts count. record { scope = scope; keeping = k; parts = parts; rounds = count } in
@@ -195,7 +195,7 @@ inclusion_result (Err f) old scope k ps mid new p tail n view all h is ok err = 
     let none = none_in tail in
     let one = ap (λ (k : Keeping). inclusions (kept k (piece_parts scope p))) all ∙ inclusion_in scope p h in
     let here = inclusions_are scope ps in
-    let there = ap included is ∙ included_with ps tail in
+    let there = ap inclusion_count is ∙ included_with ps tail in
     let enough = both.1 in
     let over : most_inclusions < inclusions (before ++ kept k (piece_parts scope p)) = omega (arith, whole, parts, none, one, here, there, enough) in
     let here = subst (λ (g : RunFault). IsOver g (with_parts (sheet_of scope k (pieces_parts scope ps) tail n) (piece_parts scope p))) (sym both.0) (inr over) in
@@ -211,7 +211,7 @@ finished_parts scope here ps new tail same is = ap (λ (s : Bindings). pieces_pa
 pub finished_text : (scope : Bindings) (ps : List Piece) → text_len ps ≤ most_rendered_bytes → length (text_of (pieces_parts scope ps)) ≤ most_rendered_bytes
 finished_text scope ps h = let is = text_len_is scope ps in omega (arith, is, h)
 
-pub finished_inclusions : (scope : Bindings) (ps : List Piece) → included ps ≤ most_inclusions → inclusions (pieces_parts scope ps) ≤ most_inclusions
+pub finished_inclusions : (scope : Bindings) (ps : List Piece) → inclusion_count ps ≤ most_inclusions → inclusions (pieces_parts scope ps) ≤ most_inclusions
 finished_inclusions scope ps h = let is = inclusions_are scope ps in omega (arith, is, h)
 
 -- the last text is too long

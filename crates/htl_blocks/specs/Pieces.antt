@@ -59,8 +59,8 @@ puts_in (piece.Script name frame) = true
 puts_in (piece.Resource name) = true
 
 -- how many pieces are put in from elsewhere
-abbrev pub included : List Piece → ℕ
-included pieces = count_by puts_in pieces
+abbrev pub inclusion_count : List Piece → ℕ
+inclusion_count pieces = count_by puts_in pieces
 
 -- what the pieces of a script's text are seen as: what they were made for, what they stand for, and how often the contents of lists stood
 pub record ScriptText : Type 0 where

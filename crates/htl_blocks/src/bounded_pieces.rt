@@ -2,7 +2,7 @@
 
 ghost use Rattle.std.specs.Prelude.{◌≡◌, ◌≢◌, ◌≤◌, ◌<◌, ◌+◌, ◌∷◌, [], ◌++◌, true, IfErr, OnOk, OnErr, length, string_bytes};
 ghost use Rattle.sp_base.specs.Limits.{most_rendered_bytes};
-ghost use Rattle.htl_blocks.specs.Pieces.{included, puts_in, text_len, with_text};
+ghost use Rattle.htl_blocks.specs.Pieces.{inclusion_count, puts_in, text_len, with_text};
 ghost use Rattle.htl_blocks.specs.Refused.{most_inclusions};
 
 use crate::piece::Piece;
@@ -24,17 +24,21 @@ pub struct BoundedPieces<'a> {
 }
 
 impl<'a> Model for BoundedPieces<'a> {
+    ghost use Rattle.std.specs.Coded.{codes};
     ghost use Rattle.std.specs.Prelude.{◌≡◌, ◌≤◌, List};
+    ghost use Rattle.htl_syntax.specs.contracts.node.ExprNode as node;
     ghost use Rattle.sp_base.specs.Limits.{most_rendered_bytes};
     ghost use Rattle.htl_blocks.specs.declared.piece.Piece.{Piece};
-    ghost use Rattle.htl_blocks.specs.Pieces.{included, text_len};
+    ghost use Rattle.htl_blocks.specs.Pieces.{inclusion_count, text_len};
     ghost use Rattle.htl_blocks.specs.Refused.{most_inclusions};
 
     ghost Value = { List Piece };
 
+    ghost coded = { Prim.hlevel (codes, node.the_row.coded) };
+
     ghost view = { λ p. p.pieces };
 
-    ghost invariant = { λ p. (p.len ≡ text_len p.pieces) × (p.len ≤ most_rendered_bytes) × (p.included ≡ included p.pieces) × (p.included ≤ most_inclusions) };
+    ghost invariant = { λ p. (p.len ≡ text_len p.pieces) × (p.len ≤ most_rendered_bytes) × (p.included ≡ inclusion_count p.pieces) × (p.included ≤ most_inclusions) };
 }
 
 impl<'a> BoundedPieces<'a> {
@@ -73,7 +77,7 @@ impl<'a> BoundedPieces<'a> {
         requires { puts_in piece ≡ true }
         ensures ok { OnOk result (self.new ≡ self.old ++ piece.entry ∷ []) }
         ensures err { OnErr result (self.new ≡ self.old) }
-        ensures fault { IfErr result (λ f. f ≢ RunFault.NoMemory → (f ≡ RunFault.TooMany) × (most_inclusions ≤ included self.old)) }
+        ensures fault { IfErr result (λ f. f ≢ RunFault.NoMemory → (f ≡ RunFault.TooMany) × (most_inclusions ≤ inclusion_count self.old)) }
     {
         if self.included >= MOST_INCLUSIONS {
             return Err(RunFault::TooMany);
@@ -87,7 +91,7 @@ impl<'a> BoundedPieces<'a> {
     pub fn into_pieces(self) -> Items<Piece<'a>>
         ensures pieces { result ≡ self.entry }
         ensures text { text_len result ≤ most_rendered_bytes }
-        ensures included { included result ≤ most_inclusions }
+        ensures inclusions { inclusion_count result ≤ most_inclusions }
     {
         let BoundedPieces {
             pieces,

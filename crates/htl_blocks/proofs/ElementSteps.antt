@@ -10,7 +10,7 @@ use Rattle.htl_blocks.specs.declared.block.Block.{Block}
 use Rattle.htl_blocks.specs.declared.block.Block.TheVariants.{Text, Element}
 use Rattle.htl_blocks.specs.declared.run_fault.RunFault.{RunFault}
 use Rattle.htl_blocks.specs.Parts.{Part, text_parts}
-use Rattle.htl_blocks.specs.Sheets.{SheetText, with_parts, Wrote}
+use Rattle.htl_blocks.specs.Sheets.{SheetText, with_parts, Stops, Wrote}
 use Rattle.htl_blocks.specs.Written.{between_tags, block_parts, blocks_parts, body_parts, element_parts, keeps_tags, listed, passes, repeated, round_parts, tag_parts}
 use Rattle.htl_blocks.proofs.SheetLemmas.{with_none}
 use Rattle.htl_blocks.proofs.ElementLemmas.{text_is, element_is, left_out}
@@ -41,20 +41,20 @@ tags_written r s0 s1 s2 s3 s4 vars keeps tag end_tag b inside same is opened fil
     (in_tags r s0 s1 s2 s3 s4 vars keeps (λ (s : Bindings). keeps_tags s tag.attributes.unwrap) (λ (s : Bindings). template_output s tag.start) end_tag b same is opened filled closed)
 
 -- the start tag isn't written
-pub tags_stop : {A : Type 0} (f : RunFault) (s0 s1 s2 : SheetText) (vars : List (List ℕ × List ℕ)) (keeps : Bool) (tag : Tag) (end_tag : List ℕ) (b : Bindings → List Part) (inside : Option (List Part))
-    → s1 ≡ s0 → keeps ≡ keeps_tags (with_vars s0.scope vars) tag.attributes.unwrap → inside ≡ Some (b (with_vars s0.scope vars)) → Wrote {A = A} (Err f) s1 s2 (tag_parts keeps (template_output (with_vars s1.scope vars) tag.start))
-    → Wrote {A = A} (Err f) s0 s2 (between_tags tag end_tag (with_vars s0.scope vars) inside)
-tags_stop {A} f s0 s1 s2 vars keeps tag end_tag b inside same is some opened =
-    subst (λ (i : Option (List Part)). Wrote {A = A} (Err f) s0 s2 (between_tags tag end_tag (with_vars s0.scope vars) i)) (sym some)
-    (start_stops {A = A} f s0 s1 s2 vars keeps (λ (s : Bindings). keeps_tags s tag.attributes.unwrap) (λ (s : Bindings). template_output s tag.start) end_tag b same is opened)
+pub tags_stop : (f : RunFault) (s0 s1 s2 : SheetText) (vars : List (List ℕ × List ℕ)) (keeps : Bool) (tag : Tag) (end_tag : List ℕ) (b : Bindings → List Part) (inside : Option (List Part))
+    → s1 ≡ s0 → keeps ≡ keeps_tags (with_vars s0.scope vars) tag.attributes.unwrap → inside ≡ Some (b (with_vars s0.scope vars)) → Stops f s1 (tag_parts keeps (template_output (with_vars s1.scope vars) tag.start))
+    → Stops f s0 (between_tags tag end_tag (with_vars s0.scope vars) inside)
+tags_stop f s0 s1 s2 vars keeps tag end_tag b inside same is some opened =
+    subst (λ (i : Option (List Part)). Stops f s0 (between_tags tag end_tag (with_vars s0.scope vars) i)) (sym some)
+    (start_stops f s0 s1 s2 vars keeps (λ (s : Bindings). keeps_tags s tag.attributes.unwrap) (λ (s : Bindings). template_output s tag.start) end_tag b same is opened)
 
 -- what stands between them isn't written
-pub between_stops : {A : Type 0} (f : RunFault) (s0 s1 s2 s3 : SheetText) (vars : List (List ℕ × List ℕ)) (keeps : Bool) (tag : Tag) (end_tag : List ℕ) (b : Bindings → List Part) (inside : Option (List Part))
+pub between_stops : (f : RunFault) (s0 s1 s2 s3 : SheetText) (vars : List (List ℕ × List ℕ)) (keeps : Bool) (tag : Tag) (end_tag : List ℕ) (b : Bindings → List Part) (inside : Option (List Part))
     → s1 ≡ s0 → keeps ≡ keeps_tags (with_vars s0.scope vars) tag.attributes.unwrap → s2 ≡ with_parts s1 (tag_parts keeps (template_output (with_vars s1.scope vars) tag.start))
-    → inside ≡ Some (b (with_vars s0.scope vars)) → Wrote {A = A} (Err f) s2 s3 (b (with_vars s2.scope vars)) → Wrote {A = A} (Err f) s0 s3 (between_tags tag end_tag (with_vars s0.scope vars) inside)
-between_stops {A} f s0 s1 s2 s3 vars keeps tag end_tag b inside same is opened some filled =
-    subst (λ (i : Option (List Part)). Wrote {A = A} (Err f) s0 s3 (between_tags tag end_tag (with_vars s0.scope vars) i)) (sym some)
-    (inside_stops {A = A} f s0 s1 s2 s3 vars keeps (λ (s : Bindings). keeps_tags s tag.attributes.unwrap) (λ (s : Bindings). template_output s tag.start) end_tag b same is opened filled)
+    → inside ≡ Some (b (with_vars s0.scope vars)) → Stops f s2 (b (with_vars s2.scope vars)) → Stops f s0 (between_tags tag end_tag (with_vars s0.scope vars) inside)
+between_stops f s0 s1 s2 s3 vars keeps tag end_tag b inside same is opened some filled =
+    subst (λ (i : Option (List Part)). Stops f s0 (between_tags tag end_tag (with_vars s0.scope vars) i)) (sym some)
+    (inside_stops f s0 s1 s2 s3 vars keeps (λ (s : Bindings). keeps_tags s tag.attributes.unwrap) (λ (s : Bindings). template_output s tag.start) end_tag b same is opened filled)
 
 -- ---- elements and blocks
 

@@ -10,7 +10,7 @@ use Rattle.htl_blocks.specs.Refused.{most_inclusions, most_rounds}
 use Rattle.htl_blocks.specs.declared.keeping.Keeping.{Keeping}
 use Rattle.htl_blocks.specs.declared.run_fault.RunFault.{RunFault}
 use Rattle.htl_blocks.specs.declared.run_fault.RunFault.TheVariants.{TooLong, TooMany, NoMemory}
-use Rattle.htl_blocks.specs.Sheets.{SheetText, kept_part, kept, with_parts, IsOver, Wrote}
+use Rattle.htl_blocks.specs.Sheets.{SheetText, kept_part, kept, with_parts, IsOver, Stops, Wrote}
 
 pub count-append : {X : Type 0} (p : X → Bool) (xs ys : List X) → count_by p (xs ++ ys) ≡ count_by p xs + count_by p ys
 count-append p xs ys = sum_by-append (λ x. cond (p x) 1 0) xs ys
@@ -43,5 +43,5 @@ after (Ok x) old mid new a b e w = w ∙ ap (λ (s : SheetText). with_parts s b)
 after (Err f) old mid new a b e w = λ ne. subst (IsOver f) (ap (λ (s : SheetText). with_parts s b) e ∙ with_both old a b) (w ne)
 
 -- a limit that was passed before the last parts
-pub stopped : {A : Type 0} (f : RunFault) (old mid new : SheetText) (a b : List Part) → Wrote {A = A} (Err f) old mid a → Wrote {A = A} (Err f) old new (a ++ b)
+pub stopped : (f : RunFault) (old mid new : SheetText) (a b : List Part) → Stops f old a → Stops f old (a ++ b)
 stopped f old mid new a b w = λ ne. subst (IsOver f) (with_both old a b) (over_more f (with_parts old a) b (w ne))

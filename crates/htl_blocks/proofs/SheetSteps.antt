@@ -163,8 +163,8 @@ tail_over scope k ps tail n h =
     omega (arith, h, both, lens, itself, len)
 
 -- the text before a piece is too long
-pub text_stops : {A : Type 0} (f : RunFault) (old : SheetText) (scope : Bindings) (k : Keeping) (ps : List Piece) (tail : List ℕ) (n : ℕ) (new : SheetText) (more : List Part)
-    → sheet_of scope k (pieces_parts scope ps) tail n ≡ old → (f ≢ NoMemory → (f ≡ TooLong) × (most_rendered_bytes < text_len ps + length tail)) → Wrote {A = A} (Err f) old new more
+pub text_stops : (f : RunFault) (old : SheetText) (scope : Bindings) (k : Keeping) (ps : List Piece) (tail : List ℕ) (n : ℕ) (new : SheetText) (more : List Part)
+    → sheet_of scope k (pieces_parts scope ps) tail n ≡ old → (f ≢ NoMemory → (f ≡ TooLong) × (most_rendered_bytes < text_len ps + length tail)) → Stops f old more
 text_stops f old scope k ps tail n new more view h = λ ne.
     let both = h ne in
     let over = over_more TooLong (sheet_of scope k (pieces_parts scope ps) tail n) more (tail_over scope k ps tail n both.1) in

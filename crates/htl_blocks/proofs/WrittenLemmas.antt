@@ -6,13 +6,14 @@ use Rattle.std.proofs.lemmas.List.Concat.{flat_map-append}
 use Rattle.std.proofs.lemmas.List.Sums.{fold-append}
 use Rattle.std.specs.List.{flat_map, slice_index_or}
 use Rattle.htl_expr.specs.Bindings.{Bindings, with_vars}
+use Rattle.htl_expr.specs.Value.{list_in}
 use Rattle.htl_blocks.specs.Parts.{Part, Round, text_parts}
-use Rattle.htl_blocks.specs.Pieces.{item_of, with_round, within}
+use Rattle.htl_blocks.specs.Pieces.{item_of, items_in, with_round, within}
 use Rattle.htl_blocks.specs.declared.piece.Round.{Round as RoundOf}
 use Rattle.htl_blocks.specs.declared.run_fault.RunFault.{RunFault}
 use Rattle.htl_blocks.specs.declared.keeping.Keeping.{Keeping}
-use Rattle.htl_blocks.specs.Sheets.{SheetText, empty_sheet, with_parts, IsOver, Wrote}
-use Rattle.htl_blocks.specs.Written.{round_parts, tag_parts}
+use Rattle.htl_blocks.specs.Sheets.{SheetText, empty_sheet, with_parts, IsOver, Stops, Wrote}
+use Rattle.htl_blocks.specs.Written.{round_parts, statement_value, tag_parts}
 use Rattle.htl_blocks.proofs.SheetLemmas.{after, stopped, with_both, with_none}
 
 one_more : {X : Type 0} (g : X → List Part) (xs : List X) (i : ℕ) (d x : X) → i < length xs → x ≡ get_or xs i d → flat_map g (take i xs) ++ g x ≡ flat_map g (take (i + 1) xs)
@@ -27,12 +28,12 @@ each_more g s mid new xs i d x lt is known e =
     e ∙ ap (λ (m : SheetText). with_parts m (g x)) known ∙ with_both s (flat_map g (take i xs)) (g x) ∙ ap (with_parts s) (one_more g xs i d x lt is)
 
 -- the next item isn't written, nor are those after it
-pub each_stopped : {A : Type 0} {X : Type 0} (g : X → List Part) (f : RunFault) (s mid new : SheetText) (xs : List X) (i : ℕ) (d x : X) → i < length xs → x ≡ get_or xs i d → mid ≡ with_parts s (flat_map g (take i xs))
-    → Wrote {A = A} (Err f) mid new (g x) → Wrote {A = A} (Err f) s new (flat_map g xs)
-each_stopped {A} g f s mid new xs i d x lt is known w =
-    let so_far = subst (λ (ps : List Part). Wrote {A = A} (Err f) s new ps) (one_more g xs i d x lt is) (after {A = A} (Err f) s mid new (flat_map g (take i xs)) (g x) known w) in
-    subst (λ (ps : List Part). Wrote {A = A} (Err f) s new ps) (sym (flat_map-append g (take (i + 1) xs) (drop (i + 1) xs)) ∙ ap (flat_map g) (take-append-drop (i + 1) xs))
-    (stopped {A = A} f s new new (flat_map g (take (i + 1) xs)) (flat_map g (drop (i + 1) xs)) so_far)
+pub each_stopped : {X : Type 0} (g : X → List Part) (f : RunFault) (s mid new : SheetText) (xs : List X) (i : ℕ) (d x : X) → i < length xs → x ≡ get_or xs i d → mid ≡ with_parts s (flat_map g (take i xs))
+    → Stops f mid (g x) → Stops f s (flat_map g xs)
+each_stopped g f s mid new xs i d x lt is known w =
+    let so_far = subst (λ (ps : List Part). Stops f s ps) (one_more g xs i d x lt is) (after {A = ℕ} (Err f) s mid new (flat_map g (take i xs)) (g x) known w) in
+    subst (λ (ps : List Part). Stops f s ps) (sym (flat_map-append g (take (i + 1) xs) (drop (i + 1) xs)) ∙ ap (flat_map g) (take-append-drop (i + 1) xs))
+    (stopped f s new new (flat_map g (take (i + 1) xs)) (flat_map g (drop (i + 1) xs)) so_far)
 
 -- all items are written
 pub each_done : {X : Type 0} (g : X → List Part) (s new : SheetText) (xs : List X) (i : ℕ) → length xs ≤ i → new ≡ with_parts s (flat_map g (take i xs)) → new ≡ with_parts s (flat_map g xs)
@@ -59,10 +60,10 @@ wrapped r s0 s1 s2 s3 vars a c b e f w =
     second r s0 s1 s3 vars a (λ (scope : Bindings). b scope ++ c) e (after r s1 s2 s3 (b (with_vars s1.scope vars)) c f w)
 
 -- an element whose content isn't written
-pub stopped_inside : {A : Type 0} (f : RunFault) (s0 s1 s2 : SheetText) (vars : List (List ℕ × List ℕ)) (a c : List Part) (b : Bindings → List Part) → s1 ≡ with_parts s0 a → Wrote {A = A} (Err f) s1 s2 (b (with_vars s1.scope vars))
-    → Wrote {A = A} (Err f) s0 s2 (a ++ (b (with_vars s0.scope vars) ++ c))
-stopped_inside {A} f s0 s1 s2 vars a c b e w =
-    second {A = A} (Err f) s0 s1 s2 vars a (λ (scope : Bindings). b scope ++ c) e (stopped {A = A} f s1 s2 s2 (b (with_vars s1.scope vars)) c w)
+pub stopped_inside : (f : RunFault) (s0 s1 s2 : SheetText) (vars : List (List ℕ × List ℕ)) (a c : List Part) (b : Bindings → List Part) → s1 ≡ with_parts s0 a → Stops f s1 (b (with_vars s1.scope vars))
+    → Stops f s0 (a ++ (b (with_vars s0.scope vars) ++ c))
+stopped_inside f s0 s1 s2 vars a c b e w =
+    second {A = ℕ} (Err f) s0 s1 s2 vars a (λ (scope : Bindings). b scope ++ c) e (stopped f s1 s2 s2 (b (with_vars s1.scope vars)) c w)
 
 -- a tag where the tags stand
 pub tag_stands : {A : Type 0} (r : Result A RunFault) (old new : SheetText) (keeps : Bool) (t : List ℕ) → keeps ≡ true → Wrote r old new (text_parts t) → Wrote r old new (tag_parts keeps t)
@@ -100,24 +101,24 @@ in_tags r s0 s1 s2 s3 s4 vars keeps stand start end_tag b same is opened filled 
     (wrapped r s0 s2 s3 s4 vars (tag_parts keeps (start scope0)) (tag_parts keeps end_tag) b opened0 filled closed)
 
 -- its start tag isn't written
-pub start_stops : {A : Type 0} (f : RunFault) (s0 s1 s2 : SheetText) (vars : List (List ℕ × List ℕ)) (keeps : Bool) (stand : Bindings → Bool) (start : Bindings → List ℕ) (end_tag : List ℕ) (b : Bindings → List Part)
-    → s1 ≡ s0 → keeps ≡ stand (with_vars s0.scope vars) → Wrote {A = A} (Err f) s1 s2 (tag_parts keeps (start (with_vars s1.scope vars)))
-    → Wrote {A = A} (Err f) s0 s2 (tag_parts (stand (with_vars s0.scope vars)) (start (with_vars s0.scope vars)) ++ (b (with_vars s0.scope vars) ++ tag_parts (stand (with_vars s0.scope vars)) end_tag))
-start_stops {A} f s0 s1 s2 vars keeps stand start end_tag b same is opened =
+pub start_stops : (f : RunFault) (s0 s1 s2 : SheetText) (vars : List (List ℕ × List ℕ)) (keeps : Bool) (stand : Bindings → Bool) (start : Bindings → List ℕ) (end_tag : List ℕ) (b : Bindings → List Part)
+    → s1 ≡ s0 → keeps ≡ stand (with_vars s0.scope vars) → Stops f s1 (tag_parts keeps (start (with_vars s1.scope vars)))
+    → Stops f s0 (tag_parts (stand (with_vars s0.scope vars)) (start (with_vars s0.scope vars)) ++ (b (with_vars s0.scope vars) ++ tag_parts (stand (with_vars s0.scope vars)) end_tag))
+start_stops f s0 s1 s2 vars keeps stand start end_tag b same is opened =
     let scope0 = with_vars s0.scope vars in
-    let opened0 = subst (λ (s : SheetText). Wrote {A = A} (Err f) s s2 (tag_parts keeps (start (with_vars s.scope vars)))) same opened in
-    subst (λ (k : Bool). Wrote {A = A} (Err f) s0 s2 (tag_parts k (start scope0) ++ (b scope0 ++ tag_parts k end_tag))) is
-    (stopped {A = A} f s0 s2 s2 (tag_parts keeps (start scope0)) (b scope0 ++ tag_parts keeps end_tag) opened0)
+    let opened0 = subst (λ (s : SheetText). Stops f s (tag_parts keeps (start (with_vars s.scope vars)))) same opened in
+    subst (λ (k : Bool). Stops f s0 (tag_parts k (start scope0) ++ (b scope0 ++ tag_parts k end_tag))) is
+    (stopped f s0 s2 s2 (tag_parts keeps (start scope0)) (b scope0 ++ tag_parts keeps end_tag) opened0)
 
 -- what stands in it isn't written
-pub inside_stops : {A : Type 0} (f : RunFault) (s0 s1 s2 s3 : SheetText) (vars : List (List ℕ × List ℕ)) (keeps : Bool) (stand : Bindings → Bool) (start : Bindings → List ℕ) (end_tag : List ℕ) (b : Bindings → List Part)
-    → s1 ≡ s0 → keeps ≡ stand (with_vars s0.scope vars) → s2 ≡ with_parts s1 (tag_parts keeps (start (with_vars s1.scope vars))) → Wrote {A = A} (Err f) s2 s3 (b (with_vars s2.scope vars))
-    → Wrote {A = A} (Err f) s0 s3 (tag_parts (stand (with_vars s0.scope vars)) (start (with_vars s0.scope vars)) ++ (b (with_vars s0.scope vars) ++ tag_parts (stand (with_vars s0.scope vars)) end_tag))
-inside_stops {A} f s0 s1 s2 s3 vars keeps stand start end_tag b same is opened filled =
+pub inside_stops : (f : RunFault) (s0 s1 s2 s3 : SheetText) (vars : List (List ℕ × List ℕ)) (keeps : Bool) (stand : Bindings → Bool) (start : Bindings → List ℕ) (end_tag : List ℕ) (b : Bindings → List Part)
+    → s1 ≡ s0 → keeps ≡ stand (with_vars s0.scope vars) → s2 ≡ with_parts s1 (tag_parts keeps (start (with_vars s1.scope vars))) → Stops f s2 (b (with_vars s2.scope vars))
+    → Stops f s0 (tag_parts (stand (with_vars s0.scope vars)) (start (with_vars s0.scope vars)) ++ (b (with_vars s0.scope vars) ++ tag_parts (stand (with_vars s0.scope vars)) end_tag))
+inside_stops f s0 s1 s2 s3 vars keeps stand start end_tag b same is opened filled =
     let scope0 = with_vars s0.scope vars in
     let opened0 = subst (λ (s : SheetText). s2 ≡ with_parts s (tag_parts keeps (start (with_vars s.scope vars)))) same opened in
-    subst (λ (k : Bool). Wrote {A = A} (Err f) s0 s3 (tag_parts k (start scope0) ++ (b scope0 ++ tag_parts k end_tag))) is
-    (stopped_inside {A = A} f s0 s2 s3 vars (tag_parts keeps (start scope0)) (tag_parts keeps end_tag) b opened0 filled)
+    subst (λ (k : Bool). Stops f s0 (tag_parts k (start scope0) ++ (b scope0 ++ tag_parts k end_tag))) is
+    (stopped_inside f s0 s2 s3 vars (tag_parts keeps (start scope0)) (tag_parts keeps end_tag) b opened0 filled)
 
 -- ---- rounds
 
@@ -165,3 +166,16 @@ rounds_done scope rounds i vars le known = ap (λ (here : Bindings). here.vars) 
 -- the variables of a place
 pub place_vars : (scope : Bindings) (rounds : List RoundOf) (vars : List (List ℕ × List ℕ)) → within scope rounds ≡ with_vars scope vars → (within scope rounds).vars ≡ vars
 place_vars scope rounds vars h = ap (λ (here : Bindings). here.vars) h
+
+-- where no item is, the text is empty
+pub no_item_is : (items : List (List ℕ)) (i : ℕ) → None ≡ slice_get items i → [] ≡ slice_index_or items i []
+no_item_is [] i none = refl
+no_item_is (x ∷ xs) zero none = let clash : None ≡ Some x = none in absurd cc
+no_item_is (x ∷ xs) (suc i) none = no_item_is xs i none
+
+-- the item of a round is that of its list
+pub item_listed : (scope : Bindings) (one : RoundOf) (items : List (List ℕ)) (item : List ℕ) → Some items ≡ list_in (statement_value scope one.list.now) → Some item ≡ slice_get items one.place → item ≡ item_of scope one
+item_listed scope one items item some there = item_is items one.place item there ∙ ap (λ (l : Option (List (List ℕ))). slice_index_or (items_in l) one.place []) some
+
+pub none_listed : (scope : Bindings) (one : RoundOf) (items : List (List ℕ)) → Some items ≡ list_in (statement_value scope one.list.now) → None ≡ slice_get items one.place → [] ≡ item_of scope one
+none_listed scope one items some there = no_item_is items one.place there ∙ ap (λ (l : Option (List (List ℕ))). slice_index_or (items_in l) one.place []) some

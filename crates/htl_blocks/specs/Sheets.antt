@@ -40,7 +40,11 @@ IsOver TooLong s = most_rendered_bytes < length (text_of s.parts)
 IsOver TooMany s = (most_rounds < s.rounds) ⊎ (most_inclusions < inclusions s.parts)
 IsOver NoMemory s = Unit {0}
 
+-- with parts more a limit is passed
+abbrev pub Stops : RunFault → SheetText → List Part → Type 0
+Stops f old ps = f ≢ NoMemory → IsOver f (with_parts old ps)
+
 -- parts are written, or with them a limit is passed
 abbrev pub Wrote : {A : Type 0} → Result A RunFault → SheetText → SheetText → List Part → Type 0
 Wrote (Ok _) old new ps = new ≡ with_parts old ps
-Wrote (Err f) old new ps = f ≢ NoMemory → IsOver f (with_parts old ps)
+Wrote (Err f) old new ps = Stops f old ps

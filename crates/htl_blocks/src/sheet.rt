@@ -7,7 +7,7 @@ ghost use Rattle.htl_expr.specs.Value.{list_in};
 ghost use Rattle.htl_expr.specs.Variables.{vars_of};
 ghost use Rattle.htl_text.specs.Template.{template_output};
 ghost use Rattle.htl_blocks.specs.Parts as part;
-ghost use Rattle.htl_blocks.specs.Pieces.{piece_parts, puts_in};
+ghost use Rattle.htl_blocks.specs.Pieces.{piece_parts, pieces_parts, puts_in};
 ghost use Rattle.htl_blocks.specs.Places.{IsPlaceIn, seen_at};
 ghost use Rattle.htl_blocks.specs.Refused.{most_inclusions, most_rounds};
 ghost use Rattle.htl_blocks.specs.Sheets as spec;
@@ -234,7 +234,25 @@ fn same_scope<'a>(scope: &Scope<'a>) -> Scope<'a>
     }
 }
 
+// Pieces as a list, for this resource.
+#[tactic(auto, using(crate::proofs::SheetSteps::finished_text, crate::proofs::SheetSteps::finished_inclusions))]
+fn list_of<'a>(scope: &Scope<'a>, pieces: BoundedPieces<'a>, rounds: usize) -> PieceList<'a>
+    ensures scope { result.scope ≡ scope.now }
+    ensures parts { result.parts ≡ pieces_parts scope.now pieces.entry }
+    ensures rounds { result.rounds ≡ rounds }
+    ensures text { length (part.text_of result.parts) ≤ most_rendered_bytes }
+    ensures inclusions { part.inclusions result.parts ≤ most_inclusions }
+{
+    let all = pieces.into_pieces();
+    PieceList {
+        scope: same_scope(scope),
+        pieces: all,
+        rounds,
+    }
+}
+
 /// What was written, if it isn't too long.
+#[tactic(auto, using(crate::proofs::SheetSteps::finished_parts, crate::proofs::SheetSteps::finished_over))]
 pub fn finished<'a>(sheet: Sheet<'a>, scope: &Scope<'a>) -> Result<PieceList<'a>, RunFault>
     requires { scope.now ≡ sheet.scope }
     ensures parts { IfOk result (λ l. (l.scope ≡ sheet.entry.scope) × (l.parts ≡ sheet.entry.parts) × (l.rounds ≡ sheet.entry.rounds)) }
@@ -249,9 +267,5 @@ pub fn finished<'a>(sheet: Sheet<'a>, scope: &Scope<'a>) -> Result<PieceList<'a>
         rounds,
     } = sheet;
     pieces.push_text(tail)?;
-    Ok(PieceList {
-        scope: same_scope(scope),
-        pieces: pieces.into_pieces(),
-        rounds,
-    })
+    Ok(list_of(scope, pieces, rounds))
 }

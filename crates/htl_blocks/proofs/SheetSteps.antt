@@ -16,7 +16,7 @@ use Rattle.htl_blocks.specs.declared.run_fault.RunFault.TheVariants.{TooLong, To
 use Rattle.htl_blocks.specs.Parts.{Part, Byte, Round, Script, Resource, text_parts, part_text, text_of, is_inclusion, inclusions, is_round, rounds}
 use Rattle.htl_blocks.specs.Pieces.{inclusion_count, piece_len, piece_parts, pieces_parts, puts_in, text_len, with_text}
 use Rattle.htl_blocks.specs.Refused.{most_inclusions, most_rounds}
-use Rattle.htl_blocks.specs.Sheets.{SheetText, IsOver, Wrote, kept, kept_part, with_parts}
+use Rattle.htl_blocks.specs.Sheets.{SheetText, IsOver, Stops, Wrote, kept, kept_part, with_parts}
 use Rattle.htl_blocks.proofs.SheetLemmas.{count-append, over_more, with_none}
 use Rattle.htl_blocks.proofs.Bounded.{included_with}
 

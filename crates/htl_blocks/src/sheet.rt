@@ -235,7 +235,6 @@ fn same_scope<'a>(scope: &Scope<'a>) -> Scope<'a>
 }
 
 // Pieces as a list, for this resource.
-#[tactic(auto, using(crate::proofs::SheetSteps::finished_text, crate::proofs::SheetSteps::finished_inclusions))]
 fn list_of<'a>(scope: &Scope<'a>, pieces: BoundedPieces<'a>, rounds: usize) -> PieceList<'a>
     ensures scope { result.scope ≡ scope.now }
     ensures parts { result.parts ≡ pieces_parts scope.now pieces.entry }
@@ -252,7 +251,6 @@ fn list_of<'a>(scope: &Scope<'a>, pieces: BoundedPieces<'a>, rounds: usize) -> P
 }
 
 /// What was written, if it isn't too long.
-#[tactic(auto, using(crate::proofs::SheetSteps::finished_parts, crate::proofs::SheetSteps::finished_over))]
 pub fn finished<'a>(sheet: Sheet<'a>, scope: &Scope<'a>) -> Result<PieceList<'a>, RunFault>
     requires { scope.now ≡ sheet.scope }
     ensures parts { IfOk result (λ l. (l.scope ≡ sheet.entry.scope) × (l.parts ≡ sheet.entry.parts) × (l.rounds ≡ sheet.entry.rounds)) }

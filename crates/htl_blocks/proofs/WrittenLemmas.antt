@@ -1,5 +1,5 @@
 -- What is written item by item.
-use Rattle.std.proofs.Common.{◌≡◌, ◌≢◌, Bool, true, false, ◌≤◌, ◌<◌, ◌+◌, ℕ, zero, suc, List, [], ◌∷◌, ◌++◌, take, drop, get_or, slice_get, length, Option, Some, None, Result, Ok, Err, refl, ap, sym, subst, ◌∙◌, append-nil, arith}
+use Rattle.std.proofs.Common.{◌≡◌, ◌≢◌, Bool, true, false, ◌≤◌, ◌<◌, ◌+◌, ℕ, zero, suc, List, [], ◌∷◌, ◌++◌, take, drop, get_or, slice_get, length, Option, Some, None, Result, Ok, Err, refl, ap, sym, subst, ◌∙◌, append-nil, arith, Bor}
 use Rattle.std.proofs.lemmas.List.{take_all, take_more, take-append-drop}
 use Rattle.std.proofs.lemmas.Bool.{false≢true}
 use Rattle.std.proofs.lemmas.List.Concat.{flat_map-append}
@@ -7,6 +7,11 @@ use Rattle.std.proofs.lemmas.List.Sums.{fold-append}
 use Rattle.std.specs.List.{flat_map, slice_index_or}
 use Rattle.htl_expr.specs.Bindings.{Bindings, with_vars}
 use Rattle.htl_expr.specs.Value.{list_in}
+use Rattle.htl_expr.specs.declared.variables.Variables.{Variables}
+use Rattle.htl_expr.specs.declared.variables.Variables.TheVariants as vars
+use Rattle.htl_expr.specs.declared.variables.Variables.TheOpen.{Variables-F}
+use Rattle.htl_expr.specs.declared.variables.Variables.TheFolds.{fold-roll-Variables}
+use Rattle.htl_expr.specs.Variables.{lent_pairs, vars_of, vars_step}
 use Rattle.htl_blocks.specs.Parts.{Part, Round, text_parts}
 use Rattle.htl_blocks.specs.Pieces.{item_of, items_in, with_round, within}
 use Rattle.htl_blocks.specs.declared.piece.Round.{Round as RoundOf}
@@ -179,3 +184,17 @@ item_listed scope one items item some there = item_is items one.place item there
 
 pub none_listed : (scope : Bindings) (one : RoundOf) (items : List (List ℕ)) → Some items ≡ list_in (statement_value scope one.list.now) → None ≡ slice_get items one.place → [] ≡ item_of scope one
 none_listed scope one items some there = no_item_is items one.place there ∙ ap (λ (l : Option (List (List ℕ))). slice_index_or (items_in l) one.place []) some
+
+-- an item's variable over the others
+pub with_one : (name text : Bor (List ℕ)) (outer : Bor Variables) → vars_of (vars.With name text outer) ≡ (name.now, text.now) ∷ vars_of outer.now
+with_one name text outer = ap vars_of (sym (vars.rolls-With name text outer)) ∙ fold-roll-Variables (List (List ℕ × List ℕ)) vars_step (Variables-F.With name text outer)
+
+-- the item of a round, while more was written
+pub round_item : (s mid : SheetText) (ps : List Part) (vars : List (List ℕ × List ℕ)) (one : RoundOf) (items : List (List ℕ)) (item : List ℕ) → mid ≡ with_parts s ps
+    → Some items ≡ list_in (statement_value (with_vars s.scope vars) one.list.now) → Some item ≡ slice_get items one.place → item ≡ item_of (with_vars mid.scope vars) one
+round_item s mid ps vars one items item e some there =
+    subst (λ (scope : Bindings). item ≡ item_of (with_vars scope vars) one) (sym (same_scope s mid ps e)) (item_listed (with_vars s.scope vars) one items item some there)
+
+-- variables that stand in pairs
+pub pairs_are : (pairs : Bor (List (Bor (List ℕ) × Bor (List ℕ)))) → vars_of (vars.Pairs pairs) ≡ lent_pairs pairs.now
+pairs_are pairs = ap vars_of (sym (vars.rolls-Pairs pairs)) ∙ fold-roll-Variables (List (List ℕ × List ℕ)) vars_step (Variables-F.Pairs pairs)

@@ -99,7 +99,6 @@ fn with_variable(
 }
 
 // The item of a round.
-#[tactic(auto, using(crate::proofs::WrittenLemmas::item_listed, crate::proofs::WrittenLemmas::none_listed))]
 fn item<'a>(
     alloc: Global,
     of: &mut Evaluation<'a>,

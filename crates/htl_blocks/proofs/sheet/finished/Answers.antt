@@ -12,4 +12,4 @@ pub returns-clause-parts : goal.returns-clause-parts
 returns-clause-parts c =
     let same = c.requires ∙ sym (ap (λ (s : SheetText). s.scope) c.sheet.view_is) in
     let whole = finished_parts c.sheet.inside.of c.args.scope.now c.sheet.inside.pieces c.push_text.new.self (string_bytes c.sheet.inside.tail) same c.in_ok-push_text.ensures.ok in
-    (c.list_of.ensures.scope ∙ c.requires, (c.list_of.ensures.parts ∙ whole ∙ ap (λ (s : SheetText). s.parts) c.sheet.view_is, c.list_of.ensures.rounds ∙ ap (λ (s : SheetText). s.rounds) c.sheet.view_is))
+    (c.list_of.ensures.scope ∙ c.requires, c.list_of.ensures.parts ∙ whole ∙ ap (λ (s : SheetText). s.parts) c.sheet.view_is, c.list_of.ensures.rounds ∙ ap (λ (s : SheetText). s.rounds) c.sheet.view_is)

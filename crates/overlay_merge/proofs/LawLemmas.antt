@@ -75,3 +75,10 @@ kid-parts tree path layers name is =
     let before = list_any-IsPermutation (pointwise nat_eq name) (kids_there tree path (all_kids layers)) (layers_kids tree path layers) (kids-reorder tree path layers) in
     let both = and_parts (is_merged_there tree (kid path name)) (has_text (all_kids layers) name) (sym (there-has tree path (all_kids layers) name) ∙ before ∙ is) in
     (both.0, sym (has-all_kids layers name) ∙ both.1)
+
+-- a name is that of a kid exactly where a layer has such a kid and something is left at its path
+pub has-layers_kids : (tree : Content) (path : List (List ℕ)) (layers : List Resource) (name : List ℕ)
+    → has_text (layers_kids tree path layers) name ≡ (is_merged_there tree (kid path name) && list_any (λ (layer : Resource). has_text layer.kids name) layers)
+has-layers_kids tree path layers name =
+    sym (list_any-IsPermutation (pointwise nat_eq name) (kids_there tree path (all_kids layers)) (layers_kids tree path layers) (kids-reorder tree path layers))
+    ∙ there-has tree path (all_kids layers) name ∙ ap (λ t. is_merged_there tree (kid path name) && t) (has-all_kids layers name)

@@ -3,6 +3,7 @@ ghost use Rattle.std.specs.Prelude.{◌≡◌, ◌∷◌, ◌++◌, [], not, IfO
 ghost use Rattle.std.specs.List.{list_any};
 ghost use Rattle.resource_tree.specs.Content.{kid, node_at};
 ghost use Rattle.overlay_merge.specs.Kids.{all_kids, has_text, is_merged_there, layers_kids, kids_there};
+ghost use Rattle.overlay_merge.specs.Merged.{names_like};
 ghost use Rattle.overlay_merge.specs.Walk.{AreNodesOf};
 
 use crate::merged_resources::merged_from;
@@ -116,4 +117,22 @@ pub(crate) fn kids_of(alloc: Global, tree: &Tree, path: &Path, layers: &[Res<'_>
         return Ok(TextList::from(kids));
     }
     Ok(TextList::from(ordered(alloc, kids.as_slice(), &moves)?))
+}
+
+/// Of the kids of layers at a path the one of a name, if there is one: no other is looked up.
+pub(crate) fn kids_like(
+    alloc: Global,
+    tree: &Tree,
+    path: &Path,
+    layers: &[Res<'_>],
+    name: &str,
+) -> Mem<TextList>
+    requires { AreNodesOf tree.now layers.now }
+    ensures { IfOk result (λ kids. kids ≡ names_like name.now (layers_kids tree.now path.now layers.now)) }
+{
+    let mut kids = TextList::new(alloc);
+    if is_kid_of_some(alloc, tree, layers, name)? && is_there(alloc, tree, path, name)? {
+        kids.push(TextBuf::of(alloc, name)?)?;
+    }
+    Ok(kids)
 }

@@ -1,5 +1,5 @@
 -- What is held of an object's members when one more is taken in.
-use Rattle.std.proofs.Common.{◌≡◌, ℕ, Bool, true, false, cond, not, ◌&&◌, ⊎_elim, List, [], Option, Some, None, is_some, option_copied, map, unwrap_or, if◌then◌else◌, Bor, nat_cmp, refl, sym, ap, ◌∙◌}
+use Rattle.std.proofs.Common.{◌≡◌, ℕ, Bool, true, false, cond, not, ◌&&◌, ⊎_elim, List, [], Option, Some, None, is_some, map, unwrap_or, if◌then◌else◌, Bor, nat_cmp, refl, sym, ap, ◌∙◌}
 use Rattle.std.specs.BTreeSet.{contains_by}
 use Rattle.std.specs.Cmp.Lexicographic.{slice_cmp, nat_list_cmp_total, same_text}
 use Rattle.std.specs.FinMap.Entries.{find, find-put}
@@ -20,10 +20,14 @@ use Rattle.content_json.proofs.Under.{bytes_eq_itself}
 use Rattle.content_json.proofs.InsertLemmas.{get-put, sorted-put, tie_is}
 use Rattle.content_json.proofs.ReturnNodes.{read_value}
 
--- what isn't found through a reference isn't there
-pub not_there : {A : Type 0} (o : Option (Bor A)) (p : Option A) → option_copied o ≡ p → is_some o ≡ false → p ≡ None
-not_there None p is none = sym is
-not_there (Some x) p is none = absurd (true≢false none)
+-- what isn't found isn't there
+pub none_from : {A : Type 0} (o : Option A) → is_some o ≡ false → o ≡ None
+none_from None none = refl
+none_from (Some x) none = absurd (true≢false none)
+
+pub not_true : (b : Bool) → not b ≡ true → b ≡ false
+not_true true e = absurd (true≢false (sym e))
+not_true false e = refl
 
 -- what has an answer at a name already
 pub same_at : {A : Type 0} (f : List ℕ → A) (q name : List ℕ) (x : A) → f name ≡ x → f q ≡ cond (bytes_eq q name) x (f q)

@@ -21,8 +21,8 @@ use sp_base::{MOST_SEGMENTS, Mem, Path};
 use std::alloc::Global;
 use std::hash::RandomState;
 
-/// The nodes of sound content. There may be none where a member takes the place of a former one of its name, where a node has
-/// many properties of which one stands out of order, and of content that isn't sound.
+/// The nodes of sound content. There may be none where a member takes the place of a former one of its name that is a kid, and of content
+/// that isn't sound.
 pub(crate) fn nodes_of_text(alloc: Global, seeds: RandomState, text: &str) -> Mem<Option<NodeMap>>
     ensures { IfOk result (λ found. IfSome found (λ nodes. (ms : Members) × (read text.now ≡ Some (object ms)) × (is_sound ms ≡ true) × (nodes ≡ map_of (nodes_in [] (object ms))))) }
 {
@@ -187,7 +187,7 @@ fn add_property<'a>(
     ensures added { IfOk result (λ done. done ≡ true → TakesIn name.now parent.old parent.new (token_of first.entry ∷ reader.old) reader.new) }
 {
     match property(alloc, reader, first)? {
-        Some(value) => parent.put_value(alloc, name, value),
+        Some(value) => parent.put_value(name, value),
         None => Ok(false),
     }
 }

@@ -9,19 +9,16 @@ ghost use Rattle.content_json.specs.Names.{is_kid};
 ghost use Rattle.content_json.specs.Faults.{names_kids};
 ghost use Rattle.content_json.specs.FromTokens.{texts_in, with_others};
 
+use crate::open_props::OpenProps;
 use resource_tree::Node;
-use sp_base::{Mem, PropList, TextBuf, TextList, Value};
+use sp_base::{Mem, TextBuf, TextList, Value};
 use std::alloc::Global;
 use std::collections::BTreeSet;
-
-/// How many properties are put in their order one by one where their names don't rise: more would take a time that grows with
-/// the square of their number.
-const MOST_OUT_OF_ORDER: usize = 64;
 
 /// What is kept of an object's members: the values of its properties, the names of its kids, and what `:order` lists.
 #[derive(Drop)]
 pub(crate) struct OpenObject<'a> {
-    props: PropList,
+    props: OpenProps<'a>,
     kids: BTreeSet<&'a str>,
     order: Vec<&'a str>,
 }
@@ -39,33 +36,21 @@ impl<'a> OpenObject<'a> {
         ensures { HoldsMembers result no_members }
     {
         OpenObject {
-            props: PropList::new(alloc),
+            props: OpenProps::new(alloc),
             kids: BTreeSet::new(alloc),
             order: Vec::new(alloc),
         }
     }
 
-    // Whether MOST_OUT_OF_ORDER properties or more are held, and the last has a greater name.
-    fn is_out_of_order(&self, name: &str) -> bool {
-        let n = self.props.len();
-        if n < MOST_OUT_OF_ORDER {
-            return false;
-        }
-        match self.props.at(n - 1) {
-            Some((last, _)) => name < last,
-            None => false,
-        }
-    }
-
-    /// Takes the value of a property in, unless it has the name of a kid or stands out of order.
-    pub(crate) fn put_value(&mut self, alloc: Global, name: &str, value: Value) -> Mem<bool>
+    /// Takes the value of a property in, unless it has the name of a kid.
+    pub(crate) fn put_value(&mut self, name: &'a str, value: Value) -> Mem<bool>
         requires plain { is_content_name name.now ≡ true }
         ensures { IfOk result (λ done. done ≡ true → (d : Data) → data_value d ≡ Some value → Gains self.old self.new name.now d) }
     {
-        if self.kids.contains(name) || self.is_out_of_order(name) {
+        if self.kids.contains(name) {
             return Ok(false);
         }
-        self.props.put(alloc, name, value)?;
+        self.props.put(name, value)?;
         Ok(true)
     }
 
@@ -74,7 +59,7 @@ impl<'a> OpenObject<'a> {
         requires plain { is_content_name name.now ≡ true }
         ensures { result ≡ true → Gains self.now self.now name.now null }
     {
-        !self.kids.contains(name) && self.props.get(name).is_none()
+        !self.kids.contains(name) && !self.props.contains(name)
     }
 
     /// Takes the name of a kid in, unless another member has it.
@@ -82,7 +67,7 @@ impl<'a> OpenObject<'a> {
         requires plain { is_content_name name.now ≡ true }
         ensures { IfOk result (λ done. done ≡ true → (ms : Members) → Gains self.old self.new name.now (object ms)) }
     {
-        if self.props.get(name).is_some() {
+        if self.props.contains(name) {
             return Ok(false);
         }
         Ok(self.kids.insert(name)?)
@@ -101,7 +86,10 @@ impl<'a> OpenObject<'a> {
     {
         let OpenObject { props, kids, order } = self;
         match kids_in_order(alloc, &order, &kids)? {
-            Some(kids) => Ok(Some(Node { props, kids })),
+            Some(kids) => Ok(Some(Node {
+                props: props.into_list(alloc)?,
+                kids,
+            })),
             None => Ok(None),
         }
     }

@@ -22,7 +22,7 @@ or_false : (b : Bool) → b || false ≡ b
 or_false true = refl
 or_false false = refl
 
-named_push : (before : List Entry) (e : Entry) (spot : Spot) → is_spot_named spot (before ++ e ∷ []) ≡ is_spot_named spot before || same_spot e.spot spot
+pub named_push : (before : List Entry) (e : Entry) (spot : Spot) → is_spot_named spot (before ++ e ∷ []) ≡ is_spot_named spot before || same_spot e.spot spot
 named_push before e spot = list_any-append (λ f. same_spot f.spot spot) before (e ∷ []) ∙ ap (λ (b : Bool). is_spot_named spot before || b) (or_false (same_spot e.spot spot))
 
 -- those that neither an entry of a list nor one more names
@@ -51,12 +51,12 @@ nothing_left [] (suc n) le = refl
 nothing_left (e ∷ es) zero le = absurd (omega arith)
 nothing_left (e ∷ es) (suc n) le = nothing_left es n (omega (arith, le))
 
-drop_here : (es : List Entry) (n : ℕ) (e : Entry) → slice_get es n ≡ Some e → drop n es ≡ e ∷ drop (suc n) es
+pub drop_here : (es : List Entry) (n : ℕ) (e : Entry) → slice_get es n ≡ Some e → drop n es ≡ e ∷ drop (suc n) es
 drop_here [] n e here = absurd cc
 drop_here (f ∷ es) zero e here = cc
 drop_here (f ∷ es) (suc n) e here = drop_here es n e here
 
-take_more : (es : List Entry) (n : ℕ) (e : Entry) → slice_get es n ≡ Some e → take (suc n) es ≡ take n es ++ e ∷ []
+pub take_more : (es : List Entry) (n : ℕ) (e : Entry) → slice_get es n ≡ Some e → take (suc n) es ≡ take n es ++ e ∷ []
 take_more [] n e here = absurd cc
 take_more (f ∷ es) zero e here = cc
 take_more (f ∷ es) (suc n) e here = ap (λ (l : List Entry). f ∷ l) (take_more es n e here)

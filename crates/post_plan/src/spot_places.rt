@@ -1,7 +1,8 @@
 //! Which entries name the same spot: each spot is numbered once, by the place of the first entry that names it, and numbers are compared
 //! from then on, however long the spots' paths are.
-ghost use Rattle.std.specs.Prelude.{◌≡◌, ◌++◌, ◌∷◌, [], IfOk, OnOk, Some, slice_get, true};
-ghost use Rattle.post_plan.specs.SpotPlaces as spec;
+ghost use Rattle.std.specs.Prelude.{◌≡◌, ◌++◌, ◌∷◌, [], IfOk, OnOk, unwrap_or};
+ghost use Rattle.post_plan.specs.declared.spot.Spot.{Spot as NamedSpot};
+ghost use Rattle.post_plan.specs.SpotPlaces.{first_places, noted_after, numbered, place_noted};
 
 use crate::entries::Entry;
 use crate::Spot;
@@ -60,11 +61,14 @@ fn key_of<'e>(spot: &'e Spot) -> SpotKey<'e>
     (spot.at_target, &spot.path)
 }
 
-// The place of the first entry that names a spot, where the places of those before it are noted. A spot that none of them names is noted.
-fn place_of<'e>(first: &mut BTreeMap<SpotKey<'e>, usize>, spot: &'e Spot, n: usize) -> Mem<usize>
-    ensures known { IfOk result (λ place. (k : ℕ) → spec.place_noted first.old spot.entry.now ≡ Some k → place ≡ k) }
-    ensures new { IfOk result (λ place. spec.place_noted first.old spot.entry.now ≡ None → place ≡ n) }
-    ensures noted { OnOk result ((other : PlanSpot) → spec.place_noted first.new other ≡ spec.noted_after first.old spot.entry.now n other) }
+// The place that is noted for a spot; one that has none yet gets this one.
+fn place_of<'e>(
+    first: &mut BTreeMap<SpotKey<'e>, usize>,
+    spot: &'e Spot,
+    n: usize,
+) -> Mem<usize>
+    ensures place { IfOk result (λ place. place ≡ unwrap_or (place_noted first.old spot.entry.now) n) }
+    ensures noted { OnOk result ((other : NamedSpot) → place_noted first.new other ≡ noted_after (place_noted first.old) spot.entry.now n other) }
 {
     let key = key_of(spot);
     if let Some(place) = first.get(&key) {
@@ -76,7 +80,7 @@ fn place_of<'e>(first: &mut BTreeMap<SpotKey<'e>, usize>, spot: &'e Spot, n: usi
 
 /// Of each entry the place of the first that names the same spot.
 pub fn first_places(alloc: Global, entries: &[Entry]) -> Mem<Vec<usize>>
-    ensures { IfOk result (λ places. places.items ≡ spec.first_places entries.now) }
+    ensures { IfOk result (λ places. places.items ≡ first_places entries.now) }
 {
     let mut first = BTreeMap::new(alloc);
     let mut places = Vec::new(alloc);
@@ -93,8 +97,8 @@ pub fn numbered<'e, 'a>(
     places: &[usize],
     n: usize,
 ) -> Mem<LentEntries<'e, 'a>>
-    requires { places.now ≡ spec.first_places entries.entry.now }
-    ensures { IfOk result (λ own. own ≡ spec.numbered entries.entry.now n) }
+    requires { places.now ≡ first_places entries.entry.now }
+    ensures { IfOk result (λ own. own ≡ numbered entries.entry.now n) }
 {
     let mut own = LentEntries::new(alloc);
     for k in 0..entries.len() {

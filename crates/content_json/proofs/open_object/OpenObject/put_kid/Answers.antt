@@ -7,7 +7,7 @@ use Rattle.std.proofs.lemmas.Map.Text.{is_eq-slice_cmp}
 use Rattle.content_json.proofs.OrderLemmas.{false_from_not}
 use Rattle.content_json.proofs.Under.{bytes_eq_swapped}
 use Rattle.content_json.proofs.PutLemmas.{not_order}
-use Rattle.content_json.proofs.OpenObjectLemmas.{not_there, same_at, no_kid, holds-put}
+use Rattle.content_json.proofs.OpenObjectLemmas.{none_from, same_at, no_kid, holds-put}
 use Rattle.content_json.proofs.open_object.OpenObject.put_kid.Goals as goal
 
 pub returns : goal.returns
@@ -16,7 +16,7 @@ returns c = λ added kid ms h.
     let name = c.args.name.now in
     let other = not_order name c.requires.plain in
     let none : contains_by (λ k. slice_cmp nat_cmp name k.now) before.kids ≡ false = false_from_not _ (sym c.in_ok-insert.ensures.added ∙ added) in
-    let no_prop : find by_name name before.props ≡ None = not_there c.get.result _ c.get.ensures (sym c.is_some.ensures ∙ c.if-is_some.false) in (
+    let no_prop : find by_name name before.props ≡ None = none_from _ (sym c.contains.ensures ∙ c.if-contains.false) in (
       no_kid before ms h name other none,
       holds-put before ms h _ name _ other
           (λ q. same_at (λ n. find by_name n before.props) q name None no_prop)

@@ -15,7 +15,7 @@ returns c = λ _ d is ms h.
     let none : contains_by (λ k. slice_cmp nat_cmp name k.now) before.kids ≡ false = sym c.contains.ensures ∙ c.if-contains.false in (
       no_kid before ms h name other none,
       holds-put before ms h _ name d other
-          (λ q. ap (find by_name q) c.in_ok-put.ensures.ok ∙ find_put_value q name c.args.value d before.props is)
+          (λ q. ap (find by_name q) c.in_ok-put.ensures ∙ find_put_value q name c.args.value d before.props is)
           (λ q. same_at (λ n. contains_by (λ k. slice_cmp nat_cmp n k.now) before.kids) q name _ (none ∙ sym (value_no_kid d c.args.value is)))
           refl,
     )

@@ -53,7 +53,7 @@ above x k less = nat_list_cmp_total.antisymm k.now x.now ∙ ap ordering_reverse
 
 -- each of some names is less than each of others
 abbrev AllBelow : List (List ℕ × Value) → Named → Type 0
-AllBelow props [] = ⊤
+AllBelow props [] = Unit {0}
 AllBelow props (e ∷ es) = AllLess e.0.now props × AllBelow props es
 
 one_less : (k : List ℕ) (props : List (List ℕ × Value)) (p : List ℕ × Value) → AllLess k props → by_name k p.0 ≡ Greater → AllLess k (props ++ p ∷ [])

@@ -119,6 +119,18 @@ pub(crate) fn kids_of(alloc: Global, tree: &Tree, path: &Path, layers: &[Res<'_>
     Ok(TextList::from(ordered(alloc, kids.as_slice(), &moves)?))
 }
 
+// Whether layers at a path have a kid of this name.
+#[tactic(auto, using(crate::proofs::LawLemmas::has_no_kid, crate::proofs::LawLemmas::has_kid_there))]
+fn has_kid(alloc: Global, tree: &Tree, path: &Path, layers: &[Res<'_>], name: &str) -> Mem<bool>
+    requires { AreNodesOf tree.now layers.now }
+    ensures { IfOk result (λ b. b ≡ has_text (layers_kids tree.now path.now layers.now) name.now) }
+{
+    if !is_kid_of_some(alloc, tree, layers, name)? {
+        return Ok(false);
+    }
+    is_there(alloc, tree, path, name)
+}
+
 /// Of the kids of layers at a path the one of a name, if there is one: no other is looked up.
 pub(crate) fn kids_like(
     alloc: Global,
@@ -131,7 +143,7 @@ pub(crate) fn kids_like(
     ensures { IfOk result (λ kids. kids ≡ names_like name.now (layers_kids tree.now path.now layers.now)) }
 {
     let mut kids = TextList::new(alloc);
-    if is_kid_of_some(alloc, tree, layers, name)? && is_there(alloc, tree, path, name)? {
+    if has_kid(alloc, tree, path, layers, name)? {
         kids.push(TextBuf::of(alloc, name)?)?;
     }
     Ok(kids)

@@ -88,6 +88,16 @@ cons_is : (set : Option PropSet) (more : List PropSet) → cons_option set more 
 cons_is None more = refl
 cons_is (Some s) more = refl
 
+entry_at : (es : List Entry) (n : ℕ) (e : Entry) → slice_get es n ≡ Some e → e ≡ get_or es n e
+entry_at [] n e here = absurd cc
+entry_at (f ∷ es) zero e here = cc
+entry_at (f ∷ es) (suc n) e here = entry_at es n e here
+
+none_here : (es : List Entry) (n : ℕ) → n < length es → slice_get es n ≡ None → ⊥
+none_here [] n lt none = omega (arith, lt)
+none_here (f ∷ es) zero lt none = cc
+none_here (f ∷ es) (suc n) lt none = none_here es n (omega (arith, lt)) none
+
 -- one turn of the walk
 pub turn : (pairs : List (List ℕ × List ℕ)) (es : List Entry) (n : ℕ) (e : Entry) (list next all : List PropSet) (set : Option PropSet) → n < length es → e ≡ get_or es n e → set ≡ set_here pairs es (take n es) e → next ≡ list ++ cons_option set []
     → list ++ sets_from pairs es (take n es) (drop n es) ≡ all → next ++ sets_from pairs es (take (n + 1) es) (drop (n + 1) es) ≡ all
@@ -102,6 +112,16 @@ turn pairs es n e list next all set lt at is pushed same =
     ∙ append_assoc list (cons_option set []) (sets_from pairs es (take (n + 1) es) (drop (n + 1) es))
     ∙ ap (λ (l : List PropSet). list ++ l) (sym (cons_is set (sets_from pairs es (take (n + 1) es) (drop (n + 1) es))) ∙ first)
     ∙ same
+
+-- the same by what the entry at the place sets
+pub turn_by : (pairs : List (List ℕ × List ℕ)) (es : List Entry) (n : ℕ) (list next all : List PropSet) (set : Option PropSet) → n < length es
+    → ((e : Entry) → slice_get es n ≡ Some e → set ≡ set_here pairs es (take n es) e) → next ≡ list ++ cons_option set []
+    → list ++ sets_from pairs es (take n es) (drop n es) ≡ all → next ++ sets_from pairs es (take (n + 1) es) (drop (n + 1) es) ≡ all
+turn_by pairs es n list next all set lt is pushed same = by (slice_get es n) refl
+  where
+    by : (o : Option Entry) → slice_get es n ≡ o → next ++ sets_from pairs es (take (n + 1) es) (drop (n + 1) es) ≡ all
+    by (Some e) here = turn pairs es n e list next all set lt (entry_at es n e here) (is e here) pushed same
+    by None here = absurd (none_here es n lt here)
 
 pub done : (pairs : List (List ℕ × List ℕ)) (es : List Entry) (n : ℕ) (list : List PropSet) → length es ≤ n → list ++ sets_from pairs es (take n es) (drop n es) ≡ sets_from pairs es [] es → list ≡ sets pairs es
 unfolding sets_from

@@ -2,8 +2,10 @@
 use Rattle.std.proofs.Common.{◌≡◌, ◌<◌, ◌≤◌, ◌+◌, ◌==◌, ℕ, zero, suc, Bool, true, false, cond, not, ◌&&◌, ◌||◌, List, [], ◌∷◌, ◌++◌, Option, Some, None, map, filter, take, drop, length, slice_get, is_some, refl, ap, sym, ◌∙◌, arith}
 use Rattle.std.specs.Prelude.{option_and_then, unwrap_or}
 use Rattle.std.specs.Borrow.{Bor}
+use Rattle.std.specs.BTreeMap.{BTreeMap, get_by}
+use Rattle.std.specs.declared.cmp.Ordering.{Ordering}
 use Rattle.std.specs.List.{list_any}
-use Rattle.std.specs.Cmp.Lexicographic.{pointwise, same_text, slice_cmp}
+use Rattle.std.specs.Cmp.Lexicographic.{nat_list_eq_equiv, pointwise, same_text, slice_cmp}
 use Rattle.std.specs.Ordering.{bool_cmp, is_eq, nat_cmp, ordering_then}
 use Rattle.std.specs.Str.{bytes_eq}
 use Rattle.std.proofs.lemmas.Bool.{and_parts, false≢true, true≢false}
@@ -14,7 +16,7 @@ use Rattle.post_plan.specs.declared.spot.Spot.{Spot}
 use Rattle.post_plan.specs.declared.operation.PropSet.{PropSet}
 use Rattle.post_plan.specs.Hints.{hint_of}
 use Rattle.post_plan.specs.Entries.{Entry, is_of_spot, is_spot_named, is_word_true, same_bool, same_spot, same_suffix, set_by, set_of, without_blanks, words_at, words_or_defaults, words_or_source}
-use Rattle.post_plan.specs.SpotPlaces.{NotesPlaces, first_place, first_places, noted_after, numbered}
+use Rattle.post_plan.specs.SpotPlaces.{NotesPlaces, first_place, first_places, noted_after, numbered, place_noted}
 use Rattle.post_plan.proofs.SetLemmas.{named_push, same_path, take_more}
 
 -- ---- spots that are alike are one
@@ -52,6 +54,41 @@ key_ties true false s t = refl
 key_ties false true s t = refl
 key_ties false false s t = same_path s t
 
+-- ---- what a map notes
+
+abbrev pub Noted : Type 0
+Noted = BTreeMap (Bool × Bor (List (List ℕ))) ℕ
+
+-- the key of a spot
+abbrev pub IsKeyOf : Spot → Bool × Bor (List (List ℕ)) → Type 0
+IsKeyOf spot key = (key.0 ≡ spot.at_target) × (key.1.now ≡ spot.path)
+
+-- keys, compared as the map does
+abbrev pub key_cmp : Bool × Bor (List (List ℕ)) → Bool × Bor (List (List ℕ)) → Ordering
+key_cmp x y = ordering_then (bool_cmp x.0 y.0) (slice_cmp (slice_cmp nat_cmp) x.1.now y.1.now)
+
+pub noted_key : (first : Noted) (spot : Spot) (key : Bool × Bor (List (List ℕ))) → IsKeyOf spot key → get_by (key_cmp key) first ≡ place_noted first spot
+noted_key first spot key is =
+    let at = is.0 in
+    let path = is.1 in
+    λ i. get_by (λ (x : Bool × Bor (List (List ℕ))). ordering_then (bool_cmp (at i) x.0) (slice_cmp (slice_cmp nat_cmp) (path i) x.1.now)) first
+
+-- a spot that has a place keeps it, and no other gets one
+pub noted_stays : (noted : Spot → Option ℕ) (spot : Spot) (n k : ℕ) → noted spot ≡ Some k → (other : Spot) → noted other ≡ noted_after noted spot n other
+noted_stays noted spot n k is other = sym (ap (λ o. cond (is_some o) (noted other) (cond (same_spot spot other) (Some n) (noted other))) is)
+
+-- one that has none gets one
+pub noted_new : (before after : Noted) (spot : Spot) (key : Bool × Bor (List (List ℕ))) (n : ℕ) → IsKeyOf spot key → place_noted before spot ≡ None
+    → ((q : Bool × Bor (List (List ℕ))) → get_by (key_cmp q) after ≡ cond (is_eq (key_cmp key q)) (Some n) (get_by (key_cmp q) before))
+    → (other : Spot) → place_noted after other ≡ noted_after (place_noted before) spot n other
+noted_new before after spot key n is none updates other =
+    let at = is.0 in
+    let path = is.1 in
+    let tie : is_eq (key_cmp key (other.at_target, record { ref_ptr = (0, 0); now = other.path })) ≡ same_spot spot other =
+    (λ i. is_eq (ordering_then (bool_cmp (at i) other.at_target) (slice_cmp (slice_cmp nat_cmp) (path i) other.path))) ∙ key_ties spot.at_target other.at_target spot.path other.path in
+    updates (other.at_target, record { ref_ptr = (0, 0); now = other.path }) ∙ ap (λ t. cond t (Some n) (place_noted before other)) tie
+    ∙ sym (ap (λ o. cond (is_some o) (place_noted before other) (cond (same_spot spot other) (Some n) (place_noted before other))) none)
+
 -- ---- first places
 
 or_none : (a b : Bool) → (a || b) ≡ false → (a ≡ false) × (b ≡ false)
@@ -85,9 +122,17 @@ first_before (f ∷ es) (suc n) spot named = by (same_spot f.spot spot) named
     by true e = omega arith
     by false e = let less = first_before es n spot e in omega (arith, less)
 
-itself : (s : List ℕ) → bytes_eq s s ≡ true
-itself [] = refl
-itself (b ∷ s) = search rules
+-- a spot is alike itself
+same_bool_itself : (b : Bool) → same_bool b b ≡ true
+same_bool_itself true = refl
+same_bool_itself false = refl
+
+paths_itself : (s : List (List ℕ)) → pointwise bytes_eq s s ≡ true
+paths_itself [] = refl
+paths_itself (x ∷ s) = ap (λ t. t && pointwise bytes_eq s s) (nat_list_eq_equiv.refl x) ∙ paths_itself s
+
+pub spot_itself : (s : Spot) → same_spot s s ≡ true
+spot_itself s = ap (λ t. t && pointwise bytes_eq s.path s.path) (same_bool_itself s.at_target) ∙ paths_itself s.path
 
 pub named_if_later : (es : List Entry) (n : ℕ) (e : Entry) → slice_get es n ≡ Some e → same_spot e.spot e.spot ≡ true → (first_place es e.spot ≡ n → ⊥) → is_spot_named e.spot (take n es) ≡ true
 named_if_later es n e here same later = by (is_spot_named e.spot (take n es)) refl

@@ -200,8 +200,9 @@ fn set_here<'a>(
     if places[n] != n {
         return Ok(None);
     }
+    let entry = &entries[n];
     let own = numbered(alloc, entries, places, n)?;
-    set_of(alloc, pairs, &own, &entries[n].spot)
+    set_of(alloc, pairs, &own, &entry.spot)
 }
 
 fn add<'a>(list: &mut SetList<'a>, set: Option<PropSet<'a>>) -> Mem<()>

@@ -85,7 +85,8 @@ pub fn first_places(alloc: Global, entries: &[Entry]) -> Mem<Vec<usize>>
     let mut first = BTreeMap::new(alloc);
     let mut places = Vec::new(alloc);
     for n in 0..entries.len() {
-        places.push(place_of(&mut first, &entries[n].spot, n)?)?;
+        let entry = &entries[n];
+        places.push(place_of(&mut first, &entry.spot, n)?)?;
     }
     Ok(places)
 }

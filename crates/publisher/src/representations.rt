@@ -126,7 +126,10 @@ fn default_answer_there(alloc: Global, tree: &Tree, parts: &Parts, res: &Res) ->
     ensures { IfOk result (λ a. a ≡ seen_answer None tree.now parts.now) }
 {
     let view = MergedView { tree };
-    if !is_merged_path(&parts.path) || shows_no_kid(parts) {
+    if !is_merged_path(&parts.path) {
+        return default_answer(alloc, &view, parts, res);
+    }
+    if shows_no_kid(parts) {
         return default_answer(alloc, &view, parts, res);
     }
     match seen_with_kids(alloc, tree, parts)? {

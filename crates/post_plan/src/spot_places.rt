@@ -98,7 +98,7 @@ pub fn numbered<'e, 'a>(
     places: &[usize],
     n: usize,
 ) -> Mem<LentEntries<'e, 'a>>
-    requires { places.now ≡ first_places entries.entry.now }
+    requires { places.now ≡ first_places entries.now }
     ensures { IfOk result (λ own. own ≡ numbered entries.entry.now n) }
 {
     let mut own = LentEntries::new(alloc);

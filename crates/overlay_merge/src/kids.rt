@@ -120,12 +120,12 @@ pub(crate) fn kids_of(alloc: Global, tree: &Tree, path: &Path, layers: &[Res<'_>
 }
 
 // Whether layers at a path have a kid of this name.
-#[tactic(auto, using(crate::proofs::LawLemmas::has_no_kid, crate::proofs::LawLemmas::has_kid_there))]
 fn has_kid(alloc: Global, tree: &Tree, path: &Path, layers: &[Res<'_>], name: &str) -> Mem<bool>
     requires { AreNodesOf tree.now layers.now }
     ensures { IfOk result (λ b. b ≡ has_text (layers_kids tree.now path.now layers.now) name.now) }
 {
-    if !is_kid_of_some(alloc, tree, layers, name)? {
+    let known = is_kid_of_some(alloc, tree, layers, name)?;
+    if !known {
         return Ok(false);
     }
     is_there(alloc, tree, path, name)
@@ -143,8 +143,10 @@ pub(crate) fn kids_like(
     ensures { IfOk result (λ kids. kids ≡ names_like name.now (layers_kids tree.now path.now layers.now)) }
 {
     let mut kids = TextList::new(alloc);
-    if has_kid(alloc, tree, path, layers, name)? {
-        kids.push(TextBuf::of(alloc, name)?)?;
+    let listed = has_kid(alloc, tree, path, layers, name)?;
+    if !listed {
+        return Ok(kids);
     }
+    kids.push(TextBuf::of(alloc, name)?)?;
     Ok(kids)
 }

@@ -45,7 +45,7 @@ fresh_push before e (t ∷ spots) = ap (λ (b : Bool). cond (not b) (t ∷ all) 
     go false true en es ih = ih
     go false false en es ih = ap (λ (l : List Spot). t ∷ l) ih ∙ ap kept (sym en)
 
-nothing_left : (es : List Entry) (n : ℕ) → length es ≤ n → drop n es ≡ []
+pub nothing_left : (es : List Entry) (n : ℕ) → length es ≤ n → drop n es ≡ []
 nothing_left [] zero le = refl
 nothing_left [] (suc n) le = refl
 nothing_left (e ∷ es) zero le = absurd (omega arith)

@@ -12,7 +12,7 @@ ghost use Rattle.post_plan.specs.Parameters.{words_of};
 use crate::entries::Entry;
 use crate::groups::{copy_of, same_suffix};
 use crate::hints::hint_of;
-use crate::spot_places::{LentEntries, first_places, numbered};
+use crate::spot_places::{LentEntries, first_places, is_later, numbered};
 use crate::suffix::Suffix;
 use crate::words::words_of;
 use crate::{LentWords, PropSet, SetList, Spot};
@@ -197,7 +197,7 @@ fn set_here<'a>(
     requires within { n < length entries.now }
     ensures { IfOk result (λ o. (e : ContentEntry) → slice_get entries.now n ≡ Some e → o ≡ spec.set_here pairs.now entries.now (take n entries.now) e) }
 {
-    if places[n] != n {
+    if is_later(places, n) {
         return Ok(None);
     }
     let entry = &entries[n];

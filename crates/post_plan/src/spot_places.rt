@@ -1,6 +1,6 @@
 //! Which entries name the same spot: each spot is numbered once, by the place of the first entry that names it, and numbers are compared
 //! from then on, however long the spots' paths are.
-ghost use Rattle.std.specs.Prelude.{◌≡◌, ◌++◌, ◌∷◌, [], IfOk, OnOk, unwrap_or};
+ghost use Rattle.std.specs.Prelude.{◌≡◌, ◌<◌, ◌==◌, ◌++◌, ◌∷◌, [], None, IfOk, OnOk, if◌then◌else◌, length, not, slice_index, unwrap_or};
 ghost use Rattle.post_plan.specs.declared.spot.Spot.{Spot as NamedSpot};
 ghost use Rattle.post_plan.specs.SpotPlaces.{first_places, noted_after, numbered, place_noted};
 
@@ -61,6 +61,20 @@ fn key_of<'e>(spot: &'e Spot) -> SpotKey<'e>
     (spot.at_target, &spot.path)
 }
 
+// A spot that has no place yet gets this one.
+fn new_place<'e>(
+    first: &mut BTreeMap<SpotKey<'e>, usize>,
+    spot: &'e Spot,
+    n: usize,
+) -> Mem<usize>
+    requires { place_noted first.old spot.now ≡ None }
+    ensures place { IfOk result (λ place. place ≡ unwrap_or (place_noted first.old spot.entry.now) n) }
+    ensures noted { OnOk result ((other : NamedSpot) → place_noted first.new other ≡ noted_after (place_noted first.old) spot.entry.now n other) }
+{
+    first.insert(key_of(spot), n)?;
+    Ok(n)
+}
+
 // The place that is noted for a spot; one that has none yet gets this one.
 fn place_of<'e>(
     first: &mut BTreeMap<SpotKey<'e>, usize>,
@@ -71,11 +85,10 @@ fn place_of<'e>(
     ensures noted { OnOk result ((other : NamedSpot) → place_noted first.new other ≡ noted_after (place_noted first.old) spot.entry.now n other) }
 {
     let key = key_of(spot);
-    if let Some(place) = first.get(&key) {
-        return Ok(*place);
+    match first.get(&key).copied() {
+        Some(place) => Ok(place),
+        None => new_place(first, spot, n),
     }
-    first.insert(key, n)?;
-    Ok(n)
 }
 
 /// Of each entry the place of the first that names the same spot.
@@ -86,9 +99,22 @@ pub fn first_places(alloc: Global, entries: &[Entry]) -> Mem<Vec<usize>>
     let mut places = Vec::new(alloc);
     for n in 0..entries.len() {
         let entry = &entries[n];
-        places.push(place_of(&mut first, &entry.spot, n)?)?;
+        let place = place_of(&mut first, &entry.spot, n)?;
+        places.push(place)?;
     }
     Ok(places)
+}
+
+// Adds an entry at the end, where its number is this one.
+fn add_numbered<'e, 'a>(
+    own: &mut LentEntries<'e, 'a>,
+    entry: &'e Entry<'a>,
+    place: usize,
+    n: usize,
+) -> Mem<()>
+    ensures { OnOk result (own.new ≡ own.old ++ (if place == n then entry.entry.now ∷ [] else [])) }
+{
+    if place == n { own.push(entry) } else { Ok(()) }
 }
 
 /// The entries whose spot has this number.
@@ -103,9 +129,15 @@ pub fn numbered<'e, 'a>(
 {
     let mut own = LentEntries::new(alloc);
     for k in 0..entries.len() {
-        if places[k] == n {
-            own.push(&entries[k])?;
-        }
+        add_numbered(&mut own, &entries[k], places[k], n)?;
     }
     Ok(own)
+}
+
+/// Whether the entry at a place names a spot that one before it names too.
+pub fn is_later(places: &[usize], n: usize) -> bool
+    requires { n < length places.now }
+    ensures { result ≡ not (slice_index places.now n == n) }
+{
+    places[n] != n
 }

@@ -1,6 +1,6 @@
 -- A resource that is seen without its kids is answered as the whole one.
-use Rattle.std.proofs.Common.{◌≡◌, ◌==◌, ◌||◌, ℕ, zero, suc, Bool, true, false, not, cond, List, [], ◌∷◌, Option, Some, None, IfOk, refl, ap, sym, subst, ◌∙◌}
-use Rattle.std.specs.Prelude.{if◌then◌else◌, Result, codes, nat_eq, option_map, option_and_then}
+use Rattle.std.proofs.Common.{◌≡◌, ◌==◌, ◌||◌, ℕ, zero, suc, Bool, true, false, not, cond, List, [], ◌∷◌, Option, Some, None, Result, Ok, Err, IfOk, refl, ap, sym, subst, ◌∙◌}
+use Rattle.std.specs.Prelude.{if◌then◌else◌, codes, nat_eq, option_map, option_and_then}
 use Rattle.std.specs.List.{list_any}
 use Rattle.std.specs.Cmp.Lexicographic.{nat_list_eq_equiv, pointwise}
 use Rattle.std.proofs.lemmas.Bool.{false≢true}
@@ -160,7 +160,7 @@ alone-shown tree parts res alone none =
     ap (default_answer (seen_resources tree) parts) at.same ∙ shown_alone (seen_resources tree) parts at.whole res.kids none ∙ sym (ap (answer_seen None tree parts) at.seen_is)
 
 -- a file asks for one kid
-content_name : List ℕ
+abbrev content_name : List ℕ
 content_name = codes "jcr:content"
 
 lists_like : (name : List ℕ) (names : List (List ℕ)) → list_any (pointwise nat_eq name) (names_like name names) ≡ list_any (pointwise nat_eq name) names
@@ -191,3 +191,9 @@ kid-shown tree parts other = by (is_merged_path parts.path) refl
         ≡ answer_seen None tree parts (merged_resource tree parts.path)
     by true is = ap (λ b. answer_seen None tree parts (if b then option_map (with_kid content_name) (merged_resource tree parts.path) else merged_resource tree parts.path)) is ∙ seen_like (merged_resource tree parts.path) tree parts other
     by false is = ap (λ b. answer_seen None tree parts (if b then option_map (with_kid content_name) (merged_resource tree parts.path) else merged_resource tree parts.path)) is
+
+-- what is seen in place of another is answered as that
+pub answer-of : {E : Type 0} (r : Result (Option Resource) E) (tree : Content) (parts : Parts) (seen : Option Resource) → answer_seen None tree parts seen ≡ seen_answer None tree parts → IfOk r (λ o. o ≡ seen)
+    → IfOk r (λ o. answer_seen None tree parts o ≡ seen_answer None tree parts)
+answer-of (Err e) tree parts seen is found = tt
+answer-of (Ok o) tree parts seen is found = ap (answer_seen None tree parts) found ∙ is

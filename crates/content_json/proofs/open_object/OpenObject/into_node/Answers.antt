@@ -8,11 +8,11 @@ use Rattle.content_json.proofs.open_object.OpenObject.into_node.Goals as goal
 pub returns-in-Some : goal.returns-in-Some
 returns-in-Some c = λ ms h.
     let parent = c.args.self in
-    let sorted : T (is_sorted by_name parent.props) = subst (λ (ps : List (List ℕ × Value)). T (is_sorted by_name ps)) c.in_ok-into_list.ensures.list c.in_ok-into_list.ensures.sorted in
+    let sorted : T (is_sorted by_name parent.props) = subst (λ (ps : List (List ℕ × Value)). T (is_sorted by_name ps)) c.in_ok-into_list-in-Some.ensures.list c.in_ok-into_list-in-Some.ensures.sorted in
     let ordered = rw c.in-Some.is at c.in_ok-kids.ensures.ordered in
     let found = rw (c.in-Some.is, c.deref.ensures.value) at c.in_ok-kids.ensures.kids in
     let good = rw (c.in-Some.is, c.deref.ensures.value) at c.in_ok-kids.ensures.good in
-    let props = c.in_ok-into_list.ensures.list ∙ props_are parent ms h sorted in
+    let props = c.in_ok-into_list-in-Some.ensures.list ∙ props_are parent ms h sorted in
     let kids = found ∙ kids_are parent ms h ordered in (
       λ i. record { props = props i; kids = kids i },
       good_order parent ms h (good ms (is_kid_from parent ms h)),

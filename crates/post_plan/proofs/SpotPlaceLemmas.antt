@@ -239,8 +239,8 @@ places_step es n e before after places next place spot lt at spot_is so_far foun
     let number : place ≡ first_place es e.spot = found ∙ ap (λ s. unwrap_or (place_noted before s) n) spot_is ∙ place_is es n e (place_noted before) so_far.1 here same in
     let first_of : Entry → ℕ = λ f. first_place es f.spot in
     let all : next ≡ map first_of (take (n + 1) es) =
-        pushed ∙ ap (λ (l : List ℕ). l ++ place ∷ []) so_far.0 ∙ ap (λ k. map first_of (take n es) ++ k ∷ []) number
-        ∙ sym (map_more first_of (take n es) e) ∙ sym (ap (map first_of) (take_more es n e here)) ∙ sym (ap (λ k. map first_of (take k es)) one)
+    pushed ∙ ap (λ (l : List ℕ). l ++ place ∷ []) so_far.0 ∙ ap (λ k. map first_of (take n es) ++ k ∷ []) number
+    ∙ sym (map_more first_of (take n es) e) ∙ sym (ap (map first_of) (take_more es n e here)) ∙ sym (ap (λ k. map first_of (take k es)) one)
     in
     (all, notes_as es (suc n) (n + 1) (noted_after (place_noted before) e.spot n) (place_noted after) one (λ other. noted other ∙ ap (λ s. noted_after (place_noted before) s n other) spot_is) (notes_step es n e (place_noted before) so_far.1 here same))
 
@@ -271,8 +271,8 @@ number_is n = eq-eqb n n refl
 own_words : (es : List Entry) (spot : Spot) (n : ℕ) → first_place es spot ≡ n → (suffix : Suffix) → words_at spot suffix (numbered es n) ≡ words_at spot suffix es
 own_words es spot n first suffix =
     ap (map (λ (e : Entry). e.word)) (filter_within (λ e. first_place es e.spot == n) (is_of_spot spot suffix) es (λ e is.
-        let both = and_parts (same_suffix suffix e.suffix) (same_spot spot e.spot) is in
-        ap (λ k. k == n) (ap (first_place es) (sym (same_spot_is spot e.spot both.1)) ∙ first) ∙ number_is n))
+    let both = and_parts (same_suffix suffix e.suffix) (same_spot spot e.spot) is in
+    ap (λ k. k == n) (ap (first_place es) (sym (same_spot_is spot e.spot both.1)) ∙ first) ∙ number_is n))
 
 abbrev set_with : List (List ℕ × List ℕ) → Spot → (Suffix → List (List ℕ)) → Option PropSet
 set_with pairs spot words = set_by spot (option_and_then hint_of (first_text (words TypeHint)))
@@ -339,7 +339,7 @@ pub set_before : (pairs : List (List ℕ × List ℕ)) (es : List Entry) (places
 set_before pairs es places n is later e here =
     let number : get_or places n 0 ≡ first_place es e.spot = ap (λ l. get_or l n 0) is ∙ number_there (λ f. first_place es f.spot) es n e here in
     let named = named_if_later es n e here (spot_itself e.spot)
-        (λ first. false≢true (sym (ap not (eq-eqb (get_or places n 0) n (number ∙ first))) ∙ later))
+    (λ first. false≢true (sym (ap not (eq-eqb (get_or places n 0) n (number ∙ first))) ∙ later))
     in
     sym (ap (λ t. cond t None (set_of pairs es e.spot)) named)
 

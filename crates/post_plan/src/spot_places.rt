@@ -4,8 +4,8 @@ ghost use Rattle.std.specs.Prelude.{◌≡◌, ◌<◌, ◌==◌, ◌++◌, ◌�
 ghost use Rattle.post_plan.specs.declared.spot.Spot.{Spot as NamedSpot};
 ghost use Rattle.post_plan.specs.SpotPlaces.{first_places, noted_after, numbered, place_noted};
 
-use crate::entries::Entry;
 use crate::Spot;
+use crate::entries::Entry;
 use sp_base::{Mem, Path};
 use std::alloc::Global;
 use std::collections::BTreeMap;
@@ -62,11 +62,7 @@ fn key_of<'e>(spot: &'e Spot) -> SpotKey<'e>
 }
 
 // A spot that has no place yet gets this one.
-fn new_place<'e>(
-    first: &mut BTreeMap<SpotKey<'e>, usize>,
-    spot: &'e Spot,
-    n: usize,
-) -> Mem<usize>
+fn new_place<'e>(first: &mut BTreeMap<SpotKey<'e>, usize>, spot: &'e Spot, n: usize) -> Mem<usize>
     requires { place_noted first.old spot.now ≡ None }
     ensures place { IfOk result (λ place. place ≡ unwrap_or (place_noted first.old spot.entry.now) n) }
     ensures noted { OnOk result ((other : NamedSpot) → place_noted first.new other ≡ noted_after (place_noted first.old) spot.entry.now n other) }
@@ -76,11 +72,7 @@ fn new_place<'e>(
 }
 
 // The place that is noted for a spot; one that has none yet gets this one.
-fn place_of<'e>(
-    first: &mut BTreeMap<SpotKey<'e>, usize>,
-    spot: &'e Spot,
-    n: usize,
-) -> Mem<usize>
+fn place_of<'e>(first: &mut BTreeMap<SpotKey<'e>, usize>, spot: &'e Spot, n: usize) -> Mem<usize>
     ensures place { IfOk result (λ place. place ≡ unwrap_or (place_noted first.old spot.entry.now) n) }
     ensures noted { OnOk result ((other : NamedSpot) → place_noted first.new other ≡ noted_after (place_noted first.old) spot.entry.now n other) }
 {

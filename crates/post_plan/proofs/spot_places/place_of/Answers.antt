@@ -7,7 +7,7 @@ use Rattle.post_plan.proofs.spot_places.place_of.Goals as goal
 pub returns-in-Some-clause-place : goal.returns-in-Some-clause-place
 returns-in-Some-clause-place c =
     let found : place_noted c.args.first.now c.args.spot.now ≡ Some c.in-Some.place =
-        sym (noted_key c.args.first.now c.args.spot.now c.key_of-key.result c.key_of-key.ensures) ∙ sym c.get.ensures.value ∙ sym c.copied.ensures ∙ c.in-Some.is
+    sym (noted_key c.args.first.now c.args.spot.now c.key_of-key.result c.key_of-key.ensures) ∙ sym c.get.ensures.value ∙ sym c.copied.ensures ∙ c.in-Some.is
     in
     sym (ap (λ o. unwrap_or o c.args.n) found)
 

@@ -1,5 +1,5 @@
 -- What a slice of the oldest flush comes to (Adobe Dispatcher manual, "Invalidating Cached Pages From AEM").
-use Rattle.std.specs.Prelude.{◌≡◌, true, false, List, [], ◌∷◌, Option, drop}
+use Rattle.std.specs.Prelude.{◌≡◌, ◌⊎◌, true, false, List, [], ◌∷◌, Option, drop}
 use Rattle.sp_outside.specs.Files.{Files}
 use Rattle.docroot_changes.specs.Changes.{Told}
 use Rattle.invalidation.specs.declared.purge.Purge.{Purge}
@@ -64,3 +64,10 @@ abbrev pub flushes_left_by : Purged → List Pending → List Pending
 flushes_left_by purged.Idle queue = queue
 flushes_left_by (purged.More flush) queue = queue
 flushes_left_by _ queue = drop 1 queue
+
+-- One step made at most one slice: none where no flush is unfinished, and then nothing changed; else one of the oldest flush, which left the queue
+-- where that slice ended it.
+abbrev pub MakesOneSlice : Option Files → Option Files → List Pending → List Pending → Purged → Type 0
+MakesOneSlice told new queue left result =
+    ((queue ≡ []) × ((result ≡ purged.Idle) × ((left ≡ queue) × (new ≡ told))))
+    ⊎ ((after : List Pending) × (IsFirstSliced told new queue after result × (left ≡ flushes_left_by result after)))

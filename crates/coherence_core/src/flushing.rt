@@ -2,7 +2,7 @@
 ghost use Rattle.std.specs.Prelude.{◌≡◌, ◌<◌, length};
 ghost use Rattle.docroot_changes.specs.DocrootCalls.{MakesDocrootCalls};
 ghost use Rattle.coherence_core.specs.Cores.{ExtendsCore, KeepsFarm, flush_numbers};
-ghost use Rattle.coherence_core.specs.Flushes.{IsFirstSliced, PurgedAs, flushes_left_by, purged_entries, purged_under};
+ghost use Rattle.coherence_core.specs.Flushes.{IsFirstSliced, MakesOneSlice, PurgedAs, flushes_left_by, purged_entries, purged_under};
 ghost use Rattle.coherence_core.specs.Notes.{KnowsDisk};
 ghost use Rattle.sp_outside.specs.Causes.{IsDiskFailure};
 
@@ -22,9 +22,11 @@ impl Core {
     pub fn purge_step<D: Disk>(&mut self, alloc: Global, disk: &mut D) -> Purged
         ensures log { ExtendsCore (D.files disk.old) self.old (D.files disk.new) self.new (purged_under result) (purged_entries result) }
         ensures flushes { PurgedAs result (flush_numbers self.old.queue.items) (flush_numbers self.new.queue.items) }
+        ensures slice { MakesOneSlice (D.files disk.old) (D.files disk.new) self.old.queue.items self.new.queue.items result }
         ensures idle { result ≡ Purged.Idle → (self.new ≡ self.old) × (D.files disk.new ≡ D.files disk.old) }
         ensures disk_failed { IsDiskFailure (D.faults disk.old) (D.faults disk.new) (purged_under result).disk_failed }
         ensures calls { MakesDocrootCalls (D.calls disk.old) (D.calls disk.new) }
+        ensures uncalled { result ≡ Purged.Idle → D.calls disk.new ≡ D.calls disk.old }
         ensures flights { self.new.flights ≡ self.old.flights }
         ensures asked { self.new.asked ≡ self.old.asked }
         ensures kept { KeepsFarm self.old self.new }

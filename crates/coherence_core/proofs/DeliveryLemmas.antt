@@ -3,6 +3,7 @@ use Rattle.std.proofs.Common.{◌≡◌, ◌≢◌, ◌⊎◌, ◌≤◌, ◌+�
 use Rattle.std.specs.Prelude.{IfSome, IsTrue, ◌==◌}
 use Rattle.sp_base.specs.MediaTypes.{is_kind}
 use Rattle.std.proofs.lemmas.Bool.{and_parts, eqb-true}
+use Rattle.sp_outside.specs.Calls.{Call}
 use Rattle.sp_outside.specs.Files.{Files}
 use Rattle.sp_base.specs.declared.answer.Answer.{Answer}
 use Rattle.sp_base.specs.declared.answer.Mark.{Mark}
@@ -40,7 +41,7 @@ use Rattle.page_index.specs.Effects.{ForgetsPage, IsFewer}
 use Rattle.page_index.specs.Notes.{page_noted}
 use Rattle.page_index.specs.declared.index.PageIndex.{PageIndex}
 use Rattle.cover_rules.specs.declared.invalidation.Invalidation.{Invalidation}
-use Rattle.coherence_core.specs.Landings.{DeliveredAs, ForgetsFor, ForgetsFrom, IsKeptAs, IsKeptFrom, IsStored, fate_of, landed_under}
+use Rattle.coherence_core.specs.Landings.{DeliveredAs, DeliveredBy, ForgetsFor, ForgetsFrom, IsKeptAs, IsKeptFrom, IsStored, KeptBy, StoresBy, fate_of, landed_under}
 use Rattle.coherence_core.specs.Served.{Before, IsFresh, stat_for}
 use Rattle.coherence_core.specs.StampTies.{IsFlightStamp}
 use Rattle.coherence_core.specs.Stands.{AreHeadsBefore, IsLogFlight, CoreStands, stamp}
@@ -317,6 +318,18 @@ pub landing_keeps : (f : Flight) (a : Answer) (told new : Option Files) (landing
 landing_keeps f a told new Unkeyed out lands kept = subst (λ (o : LandedAs). IsKeptAs f.key o) (sym kept.0) tt
 landing_keeps f a told new (Voided key) out lands kept = subst (λ (o : LandedAs). IsKeptAs f.key o) (sym kept.0) tt
 landing_keeps f a told new (Clear c) out lands kept = subst (λ (o : Option PageKey). IsKeptAs o out) (sym lands.1) kept.1
+
+-- the calls of the disk that it made
+called_clear : (f : Flight) (c : ClearPage) (a : Answer) (asked made : Option (List Call)) (told new : Option Files) (out : LandedAs) → (f.voided ≡ false) × (f.key ≡ Some c.key) × (c.stamp ≡ f.stamp) → StoresBy c.key c.stamp a out asked made told new → DeliveredBy f a out asked made told new
+called_clear f c a asked made told new (landed.Kept k) clear by = (c.key, (clear.1, subst (λ (st : Stamp). StoresBy c.key st a (landed.Kept k) asked made told new) clear.2 by))
+called_clear f c a asked made told new landed.Passed clear by = by
+called_clear f c a asked made told new landed.DiskFailed clear by = (c.key, (clear.1, subst (λ (st : Stamp). StoresBy c.key st a landed.DiskFailed asked made told new) clear.2 by))
+called_clear f c a asked made told new landed.NoMemory clear by = (c.key, (clear.1, subst (λ (st : Stamp). StoresBy c.key st a landed.NoMemory asked made told new) clear.2 by))
+
+pub landing_calls : (f : Flight) (a : Answer) (asked made : Option (List Call)) (told new : Option Files) (landing : Landing) (out : LandedAs) → LandsAs f landing → IsKeptFrom landing a out told new → KeptBy landing a out asked made told new → DeliveredBy f a out asked made told new
+landing_calls f a asked made told new Unkeyed out lands kept by = subst (λ (o : LandedAs). DeliveredBy f a o asked made told new) (sym kept.0) by
+landing_calls f a asked made told new (Voided key) out lands kept by = subst (λ (o : LandedAs). DeliveredBy f a o asked made told new) (sym kept.0) by
+landing_calls f a asked made told new (Clear c) out lands kept by = called_clear f c a asked made told new out lands by
 
 -- ---- what is put
 

@@ -1,7 +1,9 @@
 -- What becomes of a flight that lands (RFC 9111, section 3).
-use Rattle.std.specs.Prelude.{◌≡◌, ◌⊎◌, true, false, Option, Some, None}
+use Rattle.std.specs.Prelude.{◌≡◌, ◌⊎◌, true, false, List, Option, Some, None}
 use Rattle.sp_base.specs.declared.answer.Answer.{Answer}
+use Rattle.sp_outside.specs.Calls.{Call, told_calls}
 use Rattle.sp_outside.specs.Files.{Files}
+use Rattle.cache_files.specs.Pages.{IsPutLeft, put_calls}
 use Rattle.cover_rules.specs.declared.page.PageKey.{PageKey}
 use Rattle.cover_rules.specs.declared.stamp.Stamp.{Stamp}
 use Rattle.dispatch_rules.specs.Caching.{is_storable}
@@ -66,3 +68,24 @@ ForgetsFrom Unkeyed out old new = new ≡ old
 abbrev pub DeliveredAs : Flight → Answer → Landed → Option Files → Option Files → Type 0
 DeliveredAs flight answer landed.Passed old new = ((flight.key ≡ None) ⊎ ((flight.voided ≡ true) ⊎ (is_storable answer ≡ false))) × (new ≡ old)
 DeliveredAs flight answer out old new = (flight.voided ≡ false) × ((key : PageKey) × ((flight.key ≡ Some key) × IsStored key flight.stamp answer out old new))
+
+-- ---- which calls of the disk were asked, and made
+
+-- Which calls storing an answer made: those of a put of the page; none, where the answer isn't storable; or those of a put that stopped.
+abbrev pub StoresBy : PageKey → Stamp → Answer → Landed → Option (List Call) → Option (List Call) → Option Files → Option Files → Type 0
+StoresBy key stamp answer (landed.Kept own) asked made old new = made ≡ told_calls asked (put_calls key stamp answer)
+StoresBy key stamp answer landed.Passed asked made old new = made ≡ asked
+StoresBy key stamp answer landed.DiskFailed asked made old new = IsPutLeft asked made old new key stamp answer Disk
+StoresBy key stamp answer landed.NoMemory asked made old new = IsPutLeft asked made old new key stamp answer NoMemory
+
+-- Which calls a landing made: those of storing its answer where its flight gives leave, and else none.
+abbrev pub KeptBy : Landing → Answer → Landed → Option (List Call) → Option (List Call) → Option Files → Option Files → Type 0
+KeptBy (Clear clear) answer out asked made old new = StoresBy clear.key clear.stamp answer out asked made old new
+KeptBy (Voided key) answer out asked made old new = made ≡ asked
+KeptBy Unkeyed answer out asked made old new = made ≡ asked
+
+-- Which calls delivering an answer to a flight made: none, where it was only passed on; else those of storing it as the flight's page, with the
+-- stamp of its asking.
+abbrev pub DeliveredBy : Flight → Answer → Landed → Option (List Call) → Option (List Call) → Option Files → Option Files → Type 0
+DeliveredBy flight answer landed.Passed asked made old new = made ≡ asked
+DeliveredBy flight answer out asked made old new = (key : PageKey) × ((flight.key ≡ Some key) × StoresBy key flight.stamp answer out asked made old new)

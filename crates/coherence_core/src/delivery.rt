@@ -9,7 +9,7 @@ ghost use Rattle.cache_log.specs.Entries.{Landed as landed_entry, Lost};
 ghost use Rattle.cache_log.specs.Rules.{CallConditions};
 ghost use Rattle.coherence_core.specs.Cores.{ExtendsCore, FlightsRise, KeepsFarm};
 ghost use Rattle.coherence_core.specs.Holds.{KeepsStatFiles};
-ghost use Rattle.coherence_core.specs.Landings.{DeliveredAs, ForgetsFor, ForgetsFrom, IsKeptAs, IsKeptFrom, IsStored, fate_of, landed_under};
+ghost use Rattle.coherence_core.specs.Landings.{DeliveredAs, DeliveredBy, ForgetsFor, ForgetsFrom, IsKeptAs, IsKeptFrom, IsStored, KeptBy, StoresBy, fate_of, landed_under};
 ghost use Rattle.coherence_core.specs.Notes.{KnowsDisk};
 ghost use Rattle.sp_outside.specs.Causes.{IsDiskFailure};
 
@@ -42,6 +42,7 @@ impl Core {
         requires kind { IsTrue (is_kind answer.now.kind) }
         ensures log { IfSome (flight_at ticket self.old.flights) (λ flight. ExtendsCore (D.files disk.old) self.old (D.files disk.new) self.new (landed_under result) (landed_entry ticket flight.key answer.now (fate_of result) ∷ [])) }
         ensures delivered { IfSome (flight_at ticket self.old.flights) (λ flight. DeliveredAs flight answer.now result (D.files disk.old) (D.files disk.new)) }
+        ensures asks { IfSome (flight_at ticket self.old.flights) (λ flight. DeliveredBy flight answer.now result (D.calls disk.old) (D.calls disk.new) (D.files disk.old) (D.files disk.new)) }
         ensures key { IfSome (flight_at ticket self.old.flights) (λ flight. IsKeptAs flight.key result) }
         ensures disk_failed { IsDiskFailure (D.faults disk.old) (D.faults disk.new) (landed_under result).disk_failed }
         ensures calls { MakesDocrootCalls (D.calls disk.old) (D.calls disk.new) }
@@ -85,6 +86,7 @@ fn keep<D: Disk>(
 ) -> Landed
     requires { IsTrue (is_kind answer.now.kind) }
     ensures kept { IsKeptFrom landing answer.now result (D.files disk.old) (D.files disk.new) }
+    ensures asks { KeptBy landing answer.now result (D.calls disk.old) (D.calls disk.new) (D.files disk.old) (D.files disk.new) }
     ensures stats { Told KeepsStatFiles (D.files disk.old) (D.files disk.new) }
     ensures notes { ForgetsFrom landing result pages.old pages.new }
     ensures disk_failed { IsDiskFailure (D.faults disk.old) (D.faults disk.new) (landed_under result).disk_failed }
@@ -109,6 +111,7 @@ fn store<D: Disk>(
 ) -> Landed
     requires { IsTrue (is_kind answer.now.kind) }
     ensures stored { IsStored clear.key clear.stamp answer.now result (D.files disk.old) (D.files disk.new) }
+    ensures asks { StoresBy clear.key clear.stamp answer.now result (D.calls disk.old) (D.calls disk.new) (D.files disk.old) (D.files disk.new) }
     ensures stats { Told KeepsStatFiles (D.files disk.old) (D.files disk.new) }
     ensures notes { ForgetsFor clear.key result pages.old pages.new }
     ensures key { IsKeptAs (Some clear.key) result }

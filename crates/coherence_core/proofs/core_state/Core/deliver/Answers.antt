@@ -1,6 +1,6 @@
 use Rattle.std.proofs.Common.{refl}
 use Rattle.flights.specs.Flights.{flight_at}
-use Rattle.coherence_core.proofs.DeliveryLemmas.{flight_if, if_flight, landing_delivers, landing_keeps, landing_owes, landing_stays, some_flight}
+use Rattle.coherence_core.proofs.DeliveryLemmas.{flight_if, if_flight, landing_calls, landing_delivers, landing_keeps, landing_owes, landing_stays, some_flight}
 use Rattle.coherence_core.proofs.NoteLemmas.{told_known}
 use Rattle.coherence_core.proofs.core_state.Core.deliver.Goals as goal
 
@@ -15,6 +15,12 @@ returns-clause-delivered g c =
     let f = some_flight (flight_at c.args.ticket c.args.self.now.flights) c.requires.flight in
     let lands = flight_if (flight_at c.args.ticket c.args.self.now.flights) f.0 _ f.1 c.land-landing.ensures.landing in
     if_flight (flight_at c.args.ticket c.args.self.now.flights) f.0 _ f.1 (landing_delivers f.0 c.args.answer.now (g.D.Disk.files c.args.disk.now) (g.D.Disk.files c.keep.new.disk) c.land-landing.result c.keep.result lands c.keep.ensures.kept)
+
+pub returns-clause-asks : goal.returns-clause-asks
+returns-clause-asks g c =
+    let f = some_flight (flight_at c.args.ticket c.args.self.now.flights) c.requires.flight in
+    let lands = flight_if (flight_at c.args.ticket c.args.self.now.flights) f.0 _ f.1 c.land-landing.ensures.landing in
+    if_flight (flight_at c.args.ticket c.args.self.now.flights) f.0 _ f.1 (landing_calls f.0 c.args.answer.now (g.D.Disk.calls c.args.disk.now) (g.D.Disk.calls c.keep.new.disk) (g.D.Disk.files c.args.disk.now) (g.D.Disk.files c.keep.new.disk) c.land-landing.result c.keep.result lands c.keep.ensures.kept c.keep.ensures.asks)
 
 pub returns-clause-key : goal.returns-clause-key
 returns-clause-key g c =

@@ -1,13 +1,14 @@
 //! The core of a cache, and how a session begins.
 ghost use Rattle.std.specs.Prelude.{◌≡◌, ◌≢◌, ◌<◌, ◌≤◌, false, Err, [], IfErr, IfOk, IfSome, Ok};
 ghost use Rattle.any_config.specs.declared.farm.Farm.{Farm};
-ghost use Rattle.cache_files.specs.Epochs.{HasOpenCause, next_epoch, told_with_epoch};
+ghost use Rattle.cache_files.specs.Epochs.{HasOpenCause, next_epoch, open_calls, told_with_epoch};
+ghost use Rattle.sp_outside.specs.Calls.{told_calls};
 ghost use Rattle.docroot_changes.specs.Changes.{Told};
 ghost use Rattle.docroot_changes.specs.DocrootCalls.{MakesDocrootCalls};
 ghost use Rattle.coherence_core.specs.Asking.{next_stamp};
 ghost use Rattle.coherence_core.specs.Cores.{FlightsRise, drawn_of};
 ghost use Rattle.coherence_core.specs.Notes.{KnowsDisk};
-ghost use Rattle.coherence_core.specs.Openings.{OpensCore};
+ghost use Rattle.coherence_core.specs.Openings.{IsStartLeft, OpensCore};
 ghost use Rattle.coherence_core.specs.Sessions.{BeginsSession, IsNewCore, KeepsHolds, OpensSession};
 ghost use Rattle.coherence_core.specs.declared.core_state.Core.{Core};
 ghost use Rattle.cache_log.specs.Limits.{most_stamps};
@@ -59,6 +60,8 @@ impl Core {
         ensures opened { IfOk result (OpensCore (D.files disk.old) (D.files disk.new)) }
         ensures after { IfOk result (λ core. D.files disk.new ≡ told_with_epoch (D.files disk.old) core.epoch) }
         ensures unopened { IfErr result (λ e. e ≢ OpenFault.Disk → D.files disk.new ≡ D.files disk.old) }
+        ensures made { IfOk result (λ core. D.calls disk.new ≡ told_calls (D.calls disk.old) (open_calls core.epoch)) }
+        ensures stopped { IfErr result (IsStartLeft (D.calls disk.old) (D.calls disk.new) (D.files disk.old) (D.files disk.new)) }
         ensures up { IfOk result (λ core. core.down ≡ false) }
         ensures empty { IfOk result (λ core. (core.flights ≡ []) × (core.queue.items ≡ [])) }
         ensures rising { IfOk result FlightsRise }
@@ -123,6 +126,8 @@ fn open<D: Disk>(alloc: Global, disk: &mut D) -> Result<Opened, OpenFault>
     ensures opens { IfOk result (λ opened. (core : Core) → IsNewCore core.farm opened.epoch core → OpensCore (D.files disk.old) (D.files disk.new) core) }
     ensures after { IfOk result (λ opened. D.files disk.new ≡ told_with_epoch (D.files disk.old) opened.epoch) }
     ensures unopened { IfErr result (λ e. e ≢ OpenFault.Disk → D.files disk.new ≡ D.files disk.old) }
+    ensures made { IfOk result (λ opened. D.calls disk.new ≡ told_calls (D.calls disk.old) (open_calls opened.epoch)) }
+    ensures stopped { IfErr result (IsStartLeft (D.calls disk.old) (D.calls disk.new) (D.files disk.old) (D.files disk.new)) }
     ensures empty { IfOk result (λ opened. opened.flights ≡ []) }
     ensures cause { HasOpenCause (D.faults disk.old) (D.faults disk.new) result }
     ensures calls { MakesDocrootCalls (D.calls disk.old) (D.calls disk.new) }

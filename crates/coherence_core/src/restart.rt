@@ -1,6 +1,7 @@
 //! A restart of the cache.
 ghost use Rattle.std.specs.Prelude.{◌≡◌, ◌≢◌, [], false, true, Err, IfErr, IfOk, IfSome, Ok, OnErr, OnOk};
-ghost use Rattle.cache_files.specs.Epochs.{HasOpenCause, next_epoch};
+ghost use Rattle.cache_files.specs.Epochs.{HasOpenCause, IsOpenLeft, next_epoch, open_calls};
+ghost use Rattle.sp_outside.specs.Calls.{told_calls};
 ghost use Rattle.docroot_changes.specs.Changes.{BesideNumber, Told};
 ghost use Rattle.docroot_changes.specs.DocrootCalls.{MakesDocrootCalls};
 ghost use Rattle.coherence_core.specs.Cores.{ExtendsCore, FlightsRise, flush_numbers};
@@ -32,6 +33,8 @@ impl Core {
         ensures files { Told BesideNumber (D.files disk.old) (D.files disk.new) }
         ensures cause { HasOpenCause (D.faults disk.old) (D.faults disk.new) result }
         ensures calls { MakesDocrootCalls (D.calls disk.old) (D.calls disk.new) }
+        ensures made { IfOk result (λ epoch. D.calls disk.new ≡ told_calls (D.calls disk.old) (open_calls epoch)) }
+        ensures stopped { IfErr result (IsOpenLeft (D.calls disk.old) (D.calls disk.new) (D.files disk.old) (D.files disk.new)) }
         ensures knows { KnowsDisk (D.files disk.new) self.new }
     {
         coverage_by_three_facts();

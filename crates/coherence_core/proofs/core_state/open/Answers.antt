@@ -1,3 +1,4 @@
+use Rattle.std.proofs.Common.{inr}
 use Rattle.std.specs.Prelude.{Err, Ok}
 use Rattle.coherence_core.proofs.OpeningLemmas.{opens, unopened}
 use Rattle.coherence_core.proofs.StartLemmas.{begins, keeps_told}
@@ -14,3 +15,6 @@ returns-in-Ok-clause-opens g c = opens c.in-Ok.epoch (g.D.Disk.files c.args.disk
 
 pub returns-in-Err-clause-unopened : goal.returns-in-Err-clause-unopened
 returns-in-Err-clause-unopened g c = unopened _ _ (g.D.Disk.files c.args.disk.now) (g.D.Disk.files c.open_epoch.new.disk) c.in-Err.fault c.in-Err.ensures.left
+
+pub returns-in-Err-clause-stopped : goal.returns-in-Err-clause-stopped
+returns-in-Err-clause-stopped g c = inr c.in-Err.ensures.left

@@ -16,3 +16,6 @@ returns-in-Err-Disk-clause-stats g c = c.puts_and_openings_keep_stat_files.ensur
 
 pub returns-clause-stats : goal.returns-clause-stats
 returns-clause-stats g c = c.puts_and_openings_keep_stat_files.ensures.put_failed _ _ (g.D.Disk.files c.args.disk.now) (g.D.Disk.files c.put_page.new.disk) c.into_key-key.result c.stamp-stamp.result c.args.answer.now NoMemory c.into_key-key.ensures.page (rw (c.in-Err-NoMemory.field-0-is) at c.in-Err-NoMemory.ensures.err)
+
+pub returns-in-Err-Disk-clause-asks : goal.returns-in-Err-Disk-clause-asks
+returns-in-Err-Disk-clause-asks g c = rw (sym c.into_key-key.ensures.value, sym c.stamp-stamp.ensures) (rw (c.in-Err-Disk.field-0-is) at c.in-Err-Disk.ensures.err)

@@ -1,0 +1,7 @@
+use Rattle.std.proofs.Common.{sym}
+use Rattle.htl_blocks.specs.Reading.{run_of, after_run}
+use Rattle.htl_blocks.proofs.Parts.{run_boundary}
+use Rattle.htl_blocks.proofs.cut.run.Goals as goal
+
+pub split_at-requires : goal.split_at-requires
+split_at-requires c = rw (c.run_len.ensures, c.as_bytes.ensures.value) (run_boundary c.args.text.now)

@@ -9,7 +9,7 @@ use Rattle.htl_blocks.specs.Laws as laws
 use Rattle.htl_blocks.proofs.Tags.{and_left, and_right, byte_is}
 
 -- what may stand where so many tags of a name wait for their end tags
-Waits : List ℕ → ℕ → List (List ℕ) → ℕ → Type 0
+abbrev Waits : List ℕ → ℕ → List (List ℕ) → ℕ → Type 0
 Waits name zero ps k = Closes name ps k
 Waits name (suc w) ps k = (inner : List (List ℕ)) × (end : List ℕ) × (more : List (List ℕ)) × (left : ℕ) × (ps ≡ inner ++ end ∷ more) × Balanced name inner × (closes name end ≡ true) × Waits name w more left × (bytes_of inner + (length end + left) ≡ k)
 

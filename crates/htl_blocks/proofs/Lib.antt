@@ -7,3 +7,6 @@ mod Balance
 mod Turns
 pub mod Values
 mod Plain
+mod Split
+mod Spelled
+mod FirstFault

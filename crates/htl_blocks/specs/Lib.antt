@@ -4,3 +4,4 @@ pub mod Attributes
 pub mod LentValues
 pub mod Reading
 pub mod Laws
+pub mod Spelling

@@ -1,6 +1,6 @@
 //! Where block elements stand in a text.
 
-ghost use Rattle.std.specs.Prelude.{◌≡◌, ◌==◌, ◌&&◌, ◌<◌, ◌+◌, IfSome, IfOk, IfErr, Some, None, Ok, Err, true, false, take, drop};
+ghost use Rattle.std.specs.Prelude.{◌≡◌, ◌==◌, ◌&&◌, ◌<◌, ◌+◌, IfSome, IfOk, IfErr, Some, None, Ok, Err, true, false, length, take, drop};
 ghost use Rattle.htl_blocks.specs.LentValues.{cut_shown};
 ghost use Rattle.htl_blocks.specs.Markup as spec;
 ghost use Rattle.htl_blocks.specs.Reading as reading;
@@ -87,14 +87,23 @@ fn inside_len(name: &[u8], text: &[u8]) -> Option<usize>
     None
 }
 
+/// The end tag at the beginning of a text, and what follows it.
+fn end_tag_split(text: &str) -> (&str, &str)
+    requires some { 0 < length text.now }
+    requires end_tag { spec.begins_end_tag (take (spec.part_len text.now) text.now) ≡ true }
+    ensures end_tag { result.0.now ≡ take (spec.part_len text.now) text.now }
+    ensures rest { result.1.now ≡ drop (spec.part_len text.now) text.now }
+{
+    text.split_at(part_len(text.as_bytes()))
+}
+
 /// The parts of an element whose content has this many bytes.
-#[tactic(auto, unfolding(crate::specs::Markup::part_len))]
 fn cut_at<'a>(tag: &'a str, text: &'a str, len: usize) -> Cut<'a>
     requires { spec.inside_len (spec.tag_name tag.now) 0 0 (spec.parts text.now) ≡ Some len }
     ensures { Ok (cut_shown result) ≡ reading.cut_at 0 tag.now text.now (Some len) }
 {
     let (inside, from_end_tag) = text.split_at(len);
-    let (end_tag, rest) = from_end_tag.split_at(part_len(from_end_tag.as_bytes()));
+    let (end_tag, rest) = end_tag_split(from_end_tag);
     Cut {
         tag,
         inside,

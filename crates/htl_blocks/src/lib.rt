@@ -20,5 +20,6 @@ pub use block::{Block, Tag};
 pub use blocks::Blocks;
 pub use fault::BlockFault;
 pub use laws::{
-    a_text_without_blocks_is_a_template, an_end_tag_closes_what_is_balanced, the_parts_are_the_text,
+    a_text_without_blocks_is_a_template, an_end_tag_closes_what_is_balanced,
+    the_blocks_are_the_text, the_parts_are_the_text,
 };

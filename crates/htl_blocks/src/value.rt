@@ -1,6 +1,7 @@
 //! The names and values of block statements.
 
 ghost use Rattle.std.specs.Prelude.{◌≡◌, ◌≢◌, ◌+◌, IfOk, true, drop, take};
+ghost use Rattle.std.specs.List.{list_all};
 ghost use Rattle.htl_syntax.specs.Tokens as tokens;
 ghost use Rattle.htl_blocks.specs.Attributes as spec;
 ghost use Rattle.htl_blocks.specs.LentValues.{value_shown};
@@ -74,12 +75,18 @@ fn value(text: &str) -> (LentValue<'_>, &str)
     }
 }
 
+fn are_words(text: &[u8]) -> bool
+    ensures { result ≡ list_all tokens.is_word_byte text.now }
+{
+    text.iter().all(|c| is_word(*c))
+}
+
 /// Whether a name is that of a variable.
 #[tactic(auto, unfolding(crate::specs::Attributes::is_variable))]
 fn is_variable(name: &[u8]) -> bool
     ensures { result ≡ spec.is_variable name.now }
 {
-    first_at(name) && name.iter().all(|c| is_word(*c))
+    first_at(name) && are_words(name)
 }
 
 fn list_statement(alloc: Global, name: &str) -> Mem<Option<Statement>>

@@ -11,7 +11,7 @@ pub loop-rest-preserved : goal.loop-rest-preserved
 loop-rest-preserved c =
     let more = inside_more c.args.name.now c.loop-rest.rest.now c.first_part.result.0.now c.first_part.result.1.now c.loop-rest.waiting c.loop-rest.len c.first_part.ensures.parts (sym c.is_end.ensures ∙ c.if-is_end.false) in
     let less = waiting_less c.args.name.now c.first_part.result.0.now c.loop-rest.waiting in
-    let now = c.waiting_after.ensures in
+    let now = c.waiting_after-waiting.ensures in
     let size = c.first_part.ensures.lengths in
     let some = c.first_part.ensures.some in
     let all = c.loop-rest.invariant.1 in

@@ -1,0 +1,64 @@
+use Rattle.std.proofs.Common.{◌≡◌, ◌&&◌, ℕ, Bool, true, false, eqb, nat_eq, List, [], ◌∷◌, ◌++◌, drop, codes, Option, Some, None, refl, ap, sym, ◌∙◌}
+use Rattle.std.specs.List.{starts_with}
+use Rattle.std.specs.Cmp.Lexicographic.{pointwise}
+use Rattle.std.proofs.lemmas.Result.{IfOk-weaker}
+use Rattle.htl_syntax.specs.Tokens.{begins}
+use Rattle.htl_blocks.specs.declared.statement.Statement.{Statement}
+use Rattle.htl_blocks.specs.declared.statement.Statement.TheVariants as statement
+use Rattle.htl_blocks.specs.Attributes.{statement_of, list_statement, is_variable}
+use Rattle.htl_blocks.proofs.Tags.{and_left, and_right, byte_is}
+use Rattle.htl_blocks.proofs.value.statement_of.Goals as goal
+
+-- two texts with the same bytes
+same_text : (a b : List ℕ) → pointwise nat_eq a b ≡ true → a ≡ b
+same_text [] [] e = refl
+same_text [] (d ∷ b) e = absurd cc
+same_text (c ∷ a) [] e = absurd cc
+same_text (c ∷ a) (d ∷ b) e = ap (λ (t : List ℕ). c ∷ t) (same_text a b (and_right (eqb c d) (pointwise nat_eq a b) e)) ∙ ap (λ (n : ℕ). n ∷ b) (byte_is c d (and_left (eqb c d) (pointwise nat_eq a b) e))
+
+not_same : (a b : List ℕ) → (a ≡ b → ⊥) → pointwise nat_eq a b ≡ false
+not_same a b apart = go (pointwise nat_eq a b) refl
+  where
+    go : (x : Bool) → pointwise nat_eq a b ≡ x → x ≡ false
+    go true e = absurd (apart (same_text a b e))
+    go false e = refl
+
+-- a text that begins with another goes on after it
+begins_with : (a b : List ℕ) → starts_with nat_eq a b ≡ true → (rest : List ℕ) × (a ≡ b ++ rest)
+begins_with a [] e = (a, refl)
+begins_with [] (d ∷ b) e = absurd cc
+begins_with (c ∷ a) (d ∷ b) e =
+    let more = begins_with a b (and_right (eqb d c) (starts_with nat_eq a b) e) in
+    (more.0, ap (λ (t : List ℕ). c ∷ t) more.1 ∙ ap (λ (n : ℕ). n ∷ (b ++ more.0)) (sym (byte_is d c (and_left (eqb d c) (starts_with nat_eq a b) e))))
+
+no_beginning : (a b : List ℕ) → ((rest : List ℕ) → a ≡ b ++ rest → ⊥) → starts_with nat_eq a b ≡ false
+no_beginning a b apart = go (starts_with nat_eq a b) refl
+  where
+    go : (x : Bool) → starts_with nat_eq a b ≡ x → x ≡ false
+    go true e = let more = begins_with a b e in absurd (apart more.0 more.1)
+    go false e = refl
+
+item_is : is_variable (codes "item") ≡ true
+unfolding is_variable begins
+item_is = refl
+
+item_listed : list_statement (codes "item") ≡ Some (statement.List (codes "item"))
+item_listed = rw item_is refl
+
+listed : statement_of (codes "data-sly-list") ≡ list_statement (codes "item")
+unfolding statement_of
+listed = sym item_listed
+
+other_name : (name : List ℕ) → (name ≡ codes "data-sly-test" → ⊥) → (name ≡ codes "data-sly-text" → ⊥) → (name ≡ codes "data-sly-unwrap" → ⊥) → (name ≡ codes "data-sly-include" → ⊥) → (name ≡ codes "data-sly-resource" → ⊥) → (name ≡ codes "data-sly-list" → ⊥) → ((rest : List ℕ) → name ≡ codes "data-sly-list." ++ rest → ⊥) → statement_of name ≡ None
+unfolding statement_of
+other_name name a b c d e f g =
+    rw (not_same name (codes "data-sly-test") a, not_same name (codes "data-sly-text") b, not_same name (codes "data-sly-unwrap") c, not_same name (codes "data-sly-include") d, not_same name (codes "data-sly-resource") e, not_same name (codes "data-sly-list") f, no_beginning name (codes "data-sly-list.") g) refl
+
+pub returns-in-text-6 : goal.returns-in-text-6
+returns-in-text-6 c =
+    let same : statement_of c.args.name.now ≡ list_statement (codes "item") = ap statement_of c.in-text-6.is ∙ listed in
+    IfOk-weaker c.list_statement.result (λ (o : Option Statement). o ≡ list_statement (codes "item")) (λ (o : Option Statement). o ≡ statement_of c.args.name.now) (λ o e. e ∙ sym same) c.list_statement.ensures
+
+pub returns-in-None : goal.returns-in-None
+returns-in-None c =
+    sym (other_name c.args.name.now c.in_default.not-text c.in_default.not-text-2 c.in_default.not-text-3 c.in_default.not-text-4 c.in_default.not-text-5 c.in_default.not-text-6 c.in-None.ensures.cases)

@@ -1,9 +1,9 @@
 -- The end tag that closes an element.
-use Rattle.std.proofs.Common.{◌≡◌, ◌<◌, ◌≤◌, ◌+◌, ◌-◌, ℕ, zero, suc, Bool, true, false, cond, not, ◌&&◌, eqb, List, [], ◌∷◌, ◌++◌, drop, length, Option, Some, None, refl, ap, sym, subst, ◌∙◌, rules, arith, append_assoc}
+use Rattle.std.proofs.Common.{◌≡◌, ◌+◌, ◌-◌, ℕ, zero, suc, Bool, true, false, not, ◌&&◌, eqb, List, [], ◌∷◌, ◌++◌, drop, length, Some, None, refl, ap, sym, subst, ◌∙◌, arith, append_assoc}
 use Rattle.std.proofs.lemmas.Bool.Decides.{nat_tests}
 use Rattle.sp_base.specs.Bytes.{begins_with_byte}
 use Rattle.htl_syntax.specs.Tokens.{begins, is_letter}
-use Rattle.htl_blocks.specs.Markup.{same_name, tag_name, end_tag_name, is_self_closed, begins_tag, begins_end_tag, ends_after_name, opens, closes, waiting_after, inside_len}
+use Rattle.htl_blocks.specs.Markup.{same_name, tag_name, end_tag_name, is_self_closed, begins_tag, begins_end_tag, opens, closes, inside_len}
 use Rattle.htl_blocks.specs.Laws.{Balanced, Closes, bytes_of}
 use Rattle.htl_blocks.specs.Laws as laws
 use Rattle.htl_blocks.proofs.Tags.{and_left, and_right, byte_is}

@@ -1,6 +1,5 @@
 -- The fault that is told is the first of those that stand in a text.
-use Rattle.std.proofs.Common.{◌⊎◌, ◌≡◌, ◌<◌, ◌≤◌, ◌+◌, ◌-◌, ℕ, zero, suc, Bool, true, false, cond, eqb, List, [], ◌∷◌, ◌++◌, take, drop, length, Option, Some, None, Result, Ok, Err, refl, ap, sym, subst, ◌∙◌, arith, inl, inr}
-use Rattle.std.proofs.lemmas.Bool.Decides.{nat_tests}
+use Rattle.std.proofs.Common.{◌⊎◌, ◌≡◌, ◌<◌, ◌≤◌, ◌+◌, ◌-◌, ℕ, zero, suc, Bool, true, false, cond, List, [], ◌∷◌, ◌++◌, take, drop, length, Option, Some, None, Result, Ok, Err, refl, ap, sym, subst, ◌∙◌, arith, inl, inr}
 use Rattle.htl_syntax.specs.declared.expression.Expression.{Expression}
 use Rattle.htl_syntax.specs.declared.expression.ExprFault.{ExprFault}
 use Rattle.htl_syntax.specs.Fault.{expression_of}
@@ -25,7 +24,7 @@ use Rattle.htl_blocks.specs.Spelling.{text_of, FirstTag, Element, FaultIn, text_
 use Rattle.htl_blocks.specs.Spelling as spelling
 use Rattle.htl_blocks.proofs.Turns.{within_is, element_is, element_open, element_tag_fails, element_content_fails}
 use Rattle.htl_blocks.proofs.Split.{cut_of, cut_only, cut_says, Cuts, first_tag, run_plain, run_tag, length_text}
-use Rattle.htl_blocks.proofs.Spelled.{not_zero, step_more, step_end, step_run_fails, step_one_fails, step_none, first_parts, first_some, first_size, tag_nonempty, sizes, after_place, TagSays, tag_found, OneSays, one_says, then_ok}
+use Rattle.htl_blocks.proofs.Spelled.{not_zero, step_more, step_end, step_run_fails, step_one_fails, step_none, first_parts, first_some, first_size, tag_nonempty, sizes, after_place, TagSays, tag_found, one_says}
 
 -- ---- the places of a template's faults
 
@@ -420,9 +419,9 @@ past_tag levels place end n found t x y g e lt next = past_run levels place end 
     go ws q (Err f) h =
         let low = tag_fault_place levels (end - length (after_run t)) x.tag f h in
         of_element levels end n found ws t x g q (record {
-            f = f;
-            fails = element_tag_fails levels (content_within levels) end (after_run t) (end - length (after_run t)) (cut_of x.tag x.rest y) f refl (cut_only (end - length (after_run t)) (after_run t) x.tag x.rest (first_parts t x) x.block y) h;
-            first = inl (omega (arith, low, at_is, lt));
+          f = f;
+          fails = element_tag_fails levels (content_within levels) end (after_run t) (end - length (after_run t)) (cut_of x.tag x.rest y) f refl (cut_only (end - length (after_run t)) (after_run t) x.tag x.rest (first_parts t x) x.block y) h;
+          first = inl (omega (arith, low, at_is, lt));
         })
 
 -- a fault of the content ends the element
@@ -516,9 +515,9 @@ first_turns levels place t g (spelling.after_element x y d) end n found e le =
     let size = length_text y.after in
     let more : suc (n - 1) ≡ n = omega (arith, from, below, some, all, size, le) in
     let ih : (found_too : List Block) → Told (List Block) (blocks_read (element levels (content_within levels) end) end (suc (n - 1)) found_too (text_of y.after)) g
-        = λ found_too. first_turns levels ((((place + bytes_of x.before) + length x.tag) + bytes_of y.inner) + length y.end_tag) (text_of y.after) g d end (n - 1) found_too (omega (arith, e, all, size)) (omega (arith, some, all, size, le, more)) in
+    = λ found_too. first_turns levels ((((place + bytes_of x.before) + length x.tag) + bytes_of y.inner) + length y.end_tag) (text_of y.after) g d end (n - 1) found_too (omega (arith, e, all, size)) (omega (arith, some, all, size, le, more)) in
     let later : (found_too : List Block) → Told (List Block) (blocks_read (element levels (content_within levels) end) end n found_too (text_of y.after)) g
-        = λ found_too. subst (λ (k : ℕ). Told (List Block) (blocks_read (element levels (content_within levels) end) end k found_too (text_of y.after)) g) more (ih found_too) in
+    = λ found_too. subst (λ (k : ℕ). Told (List Block) (blocks_read (element levels (content_within levels) end) end k found_too (text_of y.after)) g) more (ih found_too) in
     past_tag levels place end n found t x y g e (omega (arith, from, some))
     (λ (ws : List Block) (q : run_blocks (end - length t) (run_of t) ≡ Ok ws) (tag : Tag) (a : tag_of levels (end - length (after_run t)) x.tag ≡ Ok tag). after_told levels place end n found ws t x y tag g e q a from later)
 

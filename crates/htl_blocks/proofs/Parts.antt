@@ -1,14 +1,13 @@
 -- A text and its parts.
-use Rattle.std.proofs.Common.{◌≡◌, ◌<◌, ◌≤◌, ◌+◌, ◌-◌, ℕ, zero, suc, Bool, true, false, cond, ◌||◌, ◌&&◌, eqb, List, [], ◌∷◌, take, drop, length, slice_index, Option, Some, None, refl, ap, sym, subst, ◌∙◌, rules, arith}
+use Rattle.std.proofs.Common.{◌≡◌, ◌<◌, ◌≤◌, ◌+◌, ◌-◌, ℕ, zero, suc, Bool, true, false, cond, ◌&&◌, eqb, List, [], ◌∷◌, take, drop, length, slice_index, Some, refl, ap, sym, subst, ◌∙◌, arith}
 use Rattle.std.specs.Str.{IsCharBoundary, IsUtf8}
-use Rattle.std.proofs.lemmas.Str.{IsCharBoundary-after_ascii, IsCharBoundary-before_ascii, IsCharBoundary-end}
+use Rattle.std.proofs.lemmas.Str.{IsCharBoundary-after_ascii, IsCharBoundary-before_ascii}
 use Rattle.std.proofs.lemmas.List.{length-take-le, length-drop}
 use Rattle.sp_base.specs.Bytes.{begins_with_byte}
-use Rattle.htl_syntax.specs.Tokens.{begins, is_letter}
-use Rattle.htl_blocks.specs.Markup.{tag_len, begins_tag, begins_end_tag, name_len, part_len, parts, parts_after, opens, closes, waiting_after, inside_len}
+use Rattle.htl_blocks.specs.Markup.{tag_len, begins_tag, begins_end_tag, name_len, part_len, parts, parts_after, closes, waiting_after, inside_len}
 use Rattle.htl_blocks.specs.Attributes.{is_block_tag}
 use Rattle.htl_blocks.specs.Reading.{run_len}
-use Rattle.htl_blocks.proofs.Tags.{and_left, and_right, byte_is, byte_there, end_tag_at, tag_within, tag_boundary, part_within}
+use Rattle.htl_blocks.proofs.Tags.{and_left, and_right, byte_there, end_tag_at, tag_boundary, part_within}
 
 -- bytes that belong to the part before are passed over
 skipped : (n : ℕ) (t : List ℕ) → parts_after n t ≡ parts_after 0 (drop n t)

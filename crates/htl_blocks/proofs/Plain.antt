@@ -1,5 +1,5 @@
 -- A text in which no block tag stands.
-use Rattle.std.proofs.Common.{◌≡◌, ◌<◌, ◌≤◌, ◌+◌, ◌-◌, ℕ, zero, suc, Bool, true, false, cond, List, [], ◌∷◌, ◌++◌, take, drop, length, Result, Ok, Err, refl, ap, sym, ◌∙◌, arith, append_assoc}
+use Rattle.std.proofs.Common.{◌≡◌, ◌<◌, ◌≤◌, ◌+◌, ◌-◌, ℕ, zero, suc, false, List, [], ◌∷◌, ◌++◌, take, drop, length, Result, Ok, Err, refl, ap, ◌∙◌, arith}
 use Rattle.std.specs.List.{flat_map}
 use Rattle.std.proofs.Math.Seq.{take-length}
 use Rattle.std.proofs.lemmas.List.{length-take-le}
@@ -12,7 +12,7 @@ use Rattle.htl_blocks.specs.declared.fault.BlockFault.TheVariants as fault
 use Rattle.htl_blocks.specs.declared.block.Block.{Block}
 use Rattle.htl_blocks.specs.Markup.{part_len, parts, parts_after}
 use Rattle.htl_blocks.specs.Attributes.{is_block_tag}
-use Rattle.htl_blocks.specs.Reading.{◌then◌, run_len, run_of, after_run, text_block, run_blocks, with_blocks, to_element, element, blocks_read, content_within, blocks_of}
+use Rattle.htl_blocks.specs.Reading.{◌then◌, run_len, run_of, after_run, text_block, run_blocks, with_blocks, element, blocks_read, content_within, blocks_of}
 use Rattle.htl_blocks.specs.Laws.{HasNoBlock}
 use Rattle.htl_blocks.specs.Laws as laws
 use Rattle.htl_blocks.proofs.Tags.{part_within}

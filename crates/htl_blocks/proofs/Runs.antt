@@ -1,12 +1,12 @@
 -- Runs of bytes at the beginning of a text.
-use Rattle.std.proofs.Common.{◌≡◌, ◌<◌, ◌≤◌, ◌+◌, ℕ, zero, suc, Bool, true, false, cond, nat_lt, List, [], ◌∷◌, drop, Option, Some, None, MatchOption, length, slice_index, refl, sym, ◌∙◌, rules, arith}
+use Rattle.std.proofs.Common.{◌≡◌, ◌<◌, ◌≤◌, ◌+◌, ℕ, zero, suc, Bool, true, false, cond, nat_lt, List, [], ◌∷◌, drop, Option, Some, None, MatchOption, length, slice_index, refl, arith}
 use Rattle.std.specs.Str.{IsCharBoundary}
-use Rattle.std.specs.List.{position, position_or_len}
+use Rattle.std.specs.List.{position_or_len}
 use Rattle.std.proofs.lemmas.List.Sums.{prefix_len-le-length, passes_at_first}
 use Rattle.std.proofs.lemmas.Bool.Decides.{nat_tests}
 use Rattle.htl_syntax.specs.Tokens.{is_quote}
 use Rattle.htl_blocks.specs.declared.byte_run.ByteRun.{ByteRun}
-use Rattle.htl_blocks.specs.declared.byte_run.ByteRun.TheVariants.{Name, Key, Quoted}
+use Rattle.htl_blocks.specs.declared.byte_run.ByteRun.TheVariants.{Key, Quoted}
 use Rattle.htl_blocks.specs.Markup.{ends, ends_key, run_bytes}
 use Rattle.htl_blocks.proofs.Tags.{byte_is, quote_ascii}
 

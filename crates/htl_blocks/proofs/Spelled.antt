@@ -1,12 +1,11 @@
 -- What is read is what the text spells, and the other way round.
-use Rattle.std.proofs.Common.{◌⊎◌, ◌≡◌, ◌<◌, ◌≤◌, ◌+◌, ◌-◌, ℕ, zero, suc, Bool, true, false, cond, eqb, List, [], ◌∷◌, ◌++◌, take, drop, length, Option, Some, None, Result, Ok, Err, refl, ap, sym, subst, ◌∙◌, arith, append_assoc, length-append, inl, inr}
+use Rattle.std.proofs.Common.{◌⊎◌, ◌≡◌, ◌<◌, ◌≤◌, ◌+◌, ◌-◌, ℕ, zero, suc, true, false, eqb, List, [], ◌∷◌, ◌++◌, length, Option, Some, None, Result, Ok, Err, refl, ap, sym, subst, ◌∙◌, arith, append_assoc, inl, inr}
 use Rattle.std.proofs.lemmas.Bool.Decides.{nat_tests}
 use Rattle.sp_base.specs.Bytes.{begins_with_byte}
 use Rattle.htl_text.specs.declared.piece.TemplatePiece.{TemplatePiece}
 use Rattle.htl_text.specs.declared.fault.TextFault.{TextFault}
-use Rattle.htl_text.specs.Template.{template_of, template_at, read_from}
+use Rattle.htl_text.specs.Template.{template_of, read_from}
 use Rattle.htl_blocks.specs.declared.fault.BlockFault.{BlockFault}
-use Rattle.htl_blocks.specs.declared.fault.BlockFault.TheVariants as fault
 use Rattle.htl_blocks.specs.declared.attribute.Attributes.{Attributes}
 use Rattle.htl_blocks.specs.declared.block.Block.{Block}
 use Rattle.htl_blocks.specs.declared.block.Block.TheVariants as block
@@ -14,13 +13,13 @@ use Rattle.htl_blocks.specs.declared.block.Tag.{Tag}
 use Rattle.htl_blocks.specs.ElementText.{ElementText}
 use Rattle.htl_blocks.specs.Markup.{parts, parts_after, begins_tag}
 use Rattle.htl_blocks.specs.Attributes.{is_block_tag, tag_attributes}
-use Rattle.htl_blocks.specs.Reading.{◌then◌, run_of, after_run, text_block, run_blocks, with_blocks, to_element, element_cut, tag_of, known_tag, start_tag, element, blocks_read, content_within, blocks_of}
+use Rattle.htl_blocks.specs.Reading.{◌then◌, run_of, after_run, text_block, run_blocks, to_element, element_cut, tag_of, known_tag, start_tag, element, blocks_read, content_within, blocks_of}
 use Rattle.htl_blocks.specs.Laws.{HasNoBlock, bytes_of}
 use Rattle.htl_blocks.specs.Laws as laws
 use Rattle.htl_blocks.specs.Spelling.{text_of, FirstTag, Element, SpellsText, SpellsBlocks}
 use Rattle.htl_blocks.specs.Spelling as spelling
 use Rattle.htl_blocks.proofs.Turns.{within_is, element_is}
-use Rattle.htl_blocks.proofs.Split.{cut_of, cut_only, cut_says, Cuts, first_tag, run_plain, run_tag, parts_suffix, length_parts, length_text, tag_of_parts, head_part}
+use Rattle.htl_blocks.proofs.Split.{cut_of, cut_only, cut_says, Cuts, first_tag, run_plain, run_tag, parts_suffix, length_parts, length_text, head_part}
 
 -- ---- texts without a block tag
 

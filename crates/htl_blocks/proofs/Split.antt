@@ -1,14 +1,13 @@
 -- A text split at its first block tag, and the element that begins there.
-use Rattle.std.proofs.Common.{◌⊎◌, ◌≡◌, ◌<◌, ◌≤◌, ◌+◌, ◌-◌, ℕ, zero, suc, Bool, true, false, cond, not, ◌&&◌, eqb, List, [], ◌∷◌, ◌++◌, take, drop, length, Option, Some, None, Result, Ok, Err, refl, ap, sym, subst, ◌∙◌, arith, append_assoc, length-append, inl, inr}
-use Rattle.std.specs.List.{flat_map}
+use Rattle.std.proofs.Common.{◌⊎◌, ◌≡◌, ◌<◌, ◌≤◌, ◌+◌, ◌-◌, ℕ, zero, suc, Bool, true, false, cond, eqb, List, [], ◌∷◌, ◌++◌, take, drop, length, Option, Some, None, Result, Ok, Err, refl, ap, sym, subst, ◌∙◌, arith, append_assoc, length-append, inl, inr}
 use Rattle.sp_base.specs.Bytes.{begins_with_byte}
-use Rattle.htl_syntax.specs.Tokens.{begins, is_letter}
+use Rattle.htl_syntax.specs.Tokens.{begins}
 use Rattle.htl_blocks.specs.declared.quoting.Quoting.{Quoting}
 use Rattle.htl_blocks.specs.declared.quoting.Quoting.TheVariants.{Outside}
 use Rattle.htl_blocks.specs.declared.fault.BlockFault.{BlockFault}
 use Rattle.htl_blocks.specs.declared.fault.BlockFault.TheVariants as fault
 use Rattle.htl_blocks.specs.ElementText.{ElementText}
-use Rattle.htl_blocks.specs.Markup.{quoting_step, ends_tag, tag_end, ended_len, tag_len, is_ended, begins_tag, part_len, parts, parts_after, tag_name, has_no_content, closes, inside_len}
+use Rattle.htl_blocks.specs.Markup.{quoting_step, ends_tag, tag_end, ended_len, tag_len, is_ended, begins_tag, part_len, parts, parts_after, tag_name, has_no_content, inside_len}
 use Rattle.htl_blocks.specs.Attributes.{is_block_tag}
 use Rattle.htl_blocks.specs.Reading.{run_len, run_of, after_run, cut_at, cut_after, element_cut}
 use Rattle.htl_blocks.specs.Laws.{HasNoBlock, Balanced, Closes, bytes_of}

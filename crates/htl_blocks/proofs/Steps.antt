@@ -1,5 +1,5 @@
 -- Steps over the parts of a text.
-use Rattle.std.proofs.Common.{◌≡◌, ◌<◌, ◌≤◌, ◌+◌, ◌-◌, ℕ, zero, suc, Bool, true, false, cond, ◌&&◌, eqb, List, [], ◌∷◌, ◌++◌, take, drop, length, Option, Some, None, refl, ap, sym, ◌∙◌, arith}
+use Rattle.std.proofs.Common.{◌≡◌, ◌≤◌, ◌+◌, ◌-◌, ℕ, Bool, true, false, cond, ◌&&◌, eqb, List, [], ◌∷◌, length, Some, None, refl, arith}
 use Rattle.htl_blocks.proofs.Tags.{full}
 use Rattle.htl_blocks.specs.Markup.{parts, parts_after, closes, waiting_after, opens, inside_len}
 use Rattle.htl_blocks.specs.Attributes.{is_block_tag}

@@ -1,9 +1,7 @@
 -- Turns of the loops that read a script and a tag.
-use Rattle.std.proofs.Common.{◌≡◌, ◌<◌, ◌≤◌, ◌+◌, ◌-◌, ℕ, zero, suc, Bool, true, false, cond, eqb, List, [], ◌∷◌, ◌++◌, take, drop, length, Option, Some, None, Result, Ok, Err, refl, ap, sym, ◌∙◌, arith}
-use Rattle.htl_text.specs.Template.{template_of}
+use Rattle.std.proofs.Common.{◌≡◌, ◌<◌, ◌≤◌, ◌+◌, ◌-◌, ℕ, zero, suc, true, false, eqb, List, [], ◌∷◌, ◌++◌, take, drop, length, Option, Some, None, Result, Ok, Err, refl, arith}
 use Rattle.htl_blocks.specs.ElementText.{ElementText}
 use Rattle.htl_blocks.specs.declared.fault.BlockFault.{BlockFault}
-use Rattle.htl_blocks.specs.declared.fault.BlockFault.TheVariants as fault
 use Rattle.htl_blocks.specs.declared.attribute.Attributes.{Attributes}
 use Rattle.htl_blocks.specs.declared.block.Block.{Block}
 use Rattle.htl_blocks.specs.declared.block.Block.TheVariants as block
@@ -11,8 +9,8 @@ use Rattle.htl_blocks.specs.declared.block.Tag.{Tag}
 use Rattle.htl_blocks.specs.declared.quoting.Quoting.TheVariants.{Outside}
 use Rattle.htl_blocks.proofs.Tags.{full}
 use Rattle.htl_blocks.proofs.Runs.{drop_one_more}
-use Rattle.htl_blocks.specs.Attributes.{statement_place, end_trimmed, tag_attributes, attributes_read, to_statement, added, statement_split, with_known, attribute_of, after_attribute}
-use Rattle.htl_blocks.specs.Reading.{◌then◌, run_of, after_run, run_blocks, with_blocks, to_element, blocks_read, element, element_cut, tag_of, known_tag, start_tag, content_within}
+use Rattle.htl_blocks.specs.Attributes.{statement_place, end_trimmed, tag_attributes, attributes_read, statement_split, with_known, attribute_of, after_attribute}
+use Rattle.htl_blocks.specs.Reading.{run_of, after_run, run_blocks, with_blocks, to_element, blocks_read, element, element_cut, tag_of, known_tag, content_within}
 
 -- ---- blocks
 

@@ -1,5 +1,5 @@
 -- The attributes of a tag that are block statements (HTML Template Language specification 1.4, "Block Statements").
-use Rattle.std.specs.Prelude.{ℕ, zero, suc, ◌+◌, Bool, true, false, not, nat_eq, ◌||◌, ◌&&◌, ◌==◌, if◌then◌else◌, List, [], ◌∷◌, ◌++◌, length, take, drop, codes, Option, Some, None, is_none, Result, Ok, Err}
+use Rattle.std.specs.Prelude.{ℕ, zero, suc, ◌+◌, Bool, true, false, not, nat_eq, ◌&&◌, ◌==◌, if◌then◌else◌, List, [], ◌∷◌, ◌++◌, length, take, drop, codes, Option, Some, None, is_none, Result, Ok, Err}
 use Rattle.std.specs.List.{starts_with, list_all}
 use Rattle.std.specs.Cmp.Lexicographic.{pointwise}
 use Rattle.sp_base.specs.Bytes.{begins_with_byte}
@@ -12,9 +12,7 @@ use Rattle.htl_blocks.specs.declared.quoting.Quoting.TheVariants.{Outside, Withi
 use Rattle.htl_blocks.specs.declared.attribute.Attributes.{Attributes}
 use Rattle.htl_blocks.specs.declared.attribute.Attribute.{Attribute}
 use Rattle.htl_blocks.specs.declared.attribute.Attribute.TheVariants as attribute
-use Rattle.htl_blocks.specs.declared.attribute.Body.{Body}
 use Rattle.htl_blocks.specs.declared.attribute.Body.TheVariants as body
-use Rattle.htl_blocks.specs.declared.attribute.Unwrap.{Unwrap}
 use Rattle.htl_blocks.specs.declared.attribute.Unwrap.TheVariants as unwrap
 use Rattle.htl_blocks.specs.declared.statement.Statement.{Statement}
 use Rattle.htl_blocks.specs.declared.statement.Statement.TheVariants as statement

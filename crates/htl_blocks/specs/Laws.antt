@@ -1,6 +1,6 @@
 -- What the reading of blocks says of whole texts.
 use Rattle.std.specs.Prelude.{◌≡◌, ℕ, ◌+◌, true, false, List, [], ◌∷◌, ◌++◌, length}
-use Rattle.htl_blocks.specs.Markup.{parts, opens, closes}
+use Rattle.htl_blocks.specs.Markup.{opens, closes}
 use Rattle.htl_blocks.specs.Attributes.{is_block_tag}
 
 -- none of these parts is a tag with a block statement

@@ -1,5 +1,4 @@
 -- What values that lend stand for. Proofs and private functions alone need this.
-use Rattle.std.specs.Prelude.{ℕ, List}
 use Rattle.htl_blocks.specs.declared.value.LentValue.{LentValue}
 use Rattle.htl_blocks.specs.declared.value.LentValue.TheVariants.{Missing, Unquoted, Quoted}
 use Rattle.htl_blocks.specs.declared.cut.Cut.{Cut}

@@ -1,6 +1,6 @@
 -- A script's blocks as a relation between whole texts and trees, and the faults that stand in a text, beside the reading from left to right
 -- (HTML Template Language specification 1.4, "Block Statements").
-use Rattle.std.specs.Prelude.{◌⊎◌, ◌≡◌, ◌≤◌, ◌<◌, ℕ, zero, suc, ◌+◌, true, false, List, [], ◌∷◌, ◌++◌, length, Option, Some, None, Result, Ok, Err}
+use Rattle.std.specs.Prelude.{◌⊎◌, ◌≡◌, ◌≤◌, ◌<◌, ℕ, zero, suc, ◌+◌, true, false, List, [], ◌∷◌, ◌++◌, length, Some, None, Ok, Err}
 use Rattle.std.specs.List.{flat_map}
 use Rattle.htl_text.specs.declared.piece.TemplatePiece.{TemplatePiece}
 use Rattle.htl_text.specs.declared.fault.TextFault.{TextFault}
@@ -51,12 +51,12 @@ pub data SpellsText : List ℕ → List Block → Type 0 where
 pub data SpellsBlocks : ℕ → List ℕ → List Block → Type 0 where
   no_element : {levels : ℕ} {t : List ℕ} {bs : List Block} → HasNoBlock (parts t) → SpellsText t bs → SpellsBlocks levels t bs
   element : {levels : ℕ} {t kept : List ℕ} {words content more : List Block} {a : Attributes} {start : List TemplatePiece} (x : FirstTag t) (y : Element x.tag x.rest)
-    → SpellsText (text_of x.before) words
-    → tag_attributes x.tag ≡ Some (a, kept)
-    → template_of kept ≡ Ok start
-    → SpellsBlocks levels (text_of y.inner) content
-    → SpellsBlocks (suc levels) (text_of y.after) more
-    → SpellsBlocks (suc levels) t (words ++ block.Element (record { attributes = a; start = start }) content y.end_tag ∷ more)
+      → SpellsText (text_of x.before) words
+      → tag_attributes x.tag ≡ Some (a, kept)
+      → template_of kept ≡ Ok start
+      → SpellsBlocks levels (text_of y.inner) content
+      → SpellsBlocks (suc levels) (text_of y.after) more
+      → SpellsBlocks (suc levels) t (words ++ block.Element (record { attributes = a; start = start }) content y.end_tag ∷ more)
 
 -- ---- faults
 

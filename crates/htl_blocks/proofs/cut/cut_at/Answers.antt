@@ -1,4 +1,4 @@
-use Rattle.std.proofs.Common.{arith, length, ◌<◌}
+use Rattle.std.proofs.Common.{arith}
 use Rattle.std.proofs.lemmas.List.{length-drop}
 use Rattle.htl_blocks.proofs.Parts.{inside_boundary, closing_part}
 use Rattle.htl_blocks.specs.Markup.{tag_name}

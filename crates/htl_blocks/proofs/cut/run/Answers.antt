@@ -1,5 +1,3 @@
-use Rattle.std.proofs.Common.{sym}
-use Rattle.htl_blocks.specs.Reading.{run_of, after_run}
 use Rattle.htl_blocks.proofs.Parts.{run_boundary}
 use Rattle.htl_blocks.proofs.cut.run.Goals as goal
 

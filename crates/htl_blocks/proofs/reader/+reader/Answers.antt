@@ -1,4 +1,4 @@
-use Rattle.std.proofs.Common.{◌≡◌, ◌≢◌, ◌∙◌, ◌+◌, ◌-◌, ◌<◌, suc, length, rules, arith, sym, ap, Err}
+use Rattle.std.proofs.Common.{◌≡◌, ◌≢◌, ◌∙◌, ◌-◌, suc, length, rules, arith, sym, ap, Err}
 use Rattle.htl_blocks.specs.LentValues.{cut_shown}
 use Rattle.htl_blocks.specs.declared.fault.BlockFault.TheVariants.{NoMemory}
 use Rattle.htl_blocks.specs.Reading.{element, content_within, element_within, blocks_within}

@@ -187,7 +187,7 @@ fn add_property<'a>(
     ensures added { IfOk result (λ done. done ≡ true → TakesIn name.now parent.old parent.new (token_of first.entry ∷ reader.old) reader.new) }
 {
     match property(alloc, reader, first)? {
-        Some(value) => parent.put_value(name, value),
+        Some(value) => parent.put_value(alloc, name, value),
         None => Ok(false),
     }
 }

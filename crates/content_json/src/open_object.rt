@@ -43,14 +43,14 @@ impl<'a> OpenObject<'a> {
     }
 
     /// Takes the value of a property in, unless it has the name of a kid.
-    pub(crate) fn put_value(&mut self, name: &'a str, value: Value) -> Mem<bool>
+    pub(crate) fn put_value(&mut self, alloc: Global, name: &'a str, value: Value) -> Mem<bool>
         requires plain { is_content_name name.now ≡ true }
         ensures { IfOk result (λ done. done ≡ true → (d : Data) → data_value d ≡ Some value → Gains self.old self.new name.now d) }
     {
         if self.kids.contains(name) {
             return Ok(false);
         }
-        self.props.put(name, value)?;
+        self.props.put(alloc, name, value)?;
         Ok(true)
     }
 

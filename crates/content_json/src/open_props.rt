@@ -6,60 +6,82 @@ ghost use Rattle.sp_base.specs.Names.{by_name};
 use sp_base::{Mem, PropList, Value};
 use std::alloc::Global;
 use std::collections::BTreeMap;
-use std::marker::Model;
 
-/// Values by their names, each name once. They are put into their order as they come: a name finds its place with few others looked at,
-/// whatever order the names come in.
+/// How many properties are put in their order one by one where their names don't rise.
+const MOST_IN_PLACE: usize = 64;
+
+/// Values by their names, each name once: a list while the names rise or are few, and those that come once they don't in a map.
 #[derive(Drop)]
 pub(crate) struct OpenProps<'a> {
-    values: BTreeMap<&'a str, Value>,
-}
-
-impl<'a> Model for OpenProps<'a> {
-    ghost use Rattle.std.specs.Prelude.{List, ℕ};
-    ghost use Rattle.sp_base.specs.declared.value.Value.{Value as PropValue};
-    ghost use Rattle.content_json.specs.OpenProps.{named_values};
-
-    ghost Value = { List (List ℕ × PropValue) };
-
-    ghost view = { λ l. named_values l.values.entries };
+    list: PropList,
+    late: BTreeMap<&'a str, Value>,
 }
 
 impl<'a> OpenProps<'a> {
-    pub(crate) fn new(alloc: Global) -> OpenProps<'a>
-        ensures { result ≡ [] }
-    {
+    pub(crate) fn new(alloc: Global) -> OpenProps<'a> {
         OpenProps {
-            values: BTreeMap::new(alloc),
+            list: PropList::new(alloc),
+            late: BTreeMap::new(alloc),
         }
     }
 
-    pub(crate) fn contains(&self, name: &str) -> bool
-        ensures { result ≡ is_some (find by_name name.now self.now) }
-    {
-        self.values.contains_key(name)
+    pub(crate) fn contains(&self, name: &str) -> bool {
+        self.list.get(name).is_some() || self.late.contains_key(name)
+    }
+
+    fn is_late(&self, name: &str) -> bool {
+        if !self.late.is_empty() {
+            return true;
+        }
+        let n = self.list.len();
+        if n < MOST_IN_PLACE {
+            return false;
+        }
+        match self.list.at(n - 1) {
+            Some((last, _)) => name < last,
+            None => false,
+        }
     }
 
     /// Sets the value under a name, in place of a former one.
-    pub(crate) fn put(&mut self, name: &'a str, value: Value) -> Mem<()>
-        ensures { OnOk result (self.new ≡ put by_name name.entry.now value self.old) }
-    {
-        self.values.insert(name, value)?;
-        Ok(())
+    pub(crate) fn put(&mut self, alloc: Global, name: &'a str, value: Value) -> Mem<()> {
+        if self.is_late(name) {
+            self.late.insert(name, value)?;
+            return Ok(());
+        }
+        self.list.put(alloc, name, value)
     }
 
     /// The values in the order of their names.
-    pub(crate) fn into_list(self, alloc: Global) -> Mem<PropList>
-        ensures list { IfOk result (λ props. props ≡ self.entry) }
-        ensures sorted { IfOk result (λ props. T (is_sorted by_name props)) }
-    {
-        // `len` says that the names rise.
-        let _ = self.values.len();
+    pub(crate) fn into_list(self, alloc: Global) -> Mem<PropList> {
+        let OpenProps { list, late } = self;
+        if late.is_empty() {
+            return Ok(list);
+        }
         let mut props = PropList::new(alloc);
-        for (name, value) in self.values {
+        let mut place = 0;
+        for (name, value) in late {
+            while place < list.len() {
+                let Some((other, held)) = list.at(place) else {
+                    break;
+                };
+                if name < other {
+                    break;
+                }
+                if other < name {
+                    props.put(alloc, other, held.duplicate(alloc)?)?;
+                }
+                place += 1;
+            }
             props.put(alloc, name, value)?;
         }
-        let _ = props.len();
+        while place < list.len() {
+            let Some((other, held)) = list.at(place) else {
+                break;
+            };
+            props.put(alloc, other, held.duplicate(alloc)?)?;
+            place += 1;
+        }
         Ok(props)
     }
 }

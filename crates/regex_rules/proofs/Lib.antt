@@ -3,6 +3,11 @@ pub mod CuttingLemmas
 pub mod WalkLemmas
 pub mod MarkLemmas
 pub mod MatchLemmas
+pub mod BitLemmas
+pub mod PartLemmas
+pub mod WayLemmas
+pub mod LinkLemmas
+pub mod KeptLemmas
 pub mod OffLemmas
 pub mod LostLemmas
 pub mod FrontLemmas

@@ -58,10 +58,10 @@ arrives_past : (P L : Texts) (rows : Tree) (v : List ℕ) (arrived lacks arrives
     → Says ((arrived && lacks) || arrives) (Reach P (Cut (InRow Last rows) L) v)
 arrives_past P L rows v arrived lacks arrives sh sl sa = says_iff _ (says_or (arrived && lacks) arrives (says_and arrived lacks sh sl) sa) (reach_step P (InRow Last rows) L v)
 
-lacks_past : (L : Texts) (rows : Tree) (lacked lacks : Bool) → Says lacked (InRow Last rows []) → Says lacks (L []) → Says (lacked && lacks) (Cut (InRow Last rows) L [])
+pub lacks_past : (L : Texts) (rows : Tree) (lacked lacks : Bool) → Says lacked (InRow Last rows []) → Says lacks (L []) → Says (lacked && lacks) (Cut (InRow Last rows) L [])
 lacks_past L rows lacked lacks sr sl = says_iff _ (says_and lacked lacks sr sl) (cut_empty (InRow Last rows) L)
 
-says_itself : (b : Bool) → Says b (b ≡ true)
+pub says_itself : (b : Bool) → Says b (b ≡ true)
 says_itself b = (λ e. e, λ e. e)
 
 one_lacks : (one : OneChar) (repeat : Repeat) → Says (may_lack repeat) (Repeated repeat (IsOne one) [])

@@ -60,13 +60,13 @@ whole_walk tree w c enters olds s =
     ∙ ap (λ (o : List Bool). walked c (places_of tree ++ []) o (at (begun enters) [] [])) (sym (append-nil olds))
     ∙ s.walks [] [] [] [] ∙ no_places c [] (at s.level [] s.news)
 
-reaches_whole : (L : Texts) (v : List ℕ) → ((v ≡ []) → ⊥) → Reach Whole L v ↔ L v
+pub reaches_whole : (L : Texts) (v : List ℕ) → ((v ≡ []) → ⊥) → Reach Whole L v ↔ L v
 reaches_whole L v some = (there, λ l. ([], v, refl, l, some, refl))
   where
     there : Reach Whole L v → L v
     there (xs, ys, p, l, more, e) = subst L (sym (e ∙ ap (λ (t : List ℕ). t ++ ys) p)) l
 
-snoc_is_some : (w : List ℕ) (c : ℕ) → (w ++ c ∷ [] ≡ []) → ⊥
+pub snoc_is_some : (w : List ℕ) (c : ℕ) → (w ++ c ∷ [] ≡ []) → ⊥
 snoc_is_some w c e = cons_is_some c [] (ends_empty w (c ∷ []) (sym e)).1
 
 pub begin_matched : (places : List Place) (text : List ℕ) → places_of (tree_of places) ≡ places

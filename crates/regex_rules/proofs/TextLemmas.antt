@@ -211,6 +211,18 @@ cut_whole P w = (λ p. (w, [], p, refl, sym (append-nil w)), back)
     back : Cut P Whole w → P w
     back (xs, ys, p, l, e) = subst P (sym (e ∙ ap (λ (t : List ℕ). xs ++ t) l ∙ append-nil xs)) p
 
+-- a cutting takes more than nothing of the second set, or nothing
+pub cut_parts : (P L : Texts) (w : List ℕ) → ((P w × L []) ⊎ Reach P L w) ↔ Cut P L w
+cut_parts P L w = (there, back)
+  where
+    there : (P w × L []) ⊎ Reach P L w → Cut P L w
+    there (inl (p, l)) = (w, [], p, l, sym (append-nil w))
+    there (inr (xs, ys, p, l, some, e)) = (xs, ys, p, l, e)
+
+    back : Cut P L w → (P w × L []) ⊎ Reach P L w
+    back (xs, [], p, l, e) = inl (subst P (sym (e ∙ append-nil xs)) p, l)
+    back (xs, y ∷ ys, p, l, e) = inr (xs, y ∷ ys, p, l, cons_is_some y ys, e)
+
 pub reach_or : (P L M : Texts) (w : List ℕ) → (Reach P L w ⊎ Reach P M w) ↔ Reach P (λ cs. L cs ⊎ M cs) w
 reach_or P L M w = (there, back)
   where

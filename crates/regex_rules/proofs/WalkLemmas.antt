@@ -19,12 +19,12 @@ unfolding walked
 no_marks c [] walk = refl
 no_marks c (place ∷ places) walk = refl
 
-drop_past : {A : Type 0} (xs : List A) (i : ℕ) → length xs ≤ i → drop i xs ≡ []
+pub drop_past : {A : Type 0} (xs : List A) (i : ℕ) → length xs ≤ i → drop i xs ≡ []
 drop_past [] i le = drop-nil i
 drop_past (x ∷ xs) zero le = absurd (omega arith)
 drop_past (x ∷ xs) (suc i) le = drop_past xs i (omega arith)
 
-item_at : {A : Type 0} (xs : List A) (i : ℕ) (x other : A) → i < length xs → x ≡ get_or xs i other → drop i xs ≡ x ∷ drop (i + 1) xs
+pub item_at : {A : Type 0} (xs : List A) (i : ℕ) (x other : A) → i < length xs → x ≡ get_or xs i other → drop i xs ≡ x ∷ drop (i + 1) xs
 item_at xs i x other lt e =
     rw (add-one)
     (drop-cons xs i other lt ∙ ap (λ y. y ∷ drop (suc i) xs) (sym e))

@@ -6,4 +6,6 @@ pub mod Deciding
 pub mod Fronts
 pub mod Off
 pub mod Walks
+pub mod Positions
+pub mod Linkings
 pub mod Reading

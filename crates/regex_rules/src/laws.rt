@@ -1,11 +1,12 @@
 //! What the grammar of patterns says: laws of the definitions, on functions that do nothing.
-ghost use Rattle.std.specs.Prelude.{◌≡◌, ◌↔◌, ◌⊎◌, ℕ, IsTrue, List, Ok, Err, Some};
+ghost use Rattle.std.specs.Prelude.{◌≡◌, ◌≤◌, ◌↔◌, ◌⊎◌, ℕ, IsTrue, List, Ok, Err, Some};
 ghost use Rattle.std.specs.Str.{chars};
 ghost use Rattle.regex_rules.specs.Trees.{Tree, tree_of, places_of};
 ghost use Rattle.regex_rules.specs.Deciding.{pattern_tree};
 ghost use Rattle.regex_rules.specs.Spelling.{IsPattern};
 ghost use Rattle.regex_rules.specs.Faults.{IsFault};
 ghost use Rattle.regex_rules.specs.Languages.{InLanguage, in_language};
+ghost use Rattle.regex_rules.specs.Positions.{IsWay, count};
 ghost use Rattle.regex_rules.specs.Reading.{pattern_of};
 ghost use Rattle.regex_rules.specs.declared.fault.PatternFault.{PatternFault};
 ghost use Rattle.regex_rules.specs.declared.place.Place.{Place};
@@ -32,4 +33,9 @@ pub fn the_reading_is_the_grammar()
 /// The test that tries every cutting of a text says whether the text is in the language.
 pub fn the_test_is_the_language()
     ensures { (tree : Tree) (cs : List ℕ) → IsTrue (in_language tree cs) ↔ InLanguage tree cs }
+{}
+
+/// A text is in the language exactly where it has a way through the characters of the pattern, of which there are at most 64.
+pub fn the_ways_are_the_language()
+    ensures { (tree : Tree) (cs : List ℕ) → count tree ≤ 64 → IsWay tree cs ↔ InLanguage tree cs }
 {}

@@ -1,15 +1,17 @@
 //! A pattern, and which texts it matches.
-ghost use Rattle.std.specs.Prelude.{◌≡◌, ◌≢◌, ◌↔◌, IsTrue, IfOk, IfErr, Ok, Err};
+ghost use Rattle.std.specs.Prelude.{◌≡◌, ◌≢◌, ◌↔◌, IsTrue, IfOk, IfErr, IfSome, Ok, Err};
 ghost use Rattle.std.specs.Str.{chars};
-ghost use Rattle.regex_rules.specs.Trees.{Tree, tree_of};
+ghost use Rattle.regex_rules.specs.Trees.{Tree, tree_of, places_of};
 ghost use Rattle.regex_rules.specs.Fronts.{IsLastFront};
 ghost use Rattle.regex_rules.specs.Languages.{InLanguage, in_language};
 ghost use Rattle.regex_rules.specs.Spelling.{IsPattern};
 ghost use Rattle.regex_rules.specs.Faults.{IsFault};
+ghost use Rattle.regex_rules.specs.Linkings.{IsTable};
 ghost use Rattle.regex_rules.specs.Reading.{pattern_of};
 
 use crate::fronts::last_front;
 use crate::matching::is_match;
+use crate::positions::Positions;
 use crate::read::read_places;
 use crate::{PatternFault, Place};
 use sp_base::Mem;
@@ -20,18 +22,38 @@ use std::marker::Model;
 #[derive(Drop)]
 pub struct Pattern {
     pub(crate) places: Vec<Place>,
+    // Where the pattern has at most 64 characters.
+    positions: Option<Positions>,
 }
 
 impl Model for Pattern {
-    ghost use Rattle.std.specs.Prelude.{◌≡◌, List};
+    ghost use Rattle.std.specs.Prelude.{◌≡◌, List, IfSome};
     ghost use Rattle.regex_rules.specs.Trees.{tree_of, places_of};
+    ghost use Rattle.regex_rules.specs.Linkings.{IsTable};
     ghost use Rattle.regex_rules.specs.declared.place.Place.{Place};
 
     ghost Value = { List Place };
 
     ghost view = { λ p. p.places.items };
 
-    ghost invariant = { λ p. places_of (tree_of p.places.items) ≡ p.places.items };
+    ghost invariant = { λ p. (places_of (tree_of p.places.items) ≡ p.places.items) × IfSome p.positions (IsTable p.places.items) };
+}
+
+// Whether a text is in the language of the pattern with these places, by its sets of characters where it has them.
+fn is_matched(
+    alloc: Global,
+    places: &[Place],
+    positions: &Option<Positions>,
+    text: &str,
+) -> Mem<bool>
+    requires places { places_of (tree_of places.now) ≡ places.now }
+    requires table { IfSome positions.now (IsTable places.now) }
+    ensures { IfOk result (λ answer. IsTrue answer ↔ InLanguage (tree_of places.now) (chars text.now)) }
+{
+    match positions {
+        Some(positions) => Ok(positions.is_match(places, text)),
+        None => is_match(alloc, places, text),
+    }
 }
 
 impl Pattern {
@@ -47,18 +69,22 @@ impl Pattern {
         ensures none { IfErr result (λ e. e ≢ PatternFault.NoMemory → (tree : Tree) → IsPattern (chars text.now) tree → ⊥) }
     {
         match read_places(alloc, text) {
-            Ok(places) => Ok(Pattern { places }),
+            Ok(places) => {
+                let positions = Positions::of(alloc, places.as_slice())?;
+                Ok(Pattern { places, positions })
+            }
             Err(fault) => Err(fault),
         }
     }
 
     /// Whether the whole text is in the pattern's language. The time that it takes is the number of the text's characters times that
-    /// of the pattern's at most. Memory is taken for two sets of the pattern's places, and for its open brackets.
+    /// of the pattern's at most. Of a pattern with at most 64 characters no memory is taken; of a longer one that for two sets of its places,
+    /// and for its open brackets.
     pub fn matches(&self, alloc: Global, text: &str) -> Mem<bool>
         ensures value { IfOk result (λ answer. answer ≡ in_language (tree_of self.now) (chars text.now)) }
         ensures relation { IfOk result (λ answer. IsTrue answer ↔ InLanguage (tree_of self.now) (chars text.now)) }
     {
-        is_match(alloc, self.places.as_slice(), text)
+        is_matched(alloc, self.places.as_slice(), &self.positions, text)
     }
 
     /// How far the longest beginning of the text goes that is in the pattern's language, of those that end at a place or after it,

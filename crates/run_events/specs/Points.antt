@@ -1,4 +1,4 @@
--- Where a request gets its answer, before a cache before a publisher (Adobe Dispatcher manual, "How Dispatcher Works").
+-- Where a request gets its answer: from the cache, or from the publisher behind it.
 use Rattle.std.specs.Prelude.{◌≡◌, ◌+◌, ◌^◌, ◌||◌, ◌⊎◌, ℕ, Bool, true, false, nat_le, List, [], ◌∷◌, Option, Some, None, Result, Ok, Err, IsTrue, length}
 use Rattle.sp_base.specs.declared.answer.Answer.{Answer}
 use Rattle.sp_base.specs.Requests.{Request}

@@ -5,11 +5,19 @@ ghost use Rattle.sp_outside.specs.FileNames as spec;
 /// The ending of a file that is written beside another, which it then replaces.
 pub(crate) const BESIDE: &str = "%t";
 
+/// The ending of the files that a folder keeps for itself. Since no name of a file ends as those beside do, no file beside another ends so.
+const OWN: &str = "%t%t";
+
 /// Whether a name is that of a file beside another.
 pub(crate) fn is_beside(name: &str) -> bool
     ensures { result ≡ spec.is_beside name.now }
 {
     name.ends_with(BESIDE)
+}
+
+/// Whether a name is that of a file which the folder keeps for itself.
+pub(crate) fn is_own(name: &str) -> bool {
+    name.ends_with(OWN)
 }
 
 fn is_inner(piece: &str) -> bool

@@ -1,5 +1,5 @@
 //! The walk over a folder and all folders below it.
-use crate::file_name::is_beside;
+use crate::file_name::{is_beside, is_own};
 use crate::name_index::{NameIndex, Standing};
 use crate::{DiskFault, LONGEST_FILE_NAME};
 use sp_base::Mem;
@@ -18,6 +18,8 @@ pub(crate) fn is_file<R: Files>(rt: &R, path: &str) -> Result<bool, DiskFault> {
 
 /// The names of all files below a folder. A link is no file and no folder here, and a name that isn't UTF-8 is passed over. So is a folder
 /// below it that may not be read, as the `lost+found` of a file system.
+///
+/// Files beside others are taken away, where that may be done: nobody writes the folder now, so that a process left them that was killed.
 pub(crate) fn names_below<R: Files + AllocGlobal + Clone + Drop>(
     rt: &R,
     folder: &str,
@@ -27,7 +29,7 @@ pub(crate) fn names_below<R: Files + AllocGlobal + Clone + Drop>(
     let prefix = prefix_bytes(folder);
     let mut folders = Vec::new(alloc);
     let entries = fs::read_dir(rt, folder)?;
-    take_entries(alloc, entries, prefix, &mut folders, &mut names)?;
+    take_entries(rt, entries, prefix, &mut folders, &mut names)?;
     for _ in 0..u64::MAX {
         let Some(next) = folders.pop() else {
             return Ok(names);
@@ -46,21 +48,21 @@ fn take_folder<R: Files + AllocGlobal + Clone + Drop>(
     names: &mut NameIndex,
 ) -> Result<(), DiskFault> {
     match fs::read_dir(rt, folder) {
-        Ok(entries) => take_entries(rt.alloc(), entries, prefix, folders, names),
+        Ok(entries) => take_entries(rt, entries, prefix, folders, names),
         Err(fault) if fault.kind() == ErrorKind::PermissionDenied => Ok(()),
         Err(fault) => Err(DiskFault::from(fault)),
     }
 }
 
 fn take_entries<R: Files + AllocGlobal + Clone + Drop>(
-    alloc: Global,
+    rt: &R,
     entries: ReadDir<R>,
     prefix: usize,
     folders: &mut Vec<String>,
     names: &mut NameIndex,
 ) -> Result<(), DiskFault> {
     for entry in entries {
-        take_entry(alloc, entry, prefix, folders, names)?;
+        take_entry(rt, entry, prefix, folders, names)?;
     }
     Ok(())
 }
@@ -80,7 +82,7 @@ fn push_path(alloc: Global, paths: &mut Vec<String>, path: &str) -> Mem<()> {
 }
 
 fn take_entry<R: Files + AllocGlobal + Clone + Drop>(
-    alloc: Global,
+    rt: &R,
     entry: io::Result<DirEntry<R>>,
     prefix: usize,
     folders: &mut Vec<String>,
@@ -99,13 +101,29 @@ fn take_entry<R: Files + AllocGlobal + Clone + Drop>(
     };
     let path = entry.path().as_str();
     if found.is_dir() {
-        push_path(alloc, folders, path)?;
-    } else if found.is_file() && !is_beside(path) {
-        let name = path.get(prefix..).unwrap_or("");
-        if name.len() > LONGEST_FILE_NAME {
-            return Err(DiskFault::Failed);
-        }
-        names.add(alloc, name, Standing::Held)?;
+        push_path(rt.alloc(), folders, path)?;
+    } else if found.is_file() {
+        take_file(rt, path, prefix, names)?;
     }
     Ok(())
+}
+
+fn take_file<R: Files + AllocGlobal>(
+    rt: &R,
+    path: &str,
+    prefix: usize,
+    names: &mut NameIndex,
+) -> Result<(), DiskFault> {
+    if is_beside(path) {
+        if !is_own(path) {
+            // One that stays is no file of the docroot either, and goes when its file is written next.
+            let _ = fs::remove_file(rt, path);
+        }
+        return Ok(());
+    }
+    let name = path.get(prefix..).unwrap_or("");
+    if name.len() > LONGEST_FILE_NAME {
+        return Err(DiskFault::Failed);
+    }
+    Ok(names.add(rt.alloc(), name, Standing::Held)?)
 }

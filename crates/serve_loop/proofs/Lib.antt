@@ -9,3 +9,4 @@ pub mod TurnLemmas
 pub mod HappeningLemmas
 pub mod PartLemmas
 pub mod LeavingLemmas
+pub mod TotalLemmas

@@ -3,3 +3,4 @@ pub mod Served
 pub mod Hands
 pub mod Steps
 pub mod TurnParts
+pub mod Totals

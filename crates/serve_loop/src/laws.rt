@@ -9,6 +9,7 @@ ghost use Rattle.run_events.specs.States.{RunState, Start, start_of};
 ghost use Rattle.run_events.specs.Events.{state_after_events};
 ghost use Rattle.run_laws.specs.Logs.{IsBeginning};
 ghost use Rattle.serve_loop.specs.Served.{DiskReport, IsServed, LeavesLegalLog, WorldReport};
+ghost use Rattle.serve_loop.specs.Totals.{FailuresAreCounted};
 ghost use Rattle.serve_loop.specs.TurnParts.{ConnectionsGoForACause, TurnsHaveOneSlice, TurnsLandAll};
 ghost use Rattle.serve_loop.specs.Turns.{ServedTurn, happenings_of, turn_entries, turn_events, with_cut};
 ghost use Rattle.serve_loop.specs.declared.serving.ServeEnd.{ServeEnd};
@@ -64,4 +65,10 @@ pub fn turns_end_with_one_slice()
 /// A connection goes in a turn only where that came, or where a sending on it failed just before.
 pub fn connections_go_for_a_cause()
     ensures { ConnectionsGoForACause }
+{}
+
+/// A session says `hurt` in at most as many events as its disk's count of faults rose by, and they spoil at most as many requests and flushes
+/// in all, unless that count ends at the end of its type.
+pub fn failures_are_counted()
+    ensures { FailuresAreCounted }
 {}

@@ -10,7 +10,8 @@ mod turn;
 
 pub use handing::HandedOn;
 pub use laws::{
-    connections_go_for_a_cause, each_happening_has_a_turn, served_sessions_leave_legal_logs,
-    sessions_begin_in_legal_logs, turns_end_with_one_slice, turns_land_all,
+    connections_go_for_a_cause, each_happening_has_a_turn, failures_are_counted,
+    served_sessions_leave_legal_logs, sessions_begin_in_legal_logs, turns_end_with_one_slice,
+    turns_land_all,
 };
 pub use serving::{ServeEnd, serve};

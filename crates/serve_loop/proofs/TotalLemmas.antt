@@ -1,5 +1,6 @@
 -- The sum of what a failing disk costs the events of a session.
 use Rattle.std.proofs.Common.{◌≡◌, ◌+◌, ◌-◌, ◌<◌, ◌≤◌, ◌∙◌, ℕ, Bool, true, false, List, [], ◌∷◌, refl, sym, subst, arith, cond}
+use Rattle.std.proofs.lemmas.List.Sums.{sum_by-append}
 use Rattle.sp_base.specs.Limits.{greatest_u64}
 use Rattle.sp_outside.specs.Causes.{IsDiskFailure, Rose}
 use Rattle.run_events.specs.Causes.{SpoilAtMost}
@@ -31,7 +32,9 @@ costs before after w (e ∷ events) (middle, cause, more) few =
     let rest : Costs middle after (after_event w e) events = costs middle after (after_event w e) events more few in
     let here : middle < greatest_u64 = still_few middle after rest.rises few in
     let one : before + cond e.conditions.disk_failed 1 0 ≤ middle = counts_one before middle e.conditions.disk_failed cause.disk here in
-    record { rises = omega (arith, one, rest.rises); failed = omega (arith, one, rest.rises, rest.failed);
+    let single : count_failed (e ∷ []) ≡ 0 + cond e.conditions.disk_failed 1 0 = refl in
+    let counted : count_failed (e ∷ events) ≡ count_failed (e ∷ []) + count_failed events = sum_by-append (λ (x : Event). cond x.conditions.disk_failed 1 0) (e ∷ []) events in
+    record { rises = omega (arith, one, rest.rises); failed = omega (arith, counted, single, one, rest.rises, rest.failed);
         spoilt = (middle - before, after - middle, omega (arith, one, rest.rises), cause.spoils here, rest.spoilt) }
 
 -- the last event's count is at most that of the session's end

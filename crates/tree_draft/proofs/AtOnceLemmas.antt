@@ -1,5 +1,5 @@
 -- A changed content by look-ups, whichever the change is.
-use Rattle.std.proofs.Common.{◌≡◌, ◌∙◌, ap, sym, ℕ, List, [], Option, None, Some, refl}
+use Rattle.std.proofs.Common.{◌≡◌, ap, sym, ℕ, List, [], Option, None, Some, refl}
 use Rattle.std.specs.Prelude.{is_some}
 use Rattle.std.proofs.lemmas.Bool.{false≢true}
 use Rattle.resource_tree.specs.declared.faults.TreeFault.{TreeFault}

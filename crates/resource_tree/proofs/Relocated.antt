@@ -1,5 +1,5 @@
 -- The content with a part of it at another path: by look-ups, and good.
-use Rattle.std.proofs.Common.{◌≡◌, ◌≢◌, ◌+◌, ◌||◌, ◌==◌, ℕ, Bool, true, false, cond, not, List, [], length, refl, sym, ◌∙◌, ap, subst, Some, None, Option, ⊎_elim, ◌⊎◌, arith}
+use Rattle.std.proofs.Common.{◌≡◌, ◌≢◌, ◌+◌, ◌||◌, ◌==◌, ℕ, Bool, true, false, cond, not, List, [], length, refl, sym, ◌∙◌, ap, subst, Some, None, Option, ⊎_elim, arith}
 use Rattle.std.specs.Prelude.{is_some, is_none, IsSome, IsTrue, option_map, unwrap_or, filter}
 use Rattle.std.specs.Option.{option_map_or}
 use Rattle.std.specs.List.Sorted.{IsStrictlySortedBy}

@@ -6,6 +6,7 @@ use sp_base::{Mem, Path, PropList, TextBuf, TextList, Value};
 use std::alloc::Global;
 use std::hash::RandomState;
 use std::io;
+use tree_draft::at_once;
 use type_chain::{TypeList, chain};
 use url_split::Parts;
 
@@ -22,7 +23,7 @@ const NODES: [&str; 7] = [
 
 fn create(alloc: Global, tree: &mut Tree, path: &str) -> bool {
     match Path::read(alloc, path) {
-        Ok(path) => tree.create(alloc, &path).is_ok(),
+        Ok(path) => at_once::create(alloc, tree, &path).is_ok(),
         Err(_) => false,
     }
 }
@@ -39,7 +40,7 @@ fn create_all(alloc: Global, tree: &mut Tree) -> bool {
 fn put_script(alloc: Global, tree: &mut Tree) -> bool {
     let text = Value::Text(TextBuf::from(String::new(alloc)));
     match Path::read(alloc, "/apps/t/html.html/jcr:content") {
-        Ok(path) => tree.set(alloc, &path, "jcr:data", text).is_ok(),
+        Ok(path) => at_once::set(alloc, tree, &path, "jcr:data", text).is_ok(),
         Err(_) => false,
     }
 }

@@ -1,27 +1,23 @@
 -- The content with a copy in it: by look-ups, and good.
-use Rattle.std.proofs.Common.{◌≡◌, ◌≢◌, ◌+◌, ◌≤◌, ◌<◌, ◌||◌, ◌==◌, ℕ, Bool, true, false, cond, not, List, [], ◌∷◌, ◌++◌, length, refl, sym, ◌∙◌, ap, subst, Some, None, Option, ⊎_elim, arith}
+use Rattle.std.proofs.Common.{◌≡◌, ◌≢◌, ◌+◌, ◌≤◌, ◌||◌, ◌==◌, ℕ, true, false, cond, not, List, [], length, refl, sym, ◌∙◌, ap, subst, Some, None, Option, ⊎_elim, arith}
 use Rattle.std.specs.Prelude.{is_some, is_none, IsSome, IsTrue, option_map, unwrap_or, nat_lt}
 use Rattle.std.specs.Option.{option_map_or}
-use Rattle.std.specs.Ordering.{eq_by_cmp}
-use Rattle.std.specs.List.{IsDistinct}
 use Rattle.std.specs.List.Sorted.{IsStrictlySortedBy}
 use Rattle.std.specs.Map.{keys_of, set_value}
-use Rattle.std.proofs.lemmas.Bool.{cases_Bool, false≢true, true≢false, false_from_ne_true, leb-true, leb-false, le-leb}
+use Rattle.std.proofs.lemmas.Bool.{cases_Bool, false≢true, true≢false, false_from_ne_true, leb-true, le-leb}
 use Rattle.std.proofs.lemmas.List.{length-map}
 use Rattle.std.proofs.lemmas.Map.{keys-set_value}
-use Rattle.sp_base.specs.PathExact.{exact_paths}
 use Rattle.sp_base.specs.Paths.{is_path, is_under}
 use Rattle.resource_tree.specs.declared.nodes.Node.{Node}
 use Rattle.resource_tree.specs.declared.faults.TreeFault.TheVariants.{TooDeep, FullTree}
 use Rattle.resource_tree.specs.declared.patch.PatchNode.TheVariants as patch_node
 use Rattle.resource_tree.specs.Content.{Content, IsGood, by_path, same_path, node_at, kid, prop_at, parent_of, name_of, empty_node}
-use Rattle.resource_tree.specs.Changes.{change_at, with_kid, with_kids, kids_at, has_prop_at}
-use Rattle.resource_tree.specs.Patches.{PatchEntries, entry_at, patching, left_by}
+use Rattle.resource_tree.specs.Changes.{change_at, with_kid, has_prop_at}
+use Rattle.resource_tree.specs.Patches.{left_by}
 use Rattle.resource_tree.specs.Moves.{path_there, part, part_there, copy, copy_at, is_too_deep, target_fault, part_size_fault, first_fault, copy_fault}
-use Rattle.resource_tree.proofs.PathLemmas.{by_path_total, kid_parts, path_from_same, same_path_self, same_path_apart}
+use Rattle.resource_tree.proofs.PathLemmas.{kid_parts, same_path_self, same_path_apart}
 use Rattle.resource_tree.proofs.NodeLookups.{node_at-change_at, length-change_at}
-use Rattle.resource_tree.proofs.EntriesInOrder.{same_in_order}
-use Rattle.resource_tree.proofs.Patching.{node_at-patching, sorted-patching}
+use Rattle.resource_tree.proofs.Patching.{node_at-patching}
 use Rattle.resource_tree.proofs.Creation.{no_fault, not_none, none_from, some_from, IsGood-from}
 use Rattle.resource_tree.proofs.Under.{under_own_kid}
 use Rattle.resource_tree.proofs.PartLemmas.{under_split, prefix}
@@ -70,18 +66,6 @@ pub part_too_many : (tree : Content) (source target : List (List ℕ)) → is_to
 part_too_many tree source target fits large =
     ap (λ b. cond b (Some TooDeep) (cond (nat_lt 200000 (length tree + length (part tree source))) (Some FullTree) None)) fits ∙ ap (λ b. cond b (Some FullTree) None) (more _ large)
 
--- what is known of a part that fits
-pub record Fits (tree : Content) (source target : List (List ℕ)) : Type 0 where
-  pub shallow : is_too_deep tree source target ≡ false
-  pub small : length tree + length (part tree source) ≤ 200000
-
-pub fits_from : (tree : Content) (source target : List (List ℕ)) → part_size_fault tree source target ≡ None → Fits tree source target
-fits_from tree source target e =
-    let first = no_fault (is_too_deep tree source target) _ _ e in
-    let second = no_fault (nat_lt 200000 (length tree + length (part tree source))) _ _ first.1 in
-    let below : length tree + length (part tree source) < 200001 = leb-false 200001 (length tree + length (part tree source)) second.0 in
-    record { shallow = first.0; small = omega (arith, below) }
-
 pub copy_fault_is : (tree : Content) (source target : List (List ℕ)) → target_fault tree source target ≡ None → copy_fault tree source target ≡ part_size_fault tree source target
 copy_fault_is tree source target free = ap (λ f. first_fault f (part_size_fault tree source target)) free
 
@@ -104,18 +88,6 @@ sorted-change_at tree path change sorted =
 pub left_none : (o : Option Node) → left_by (option_map patch_node.Node o) None ≡ o
 left_none None = refl
 left_none (Some n) = refl
-
-at_parent : (u s : Bool) (a o : Option Node) (n : Node) (f g : Node → Node) → u ≡ false → s ≡ true → o ≡ Some n → f n ≡ g n
-    → cond s (option_map f (left_by (cond u (option_map patch_node.Node a) None) o)) (left_by (cond u (option_map patch_node.Node a) None) o) ≡ cond u a (cond s (option_map g o) o)
-at_parent true s a o n f g eu es was e = absurd (true≢false eu)
-at_parent false false a o n f g eu es was e = absurd (false≢true es)
-at_parent false true a o n f g eu es was e = ap (option_map f) was ∙ ap (λ (x : Node). Some x) e ∙ sym (ap (option_map g) was)
-
-elsewhere : (u s : Bool) (a o : Option Node) (f g : Node → Node) → u ≡ false → s ≡ false
-    → cond s (option_map f (left_by (cond u (option_map patch_node.Node a) None) o)) (left_by (cond u (option_map patch_node.Node a) None) o) ≡ cond u a (cond s (option_map g o) o)
-elsewhere true s a o f g eu es = absurd (true≢false eu)
-elsewhere false true a o f g eu es = absurd (true≢false es)
-elsewhere false false a o f g eu es = refl
 
 module _ (tree : Content) (source target : List (List ℕ)) (good : IsGood tree) (can : IsFree tree source target) where
   pub parts : kid (parent_of target) (name_of target) ≡ target
@@ -148,34 +120,6 @@ module _ (tree : Content) (source target : List (List ℕ)) (good : IsGood tree)
       (λ under. let apart = parent_apart q under in let free = free_below q under in rw (under, apart, free) (left_none (node_at tree (path_there target source q))))
       (λ beside. rw beside)
       (cases_Bool (is_under q target))
-
-  module _ (entries : PatchEntries) (once : IsDistinct (eq_by_cmp by_path) (keys_of entries)) (alike : (q : List (List ℕ)) → entry_at entries q ≡ entry_at (part_there tree source target) q) (kids : List (List ℕ)) (name : List ℕ) (kids_are : kids ≡ kids_at tree (parent_of target) ++ name ∷ []) (last : name ≡ name_of target) where
-    kid_named : with_kids kids above ≡ with_kid (name_of target) above
-    kid_named =
-        let segment : name_of target ≡ name = sym last in
-        let its : kids_at tree (parent_of target) ≡ above.kids = ap (λ o. option_map_or (λ (n : Node). n.kids) o []) above_is in
-        ap (λ ks. with_kids ks above) (kids_are ∙ ap (λ ks. ks ++ name ∷ []) its ∙ ap (λ (s : List ℕ). above.kids ++ s ∷ []) (sym segment))
-
-    new_at : (q : List (List ℕ)) → node_at (change_at (patching tree entries) (parent_of target) (with_kids kids)) q ≡ copy_at tree source target q
-    new_at q =
-        let patched : node_at (patching tree entries) q ≡ left_by (cond (is_under q target) (option_map patch_node.Node (node_at tree (path_there target source q))) None) (node_at tree q) =
-        node_at-patching tree entries q good.ordered once ∙ ap (λ r. left_by r (node_at tree q)) (alike q ∙ entry_at-part_there source target q tree) in
-        node_at-change_at (patching tree entries) (parent_of target) (with_kids kids) q
-        ∙ ap (λ o. cond (same_path (parent_of target) q) (option_map (with_kids kids) o) o) patched
-        ∙ ⊎_elim
-        (λ under. let apart = parent_apart q under in let free = free_below q under in rw (under, apart, free) (left_none (node_at tree (path_there target source q))))
-        (λ beside. ⊎_elim
-        (λ same. let was : node_at tree q ≡ Some above = ap (node_at tree) (sym (path_from_same (parent_of target) q same)) ∙ above_is in at_parent (is_under q target) (same_path (parent_of target) q) (node_at tree (path_there target source q)) (node_at tree q) above (with_kids kids) (with_kid (name_of target)) beside same was kid_named)
-        (λ other. elsewhere (is_under q target) (same_path (parent_of target) q) (node_at tree (path_there target source q)) (node_at tree q) (with_kids kids) (with_kid (name_of target)) beside other)
-        (cases_Bool (same_path (parent_of target) q)))
-        (cases_Bool (is_under q target))
-
-    -- the content as the code makes it
-    pub copy_is : (new : Content) → new ≡ change_at (patching tree entries) (parent_of target) (with_kids kids) → IsStrictlySortedBy by_path (keys_of new) → new ≡ copy tree source target
-    copy_is new is sorted =
-        same_in_order by_path by_path_total exact_paths new (copy tree source target) sorted
-        (sorted-patching named (part_there tree source target) (sorted-change_at tree (parent_of target) (with_kid (name_of target)) good.ordered))
-        (λ q. ap (λ (t : Content). node_at t q) is ∙ new_at q ∙ sym (node_at-copy q))
 
   module _ (fits : is_too_deep tree source target ≡ false) where
     pub is_a_path : (q : List (List ℕ)) → is_under q target ≡ true → IsSome (node_at tree (path_there target source q)) → IsTrue (is_path q)

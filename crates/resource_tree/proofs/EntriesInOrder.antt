@@ -1,6 +1,6 @@
 -- What entries in order have in common with the entries as they lie.
 use Rattle.std.proofs.Common.{◌≡◌, Bool, true, false, cond, T, List, [], ◌∷◌, ◌++◌, ◌&&◌, refl, sym, ◌∙◌, ap, subst, length, ◌+◌, arith, Some, None}
-use Rattle.std.specs.Prelude.{Option, is_some, IsSome, Result, Ok, Err, IsOk, OnOk}
+use Rattle.std.specs.Prelude.{Option, is_some, Result, Ok, Err, IsOk, OnOk}
 use Rattle.std.specs.declared.cmp.Ordering.{Ordering}
 use Rattle.std.specs.declared.cmp.Ordering.TheVariants.{Less, Equal, Greater}
 use Rattle.std.specs.Ordering.{match_ordering, is_lt, is_eq, eq_by_cmp}
@@ -8,10 +8,10 @@ use Rattle.std.specs.BTreeMap.{insert_entry, is_at}
 use Rattle.std.specs.Cmp.{IsTotalOrder, eq_by_cmp_equiv}
 use Rattle.std.specs.List.{AllByRecursion, IsDistinct}
 use Rattle.std.specs.List.Sorted.{IsStrictlySortedBy}
-use Rattle.std.specs.Map.{keys_of, lookup, remove_entry, set_value}
+use Rattle.std.specs.Map.{keys_of, lookup, remove_entry}
 use Rattle.std.specs.FinMap.Entries.{by_order, put, find, below_all, is_sorted, is_sorted-put, find-put, same_entries, length-put}
 use Rattle.std.proofs.lemmas.Bool.{cond_both, true≢false}
-use Rattle.std.proofs.lemmas.Map.{lookup-remove_entry, lookup-set_value, keys-set_value, lookup-none}
+use Rattle.std.proofs.lemmas.Map.{lookup-remove_entry, lookup-none}
 use Rattle.std.proofs.lemmas.Map.Keys.{sorted_head, sorted_tail, IsDistinct-from_sorted, IsDistinct-head, IsDistinct-tail}
 use Rattle.std.proofs.lemmas.Map.Entries.{none_past_head}
 use Rattle.std.proofs.lemmas.Map.Lookups.{CmpEqualImpliesEq}
@@ -75,14 +75,6 @@ module _ {K X : Type 0} (R : K → K → Ordering) where
   sorted-remove_entry test [] s = tt
   sorted-remove_entry test (e ∷ es) s = cond_both (test e.0) es (e ∷ remove_entry test es) (λ l. IsStrictlySortedBy R (keys_of l)) (λ _. s.1) (λ _. (all_without (λ y. R e.0 y ≡ Less) test es s.0, sorted-remove_entry test es s.1))
 
-  pub set_value_none : (test : K → Bool) (es : List (K × X)) (w : X) → lookup test es ≡ None → set_value test es w ≡ es
-  set_value_none test [] w h = refl
-  set_value_none test (e ∷ es) w h =
-      elim (test e.0) as (λ b. cond b (Some e.1) (lookup test es) ≡ None → cond b ((e.0, w) ∷ es) (e ∷ set_value test es w) ≡ e ∷ es) [
-        | true ↦ λ there. absurd (true≢false (ap is_some there))
-        | false ↦ λ gone. ap (λ l. e ∷ l) (set_value_none test es w gone)
-      ] h
-
   module _ (o : IsTotalOrder R) where
     pub lookup-insert_entry : (q k : K) (v : X) (es : List (K × X)) → lookup (is_at (R q)) (insert_entry R es k v) ≡ cond (is_at (R q) k) (Some v) (lookup (is_at (R q)) es)
     lookup-insert_entry q k v es =
@@ -129,23 +121,6 @@ module _ {K X : Type 0} (R : K → K → Ordering) where
           let sorted = sorted-in_order es in
           in_order_is fs (remove_entry (is_at (R k)) (in_order R es)) (sorted-remove_entry (is_at (R k)) (in_order R es) sorted) (λ q.
           h q ∙ ap (cond (is_at (R k) q) None) (sym (lookup-in_order q es)) ∙ sym (lookup-remove_entry laws (is_at (R k)) (laws.congr k) q (in_order R es) (IsDistinct-from_sorted R _ sorted)))
-
-      set_there : (es : List (K × X)) (k : K) (v : X) → IsSome (lookup (is_at (R k)) es) → in_order R (set_value (is_at (R k)) es v) ≡ set_value (is_at (R k)) (in_order R es) v
-      set_there es k v there =
-          let laws = eq_by_cmp_equiv o in
-          let same = lookup-in_order k es in
-          in_order_is (set_value (is_at (R k)) es v) (set_value (is_at (R k)) (in_order R es) v)
-          (subst (IsStrictlySortedBy R) (sym (keys-set_value (is_at (R k)) (in_order R es) v)) (sorted-in_order es))
-          (λ q. lookup-set_value laws (is_at (R k)) (laws.congr k) q v es there ∙ ap (cond (is_at (R k) q) (Some v)) (sym (lookup-in_order q es))
-          ∙ sym (lookup-set_value laws (is_at (R k)) (laws.congr k) q v (in_order R es) (ap is_some same ∙ there)))
-
-      -- another value at a key
-      pub in_order-set_value : (es : List (K × X)) (k : K) (v : X) → in_order R (set_value (is_at (R k)) es v) ≡ set_value (is_at (R k)) (in_order R es) v
-      in_order-set_value es k v =
-          elim (lookup (is_at (R k)) es) as (λ o. lookup (is_at (R k)) es ≡ o → in_order R (set_value (is_at (R k)) es v) ≡ set_value (is_at (R k)) (in_order R es) v) [
-            | None ↦ λ gone. ap (in_order R) (set_value_none (is_at (R k)) es v gone) ∙ sym (set_value_none (is_at (R k)) (in_order R es) v (lookup-in_order k es ∙ gone))
-            | Some x ↦ λ there. set_there es k v (ap is_some there)
-          ] refl
 
     -- where no two keys tie, the length is the same
     pub length-in_order : (es : List (K × X)) → IsDistinct (eq_by_cmp R) (keys_of es) → length (in_order R es) ≡ length es

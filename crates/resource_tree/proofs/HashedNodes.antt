@@ -1,28 +1,17 @@
--- A node that is changed as the entries lie, seen in the order of the paths.
-use Rattle.std.proofs.Common.{◌≡◌, ℕ, List, [], ◌∷◌, ◌++◌, map, sym, ◌∙◌, ap, subst, Some, None, Bor}
+-- The nodes of a table that are copied one after the other, seen in the order of the paths.
+use Rattle.std.proofs.Common.{◌≡◌, ℕ, List, [], ◌∷◌, ◌++◌, map, sym, ◌∙◌, ap, subst, Bor}
 use Rattle.std.specs.Map.Iter.{deref_pair}
 use Rattle.std.proofs.lemmas.List.{map-append}
 use Rattle.std.specs.BTreeMap.{insert_entry}
 use Rattle.std.specs.List.{IsDistinct}
 use Rattle.std.specs.Ordering.{eq_by_cmp}
-use Rattle.std.specs.Map.{keys_of, set_value}
-use Rattle.std.specs.Option.{option_map_or}
+use Rattle.std.specs.Map.{keys_of}
 use Rattle.sp_base.specs.PathExact.{exact_paths}
 use Rattle.resource_tree.specs.InOrder.{in_order}
-use Rattle.resource_tree.proofs.EntriesInOrder.{lookup-in_order, in_order-set_value, fresh, in_order-push}
+use Rattle.resource_tree.proofs.EntriesInOrder.{fresh, in_order-push}
 use Rattle.resource_tree.specs.declared.nodes.Node.{Node}
-use Rattle.resource_tree.specs.Content.{Content, by_path, same_path, node_at}
-use Rattle.resource_tree.specs.Changes.{change_at}
+use Rattle.resource_tree.specs.Content.{Content, by_path, same_path}
 use Rattle.resource_tree.proofs.PathLemmas.{by_path_total}
-
-pub in_order-changed : (es : Content) (path : List (List ℕ)) (node : Node) (change : Node → Node) → node_at es path ≡ Some node → in_order by_path (set_value (same_path path) es (change node)) ≡ change_at (in_order by_path es) path change
-in_order-changed es path node change there =
-    in_order-set_value by_path by_path_total exact_paths es path (change node)
-    ∙ sym (ap (λ o. option_map_or (λ n. set_value (same_path path) (in_order by_path es) (change n)) o (in_order by_path es)) (lookup-in_order by_path by_path_total path es ∙ there))
-
-pub in_order-unchanged : (es : Content) (path : List (List ℕ)) (change : Node → Node) → node_at es path ≡ None → in_order by_path es ≡ change_at (in_order by_path es) path change
-in_order-unchanged es path change gone =
-    sym (ap (λ o. option_map_or (λ n. set_value (same_path path) (in_order by_path es) (change n)) o (in_order by_path es)) (lookup-in_order by_path by_path_total path es ∙ gone))
 
 -- a loop over the entries of a table that adds a copy of each, after one more
 pub copied_more : (all rest left : Content) (copy new : Content) (seen : List (Bor (List (List ℕ)) × Bor Node)) (item : Bor (List (List ℕ)) × Bor Node) (path : List (List ℕ)) (node : Node) → IsDistinct (eq_by_cmp by_path) (keys_of all)

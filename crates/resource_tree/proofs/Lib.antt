@@ -18,6 +18,4 @@ pub mod Under
 pub mod Without
 pub mod PartLemmas
 pub mod Removal
-pub mod Renaming
-pub mod Rekeying
 pub mod Relocated

@@ -1,17 +1,14 @@
 -- The content with a part of it at another path: by look-ups, and good.
-use Rattle.std.proofs.Common.{◌≡◌, ◌≢◌, ◌+◌, ◌||◌, ◌&&◌, ◌==◌, ℕ, Bool, true, false, cond, not, List, [], ◌∷◌, map, length, refl, sym, ◌∙◌, ap, subst, Some, None, Option, ⊎_elim, ◌⊎◌, inl, inr, arith}
-use Rattle.std.specs.Prelude.{is_some, is_none, IsSome, IsTrue, option_map, unwrap_or, filter, nat_eq}
-use Rattle.std.specs.Cmp.Lexicographic.{pointwise, same_text}
+use Rattle.std.proofs.Common.{◌≡◌, ◌≢◌, ◌+◌, ◌||◌, ◌==◌, ℕ, Bool, true, false, cond, not, List, [], length, refl, sym, ◌∙◌, ap, subst, Some, None, Option, ⊎_elim, arith}
+use Rattle.std.specs.Prelude.{is_some, is_none, IsSome, IsTrue, option_map, unwrap_or, filter}
 use Rattle.std.specs.Option.{option_map_or}
-use Rattle.std.specs.List.{list_any}
 use Rattle.std.specs.List.Sorted.{IsStrictlySortedBy}
 use Rattle.std.specs.Map.{keys_of, set_value}
-use Rattle.std.proofs.lemmas.Bool.{cases_Bool, and_parts, and_from, false≢true, true≢false, false_from_ne_true}
+use Rattle.std.proofs.lemmas.Bool.{cases_Bool, true≢false, false_from_ne_true}
 use Rattle.std.proofs.lemmas.List.{length-map}
 use Rattle.std.proofs.lemmas.List.Filters.{length-filter_both}
 use Rattle.std.proofs.lemmas.List.Kept.{IsStrictlySortedBy-filter}
 use Rattle.std.proofs.lemmas.Map.{keys-set_value}
-use Rattle.sp_base.specs.PathExact.{exact_paths}
 use Rattle.sp_base.specs.Paths.{is_path, is_under}
 use Rattle.resource_tree.specs.declared.nodes.Node.{Node}
 use Rattle.resource_tree.specs.declared.faults.TreeFault.TheVariants.{TooDeep}
@@ -20,20 +17,17 @@ use Rattle.resource_tree.specs.Content.{Content, IsGood, by_path, same_path, nod
 use Rattle.resource_tree.specs.Changes.{change_at, with_kid, without_kid, has_prop_at, removal, removal_at}
 use Rattle.resource_tree.specs.Patches.{left_by}
 use Rattle.resource_tree.specs.Moves.{path_there, part, part_there, is_too_deep, first_fault, ends_fault, move_fault, relocation, relocation_at}
-use Rattle.resource_tree.specs.Parts.{both_paths, rekeying, renaming_at, without_name_at}
-use Rattle.resource_tree.proofs.PathLemmas.{by_path_total, kid_parts, same_path_self, same_path_apart}
+use Rattle.resource_tree.proofs.PathLemmas.{same_path_self, same_path_apart}
 use Rattle.resource_tree.proofs.NodeLookups.{node_at-change_at, length-change_at}
-use Rattle.resource_tree.proofs.EntriesInOrder.{same_in_order}
 use Rattle.resource_tree.proofs.Patching.{node_at-patching, sorted-patching}
 use Rattle.resource_tree.proofs.Creation.{no_fault, none_from, some_from, IsGood-from}
 use Rattle.resource_tree.proofs.Removal.{node_at-removal, IsTree-removal}
-use Rattle.resource_tree.proofs.Under.{under_root, under_kid, under_own_kid, under_self}
+use Rattle.resource_tree.proofs.Under.{under_kid, under_own_kid, under_self}
 use Rattle.resource_tree.proofs.Without.{keys_of-filter}
 use Rattle.resource_tree.proofs.Copying.{PutsPart, IsTree-put_part}
-use Rattle.resource_tree.proofs.PartThere.{entry_at-part_there, under_there}
+use Rattle.resource_tree.proofs.PartThere.{entry_at-part_there}
 use Rattle.resource_tree.proofs.CopyParts.{once_there, length-patching}
 use Rattle.resource_tree.proofs.Copied.{IsFree, is_free, sorted-change_at, left_none, parts, free_below, parent_apart, is_a_path}
-use Rattle.resource_tree.proofs.Rekeying.{sorted-rekeying, node_at-rekeying}
 
 -- what is known where a node may go to the target
 pub record MayGo (tree : Content) (source target : List (List ℕ)) : Type 0 where
@@ -68,20 +62,6 @@ allowed tree source target free fits = ap (λ f. first_fault f (cond (is_too_dee
 
 pub too_deep : (tree : Content) (source target : List (List ℕ)) → ends_fault tree source target ≡ None → is_too_deep tree source target ≡ true → move_fault tree source target ≡ Some TooDeep
 too_deep tree source target free deep = ap (λ f. first_fault f (cond (is_too_deep tree source target) (Some TooDeep) None)) free ∙ ap (λ b. cond b (Some TooDeep) None) deep
-
--- no path is under two of which neither is under the other
-under_both : (a b q : List (List ℕ)) → is_under q a ≡ true → is_under q b ≡ true → (is_under b a ≡ true) ⊎ (is_under a b ≡ true)
-under_both [] b q one two = inl (under_root b)
-under_both (s ∷ a) [] q one two = inr refl
-under_both (s ∷ a) (t ∷ b) [] one two = absurd (false≢true one)
-under_both (s ∷ a) (t ∷ b) (k ∷ q) one two =
-    let first = and_parts (pointwise nat_eq s k) (is_under q a) one in
-    let second = and_parts (pointwise nat_eq t k) (is_under q b) two in
-    let s_is : s ≡ k = same_text s k (sym first.0) in
-    let t_is : t ≡ k = same_text t k (sym second.0) in
-    let s_t : pointwise nat_eq s t ≡ true = ap (pointwise nat_eq s) t_is ∙ first.0 in
-    let t_s : pointwise nat_eq t s ≡ true = ap (pointwise nat_eq t) s_is ∙ second.0 in
-    ⊎_elim (λ is. inl (and_from _ _ s_t is)) (λ is. inr (and_from _ _ t_s is)) (under_both a b q first.1 second.1)
 
 none_under : (a b : Bool) (f : Node → Node) (o : Option Node) → o ≡ None → cond a None (cond b (option_map f o) o) ≡ None
 none_under true b f o e = refl
@@ -155,67 +135,22 @@ module _ (tree : Content) (source target : List (List ℕ)) (good : IsGood tree)
       (λ beside. rw beside)
       (cases_Bool (is_under q target))
 
-  source_parts : kid (parent_of source) (name_of source) ≡ source
-  source_parts = kid_parts source can.source_not_root
-
   target_parts : kid (parent_of target) (name_of target) ≡ target
   target_parts = parts tree source target good can.free
-
-  -- neither parent is one of the nodes at the source or under it
-  source_parent_apart : is_under (parent_of source) source ≡ false
-  source_parent_apart = ap (is_under (parent_of source)) (sym source_parts) ∙ under_own_kid (parent_of source) (name_of source)
 
   target_parent_apart : is_under (parent_of target) source ≡ false
   target_parent_apart =
       false_from_ne_true _ (λ is. true≢false (sym (under_kid source (parent_of target) (name_of target) is) ∙ ap (λ p. is_under p source) target_parts ∙ can.not_below))
 
-  apart : (q : List (List ℕ)) → is_under q source ≡ true → is_under q target ≡ false
-  apart q under =
-      false_from_ne_true _ (λ is. ⊎_elim (λ below. true≢false (sym below ∙ can.not_below)) (λ above. true≢false (sym above ∙ can.not_above)) (under_both source target q under is))
-
-  abbrev renamed : List (List ℕ) → Option Node
-  renamed q = renaming_at tree (parent_of source) (name_of source) (parent_of target) (name_of target) q
-
-  renamed_below : (q : List (List ℕ)) → is_under q source ≡ true → renamed q ≡ node_at tree q
-  renamed_below q under =
-      let one = same_path_apart (parent_of source) q (λ e. true≢false (sym under ∙ ap (λ p. is_under p source) (sym e) ∙ source_parent_apart)) in
-      let two = same_path_apart (parent_of target) q (λ e. true≢false (sym under ∙ ap (λ p. is_under p source) (sym e) ∙ target_parent_apart)) in
-      rw (one, two)
-
-  renamed_there : (q : List (List ℕ)) → is_some (renamed q) ≡ is_some (node_at tree q)
-  renamed_there q =
-      some_under (same_path (parent_of target) q) (with_kid (name_of target)) (without_name_at tree (parent_of source) (name_of source) q) ∙ some_under (same_path (parent_of source) q) (without_kid (name_of source)) (node_at tree q)
-
-  -- the content as the code makes it
-  pub relocation_is : (now new : Content) (paths : List (List (List ℕ))) → ((p : List (List ℕ)) → list_any (same_path p) paths ≡ (is_some (node_at tree p) && is_under p source)) → ((q : List (List ℕ)) → node_at now q ≡ renamed q)
-      → IsStrictlySortedBy by_path (keys_of now) → new ≡ rekeying now (map (both_paths source target) paths) → new ≡ relocation tree source target
-  relocation_is now new paths all is sorted new_is =
-      let there_now : (q : List (List ℕ)) → is_some (node_at now q) ≡ is_some (node_at tree q) = λ q. ap is_some (is q) ∙ renamed_there q in
-      let all_now : (p : List (List ℕ)) → list_any (same_path p) paths ≡ (is_some (node_at now p) && is_under p source) = λ p. all p ∙ ap (λ b. b && is_under p source) (sym (there_now p)) in
-      let free_now : (q : List (List ℕ)) → is_under q target ≡ true → node_at now q ≡ None =
-      λ q under. none_from _ (there_now q ∙ ap is_some (free_below tree source target good can.free q under)) in
-      same_in_order by_path by_path_total exact_paths new (relocation tree source target)
-      (subst (λ (t : Content). IsStrictlySortedBy by_path (keys_of t)) (sym new_is) (sorted-rekeying now (map (both_paths source target) paths) sorted))
-      (sorted-patching named (part_there tree source target) sorted-named)
-      (λ q.
-      let back = path_there target source q in
-      ap (λ (t : Content). node_at t q) new_is
-      ∙ node_at-rekeying now source target apart paths all_now sorted free_now q
-      ∙ ap (λ o. cond (is_under q target) o (cond (is_under q source) None (node_at now q))) (is back ∙ renamed_below back (under_there target source q))
-      ∙ ap (λ o. cond (is_under q target) (node_at tree back) (cond (is_under q source) None o)) (is q)
-      ∙ ap (cond (is_under q target) (node_at tree back)) (gone_and_named (is_under q source) (same_path (parent_of target) q) (without_name_at tree (parent_of source) (name_of source) q))
-      ∙ sym (node_at-relocation q))
-    where
-      gone_and_named : (u c : Bool) (o : Option Node) → cond u None (cond c (option_map (with_kid (name_of target)) o) o) ≡ cond c (option_map (with_kid (name_of target)) (cond u None o)) (cond u None o)
-      gone_and_named true true o = refl
-      gone_and_named true false o = refl
-      gone_and_named false c o = refl
-
   -- ---- the content with the part there is good
+
+  -- the parent of the target, which doesn't name the source any more where it is the source's parent too
+  abbrev above_left : Option Node
+  above_left = cond (same_path (parent_of source) (parent_of target)) (option_map (without_kid (name_of source)) (node_at tree (parent_of target))) (node_at tree (parent_of target))
 
   there_above : is_some (node_at from (parent_of target)) ≡ true
   there_above =
-      ap is_some (node_at-removal tree source (parent_of target) ∙ ap (λ u. cond u None (without_name_at tree (parent_of source) (name_of source) (parent_of target))) target_parent_apart)
+      ap is_some (node_at-removal tree source (parent_of target) ∙ ap (λ u. cond u None above_left) target_parent_apart)
       ∙ some_under (same_path (parent_of source) (parent_of target)) (without_kid (name_of source)) (node_at tree (parent_of target))
       ∙ can.free.parent_there
 
@@ -227,7 +162,7 @@ module _ (tree : Content) (source target : List (List ℕ)) (good : IsGood tree)
 
   untaken : has_prop_at from (parent_of target) (name_of target) ≡ false
   untaken =
-      ap (λ o. option_map_or (λ node. is_some (prop_at node (name_of target))) o false) (node_at-removal tree source (parent_of target) ∙ ap (λ u. cond u None (without_name_at tree (parent_of source) (name_of source) (parent_of target))) target_parent_apart)
+      ap (λ o. option_map_or (λ node. is_some (prop_at node (name_of target))) o false) (node_at-removal tree source (parent_of target) ∙ ap (λ u. cond u None above_left) target_parent_apart)
       ∙ kept_props (same_path (parent_of source) (parent_of target)) (name_of source) (name_of target) (node_at tree (parent_of target))
       ∙ can.free.untaken
 

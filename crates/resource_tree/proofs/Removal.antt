@@ -2,7 +2,6 @@
 use Rattle.std.proofs.Common.{◌≡◌, ◌≢◌, ◌≤◌, ℕ, Bool, not, true, false, cond, ◌&&◌, List, [], ◌∷◌, refl, sym, ◌∙◌, ap, subst, ⊎_elim, Some, None, Option, length, arith}
 use Rattle.std.specs.Prelude.{is_some, IsSome, unwrap_or, nat_eq}
 use Rattle.std.specs.Cmp.Lexicographic.{pointwise}
-use Rattle.std.specs.Option.{option_map_or}
 use Rattle.std.specs.List.Sorted.{IsStrictlySortedBy}
 use Rattle.std.specs.Map.{keys_of}
 use Rattle.std.proofs.lemmas.Bool.{cases_Bool, true≢false, false≢true, and_parts}
@@ -10,13 +9,12 @@ use Rattle.std.proofs.lemmas.List.Filters.{length-filter_both}
 use Rattle.sp_base.specs.Paths.{is_under}
 use Rattle.resource_tree.specs.declared.nodes.Node.{Node}
 use Rattle.resource_tree.specs.Content.{by_path, kid, has_kid, IsNodeOf, IsTree, IsGood, node_at, Content, empty_node, parent_of, name_of}
-use Rattle.resource_tree.specs.Kids.{other_kids}
-use Rattle.resource_tree.specs.Changes.{change_at, with_kids, without_kid, removal, removal_at, kids_at}
+use Rattle.resource_tree.specs.Changes.{change_at, without_kid, removal, removal_at}
 use Rattle.resource_tree.proofs.PathLemmas.{kid_parts, cases_path, same_path_self, same_path_apart, kid_parent}
 use Rattle.resource_tree.proofs.NodeLookups.{node_at-change_at, length-change_at}
 use Rattle.resource_tree.proofs.Creation.{some_from, node_unique, IsGood-from}
 use Rattle.resource_tree.proofs.KidOrder.{IsDistinct-filter, list_any-other_kids}
-use Rattle.resource_tree.proofs.Reordering.{CanMove, parent_there, change_at-same}
+use Rattle.resource_tree.proofs.Reordering.{CanMove, parent_there}
 use Rattle.resource_tree.proofs.Under.{under_kid, under_first, under_sibling, under_own_kid}
 use Rattle.resource_tree.proofs.Without.{node_at-without_under}
 
@@ -143,18 +141,6 @@ module _ (tree : Content) (path : List (List ℕ)) (good : IsTree (node_at tree)
       let both = length-filter_both (λ (e : List (List ℕ) × Node). not (is_under e.0 path)) (λ e. not (not (is_under e.0 path))) (λ e. refl) (change_at tree (parent_of path) (without_kid (name_of path))) in
       let same = length-change_at tree (parent_of path) (without_kid (name_of path)) in
       omega (arith, both, same)
-
-  -- the new content as the code makes it
-  pub removal_from : (old : Content) (parent : List (List ℕ)) (name : List ℕ) (kids others : List (List ℕ)) → old ≡ tree → parent ≡ parent_of path → name ≡ name_of path → kids ≡ kids_at old parent
-      → others ≡ other_kids name kids → change_at old parent (with_kids others) ≡ change_at tree (parent_of path) (without_kid (name_of path))
-  removal_from old parent name kids others same up last kids_is others_is =
-      let segment : name_of path ≡ name = sym last in
-      let its_kids : kids ≡ above.kids =
-      kids_is ∙ ap (λ (t : Content). kids_at t parent) same ∙ ap (λ p. kids_at tree p) up ∙ ap (λ o. option_map_or (λ (n : Node). n.kids) o []) above_is in
-      let left : others ≡ other_kids (name_of path) above.kids = others_is ∙ ap (λ s. other_kids s kids) (sym segment) ∙ ap (λ ks. other_kids (name_of path) ks) its_kids in
-      ap (λ (t : Content). change_at t parent (with_kids others)) same
-      ∙ ap (λ p. change_at tree p (with_kids others)) up
-      ∙ change_at-same tree (parent_of path) above (with_kids others) (without_kid (name_of path)) above_is (ap (λ ks. with_kids ks above) left)
 
 -- the content without the node is good
 pub IsGood-removal : (new tree : Content) (path : List (List ℕ)) → IsGood tree → CanMove tree path → new ≡ removal tree path → IsStrictlySortedBy by_path (keys_of new) → IsGood new

@@ -1,5 +1,5 @@
 -- A tree stays a tree where a node is put in another place among its parent's kids.
-use Rattle.std.proofs.Common.{◌≡◌, ◌≢◌, ◌-◌, ℕ, List, [], sym, ◌∙◌, ap, Some, None, ◌==◌, length}
+use Rattle.std.proofs.Common.{◌≡◌, ◌≢◌, ℕ, List, [], sym, ◌∙◌, ap, Some, None, ◌==◌, length}
 use Rattle.std.specs.Prelude.{is_some, is_none, IsSome, unwrap_or}
 use Rattle.std.specs.Option.{option_map_or}
 use Rattle.std.specs.List.Sorted.{IsStrictlySortedBy}

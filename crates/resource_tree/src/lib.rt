@@ -4,32 +4,22 @@
 //! segment longer, each once, and no kid has the name of a property of its node.
 #![tactic(auto)]
 
-mod copy;
-mod create;
 mod duplicate;
 mod faults;
-mod kids;
 mod look;
 mod node_map;
 mod nodes;
-mod order;
-mod part;
 mod patch;
 mod places;
-mod properties;
-mod relocate;
-mod remove;
 mod room;
 mod rows;
 mod table;
 mod tree;
 
-pub use create::MOST_NODES;
 pub use faults::{TreeFault, name_taken, no_such, node_exists};
 pub use look::{Look, Res, Shown};
 pub use node_map::NodeMap;
-pub use nodes::Node;
-pub use part::MOST_LEVELS;
+pub use nodes::{MOST_NODES, Node};
 pub use patch::{Patch, PatchNode};
 pub use places::Place;
 pub use room::RoomyTree;

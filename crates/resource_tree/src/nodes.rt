@@ -1,9 +1,12 @@
 // The nodes of a tree.
 ghost use Rattle.std.specs.Prelude.{◌≡◌};
-ghost use Rattle.resource_tree.specs.Content.{empty_node, leaf};
+ghost use Rattle.resource_tree.specs.Content.{empty_node};
 
 use sp_base::{PropList, TextList};
 use std::alloc::Global;
+
+/// The most nodes of a tree.
+pub const MOST_NODES: usize = 200_000;
 
 /// A node: its properties in the order of their names, and the names of its kids in their order.
 #[derive(Drop)]
@@ -18,15 +21,6 @@ impl Node {
     {
         Node {
             props: PropList::new(alloc),
-            kids: TextList::new(alloc),
-        }
-    }
-
-    pub(crate) fn leaf(alloc: Global, props: PropList) -> Node
-        ensures { result ≡ leaf props }
-    {
-        Node {
-            props,
             kids: TextList::new(alloc),
         }
     }

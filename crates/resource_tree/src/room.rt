@@ -75,7 +75,7 @@ impl RoomyTree {
     }
 }
 
-pub(crate) fn put_all(nodes: &mut Nodes, patch: Patch)
+fn put_all(nodes: &mut Nodes, patch: Patch)
     requires { length patch ≤ nodes.old.room }
     ensures after { nodes.new.entries ≡ patching nodes.old.entries patch }
     ensures once { IsDistinct (eq_by_cmp by_path) (keys_of patch) }
@@ -93,6 +93,6 @@ fn put_entry(nodes: &mut Nodes, path: Path, node: PatchNode)
 {
     match node {
         PatchNode::Node(node) => nodes.put_in_room(path, node),
-        PatchNode::Gone => drop(nodes.remove(&path)),
+        PatchNode::Gone => nodes.remove(&path),
     }
 }

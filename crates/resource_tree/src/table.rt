@@ -1,5 +1,5 @@
 // The table of a tree's nodes: found by hashing their paths, and seen in the order of the paths.
-ghost use Rattle.std.specs.Prelude.{◌≡◌, ◌+◌, ◌<◌, ◌≤◌, ℕ, List, None, cond, [], IfOk, OnOk, OnErr, IsOk, length, map, is_some, option_copied};
+ghost use Rattle.std.specs.Prelude.{◌≡◌, ◌+◌, ◌<◌, ◌≤◌, [], IfOk, OnOk, OnErr, IsOk, length, map, option_copied};
 ghost use Rattle.std.specs.BTreeMap.{insert_entry};
 ghost use Rattle.std.specs.List.Sorted.{IsStrictlySortedBy};
 ghost use Rattle.std.specs.Map.{keys_of, remove_entry};
@@ -53,12 +53,6 @@ impl Nodes {
         self.map.get(path)
     }
 
-    pub(crate) fn contains_key(&self, path: &Path) -> bool
-        ensures { result ≡ is_some (node_at self.now.entries path.now) }
-    {
-        self.map.contains_key(path)
-    }
-
     // The nodes with their paths, as they lie.
     pub(crate) fn rows(&self, alloc: Global) -> Mem<Vec<(&Path, &Node)>>
         ensures { IfOk result (λ rows. AreRowsOf self.now.entries (map deref_pair rows.items)) }
@@ -100,14 +94,11 @@ impl Nodes {
         Ok(())
     }
 
-    // Takes the node at a path out, if there is one.
-    pub(crate) fn remove(&mut self, path: &Path) -> Option<Node>
-        ensures value { result ≡ node_at self.old.entries path.now }
+    // Takes the node at a path away, if there is one.
+    pub(crate) fn remove(&mut self, path: &Path)
         ensures entries { self.new.entries ≡ remove_entry (same_path path.now) self.old.entries }
-        ensures look_ups { (q : List (List ℕ)) → node_at self.new.entries q ≡ cond (same_path path.now q) None (node_at self.old.entries q) }
-        ensures ordered { IsStrictlySortedBy by_path (keys_of self.new.entries) }
         ensures room { self.old.room ≤ self.new.room }
     {
-        self.map.remove(path)
+        drop(self.map.remove(path));
     }
 }

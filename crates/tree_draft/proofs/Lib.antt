@@ -4,3 +4,4 @@ pub mod CreateLemmas
 pub mod MoveLemmas
 pub mod FallLemmas
 pub mod LentLemmas
+pub mod AtOnceLemmas

@@ -1,3 +1,4 @@
+pub mod AtOnce
 pub mod Drafts
 pub mod Edits
 pub mod Falls

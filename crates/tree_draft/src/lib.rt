@@ -1,8 +1,10 @@
 //! Changes of a content that a tree doesn't know yet: a tree and what is to stand over it.
 //!
-//! Once all are made, what a draft holds over its tree is a patch of the tree.
+//! Once all are made, what a draft holds over its tree is a patch of the tree. One change of a tree at once
+//! is made in the same way.
 #![tactic(auto)]
 
+pub mod at_once;
 mod copy;
 mod create;
 mod draft;

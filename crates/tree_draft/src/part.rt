@@ -7,9 +7,11 @@ ghost use Rattle.resource_tree.specs.Changes.{kids_at};
 ghost use Rattle.resource_tree.specs.Parts.{kids_below};
 
 use crate::Draft;
-use resource_tree::MOST_LEVELS;
-use sp_base::{Mem, NoMemory, Path};
+use sp_base::{MOST_SEGMENTS, Mem, NoMemory, Path};
 use std::alloc::Global;
+
+// The most levels of a tree: the root's, and one for each segment of a path.
+const MOST_LEVELS: usize = MOST_SEGMENTS + 1;
 
 // The paths of the nodes at a path and under it.
 pub(crate) fn paths_under(draft: &Draft, alloc: Global, path: &Path) -> Mem<Vec<Path>>

@@ -5,6 +5,7 @@ use sp_base::{Mem, Path, TextBuf, Value};
 use std::alloc::Global;
 use std::hash::RandomState;
 use std::test::Fail;
+use tree_draft::at_once;
 
 // A place by a word, which may stand beside the kid of a name.
 fn place_of(alloc: Global, word: &str, name: &str) -> Mem<Place> {
@@ -26,11 +27,11 @@ fn order(
     name: &str,
 ) -> Result<(), TreeFault> {
     let place = place_of(alloc, word, name)?;
-    tree.order(alloc, path, &place)
+    at_once::order(alloc, tree, path, &place)
 }
 
 fn unset(alloc: Global, tree: &mut Tree, path: &Path, name: &str) -> Result<(), TreeFault> {
-    tree.unset(alloc, path, name)?;
+    at_once::unset(alloc, tree, path, name)?;
     Ok(())
 }
 
@@ -44,11 +45,11 @@ pub(crate) fn change(
 ) -> Result<(), TreeFault> {
     let name = other.name();
     match word {
-        "create" => tree.create(alloc, path),
-        "remove" => tree.remove(alloc, path),
-        "copy" => tree.copy_to(alloc, path, other),
-        "move" => tree.move_to(alloc, path, other),
-        "set z" => tree.set(alloc, path, "z", Value::Truth(true)),
+        "create" => at_once::create(alloc, tree, path),
+        "remove" => at_once::remove(alloc, tree, path),
+        "copy" => at_once::copy_to(alloc, tree, path, other),
+        "move" => at_once::move_to(alloc, tree, path, other),
+        "set z" => at_once::set(alloc, tree, path, "z", Value::Truth(true)),
         "unset" => unset(alloc, tree, path, name),
         _ => order(alloc, tree, path, word, name),
     }
@@ -165,11 +166,11 @@ fn size_of(tree: &Tree, path: &Path) -> Option<i64> {
 }
 
 fn sets_size(alloc: Global, tree: &mut Tree, path: &Path, size: i64) -> bool {
-    tree.set(alloc, path, "size", Value::Long(size)).is_ok() && size_of(tree, path) == Some(size)
+    at_once::set(alloc, tree, path, "size", Value::Long(size)).is_ok() && size_of(tree, path) == Some(size)
 }
 
 fn unsets_size(alloc: Global, tree: &mut Tree, path: &Path) -> bool {
-    matches!(tree.unset(alloc, path, "size"), Ok(true)) && size_of(tree, path).is_none()
+    matches!(at_once::unset(alloc, tree, path, "size"), Ok(true)) && size_of(tree, path).is_none()
 }
 
 // Whether a value is set, set again, and taken away.
@@ -178,7 +179,7 @@ fn keeps_values(alloc: Global, tree: &mut Tree) -> bool {
     sets_size(alloc, tree, &path, 1)
         && sets_size(alloc, tree, &path, 2)
         && unsets_size(alloc, tree, &path)
-        && matches!(tree.unset(alloc, &path, "size"), Ok(false))
+        && matches!(at_once::unset(alloc, tree, &path, "size"), Ok(false))
 }
 
 fn is_tried(alloc: Global, seeds: RandomState) -> bool {

@@ -1,4 +1,4 @@
-//! Tests of calls of `resource_tree`, which are proved apart from it.
+//! Tests of calls of `resource_tree` and `tree_draft`, which are proved apart from them.
 #![tactic(auto)]
 
 #[cfg(test)]

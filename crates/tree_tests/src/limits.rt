@@ -6,13 +6,14 @@ use sp_base::{Path, Value};
 use std::alloc::Global;
 use std::hash::RandomState;
 use std::test::Fail;
+use tree_draft::at_once;
 
 const DEEPEST: &str =
     "/d/d/d/d/d/d/d/d/d/d/d/d/d/d/d/d/d/d/d/d/d/d/d/d/d/d/d/d/d/d/d/d/d/d/d/d/d/d/d/d/d/d/d/d/d/d/d/d/d/d/d/d/d/d/d/d/d/d/d/d/d/d/d/d";
 
 fn creates_first(alloc: Global, tree: &mut Tree, path: &Path, levels: usize) -> bool {
     match path.first(alloc, levels) {
-        Ok(path) => tree.create(alloc, &path).is_ok(),
+        Ok(path) => at_once::create(alloc, tree, &path).is_ok(),
         Err(_) => false,
     }
 }
@@ -29,8 +30,8 @@ fn creates_above(alloc: Global, tree: &mut Tree, path: &Path) -> bool {
 
 // Whether a part of two levels is refused at the deepest path.
 fn is_too_deep(alloc: Global, tree: &mut Tree, source: &Path, deepest: &Path) -> bool {
-    is_told(&tree.copy_to(alloc, source, deepest), "TooDeep")
-        && is_told(&tree.move_to(alloc, source, deepest), "TooDeep")
+    is_told(&at_once::copy_to(alloc, tree, source, deepest), "TooDeep")
+        && is_told(&at_once::move_to(alloc, tree, source, deepest), "TooDeep")
 }
 
 fn is_taken_at(answer: &Result<(), TreeFault>, path: &Path) -> bool {
@@ -41,9 +42,9 @@ fn is_taken_at(answer: &Result<(), TreeFault>, path: &Path) -> bool {
 fn is_taken_first(alloc: Global, tree: &mut Tree, source: &Path, deepest: &Path) -> bool {
     match deepest.parent(alloc) {
         Ok(above) => {
-            tree.set(alloc, &above, "d", Value::Truth(true)).is_ok()
-                && is_taken_at(&tree.copy_to(alloc, source, deepest), deepest)
-                && is_taken_at(&tree.move_to(alloc, source, deepest), deepest)
+            at_once::set(alloc, tree, &above, "d", Value::Truth(true)).is_ok()
+                && is_taken_at(&at_once::copy_to(alloc, tree, source, deepest), deepest)
+                && is_taken_at(&at_once::move_to(alloc, tree, source, deepest), deepest)
         }
         Err(_) => false,
     }
@@ -65,8 +66,8 @@ fn keeps_levels(alloc: Global, tree: &mut Tree) -> bool {
 fn doubles(alloc: Global, tree: &mut Tree, first: &Path, second: &Path, name: &str) -> bool {
     match first.child(alloc, name) {
         Ok(below) => {
-            tree.copy_to(alloc, first, second).is_ok()
-                && tree.move_to(alloc, second, &below).is_ok()
+            at_once::copy_to(alloc, tree, first, second).is_ok()
+                && at_once::move_to(alloc, tree, second, &below).is_ok()
         }
         Err(_) => false,
     }
@@ -87,8 +88,8 @@ fn doubles_all(alloc: Global, tree: &mut Tree, first: &Path, second: &Path) -> b
 }
 
 fn is_only_moved(alloc: Global, tree: &mut Tree, first: &Path, second: &Path) -> bool {
-    is_told(&tree.copy_to(alloc, first, second), "FullTree")
-        && tree.move_to(alloc, first, second).is_ok()
+    is_told(&at_once::copy_to(alloc, tree, first, second), "FullTree")
+        && at_once::move_to(alloc, tree, first, second).is_ok()
         && tree.len() == 131_073
 }
 

@@ -3,6 +3,7 @@ use resource_tree::{Node, Tree};
 use sp_base::{Path, TextBuf, Value};
 use std::alloc::Global;
 use std::hash::RandomState;
+use tree_draft::at_once;
 
 /// The path of a text that spells one.
 pub(crate) fn path_at(alloc: Global, text: &str) -> Option<Path> {
@@ -11,7 +12,7 @@ pub(crate) fn path_at(alloc: Global, text: &str) -> Option<Path> {
 
 fn creates(alloc: Global, tree: &mut Tree, path: &str) -> bool {
     match path_at(alloc, path) {
-        Some(path) => tree.create(alloc, &path).is_ok(),
+        Some(path) => at_once::create(alloc, tree, &path).is_ok(),
         None => false,
     }
 }
@@ -28,7 +29,7 @@ pub(crate) fn creates_all(alloc: Global, tree: &mut Tree, paths: &[&str]) -> boo
 
 fn sets_title(alloc: Global, tree: &mut Tree, path: &str) -> bool {
     match path_at(alloc, path) {
-        Some(path) => tree.set(alloc, &path, "title", Value::Long(7)).is_ok(),
+        Some(path) => at_once::set(alloc, tree, &path, "title", Value::Long(7)).is_ok(),
         None => false,
     }
 }

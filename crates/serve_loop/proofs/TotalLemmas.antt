@@ -34,8 +34,11 @@ costs before after w (e ∷ events) (middle, cause, more) few =
     let one : before + cond e.conditions.disk_failed 1 0 ≤ middle = counts_one before middle e.conditions.disk_failed cause.disk here in
     let single : count_failed (e ∷ []) ≡ 0 + cond e.conditions.disk_failed 1 0 = refl in
     let counted : count_failed (e ∷ events) ≡ count_failed (e ∷ []) + count_failed events = sum_by-append (λ (x : Event). cond x.conditions.disk_failed 1 0) (e ∷ []) events in
-    record { rises = omega (arith, one, rest.rises); failed = omega (arith, counted, single, one, rest.rises, rest.failed);
-        spoilt = (middle - before, after - middle, omega (arith, one, rest.rises), cause.spoils here, rest.spoilt) }
+    record {
+      rises = omega (arith, one, rest.rises);
+      failed = omega (arith, counted, single, one, rest.rises, rest.failed);
+      spoilt = (middle - before, after - middle, omega (arith, one, rest.rises), cause.spoils here, rest.spoilt);
+    }
 
 -- the last event's count is at most that of the session's end
 is_within : (end : ServeEnd) (last after : ℕ) → IsLastCount end last after → last ≤ after

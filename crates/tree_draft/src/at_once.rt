@@ -71,12 +71,7 @@ pub fn unset(alloc: Global, tree: &mut Tree, path: &Path, name: &str) -> Result<
 }
 
 /// Puts a node in another place among the kids of its parent.
-pub fn order(
-    alloc: Global,
-    tree: &mut Tree,
-    path: &Path,
-    place: &Place,
-) -> Result<(), TreeFault>
+pub fn order(alloc: Global, tree: &mut Tree, path: &Path, place: &Place) -> Result<(), TreeFault>
     ensures allowed { OnOk result (order_fault tree.old path.now place.now ≡ None) }
     ensures ok { OnOk result (tree.new ≡ reordering tree.old path.now place.now) }
     ensures look_ups { OnOk result ((q : List (List ℕ)) → node_at tree.new q ≡ reordering_at tree.old path.now place.now q) }

@@ -166,7 +166,8 @@ fn size_of(tree: &Tree, path: &Path) -> Option<i64> {
 }
 
 fn sets_size(alloc: Global, tree: &mut Tree, path: &Path, size: i64) -> bool {
-    at_once::set(alloc, tree, path, "size", Value::Long(size)).is_ok() && size_of(tree, path) == Some(size)
+    at_once::set(alloc, tree, path, "size", Value::Long(size)).is_ok()
+        && size_of(tree, path) == Some(size)
 }
 
 fn unsets_size(alloc: Global, tree: &mut Tree, path: &Path) -> bool {

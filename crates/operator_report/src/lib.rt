@@ -2,6 +2,7 @@
 #![tactic(auto)]
 
 mod fault_answers;
+mod head_in_pieces;
 mod object_count;
 mod open_requests;
 mod report;

@@ -1,7 +1,8 @@
 //! The requests that are to be answered.
 
 use crate::fault_answers::AnswerTo;
-use crate::request_head::{asked_in, body_to_come, path_in};
+use crate::head_in_pieces::{HeadInPieces, HeadLine};
+use crate::request_head::{asked_in, path_in};
 use std::alloc::Global;
 
 /// The most bytes of a method and a target that are told.
@@ -21,6 +22,8 @@ const FLUSH: &[u8] = b"/dispatcher/invalidate.cache";
 enum Known {
     /// All that came were answered, and what comes next begins one.
     Answered,
+    /// The head of the first that isn't answered goes on.
+    Begun,
     /// The first that isn't answered, and how many bytes of its body are to come; none where what comes after it isn't known.
     Asked(Option<usize>),
     Nothing,
@@ -29,7 +32,9 @@ enum Known {
 #[derive(Drop)]
 struct Connection {
     known: Known,
-    // The method and the target of what was asked last. Printable ASCII alone, and empty where there was no memory for it.
+    // The head of what was asked last.
+    head: HeadInPieces,
+    // The method and the target in it. Printable ASCII alone, and empty before its first line came, and where there was no memory for it.
     text: String,
     // What an answer to it is to.
     to: AnswerTo,
@@ -56,10 +61,21 @@ fn answer_to(asked: &[u8]) -> AnswerTo {
     }
 }
 
+// Keeps what is told of a request: a text with a hole would name another.
+fn print(text: &mut String, asked: &[u8]) {
+    for byte in asked.iter().take(MOST_TOLD) {
+        if text.push(printed(*byte)).is_err() {
+            text.clear();
+            return;
+        }
+    }
+}
+
 impl Connection {
     fn new(alloc: Global) -> Connection {
         Connection {
             known: Known::Nothing,
+            head: HeadInPieces::new(alloc),
             text: String::new(alloc),
             to: AnswerTo::Unknown,
         }
@@ -67,31 +83,63 @@ impl Connection {
 
     fn see(&mut self, piece: &[u8]) {
         self.known = match self.known {
-            Known::Answered => self.begin(piece),
+            Known::Answered => {
+                self.begin();
+                self.read_head(piece)
+            }
+            Known::Begun => self.read_head(piece),
             Known::Asked(Some(left)) => Known::Asked(left.checked_sub(piece.len())),
             known => known,
         };
     }
 
-    // Looks at a piece with which a request begins.
-    fn begin(&mut self, piece: &[u8]) -> Known {
-        let Some(asked) = asked_in(piece) else {
-            return Known::Nothing;
-        };
-        self.to = answer_to(asked);
-        self.print(asked);
-        Known::Asked(body_to_come(piece))
+    // Before the first piece of a request.
+    fn begin(&mut self) {
+        self.head.begin();
+        self.text.clear();
+        self.to = AnswerTo::Unknown;
     }
 
-    // Keeps what is told of a request: a text with a hole would name another.
-    fn print(&mut self, asked: &[u8]) {
-        self.text.clear();
-        for byte in asked.iter().take(MOST_TOLD) {
-            if self.text.push(printed(*byte)).is_err() {
-                self.text.clear();
-                return;
+    // Looks at a piece in which a head begins or goes on.
+    fn read_head(&mut self, piece: &[u8]) -> Known {
+        let mut rest = piece;
+        for _ in 0..piece.len() {
+            let Some(end) = rest.iter().position(|byte| *byte == b'\n') else {
+                break;
+            };
+            let (part, after) = rest.split_at(end);
+            rest = after.get(1..).unwrap_or(after);
+            self.head.keep(part);
+            if let Some(known) = self.end_line(rest.len()) {
+                return known;
             }
         }
+        self.head.keep(rest);
+        Known::Begun
+    }
+
+    // Looks at a line whose end came, with so many bytes after it. What is known then, where nothing of the head is to come.
+    fn end_line(&mut self, after: usize) -> Option<Known> {
+        match self.head.kind() {
+            HeadLine::First if !self.note_asked() => return Some(Known::Nothing),
+            HeadLine::First | HeadLine::Field => {}
+            HeadLine::Last => return Some(Known::Asked(self.head.body_to_come(after))),
+        }
+        self.head.pass();
+        None
+    }
+
+    // Notes what the first line of a request asks for, where it is one.
+    fn note_asked(&mut self) -> bool {
+        let Some(line) = self.head.line() else {
+            return false;
+        };
+        let Some(asked) = asked_in(line) else {
+            return false;
+        };
+        self.to = answer_to(asked);
+        print(&mut self.text, asked);
+        true
     }
 
     // What follows an answer begins a request only where nothing else came with what was asked, and all of it came.
@@ -155,15 +203,20 @@ impl OpenRequests {
     pub fn asked(&self, conn: u32) -> Option<&str> {
         let connection = self.connections.get(conn as usize)?;
         match connection.known {
-            Known::Asked(_) if !connection.text.is_empty() => Some(connection.text.as_str()),
+            Known::Begun | Known::Asked(_) if !connection.text.is_empty() => {
+                Some(connection.text.as_str())
+            }
             _ => None,
         }
     }
 
     /// What the next answer is to.
     pub fn answer_to(&self, conn: u32) -> AnswerTo {
-        match self.connections.get(conn as usize) {
-            Some(connection) if matches!(connection.known, Known::Asked(_)) => connection.to,
+        let Some(connection) = self.connections.get(conn as usize) else {
+            return AnswerTo::Unknown;
+        };
+        match connection.known {
+            Known::Begun | Known::Asked(_) => connection.to,
             _ => AnswerTo::Unknown,
         }
     }

@@ -3,7 +3,7 @@
 use crate::lines::{
     push_any_fault, push_content_fault, push_counts, push_farm_fault, push_script_fault,
 };
-use crate::warnings::{WarningLines, content_warnings, farm_warnings};
+use crate::warnings::{WarningLines, content_warnings, farm_warnings, member_warnings};
 use any_config::{AnyFault, AnyNode, FarmFault, farm_of, read_any};
 use content_json::{ContentFault, read_tree};
 use resource_tree::Tree;
@@ -121,7 +121,8 @@ fn find_in_farm(found: &mut Findings, alloc: Global, text: &[u8], top: &AnyNode)
         Err(FarmFault::NoMemory) => Err(NoMemory),
         Err(fault) => {
             found.faults = found.faults.saturating_add(1);
-            push_farm_fault(&mut found.text, &fault)
+            push_farm_fault(&mut found.text, &fault)?;
+            add_warnings(found, &member_warnings(alloc, text, top)?)
         }
     }
 }

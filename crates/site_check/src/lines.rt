@@ -1,6 +1,7 @@
 //! What is wrong, as lines.
 
 use crate::excerpt::{push_excerpt, push_place};
+use crate::quotes::are_closed;
 use any_config::{AnyFault, FarmFault};
 use content_json::ContentFault;
 use outside_world::InputFault;
@@ -87,6 +88,16 @@ pub fn push_content_fault(out: &mut Vec<u8>, fault: &ContentFault) -> Mem<()> {
     push(out, b"\n")
 }
 
+// What is wrong with the quotes at a place of the farm's file.
+fn quote_fault(text: &[u8], at: usize) -> &'static [u8] {
+    match &text[at.min(text.len())..] {
+        [mark, inside @ ..] if are_closed(*mark, inside) => {
+            b"BadQuote, the text in these quotes is no UTF-8"
+        }
+        _ => b"BadQuote, these quotes aren't closed on their line",
+    }
+}
+
 /// Why the farm's file can't be read.
 pub fn push_any_fault(alloc: Global, out: &mut Vec<u8>, text: &[u8], fault: AnyFault) -> Mem<()> {
     push(out, b"fault: farm refused at ")?;
@@ -98,13 +109,7 @@ pub fn push_any_fault(alloc: Global, out: &mut Vec<u8>, text: &[u8], fault: AnyF
             at,
             b"BadName, no member with a value begins here",
         ),
-        AnyFault::BadQuote(at) => push_placed(
-            alloc,
-            out,
-            text,
-            at,
-            b"BadQuote, these quotes aren't closed on their line",
-        ),
+        AnyFault::BadQuote(at) => push_placed(alloc, out, text, at, quote_fault(text, at)),
         AnyFault::TooDeep(at) => push_placed(
             alloc,
             out,

@@ -8,6 +8,7 @@ mod findings;
 mod form;
 mod lines;
 mod program;
+mod quotes;
 mod telling;
 mod warnings;
 

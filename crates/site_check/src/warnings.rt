@@ -62,7 +62,7 @@ fn warn_of_claims(lines: &mut WarningLines, alloc: Global, tree: &Tree) -> Mem<(
             &[
                 shared.other.as_text(),
                 ": claims ",
-                shared.claim.text(),
+                shared.claim.as_text(),
                 ", as ",
                 shared.first.as_text(),
                 " does",
@@ -93,6 +93,13 @@ fn warn_of_mappings(
             }
             MappingEnd::InCircles => {
                 warn(lines, alloc, &[node, ": redirects in a circle"])?;
+            }
+            MappingEnd::TooFar => {
+                warn(
+                    lines,
+                    alloc,
+                    &[node, ": more than 20 redirects follow each other"],
+                )?;
             }
             MappingEnd::PassedOver(above) => {
                 warn(
@@ -230,6 +237,13 @@ fn warn_of_entries(lines: &mut WarningLines, alloc: Global, top: &AnyNode) -> Me
         )?;
     }
     Ok(())
+}
+
+/// The members of a file that are passed over, whether or not it has a farm that can be used.
+pub fn member_warnings(alloc: Global, text: &[u8], top: &AnyNode) -> Mem<WarningLines> {
+    let mut lines = BTreeMap::new(alloc);
+    warn_of_members(&mut lines, alloc, text, top)?;
+    Ok(lines)
 }
 
 /// What is likely to be a mistake in a farm, which reads as its text does.

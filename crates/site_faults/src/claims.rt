@@ -1,83 +1,179 @@
 //! Aliases and vanity paths that several nodes claim.
+ghost use Rattle.std.specs.Prelude.{◌≡◌, IfOk};
+ghost use Rattle.url_maps.specs.VanityPaths.{vanity_page, with_slash};
+ghost use Rattle.site_faults.specs.Claims as spec;
 
 use resource_tree::{Node, Tree};
 use sp_base::{Items, Mem, Path, TextBuf, value_texts};
 use std::alloc::Global;
 use std::collections::BTreeMap;
 
-/// Two nodes that claim one path: by an alias that siblings share, or by a vanity path.
+/// Two nodes that claim one path for two resources: by an alias that siblings share, or by a vanity path.
 #[derive(Drop)]
 pub struct SharedClaim {
-    pub claim: TextBuf,
+    pub claim: Path,
     pub first: Path,
     pub other: Path,
 }
 
 pub type SharedClaimList = Items<SharedClaim>;
 
-// Of each claimed path the least path of a node that claims it.
-type FirstClaims = BTreeMap<TextBuf, Path>;
+// A path that a node claims, and the resource that is to be found there.
+#[derive(Drop)]
+struct Claim {
+    path: Path,
+    resource: Path,
+}
 
-// A path in the place of a node's own: its alias below its parent.
-fn alias_claim(alloc: Global, path: &Path, alias: &str) -> Mem<TextBuf> {
+// A node that claims a path, and the resource that is to be found there.
+#[derive(Drop)]
+struct Claimant {
+    node: Path,
+    resource: Path,
+}
+
+// Of each claimed path the claimant with the least path.
+type FirstClaims = BTreeMap<Path, Claimant>;
+
+// The path, where no node is at it.
+fn free(tree: &Tree, path: Option<Path>) -> Option<Path>
+    ensures { result ≡ spec.free tree.now path }
+{
+    match path {
+        Some(path) if tree.node(&path).is_none() => Some(path),
+        _ => None,
+    }
+}
+
+// The path that a node, which isn't the root, claims by an alias.
+fn alias_claim(alloc: Global, tree: &Tree, path: &Path, alias: &str) -> Mem<Option<Path>>
+    ensures { IfOk result (λ claim. claim ≡ spec.alias_claim tree.now path.now alias.now) }
+{
     let parent = path.parent(alloc)?;
-    let mut claim = String::from_str(alloc, parent.spelling())?;
-    claim.push_str("/")?;
-    claim.push_str(alias)?;
-    Ok(TextBuf::from(claim))
+    let claim = parent.child_or_none(alloc, alias)?;
+    Ok(free(tree, claim))
 }
 
-fn vanity_claim(alloc: Global, vanity_path: &str) -> Mem<TextBuf> {
-    let mut claim = String::new(alloc);
-    if !vanity_path.starts_with('/') {
-        claim.push_str("/")?;
+// The text of a vanity path, before which a slash is put where it has none.
+fn with_slash(alloc: Global, text: &str) -> Mem<TextBuf>
+    ensures { IfOk result (λ t. t ≡ with_slash text.now) }
+{
+    if text.starts_with('/') {
+        return TextBuf::of(alloc, text);
     }
-    claim.push_str(vanity_path)?;
-    Ok(TextBuf::from(claim))
+    let mut whole = String::from_str(alloc, "/")?;
+    whole.push_str(text)?;
+    Ok(TextBuf::from(whole))
 }
 
-// The paths that a node claims.
-fn claims_of(alloc: Global, path: &Path, node: &Node) -> Mem<Items<TextBuf>> {
-    let mut claims = Items::new(alloc);
+// The path that a node claims by a vanity path.
+fn vanity_claim(alloc: Global, tree: &Tree, vanity_path: &str) -> Mem<Option<Path>>
+    ensures { IfOk result (λ claim. claim ≡ spec.vanity_claim tree.now vanity_path.now) }
+{
+    let text = with_slash(alloc, vanity_path)?;
+    let claim = Path::read_or_none(alloc, text.text())?;
+    Ok(free(tree, claim))
+}
+
+// The resource that is found by a vanity path of the node at a path: the page whose content the node is, or the node's own.
+fn vanity_resource(alloc: Global, path: &Path) -> Mem<Path>
+    ensures { IfOk result (λ page. page ≡ vanity_page path.now) }
+{
+    if path.name() == "jcr:content" {
+        path.parent(alloc)
+    } else {
+        path.duplicate(alloc)
+    }
+}
+
+fn add_alias_claims(
+    claims: &mut Items<Claim>,
+    alloc: Global,
+    tree: &Tree,
+    path: &Path,
+    node: &Node,
+) -> Mem<()> {
+    if path.depth() == 0 {
+        return Ok(());
+    }
     for alias in value_texts(node.props.get("sling:alias")) {
-        claims.push(alias_claim(alloc, path, alias.text())?)?;
-    }
-    for vanity_path in value_texts(node.props.get("sling:vanityPath")) {
-        claims.push(vanity_claim(alloc, vanity_path.text())?)?;
-    }
-    Ok(claims)
-}
-
-fn note_claim(firsts: &mut FirstClaims, alloc: Global, claim: &TextBuf, path: &Path) -> Mem<()> {
-    if let Some(first) = firsts.get(claim) {
-        if *first <= *path {
-            return Ok(());
+        if let Some(claimed) = alias_claim(alloc, tree, path, alias.text())? {
+            claims.push(Claim {
+                path: claimed,
+                resource: path.duplicate(alloc)?,
+            })?;
         }
     }
-    firsts.insert(claim.duplicate(alloc)?, path.duplicate(alloc)?)?;
     Ok(())
 }
 
-fn note_claims(firsts: &mut FirstClaims, alloc: Global, path: &Path, node: &Node) -> Mem<()> {
-    let claims = claims_of(alloc, path, node)?;
+fn add_vanity_claims(
+    claims: &mut Items<Claim>,
+    alloc: Global,
+    tree: &Tree,
+    path: &Path,
+    node: &Node,
+) -> Mem<()> {
+    for vanity_path in value_texts(node.props.get("sling:vanityPath")) {
+        if let Some(claimed) = vanity_claim(alloc, tree, vanity_path.text())? {
+            claims.push(Claim {
+                path: claimed,
+                resource: vanity_resource(alloc, path)?,
+            })?;
+        }
+    }
+    Ok(())
+}
+
+// What a node claims.
+fn claims_of(alloc: Global, tree: &Tree, path: &Path, node: &Node) -> Mem<Items<Claim>> {
+    let mut claims = Items::new(alloc);
+    add_alias_claims(&mut claims, alloc, tree, path, node)?;
+    add_vanity_claims(&mut claims, alloc, tree, path, node)?;
+    Ok(claims)
+}
+
+fn note_claim(firsts: &mut FirstClaims, alloc: Global, claim: &Claim, path: &Path) -> Mem<()> {
+    if let Some(first) = firsts.get(&claim.path) {
+        if first.node <= *path {
+            return Ok(());
+        }
+    }
+    let claimant = Claimant {
+        node: path.duplicate(alloc)?,
+        resource: claim.resource.duplicate(alloc)?,
+    };
+    firsts.insert(claim.path.duplicate(alloc)?, claimant)?;
+    Ok(())
+}
+
+fn note_claims(
+    firsts: &mut FirstClaims,
+    alloc: Global,
+    tree: &Tree,
+    path: &Path,
+    node: &Node,
+) -> Mem<()> {
+    let claims = claims_of(alloc, tree, path, node)?;
     for claim in claims.as_slice() {
         note_claim(firsts, alloc, claim, path)?;
     }
     Ok(())
 }
 
+// Tells a claim, where it is for another resource than the first is.
 fn tell_claim(
     told: &mut SharedClaimList,
     alloc: Global,
     firsts: &FirstClaims,
-    claim: &TextBuf,
+    claim: &Claim,
     path: &Path,
 ) -> Mem<()> {
-    if let Some(first) = firsts.get(claim) {
-        if *first != *path {
+    if let Some(first) = firsts.get(&claim.path) {
+        if first.resource != claim.resource {
             told.push(SharedClaim {
-                claim: claim.duplicate(alloc)?,
-                first: first.duplicate(alloc)?,
+                claim: claim.path.duplicate(alloc)?,
+                first: first.node.duplicate(alloc)?,
                 other: path.duplicate(alloc)?,
             })?;
         }
@@ -88,27 +184,29 @@ fn tell_claim(
 fn tell_claims(
     told: &mut SharedClaimList,
     alloc: Global,
+    tree: &Tree,
     firsts: &FirstClaims,
     path: &Path,
     node: &Node,
 ) -> Mem<()> {
-    let claims = claims_of(alloc, path, node)?;
+    let claims = claims_of(alloc, tree, path, node)?;
     for claim in claims.as_slice() {
         tell_claim(told, alloc, firsts, claim, path)?;
     }
     Ok(())
 }
 
-/// Of each path that several nodes claim the least of their paths, with each of the others, in no order that is promised.
+/// Of each path that several nodes claim the least of their paths, with each of the others that claims it for another resource than that
+/// one does, in no order that is promised.
 pub fn shared_claims(alloc: Global, tree: &Tree) -> Mem<SharedClaimList> {
     let mut firsts = BTreeMap::new(alloc);
     let mut told = Items::new(alloc);
     let rows = tree.rows(alloc)?;
     for row in rows.as_slice() {
-        note_claims(&mut firsts, alloc, row.0, row.1)?;
+        note_claims(&mut firsts, alloc, tree, row.0, row.1)?;
     }
     for row in rows.as_slice() {
-        tell_claims(&mut told, alloc, &firsts, row.0, row.1)?;
+        tell_claims(&mut told, alloc, tree, &firsts, row.0, row.1)?;
     }
     Ok(told)
 }

@@ -7,11 +7,12 @@ use regex_rules::{Pattern, PatternFault};
 use resource_tree::{Node, Tree};
 use sp_base::{Items, Mem, NoMemory, Path, TextBuf, value_texts};
 use std::alloc::Global;
+use std::collections::BTreeMap;
 use url_maps::{MapAnswer, MapIndex};
 use url_split::split;
 
-/// How many redirects a client follows before it gives up.
-const MOST_REDIRECTS: usize = 16;
+/// How many redirects may follow each other. Clients give up after more or fewer.
+const MOST_REDIRECTS: usize = 20;
 
 /// The depth of the nodes of hosts, and of those with a pattern: `/etc/map/http`, and their name.
 const HOST_DEPTH: usize = 4;
@@ -23,8 +24,10 @@ pub enum MappingEnd {
     Somewhere,
     /// To this text, which names no resource.
     Nowhere(TextBuf),
-    /// From redirect to redirect.
+    /// From redirect to redirect, and back to an earlier one.
     InCircles,
+    /// To more than 20 redirects, one after the other.
+    TooFar,
     /// Nowhere, since the node at this path, above it, has a `sling:match`.
     PassedOver(Path),
 }
@@ -104,6 +107,43 @@ fn asked_again(target: &str) -> Option<&str> {
     }
 }
 
+// What a text that is asked for leads to.
+#[derive(Drop)]
+enum Lead {
+    End(MappingEnd),
+    /// A redirect to this text, which is asked for at the same host.
+    Again(TextBuf),
+}
+
+// Where a text leads that is asked for at a host and a port. Redirects are followed where they are to be, and only to a path: this server
+// answers another text with 400.
+fn follow(
+    alloc: Global,
+    tree: &Tree,
+    index: &MapIndex,
+    host_port: (&str, u16),
+    follows: bool,
+    text: &TextBuf,
+) -> Mem<Lead>
+    requires { IsIndexOf tree.now index.now }
+{
+    match index.map_in(alloc, tree, host_port.0, host_port.1, text.text())? {
+        MapAnswer::Inside(inside) => Ok(Lead::End(inside_end(alloc, tree, inside)?)),
+        MapAnswer::Away(_, target) => match asked_again(target.text()) {
+            Some(again) if follows => follow_again(alloc, again),
+            _ => Ok(Lead::End(MappingEnd::Somewhere)),
+        },
+    }
+}
+
+fn follow_again(alloc: Global, text: &str) -> Mem<Lead> {
+    let again = TextBuf::of(alloc, text)?;
+    match Path::read_or_none(alloc, text)? {
+        Some(_) => Ok(Lead::Again(again)),
+        None => Ok(Lead::End(MappingEnd::Nowhere(again))),
+    }
+}
+
 // Where a text leads that is asked for at the host and the port of this name. Redirects are followed where the publisher is asked, and
 // nowhere else.
 fn end_of(
@@ -116,22 +156,24 @@ fn end_of(
 ) -> Mem<MappingEnd>
     requires { IsIndexOf tree.now index.now }
 {
-    let Some((host, port)) = host_and_port(name) else {
+    let Some(host_port) = host_and_port(name) else {
         return Ok(MappingEnd::Somewhere);
     };
+    let mut followed = BTreeMap::new(alloc);
     let mut text = text;
-    for _ in 0..MOST_REDIRECTS {
-        match index.map_in(alloc, tree, host, port, text.text())? {
-            MapAnswer::Inside(inside) => {
-                return inside_end(alloc, tree, inside);
+    for _ in 0..MOST_REDIRECTS + 1 {
+        match follow(alloc, tree, index, host_port, name == asked, &text)? {
+            Lead::End(end) => return Ok(end),
+            Lead::Again(again) => {
+                followed.insert(text, ())?;
+                if followed.contains_key(&again) {
+                    return Ok(MappingEnd::InCircles);
+                }
+                text = again;
             }
-            MapAnswer::Away(_, target) => match asked_again(target.text()) {
-                Some(again) if name == asked => text = TextBuf::of(alloc, again)?,
-                _ => return Ok(MappingEnd::Somewhere),
-            },
         }
     }
-    Ok(MappingEnd::InCircles)
+    Ok(MappingEnd::TooFar)
 }
 
 // An empty target leaves what follows the prefix, which is known to the one who asks.

@@ -1,4 +1,8 @@
 //! Scripts that no type of the content reaches, and types that no script renders.
+ghost use Rattle.std.specs.Prelude.{◌≡◌, ◌&&◌, IfOk, codes, is_some, nat_eq};
+ghost use Rattle.std.specs.List.{ends_with};
+ghost use Rattle.sp_base.specs.Paths.{name_of};
+ghost use Rattle.script_rank.specs.Ranking.{script_text};
 
 use crate::scripts::is_script_path;
 use resource_tree::{Node, Tree};
@@ -21,9 +25,11 @@ fn add(set: &mut PathSet, alloc: Global, path: &Path) -> Mem<()> {
     Ok(())
 }
 
-// Whether a script is at a path.
-fn has_script(alloc: Global, tree: &Tree, path: &Path) -> Mem<bool> {
-    Ok(is_script_path(path) && script_text(alloc, tree, path)?.is_some())
+// Whether the node at a path is a script, wherever it stands: a type may be rooted anywhere.
+fn has_script(alloc: Global, tree: &Tree, path: &Path) -> Mem<bool>
+    ensures { IfOk result (λ has. has ≡ (ends_with nat_eq (name_of path.now) (codes ".html") && is_some (script_text tree.now path.now))) }
+{
+    Ok(path.name().as_bytes().ends_with(b".html") && script_text(alloc, tree, path)?.is_some())
 }
 
 fn add_places(set: &mut PathSet, alloc: Global, places: &ScriptPlaceList) -> Mem<()> {
@@ -54,13 +60,16 @@ fn is_below_any(alloc: Global, set: &PathSet, path: &Path) -> Mem<bool> {
     Ok(false)
 }
 
-/// The scripts below no place of a type that a resource has.
+/// The scripts below a search path that are below no place of a type that a resource has.
 pub fn unreached_scripts(alloc: Global, tree: &Tree) -> Mem<PathSet> {
     let places = places_in_use(alloc, tree)?;
     let mut told = BTreeMap::new(alloc);
     let rows = tree.rows(alloc)?;
     for row in rows.as_slice() {
-        if has_script(alloc, tree, row.0)? && !is_below_any(alloc, &places, row.0)? {
+        if is_script_path(row.0)
+            && has_script(alloc, tree, row.0)?
+            && !is_below_any(alloc, &places, row.0)?
+        {
             add(&mut told, alloc, row.0)?;
         }
     }

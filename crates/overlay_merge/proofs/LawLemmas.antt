@@ -1,5 +1,5 @@
 -- What holds of all that is merged.
-use Rattle.std.proofs.Common.{◌≡◌, ◌++◌, ◌&&◌, ℕ, true, false, cond, List, [], ◌∷◌, Option, Some, None, get_or, length, refl, sym, ◌∙◌, ap}
+use Rattle.std.proofs.Common.{◌≡◌, ◌++◌, ◌&&◌, ℕ, Bool, true, false, cond, List, [], ◌∷◌, Option, Some, None, get_or, length, refl, sym, ◌∙◌, ap}
 use Rattle.std.specs.Prelude.{fold, insert, nat_eq, option_map, position, remove, unwrap_or}
 use Rattle.std.specs.List.{list_any}
 use Rattle.std.specs.List.Sorted.{IsPermutation}
@@ -75,3 +75,29 @@ kid-parts tree path layers name is =
     let before = list_any-IsPermutation (pointwise nat_eq name) (kids_there tree path (all_kids layers)) (layers_kids tree path layers) (kids-reorder tree path layers) in
     let both = and_parts (is_merged_there tree (kid path name)) (has_text (all_kids layers) name) (sym (there-has tree path (all_kids layers) name) ∙ before ∙ is) in
     (both.0, sym (has-all_kids layers name) ∙ both.1)
+
+-- a name is that of a kid exactly where a layer has such a kid and something is left at its path
+pub has-layers_kids : (tree : Content) (path : List (List ℕ)) (layers : List Resource) (name : List ℕ)
+    → has_text (layers_kids tree path layers) name ≡ (is_merged_there tree (kid path name) && list_any (λ (layer : Resource). has_text layer.kids name) layers)
+has-layers_kids tree path layers name =
+    sym (list_any-IsPermutation (pointwise nat_eq name) (kids_there tree path (all_kids layers)) (layers_kids tree path layers) (kids-reorder tree path layers))
+    ∙ there-has tree path (all_kids layers) name ∙ ap (λ t. is_merged_there tree (kid path name) && t) (has-all_kids layers name)
+
+and_false : (b : Bool) → (b && false) ≡ false
+and_false true = refl
+and_false false = refl
+
+and_true : (b : Bool) → (b && true) ≡ b
+and_true true = refl
+and_true false = refl
+
+-- none where no layer has it, and else whether something is left at its path
+pub has_no_kid : (tree : Content) (path : List (List ℕ)) (layers : List Resource) (name : List ℕ) → list_any (λ (layer : Resource). has_text layer.kids name) layers ≡ false
+    → has_text (layers_kids tree path layers) name ≡ false
+has_no_kid tree path layers name none =
+    has-layers_kids tree path layers name ∙ ap (λ t. is_merged_there tree (kid path name) && t) none ∙ and_false (is_merged_there tree (kid path name))
+
+pub has_kid_there : (tree : Content) (path : List (List ℕ)) (layers : List Resource) (name : List ℕ) → list_any (λ (layer : Resource). has_text layer.kids name) layers ≡ true
+    → has_text (layers_kids tree path layers) name ≡ is_merged_there tree (kid path name)
+has_kid_there tree path layers name some =
+    has-layers_kids tree path layers name ∙ ap (λ t. is_merged_there tree (kid path name) && t) some ∙ and_true (is_merged_there tree (kid path name))

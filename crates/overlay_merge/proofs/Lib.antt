@@ -11,6 +11,7 @@ pub mod ThereLemmas
 pub mod KidsSeen
 pub mod CutLemmas
 pub mod SeenLemmas
+pub mod LentLemmas
 pub mod MoveLemmas
 pub mod SlotLemmas
 pub mod SlotsKept

@@ -180,7 +180,7 @@ sorted_after (p ∷ props) more k v sorted =
     let both = and_parts (below_all by_name p.0 (props ++ (k, v) ∷ more)) (is_sorted by_name (props ++ (k, v) ∷ more)) sorted in
     All-cons (λ (e : List ℕ × Value). by_name k e.0 ≡ Greater) p props (greater k p.0 (below_in p.0 props more k v both.0)) (sorted_after props more k v both.1)
 
-put_sorted : (props more : List (List ℕ × Value)) → is_sorted by_name (props ++ more) ≡ true → put_all props more ≡ props ++ more
+pub put_sorted : (props more : List (List ℕ × Value)) → is_sorted by_name (props ++ more) ≡ true → put_all props more ≡ props ++ more
 unfolding put_all
 put_sorted props [] sorted = sym (append-nil props)
 put_sorted props ((k, v) ∷ more) sorted =

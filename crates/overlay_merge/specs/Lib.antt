@@ -3,6 +3,7 @@ pub mod Layers
 pub mod Hiding
 pub mod Cut
 pub mod Properties
+pub mod Lent
 pub mod Kids
 pub mod Merged
 pub mod Walk

@@ -5,7 +5,7 @@ use Rattle.resource_tree.specs.Seen.{Resource, res_at}
 use Rattle.overlay_merge.specs.Roots.{is_merged_path, is_name_of_root, is_parent_of_roots}
 use Rattle.overlay_merge.specs.Hiding.{merged_from}
 use Rattle.overlay_merge.specs.Properties.{merged_props}
-use Rattle.overlay_merge.specs.Kids.{layers_kids}
+use Rattle.overlay_merge.specs.Kids.{has_text, layers_kids}
 
 -- layers merged as the resource at a path; without a layer there is none
 abbrev pub merge : Content → List (List ℕ) → List Resource → Option Resource
@@ -40,3 +40,15 @@ without_kids res = record res { kids = [] }
 -- what is seen at a path, without its kids where resources are merged
 unfoldable pub merged_alone : Content → List (List ℕ) → Option Resource
 merged_alone tree path = if is_merged_path path then option_map without_kids (merged_resource tree path) else merged_resource tree path
+
+-- of names the one that is asked for
+abbrev pub names_like : List ℕ → List (List ℕ) → List (List ℕ)
+names_like name names = if has_text names name then name ∷ [] else []
+
+-- the same resource without its kids but for that of one name
+abbrev pub with_kid : List ℕ → Resource → Resource
+with_kid name res = record res { kids = names_like name res.kids }
+
+-- what is seen at a path, where resources are merged without its kids but for that of one name
+unfoldable pub merged_with_kid : Content → List (List ℕ) → List ℕ → Option Resource
+merged_with_kid tree path name = if is_merged_path path then option_map (with_kid name) (merged_resource tree path) else merged_resource tree path

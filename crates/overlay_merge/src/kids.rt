@@ -3,6 +3,7 @@ ghost use Rattle.std.specs.Prelude.{◌≡◌, ◌∷◌, ◌++◌, [], not, IfO
 ghost use Rattle.std.specs.List.{list_any};
 ghost use Rattle.resource_tree.specs.Content.{kid, node_at};
 ghost use Rattle.overlay_merge.specs.Kids.{all_kids, has_text, is_merged_there, layers_kids, kids_there};
+ghost use Rattle.overlay_merge.specs.Merged.{names_like};
 ghost use Rattle.overlay_merge.specs.Walk.{AreNodesOf};
 
 use crate::merged_resources::merged_from;
@@ -116,4 +117,36 @@ pub(crate) fn kids_of(alloc: Global, tree: &Tree, path: &Path, layers: &[Res<'_>
         return Ok(TextList::from(kids));
     }
     Ok(TextList::from(ordered(alloc, kids.as_slice(), &moves)?))
+}
+
+// Whether layers at a path have a kid of this name.
+fn has_kid(alloc: Global, tree: &Tree, path: &Path, layers: &[Res<'_>], name: &str) -> Mem<bool>
+    requires { AreNodesOf tree.now layers.now }
+    ensures { IfOk result (λ b. b ≡ has_text (layers_kids tree.now path.now layers.now) name.now) }
+{
+    let known = is_kid_of_some(alloc, tree, layers, name)?;
+    if !known {
+        return Ok(false);
+    }
+    is_there(alloc, tree, path, name)
+}
+
+/// Of the kids of layers at a path the one of a name, if there is one: no other is looked up.
+pub(crate) fn kids_like(
+    alloc: Global,
+    tree: &Tree,
+    path: &Path,
+    layers: &[Res<'_>],
+    name: &str,
+) -> Mem<TextList>
+    requires { AreNodesOf tree.now layers.now }
+    ensures { IfOk result (λ kids. kids ≡ names_like name.now (layers_kids tree.now path.now layers.now)) }
+{
+    let mut kids = TextList::new(alloc);
+    let listed = has_kid(alloc, tree, path, layers, name)?;
+    if !listed {
+        return Ok(kids);
+    }
+    kids.push(TextBuf::of(alloc, name)?)?;
+    Ok(kids)
 }

@@ -6,6 +6,7 @@ mod hiding;
 mod kids;
 mod laws;
 mod layers;
+mod lent_props;
 mod merged_resources;
 mod merging;
 mod order;
@@ -22,6 +23,6 @@ pub use laws::{
     wishes_only_reorder,
 };
 pub use layers::Layer;
-pub use merging::{has_resource, merged, merged_alone, merged_kids};
+pub use merging::{has_resource, merged, merged_alone, merged_kids, merged_with_kid};
 pub use roots::is_merged_path;
 pub use view::MergedView;

@@ -2,9 +2,9 @@
 ghost use Rattle.std.specs.Prelude.{◌≡◌, IfOk, not, filter, option_map};
 ghost use Rattle.overlay_merge.specs.Hiding.{merged_from};
 ghost use Rattle.overlay_merge.specs.Roots.{is_name_of_root};
-ghost use Rattle.overlay_merge.specs.Merged.{has_resource, kids_in, merge, merged_resource, merged_alone, unmerged_resource, without_kids};
+ghost use Rattle.overlay_merge.specs.Merged.{has_resource, kids_in, merge, merged_resource, merged_alone, merged_with_kid, unmerged_resource, with_kid, without_kids};
 
-use crate::kids::kids_of;
+use crate::kids::{kids_like, kids_of};
 use crate::merged_resources::merged_from;
 use crate::properties::merged_props;
 use crate::roots::{is_merged_path, is_name_of_root, is_parent_of_roots};
@@ -87,6 +87,42 @@ pub fn merged_alone<'a>(alloc: Global, tree: &'a Tree, path: &Path) -> Mem<Optio
 {
     if is_merged_path(path) {
         merge_alone(alloc, tree, path)
+    } else {
+        unmerged(alloc, tree, path)
+    }
+}
+
+// What the layers of a path make together, without the kids but for that of a name.
+fn merge_with_kid<'a>(
+    alloc: Global,
+    tree: &'a Tree,
+    path: &Path,
+    name: &str,
+) -> Mem<Option<Res<'a>>>
+    ensures { IfOk result (λ o. o ≡ option_map (with_kid name.now) (merge tree.now path.now (merged_from tree.now path.now))) }
+{
+    let layers = merged_from(alloc, tree, path)?;
+    if layers.is_empty() {
+        return Ok(None);
+    }
+    let props = merged_props(alloc, &layers)?;
+    let kids = kids_like(alloc, tree, path, &layers, name)?;
+    Ok(Some(Res::owned(path.duplicate(alloc)?, Node { props, kids })))
+}
+
+/// The resource that is seen at a path, for its properties and the kid of a name: where resources are merged its other kids are left out,
+/// and none of them is looked at.
+#[tactic(auto, unfolding(crate::specs::Merged::merged_resource, crate::specs::Merged::merged_with_kid))]
+pub fn merged_with_kid<'a>(
+    alloc: Global,
+    tree: &'a Tree,
+    path: &Path,
+    name: &str,
+) -> Mem<Option<Res<'a>>>
+    ensures { IfOk result (λ o. o ≡ merged_with_kid tree.now path.now name.now) }
+{
+    if is_merged_path(path) {
+        merge_with_kid(alloc, tree, path, name)
     } else {
         unmerged(alloc, tree, path)
     }

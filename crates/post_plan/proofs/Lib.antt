@@ -3,6 +3,7 @@ pub mod AtLemmas
 pub mod PieceLemmas
 pub mod NodeLemmas
 pub mod SetLemmas
+pub mod SpotPlaceLemmas
 pub mod NumberLemmas
 pub mod RelativeLemmas
 pub mod SlashLemmas

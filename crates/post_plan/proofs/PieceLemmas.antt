@@ -1,11 +1,15 @@
 -- The pieces of a text, and paths of segments.
-use Rattle.std.proofs.Common.{◌≡◌, ◌≢◌, ◌<◌, ◌≤◌, ◌-◌, ◌+◌, ◌==◌, ℕ, zero, suc, Bool, true, false, cond, List, [], ◌∷◌, ◌++◌, Option, Some, None, drop, take, length, map, Bor, get_or, slice_get, refl, ap, sym, ◌∙◌, arith, append_assoc}
-use Rattle.std.specs.Prelude.{slice_index_or}
+use Rattle.std.proofs.Common.{◌≡◌, ◌≢◌, ◌<◌, ◌≤◌, ◌-◌, ◌+◌, ◌==◌, ◌&&◌, ℕ, zero, suc, Bool, true, false, cond, List, [], ◌∷◌, ◌++◌, Option, Some, None, Result, Ok, Err, IfOk, drop, length, map, Bor, get_or, slice_get, refl, ap, sym, ◌∙◌, arith}
+use Rattle.std.specs.Prelude.{IsTrue, nat_le, slice_index_or}
+use Rattle.std.specs.List.{list_all}
+use Rattle.std.specs.Result.{result_ok}
+use Rattle.std.proofs.lemmas.List.Folds.{list_all-map}
 use Rattle.std.proofs.lemmas.Bool.Decides.{nat_tests}
 use Rattle.std.proofs.lemmas.List.Splits.{slice_split_at, slice_split_none}
 use Rattle.std.proofs.lemmas.List.Elements.{All-from_get_or}
-use Rattle.std.proofs.lemmas.List.{append-nil, take_rest}
-use Rattle.sp_base.specs.Paths.{pieces, path_or_none, is_path}
+use Rattle.std.proofs.lemmas.List.{append-nil, length-map}
+use Rattle.sp_base.specs.PathTexts.{spelling_of}
+use Rattle.sp_base.specs.Paths.{is_path, most_segments, path_in, path_of, path_or_none, pieces, seg_ok, text_of}
 use Rattle.post_plan.specs.Spots.{own_name}
 
 lacks : (b : ℕ) → b ≢ 47 → (b == 47) ≡ false
@@ -31,18 +35,23 @@ last_absent (q ∷ ps) (suc n) e = last_absent ps n e
 
 -- ---- paths of segments
 
-pub longer : (path next rest : List (List ℕ)) (seg : List ℕ) (all : Option (List (List ℕ))) → Some next ≡ path_or_none (path ++ seg ∷ []) → path_or_none (path ++ seg ∷ rest) ≡ all → path_or_none (next ++ rest) ≡ all
-longer path next rest seg all some same = go (is_path (path ++ seg ∷ [])) some
-  where
-    go : (b : Bool) → Some next ≡ cond b (Some (path ++ seg ∷ [])) None → path_or_none (next ++ rest) ≡ all
-    go true e = let is : next ≡ path ++ seg ∷ [] = cc in ap path_or_none (ap (λ (l : List (List ℕ)). l ++ rest) is ∙ append_assoc path (seg ∷ []) rest) ∙ same
-    go false e = absurd cc
+-- segments whose text reads as their path
+path_spelled : (name : List ℕ) (names : List (List ℕ)) (text : List ℕ) (o : Option (List (List ℕ))) → ((path : List (List ℕ)) → IsTrue (is_path path) → path_of (text_of path) ≡ Ok path) → is_path (name ∷ names) ≡ true → text ≡ spelling_of (name ∷ names)
+    → o ≡ path_in text → o ≡ path_or_none (name ∷ names)
+path_spelled name names text o read valid spelled is =
+    is ∙ ap path_in spelled ∙ ap result_ok (read (name ∷ names) valid) ∙ sym (ap (λ (b : Bool). cond b (Some (name ∷ names)) None) valid)
 
--- the same of the first of names that are lent
-pub lent_longer : (path next : List (List ℕ)) (names : List (Bor (List ℕ))) (d : Bor (List ℕ)) (found all : Option (List (List ℕ))) → 1 ≤ length names → found ≡ path_or_none (path ++ (get_or names 0 d).now ∷ []) → found ≡ Some next
-    → path_or_none (path ++ map (λ (n : Bor (List ℕ)). n.now) names) ≡ all → path_or_none (next ++ map (λ (n : Bor (List ℕ)). n.now) (take (length names - 1) (drop 1 names))) ≡ all
-lent_longer path next [] d found all some is there same = absurd (omega (arith, some))
-lent_longer path next (name ∷ more) d found all some is there same = rw take_rest (longer path next (map (λ (n : Bor (List ℕ)). n.now) more) name.now all (sym there ∙ is) same)
+pub path_read : {E : Type 0} (r : Result (Option (List (List ℕ))) E) (names : List (Bor (List ℕ))) (text : List ℕ) → ((path : List (List ℕ)) → IsTrue (is_path path) → path_of (text_of path) ≡ Ok path) → (length names == 0) ≡ false
+    → is_path (map (λ (n : Bor (List ℕ)). n.now) names) ≡ true → text ≡ spelling_of (map (λ (n : Bor (List ℕ)). n.now) names) → IfOk r (λ o. o ≡ path_in text) → IfOk r (λ o. o ≡ path_or_none (map (λ (n : Bor (List ℕ)). n.now) names))
+path_read (Err e) names text read some valid spelled is = tt
+path_read (Ok o) [] text read some valid spelled is = absurd cc
+path_read (Ok o) (name ∷ names) text read some valid spelled is = path_spelled name.now (map (λ (n : Bor (List ℕ)). n.now) names) text o read valid spelled is
+
+-- names that are lent make a path
+pub lent_path : (names : List (Bor (List ℕ))) → is_path (map (λ (n : Bor (List ℕ)). n.now) names) ≡ list_all (λ (n : Bor (List ℕ)). seg_ok n.now) names && nat_le (length names) most_segments
+lent_path names =
+    ap (λ (b : Bool). b && nat_le (length (map (λ (n : Bor (List ℕ)). n.now) names)) most_segments) (list_all-map seg_ok (λ (n : Bor (List ℕ)). n.now) names)
+    ∙ ap (λ (k : ℕ). list_all (λ (n : Bor (List ℕ)). seg_ok n.now) names && nat_le k most_segments) (length-map names (λ (n : Bor (List ℕ)). n.now))
 
 pub whole : (path : List (List ℕ)) (all : Option (List (List ℕ))) → is_path path ≡ true → path_or_none (path ++ []) ≡ all → Some path ≡ all
 whole path all valid same = sym (ap (λ (b : Bool). cond b (Some path) None) valid) ∙ ap path_or_none (sym (append-nil path)) ∙ same

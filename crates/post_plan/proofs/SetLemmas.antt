@@ -22,7 +22,7 @@ or_false : (b : Bool) → b || false ≡ b
 or_false true = refl
 or_false false = refl
 
-named_push : (before : List Entry) (e : Entry) (spot : Spot) → is_spot_named spot (before ++ e ∷ []) ≡ is_spot_named spot before || same_spot e.spot spot
+pub named_push : (before : List Entry) (e : Entry) (spot : Spot) → is_spot_named spot (before ++ e ∷ []) ≡ is_spot_named spot before || same_spot e.spot spot
 named_push before e spot = list_any-append (λ f. same_spot f.spot spot) before (e ∷ []) ∙ ap (λ (b : Bool). is_spot_named spot before || b) (or_false (same_spot e.spot spot))
 
 -- those that neither an entry of a list nor one more names
@@ -45,18 +45,18 @@ fresh_push before e (t ∷ spots) = ap (λ (b : Bool). cond (not b) (t ∷ all) 
     go false true en es ih = ih
     go false false en es ih = ap (λ (l : List Spot). t ∷ l) ih ∙ ap kept (sym en)
 
-nothing_left : (es : List Entry) (n : ℕ) → length es ≤ n → drop n es ≡ []
+pub nothing_left : (es : List Entry) (n : ℕ) → length es ≤ n → drop n es ≡ []
 nothing_left [] zero le = refl
 nothing_left [] (suc n) le = refl
 nothing_left (e ∷ es) zero le = absurd (omega arith)
 nothing_left (e ∷ es) (suc n) le = nothing_left es n (omega (arith, le))
 
-drop_here : (es : List Entry) (n : ℕ) (e : Entry) → slice_get es n ≡ Some e → drop n es ≡ e ∷ drop (suc n) es
+pub drop_here : (es : List Entry) (n : ℕ) (e : Entry) → slice_get es n ≡ Some e → drop n es ≡ e ∷ drop (suc n) es
 drop_here [] n e here = absurd cc
 drop_here (f ∷ es) zero e here = cc
 drop_here (f ∷ es) (suc n) e here = drop_here es n e here
 
-take_more : (es : List Entry) (n : ℕ) (e : Entry) → slice_get es n ≡ Some e → take (suc n) es ≡ take n es ++ e ∷ []
+pub take_more : (es : List Entry) (n : ℕ) (e : Entry) → slice_get es n ≡ Some e → take (suc n) es ≡ take n es ++ e ∷ []
 take_more [] n e here = absurd cc
 take_more (f ∷ es) zero e here = cc
 take_more (f ∷ es) (suc n) e here = ap (λ (l : List Entry). f ∷ l) (take_more es n e here)
@@ -88,6 +88,16 @@ cons_is : (set : Option PropSet) (more : List PropSet) → cons_option set more 
 cons_is None more = refl
 cons_is (Some s) more = refl
 
+entry_at : (es : List Entry) (n : ℕ) (e : Entry) → slice_get es n ≡ Some e → e ≡ get_or es n e
+entry_at [] n e here = absurd cc
+entry_at (f ∷ es) zero e here = cc
+entry_at (f ∷ es) (suc n) e here = entry_at es n e here
+
+none_here : (es : List Entry) (n : ℕ) → n < length es → slice_get es n ≡ None → ⊥
+none_here [] n lt none = omega (arith, lt)
+none_here (f ∷ es) zero lt none = cc
+none_here (f ∷ es) (suc n) lt none = none_here es n (omega (arith, lt)) none
+
 -- one turn of the walk
 pub turn : (pairs : List (List ℕ × List ℕ)) (es : List Entry) (n : ℕ) (e : Entry) (list next all : List PropSet) (set : Option PropSet) → n < length es → e ≡ get_or es n e → set ≡ set_here pairs es (take n es) e → next ≡ list ++ cons_option set []
     → list ++ sets_from pairs es (take n es) (drop n es) ≡ all → next ++ sets_from pairs es (take (n + 1) es) (drop (n + 1) es) ≡ all
@@ -102,6 +112,16 @@ turn pairs es n e list next all set lt at is pushed same =
     ∙ append_assoc list (cons_option set []) (sets_from pairs es (take (n + 1) es) (drop (n + 1) es))
     ∙ ap (λ (l : List PropSet). list ++ l) (sym (cons_is set (sets_from pairs es (take (n + 1) es) (drop (n + 1) es))) ∙ first)
     ∙ same
+
+-- the same by what the entry at the place sets
+pub turn_by : (pairs : List (List ℕ × List ℕ)) (es : List Entry) (n : ℕ) (list next all : List PropSet) (set : Option PropSet) → n < length es
+    → ((e : Entry) → slice_get es n ≡ Some e → set ≡ set_here pairs es (take n es) e) → next ≡ list ++ cons_option set []
+    → list ++ sets_from pairs es (take n es) (drop n es) ≡ all → next ++ sets_from pairs es (take (n + 1) es) (drop (n + 1) es) ≡ all
+turn_by pairs es n list next all set lt is pushed same = by (slice_get es n) refl
+  where
+    by : (o : Option Entry) → slice_get es n ≡ o → next ++ sets_from pairs es (take (n + 1) es) (drop (n + 1) es) ≡ all
+    by (Some e) here = turn pairs es n e list next all set lt (entry_at es n e here) (is e here) pushed same
+    by None here = absurd (none_here es n lt here)
 
 pub done : (pairs : List (List ℕ × List ℕ)) (es : List Entry) (n : ℕ) (list : List PropSet) → length es ≤ n → list ++ sets_from pairs es (take n es) (drop n es) ≡ sets_from pairs es [] es → list ≡ sets pairs es
 unfolding sets_from

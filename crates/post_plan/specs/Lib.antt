@@ -4,5 +4,6 @@ pub mod RelativePaths
 pub mod Spots
 pub mod NewNames
 pub mod Entries
+pub mod SpotPlaces
 pub mod Plan
 pub mod OperationPaths

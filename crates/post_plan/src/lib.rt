@@ -17,6 +17,7 @@ mod planning;
 mod relative;
 mod sets;
 mod spot;
+mod spot_places;
 mod spots;
 mod suffix;
 mod verb;

@@ -1,15 +1,18 @@
 //! The properties that content parameters set.
-ghost use Rattle.std.specs.Prelude.{◌≡◌, ◌++◌, [], IfOk, OnOk, option_copied, true};
+ghost use Rattle.std.specs.Prelude.{◌≡◌, ◌<◌, ◌++◌, [], IfOk, OnOk, Some, length, option_copied, slice_get, take, true};
 ghost use Rattle.std.specs.Cmp.Lexicographic.{pointwise};
 ghost use Rattle.std.specs.List.{cons_option};
 ghost use Rattle.std.specs.Str.{bytes_eq};
 ghost use Rattle.sp_base.specs.Bytes.{first_text};
 ghost use Rattle.post_plan.specs.Entries as spec;
+ghost use Rattle.post_plan.specs.Entries.{Entry as ContentEntry};
+ghost use Rattle.post_plan.specs.SpotPlaces.{first_places};
 ghost use Rattle.post_plan.specs.Parameters.{words_of};
 
 use crate::entries::Entry;
 use crate::groups::{copy_of, same_suffix};
 use crate::hints::hint_of;
+use crate::spot_places::{LentEntries, first_places, is_later, numbered};
 use crate::suffix::Suffix;
 use crate::words::words_of;
 use crate::{LentWords, PropSet, SetList, Spot};
@@ -42,10 +45,10 @@ fn is_at(spot: &Spot, suffix: Suffix, entry: &Entry) -> bool
 }
 
 // The word of the first parameter of a spot with a suffix.
-fn first_at<'a>(spot: &Spot, suffix: Suffix, entries: &[Entry<'a>]) -> Option<&'a str>
+fn first_at<'a>(spot: &Spot, suffix: Suffix, entries: &LentEntries<'_, 'a>) -> Option<&'a str>
     ensures { option_copied result ≡ first_text (spec.words_at spot.now suffix entries.now) }
 {
-    let mut rest = entries;
+    let mut rest = entries.as_slice();
     while let [entry, more @ ..] = rest {
         if is_at(spot, suffix, entry) {
             return Some(entry.word);
@@ -60,12 +63,12 @@ fn words_at<'a>(
     alloc: Global,
     spot: &Spot,
     suffix: Suffix,
-    entries: &[Entry<'a>],
+    entries: &LentEntries<'_, 'a>,
 ) -> Mem<LentWords<'a>>
     ensures { IfOk result (λ words. words ≡ spec.words_at spot.now suffix entries.now) }
 {
     let mut words = LentWords::new(alloc);
-    for entry in entries {
+    for entry in entries.as_slice() {
         if is_at(spot, suffix, entry) {
             words.push(entry.word)?;
         }
@@ -128,7 +131,7 @@ fn given<'a>(
     alloc: Global,
     pairs: &'a [(TextBuf, TextBuf)],
     spot: &Spot,
-    entries: &[Entry<'a>],
+    entries: &LentEntries<'_, 'a>,
 ) -> Mem<LentWords<'a>>
     ensures { IfOk result (λ l. l ≡ spec.words_or_source (first_text (spec.words_at spot.now Suffix.ValueFrom entries.now)) pairs.now (spec.words_at spot.now Suffix.Plain entries.now)) }
 {
@@ -142,7 +145,7 @@ fn given<'a>(
 fn set_words<'a>(
     alloc: Global,
     pairs: &'a [(TextBuf, TextBuf)],
-    entries: &[Entry<'a>],
+    entries: &LentEntries<'_, 'a>,
     spot: &Spot,
 ) -> Mem<LentWords<'a>>
     ensures { IfOk result (λ l. l ≡ spec.set_words pairs.now entries.now spot.now) }
@@ -154,7 +157,7 @@ fn set_words<'a>(
     Ok(defaulted(defaults, words))
 }
 
-fn hint_at(spot: &Spot, entries: &[Entry]) -> Option<Hint>
+fn hint_at(spot: &Spot, entries: &LentEntries) -> Option<Hint>
     ensures { result ≡ spec.hint_at entries.now spot.now }
 {
     match first_at(spot, Suffix::TypeHint, entries) {
@@ -166,7 +169,7 @@ fn hint_at(spot: &Spot, entries: &[Entry]) -> Option<Hint>
 fn set_of<'a>(
     alloc: Global,
     pairs: &'a [(TextBuf, TextBuf)],
-    entries: &[Entry<'a>],
+    entries: &LentEntries<'_, 'a>,
     spot: &Spot,
 ) -> Mem<Option<PropSet<'a>>>
     ensures { IfOk result (λ o. o ≡ spec.set_of pairs.now entries.now spot.now) }
@@ -182,26 +185,24 @@ fn set_of<'a>(
     }))
 }
 
-fn names_any(spot: &Spot, entries: &[Entry]) -> bool
-    ensures { result ≡ spec.is_spot_named spot.now entries.now }
-{
-    entries.iter().any(|entry| same_spot(&entry.spot, spot))
-}
-
-// What an entry sets, where those before it don't name its spot.
+// What the entry at a place sets, where those before it don't name its spot. The other entries of its spot are those of its number.
 fn set_here<'a>(
     alloc: Global,
     pairs: &'a [(TextBuf, TextBuf)],
     entries: &[Entry<'a>],
-    before: &[Entry],
-    entry: &Entry,
+    places: &[usize],
+    n: usize,
 ) -> Mem<Option<PropSet<'a>>>
-    ensures { IfOk result (λ o. o ≡ spec.set_here pairs.now entries.now before.now entry.now) }
+    requires places { places.now ≡ first_places entries.now }
+    requires within { n < length entries.now }
+    ensures { IfOk result (λ o. (e : ContentEntry) → slice_get entries.now n ≡ Some e → o ≡ spec.set_here pairs.now entries.now (take n entries.now) e) }
 {
-    if names_any(&entry.spot, before) {
+    if is_later(places, n) {
         return Ok(None);
     }
-    set_of(alloc, pairs, entries, &entry.spot)
+    let entry = &entries[n];
+    let own = numbered(alloc, entries, places, n)?;
+    set_of(alloc, pairs, &own, &entry.spot)
 }
 
 fn add<'a>(list: &mut SetList<'a>, set: Option<PropSet<'a>>) -> Mem<()>
@@ -222,9 +223,10 @@ pub fn sets<'a>(
 ) -> Mem<SetList<'a>>
     ensures { IfOk result (λ l. l ≡ spec.sets pairs.now entries.now) }
 {
+    let places = first_places(alloc, entries)?;
     let mut list = SetList::new(alloc);
     for n in 0..entries.len() {
-        let set = set_here(alloc, pairs, entries, &entries[..n], &entries[n])?;
+        let set = set_here(alloc, pairs, entries, &places, n)?;
         add(&mut list, set)?;
     }
     Ok(list)

@@ -1,13 +1,15 @@
 //! The places that texts name, seen from a node.
-ghost use Rattle.std.specs.Prelude.{◌≡◌, ◌<◌, ◌++◌, ◌-◌, IfOk, not, option_and_then, length, map, option_copied, slice_get};
-ghost use Rattle.sp_base.specs.Paths.{path_or_none, pieces};
+ghost use Rattle.std.specs.Prelude.{◌≡◌, ◌<◌, ◌++◌, ◌-◌, IfOk, not, option_and_then, length, map, option_copied, slice_get, string_bytes};
+ghost use Rattle.std.specs.List.{list_all};
+ghost use Rattle.sp_base.specs.Paths.{is_path, path_or_none, pieces, seg_ok};
+ghost use Rattle.sp_base.specs.PathTexts.{spelling_of};
 ghost use Rattle.resource_tree.specs.MergeRoots.{is_merged_path};
 ghost use Rattle.post_plan.specs.Spots as spec;
 
 use crate::Spot;
 use crate::node::{TargetNode, is_merged_below, is_merged_path};
 use crate::relative::{RelativePath, relative_path_of};
-use sp_base::{Mem, Path, seg_ok};
+use sp_base::{MOST_SEGMENTS, Mem, Path, a_path_and_its_text, seg_ok};
 use std::alloc::Global;
 
 fn count(text: &str) -> usize
@@ -38,22 +40,64 @@ pub fn is_absolute(text: &str) -> bool
     text.as_bytes().starts_with(b"/")
 }
 
+// Whether each name may be a segment.
+fn are_segments(names: &[&str]) -> bool
+    ensures { result ≡ list_all (λ n. seg_ok n.now) names.now }
+{
+    let mut rest = names;
+    while let [name, more @ ..] = rest {
+        if !seg_ok(name) {
+            return false;
+        }
+        rest = more;
+    }
+    true
+}
+
+// Whether segments make a path.
+#[tactic(auto, using(crate::proofs::PieceLemmas::lent_path))]
+fn make_path(names: &[&str]) -> bool
+    ensures { result ≡ is_path (map (λ n. n.now) names.now) }
+{
+    are_segments(names) && names.len() <= MOST_SEGMENTS
+}
+
+// A slash before each segment. It is one text, since a path of its own for each segment would copy those before it once more.
+fn spelled(alloc: Global, names: &[&str]) -> Mem<String>
+    ensures { IfOk result (λ t. string_bytes t ≡ spelling_of (map (λ n. n.now) names.now)) }
+{
+    let mut text = String::new(alloc);
+    for name in names {
+        text.push_str("/")?;
+        text.push_str(name)?;
+    }
+    Ok(text)
+}
+
+// The path of segments, where they make one.
+fn path_of_segments(alloc: Global, names: &[&str]) -> Mem<Option<Path>>
+    ensures { IfOk result (λ o. o ≡ path_or_none (map (λ n. n.now) names.now)) }
+{
+    // A path's text reads as the path.
+    a_path_and_its_text();
+    if names.is_empty() {
+        return Ok(Some(Path::root(alloc)));
+    }
+    if !make_path(names) {
+        return Ok(None);
+    }
+    let text = spelled(alloc, names)?;
+    Path::read_or_none(alloc, text.as_str())
+}
+
 // The path with further segments, where that is one.
 fn extended(alloc: Global, base: Path, names: &[&str]) -> Mem<Option<Path>>
     ensures { IfOk result (λ o. o ≡ path_or_none (base ++ map (λ n. n.now) names.now)) }
 {
-    let mut path = base;
-    let mut rest = names;
-    while let [name, more @ ..] = rest {
-        let Some(next) = path.child_or_none(alloc, name)? else {
-            return Ok(None);
-        };
-        path = next;
-        rest = more;
+    match path_of_segments(alloc, names)? {
+        Some(below) => base.join_or_none(alloc, &below),
+        None => Ok(None),
     }
-    // That the segments make a path is a clause of its depth.
-    let _depth = path.depth();
-    Ok(Some(path))
 }
 
 // The path that a relative path leads to from a node.
@@ -111,7 +155,7 @@ fn relative_spot(alloc: Global, node: &TargetNode, relative: RelativePath) -> Me
     ensures { IfOk result (λ o. o ≡ spec.relative_spot node.now relative.entry) }
 {
     if relative.up == 0 {
-        let path = extended(alloc, Path::root(alloc), relative.down.as_slice())?;
+        let path = path_of_segments(alloc, relative.down.as_slice())?;
         return Ok(spot_below(path));
     }
     Ok(absolute_spot(led_up(alloc, node, relative)?))

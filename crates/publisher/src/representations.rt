@@ -1,11 +1,11 @@
 // The answers of a resource.
-ghost use Rattle.std.specs.Prelude.{◌≡◌, Some, IfOk};
+ghost use Rattle.std.specs.Prelude.{◌≡◌, None, Some, IfOk};
 ghost use Rattle.get_servlet.specs.Streams.{stream_of};
 ghost use Rattle.publisher.specs.Depths.{depth_of};
 ghost use Rattle.script_rank.specs.Ranking.{script_text};
 ghost use Rattle.publisher.specs.Kept.{AreReadings};
 ghost use Rattle.publisher.specs.Rendering.{representation_of, json_representation, json_to_depth, file_representation, is_bare, default_answer, resource_answer, seen_resources};
-ghost use Rattle.publisher.specs.SeenAlone.{IsSeenAlone, seen_answer};
+ghost use Rattle.publisher.specs.SeenAlone.{IsSeenAlone, answer_seen, seen_answer, shows_no_kid};
 
 use crate::choices::choices_text;
 use crate::depths::depth_of;
@@ -14,8 +14,8 @@ use crate::methods::mark_of;
 use crate::scripts::script_representation;
 use crate::templates::{Templates, read};
 use error_answers::error_answer;
-use get_servlet::{JsonAnswer, Stream, json_of, stream_of};
-use overlay_merge::{MergedView, is_merged_path, merged};
+use get_servlet::{Depth, JsonAnswer, Stream, json_of, stream_of};
+use overlay_merge::{MergedView, is_merged_path, merged, merged_with_kid};
 use resource_tree::{Look, Res, Tree};
 use script_rank::{script_of, script_text};
 use sp_base::{Answer, ByteBuf, MOST_RENDERED_BYTES, Mark, Mem, Path, TextBuf};
@@ -93,7 +93,33 @@ fn default_answer<L: Look>(alloc: Global, look: &L, parts: &Parts, res: &Res) ->
     error_answer(alloc, 404)
 }
 
-// The answer of the default GET servlet for the resource that is seen at the path of the parts. It is seen with its kids now.
+// Whether the answer of the default GET servlet shows no kid, and asks for none: JSON of the resource alone, and what is refused.
+fn shows_no_kid(parts: &Parts) -> bool
+    ensures { result ≡ shows_no_kid parts.now }
+{
+    if parts.extension.text() != "json" {
+        return !is_bare(parts);
+    }
+    match depth_of(&parts.selectors) {
+        Some(Depth::Levels(levels)) => levels == 0,
+        Some(Depth::Infinity) => false,
+        None => true,
+    }
+}
+
+// The resource that is seen at the path of the parts, with the kids that the default GET servlet asks for.
+fn seen_with_kids<'a>(alloc: Global, tree: &'a Tree, parts: &Parts) -> Mem<Option<Res<'a>>>
+    ensures { IfOk result (λ o. answer_seen None tree.entry.now parts.now o ≡ seen_answer None tree.entry.now parts.now) }
+{
+    if parts.extension.text() == "json" {
+        merged(alloc, tree, &parts.path)
+    } else {
+        merged_with_kid(alloc, tree, &parts.path, "jcr:content")
+    }
+}
+
+// The answer of the default GET servlet for the resource that is seen at the path of the parts. It is seen with its kids now, where
+// the answer shows some.
 fn default_answer_there(alloc: Global, tree: &Tree, parts: &Parts, res: &Res) -> Mem<Answer>
     requires { IsSeenAlone tree.now parts.now res.now }
     ensures { IfOk result (λ a. a ≡ seen_answer None tree.now parts.now) }
@@ -102,7 +128,10 @@ fn default_answer_there(alloc: Global, tree: &Tree, parts: &Parts, res: &Res) ->
     if !is_merged_path(&parts.path) {
         return default_answer(alloc, &view, parts, res);
     }
-    match merged(alloc, tree, &parts.path)? {
+    if shows_no_kid(parts) {
+        return default_answer(alloc, &view, parts, res);
+    }
+    match seen_with_kids(alloc, tree, parts)? {
         Some(whole) => default_answer(alloc, &view, parts, &whole),
         None => error_answer(alloc, 404),
     }

@@ -1,6 +1,4 @@
 use Rattle.std.proofs.Common.{◌<◌, ◌≤◌, length, arith, sym, ◌∙◌, ap}
-use Rattle.std.specs.FinMap.Entries.{put}
-use Rattle.sp_base.specs.Names.{by_name}
 use Rattle.overlay_merge.specs.Properties.{put_all}
 use Rattle.overlay_merge.proofs.PropertyLemmas.{put_step, put_end, drop_all}
 use Rattle.overlay_merge.proofs.properties.put_all.Goals as goal
@@ -9,7 +7,7 @@ pub loop-place-preserved : goal.loop-place-preserved
 loop-place-preserved c =
     let within : c.loop-place.place < length c.args.upper.now = omega (arith, c.loop-place-test.true, c.len-place-end.ensures.len) in
     put_step c.loop-place.props c.put.new.self c.args.upper.now (put_all c.args.props.now c.args.upper.now) c.loop-place.place c.in-Some.name.now c.in-Some.value.now within c.in-Some.ensures c.loop-place.invariant
-    (c.in_ok-put.ensures.ok ∙ ap (λ v. put by_name c.in-Some.name.now v c.loop-place.props) c.in_ok-duplicate.ensures)
+    c.in_ok-put.ensures
 
 pub returns : goal.returns
 returns c =

@@ -74,6 +74,57 @@ const ROWS: [(&str, &str, &str); 60] = [
     ),
 ];
 
+// The same of patterns with 64 characters, with 65 and with more: those above 64 are matched by a walk over their places.
+const LONG_ROWS: [(&str, &str, &str); 6] = [
+    (
+        "aaaaaaaaaaaaaaaabbbbbbbbbbbbbbbbccccccccccccccccddddddddddddddd(d|e)*",
+        "aaaaaaaaaaaaaaaabbbbbbbbbbbbbbbbccccccccccccccccddddddddddddddd",
+        "aaaaaaaaaaaaaaaabbbbbbbbbbbbbbbbccccccccccccccccdddddddddddddde",
+    ),
+    (
+        "aaaaaaaaaaaaaaaabbbbbbbbbbbbbbbbccccccccccccccccdddddddddddddddd",
+        "aaaaaaaaaaaaaaaabbbbbbbbbbbbbbbbccccccccccccccccdddddddddddddddd",
+        "aaaaaaaaaaaaaaaabbbbbbbbbbbbbbbbccccccccccccccccddddddddddddddd",
+    ),
+    (
+        "aaaaaaaaaaaaaaaabbbbbbbbbbbbbbbbccccccccccccccccdddddddddddddddde?",
+        "aaaaaaaaaaaaaaaabbbbbbbbbbbbbbbbccccccccccccccccdddddddddddddddde",
+        "aaaaaaaaaaaaaaaabbbbbbbbbbbbbbbbccccccccccccccccddddddddddddddddee",
+    ),
+    (
+        "/content/([a-z]|[0-9]|-)+/aaaaaaaaaabbbbbbbbbbccccccccccddddddddddeeeeeeeeeeffffffffff(x|y)*",
+        "/content/a-1/aaaaaaaaaabbbbbbbbbbccccccccccddddddddddeeeeeeeeeeffffffffffxyx",
+        "/content//aaaaaaaaaabbbbbbbbbbccccccccccddddddddddeeeeeeeeeeffffffffffxyx",
+    ),
+    (
+        "(aaaaaaaaaaaaaaaaaaaaaaaaaaaaaaaaaa|bbbbbbbbbbbbbbbbbbbbbbbbbbbbbbbbbb)+",
+        "bbbbbbbbbbbbbbbbbbbbbbbbbbbbbbbbbbaaaaaaaaaaaaaaaaaaaaaaaaaaaaaaaaaa",
+        "bbbbbbbbbbbbbbbbbbbbbbbbbbbbbbbbbbaaaaaaaaaaaaaaaaaaaaaaaaaaaaaaaaa",
+    ),
+    (
+        "(a?b?c?d?e?f?g?h?i?j?k?l?m?n?o?p?q?r?s?t?u?v?w?x?y?z?A?B?C?D?E?F?G?H?I?J?K?L?M?N?O?P?Q?R?S?T?U?V?W?X?Y?Z?0?1?2?3?4?5?6?7?8?9?ä?ö?ü?)",
+        "",
+        "ba",
+    ),
+];
+
+// A pattern, a text, a place of it, and how far its longest beginning goes that the pattern matches.
+const FRONTS: [(&str, &str, usize, Option<usize>); 8] = [
+    ("localhost\\.80/old", "localhost.80/old/x", 12, Some(16)),
+    ("localhost\\.80/old", "localhost.80/old.html", 12, Some(16)),
+    ("localhost\\.80/old", "localhost.80/old", 12, Some(16)),
+    ("localhost\\.80/o", "localhost.80/old", 12, None),
+    ("localhost\\.80/o.*", "localhost.80/old.html", 12, Some(21)),
+    (
+        "localhost\\.80(/[a-z]+)*",
+        "localhost.80/a/b.html",
+        12,
+        Some(16),
+    ),
+    ("localhost", "localhost.80/a", 12, None),
+    ("localhost\\.80", "localhost.80/a", 12, Some(12)),
+];
+
 fn are_answers(
     alloc: Global,
     pattern: &str,
@@ -88,5 +139,30 @@ fn are_answers(
 fn rows(rt: HostRuntime) {
     for (pattern, held, apart) in &ROWS {
         assert!(rt; matches!(are_answers(rt.alloc(), *pattern, *held, *apart), Ok(true)));
+    }
+}
+
+#[test]
+fn long_rows(rt: HostRuntime) {
+    for (pattern, held, apart) in &LONG_ROWS {
+        assert!(rt; matches!(are_answers(rt.alloc(), *pattern, *held, *apart), Ok(true)));
+    }
+}
+
+fn is_front(
+    alloc: Global,
+    pattern: &str,
+    text: &str,
+    from: usize,
+    end: Option<usize>,
+) -> Result<bool, PatternFault> {
+    let read = Pattern::read(alloc, pattern)?;
+    Ok(read.longest_front(alloc, text, from)? == end)
+}
+
+#[test]
+fn fronts(rt: HostRuntime) {
+    for (pattern, text, from, end) in &FRONTS {
+        assert!(rt; matches!(is_front(rt.alloc(), *pattern, *text, *from, *end), Ok(true)));
     }
 }

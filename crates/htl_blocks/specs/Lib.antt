@@ -12,4 +12,3 @@ pub mod Pieces
 pub mod Sheets
 pub mod Places
 pub mod WrittenLaws
-pub mod Pages

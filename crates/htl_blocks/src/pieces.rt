@@ -55,7 +55,6 @@ fn written<'a>(
 }
 
 // The fault where there is too much but maybe not too much text.
-#[tactic(auto, using(crate::proofs::PieceLemmas::many_is_refused, crate::proofs::PieceLemmas::alone_is_refused))]
 fn fault_beside<'a>(alloc: Global, scope: &Scope<'a>, all: &'a [Block]) -> RunFault
     requires { IsOver RunFault.TooMany (with_parts (empty_sheet scope.now Keeping.All) (blocks_parts scope.now all.now)) }
     ensures { result ≢ RunFault.NoMemory → IsRefused result (blocks_parts scope.now all.now) }

@@ -1,8 +1,7 @@
 -- Pieces, and how many bytes and inclusions they have.
-use Rattle.std.proofs.Common.{◌≡◌, ◌≢◌, ◌≤◌, ◌<◌, ◌+◌, ℕ, Bool, true, false, List, [], ◌∷◌, ◌++◌, length, refl, ap, sym, ◌∙◌, arith, zero-add}
+use Rattle.std.proofs.Common.{◌≡◌, ◌≢◌, ◌+◌, ℕ, true, List, [], ◌∷◌, ◌++◌, length, refl, arith, zero-add}
 use Rattle.std.proofs.lemmas.Bool.{false≢true}
 use Rattle.std.proofs.lemmas.List.Sums.{sum_by-append}
-use Rattle.std.specs.List.{sum_by, count_by}
 use Rattle.htl_blocks.specs.declared.piece.Piece.{Piece}
 use Rattle.htl_blocks.specs.declared.piece.Piece.TheVariants as piece
 use Rattle.htl_blocks.specs.Pieces.{inclusion_count, piece_len, puts_in, text_len, with_text}

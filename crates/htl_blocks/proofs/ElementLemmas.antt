@@ -1,19 +1,17 @@
 -- What an element writes, in terms of what the blocks in it write.
-use Rattle.std.proofs.Common.{◌≡◌, ℕ, Bool, true, false, List, [], ◌∷◌, ◌++◌, map, Option, Some, None, refl, ap, sym, ◌∙◌}
+use Rattle.std.proofs.Common.{◌≡◌, ℕ, Bool, true, false, List, [], ◌∷◌, ◌++◌, map, Some, None, refl, ap, sym, ◌∙◌}
 use mathlib.Core.Path.{fun_ext}
 use Rattle.std.specs.List.{flat_map}
 use Rattle.htl_expr.specs.Bindings.{Bindings}
-use Rattle.htl_expr.specs.Value.{list_in}
 use Rattle.htl_text.specs.declared.piece.TemplatePiece.{TemplatePiece}
 use Rattle.htl_text.specs.Template.{template_output}
-use Rattle.htl_blocks.specs.declared.attribute.Body.{Body}
 use Rattle.htl_blocks.specs.declared.block.Tag.{Tag}
 use Rattle.htl_blocks.specs.declared.block.Block.{Block}
 use Rattle.htl_blocks.specs.declared.block.Block.TheVariants.{Text, Element, rolls-Text, rolls-Element}
 use Rattle.htl_blocks.specs.declared.block.Block.TheOpen.{Block-F}
 use Rattle.htl_blocks.specs.declared.block.Block.TheFolds.{fold-roll-Block}
-use Rattle.htl_blocks.specs.Parts.{Part, Round, Script, Resource, text_parts}
-use Rattle.htl_blocks.specs.Written.{all_parts, between_tags, block_parts, block_step, blocks_parts, body_parts, element_parts, keeps_tags, listed, passes, repeated, statement_value}
+use Rattle.htl_blocks.specs.Parts.{Part, text_parts}
+use Rattle.htl_blocks.specs.Written.{all_parts, block_parts, block_step, blocks_parts, body_parts, element_parts, keeps_tags, listed, passes}
 use Rattle.htl_blocks.specs.WrittenLaws.{StandsInTags}
 
 each_is : (scope : Bindings) (content : List Block) → flat_map (λ (parts : Bindings → List Part). parts scope) (map block_parts content) ≡ blocks_parts scope content

@@ -1,8 +1,7 @@
 -- What an element writes, step by step: its start tag, what stands in it, and its end tag.
-use Rattle.std.proofs.Common.{◌≡◌, ◌≢◌, Bool, true, false, ℕ, List, [], ◌∷◌, ◌++◌, length, Option, Some, None, Result, Ok, Err, refl, ap, sym, subst, ◌∙◌, arith}
+use Rattle.std.proofs.Common.{◌≡◌, ◌≢◌, Bool, true, false, ℕ, List, [], ◌∷◌, length, Option, Some, None, Result, refl, ap, sym, subst, ◌∙◌, arith}
 use Rattle.std.specs.List.{flat_map}
 use Rattle.htl_expr.specs.Bindings.{Bindings, with_vars}
-use Rattle.htl_expr.specs.Value.{list_in}
 use Rattle.htl_text.specs.declared.piece.TemplatePiece.{TemplatePiece}
 use Rattle.htl_text.specs.Template.{template_output}
 use Rattle.htl_blocks.specs.declared.block.Tag.{Tag}

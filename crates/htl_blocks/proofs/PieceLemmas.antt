@@ -1,16 +1,15 @@
 -- What is kept of parts, and when a text is refused.
-use Rattle.std.proofs.Common.{◌≡◌, ◌≢◌, ◌≤◌, ◌<◌, ◌+◌, ◌⊎◌, inl, inr, ℕ, List, [], ◌∷◌, ◌++◌, map, length, refl, ap, sym, subst, ◌∙◌, arith}
+use Rattle.std.proofs.Common.{◌≡◌, ◌≤◌, ◌<◌, inl, inr, ℕ, List, [], ◌∷◌, ◌++◌, length, refl, ap, subst, ◌∙◌, arith}
 use Rattle.std.proofs.lemmas.List.Concat.{flat_map-append}
-use Rattle.std.specs.List.{flat_map, count_by}
 use Rattle.sp_base.specs.Limits.{most_rendered_bytes}
 use Rattle.htl_expr.specs.Bindings.{Bindings}
-use Rattle.htl_blocks.specs.Parts.{Part, Byte, Round, Script, Resource, text_parts, part_text, text_of, is_inclusion, inclusions, is_round, rounds, seen_part, seen}
+use Rattle.htl_blocks.specs.Parts.{Part, Byte, Round, Script, Resource, part_text, text_of, is_inclusion, inclusions, rounds, seen_part, seen}
 use Rattle.htl_blocks.specs.Refused.{Fits, IsRefused, most_inclusions, most_rounds}
 use Rattle.htl_blocks.specs.declared.keeping.Keeping.{Keeping}
 use Rattle.htl_blocks.specs.declared.keeping.Keeping.TheVariants as keep
 use Rattle.htl_blocks.specs.declared.run_fault.RunFault.{RunFault}
 use Rattle.htl_blocks.specs.declared.run_fault.RunFault.TheVariants.{TooLong, TooMany, NoMemory}
-use Rattle.htl_blocks.specs.Sheets.{SheetText, empty_sheet, kept_part, kept, with_parts, IsOver}
+use Rattle.htl_blocks.specs.Sheets.{empty_sheet, kept_part, kept, with_parts, IsOver}
 use Rattle.htl_blocks.proofs.SheetLemmas.{count-append}
 
 -- where all is kept, what is seen is kept

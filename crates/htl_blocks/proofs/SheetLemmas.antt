@@ -1,13 +1,9 @@
 -- Parts that are written one after another.
-use Rattle.std.proofs.Common.{◌≡◌, ◌≢◌, ◌≤◌, ◌<◌, ◌+◌, ◌⊎◌, inl, inr, ℕ, Bool, cond, List, [], ◌∷◌, ◌++◌, map, length, Result, Ok, Err, refl, ap, sym, subst, ◌∙◌, arith, append_assoc, add_assoc, length-append, append-nil}
+use Rattle.std.proofs.Common.{◌≡◌, ◌+◌, inl, inr, ℕ, Bool, cond, List, [], ◌++◌, length, Result, Ok, Err, ap, sym, subst, ◌∙◌, arith, append_assoc, length-append, append-nil}
 use Rattle.std.proofs.lemmas.List.Concat.{flat_map-append}
 use Rattle.std.proofs.lemmas.List.Sums.{sum_by-append}
-use Rattle.std.specs.List.{flat_map, count_by}
-use Rattle.sp_base.specs.Limits.{most_rendered_bytes}
-use Rattle.htl_expr.specs.Bindings.{Bindings}
-use Rattle.htl_blocks.specs.Parts.{Part, Byte, Round, Script, Resource, text_parts, part_text, text_of, is_inclusion, inclusions, is_round, rounds, seen_part, seen}
-use Rattle.htl_blocks.specs.Refused.{most_inclusions, most_rounds}
-use Rattle.htl_blocks.specs.declared.keeping.Keeping.{Keeping}
+use Rattle.std.specs.List.{count_by}
+use Rattle.htl_blocks.specs.Parts.{Part, part_text, text_of, is_inclusion, is_round, rounds}
 use Rattle.htl_blocks.specs.declared.run_fault.RunFault.{RunFault}
 use Rattle.htl_blocks.specs.declared.run_fault.RunFault.TheVariants.{TooLong, TooMany, NoMemory}
 use Rattle.htl_blocks.specs.Sheets.{SheetText, kept_part, kept, with_parts, IsOver, Stops, Wrote}

@@ -1,10 +1,9 @@
 -- One step of writing: a text, or a piece that is put in.
-use Rattle.std.proofs.Common.{◌≡◌, ◌≢◌, ◌≤◌, ◌<◌, ◌+◌, ◌⊎◌, inl, inr, ℕ, Bool, true, false, List, [], ◌∷◌, ◌++◌, map, length, Result, Ok, Err, OnOk, IfErr, refl, ap, sym, subst, ◌∙◌, arith, append_assoc, length-append, append-nil, zero-add}
+use Rattle.std.proofs.Common.{◌≡◌, ◌≢◌, ◌≤◌, ◌<◌, ◌+◌, inr, ℕ, true, List, [], ◌∷◌, ◌++◌, length, Result, Ok, Err, OnOk, IfErr, refl, ap, sym, subst, ◌∙◌, arith, append_assoc, length-append, append-nil, zero-add}
 use Rattle.std.proofs.lemmas.Bool.{false≢true}
 use Rattle.std.proofs.lemmas.List.{map-append}
 use Rattle.std.proofs.lemmas.List.Concat.{flat_map-append}
 use Rattle.std.proofs.lemmas.List.Sums.{sum_by-append}
-use Rattle.std.specs.List.{flat_map}
 use Rattle.sp_base.specs.Limits.{most_rendered_bytes}
 use Rattle.htl_expr.specs.Bindings.{Bindings}
 use Rattle.htl_blocks.specs.declared.piece.Piece.{Piece}
@@ -13,9 +12,9 @@ use Rattle.htl_blocks.specs.declared.keeping.Keeping.{Keeping}
 use Rattle.htl_blocks.specs.declared.keeping.Keeping.TheVariants as keep
 use Rattle.htl_blocks.specs.declared.run_fault.RunFault.{RunFault}
 use Rattle.htl_blocks.specs.declared.run_fault.RunFault.TheVariants.{TooLong, TooMany, NoMemory}
-use Rattle.htl_blocks.specs.Parts.{Part, Byte, Round, Script, Resource, text_parts, part_text, text_of, is_inclusion, inclusions, is_round, rounds}
+use Rattle.htl_blocks.specs.Parts.{Part, Byte, text_parts, part_text, text_of, is_inclusion, inclusions, rounds}
 use Rattle.htl_blocks.specs.Pieces.{inclusion_count, piece_len, piece_parts, pieces_parts, puts_in, text_len, with_text}
-use Rattle.htl_blocks.specs.Refused.{most_inclusions, most_rounds}
+use Rattle.htl_blocks.specs.Refused.{most_inclusions}
 use Rattle.htl_blocks.specs.Sheets.{SheetText, IsOver, Stops, Wrote, kept, kept_part, with_parts}
 use Rattle.htl_blocks.proofs.SheetLemmas.{count-append, over_more, with_none}
 use Rattle.htl_blocks.proofs.Bounded.{included_with}
@@ -181,9 +180,9 @@ inclusion_result (Ok x) old scope k ps mid new p tail n view all h is ok err =
     let before = pieces_parts scope ps ++ text_parts tail in
     let kept_itself : kept k (piece_parts scope p) ≡ piece_parts scope p = ap (λ (k : Keeping). kept k (piece_parts scope p)) all ∙ kept_inclusion scope p h in
     let parts : pieces_parts scope new ++ [] ≡ before ++ kept k (piece_parts scope p) =
-        append-nil (pieces_parts scope new) ∙ ap (pieces_parts scope) ok ∙ piece_more scope mid p
-        ∙ ap (λ (q : List Piece). pieces_parts scope q ++ piece_parts scope p) is ∙ ap (λ (q : List Part). q ++ piece_parts scope p) (text_more_parts scope ps tail)
-        ∙ ap (λ (q : List Part). before ++ q) (sym kept_itself) in
+    append-nil (pieces_parts scope new) ∙ ap (pieces_parts scope) ok ∙ piece_more scope mid p
+    ∙ ap (λ (q : List Piece). pieces_parts scope q ++ piece_parts scope p) is ∙ ap (λ (q : List Part). q ++ piece_parts scope p) (text_more_parts scope ps tail)
+    ∙ ap (λ (q : List Part). before ++ q) (sym kept_itself) in
     let none = no_round_in scope p h in
     let count : n ≡ n + rounds (piece_parts scope p) = omega (arith, none) in
     ap (λ (q : List Part). made q n) parts ∙ ap (made (before ++ kept k (piece_parts scope p))) count ∙ ap (λ (s : SheetText). with_parts s (piece_parts scope p)) view

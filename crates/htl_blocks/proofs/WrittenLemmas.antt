@@ -1,5 +1,5 @@
 -- What is written item by item.
-use Rattle.std.proofs.Common.{◌≡◌, ◌≢◌, Bool, true, false, ◌≤◌, ◌<◌, ◌+◌, ℕ, zero, suc, List, [], ◌∷◌, ◌++◌, take, drop, get_or, slice_get, length, Option, Some, None, Result, Ok, Err, refl, ap, sym, subst, ◌∙◌, append-nil, arith, Bor}
+use Rattle.std.proofs.Common.{◌≡◌, Bool, true, false, ◌≤◌, ◌<◌, ◌+◌, ℕ, zero, suc, List, [], ◌∷◌, ◌++◌, take, drop, get_or, slice_get, length, Option, Some, None, Result, Err, refl, ap, sym, subst, ◌∙◌, append-nil, arith, Bor}
 use Rattle.std.proofs.lemmas.List.{take_all, take_more, take-append-drop}
 use Rattle.std.proofs.lemmas.Bool.{false≢true}
 use Rattle.std.proofs.lemmas.List.Concat.{flat_map-append}
@@ -17,7 +17,7 @@ use Rattle.htl_blocks.specs.Pieces.{item_of, items_in, with_round, within}
 use Rattle.htl_blocks.specs.declared.piece.Round.{Round as RoundOf}
 use Rattle.htl_blocks.specs.declared.run_fault.RunFault.{RunFault}
 use Rattle.htl_blocks.specs.declared.keeping.Keeping.{Keeping}
-use Rattle.htl_blocks.specs.Sheets.{SheetText, empty_sheet, with_parts, IsOver, Stops, Wrote}
+use Rattle.htl_blocks.specs.Sheets.{SheetText, empty_sheet, with_parts, Stops, Wrote}
 use Rattle.htl_blocks.specs.Written.{round_parts, statement_value, tag_parts}
 use Rattle.htl_blocks.proofs.SheetLemmas.{after, stopped, with_both, with_none}
 

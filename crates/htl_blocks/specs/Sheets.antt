@@ -1,8 +1,8 @@
 -- A text that is being written. Only proofs and private functions need this.
-use Rattle.std.specs.Prelude.{◌≡◌, ◌≢◌, ℕ, ◌+◌, ◌<◌, ◌⊎◌, List, [], ◌∷◌, ◌++◌, Result, Ok, Err, length}
+use Rattle.std.specs.Prelude.{◌≡◌, ◌≢◌, ℕ, ◌+◌, ◌<◌, ◌⊎◌, List, [], ◌++◌, Result, Ok, Err, length}
 use Rattle.std.specs.List.{flat_map}
 use Rattle.sp_base.specs.Limits.{most_rendered_bytes}
-use Rattle.htl_expr.specs.Bindings.{Bindings, with_vars}
+use Rattle.htl_expr.specs.Bindings.{Bindings}
 use Rattle.htl_blocks.specs.declared.keeping.Keeping.{Keeping}
 use Rattle.htl_blocks.specs.declared.keeping.Keeping.TheVariants as keep
 use Rattle.htl_blocks.specs.declared.run_fault.RunFault.{RunFault}

@@ -136,22 +136,43 @@ const TEXTS: [(&str, &str); 77] = [
     ("a${properties.n}${k}", "a3v|"),
     ("\\${k}<p>\\${k}</p>", "${k}<p>${k}</p>|"),
     ("1 < 2 <3 <${k} </ p><>", "1 < 2 <3 <v </ p><>|"),
-    ("<p id='${k}' data-id='${k}'>${k}</p>", "<p id='v' data-id='v'>v</p>|"),
-    ("<p data-sly-test='${properties.n}' id='${properties.n}'>x</p>", "<p id='3'>x</p>|"),
+    (
+        "<p id='${k}' data-id='${k}'>${k}</p>",
+        "<p id='v' data-id='v'>v</p>|",
+    ),
+    (
+        "<p data-sly-test='${properties.n}' id='${properties.n}'>x</p>",
+        "<p id='3'>x</p>|",
+    ),
     ("<p data-sly-test=\"${properties.n > 5}\">x</p>y", "y|"),
     ("<p data-sly-test='${properties.none}'>x</p>", ""),
     ("<p data-sly-test=''>x</p>", ""),
     ("<p data-sly-test='false'>x</p>", "<p>x</p>|"),
     ("<p data-sly-test = '${properties.no}'>x</p>.", ".|"),
-    ("<i data-sly-test='${properties.zero}'>1</i><i data-sly-test='${properties.no}'>2</i><i data-sly-test='${properties.blank}'>3</i><i data-sly-test='${properties.empty}'>4</i>.", ".|"),
-    ("<i data-sly-test='${properties.yes}'>1</i><i data-sly-test='${properties.one}'>2</i><i data-sly-test='${properties.title}'>3</i>.", "<i>1</i><i>2</i><i>3</i>.|"),
+    (
+        "<i data-sly-test='${properties.zero}'>1</i><i data-sly-test='${properties.no}'>2</i><i data-sly-test='${properties.blank}'>3</i><i data-sly-test='${properties.empty}'>4</i>.",
+        ".|",
+    ),
+    (
+        "<i data-sly-test='${properties.yes}'>1</i><i data-sly-test='${properties.one}'>2</i><i data-sly-test='${properties.title}'>3</i>.",
+        "<i>1</i><i>2</i><i>3</i>.|",
+    ),
     ("<p data-sly-test='${\"a\" == \"a\"}'>x</p>", "<p>x</p>|"),
     ("<p data-sly-test='${2 > 1}'>x</p>", "<p>x</p>|"),
-    ("<p data-sly-text='${properties.title}'>x</p>", "<p>&lt;T&gt;</p>|"),
-    ("<p data-sly-text=\"${properties.title @ context='unsafe'}\">x</p>", "<p><T></p>|"),
+    (
+        "<p data-sly-text='${properties.title}'>x</p>",
+        "<p>&lt;T&gt;</p>|",
+    ),
+    (
+        "<p data-sly-text=\"${properties.title @ context='unsafe'}\">x</p>",
+        "<p><T></p>|",
+    ),
     ("<p data-sly-text='plain'>x<b>y</b></p>", "<p>plain</p>|"),
     ("<p data-sly-text='${properties.tags}'></p>", "<p>a,b</p>|"),
-    ("<p data-sly-text=\"${properties.tags @ join='; '}\"></p>", "<p>a; b</p>|"),
+    (
+        "<p data-sly-text=\"${properties.tags @ join='; '}\"></p>",
+        "<p>a; b</p>|",
+    ),
     ("<p data-sly-text='${properties.none}'>x</p>", "<p></p>|"),
     ("<p data-sly-text=''>x</p>", "<p></p>|"),
     ("a<p data-sly-unwrap>x<b>y</b></p>z", "ax<b>y</b>z|"),
@@ -159,45 +180,141 @@ const TEXTS: [(&str, &str); 77] = [
     ("<p data-sly-unwrap='${properties.none}'>x</p>", "<p>x</p>|"),
     ("<p data-sly-unwrap='${properties.n}'>x</p>", "x|"),
     ("<p data-sly-unwrap = '${properties.no}'>x</p>", "<p>x</p>|"),
-    ("<ul data-sly-list=\"${properties.tags}\"><li>${item}</li></ul>", "<ul><li>a</li><li>b</li></ul>|"),
-    ("<p data-sly-list='${properties.one}'>${item}</p>${item}.", "<p>z</p>.|"),
+    (
+        "<ul data-sly-list=\"${properties.tags}\"><li>${item}</li></ul>",
+        "<ul><li>a</li><li>b</li></ul>|",
+    ),
+    (
+        "<p data-sly-list='${properties.one}'>${item}</p>${item}.",
+        "<p>z</p>.|",
+    ),
     ("<p data-sly-list='${properties.empty}'>x</p>y", "y|"),
     ("<p data-sly-list='${properties.none}'>x</p>y", "y|"),
     ("<p data-sly-list='${properties.n}'>x</p>y", "y|"),
     ("<p data-sly-list='a'>x</p>y", "y|"),
     ("<p data-sly-list='${[]}'>x</p>y", "y|"),
-    ("<p data-sly-list='${properties.longs}'>${item};</p>", "<p>7;-2;</p>|"),
-    ("<p data-sly-list='${properties.truths}'>${item};</p>", "<p>true;false;</p>|"),
-    ("<p data-sly-list=\"${[1, 'x<', true, properties.tags]}\">${item};</p>", "<p>1;x&lt;;true;a,b;</p>|"),
-    ("<p data-sly-list='${properties.longs}'>${item > 5};</p>", "<p>false;false;</p>|"),
-    ("<p data-sly-list='${properties.tags}'><b data-sly-test=\"${item == 'b'}\">${item}</b></p>", "<p><b>b</b></p>|"),
-    ("<p data-sly-list.t='${[properties.title]}'>${t}${t @ context='unsafe'}</p>", "<p>&lt;T&gt;<T></p>|"),
-    ("<p data-sly-list.t='${properties.tags}' title='${t}'>${t}${item}</p>", "<p title=''>ab</p>|"),
-    ("<p data-sly-list.k='${properties.tags}'>${k}</p>${k}", "<p>ab</p>v|"),
-    ("<p data-sly-include='x.html'>y</p>", "<p>|{x.html k=v}</p>|"),
+    (
+        "<p data-sly-list='${properties.longs}'>${item};</p>",
+        "<p>7;-2;</p>|",
+    ),
+    (
+        "<p data-sly-list='${properties.truths}'>${item};</p>",
+        "<p>true;false;</p>|",
+    ),
+    (
+        "<p data-sly-list=\"${[1, 'x<', true, properties.tags]}\">${item};</p>",
+        "<p>1;x&lt;;true;a,b;</p>|",
+    ),
+    (
+        "<p data-sly-list='${properties.longs}'>${item > 5};</p>",
+        "<p>false;false;</p>|",
+    ),
+    (
+        "<p data-sly-list='${properties.tags}'><b data-sly-test=\"${item == 'b'}\">${item}</b></p>",
+        "<p><b>b</b></p>|",
+    ),
+    (
+        "<p data-sly-list.t='${[properties.title]}'>${t}${t @ context='unsafe'}</p>",
+        "<p>&lt;T&gt;<T></p>|",
+    ),
+    (
+        "<p data-sly-list.t='${properties.tags}' title='${t}'>${t}${item}</p>",
+        "<p title=''>ab</p>|",
+    ),
+    (
+        "<p data-sly-list.k='${properties.tags}'>${k}</p>${k}",
+        "<p>ab</p>v|",
+    ),
+    (
+        "<p data-sly-include='x.html'>y</p>",
+        "<p>|{x.html k=v}</p>|",
+    ),
     ("<p data-sly-include='${k}'>y</p>", "<p>|{v k=v}</p>|"),
-    ("<p data-sly-include='${properties.none}'>y</p>", "<p>|{ k=v}</p>|"),
-    ("<p data-sly-resource='${properties.title}'>y</p>z", "<p>|[<T>]</p>z|"),
-    ("<p data-sly-resource='${properties.none}'>y</p>", "<p>|[]</p>|"),
-    ("<p data-sly-list='${properties.tags}' data-sly-test='${properties.no}'>x</p>.", ".|"),
-    ("<p data-sly-test='${properties.n}' data-sly-list='${properties.tags}'>${item}</p>", "<p>ab</p>|"),
-    ("<p data-sly-list='${properties.tags}' data-sly-test='${item}'>x</p>.", ".|"),
-    ("<p data-sly-text='t' data-sly-test='${properties.yes}'>x</p>", "<p>t</p>|"),
-    ("<p data-sly-unwrap data-sly-test='${properties.no}'>x</p>.", ".|"),
-    ("<p data-sly-test='${properties.no}' data-sly-include='x'></p>.", ".|"),
-    ("<p data-sly-test='${properties.yes}' data-sly-resource='x'></p>", "<p>|[x]</p>|"),
-    ("<p data-sly-list='${properties.tags}' data-sly-text='${item}'>x</p>", "<p>ab</p>|"),
-    ("<p data-sly-unwrap data-sly-list='${properties.tags}' data-sly-include='${item}'>y</p>", "{a item=a k=v}{b item=b k=v}"),
-    ("<p data-sly-list='${properties.tags}' data-sly-resource='${item}'>y</p>", "<p>|[a][b]</p>|"),
-    ("<p data-sly-list='${properties.tags}' data-sly-unwrap='${item}'>${item}</p>", "<p>ab</p>|"),
-    ("<p data-sly-unwrap data-sly-list='${properties.tags}'>${item}</p>", "ab|"),
-    ("<b data-sly-unwrap data-sly-text=\"${properties.n}\">z</b>", "3|"),
+    (
+        "<p data-sly-include='${properties.none}'>y</p>",
+        "<p>|{ k=v}</p>|",
+    ),
+    (
+        "<p data-sly-resource='${properties.title}'>y</p>z",
+        "<p>|[<T>]</p>z|",
+    ),
+    (
+        "<p data-sly-resource='${properties.none}'>y</p>",
+        "<p>|[]</p>|",
+    ),
+    (
+        "<p data-sly-list='${properties.tags}' data-sly-test='${properties.no}'>x</p>.",
+        ".|",
+    ),
+    (
+        "<p data-sly-test='${properties.n}' data-sly-list='${properties.tags}'>${item}</p>",
+        "<p>ab</p>|",
+    ),
+    (
+        "<p data-sly-list='${properties.tags}' data-sly-test='${item}'>x</p>.",
+        ".|",
+    ),
+    (
+        "<p data-sly-text='t' data-sly-test='${properties.yes}'>x</p>",
+        "<p>t</p>|",
+    ),
+    (
+        "<p data-sly-unwrap data-sly-test='${properties.no}'>x</p>.",
+        ".|",
+    ),
+    (
+        "<p data-sly-test='${properties.no}' data-sly-include='x'></p>.",
+        ".|",
+    ),
+    (
+        "<p data-sly-test='${properties.yes}' data-sly-resource='x'></p>",
+        "<p>|[x]</p>|",
+    ),
+    (
+        "<p data-sly-list='${properties.tags}' data-sly-text='${item}'>x</p>",
+        "<p>ab</p>|",
+    ),
+    (
+        "<p data-sly-unwrap data-sly-list='${properties.tags}' data-sly-include='${item}'>y</p>",
+        "{a item=a k=v}{b item=b k=v}",
+    ),
+    (
+        "<p data-sly-list='${properties.tags}' data-sly-resource='${item}'>y</p>",
+        "<p>|[a][b]</p>|",
+    ),
+    (
+        "<p data-sly-list='${properties.tags}' data-sly-unwrap='${item}'>${item}</p>",
+        "<p>ab</p>|",
+    ),
+    (
+        "<p data-sly-unwrap data-sly-list='${properties.tags}'>${item}</p>",
+        "ab|",
+    ),
+    (
+        "<b data-sly-unwrap data-sly-text=\"${properties.n}\">z</b>",
+        "3|",
+    ),
     ("<p data-sly-unwrap data-sly-resource='x'>y</p>z", "[x]z|"),
-    ("<p data-sly-list.x='${properties.tags}'><q data-sly-list.y='${[x, 3]}'>${x}${y},</q></p>", "<p><q>aa,a3,</q><q>bb,b3,</q></p>|"),
-    ("<p data-sly-list='${properties.tags}'><q data-sly-list='${[1, 2]}'>${item}</q>${item}</p>", "<p><q>12</q>a<q>12</q>b</p>|"),
-    ("<p data-sly-list.k='${properties.tags}'><q data-sly-unwrap data-sly-include='x'></q>,</p>", "<p>|{x k=a k=v},|{x k=b k=v},</p>|"),
-    ("<p data-sly-test='${properties.no}'><p data-sly-text='x'></p></p>y", "y|"),
-    ("<p data-sly-text='t'><p data-sly-include='x'></p></p>y", "<p>t</p>y|"),
+    (
+        "<p data-sly-list.x='${properties.tags}'><q data-sly-list.y='${[x, 3]}'>${x}${y},</q></p>",
+        "<p><q>aa,a3,</q><q>bb,b3,</q></p>|",
+    ),
+    (
+        "<p data-sly-list='${properties.tags}'><q data-sly-list='${[1, 2]}'>${item}</q>${item}</p>",
+        "<p><q>12</q>a<q>12</q>b</p>|",
+    ),
+    (
+        "<p data-sly-list.k='${properties.tags}'><q data-sly-unwrap data-sly-include='x'></q>,</p>",
+        "<p>|{x k=a k=v},|{x k=b k=v},</p>|",
+    ),
+    (
+        "<p data-sly-test='${properties.no}'><p data-sly-text='x'></p></p>y",
+        "y|",
+    ),
+    (
+        "<p data-sly-text='t'><p data-sly-include='x'></p></p>y",
+        "<p>t</p>y|",
+    ),
     ("<P data-sly-unwrap>x<p>y</P>z</p>w", "x<p>y</P>zw|"),
     ("<br data-sly-test='x'>y", "<br>y|"),
     ("<BR data-sly-test='${properties.no}'/>y", "y|"),
@@ -205,10 +322,19 @@ const TEXTS: [(&str, &str); 77] = [
     ("<p data-sly-test='x'/>y</p>", "<p/>y</p>|"),
     ("<p data-sly-unwrap><p/>x</p>y", "<p/>xy|"),
     ("<!-- <b data-sly-text='x'>y</b> -->", "<!-- <b>x</b> -->|"),
-    ("<a title=\"<p data-sly-text='x'>\">y</a>", "<a title=\"<p data-sly-text='x'>\">y</a>|"),
-    ("<p\n\t data-sly-test='x'\n id='y' >z</p>", "<p\n id='y' >z</p>|"),
+    (
+        "<a title=\"<p data-sly-text='x'>\">y</a>",
+        "<a title=\"<p data-sly-text='x'>\">y</a>|",
+    ),
+    (
+        "<p\n\t data-sly-test='x'\n id='y' >z</p>",
+        "<p\n id='y' >z</p>|",
+    ),
     ("<p id='y'  data-sly-test='x' >z</p>", "<p id='y' >z</p>|"),
-    ("<a data-sly-test='x' href='${k}' title=\"${properties.title}\">y</a>", "<a href='v' title=\"&lt;T&gt;\">y</a>|"),
+    (
+        "<a data-sly-test='x' href='${k}' title=\"${properties.title}\">y</a>",
+        "<a href='v' title=\"&lt;T&gt;\">y</a>|",
+    ),
 ];
 
 #[test]
@@ -248,7 +374,10 @@ fn with_items(alloc: Global) -> Mem<PropList> {
 
 // Scripts that put in 1,000 texts, and one more; and whether that is too many.
 const INCLUSIONS: [(&str, bool); 2] = [
-    ("<p data-sly-list='${properties.items}' data-sly-resource='x'></p>", false),
+    (
+        "<p data-sly-list='${properties.items}' data-sly-resource='x'></p>",
+        false,
+    ),
     (
         "<p data-sly-list='${properties.items}' data-sly-resource='x'></p><p data-sly-include='y'></p>",
         true,
@@ -310,8 +439,11 @@ const MOST_BYTES: usize = 4_194_304;
 
 // A text; with two bytes more and a script between them; and after 1,250 scripts.
 const LONG: &str = "${properties.long}";
+
 const LONG_AND_MORE: &str = "a${properties.long}<p data-sly-unwrap data-sly-include='x'></p>b";
-const LONG_AND_MANY: &str = "<p data-sly-unwrap data-sly-list.a='${[1, 2, 3, 4, 5]}'><p data-sly-unwrap data-sly-list.b='${[1, 2, 3, 4, 5]}'><p data-sly-unwrap data-sly-list.c='${[1, 2, 3, 4, 5]}'><p data-sly-unwrap data-sly-list.d='${[1, 2, 3, 4, 5]}'><p data-sly-unwrap data-sly-list.e='${[1, 2]}' data-sly-include='x'></p></p></p></p></p>${properties.long}";
+
+const LONG_AND_MANY: &str =
+    "<p data-sly-unwrap data-sly-list.a='${[1, 2, 3, 4, 5]}'><p data-sly-unwrap data-sly-list.b='${[1, 2, 3, 4, 5]}'><p data-sly-unwrap data-sly-list.c='${[1, 2, 3, 4, 5]}'><p data-sly-unwrap data-sly-list.d='${[1, 2, 3, 4, 5]}'><p data-sly-unwrap data-sly-list.e='${[1, 2]}' data-sly-include='x'></p></p></p></p></p>${properties.long}";
 
 #[test]
 fn a_text_has_at_most_four_megabytes(rt: HostRuntime) {
@@ -341,7 +473,10 @@ fn name_len<'a>(alloc: Global, scope: &Scope<'a>, blocks: &'a Blocks) -> Option<
 
 fn long_name_len(alloc: Global, props: &PropList) -> Option<usize> {
     let vars = Variables::None;
-    match Blocks::read(alloc, "<p data-sly-unwrap data-sly-resource='${properties.long}'></p>") {
+    match Blocks::read(
+        alloc,
+        "<p data-sly-unwrap data-sly-resource='${properties.long}'></p>",
+    ) {
         Ok(blocks) => name_len(alloc, &scope(props, &vars), &blocks),
         Err(_) => None,
     }

@@ -106,7 +106,10 @@ const READINGS: [(&str, &str); 22] = [
     ("<p data-sly-unwrap=\"\">y</p>", "[unwrap <p>|y|</p>]"),
     ("<p data-sly-unwrap='${x}'>y</p>", "[unwrap? <p>|y|</p>]"),
     ("<p data-sly-unwrap = \"x\">y</p>", "[unwrap? <p>|y|</p>]"),
-    ("<p data-sly-unwrap  id=''>y</p>", "[unwrap <p  id=''>|y|</p>]"),
+    (
+        "<p data-sly-unwrap  id=''>y</p>",
+        "[unwrap <p  id=''>|y|</p>]",
+    ),
     (
         "<p data-sly-include=\"a.html\"/>y</p>",
         "[include <p/>||]y</p>",

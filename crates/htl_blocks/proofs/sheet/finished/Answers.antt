@@ -1,4 +1,4 @@
-use Rattle.std.proofs.Common.{◌≡◌, ◌∙◌, ap, refl, sym, string_bytes, rules}
+use Rattle.std.proofs.Common.{◌∙◌, ap, sym, string_bytes, rules}
 use Rattle.htl_blocks.specs.Sheets.{SheetText}
 use Rattle.htl_blocks.proofs.SheetSteps.{finished_over, finished_parts}
 use Rattle.htl_blocks.proofs.sheet.finished.Goals as goal

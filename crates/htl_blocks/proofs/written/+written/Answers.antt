@@ -1,4 +1,4 @@
-use Rattle.std.proofs.Common.{◌≡◌, ◌<◌, ◌∷◌, [], ◌∙◌, List, ℕ, Some, length, get_or, slice_get, rules, refl, sym, ap, subst, arith}
+use Rattle.std.proofs.Common.{◌<◌, ◌∷◌, [], ◌∙◌, List, ℕ, length, get_or, rules, refl, sym, ap, subst, arith}
 use Rattle.std.specs.List.{flat_map}
 use Rattle.htl_expr.specs.Bindings.{Bindings, with_vars}
 use Rattle.htl_expr.specs.Variables.{vars_of}

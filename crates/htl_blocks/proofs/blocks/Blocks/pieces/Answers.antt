@@ -1,4 +1,3 @@
-use Rattle.std.proofs.Common.{rules}
 use Rattle.htl_blocks.specs.declared.keeping.Keeping.TheVariants as keep
 use Rattle.htl_blocks.specs.Written.{blocks_parts}
 use Rattle.htl_blocks.proofs.PieceLemmas.{all_fits, long_is_refused}

@@ -62,11 +62,11 @@ fn properties(alloc: Global) -> Mem<PropList> {
     Ok(props)
 }
 
-fn push_variables(
+fn push_variables<'a>(
     alloc: Global,
     text: &mut String,
-    list: &PieceList<'_>,
-    frame: &Frame<'_>,
+    list: &PieceList<'a>,
+    frame: &Frame<'a>,
 ) -> Mem<()> {
     let vars = list.variables(alloc, frame)?;
     let pairs = vars.lent(alloc)?;
@@ -80,11 +80,11 @@ fn push_variables(
 }
 
 // A bar stands after each text, so that an empty one would show.
-fn push_piece(
+fn push_piece<'a>(
     alloc: Global,
     text: &mut String,
-    list: &PieceList<'_>,
-    piece: &Piece<'_>,
+    list: &PieceList<'a>,
+    piece: &Piece<'a>,
 ) -> Mem<()> {
     match piece {
         Piece::Text(plain) => {
@@ -461,10 +461,17 @@ fn a_text_has_at_most_four_megabytes(rt: HostRuntime) {
     }
 }
 
+fn resource_len(piece: &Piece<'_>) -> Option<usize> {
+    match piece {
+        Piece::Resource(name) => Some(name.text().len()),
+        _ => None,
+    }
+}
+
 fn name_len<'a>(alloc: Global, scope: &Scope<'a>, blocks: &'a Blocks) -> Option<usize> {
     match blocks.pieces(alloc, scope) {
         Ok(list) => match list.pieces() {
-            [Piece::Resource(name)] => Some(name.text().len()),
+            [piece] => resource_len(piece),
             _ => None,
         },
         Err(_) => None,

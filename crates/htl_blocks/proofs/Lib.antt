@@ -10,3 +10,10 @@ mod Plain
 mod Split
 mod Spelled
 mod FirstFault
+pub mod SheetLemmas
+pub mod Bounded
+pub mod SheetSteps
+pub mod ElementLemmas
+pub mod WrittenLemmas
+pub mod ElementSteps
+pub mod PieceLemmas

@@ -1,12 +1,13 @@
 -- Runs of bytes at the beginning of a text.
-use Rattle.std.proofs.Common.{◌≡◌, ◌<◌, ◌≤◌, ◌+◌, ℕ, zero, suc, Bool, true, false, cond, nat_lt, List, [], ◌∷◌, drop, Option, Some, None, MatchOption, length, slice_index, refl, arith}
-use Rattle.std.specs.Str.{IsCharBoundary}
+use Rattle.std.proofs.Common.{◌≡◌, ◌<◌, ◌≤◌, ◌+◌, ℕ, zero, suc, Bool, true, false, not, cond, nat_lt, List, [], ◌∷◌, drop, Option, Some, None, MatchOption, length, slice_index, refl, subst, arith}
+use Rattle.std.specs.Str.{IsCharBoundary, IsUtf8}
 use Rattle.std.specs.List.{position_or_len}
-use Rattle.std.proofs.lemmas.List.Sums.{prefix_len-le-length, passes_at_first}
+use Rattle.std.proofs.lemmas.List.Sums.{prefix_len-le-length, passes_at_first, fails_before_first}
+use Rattle.std.proofs.lemmas.Str.{IsCharBoundary-start, IsCharBoundary-after_ascii}
 use Rattle.std.proofs.lemmas.Bool.Decides.{nat_tests}
-use Rattle.htl_syntax.specs.Tokens.{is_quote}
+use Rattle.htl_syntax.specs.Tokens.{is_blank, is_quote}
 use Rattle.htl_blocks.specs.declared.byte_run.ByteRun.{ByteRun}
-use Rattle.htl_blocks.specs.declared.byte_run.ByteRun.TheVariants.{Key, Quoted}
+use Rattle.htl_blocks.specs.declared.byte_run.ByteRun.TheVariants.{Key, Quoted, Blanks}
 use Rattle.htl_blocks.specs.Markup.{ends, ends_key, run_bytes}
 use Rattle.htl_blocks.proofs.Tags.{byte_is, quote_ascii}
 
@@ -33,6 +34,21 @@ key_boundary t = (run_within Key t, λ lt big. let x = key_ascii (slice_index t 
 pub quoted_boundary : (mark : ℕ) (t : List ℕ) → is_quote mark ≡ true → IsCharBoundary t (run_bytes (Quoted mark) t)
 unfolding run_bytes
 quoted_boundary mark t h = (run_within (Quoted mark) t, λ lt big. let x = byte_is (slice_index t (position_or_len (ends (Quoted mark)) t)) mark (passes_at_first (ends (Quoted mark)) t 0 lt) in let y = quote_ascii mark h in omega (arith, x, y, big))
+
+blank_byte : (c : ℕ) → not (is_blank c) ≡ false → c < 128
+blank_byte c h = grind (arith, nat_tests)
+
+pub blanks_boundary : (t : List ℕ) → IsUtf8 t → IsCharBoundary t (run_bytes Blanks t)
+unfolding run_bytes
+blanks_boundary t utf8 = go (position_or_len (ends Blanks) t) refl
+  where
+    go : (n : ℕ) → position_or_len (ends Blanks) t ≡ n → IsCharBoundary t n
+    go zero e = IsCharBoundary-start t utf8
+    go (suc n) e =
+        let within : position_or_len (ends Blanks) t ≤ length t = prefix_len-le-length _ t in
+        let blank = blank_byte (slice_index t n) (fails_before_first (ends Blanks) t n 0 (omega (arith, e))) in
+        let more : n + 1 ≡ suc n = omega arith in
+        subst (IsCharBoundary t) more (IsCharBoundary-after_ascii t n utf8 (omega (arith, e, within)) blank)
 
 pub drop_one_more : (n : ℕ) (t : List ℕ) → drop 1 (drop n t) ≡ drop (n + 1) t
 drop_one_more zero t = refl

@@ -78,9 +78,13 @@ value_at_mark (Some mark) t = quoted_at mark (drop 1 t)
 abbrev pub value_after : List ℕ → ValueText × List ℕ
 value_after t = value_at_mark (mark_at t) t
 
--- the value that stands right after an attribute's name, and what follows it
+-- a text without the blanks at its beginning
+abbrev pub start_trimmed : List ℕ → List ℕ
+start_trimmed t = drop (run_bytes run.Blanks t) t
+
+-- the value after an attribute's name, and what follows it; blanks may stand before and after "="
 unfoldable pub value_read : List ℕ → ValueText × List ℕ
-value_read t = if begins_with_byte 61 t then value_after (drop 1 t) else (none, t)
+value_read t = if begins_with_byte 61 (start_trimmed t) then value_after (start_trimmed (drop 1 (start_trimmed t))) else (none, t)
 
 -- one piece at most
 abbrev pub at_most_one : List TemplatePiece → Option (List TemplatePiece)

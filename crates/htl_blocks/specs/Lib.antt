@@ -5,3 +5,10 @@ pub mod LentValues
 pub mod Reading
 pub mod Laws
 pub mod Spelling
+pub mod Parts
+pub mod Written
+pub mod Refused
+pub mod Pieces
+pub mod Sheets
+pub mod Places
+pub mod WrittenLaws

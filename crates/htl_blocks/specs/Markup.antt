@@ -17,11 +17,12 @@ is_name_byte c = is_letter c || (is_digit c || c == 45)
 abbrev pub ends_key : ℕ → Bool
 ends_key c = is_blank c || (is_quote c || (c == 61 || (c == 62 || c == 47)))
 
--- the byte that ends a run: of a tag's name, of an attribute's name, of what stands in quotes
+-- the byte that ends a run: of a tag's name, of an attribute's name, of what stands in quotes, of blanks
 abbrev pub ends : ByteRun → ℕ → Bool
 ends run.Name c = not (is_name_byte c)
 ends run.Key c = ends_key c
 ends (run.Quoted mark) c = c == mark
+ends run.Blanks c = not (is_blank c)
 
 -- how many of the first bytes belong to a run
 unfoldable pub run_bytes : ByteRun → List ℕ → ℕ

@@ -15,6 +15,7 @@ pub enum ByteRun {
     Key,
     /// What stands before a mark.
     Quoted(u8),
+    Blanks,
 }
 
 pub fn is_blank(c: u8) -> bool
@@ -72,6 +73,7 @@ fn ends(run: ByteRun, c: u8) -> bool
         ByteRun::Name => !is_name_byte(c),
         ByteRun::Key => ends_key(c),
         ByteRun::Quoted(mark) => c == mark,
+        ByteRun::Blanks => !is_blank(c),
     }
 }
 

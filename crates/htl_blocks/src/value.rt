@@ -63,13 +63,21 @@ fn value_after(text: &str) -> (LentValue<'_>, &str)
     }
 }
 
-/// The value right after an attribute's name, and what follows it.
+/// A text without the blanks at its beginning.
+fn start_trimmed(text: &str) -> &str
+    ensures { result.now ≡ spec.start_trimmed text.now }
+{
+    text.split_at(run_bytes(ByteRun::Blanks, text.as_bytes())).1
+}
+
+/// The value after an attribute's name, and what follows it.
 #[tactic(auto, unfolding(crate::specs::Attributes::value_read))]
 fn value(text: &str) -> (LentValue<'_>, &str)
     ensures { (value_shown result.0, result.1.now) ≡ spec.value_read text.now }
 {
-    if begins_with_byte(b'=', text.as_bytes()) {
-        value_after(tail(text))
+    let at_sign = start_trimmed(text);
+    if begins_with_byte(b'=', at_sign.as_bytes()) {
+        value_after(start_trimmed(tail(at_sign)))
     } else {
         (LentValue::Missing, text)
     }

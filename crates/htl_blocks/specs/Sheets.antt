@@ -1,0 +1,50 @@
+-- A text that is being written. Only proofs and private functions need this.
+use Rattle.std.specs.Prelude.{◌≡◌, ◌≢◌, ℕ, ◌+◌, ◌<◌, ◌⊎◌, List, [], ◌++◌, Result, Ok, Err, length}
+use Rattle.std.specs.List.{flat_map}
+use Rattle.sp_base.specs.Limits.{most_rendered_bytes}
+use Rattle.htl_expr.specs.Bindings.{Bindings}
+use Rattle.htl_blocks.specs.declared.keeping.Keeping.{Keeping}
+use Rattle.htl_blocks.specs.declared.keeping.Keeping.TheVariants as keep
+use Rattle.htl_blocks.specs.declared.run_fault.RunFault.{RunFault}
+use Rattle.htl_blocks.specs.declared.run_fault.RunFault.TheVariants.{TooLong, TooMany, NoMemory}
+use Rattle.htl_blocks.specs.Parts.{Part, text_of, text_parts, part_text, seen_part, inclusions, rounds}
+use Rattle.htl_blocks.specs.Refused.{most_inclusions, most_rounds}
+
+-- what it is written for, what is kept, the parts that were kept, and how many rounds there were
+pub record SheetText : Type 0 where
+  pub scope : Bindings
+  pub keeping : Keeping
+  pub parts : List Part
+  pub rounds : ℕ
+
+-- what is kept of a part
+abbrev pub kept_part : Keeping → Part → List Part
+kept_part keep.All p = seen_part p
+kept_part keep.TextAlone p = text_parts (part_text p)
+
+-- what is kept of parts
+abbrev pub kept : Keeping → List Part → List Part
+kept what ps = flat_map (kept_part what) ps
+
+-- nothing is written yet
+abbrev pub empty_sheet : Bindings → Keeping → SheetText
+empty_sheet scope what = record { scope = scope; keeping = what; parts = []; rounds = 0 }
+
+-- parts are written after the others
+abbrev pub with_parts : SheetText → List Part → SheetText
+with_parts s ps = record { scope = s.scope; keeping = s.keeping; parts = s.parts ++ kept s.keeping ps; rounds = s.rounds + rounds ps }
+
+-- a limit is passed
+abbrev pub IsOver : RunFault → SheetText → Type 0
+IsOver TooLong s = most_rendered_bytes < length (text_of s.parts)
+IsOver TooMany s = (most_rounds < s.rounds) ⊎ (most_inclusions < inclusions s.parts)
+IsOver NoMemory s = Unit {0}
+
+-- with parts more a limit is passed
+abbrev pub Stops : RunFault → SheetText → List Part → Type 0
+Stops f old ps = f ≢ NoMemory → IsOver f (with_parts old ps)
+
+-- parts are written, or with them a limit is passed
+abbrev pub Wrote : {A : Type 0} → Result A RunFault → SheetText → SheetText → List Part → Type 0
+Wrote (Ok _) old new ps = new ≡ with_parts old ps
+Wrote (Err f) old new ps = Stops f old ps

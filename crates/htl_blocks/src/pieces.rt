@@ -1,0 +1,84 @@
+//! What a script's blocks write.
+
+ghost use Rattle.std.specs.Prelude.{◌≡◌, ◌≢◌, ◌≤◌, IfOk, IfErr, length};
+ghost use Rattle.sp_base.specs.Limits.{most_rendered_bytes};
+ghost use Rattle.htl_blocks.specs.Parts.{inclusions, rounds, seen, text_of};
+ghost use Rattle.htl_blocks.specs.Refused.{Fits, IsRefused, most_inclusions, most_rounds};
+ghost use Rattle.htl_blocks.specs.Sheets.{IsOver, empty_sheet, kept, with_parts};
+ghost use Rattle.htl_blocks.specs.Written.{blocks_parts};
+
+use crate::block::Block;
+use crate::blocks::Blocks;
+use crate::keeping::Keeping;
+use crate::piece::Frame;
+use crate::piece_list::PieceList;
+use crate::place::Place;
+use crate::run_fault::RunFault;
+use crate::sheet::{Sheet, finished};
+use crate::written::blocks;
+use htl_expr::Scope;
+use std::alloc::Global;
+
+// A sheet with what blocks write.
+fn filled<'a>(
+    alloc: Global,
+    scope: &Scope<'a>,
+    keeping: Keeping,
+    all: &'a [Block],
+) -> Result<Sheet<'a>, RunFault>
+    ensures ok { IfOk result (λ sheet. sheet ≡ with_parts (empty_sheet scope.now keeping) (blocks_parts scope.now all.now)) }
+    ensures err { IfErr result (λ f. f ≢ RunFault.NoMemory → IsOver f (with_parts (empty_sheet scope.now keeping) (blocks_parts scope.now all.now))) }
+{
+    let mut sheet = Sheet::new(alloc, scope, keeping);
+    let frame = Frame::outer(alloc);
+    let place = Place {
+        vars: scope.variables(),
+        frame: &frame,
+    };
+    blocks(&mut sheet, alloc, &place, all)?;
+    Ok(sheet)
+}
+
+// What blocks write, of which this is kept.
+fn written<'a>(
+    alloc: Global,
+    scope: &Scope<'a>,
+    keeping: Keeping,
+    all: &'a [Block],
+) -> Result<PieceList<'a>, RunFault>
+    ensures parts { IfOk result (λ l. (l.scope ≡ scope.now) × (l.parts ≡ kept keeping (blocks_parts scope.now all.now)) × (l.rounds ≡ rounds (blocks_parts scope.now all.now))) }
+    ensures fits { IfOk result (λ l. (length (text_of l.parts) ≤ most_rendered_bytes) × (inclusions l.parts ≤ most_inclusions) × (l.rounds ≤ most_rounds)) }
+    ensures err { IfErr result (λ f. f ≢ RunFault.NoMemory → IsOver f (with_parts (empty_sheet scope.now keeping) (blocks_parts scope.now all.now))) }
+{
+    let sheet = filled(alloc, scope, keeping, all)?;
+    finished(sheet, scope)
+}
+
+// The fault where there is too much but maybe not too much text.
+fn fault_beside<'a>(alloc: Global, scope: &Scope<'a>, all: &'a [Block]) -> RunFault
+    requires { IsOver RunFault.TooMany (with_parts (empty_sheet scope.now Keeping.All) (blocks_parts scope.now all.now)) }
+    ensures { result ≢ RunFault.NoMemory → IsRefused result (blocks_parts scope.now all.now) }
+{
+    let Err(fault) = written(alloc, scope, Keeping::TextAlone, all) else {
+        return RunFault::TooMany;
+    };
+    fault
+}
+
+impl Blocks {
+    /// What the script writes for a resource and variables, with what is put in from elsewhere. Where there is too much of the rest and too
+    /// much text, it is the text that is told; but after 1,000,000 rounds nothing more is looked at.
+    #[tactic(auto, using(crate::proofs::PieceLemmas::all_are_seen, crate::proofs::PieceLemmas::all_fits, crate::proofs::PieceLemmas::long_is_refused))]
+    pub fn pieces<'a>(&'a self, alloc: Global, scope: &Scope<'a>) -> Result<PieceList<'a>, RunFault>
+        ensures parts { IfOk result (λ l. (l.scope ≡ scope.now) × (l.parts ≡ seen (blocks_parts scope.now self.now)) × (l.rounds ≡ rounds (blocks_parts scope.now self.now))) }
+        ensures fits { IfOk result (λ l. Fits (blocks_parts scope.now self.now)) }
+        ensures err { IfErr result (λ f. f ≢ RunFault.NoMemory → IsRefused f (blocks_parts scope.now self.now)) }
+    {
+        match written(alloc, scope, Keeping::All, self.blocks()) {
+            Ok(list) => Ok(list),
+            Err(RunFault::TooMany) => Err(fault_beside(alloc, scope, self.blocks())),
+            Err(RunFault::TooLong) => Err(RunFault::TooLong),
+            Err(RunFault::NoMemory) => Err(RunFault::NoMemory),
+        }
+    }
+}

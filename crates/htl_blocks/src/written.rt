@@ -1,0 +1,253 @@
+//! What blocks write.
+
+ghost use Rattle.std.specs.Prelude.{◌≡◌, ◌≢◌, ◌<◌, [], ◌∷◌, IfOk, Some, length};
+ghost use Rattle.std.specs.List.{flat_map, slice_index_or};
+ghost use Rattle.htl_expr.specs.Bindings.{with_vars};
+ghost use Rattle.htl_expr.specs.Variables.{vars_of};
+ghost use Rattle.htl_text.specs.Template.{template_output};
+ghost use Rattle.htl_blocks.specs.Places.{HasItems, IsPlaceIn, seen_at};
+ghost use Rattle.htl_blocks.specs.Sheets.{Wrote};
+ghost use Rattle.htl_blocks.specs.Written as spec;
+
+use crate::attribute::Body;
+use crate::block::Block;
+use crate::element_tags::ElementTags;
+use crate::piece::Round;
+use crate::place::Place;
+use crate::repetition::Repetition;
+use crate::run_fault::RunFault;
+use crate::sheet::{Sheet, include_resource, include_script, keeps_tags, listed, passes, write};
+use htl_expr::Variables;
+use htl_text::Template;
+use sp_base::TextBuf;
+use std::alloc::Global;
+
+/// A start tag, where the tags stand.
+#[tactic(auto, using(crate::proofs::WrittenLemmas::tag_stands, crate::proofs::WrittenLemmas::no_tag))]
+fn open_tag<'v, 'a: 'v>(
+    sheet: &mut Sheet<'a>,
+    alloc: Global,
+    vars: &'v Variables<'v>,
+    keeps: bool,
+    start: &'v Template,
+) -> Result<(), RunFault>
+    ensures { Wrote result sheet.old sheet.new (spec.tag_parts keeps (template_output (with_vars sheet.old.scope (vars_of vars.now)) start.now)) }
+{
+    if keeps {
+        write(sheet, alloc, vars, start)
+    } else {
+        Ok(())
+    }
+}
+
+/// An end tag, where the tags stand.
+#[tactic(auto, using(crate::proofs::WrittenLemmas::tag_stands, crate::proofs::WrittenLemmas::no_tag))]
+fn close_tag(sheet: &mut Sheet, keeps: bool, end_tag: &str) -> Result<(), RunFault>
+    ensures { Wrote result sheet.old sheet.new (spec.tag_parts keeps end_tag.now) }
+{
+    if keeps { sheet.push(end_tag) } else { Ok(()) }
+}
+
+/// What stands in an element.
+#[cycle(written)]
+fn inside<'v, 'a: 'v>(
+    sheet: &mut Sheet<'a>,
+    alloc: Global,
+    place: &Place<'v, 'a>,
+    body: &'a Option<Body>,
+    content: &'a [Block],
+) -> Result<(), RunFault>
+    requires { IsPlaceIn sheet.old.scope place.now }
+    ensures { Wrote result sheet.old sheet.new (spec.body_parts body.now (λ scope. spec.blocks_parts scope content.now) (seen_at sheet.old.scope place.now)) }
+{
+    match body {
+        None => blocks(sheet, alloc, place, content),
+        Some(Body::Text(value)) => write(sheet, alloc, place.vars, value),
+        Some(Body::Include(value)) => include_script(sheet, alloc, place, value),
+        Some(Body::Resource(value)) => include_resource(sheet, alloc, place.vars, value),
+    }
+}
+
+/// What stands in an element for the item at a place of its list.
+#[cycle(written)]
+fn round<'v, 'a: 'v>(
+    sheet: &mut Sheet<'a>,
+    alloc: Global,
+    place: &Place<'v, 'a>,
+    content: &'a [Block],
+    repetition: &Repetition<'v, 'a>,
+    index: usize,
+) -> Result<(), RunFault>
+    requires place { IsPlaceIn sheet.old.scope place.now }
+    requires items { HasItems (seen_at sheet.old.scope place.now) repetition.now }
+    requires index { index < length repetition.now.items }
+    ensures { Wrote result sheet.old sheet.new (spec.round_parts repetition.now.name.now (spec.body_parts repetition.now.body.now (λ scope. spec.blocks_parts scope content.now)) (seen_at sheet.old.scope place.now) (slice_index_or repetition.now.items index [])) }
+{
+    let Some(item) = repetition.items.item(alloc, index)? else {
+        return Ok(());
+    };
+    let frame = place.frame.within(
+        alloc,
+        Round {
+            list: repetition.list,
+            name: repetition.name,
+            place: index,
+        },
+    )?;
+    sheet.begin_round()?;
+    let vars = Variables::With(repetition.name, item.text(), &*place.vars);
+    let inner = Place {
+        vars: &vars,
+        frame: &frame,
+    };
+    inside(sheet, alloc, &inner, repetition.body, content)
+}
+
+/// What stands in an element for each item of its list.
+#[cycle(written)]
+fn rounds<'v, 'a: 'v>(
+    sheet: &mut Sheet<'a>,
+    alloc: Global,
+    place: &Place<'v, 'a>,
+    content: &'a [Block],
+    repetition: &Repetition<'v, 'a>,
+) -> Result<(), RunFault>
+    requires place { IsPlaceIn sheet.old.scope place.now }
+    requires items { HasItems (seen_at sheet.old.scope place.now) repetition.now }
+    ensures { Wrote result sheet.old sheet.new (flat_map (spec.round_parts repetition.now.name.now (spec.body_parts repetition.now.body.now (λ scope. spec.blocks_parts scope content.now)) (seen_at sheet.old.scope place.now)) repetition.now.items) }
+{
+    for index in 0..repetition.items.len() {
+        round(sheet, alloc, place, content, repetition, index)?;
+    }
+    Ok(())
+}
+
+/// An element whose content stands once.
+#[cycle(written)]
+fn once<'v, 'a: 'v>(
+    sheet: &mut Sheet<'a>,
+    alloc: Global,
+    place: &Place<'v, 'a>,
+    tags: &ElementTags<'a>,
+    content: &'a [Block],
+) -> Result<(), RunFault>
+    requires { IsPlaceIn sheet.old.scope place.now }
+    ensures { Wrote result sheet.old sheet.new (spec.between_tags tags.now.start.now tags.now.end.now (seen_at sheet.old.scope place.now) (Some (spec.body_parts tags.now.start.now.attributes.body (λ scope. spec.blocks_parts scope content.now) (seen_at sheet.old.scope place.now)))) }
+{
+    let start = tags.start;
+    let keeps = keeps_tags(sheet, alloc, place.vars, &start.attributes.unwrap)?;
+    open_tag(sheet, alloc, place.vars, keeps, &start.start)?;
+    inside(sheet, alloc, place, &start.attributes.body, content)?;
+    close_tag(sheet, keeps, tags.end)
+}
+
+/// An element whose content stands once for each of these items.
+#[cycle(written)]
+fn for_items<'v, 'a: 'v>(
+    sheet: &mut Sheet<'a>,
+    alloc: Global,
+    place: &Place<'v, 'a>,
+    tags: &ElementTags<'a>,
+    content: &'a [Block],
+    repetition: &Repetition<'v, 'a>,
+) -> Result<(), RunFault>
+    requires place { IsPlaceIn sheet.old.scope place.now }
+    requires items { HasItems (seen_at sheet.old.scope place.now) repetition.now }
+    ensures { Wrote result sheet.old sheet.new (spec.between_tags tags.now.start.now tags.now.end.now (seen_at sheet.old.scope place.now) (spec.repeated repetition.now.name.now (spec.body_parts repetition.now.body.now (λ scope. spec.blocks_parts scope content.now)) (seen_at sheet.old.scope place.now) (Some repetition.now.items))) }
+{
+    if repetition.items.len() == 0 {
+        return Ok(());
+    }
+    let start = tags.start;
+    let keeps = keeps_tags(sheet, alloc, place.vars, &start.attributes.unwrap)?;
+    open_tag(sheet, alloc, place.vars, keeps, &start.start)?;
+    rounds(sheet, alloc, place, content, repetition)?;
+    close_tag(sheet, keeps, tags.end)
+}
+
+/// An element whose content stands once for each item of its list.
+#[cycle(written)]
+fn repeated<'v, 'a: 'v>(
+    sheet: &mut Sheet<'a>,
+    alloc: Global,
+    place: &Place<'v, 'a>,
+    tags: &ElementTags<'a>,
+    content: &'a [Block],
+    list: &'a (TextBuf, Template),
+) -> Result<(), RunFault>
+    requires { IsPlaceIn sheet.old.scope place.now }
+    ensures { Wrote result sheet.old sheet.new (spec.between_tags tags.now.start.now tags.now.end.now (seen_at sheet.old.scope place.now) (spec.listed (Some list.now) (spec.body_parts tags.now.start.now.attributes.body (λ scope. spec.blocks_parts scope content.now)) (seen_at sheet.old.scope place.now))) }
+{
+    let Some(items) = listed(sheet, alloc, place.vars, &list.1)? else {
+        return Ok(());
+    };
+    let repetition = Repetition {
+        name: list.0.text(),
+        list: &list.1,
+        items,
+        body: &tags.start.attributes.body,
+    };
+    for_items(sheet, alloc, place, tags, content, &repetition)
+}
+
+/// An element with its start tag, its content and its end tag.
+#[cycle(written)]
+fn element<'v, 'a: 'v>(
+    sheet: &mut Sheet<'a>,
+    alloc: Global,
+    place: &Place<'v, 'a>,
+    tags: &ElementTags<'a>,
+    content: &'a [Block],
+) -> Result<(), RunFault>
+    requires { IsPlaceIn sheet.old.scope place.now }
+    ensures { Wrote result sheet.old sheet.new (spec.element_parts tags.now.start.now (λ scope. spec.blocks_parts scope content.now) tags.now.end.now (seen_at sheet.old.scope place.now)) }
+{
+    let start = tags.start;
+    if !passes(sheet, alloc, place.vars, &start.attributes.test)? {
+        return Ok(());
+    }
+    match &start.attributes.list {
+        None => once(sheet, alloc, place, tags, content),
+        Some(list) => repeated(sheet, alloc, place, tags, content, list),
+    }
+}
+
+/// A block.
+#[cycle(written)]
+fn block<'v, 'a: 'v>(
+    sheet: &mut Sheet<'a>,
+    alloc: Global,
+    place: &Place<'v, 'a>,
+    one: &'a Block,
+) -> Result<(), RunFault>
+    requires { IsPlaceIn sheet.old.scope place.now }
+    ensures { Wrote result sheet.old sheet.new (spec.block_parts one.now (seen_at sheet.old.scope place.now)) }
+{
+    match one {
+        Block::Text(template) => write(sheet, alloc, place.vars, template),
+        Block::Element(tag, content, end_tag) => {
+            let tags = ElementTags {
+                start: tag.get(),
+                end: end_tag.text(),
+            };
+            element(sheet, alloc, place, &tags, content.as_slice())
+        }
+    }
+}
+
+/// Writes what blocks write at a place.
+#[cycle(written)]
+pub fn blocks<'v, 'a: 'v>(
+    sheet: &mut Sheet<'a>,
+    alloc: Global,
+    place: &Place<'v, 'a>,
+    all: &'a [Block],
+) -> Result<(), RunFault>
+    requires { IsPlaceIn sheet.old.scope place.now }
+    ensures { Wrote result sheet.old sheet.new (spec.blocks_parts (seen_at sheet.old.scope place.now) all.now) }
+{
+    for one in all {
+        block(sheet, alloc, place, one)?;
+    }
+    Ok(())
+}

@@ -1,5 +1,5 @@
 -- A resource that is seen without its kids is answered as the whole one.
-use Rattle.std.proofs.Common.{◌≡◌, ◌==◌, ◌||◌, ℕ, zero, suc, Bool, true, false, not, cond, List, [], ◌∷◌, Option, Some, None, Result, Ok, Err, IfOk, refl, ap, sym, subst, ◌∙◌}
+use Rattle.std.proofs.Common.{◌≡◌, ◌==◌, ◌||◌, ℕ, Bool, true, false, not, cond, List, [], ◌∷◌, Option, Some, None, Result, Ok, Err, IfOk, refl, ap, sym, subst, arith, ◌∙◌}
 use Rattle.std.specs.Prelude.{if◌then◌else◌, codes, nat_eq, option_map, option_and_then}
 use Rattle.std.specs.List.{list_any}
 use Rattle.std.specs.Cmp.Lexicographic.{nat_list_eq_equiv, pointwise}
@@ -125,8 +125,7 @@ of_no_level seen whole kids (Some depth) none =
     ∙ ap (json_representation whole) (no_level seen whole kids (levels_of depth) (is_zero (levels_of depth) none))
   where
     is_zero : (n : ℕ) → (n == 0) ≡ true → n ≡ 0
-    is_zero zero e = refl
-    is_zero (suc n) e = absurd (false≢true e)
+    is_zero n e = grind (arith, e)
 
     json_same : (res : Resource) (ks : List (List ℕ)) (answer : JsonAnswer) → json_representation (record res { kids = ks }) answer ≡ json_representation res answer
     json_same res ks (Whole text) = refl

@@ -10,4 +10,4 @@ returns-then-not-is_merged_path c =
 
 pub returns-then-shows_no_kid : goal.returns-then-shows_no_kid
 returns-then-shows_no_kid c =
-    answer-as _ _ _ (alone-shown c.args.tree.now c.args.parts.now c.args.res.now c.requires (sym c.shows_no_kid.ensures ∙ c.if-shows_no_kid.true)) c.default_answer-2.ensures
+    answer-as _ _ _ (alone-shown c.args.tree.now c.args.parts.now c.args.res.now c.requires (sym c.shows_no_kid.ensures ∙ c.if-shows_no_kid.true)) c.default_answer-then-shows_no_kid.ensures

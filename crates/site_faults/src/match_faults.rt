@@ -1,6 +1,7 @@
 //! Properties `sling:match` by which nothing is mapped.
 
 use crate::mappings::{is_mapping_path, leads};
+use crate::pattern_samples::begins_with_slash;
 use regex_rules::{Pattern, PatternFault};
 use resource_tree::{Node, Tree};
 use sp_base::{Items, Mem, NoMemory, Path, TextBuf};
@@ -22,6 +23,8 @@ pub enum MatchFault {
     TooDeep(TextBuf, usize),
     /// Its node leads nowhere.
     NoTarget,
+    /// It begins with a slash, where the host would stand.
+    NoHost,
 }
 
 /// A `sling:match` by which nothing is mapped.
@@ -57,6 +60,7 @@ fn match_fault(alloc: Global, path: &Path, node: &Node) -> Mem<Option<MatchFault
     };
     match text_fault(alloc, text)? {
         None if !leads(node) => Ok(Some(MatchFault::NoTarget)),
+        None if begins_with_slash(alloc, text.text())? => Ok(Some(MatchFault::NoHost)),
         fault => Ok(fault),
     }
 }

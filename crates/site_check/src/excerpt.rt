@@ -25,13 +25,13 @@ fn ends_line(text: &[u8], at: usize) -> bool {
 }
 
 // What stands in a text before a byte.
-fn before(text: &[u8], at: usize) -> &[u8] {
+fn text_before(text: &[u8], at: usize) -> &[u8] {
     &text[..at.min(text.len())]
 }
 
 /// The place of a byte of a text.
 pub fn place_of(text: &[u8], at: usize) -> TextPlace {
-    let before = before(text, at);
+    let before = text_before(text, at);
     let mut line = 1usize;
     let mut column = 1usize;
     for passed in 0..before.len() {
@@ -51,7 +51,7 @@ fn begins_character(byte: u8) -> bool {
 
 // What stands before a byte in its line, cut to what is shown.
 fn line_before(text: &[u8], at: usize) -> &[u8] {
-    let before = before(text, at);
+    let before = text_before(text, at);
     for passed in 0..before.len() {
         let from = before.len() - passed;
         if passed == SHOWN_BYTES {

@@ -26,7 +26,7 @@ fn add_line(
     let mut line = Vec::new(alloc);
     line.extend_from_slice(b"warning: ")?;
     for part in parts {
-        push_shown(&mut line, part.as_bytes())?;
+        push_shown(&mut line, (*part).as_bytes())?;
     }
     line.extend_from_slice(laid_out)?;
     if let Ok(text) = str::from_utf8(&line) {

@@ -77,7 +77,7 @@ fn has_kid(node: &Node, name: &str) -> bool {
 }
 
 // What a property of a node is to hide of the layers below.
-#[derive(Clone, Copy, PartialEq, Eq, Drop)]
+#[derive(Clone, Copy, Drop)]
 enum Hidden {
     Properties,
     Children,

@@ -50,6 +50,17 @@ fn text_fault(alloc: Global, text: &TextBuf) -> Mem<Option<MatchFault>> {
     }
 }
 
+// What is wrong with a pattern of a node.
+fn pattern_fault(alloc: Global, text: &TextBuf, node: &Node) -> Mem<Option<MatchFault>> {
+    if !leads(node) {
+        return Ok(Some(MatchFault::NoTarget));
+    }
+    if begins_with_slash(alloc, text.text())? {
+        return Ok(Some(MatchFault::NoHost));
+    }
+    Ok(None)
+}
+
 // What is wrong with the `sling:match` of a node at a path.
 fn match_fault(alloc: Global, path: &Path, node: &Node) -> Mem<Option<MatchFault>> {
     if path.depth() > PATTERN_DEPTH {
@@ -59,8 +70,7 @@ fn match_fault(alloc: Global, path: &Path, node: &Node) -> Mem<Option<MatchFault
         return Ok(Some(MatchFault::NoText));
     };
     match text_fault(alloc, text)? {
-        None if !leads(node) => Ok(Some(MatchFault::NoTarget)),
-        None if begins_with_slash(alloc, text.text())? => Ok(Some(MatchFault::NoHost)),
+        None => pattern_fault(alloc, text, node),
         fault => Ok(fault),
     }
 }

@@ -125,7 +125,8 @@ pub fn begins_with_slash(alloc: Global, text: &str) -> Mem<bool> {
     if rest.starts_with('*') || rest.starts_with('?') {
         return Ok(false);
     }
-    Ok(!sampled(alloc, text)?.has_rows)
+    let sampler = sampled(alloc, text)?;
+    Ok(!sampler.has_rows)
 }
 
 /// A host with its port, and a path at it.

@@ -17,12 +17,7 @@ use std::collections::BTreeMap;
 pub type WarningLines = BTreeMap<TextBuf, ()>;
 
 // Adds a line of these parts, with what is laid out already behind them.
-fn add_line(
-    lines: &mut WarningLines,
-    alloc: Global,
-    parts: &[&str],
-    laid_out: &[u8],
-) -> Mem<()> {
+fn add_line(lines: &mut WarningLines, alloc: Global, parts: &[&str], laid_out: &[u8]) -> Mem<()> {
     let mut line = Vec::new(alloc);
     line.extend_from_slice(b"warning: ")?;
     for part in parts {
@@ -213,11 +208,7 @@ fn warn_of_hidings(lines: &mut WarningLines, alloc: Global, tree: &Tree) -> Mem<
 }
 
 /// What is likely to be a mistake in a content, where the publisher is asked at a host and a port, if these are known.
-pub fn content_warnings(
-    alloc: Global,
-    tree: &Tree,
-    ask: Option<(&str, u16)>,
-) -> Mem<WarningLines> {
+pub fn content_warnings(alloc: Global, tree: &Tree, ask: Option<(&str, u16)>) -> Mem<WarningLines> {
     let mut lines = BTreeMap::new(alloc);
     warn_of_scripts(&mut lines, alloc, tree)?;
     warn_of_types(&mut lines, alloc, tree)?;

@@ -268,11 +268,7 @@ fn tell_mapping(
 
 /// The mappings that lead to no resource, in no order that is promised, where the publisher is asked at a host and a port. Where these
 /// aren't known it is taken to be asked at `localhost` and 80, and no mapping is told for its host.
-pub fn lost_mappings(
-    alloc: Global,
-    tree: &Tree,
-    ask: Option<(&str, u16)>,
-) -> Mem<LostMappingList> {
+pub fn lost_mappings(alloc: Global, tree: &Tree, ask: Option<(&str, u16)>) -> Mem<LostMappingList> {
     let index = MapIndex::of(alloc, tree)?;
     let (host, port) = ask.unwrap_or(("localhost", 80));
     let name = name_of(alloc, host, port)?;

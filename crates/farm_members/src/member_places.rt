@@ -24,6 +24,7 @@ impl MemberPlaces {
             next: Next::Member,
             run: Run::Blank,
             place: MemberPlace { line: 1, depth: 0 },
+            is_after_return: false,
         };
         for byte in text {
             if reading.begins_member(*byte) {
@@ -81,6 +82,8 @@ struct Reading {
     next: Next,
     run: Run,
     place: MemberPlace,
+    // Whether the byte before was a carriage return: with a line feed it ends one line.
+    is_after_return: bool,
 }
 
 fn is_name_byte(byte: u8) -> bool {
@@ -111,9 +114,10 @@ impl Reading {
             _ if self.goes_on(byte) => self,
             _ => self.begun(byte),
         };
-        if byte == b'\n' {
+        if byte == b'\r' || (byte == b'\n' && !self.is_after_return) {
             after.place.line = after.place.line.saturating_add(1);
         }
+        after.is_after_return = byte == b'\r';
         after
     }
 
@@ -122,6 +126,7 @@ impl Reading {
             next,
             run,
             place: self.place,
+            is_after_return: self.is_after_return,
         }
     }
 

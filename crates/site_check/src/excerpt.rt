@@ -1,5 +1,6 @@
 //! Where a byte stands in a text, for a reader.
 
+use crate::shown::push_shown;
 use sp_base::Mem;
 use std::alloc::Global;
 
@@ -13,15 +14,31 @@ pub struct TextPlace {
     pub column: usize,
 }
 
-/// The place of the byte before which these stand.
-pub fn place_after(before: &[u8]) -> TextPlace {
+// Whether the byte at a place ends a line: a line feed, or a carriage return that no line feed follows.
+fn ends_line(text: &[u8], at: usize) -> bool {
+    match text.get(at..) {
+        Some([b'\n', ..]) => true,
+        Some([b'\r', b'\n', ..]) => false,
+        Some([b'\r', ..]) => true,
+        _ => false,
+    }
+}
+
+// What stands in a text before a byte.
+fn text_before(text: &[u8], at: usize) -> &[u8] {
+    &text[..at.min(text.len())]
+}
+
+/// The place of a byte of a text.
+pub fn place_of(text: &[u8], at: usize) -> TextPlace {
+    let before = text_before(text, at);
     let mut line = 1usize;
     let mut column = 1usize;
-    for byte in before {
-        if *byte == b'\n' {
+    for passed in 0..before.len() {
+        if ends_line(text, passed) {
             line = line.saturating_add(1);
             column = 1;
-        } else if begins_character(*byte) {
+        } else if begins_character(before[passed]) {
             column = column.saturating_add(1);
         }
     }
@@ -33,13 +50,14 @@ fn begins_character(byte: u8) -> bool {
 }
 
 // What stands before a byte in its line, cut to what is shown.
-fn line_before(before: &[u8]) -> &[u8] {
+fn line_before(text: &[u8], at: usize) -> &[u8] {
+    let before = text_before(text, at);
     for passed in 0..before.len() {
         let from = before.len() - passed;
         if passed == SHOWN_BYTES {
             return whole_characters(&before[from..]);
         }
-        if before[from - 1] == b'\n' {
+        if ends_line(text, from - 1) {
             return &before[from..];
         }
     }
@@ -84,10 +102,10 @@ fn push_blanks(out: &mut Vec<u8>, text: &[u8]) -> Mem<()> {
 /// Adds the line of a byte, and below it a caret under the byte.
 pub fn push_excerpt(out: &mut Vec<u8>, text: &[u8], at: usize) -> Mem<()> {
     let at = at.min(text.len());
-    let before = line_before(&text[..at]);
+    let before = line_before(text, at);
     out.extend_from_slice(b"    ")?;
-    out.extend_from_slice(before)?;
-    out.extend_from_slice(line_after(&text[at..]))?;
+    push_shown(out, before)?;
+    push_shown(out, line_after(&text[at..]))?;
     out.extend_from_slice(b"\n    ")?;
     push_blanks(out, before)?;
     out.extend_from_slice(b"^\n")?;
@@ -96,7 +114,7 @@ pub fn push_excerpt(out: &mut Vec<u8>, text: &[u8], at: usize) -> Mem<()> {
 
 /// Adds the line and the column of a byte, and a colon.
 pub fn push_place(alloc: Global, out: &mut Vec<u8>, text: &[u8], at: usize) -> Mem<()> {
-    let place = place_after(&text[..at.min(text.len())]);
+    let place = place_of(text, at);
     out.extend_from_slice(place.line.to_string(alloc)?.as_bytes())?;
     out.push(b':')?;
     out.extend_from_slice(place.column.to_string(alloc)?.as_bytes())?;

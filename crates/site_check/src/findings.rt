@@ -35,18 +35,17 @@ pub fn find(alloc: Global, seeds: RandomState, content: &[u8], any: &[u8]) -> Me
     Ok(found)
 }
 
-// The host and the port at which the publisher is asked: those of the farm, and of none where the farm is refused.
-fn ask_of(alloc: Global, any: &[u8]) -> Mem<(TextBuf, u16)> {
-    let usual = (TextBuf::of(alloc, "localhost")?, 80u16);
+// The host and the port at which the publisher is asked, where the farm isn't refused.
+fn ask_of(alloc: Global, any: &[u8]) -> Mem<Option<(TextBuf, u16)>> {
     let top = match read_any(alloc, any) {
         Ok(top) => top,
         Err(AnyFault::NoMemory) => return Err(NoMemory),
-        Err(_) => return Ok(usual),
+        Err(_) => return Ok(None),
     };
     match farm_of(alloc, &top) {
-        Ok(farm) => Ok((farm.ask_host.duplicate(alloc)?, farm.ask_port)),
+        Ok(farm) => Ok(Some((farm.ask_host.duplicate(alloc)?, farm.ask_port))),
         Err(FarmFault::NoMemory) => Err(NoMemory),
-        Err(_) => Ok(usual),
+        Err(_) => Ok(None),
     }
 }
 
@@ -55,7 +54,7 @@ fn find_in_content(
     alloc: Global,
     seeds: RandomState,
     content: &[u8],
-    ask: &(TextBuf, u16),
+    ask: &Option<(TextBuf, u16)>,
 ) -> Mem<()> {
     match read_tree(alloc, seeds, content) {
         Ok(tree) => find_in_tree(found, alloc, &tree, ask),
@@ -67,12 +66,21 @@ fn find_in_content(
     }
 }
 
-fn find_in_tree(found: &mut Findings, alloc: Global, tree: &Tree, ask: &(TextBuf, u16)) -> Mem<()> {
+fn find_in_tree(
+    found: &mut Findings,
+    alloc: Global,
+    tree: &Tree,
+    ask: &Option<(TextBuf, u16)>,
+) -> Mem<()> {
     let told = script_faults(alloc, tree)?;
     for (path, fault) in &told {
         find_script(found, alloc, tree, path, *fault)?;
     }
-    let lines = content_warnings(alloc, tree, ask.0.text(), ask.1)?;
+    let ask = match ask {
+        Some((host, port)) => Some((host.text(), *port)),
+        None => None,
+    };
+    let lines = content_warnings(alloc, tree, ask)?;
     add_warnings(found, &lines)
 }
 

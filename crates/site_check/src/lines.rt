@@ -2,6 +2,7 @@
 
 use crate::excerpt::{push_excerpt, push_place};
 use crate::quotes::are_closed;
+use crate::shown::push_shown;
 use any_config::{AnyFault, FarmFault};
 use content_json::ContentFault;
 use outside_world::InputFault;
@@ -37,7 +38,7 @@ pub fn push_script_fault(
     fault: ScriptFault,
 ) -> Mem<()> {
     push(out, b"fault: ")?;
-    push(out, path.as_text().as_bytes())?;
+    push_shown(out, path.as_text().as_bytes())?;
     push(out, b":")?;
     match fault {
         ScriptFault::Unclosed(at) => push_placed(
@@ -65,7 +66,7 @@ pub fn push_script_fault(
 fn push_at_path(out: &mut Vec<u8>, name: &[u8], path: &Path) -> Mem<()> {
     push(out, name)?;
     push(out, b" at ")?;
-    push(out, path.as_text().as_bytes())
+    push_shown(out, path.as_text().as_bytes())
 }
 
 fn push_cause(out: &mut Vec<u8>, fault: &ContentFault) -> Mem<()> {
@@ -169,7 +170,7 @@ pub fn unread_line(alloc: Global, fault: InputFault, name: &str) -> Mem<Vec<u8>>
         InputFault::TooLong => push(&mut line, b"input too long: ")?,
         _ => push(&mut line, b"input failed: ")?,
     }
-    push(&mut line, name.as_bytes())?;
+    push_shown(&mut line, name.as_bytes())?;
     push(&mut line, b"\n")?;
     Ok(line)
 }

@@ -9,6 +9,7 @@ mod form;
 mod lines;
 mod program;
 mod quotes;
+mod shown;
 mod telling;
 mod warnings;
 

@@ -1,12 +1,13 @@
 //! Warnings, as lines.
 
 use crate::lines::push_placed;
+use crate::shown::push_shown;
 use any_config::AnyNode;
 use farm_members::passed_members;
 use resource_tree::Tree;
 use site_faults::{
-    IdleCause, MappingEnd, MatchFault, idle_entries, idle_hidings, idle_matches, lost_mappings,
-    shared_claims, unreached_scripts, unrendered_types,
+    IdleCause, MappingEnd, MatchFault, circling_types, idle_entries, idle_hidings, idle_matches,
+    lost_mappings, shared_claims, unreached_scripts, unrendered_types,
 };
 use sp_base::{Mem, TextBuf};
 use std::alloc::Global;
@@ -15,15 +16,23 @@ use std::collections::BTreeMap;
 /// Lines, each once, in the order of their bytes.
 pub type WarningLines = BTreeMap<TextBuf, ()>;
 
+// Adds a line of these parts, with what is laid out already behind them.
+fn add_line(lines: &mut WarningLines, alloc: Global, parts: &[&str], laid_out: &[u8]) -> Mem<()> {
+    let mut line = Vec::new(alloc);
+    line.extend_from_slice(b"warning: ")?;
+    for part in parts {
+        push_shown(&mut line, (*part).as_bytes())?;
+    }
+    line.extend_from_slice(laid_out)?;
+    if let Ok(text) = str::from_utf8(&line) {
+        lines.insert(TextBuf::of(alloc, text)?, ())?;
+    }
+    Ok(())
+}
+
 // Adds a line of these parts.
 fn warn(lines: &mut WarningLines, alloc: Global, parts: &[&str]) -> Mem<()> {
-    let mut line = String::from_str(alloc, "warning: ")?;
-    for part in parts {
-        line.push_str(*part)?;
-    }
-    line.push_str("\n")?;
-    lines.insert(TextBuf::from(line), ())?;
-    Ok(())
+    add_line(lines, alloc, parts, b"\n")
 }
 
 fn warn_of_scripts(lines: &mut WarningLines, alloc: Global, tree: &Tree) -> Mem<()> {
@@ -56,77 +65,74 @@ fn warn_of_types(lines: &mut WarningLines, alloc: Global, tree: &Tree) -> Mem<()
 fn warn_of_claims(lines: &mut WarningLines, alloc: Global, tree: &Tree) -> Mem<()> {
     let told = shared_claims(alloc, tree)?;
     for shared in told.as_slice() {
-        warn(
-            lines,
-            alloc,
-            &[
-                shared.other.as_text(),
-                ": claims ",
-                shared.claim.as_text(),
-                ", as ",
-                shared.first.as_text(),
-                " does",
-            ],
-        )?;
+        let (node, claim) = (shared.other.as_text(), shared.claim.as_text());
+        if shared.other == shared.first {
+            let what = ", by an alias and by a vanity path";
+            warn(lines, alloc, &[node, ": claims ", claim, what])?;
+        } else {
+            let first = shared.first.as_text();
+            warn(
+                lines,
+                alloc,
+                &[node, ": claims ", claim, ", as ", first, " does"],
+            )?;
+        }
     }
     Ok(())
+}
+
+fn warn_of_super_types(lines: &mut WarningLines, alloc: Global, tree: &Tree) -> Mem<()> {
+    let told = circling_types(alloc, tree)?;
+    for path in told.as_slice() {
+        let what = ": its super types lead in a circle";
+        warn(lines, alloc, &[path.as_text(), what])?;
+    }
+    Ok(())
+}
+
+fn warn_of_mapping(
+    lines: &mut WarningLines,
+    alloc: Global,
+    node: &str,
+    end: &MappingEnd,
+) -> Mem<()> {
+    match end {
+        MappingEnd::Somewhere => Ok(()),
+        MappingEnd::Nowhere(text) => {
+            let to = text.text();
+            warn(
+                lines,
+                alloc,
+                &[node, ": maps to ", to, ", where no resource is"],
+            )
+        }
+        MappingEnd::InCircles => warn(lines, alloc, &[node, ": redirects in a circle"]),
+        MappingEnd::TooFar => {
+            let what = ": more than 20 redirects follow each other";
+            warn(lines, alloc, &[node, what])
+        }
+        MappingEnd::PassedOver(above) => {
+            let (what, why) = (": maps nothing below ", ", which has a sling:match");
+            warn(lines, alloc, &[node, what, above.as_text(), why])
+        }
+        MappingEnd::NotAsked(asked) => {
+            let what = ": maps nothing, since the publisher is asked at ";
+            warn(lines, alloc, &[node, what, asked.text()])
+        }
+    }
 }
 
 fn warn_of_mappings(
     lines: &mut WarningLines,
     alloc: Global,
     tree: &Tree,
-    host: &str,
-    port: u16,
+    ask: Option<(&str, u16)>,
 ) -> Mem<()> {
-    let told = lost_mappings(alloc, tree, host, port)?;
+    let told = lost_mappings(alloc, tree, ask)?;
     for lost in told.as_slice() {
-        let node = lost.node.as_text();
-        match &lost.end {
-            MappingEnd::Somewhere => (),
-            MappingEnd::Nowhere(text) => {
-                warn(
-                    lines,
-                    alloc,
-                    &[node, ": maps to ", text.text(), ", where no resource is"],
-                )?;
-            }
-            MappingEnd::InCircles => {
-                warn(lines, alloc, &[node, ": redirects in a circle"])?;
-            }
-            MappingEnd::TooFar => {
-                warn(
-                    lines,
-                    alloc,
-                    &[node, ": more than 20 redirects follow each other"],
-                )?;
-            }
-            MappingEnd::PassedOver(above) => {
-                warn(
-                    lines,
-                    alloc,
-                    &[
-                        node,
-                        ": maps nothing below ",
-                        above.as_text(),
-                        ", which has a sling:match",
-                    ],
-                )?;
-            }
-        }
+        warn_of_mapping(lines, alloc, lost.node.as_text(), &lost.end)?;
     }
     Ok(())
-}
-
-// What is wrong at a place of a text, without the end of its last line.
-fn placed(alloc: Global, text: &str, at: usize, what: &str) -> Mem<String> {
-    let mut bytes = Vec::new(alloc);
-    push_placed(alloc, &mut bytes, text.as_bytes(), at, what.as_bytes())?;
-    let mut shown = String::new(alloc);
-    if let Ok(lines) = str::from_utf8(&bytes) {
-        shown.push_str(lines.trim_end_matches('\n'))?;
-    }
-    Ok(shown)
 }
 
 fn warn_at(
@@ -136,8 +142,15 @@ fn warn_at(
     place: (&str, usize),
     what: &str,
 ) -> Mem<()> {
-    let shown = placed(alloc, place.0, place.1, what)?;
-    warn(lines, alloc, &[node, ":", shown.as_str()])
+    let mut laid_out = Vec::new(alloc);
+    push_placed(
+        alloc,
+        &mut laid_out,
+        place.0.as_bytes(),
+        place.1,
+        what.as_bytes(),
+    )?;
+    add_line(lines, alloc, &[node, ":"], &laid_out)
 }
 
 fn warn_of_match(
@@ -162,6 +175,10 @@ fn warn_of_match(
             warn_at(lines, alloc, node, (text.text(), *at), what)
         }
         MatchFault::NoTarget => warn(lines, alloc, &[node, ": sling:match without a target"]),
+        MatchFault::NoHost => {
+            let what = ": sling:match begins with a slash, where the host would stand";
+            warn(lines, alloc, &[node, what])
+        }
     }
 }
 
@@ -190,13 +207,14 @@ fn warn_of_hidings(lines: &mut WarningLines, alloc: Global, tree: &Tree) -> Mem<
     Ok(())
 }
 
-/// What is likely to be a mistake in a content, where the publisher is asked at a host and a port.
-pub fn content_warnings(alloc: Global, tree: &Tree, host: &str, port: u16) -> Mem<WarningLines> {
+/// What is likely to be a mistake in a content, where the publisher is asked at a host and a port, if these are known.
+pub fn content_warnings(alloc: Global, tree: &Tree, ask: Option<(&str, u16)>) -> Mem<WarningLines> {
     let mut lines = BTreeMap::new(alloc);
     warn_of_scripts(&mut lines, alloc, tree)?;
     warn_of_types(&mut lines, alloc, tree)?;
+    warn_of_super_types(&mut lines, alloc, tree)?;
     warn_of_claims(&mut lines, alloc, tree)?;
-    warn_of_mappings(&mut lines, alloc, tree, host, port)?;
+    warn_of_mappings(&mut lines, alloc, tree, ask)?;
     warn_of_matches(&mut lines, alloc, tree)?;
     warn_of_hidings(&mut lines, alloc, tree)?;
     Ok(lines)

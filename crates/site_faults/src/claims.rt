@@ -8,7 +8,7 @@ use sp_base::{Items, Mem, Path, TextBuf, value_texts};
 use std::alloc::Global;
 use std::collections::BTreeMap;
 
-/// Two nodes that claim one path for two resources: by an alias that siblings share, or by a vanity path.
+/// Two nodes, or one node twice, that claim one path for two resources: by an alias, or by a vanity path.
 #[derive(Drop)]
 pub struct SharedClaim {
     pub claim: Path,
@@ -197,7 +197,7 @@ fn tell_claims(
 }
 
 /// Of each path that several nodes claim the least of their paths, with each of the others that claims it for another resource than that
-/// one does, in no order that is promised.
+/// one does, and with itself where it claims the path for two, in no order that is promised.
 pub fn shared_claims(alloc: Global, tree: &Tree) -> Mem<SharedClaimList> {
     let mut firsts = BTreeMap::new(alloc);
     let mut told = Items::new(alloc);

@@ -24,6 +24,20 @@ pub struct IdleEntry {
 
 pub type IdleEntryList = Items<IdleEntry>;
 
+// The tests that an entry of the filter may have, and the one of an entry of another list.
+const FILTER_TESTS: [&str; 8] = [
+    "glob",
+    "method",
+    "url",
+    "path",
+    "selectors",
+    "extension",
+    "suffix",
+    "query",
+];
+
+const TESTS: [&str; 1] = ["glob"];
+
 fn tell_entry(
     told: &mut IdleEntryList,
     alloc: Global,
@@ -47,21 +61,34 @@ fn is_word(node: &AnyNode, word: &str) -> bool {
     }
 }
 
+// The member of a name that counts: a later one is passed over.
+fn member_at<'a>(members: &'a [FarmMember], name: &str) -> Option<&'a AnyNode> {
+    for member in members {
+        if member.0.text() == name {
+            return Some(&member.1);
+        }
+    }
+    None
+}
+
 // Whether an entry plainly applies to all: each test that it has is the glob `*`. A pattern isn't looked into.
-fn applies_to_all(entry: &FarmMember) -> bool {
-    for member in members_of(&entry.1) {
-        if member.0.text() != "type" && !is_word(&member.1, "*") {
-            return false;
+fn applies_to_all(entry: &FarmMember, tests: &[&str]) -> bool {
+    let members = members_of(&entry.1);
+    for test in tests {
+        if let Some(node) = member_at(members, *test) {
+            if !is_word(node, "*") {
+                return false;
+            }
         }
     }
     true
 }
 
 // How many entries stand before the last one that applies to all.
-fn decided_count(entries: &[FarmMember]) -> usize {
+fn decided_count(entries: &[FarmMember], tests: &[&str]) -> usize {
     let mut count = 0;
     for place in 0..entries.len() {
-        if applies_to_all(&entries[place]) {
+        if applies_to_all(&entries[place], tests) {
             count = place;
         }
     }
@@ -72,9 +99,10 @@ fn tell_decided(
     told: &mut IdleEntryList,
     alloc: Global,
     list: &str,
+    tests: &[&str],
     entries: &[FarmMember],
 ) -> Mem<()> {
-    for entry in entries.iter().take(decided_count(entries)) {
+    for entry in entries.iter().take(decided_count(entries, tests)) {
         tell_entry(told, alloc, list, entry, IdleCause::DecidedLater)?;
     }
     Ok(())
@@ -84,15 +112,10 @@ fn tell_decided(
 
 // The word under a name, if there is one. A pattern is none, so an entry with one may allow any beginning.
 fn word_at<'a>(members: &'a [FarmMember], name: &str) -> Option<&'a str> {
-    for member in members {
-        if member.0.text() == name {
-            return match &member.1 {
-                AnyNode::Word(text) => Some(text.text()),
-                _ => None,
-            };
-        }
+    match member_at(members, name) {
+        Some(AnyNode::Word(text)) => Some(text.text()),
+        _ => None,
     }
-    None
 }
 
 // What each text that a glob matches begins with. It ends before a colon or an underscore, since a rule is asked for the path with
@@ -161,9 +184,9 @@ pub fn idle_entries(alloc: Global, top: &AnyNode) -> Mem<IdleEntryList> {
     let farm = members_of_farm(top);
     let filter = members_at(farm, "filter");
     let cache = members_at(farm, "cache");
-    tell_decided(&mut told, alloc, "filter", filter)?;
+    tell_decided(&mut told, alloc, "filter", &FILTER_TESTS, filter)?;
     for list in ["rules", "invalidate", "allowedClients", "ignoreUrlParams"] {
-        tell_decided(&mut told, alloc, list, members_at(cache, list))?;
+        tell_decided(&mut told, alloc, list, &TESTS, members_at(cache, list))?;
     }
     for list in ["rules", "invalidate"] {
         tell_unmet(&mut told, alloc, filter, list, members_at(cache, list))?;

@@ -77,21 +77,17 @@ fn has_kid(node: &Node, name: &str) -> bool {
 }
 
 // What a property of a node is to hide of the layers below.
-#[derive(Clone, Copy, PartialEq, Eq, Drop)]
+#[derive(Clone, Copy, Drop)]
 enum Hidden {
-    Resource,
     Properties,
     Children,
 }
 
 fn hides_of(node: &Node, hidden: Hidden, names: &[TextBuf]) -> bool {
-    if hidden == Hidden::Resource {
-        return true;
-    }
     for name in names {
         let there = match hidden {
             Hidden::Properties => has_property(node, name.text()),
-            _ => has_kid(node, name.text()),
+            Hidden::Children => has_kid(node, name.text()),
         };
         if there {
             return true;
@@ -111,11 +107,12 @@ fn hides_any(tree: &Tree, layers: &PathList, hidden: Hidden, names: &[TextBuf]) 
     false
 }
 
-fn hides_its_resource(node: &Node) -> bool {
-    matches!(
-        node.props.get("sling:hideResource"),
-        Some(Value::Truth(true))
-    )
+// Whether a `sling:hideResource` is no truth value. One that is true hides its own layer, if no lower one.
+fn hides_no_resource(node: &Node) -> bool {
+    match node.props.get("sling:hideResource") {
+        Some(Value::Truth(_)) | None => false,
+        Some(_) => true,
+    }
 }
 
 // Tells a property that hides nothing.
@@ -135,7 +132,7 @@ fn tell_names(
 ) -> Mem<()> {
     let property = match hidden {
         Hidden::Properties => "sling:hideProperties",
-        _ => "sling:hideChildren",
+        Hidden::Children => "sling:hideChildren",
     };
     let names = value_texts(row.1.props.get(property));
     if !names.is_empty() && !hides_any(tree, &layers_below(alloc, tree, row.0)?, hidden, names) {
@@ -144,20 +141,8 @@ fn tell_names(
     Ok(())
 }
 
-fn tell_resource(
-    told: &mut IdleHidingList,
-    alloc: Global,
-    tree: &Tree,
-    row: (&Path, &Node),
-) -> Mem<()> {
-    if hides_its_resource(row.1)
-        && !hides_any(
-            tree,
-            &layers_below(alloc, tree, row.0)?,
-            Hidden::Resource,
-            &[],
-        )
-    {
+fn tell_resource(told: &mut IdleHidingList, alloc: Global, row: (&Path, &Node)) -> Mem<()> {
+    if hides_no_resource(row.1) {
         tell_property(told, alloc, row.0, "sling:hideResource")?;
     }
     Ok(())
@@ -168,7 +153,7 @@ pub fn idle_hidings(alloc: Global, tree: &Tree) -> Mem<IdleHidingList> {
     let mut told = Items::new(alloc);
     let rows = tree.rows(alloc)?;
     for row in rows.as_slice() {
-        tell_resource(&mut told, alloc, tree, (row.0, row.1))?;
+        tell_resource(&mut told, alloc, (row.0, row.1))?;
         tell_names(&mut told, alloc, tree, (row.0, row.1), Hidden::Properties)?;
         tell_names(&mut told, alloc, tree, (row.0, row.1), Hidden::Children)?;
     }

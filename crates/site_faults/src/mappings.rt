@@ -2,6 +2,7 @@
 ghost use Rattle.url_maps.specs.Claims.{IsIndexOf};
 
 use crate::pattern_samples::{Sample, sample_of};
+use crate::redirect_targets::asked_again;
 use overlay_merge::MergedView;
 use regex_rules::{Pattern, PatternFault};
 use resource_tree::{Node, Tree};
@@ -30,16 +31,26 @@ pub enum MappingEnd {
     TooFar,
     /// Nowhere, since the node at this path, above it, has a `sling:match`.
     PassedOver(Path),
+    /// Nowhere, since the publisher is asked at the host and the port of this name alone.
+    NotAsked(TextBuf),
 }
 
 /// A mapping that leads to no resource.
 #[derive(Drop)]
 pub struct LostMapping {
+    /// The mapping's own, or that of a host that isn't asked.
     pub node: Path,
     pub end: MappingEnd,
 }
 
 pub type LostMappingList = Items<LostMapping>;
+
+// The name of the node of the host and the port at which the publisher is asked, and whether these are known.
+#[derive(Clone, Copy, Drop)]
+struct Asked<'a> {
+    name: &'a str,
+    is_known: bool,
+}
 
 // The host and the port that the name of a node below /etc/map/http is for. None where no request is for it: a request's host is in
 // lower case, and its port as numbers are written.
@@ -49,7 +60,7 @@ fn host_and_port(name: &str) -> Option<(&str, u16)> {
     }
     let at = name.rfind('.')?;
     let port = &name[at + 1..];
-    if port.starts_with('0') || port.starts_with('+') {
+    if (port != "0" && port.starts_with('0')) || port.starts_with('+') {
         return None;
     }
     match port.parse() {
@@ -88,25 +99,6 @@ fn prefix_of(alloc: Global, path: &Path) -> Mem<TextBuf> {
     Ok(TextBuf::from(text))
 }
 
-// The path that a redirect asks this server for, without a slash at its end, if it asks this one. None, too, where the path may be
-// read as another text: with an escape, a mangled prefix, or a segment that a client takes away.
-fn asked_again(target: &str) -> Option<&str> {
-    if !target.starts_with('/') || target.starts_with("//") {
-        return None;
-    }
-    let path = match target.find(|c: char| c == '?' || c == '#') {
-        Some(at) => &target[..at],
-        None => target,
-    };
-    if path.contains('%') || path.contains("/_") || path.contains("/.") {
-        return None;
-    }
-    match path.strip_suffix('/') {
-        Some(shorter) if !shorter.is_empty() => Some(shorter),
-        _ => Some(path),
-    }
-}
-
 // What a text that is asked for leads to.
 #[derive(Drop)]
 enum Lead {
@@ -129,16 +121,18 @@ fn follow(
 {
     match index.map_in(alloc, tree, host_port.0, host_port.1, text.text())? {
         MapAnswer::Inside(inside) => Ok(Lead::End(inside_end(alloc, tree, inside)?)),
-        MapAnswer::Away(_, target) => match asked_again(target.text()) {
-            Some(again) if follows => follow_again(alloc, again),
-            _ => Ok(Lead::End(MappingEnd::Somewhere)),
-        },
+        MapAnswer::Away(_, target) if follows => {
+            match asked_again(alloc, text.text(), target.text())? {
+                Some(again) => follow_again(alloc, again),
+                None => Ok(Lead::End(MappingEnd::Somewhere)),
+            }
+        }
+        MapAnswer::Away(_, _) => Ok(Lead::End(MappingEnd::Somewhere)),
     }
 }
 
-fn follow_again(alloc: Global, text: &str) -> Mem<Lead> {
-    let again = TextBuf::of(alloc, text)?;
-    match Path::read_or_none(alloc, text)? {
+fn follow_again(alloc: Global, again: TextBuf) -> Mem<Lead> {
+    match Path::read_or_none(alloc, again.text())? {
         Some(_) => Ok(Lead::Again(again)),
         None => Ok(Lead::End(MappingEnd::Nowhere(again))),
     }
@@ -203,7 +197,7 @@ fn plain_end(
     alloc: Global,
     tree: &Tree,
     index: &MapIndex,
-    asked: &str,
+    asked: Asked<'_>,
     path: &Path,
 ) -> Mem<MappingEnd>
     requires { IsIndexOf tree.now index.now }
@@ -211,10 +205,14 @@ fn plain_end(
     if let Some(above) = passed_over_for(alloc, tree, path)? {
         return Ok(MappingEnd::PassedOver(above));
     }
-    match path.seg(3) {
-        Some(name) => end_of(alloc, tree, index, asked, name, prefix_of(alloc, path)?),
-        None => Ok(MappingEnd::Somewhere),
+    let Some(name) = path.seg(3) else {
+        return Ok(MappingEnd::Somewhere);
+    };
+    if asked.is_known && name != asked.name {
+        return Ok(MappingEnd::NotAsked(TextBuf::of(alloc, asked.name)?));
     }
+    let text = prefix_of(alloc, path)?;
+    end_of(alloc, tree, index, asked.name, name, text)
 }
 
 // Where a mapping by a pattern leads, by a text that it matches. What is wrong with the pattern itself is told elsewhere.
@@ -253,26 +251,41 @@ fn name_of(alloc: Global, host: &str, port: u16) -> Mem<String> {
     Ok(name)
 }
 
-/// The mappings that lead to no resource, in no order that is promised, where the publisher is asked at a host and a port.
-pub fn lost_mappings(alloc: Global, tree: &Tree, host: &str, port: u16) -> Mem<LostMappingList> {
+fn tell_mapping(
+    told: &mut LostMappingList,
+    alloc: Global,
+    path: &Path,
+    end: MappingEnd,
+) -> Mem<()> {
+    let node = match &end {
+        MappingEnd::Somewhere => return Ok(()),
+        MappingEnd::NotAsked(_) => path.first(alloc, HOST_DEPTH)?,
+        _ => path.duplicate(alloc)?,
+    };
+    told.push(LostMapping { node, end })?;
+    Ok(())
+}
+
+/// The mappings that lead to no resource, in no order that is promised, where the publisher is asked at a host and a port. Where these
+/// aren't known it is taken to be asked at `localhost` and 80, and no mapping is told for its host.
+pub fn lost_mappings(alloc: Global, tree: &Tree, ask: Option<(&str, u16)>) -> Mem<LostMappingList> {
     let index = MapIndex::of(alloc, tree)?;
+    let (host, port) = ask.unwrap_or(("localhost", 80));
     let name = name_of(alloc, host, port)?;
-    let asked = name.as_str();
+    let asked = Asked {
+        name: name.as_str(),
+        is_known: ask.is_some(),
+    };
     let mut told = Items::new(alloc);
     let rows = tree.rows(alloc)?;
     for row in rows.as_slice() {
         if is_mapping_path(row.0) && leads(row.1) {
             let end = if has_match(row.1) {
-                pattern_end(alloc, tree, &index, asked, row.0, row.1)?
+                pattern_end(alloc, tree, &index, asked.name, row.0, row.1)?
             } else {
                 plain_end(alloc, tree, &index, asked, row.0)?
             };
-            if !matches!(end, MappingEnd::Somewhere) {
-                told.push(LostMapping {
-                    node: row.0.duplicate(alloc)?,
-                    end,
-                })?;
-            }
+            tell_mapping(&mut told, alloc, row.0, end)?;
         }
     }
     Ok(told)

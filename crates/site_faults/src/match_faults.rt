@@ -1,6 +1,7 @@
 //! Properties `sling:match` by which nothing is mapped.
 
 use crate::mappings::{is_mapping_path, leads};
+use crate::pattern_samples::begins_with_slash;
 use regex_rules::{Pattern, PatternFault};
 use resource_tree::{Node, Tree};
 use sp_base::{Items, Mem, NoMemory, Path, TextBuf};
@@ -22,6 +23,8 @@ pub enum MatchFault {
     TooDeep(TextBuf, usize),
     /// Its node leads nowhere.
     NoTarget,
+    /// It begins with a slash, where the host would stand.
+    NoHost,
 }
 
 /// A `sling:match` by which nothing is mapped.
@@ -47,6 +50,17 @@ fn text_fault(alloc: Global, text: &TextBuf) -> Mem<Option<MatchFault>> {
     }
 }
 
+// What is wrong with a pattern of a node.
+fn pattern_fault(alloc: Global, text: &TextBuf, node: &Node) -> Mem<Option<MatchFault>> {
+    if !leads(node) {
+        return Ok(Some(MatchFault::NoTarget));
+    }
+    if begins_with_slash(alloc, text.text())? {
+        return Ok(Some(MatchFault::NoHost));
+    }
+    Ok(None)
+}
+
 // What is wrong with the `sling:match` of a node at a path.
 fn match_fault(alloc: Global, path: &Path, node: &Node) -> Mem<Option<MatchFault>> {
     if path.depth() > PATTERN_DEPTH {
@@ -56,7 +70,7 @@ fn match_fault(alloc: Global, path: &Path, node: &Node) -> Mem<Option<MatchFault
         return Ok(Some(MatchFault::NoText));
     };
     match text_fault(alloc, text)? {
-        None if !leads(node) => Ok(Some(MatchFault::NoTarget)),
+        None => pattern_fault(alloc, text, node),
         fault => Ok(fault),
     }
 }

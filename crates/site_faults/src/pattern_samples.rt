@@ -29,6 +29,9 @@ struct Sampler {
     within: Within,
     // Where a row that isn't the first is passed over, how many brackets are open in it.
     passed: Option<usize>,
+    // How many brackets are open, and whether a second row begins outside of all.
+    depth: usize,
+    has_rows: bool,
 }
 
 impl Sampler {
@@ -40,10 +43,12 @@ impl Sampler {
     }
 
     fn open(&mut self) {
+        self.depth = self.depth.saturating_add(1);
         self.passed = self.passed.map(|depth| depth.saturating_add(1));
     }
 
     fn close(&mut self) {
+        self.depth = self.depth.saturating_sub(1);
         self.passed = match self.passed {
             Some(0) | None => None,
             Some(depth) => Some(depth - 1),
@@ -51,6 +56,7 @@ impl Sampler {
     }
 
     fn part(&mut self) {
+        self.has_rows = self.has_rows || self.depth == 0;
         if self.passed.is_none() {
             self.passed = Some(0);
         }
@@ -96,16 +102,31 @@ impl Sampler {
 }
 
 // What is put together from a pattern's text.
-fn spelled(alloc: Global, pattern: &str) -> Mem<String> {
+fn sampled(alloc: Global, pattern: &str) -> Mem<Sampler> {
     let mut sampler = Sampler {
         text: String::new(alloc),
         within: Within::Row,
         passed: None,
+        depth: 0,
+        has_rows: false,
     };
     for character in pattern.chars() {
         sampler.take(character)?;
     }
-    Ok(sampler.text)
+    Ok(sampler)
+}
+
+/// Whether each text that a pattern matches begins with a slash, as far as that is plain. The text is that of the pattern.
+pub fn begins_with_slash(alloc: Global, text: &str) -> Mem<bool> {
+    let row = text.strip_prefix('^').unwrap_or(text);
+    let Some(rest) = row.strip_prefix('/') else {
+        return Ok(false);
+    };
+    if rest.starts_with('*') || rest.starts_with('?') {
+        return Ok(false);
+    }
+    let sampler = sampled(alloc, text)?;
+    Ok(!sampler.has_rows)
 }
 
 /// A host with its port, and a path at it.
@@ -137,8 +158,8 @@ fn has_port(host: &str) -> bool {
 /// A host with its port and a path that the pattern matches, if the first rows spell one. The host at which the publisher is asked is
 /// tried first, and then the one that the rows spell, in lower case as requests have it. The text is that of the pattern.
 pub fn sample_of(alloc: Global, pattern: &Pattern, text: &str, asked: &str) -> Mem<Option<Sample>> {
-    let whole = spelled(alloc, text)?;
-    let whole = whole.as_str();
+    let sampler = sampled(alloc, text)?;
+    let whole = sampler.text.as_str();
     let (host, path) = match whole.find('/') {
         Some(at) => (&whole[..at], &whole[at..]),
         None => (whole, ""),

@@ -1,6 +1,7 @@
 -- Where a page of the cache stands, and which path is a page's (Adobe Dispatcher manual, "Specifying the Cache Directory").
 use Rattle.std.specs.Prelude.{◌≡◌, ◌==◌, ◌&&◌, ◌++◌, ◌-◌, ℕ, Bool, IsTrue, not, if◌then◌else◌, List, Option, Some, None, length, slice_index}
 use Rattle.std.specs.List.{AllByRecursion, list_any, list_all}
+use Rattle.sp_base.specs.Texts.{Segments}
 use Rattle.sp_base.specs.Bytes.{AreBytes}
 use Rattle.sp_base.specs.Paths.{is_path, mangled_segs, name_of, parent_of, pieces, text_of}
 use Rattle.cover_rules.specs.declared.page.PageKey.{PageKey}
@@ -19,19 +20,19 @@ abbrev pub is_folder_segment : List ℕ → Bool
 is_folder_segment seg = has_file_name seg && not (has_dot seg)
 
 -- a mangled path at which a page may be: a file in folders without a dot, each with a file name
-abbrev pub is_page : List (List ℕ) → Bool
+abbrev pub is_page : Segments → Bool
 is_page segs = is_file (name_of segs) && (list_all (λ seg. not (has_dot seg)) (parent_of segs) && list_all has_file_name segs)
 
 -- the key of the page at a mangled path
-unfoldable pub key_at : List (List ℕ) → Option PageKey
+unfoldable pub key_at : Segments → Option PageKey
 key_at segs = if is_page segs then Some (record { folder = parent_of segs; file = name_of segs }) else None
 
 -- the key of the page at a path, however its segments are spelled
-abbrev pub page_key_of : List (List ℕ) → Option PageKey
+abbrev pub page_key_of : Segments → Option PageKey
 page_key_of path = key_at (mangled_segs path)
 
 -- the path of a page: its file in its folder
-abbrev pub page_path : PageKey → List (List ℕ)
+abbrev pub page_path : PageKey → Segments
 page_path key = key.folder ++ pieces key.file
 
 -- the text of a page's path

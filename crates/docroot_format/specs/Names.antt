@@ -3,7 +3,7 @@ use Rattle.std.specs.Prelude.{◌≡◌, ◌==◌, ◌||◌, ◌&&◌, ◌++◌,
 use Rattle.std.specs.Cmp.Lexicographic.{pointwise}
 use Rattle.std.specs.List.{list_all}
 use Rattle.sp_base.specs.Paths.{mangled_segs, name_of, pieces}
-use Rattle.sp_base.specs.Texts.{Text}
+use Rattle.sp_base.specs.Texts.{Segments, Text}
 use Rattle.sp_outside.specs.FileNames.{has_segments, is_inside}
 use Rattle.cover_rules.specs.Names.{file_name, has_file_name, is_plain_name_byte}
 
@@ -11,31 +11,31 @@ use Rattle.cover_rules.specs.Names.{file_name, has_file_name, is_plain_name_byte
 -- The folder and the file of a key are mangled already; a folder that gets a stamp is mangled here.
 
 -- the file names of mangled segments, a slash after each
-abbrev pub folder_name : List (List ℕ) → List ℕ
+abbrev pub folder_name : Segments → List ℕ
 folder_name segs = flat_map (λ seg. file_name seg ++ 47 ∷ []) segs
 
 -- where a page's body stands
-abbrev pub body_name : List (List ℕ) → List ℕ → List ℕ
+abbrev pub body_name : Segments → List ℕ → List ℕ
 body_name folder file = folder_name folder ++ file_name file
 
 -- where a page's head stands
-abbrev pub head_name : List (List ℕ) → List ℕ → List ℕ
+abbrev pub head_name : Segments → List ℕ → List ℕ
 head_name folder file = body_name folder file ++ codes "%h"
 
 -- where a folder's stamp stands
-abbrev pub stat_name : List (List ℕ) → List ℕ
+abbrev pub stat_name : Segments → List ℕ
 stat_name folder = folder_name (mangled_segs folder) ++ codes ".stat"
 
 -- each of the mangled segments has a file name
-abbrev pub have_names : List (List ℕ) → Bool
+abbrev pub have_names : Segments → Bool
 have_names segs = list_all has_file_name segs
 
 -- a folder of the docroot: a mangled path whose segments have file names
-abbrev pub IsFolder : List (List ℕ) → Type 0
+abbrev pub IsFolder : Segments → Type 0
 IsFolder folder = (mangled_segs folder ≡ folder) × IsTrue (have_names folder)
 
 -- a folder and a file in which a page may stand
-abbrev pub is_place : List (List ℕ) → List ℕ → Bool
+abbrev pub is_place : Segments → List ℕ → Bool
 is_place folder file = have_names folder && (has_file_name file && nat_lt 0 (length file))
 
 -- where the number of the session stands

@@ -5,6 +5,7 @@ use Rattle.std.specs.List.{list_any, list_all, position_from, starts_with}
 use Rattle.std.specs.Ordering.{nat_cmp}
 use Rattle.std.specs.declared.cmp.Ordering.{Ordering}
 use Rattle.std.specs.declared.cmp.Ordering.TheVariants.{Less, Equal, Greater}
+use Rattle.sp_base.specs.Texts.{Segments}
 use Rattle.sp_base.specs.declared.path.PathFault.{PathFault}
 use Rattle.sp_base.specs.declared.path.PathFault.TheVariants.{EmptySegment, DotSegment}
 use Rattle.sp_base.specs.Paths.{is_empty, is_dots, is_long, has_slash, is_path, pieces, size_fault}
@@ -14,19 +15,19 @@ abbrev pub is_unfit : List ℕ → Bool
 is_unfit piece = is_empty piece || (is_dots piece || is_long piece)
 
 -- why segments of a path and pieces after them are no path
-abbrev pub fault_after : ℕ → List (List ℕ) → Option PathFault
+abbrev pub fault_after : ℕ → Segments → Option PathFault
 fault_after before parts = if list_any is_empty parts then Some EmptySegment else (if list_any is_dots parts then Some DotSegment else size_fault (position_from is_long before parts) (before + length parts))
 
 -- a slash before each segment: a path's text in memory, empty for the root
-abbrev pub spelling_of : List (List ℕ) → List ℕ
+abbrev pub spelling_of : Segments → List ℕ
 spelling_of segs = flat_map (λ s. 47 ∷ s) segs
 
 -- segments without a slash, which a text with a slash before each keeps apart
-abbrev pub lack_slashes : List (List ℕ) → Bool
+abbrev pub lack_slashes : Segments → Bool
 lack_slashes segs = list_all (λ seg. not (has_slash seg)) segs
 
 -- the segments of such a text: the pieces after its first slash
-unfoldable pub segs_in : List ℕ → List (List ℕ)
+unfoldable pub segs_in : List ℕ → Segments
 segs_in text = drop 1 (pieces text)
 
 -- a text that spells a path

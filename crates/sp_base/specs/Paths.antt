@@ -5,11 +5,12 @@ use Rattle.std.specs.Result.{result_ok}
 use Rattle.std.specs.Cmp.Lexicographic.{pointwise, slice_cmp}
 use Rattle.std.specs.Ordering.{nat_cmp}
 use Rattle.std.specs.declared.cmp.Ordering.{Ordering}
+use Rattle.sp_base.specs.Texts.{Segments}
 use Rattle.sp_base.specs.declared.path.PathFault.{PathFault}
 use Rattle.sp_base.specs.declared.path.PathFault.TheVariants.{NotAbsolute, EmptySegment, DotSegment, LongSegment, TooDeep}
 
 -- paths are ordered segment by segment, and segments by their bytes
-abbrev pub by_path : List (List ℕ) → List (List ℕ) → Ordering
+abbrev pub by_path : Segments → Segments → Ordering
 by_path = slice_cmp (slice_cmp nat_cmp)
 
 -- a segment without bytes
@@ -41,11 +42,11 @@ abbrev pub seg_ok : List ℕ → Bool
 seg_ok name = not (is_empty name) && (not (is_dots name) && (not (is_long name) && not (has_slash name)))
 
 -- segments that make a path: at most `most_segments`
-abbrev pub is_path : List (List ℕ) → Bool
+abbrev pub is_path : Segments → Bool
 is_path segs = list_all seg_ok segs && nat_le (length segs) most_segments
 
 -- the segments as a path, where they make one
-abbrev pub path_or_none : List (List ℕ) → Option (List (List ℕ))
+abbrev pub path_or_none : Segments → Option Segments
 path_or_none segs = if is_path segs then Some segs else None
 
 -- why pieces that are neither empty nor dots are no path: the place of the first long one, else their number where there are too many
@@ -54,54 +55,54 @@ size_fault (Some place) n = Some (LongSegment place)
 size_fault None n = if nat_lt most_segments n then Some TooDeep else None
 
 -- why segments are no path, where they are none: an empty one, else one of dots, else the first long one, else their number
-abbrev pub fault_of : List (List ℕ) → Option PathFault
+abbrev pub fault_of : Segments → Option PathFault
 fault_of segs = if list_any is_empty segs then Some EmptySegment else (if list_any is_dots segs then Some DotSegment else size_fault (position is_long segs) (length segs))
 
 -- the segments, or the fault where there is one
-abbrev pub unless_fault : Option PathFault → List (List ℕ) → Result (List (List ℕ)) PathFault
+abbrev pub unless_fault : Option PathFault → Segments → Result Segments PathFault
 unless_fault None segs = Ok segs
 unless_fault (Some fault) segs = Err fault
 
 -- the path of these pieces
-abbrev pub path_or_fault : List (List ℕ) → Result (List (List ℕ)) PathFault
+abbrev pub path_or_fault : Segments → Result Segments PathFault
 path_or_fault segs = unless_fault (fault_of segs) segs
 
 -- the pieces of a text between its slashes
-abbrev pub pieces : List ℕ → List (List ℕ)
+abbrev pub pieces : List ℕ → Segments
 pieces text = slice_split (λ b. b == 47) text
 
 -- the path that a text spells: `/`, or a slash before each segment
-abbrev pub path_of : List ℕ → Result (List (List ℕ)) PathFault
+abbrev pub path_of : List ℕ → Result Segments PathFault
 path_of [] = Err NotAbsolute
 path_of (b ∷ text) = if b == 47 then (if is_empty text then Ok [] else path_or_fault (pieces text)) else Err NotAbsolute
 
 -- the path that a text spells, where it spells one
-abbrev pub path_in : List ℕ → Option (List (List ℕ))
+abbrev pub path_in : List ℕ → Option Segments
 path_in text = result_ok (path_of text)
 
 -- the path with a name after it
-abbrev pub child_of : List (List ℕ) → List ℕ → Result (List (List ℕ)) PathFault
+abbrev pub child_of : Segments → List ℕ → Result Segments PathFault
 child_of segs name = path_or_fault (segs ++ pieces name)
 
 -- one path after another
-abbrev pub join_of : List (List ℕ) → List (List ℕ) → Result (List (List ℕ)) PathFault
+abbrev pub join_of : Segments → Segments → Result Segments PathFault
 join_of segs rest = path_or_fault (segs ++ rest)
 
 -- the path without its last segment: the root's parent is the root
-abbrev pub parent_of : List (List ℕ) → List (List ℕ)
+abbrev pub parent_of : Segments → Segments
 parent_of segs = take (length segs - 1) segs
 
 -- the last segment, which names what is at the path; empty for the root
-abbrev pub name_of : List (List ℕ) → List ℕ
+abbrev pub name_of : Segments → List ℕ
 name_of segs = slice_index_or segs (length segs - 1) []
 
 -- the text that spells a path
-abbrev pub text_of : List (List ℕ) → List ℕ
+abbrev pub text_of : Segments → List ℕ
 text_of [] = codes "/"
 text_of (seg ∷ segs) = flat_map (λ s. 47 ∷ s) (seg ∷ segs)
 
 -- the first path begins with all segments of the second
-abbrev pub is_under : List (List ℕ) → List (List ℕ) → Bool
+abbrev pub is_under : Segments → Segments → Bool
 is_under path other = starts_with (pointwise nat_eq) path other
 
 -- the segment begins with a mark such as `_jcr_`, and goes on
@@ -121,7 +122,7 @@ unmangled_seg seg = if is_mangled (codes "_jcr_") seg then unmangled_by (codes "
     else (if is_mangled (codes "_cq_") seg then unmangled_by (codes "_cq_") (codes "cq:") seg else seg)))
 
 -- each segment with its namespace prefix as it stands in the repository
-abbrev pub unmangled_segs : List (List ℕ) → List (List ℕ)
+abbrev pub unmangled_segs : Segments → Segments
 unmangled_segs segs = map unmangled_seg segs
 
 -- the segment begins with a namespace prefix such as `jcr:`, and goes on
@@ -140,9 +141,9 @@ mangled_seg seg = if is_namespaced (codes "jcr:") seg then mangled_by (codes "jc
     else (if is_namespaced (codes "cq:") seg then mangled_by (codes "cq:") (codes "_cq_") seg else seg)))
 
 -- each segment with its namespace prefix as it stands in URLs
-abbrev pub mangled_segs : List (List ℕ) → List (List ℕ)
+abbrev pub mangled_segs : Segments → Segments
 mangled_segs segs = map mangled_seg segs
 
 -- the mangled path: a segment of 200 bytes may become too long
-abbrev pub mangled_of : List (List ℕ) → Result (List (List ℕ)) PathFault
+abbrev pub mangled_of : Segments → Result Segments PathFault
 mangled_of segs = path_or_fault (mangled_segs segs)

@@ -3,6 +3,7 @@ use Rattle.std.specs.Prelude.{ℕ, List, [], ◌∷◌, Option, Some, None, opti
 use Rattle.std.specs.FinMap.Entries.{find}
 use Rattle.sp_base.specs.declared.value.Value.{Value}
 use Rattle.sp_base.specs.declared.value.Value.TheVariants.{Text, Long, Truth, Texts, Longs, Truths}
+use Rattle.sp_base.specs.Texts as texts
 pub use Rattle.sp_base.specs.Names.{by_name}
 
 -- a value that is one text
@@ -15,7 +16,7 @@ as_text (Longs ns) = None
 as_text (Truths bs) = None
 
 -- the texts of a value, which is one text or a list of them
-abbrev pub value_texts : Option Value → List (List ℕ)
+abbrev pub value_texts : Option Value → List texts.Text
 value_texts None = []
 value_texts (Some (Text t)) = t ∷ []
 value_texts (Some (Long n)) = []

@@ -12,6 +12,7 @@ use Rattle.sp_base.specs.declared.hint.HintKind.{HintKind}
 use Rattle.sp_base.specs.declared.hint.HintKind.TheVariants.{Text as TextKind, Long as LongKind, Truth as TruthKind}
 use Rattle.sp_base.specs.declared.hint.ValueFault.{ValueFault}
 use Rattle.sp_base.specs.declared.hint.ValueFault.TheVariants.{WrongCount, NotANumber}
+use Rattle.sp_base.specs.Texts as texts
 
 -- one or more decimal digits
 abbrev pub are_digits : List ℕ → Bool
@@ -28,12 +29,12 @@ abbrev pub truth_of : List ℕ → Bool
 truth_of word = pointwise nat_eq word (codes "true")
 
 -- all words as numbers, or the place of the first that is none
-abbrev pub longs_at : Option ℕ → List (List ℕ) → Result (List ℤ) ValueFault
+abbrev pub longs_at : Option ℕ → List texts.Text → Result (List ℤ) ValueFault
 longs_at (Some place) words = Err (NotANumber place)
 longs_at None words = Ok (map (λ word. unwrap_or (number_of word) (pos 0)) words)
 
 -- words as numbers, or the first that is none
-abbrev pub longs_of : List (List ℕ) → Result (List ℤ) ValueFault
+abbrev pub longs_of : List texts.Text → Result (List ℤ) ValueFault
 longs_of words = longs_at (position (λ word. is_none (number_of word)) words) words
 
 -- a number as a value: there is none where the only word spells none
@@ -53,17 +54,17 @@ longs_value (Ok ns) = Ok (Longs ns)
 longs_value (Err e) = Err e
 
 -- words as a list value
-abbrev pub many_of : HintKind → List (List ℕ) → Result Value ValueFault
+abbrev pub many_of : HintKind → List texts.Text → Result Value ValueFault
 many_of TextKind words = Ok (Texts words)
 many_of LongKind words = longs_value (longs_of words)
 many_of TruthKind words = Ok (Truths (map truth_of words))
 
 -- words as a single value: there must be just one
-abbrev pub single_of : HintKind → List (List ℕ) → Result Value ValueFault
+abbrev pub single_of : HintKind → List texts.Text → Result Value ValueFault
 single_of kind [] = Err (WrongCount 0)
 single_of kind (word ∷ []) = one_of kind word
 single_of kind (word ∷ next ∷ words) = Err (WrongCount (length (word ∷ next ∷ words)))
 
 -- the value of words by a hint, or the first fault
-abbrev pub typed_of : Hint → List (List ℕ) → Result Value ValueFault
+abbrev pub typed_of : Hint → List texts.Text → Result Value ValueFault
 typed_of hint words = if hint.many then many_of hint.kind words else single_of hint.kind words

@@ -5,6 +5,7 @@ use Rattle.std.specs.FinMap.{FinMap, get, insert, remove, keys, code}
 use Rattle.std.specs.List.{filter, starts_with, All}
 use Rattle.std.specs.List.Sorted.{IsStrictlySortedBy}
 use Rattle.std.specs.Ordering.{is_lt}
+use Rattle.sp_base.specs.Texts.{Text}
 use Rattle.sp_base.specs.Names.{by_name}
 use Rattle.sp_outside.specs.declared.disk.DiskFault.{DiskFault}
 use Rattle.sp_outside.specs.declared.disk.DiskFault.TheVariants.{Failed}
@@ -54,11 +55,11 @@ abbrev pub has_prefix : List ℕ → List ℕ → Bool
 has_prefix prefix name = starts_with nat_eq name prefix
 
 -- the names that begin with a prefix and are after a name, in their order
-abbrev pub names_after : Files → List ℕ → List ℕ → List (List ℕ)
+abbrev pub names_after : Files → List ℕ → List ℕ → List Text
 names_after files prefix after = filter (λ name. has_prefix prefix name && is_lt (by_name after name)) (keys files)
 
 -- What a list of names after another is, on every disk: they are texts in UTF-8, and rise from that name on.
-pub record IsListing (prefix after : List ℕ) (most : ℕ) (names : List (List ℕ)) : Type 0 where
+pub record IsListing (prefix after : List ℕ) (most : ℕ) (names : List Text) : Type 0 where
   pub rising : IsStrictlySortedBy by_name (after ∷ names)
   pub prefixed : All (λ name. IsTrue (has_prefix prefix name)) names
   pub sizes : All IsName names
@@ -66,6 +67,6 @@ pub record IsListing (prefix after : List ℕ) (most : ℕ) (names : List (List 
   pub few : length names ≤ most
 
 -- A walk over the names of a prefix without an end: each list is after one of the names of the list before.
-pub record IsEndlessWalk (prefix : List ℕ) (most : ℕ) (after : ℕ → List ℕ) (lists : ℕ → List (List ℕ)) : Type 0 where
+pub record IsEndlessWalk (prefix : List ℕ) (most : ℕ) (after : ℕ → List ℕ) (lists : ℕ → List Text) : Type 0 where
   pub listed : (n : ℕ) → IsListing prefix (after n) most (lists n)
   pub goes_on : (n : ℕ) → Contains (lists n) (after (n + 1))

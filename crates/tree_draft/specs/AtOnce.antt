@@ -1,5 +1,6 @@
 -- What a change makes of a content, and the first cause for which it is refused, whichever change it is. Only private functions and proofs cite this.
 use Rattle.std.specs.Prelude.{ℕ, List, Option, IsTrue}
+use Rattle.sp_base.specs.Texts.{Segments}
 use Rattle.sp_base.specs.Paths.{seg_ok}
 use Rattle.resource_tree.specs.declared.nodes.Node.{Node}
 use Rattle.resource_tree.specs.declared.faults.TreeFault.{TreeFault}
@@ -20,7 +21,7 @@ changed tree (Copy source target) = copy tree source.now target.now
 changed tree (Move source target) = relocation tree source.now target.now
 
 -- the same by look-ups
-abbrev pub changed_at : Content → Change → List (List ℕ) → Option Node
+abbrev pub changed_at : Content → Change → Segments → Option Node
 changed_at tree (Create path) q = creation_at tree path.now empty_node q
 changed_at tree (Set path name value) q = update_at tree path.now name.now value q
 changed_at tree (Unset path name) q = clearing_at tree path.now name.now q

@@ -3,6 +3,7 @@ use Rattle.std.specs.Prelude.{◌≤◌, ◌+◌, ◌∷◌, [], ℕ, Bool, List
 use Rattle.std.specs.Map.{lookup}
 use Rattle.std.specs.Option.{option_map_or}
 use Rattle.std.specs.Str.{bytes_eq}
+use Rattle.sp_base.specs.Texts.{Text}
 
 -- names, each with how long the list was when it last fell away: the list keeps the names that fall away, so they count
 abbrev pub NameFalls : Type 0
@@ -17,7 +18,7 @@ abbrev pub stands : NameFalls → ℕ → List ℕ → Bool
 stands falls place name = nat_le (fall_of falls name) place
 
 -- the names that stand in a list whose first name has the place
-unfoldable pub standing_names : NameFalls → ℕ → List (List ℕ) → List (List ℕ)
+unfoldable pub standing_names : NameFalls → ℕ → List Text → List Text
 standing_names falls place [] = []
 standing_names falls place (name ∷ names) = if stands falls place name then name ∷ standing_names falls (place + 1) names else standing_names falls (place + 1) names
 

@@ -2,6 +2,7 @@
 use Rattle.std.specs.Prelude.{ℕ, zero, suc, Bool, false, if◌then◌else◌, List, [], ◌∷◌, ◌++◌, ◌-◌, Option, Some, None, option_and_then, unwrap_or, codes}
 use Rattle.std.specs.List.{before_first, list_any}
 use Rattle.std.specs.Option.{option_or}
+use Rattle.sp_base.specs.Texts.{Segments}
 use Rattle.sp_base.specs.Properties.{text_in}
 use Rattle.sp_base.specs.declared.value.Value.{Value}
 use Rattle.resource_tree.specs.Content.{Content, node_at}
@@ -17,7 +18,7 @@ unfoldable pub own_super : List (List ℕ × Value) → Option (List ℕ)
 own_super props = text_in props (codes "sling:resourceSuperType")
 
 -- the text of the super type that the node at a path names
-unfoldable pub super_at : Content → List (List ℕ) → Option (List ℕ)
+unfoldable pub super_at : Content → Segments → Option (List ℕ)
 super_at tree path = option_and_then (λ node. own_super node.props) (node_at tree path)
 
 -- the first that there is

@@ -2,6 +2,7 @@
 -- and proofs alone.
 use Rattle.std.specs.Prelude.{◌≡◌, ◌==◌, ℕ, Bool, true, false, not, if◌then◌else◌, List, [], ◌∷◌, Option, Some, None, flat_map, length}
 use Rattle.std.specs.List.{list_all}
+use Rattle.sp_base.specs.Texts.{Segments}
 use Rattle.sp_base.specs.Paths.{is_path}
 use Rattle.resource_tree.specs.Content.{Content, node_at, name_of}
 use Rattle.resource_tree.specs.declared.nodes.Node.{Node}
@@ -15,7 +16,7 @@ has_kids None = false
 has_kids (Some node) = not (length node.kids == 0)
 
 -- the script place at a place, where its node has kids
-abbrev pub script_place_at : Content → List ℕ → List (List ℕ) → List ScriptPlace
+abbrev pub script_place_at : Content → List ℕ → Segments → List ScriptPlace
 script_place_at tree label place = if has_kids (node_at tree place) then record { label = label; place = place } ∷ [] else []
 
 -- the script places of a type: its places at which the node has kids

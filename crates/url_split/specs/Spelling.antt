@@ -1,6 +1,7 @@
 -- What the parts of a decomposition spell.
 use Rattle.std.specs.Prelude.{◌≡◌, ◌&&◌, ◌⊎◌, ◌++◌, ◌∷◌, [], ℕ, Bool, List, not, filter}
 use Rattle.std.specs.List.{list_any}
+use Rattle.sp_base.specs.Texts.{Text}
 use Rattle.sp_base.specs.Bytes.{is_dot, is_slash, is_full, dotted_text}
 use Rattle.url_split.specs.declared.decompose.Parts.{Parts}
 
@@ -12,4 +13,4 @@ is_word piece = not (list_any is_dot piece) && not (list_any is_slash piece)
 -- the suffix. Between them may stand further dots, as of selectors that are empty.
 abbrev pub SpellsParts : List ℕ → Parts → Type 0
 SpellsParts text parts = ((text ≡ []) × (parts.selectors ≡ []) × (parts.extension ≡ []) × (parts.suffix ≡ []))
-    ⊎ ((pieces : List (List ℕ)) × (text ≡ dotted_text (pieces ++ parts.extension ∷ []) ++ parts.suffix) × (parts.selectors ≡ filter is_full pieces))
+    ⊎ ((pieces : List Text) × (text ≡ dotted_text (pieces ++ parts.extension ∷ []) ++ parts.suffix) × (parts.selectors ≡ filter is_full pieces))

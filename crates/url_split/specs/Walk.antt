@@ -1,22 +1,23 @@
 -- What the functions of the decomposition promise one another; a reader of its definition needs none of it.
 use Rattle.std.specs.Prelude.{◌≡◌, ◌<◌, ◌≤◌, ◌+◌, ◌⊎◌, ◌++◌, ◌∷◌, [], ℕ, Bool, true, false, List, Option, Some, None, Ok, take, length, slice_index}
 use Rattle.std.specs.List.{count_by}
+use Rattle.sp_base.specs.Texts.{Segments}
 use Rattle.sp_base.specs.Bytes.{is_slash}
 use Rattle.sp_base.specs.PathTexts.{spelling_of}
 use Rattle.sp_base.specs.Paths.{has_slash, is_long, is_path, is_under, parent_of, path_of}
 use Rattle.url_split.specs.Split.{Leads}
 
 -- a prefix of a text after which no prefix up to a dot reads as a known path
-pub record IsReached (known : List (List ℕ) → Bool) (text start : List ℕ) : Type 0 where
+pub record IsReached (known : Segments → Bool) (text start : List ℕ) : Type 0 where
   pub begins : start ≡ take (length start) text
-  pub all : (k : ℕ) (path : List (List ℕ)) → length start ≤ k → k < length text → Leads known text k path → ⊥
+  pub all : (k : ℕ) (path : Segments) → length start ≤ k → k < length text → Leads known text k path → ⊥
 
 -- a path that begins with the parent of each path that a prefix of a text spells
-abbrev pub HasParents : List ℕ → List (List ℕ) → Type 0
-HasParents text path = (k : ℕ) (read : List (List ℕ)) → k ≤ length text → path_of (take k text) ≡ Ok read → is_under path (parent_of read) ≡ true
+abbrev pub HasParents : List ℕ → Segments → Type 0
+HasParents text path = (k : ℕ) (read : Segments) → k ≤ length text → path_of (take k text) ≡ Ok read → is_under path (parent_of read) ≡ true
 
 -- how many bytes the first of some pieces have with a slash before each, of which as many are taken as make a path
-pub record IsFitEnd (parts : List (List ℕ)) (end : ℕ) : Type 0 where
+pub record IsFitEnd (parts : Segments) (end : ℕ) : Type 0 where
   pub many : ℕ
   pub fit : is_path (take many parts) ≡ true
   pub bytes : end ≡ length (spelling_of (take many parts))
@@ -45,6 +46,6 @@ abbrev pub IsAfterPath : List ℕ → Type 0
 IsAfterPath rest = (rest ≡ []) ⊎ ((more : List ℕ) × (rest ≡ 46 ∷ more))
 
 -- what a text reads as: the path, where it spells one that is known
-abbrev pub IsReading : (List (List ℕ) → Bool) → List ℕ → Option (List (List ℕ)) → Type 0
+abbrev pub IsReading : (Segments → Bool) → List ℕ → Option Segments → Type 0
 IsReading known text (Some path) = (path_of text ≡ Ok path) × (known path ≡ true)
-IsReading known text None = (path : List (List ℕ)) → path_of text ≡ Ok path → known path ≡ true → ⊥
+IsReading known text None = (path : Segments) → path_of text ≡ Ok path → known path ≡ true → ⊥

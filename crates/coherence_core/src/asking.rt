@@ -9,7 +9,7 @@ ghost use Rattle.cache_log.specs.Limits.{most_stamps};
 
 use crate::answers::Got;
 use crate::core_state::{Core, MOST_STAMPS};
-use cover_rules::{Invalidation, PageKey, covers};
+use cover_rules::{Invalidation, PageKey, StatRule, covers};
 use flights::{AskFault, Flight};
 use sp_base::Mem;
 use std::alloc::Global;
@@ -79,7 +79,7 @@ fn covers_page(level: usize, auto: bool, inv: &Invalidation, key: &Option<PageKe
 pub(crate) fn covers_key(level: usize, auto: bool, inv: &Invalidation, key: &PageKey) -> bool
     ensures { result ≡ flights.covers_page level auto inv.now (Some key.now) }
 {
-    covers(level, auto, inv, key)
+    covers(StatRule { level, auto }, inv, key)
 }
 
 fn duplicate(alloc: Global, key: &Option<PageKey>) -> Mem<Option<PageKey>>

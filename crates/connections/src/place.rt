@@ -6,7 +6,7 @@ ghost use Rattle.connections.specs.AnswerQueues.{PlaceStandsFor, ReplyStandsFor,
 
 use crate::awaited::Awaited;
 use error_answers::error_answer;
-use http_front::{INSUFFICIENT_STORAGE, answer_bytes, fixed_507, interim_100};
+use http_front::{Framing, INSUFFICIENT_STORAGE, answer_bytes, fixed_507, interim_100};
 use sp_base::{Answer, ByteBuf, Mark, Mem, Req};
 use std::alloc::Global;
 
@@ -66,14 +66,31 @@ impl Reply {
     }
 }
 
+fn asks_for_head(request: &Req) -> bool
+    ensures { result ≡ model.is_head request.now }
+{
+    request.method() == "HEAD"
+}
+
 impl AnswerPlace {
-    /// The place of a request's answer, after which the connection closes where the request asks for it, or for another reason (`closes`).
-    pub fn of_request(request: &Req, closes: bool, reply: Reply) -> AnswerPlace
-        ensures { (response : model.Response) → ReplyStandsFor reply response → PlaceStandsFor result (model.request_slot request.now closes response) }
+    /// The place of a request's answer, after which the connection closes where the request asks for it.
+    pub fn of_request(request: &Req, reply: Reply) -> AnswerPlace
+        ensures { (response : model.Response) → ReplyStandsFor reply response → PlaceStandsFor result (model.request_slot request.now false response) }
     {
         AnswerPlace {
-            head_only: request.method() == "HEAD",
-            closes: closes || request.close(),
+            head_only: asks_for_head(request),
+            closes: request.close(),
+            reply,
+        }
+    }
+
+    /// The place of the answer to a request after which the connection closes.
+    pub fn of_last_request(request: &Req, reply: Reply) -> AnswerPlace
+        ensures { (response : model.Response) → ReplyStandsFor reply response → PlaceStandsFor result (model.request_slot request.now true response) }
+    {
+        AnswerPlace {
+            head_only: asks_for_head(request),
+            closes: true,
             reply,
         }
     }
@@ -120,6 +137,16 @@ impl AnswerPlace {
         }
     }
 
+    fn framing(&self) -> Framing
+        ensures head { result.head_only ≡ self.now.head_only }
+        ensures close { result.close ≡ self.now.closes }
+    {
+        Framing {
+            head_only: self.head_only,
+            close: self.closes,
+        }
+    }
+
     // The bytes of its answer: none while it is awaited.
     pub(crate) fn written(&self, alloc: Global) -> Mem<ByteBuf>
         ensures { IfOk result (λ bytes. bytes ≡ place_bytes self.now) }
@@ -129,10 +156,10 @@ impl AnswerPlace {
             Reply::Fixed => ByteBuf::of(alloc, fixed_507()),
             Reply::Own(status) => {
                 let answer = error_answer(alloc, *status)?;
-                answer_bytes(alloc, self.head_only, self.closes, &answer)
+                answer_bytes(alloc, self.framing(), &answer)
             }
             Reply::Awaits(_) => ByteBuf::of(alloc, b""),
-            Reply::Says(answer) => answer_bytes(alloc, self.head_only, self.closes, answer),
+            Reply::Says(answer) => answer_bytes(alloc, self.framing(), answer),
         }
     }
 }

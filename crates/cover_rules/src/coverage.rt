@@ -9,12 +9,18 @@ use crate::walk::{Rest, after};
 use crate::{Action, Invalidation, PageKey};
 use sp_base::{segments_and_their_spelling, text_under};
 
-/// Whether an invalidation covers a page: whether it deletes the page, or outdates it by a .stat file. The .stat files lie in the
-/// folders down to `level`; `auto` says that they outdate this page.
-pub fn covers(level: usize, auto: bool, inv: &Invalidation, key: &PageKey) -> bool
-    ensures { result ≡ spec.covers level auto inv.now key.now }
+/// How .stat files outdate a page: those in the folders down to `level`, where it is a page that they outdate (`auto`).
+#[derive(Clone, Copy, Drop)]
+pub struct StatRule {
+    pub level: usize,
+    pub auto: bool,
+}
+
+/// Whether an invalidation covers a page: whether it deletes the page, or outdates it by a .stat file.
+pub fn covers(rule: StatRule, inv: &Invalidation, key: &PageKey) -> bool
+    ensures { result ≡ spec.covers rule.level rule.auto inv.now key.now }
 {
-    deletes(inv, key) || outdates(level, auto, inv, key)
+    deletes(inv, key) || outdates(rule.level, rule.auto, inv, key)
 }
 
 /// How deep the folder is whose .stat file may outdate a page.

@@ -11,7 +11,7 @@ mod stamp;
 mod touch;
 mod walk;
 
-pub use coverage::{covers, stat_depth};
+pub use coverage::{StatRule, covers, stat_depth};
 pub use invalidation::{Action, Invalidation};
 pub use laws::{
     a_page_has_one_key, a_touch_outdates_the_pages_of_its_folders, the_key_of_a_path_is_a_page_key,

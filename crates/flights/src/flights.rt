@@ -7,7 +7,7 @@ ghost use Rattle.flights.specs.Landings.{LandsAs};
 use crate::flight::Flight;
 use crate::landing::{Landing, landing_of};
 use crate::ticket::Ticket;
-use cover_rules::{Invalidation, covers};
+use cover_rules::{Invalidation, StatRule, covers};
 use sp_base::Mem;
 use std::alloc::Global;
 use std::marker::Model;
@@ -111,7 +111,14 @@ fn covers_flight(level: usize, inv: &Invalidation, flight: &Flight) -> bool
     ensures { result ≡ covers_page level flight.now.auto inv.now flight.now.key }
 {
     match &flight.key {
-        Some(key) => covers(level, flight.auto, inv, key),
+        Some(key) => covers(
+            StatRule {
+                level,
+                auto: flight.auto,
+            },
+            inv,
+            key,
+        ),
         None => false,
     }
 }

@@ -40,7 +40,7 @@ pub(crate) fn treat<D: Disk>(
     if connection.is_crowded() {
         return turn_away(c, &request, connection);
     }
-    let place = AnswerPlace::of_request(&request, false, Reply::Fixed);
+    let place = AnswerPlace::of_request(&request, Reply::Fixed);
     let Answered {
         note,
         reply,
@@ -65,7 +65,7 @@ fn turn_away(c: ConnectionId, request: &Req, connection: &mut Connection) -> Mem
     ensures given { IfOk result (λ it. (w : RunState) (b : Behind) (owes : OwesRequest w c connection.old b request.now) → IsTrue (model.is_crowded owes.connection) → TreatedAs it w c connection.new b b) }
     ensures work { OnOk result (work_of connection.new ≤ work_of connection.old + 1) }
 {
-    connection.push(AnswerPlace::of_request(request, true, local_reply(503)))?;
+    connection.push(AnswerPlace::of_last_request(request, local_reply(503)))?;
     Ok(Treated {
         note: Note::Local(c, 503),
         slices: false,

@@ -12,12 +12,20 @@ use std::alloc::Global;
 // Room for the head of most answers.
 const HEAD_ROOM: usize = 256;
 
+/// How an answer is written: its head only, as to HEAD, and with `Connection: close`, where the connection closes after it.
+#[derive(Clone, Copy, Drop)]
+pub struct Framing {
+    pub head_only: bool,
+    pub close: bool,
+}
+
 /// The bytes of an answer: without its body where only the head is asked for, and with `Connection: close` where the connection
 /// closes after it. A byte of the media type that isn't printable is written as a space, one of the location is escaped.
 #[tactic(auto, unfolding(crate::specs::Answers::answer_bytes))]
-pub fn answer_bytes(alloc: Global, head_only: bool, close: bool, answer: &Answer) -> Mem<ByteBuf>
-    ensures { IfOk result (λ bytes. bytes ≡ spec.answer_bytes head_only close answer.now) }
+pub fn answer_bytes(alloc: Global, framing: Framing, answer: &Answer) -> Mem<ByteBuf>
+    ensures { IfOk result (λ bytes. bytes ≡ spec.answer_bytes framing.head_only framing.close answer.now) }
 {
+    let Framing { head_only, close } = framing;
     let content = content_of(head_only, answer);
     let room = content.len().saturating_add(HEAD_ROOM);
     let mut out = Vec::with_capacity(alloc, room)?;

@@ -13,7 +13,7 @@ mod target;
 mod turn;
 mod window;
 
-pub use answer::{answer_bytes, fixed_507, interim_100};
+pub use answer::{Framing, answer_bytes, fixed_507, interim_100};
 pub use fault::{INSUFFICIENT_STORAGE, InFault};
 pub use intake::Intake;
 pub use laws::{no_value_ends_its_line, the_end_of_a_stream, the_turns_of_a_beginning};

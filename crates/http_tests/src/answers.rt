@@ -1,5 +1,5 @@
 //! Answers that the publisher doesn't give, as bytes. Those that it gives are stored runs (examples/runs).
-use http_front::answer_bytes;
+use http_front::{Framing, answer_bytes};
 use sp_base::{Answer, Mark};
 use std::alloc::Global;
 use test_values::answer_of;
@@ -24,8 +24,13 @@ const ANSWERS: &[AnswerRow<'_>] = &[
     ),
 ];
 
+const PLAIN: Framing = Framing {
+    head_only: false,
+    close: false,
+};
+
 fn are_bytes(alloc: Global, answer: &Answer, wanted: &str) -> bool {
-    matches!(answer_bytes(alloc, false, false, answer), Ok(bytes) if bytes.bytes() == wanted.as_bytes())
+    matches!(answer_bytes(alloc, PLAIN, answer), Ok(bytes) if bytes.bytes() == wanted.as_bytes())
 }
 
 fn is_written(alloc: Global, row: &AnswerRow<'_>) -> bool {

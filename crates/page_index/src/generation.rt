@@ -8,7 +8,7 @@ ghost use Rattle.page_index.specs.Notes.{page_from};
 
 use crate::page_note::PageNote;
 use cache_files::Page;
-use cover_rules::{Invalidation, PageKey, covers};
+use cover_rules::{Invalidation, PageKey, StatRule, covers};
 use sp_base::Mem;
 use std::alloc::Global;
 use std::collections::BTreeMap;
@@ -134,8 +134,7 @@ impl Generation {
     pub(crate) fn forget_deleted(&mut self, level: usize, inv: &Invalidation)
         ensures { (at : ℕ) (key : PageKey) → held_note self.new at key ≡ cond (deletes inv.now key) None (held_note self.old at key) }
     {
-        self.notes
-            .retain(|_place, note| !covers(level, false, inv, &note.key));
+        self.notes.retain(|_place, note| !covers(StatRule { level, auto: false }, inv, &note.key));
     }
 
     pub(crate) fn clear(&mut self)

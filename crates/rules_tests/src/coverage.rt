@@ -1,5 +1,5 @@
 //! Keys of pages, what an invalidation covers, and what it touches.
-use cover_rules::{Action, Invalidation, PageKey, covers, page_key, touched};
+use cover_rules::{Action, Invalidation, PageKey, StatRule, covers, page_key, touched};
 use sp_base::{Path, PathFault, PathList};
 use std::alloc::Global;
 
@@ -39,9 +39,14 @@ fn finds_keys(rt: HostRuntime) {
     }
 }
 
+const OUTDATED: StatRule = StatRule {
+    level: 2,
+    auto: true,
+};
+
 fn is_covered(alloc: Global, inv: &Invalidation, page: &str) -> Result<bool, PathFault> {
     let page = Path::read(alloc, page)?;
-    Ok(matches!(page_key(alloc, &page)?, Some(key) if covers(2, true, inv, &key)))
+    Ok(matches!(page_key(alloc, &page)?, Some(key) if covers(OUTDATED, inv, &key)))
 }
 
 fn covers_as_wanted(

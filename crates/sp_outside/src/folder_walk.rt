@@ -116,7 +116,7 @@ fn take_file<R: Files + AllocGlobal>(
 ) -> Result<(), DiskFault> {
     if is_beside(path) {
         if !is_own(path) {
-            // One that stays is no file of the docroot either, and goes when its file is written next.
+            // One that can't be removed is no file of the docroot either; it stands in the way of its file.
             let _ = fs::remove_file(rt, path);
         }
         return Ok(());

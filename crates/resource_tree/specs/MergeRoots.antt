@@ -1,6 +1,6 @@
 -- The paths at which resources are merged, which no target, name or word of a POST may name (Apache Sling, "Resource Merger": the overlay
 -- and the override root).
-use Rattle.std.specs.Prelude.{◌||◌, ℕ, Bool, List, [], ◌∷◌, codes}
+use Rattle.std.specs.Prelude.{◌||◌, Bool, [], ◌∷◌, codes}
 use Rattle.sp_base.specs.Texts.{Segments}
 use Rattle.sp_base.specs.Paths.{is_under}
 

@@ -1,5 +1,5 @@
 -- What a copy or a move of a node and all below it to another path makes of the content, and the first cause for which it is refused.
-use Rattle.std.specs.Prelude.{◌++◌, ◌+◌, ◌||◌, ℕ, Bool, List, Option, Some, None, is_some, is_none, not, nat_lt, length, drop, filter, map, option_map, ◌==◌, if◌then◌else◌}
+use Rattle.std.specs.Prelude.{◌++◌, ◌+◌, ◌||◌, Bool, Option, Some, None, is_some, is_none, not, nat_lt, length, drop, filter, map, option_map, ◌==◌, if◌then◌else◌}
 use Rattle.std.specs.List.{list_any}
 use Rattle.sp_base.specs.Texts.{Segments}
 use Rattle.sp_base.specs.Paths.{is_path, is_under}

@@ -1,5 +1,5 @@
 -- The nodes of a content with their paths, listed in any order.
-use Rattle.std.specs.Prelude.{◌≡◌, ℕ, List, Some, is_some}
+use Rattle.std.specs.Prelude.{◌≡◌, Some, is_some}
 use Rattle.std.specs.List.{All, IsDistinct, list_any}
 use Rattle.std.specs.Map.{keys_of}
 use Rattle.sp_base.specs.Texts.{Segments}

@@ -1,5 +1,5 @@
 -- What a change makes of a content, and the first cause for which it is refused, whichever change it is. Only private functions and proofs cite this.
-use Rattle.std.specs.Prelude.{ℕ, List, Option, IsTrue}
+use Rattle.std.specs.Prelude.{Option, IsTrue}
 use Rattle.sp_base.specs.Texts.{Segments}
 use Rattle.sp_base.specs.Paths.{seg_ok}
 use Rattle.resource_tree.specs.declared.nodes.Node.{Node}

@@ -189,6 +189,10 @@ modify_of target star pairs es node = record {
   place = order_place pairs;
 }
 
+-- the change of the target, or of a new node under it, that the parameters ask for
+abbrev pub modification : Segments → Bool → List (List ℕ × List ℕ) → ModifyOp
+modification target star pairs = modify_of target star pairs (entries (relative_node target star pairs) pairs) (relative_node target star pairs)
+
 -- the copy or the move of the target that the parameters ask for
 abbrev pub carry_operation : Segments → List (List ℕ × List ℕ) → CarryOp
 carry_operation target pairs = record { from = target; to = unwrap_or (goal_of target (dest_word pairs)) []; replace = replaces pairs }
@@ -196,7 +200,7 @@ carry_operation target pairs = record { from = target; to = unwrap_or (goal_of t
 -- the operation that the parameters ask for
 abbrev pub operation_by : Option Verb → Segments → Bool → List (List ℕ × List ℕ) → Op
 operation_by None target star pairs = NopOperation target
-operation_by (Some Modify) target star pairs = ModifyOperation (modify_of target star pairs (entries (relative_node target star pairs) pairs) (relative_node target star pairs))
+operation_by (Some Modify) target star pairs = ModifyOperation (modification target star pairs)
 operation_by (Some Delete) target star pairs = DeleteOperation target
 operation_by (Some Copy) target star pairs = CopyOperation (carry_operation target pairs)
 operation_by (Some Move) target star pairs = MoveOperation (carry_operation target pairs)

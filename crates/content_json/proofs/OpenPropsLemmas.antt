@@ -117,12 +117,12 @@ one_put q name v left props now h is =
     ap (λ ps. option_or (find by_name q left) (find by_name q ps)) is ∙ ap (option_or (find by_name q left)) (find_put q name v props)
     ∙ ⊎_elim
     (λ e.
-        ap (λ t. option_or (find by_name q left) (cond t (Some v) (find by_name q props))) e
-        ∙ none_or (find by_name q left) (Some v) (ap (λ n. find by_name n left) (same_text q name (sym e)) ∙ none)
-        ∙ sym (ap (λ t. option_or (cond t (Some v) (find by_name q left)) (find by_name q props)) e))
+    ap (λ t. option_or (find by_name q left) (cond t (Some v) (find by_name q props))) e
+    ∙ none_or (find by_name q left) (Some v) (ap (λ n. find by_name n left) (same_text q name (sym e)) ∙ none)
+    ∙ sym (ap (λ t. option_or (cond t (Some v) (find by_name q left)) (find by_name q props)) e))
     (λ e.
-        ap (λ t. option_or (find by_name q left) (cond t (Some v) (find by_name q props))) e
-        ∙ sym (ap (λ t. option_or (cond t (Some v) (find by_name q left)) (find by_name q props)) e))
+    ap (λ t. option_or (find by_name q left) (cond t (Some v) (find by_name q props))) e
+    ∙ sym (ap (λ t. option_or (cond t (Some v) (find by_name q left)) (find by_name q props)) e))
     (cases_Bool (bytes_eq q name))
     ∙ sym (ap (λ o. option_or o (find by_name q props)) (find_here q name v left))
 
@@ -142,9 +142,9 @@ set_at_last q name w left props now none is =
     ap (option_or (find by_name q left)) is
     ∙ ⊎_elim
     (λ e.
-        ap (λ t. option_or (find by_name q left) (cond t w (find by_name q props))) e
-        ∙ none_or (find by_name q left) w (ap (λ n. find by_name n left) (same_text q name (sym e)) ∙ none)
-        ∙ sym (ap (λ t. cond t w (at_last props left q)) e))
+    ap (λ t. option_or (find by_name q left) (cond t w (find by_name q props))) e
+    ∙ none_or (find by_name q left) w (ap (λ n. find by_name n left) (same_text q name (sym e)) ∙ none)
+    ∙ sym (ap (λ t. cond t w (at_last props left q)) e))
     (λ e. ap (λ t. option_or (find by_name q left) (cond t w (find by_name q props))) e ∙ sym (ap (λ t. cond t w (at_last props left q)) e))
     (cases_Bool (bytes_eq q name))
 
@@ -169,8 +169,8 @@ one_in_order q k w es was now rise is =
     ap (unwrap_or (came q es)) is
     ∙ ⊎_elim
     (λ e.
-        ap (λ t. unwrap_or (came q es) (cond t w was)) e ∙ by_none (came q es) w (ap (λ n. came n es) (same_text q k.now (sym e)) ∙ none_later k es rise.0)
-        ∙ sym (ap (λ t. cond t w (unwrap_or (came q es) was)) e))
+    ap (λ t. unwrap_or (came q es) (cond t w was)) e ∙ by_none (came q es) w (ap (λ n. came n es) (same_text q k.now (sym e)) ∙ none_later k es rise.0)
+    ∙ sym (ap (λ t. cond t w (unwrap_or (came q es) was)) e))
     (λ e. ap (λ t. unwrap_or (came q es) (cond t w was)) e ∙ sym (ap (λ t. cond t w (unwrap_or (came q es) was)) e))
     (cases_Bool (bytes_eq q k.now))
     ∙ sym (ap (λ t. unwrap_or (cond t (Some w) (came q es)) was) (is_eq-slice_cmp q k.now) ∙ unwrapped (bytes_eq q k.now) w (came q es) was)

@@ -97,11 +97,7 @@ impl<'a> OpenProps<'a> {
 }
 
 // The values of both in the order of their names, those of the map before those of the list.
-fn joined(
-    alloc: Global,
-    list: &PropList,
-    late: BTreeMap<&str, Option<Value>>,
-) -> Mem<PropList>
+fn joined(alloc: Global, list: &PropList, late: BTreeMap<&str, Option<Value>>) -> Mem<PropList>
     ensures sorted { IfOk result (λ props. T (is_sorted by_name props)) }
     ensures values { IfOk result (λ props. (q : List ℕ) → find by_name q props ≡ late_or late.entry (find by_name q list.now) q) }
 {

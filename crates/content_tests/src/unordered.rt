@@ -3,10 +3,7 @@
 /// Each content, and how its tree is written.
 pub(crate) const UNORDERED: &[(&str, &str)] = &[
     // The last of duplicates stays.
-    (
-        r#"{"b":1,"a":2,"b":3}"#,
-        r#"{"a":2,"b":3}"#,
-    ),
+    (r#"{"b":1,"a":2,"b":3}"#, r#"{"a":2,"b":3}"#),
     (
         r#"{"b":1,"b":[1],"a":2,"a":"x","b":true}"#,
         r#"{"a":"x","b":true}"#,
@@ -21,18 +18,12 @@ pub(crate) const UNORDERED: &[(&str, &str)] = &[
         r#"{"a":2,":order":["b"],"b":{"x":1}}"#,
     ),
     // Another member takes the place of a kid.
-    (
-        r#"{"b":{"x":1},"a":2,"b":1}"#,
-        r#"{"a":2,"b":1}"#,
-    ),
+    (r#"{"b":{"x":1},"a":2,"b":1}"#, r#"{"a":2,"b":1}"#),
     (
         r#"{"b":{"x":{}},"a":2,"b":{"y":1}}"#,
         r#"{"a":2,":order":["b"],"b":{"y":1}}"#,
     ),
-    (
-        r#"{"b":{"x":{}},"b":null,"a":2}"#,
-        r#"{"a":2}"#,
-    ),
+    (r#"{"b":{"x":{}},"b":null,"a":2}"#, r#"{"a":2}"#),
     // Kids before properties.
     (
         r#"{"k":{"z":1,"y":2},"j":{},"b":1,"a":2}"#,

@@ -19,6 +19,6 @@ returns c =
     let none : old.late.entries ≡ [] = c.is_late.ensures c.if-is_late.false in
     on_ok_weaker c.put.result
     (λ is q.
-        none_late old.late q (find by_name q c.put.new.self) none ∙ ap (find by_name q) is ∙ find_put q c.args.name.now c.args.value old.list
-        ∙ ap (λ o. cond (bytes_eq q c.args.name.now) (Some c.args.value) o) (sym (none_late old.late q (find by_name q old.list) none)))
+    none_late old.late q (find by_name q c.put.new.self) none ∙ ap (find by_name q) is ∙ find_put q c.args.name.now c.args.value old.list
+    ∙ ap (λ o. cond (bytes_eq q c.args.name.now) (Some c.args.value) o) (sym (none_late old.late q (find by_name q old.list) none)))
     c.put.ensures.ok

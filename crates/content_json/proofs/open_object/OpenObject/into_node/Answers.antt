@@ -2,8 +2,8 @@ use Rattle.std.proofs.Common.{◌∙◌}
 use Rattle.content_json.proofs.OpenNodeLemmas.{props_are, kids_are, is_kid_from, good_order}
 use Rattle.content_json.proofs.open_object.OpenObject.into_node.Goals as goal
 
-pub returns-in-Some : goal.returns-in-Some
-returns-in-Some c = λ ms h.
+pub returns-in_ok-into_list-in-Some : goal.returns-in_ok-into_list-in-Some
+returns-in_ok-into_list-in-Some c = λ ms h.
     let parent = c.args.self in
     let ordered = rw c.in-Some.is at c.in_ok-kids.ensures.ordered in
     let found = rw (c.in-Some.is, c.deref.ensures.value) at c.in_ok-kids.ensures.kids in

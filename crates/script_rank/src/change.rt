@@ -6,7 +6,7 @@ ghost use Rattle.script_rank.specs.Index.{HasRoom, IsChangeOf, IsIndexOf, has_pa
 ghost use Rattle.script_rank.specs.Noting.{NotesEntry, has_text_there, leaves_text};
 
 use crate::ScriptIndex;
-use crate::texts::{has_text_there, is_text_path, leaves_text};
+use crate::texts::{has_text_there, is_text_path, leaves_text, push_script};
 use resource_tree::{Patch, PatchNode, Tree};
 use sp_base::{Mem, Path};
 use std::alloc::Global;
@@ -103,14 +103,13 @@ fn note_entry(
     }
     let before = has_text_there(tree.node(path));
     let after = leaves_text(row);
-    if before == after {
-        return Ok(());
-    }
-    let script = path.parent(alloc)?;
-    if after {
-        change.added.push(script)?;
-    } else {
-        change.gone.push(script)?;
-    }
-    Ok(())
+    push_script(&mut change.added, alloc, path, becomes(before, after))?;
+    push_script(&mut change.gone, alloc, path, becomes(after, before))
+}
+
+// Whether something holds after that didn't before.
+fn becomes(before: bool, after: bool) -> bool
+    ensures { result ≡ (after && not before) }
+{
+    after && !before
 }

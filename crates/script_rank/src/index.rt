@@ -9,7 +9,7 @@ ghost use Rattle.script_rank.specs.Search.{search_result};
 ghost use Rattle.script_rank.specs.ScriptPlaceSearch.{AreKeptPlacesOf, has_under, kept_places_of, place_if};
 
 use crate::ranking::script_place_search;
-use crate::texts::{has_text, is_text_path};
+use crate::texts::{has_text, is_text_path, push_script};
 use resource_tree::{Node, Tree};
 use sp_base::{Mem, Path, TextBuf};
 use std::alloc::Global;
@@ -114,21 +114,17 @@ fn scripts_of(alloc: Global, tree: &Tree) -> Mem<Vec<Path>>
     let all = tree.rows(alloc)?;
     let rows = all.as_slice();
     for row in rows {
-        push_script(&mut scripts, alloc, row.0, row.1)?;
+        push_row(&mut scripts, alloc, row.0, row.1)?;
     }
     Ok(scripts)
 }
 
 // Adds the script whose text the node at a path holds, if it holds one.
-fn push_script(scripts: &mut Vec<Path>, alloc: Global, path: &Path, node: &Node) -> Mem<()>
+fn push_row(scripts: &mut Vec<Path>, alloc: Global, path: &Path, node: &Node) -> Mem<()>
     ensures { OnOk result (AddsScript path.now (has_text node.now) scripts.old.items scripts.new.items) }
 {
     if !is_text_path(path) {
         return Ok(());
     }
-    if !has_text(node) {
-        return Ok(());
-    }
-    scripts.push(path.parent(alloc)?)?;
-    Ok(())
+    push_script(scripts, alloc, path, has_text(node))
 }

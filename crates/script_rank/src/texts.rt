@@ -1,9 +1,10 @@
 // The nodes that hold the texts of scripts.
-ghost use Rattle.std.specs.Prelude.{◌≡◌, option_copied};
-ghost use Rattle.script_rank.specs.Noting.{has_text, has_text_there, is_text_path, leaves_text};
+ghost use Rattle.std.specs.Prelude.{◌≡◌, OnOk, option_copied, true};
+ghost use Rattle.script_rank.specs.Noting.{AddsScript, has_text, has_text_there, is_text_path, leaves_text};
 
 use resource_tree::{Node, PatchNode};
-use sp_base::Path;
+use sp_base::{Mem, Path};
+use std::alloc::Global;
 
 /// Whether the text of a script may stand at a path.
 pub(crate) fn is_text_path(path: &Path) -> bool
@@ -38,4 +39,21 @@ pub(crate) fn leaves_text(row: &PatchNode) -> bool
         PatchNode::Node(node) => has_text(node),
         PatchNode::Gone => false,
     }
+}
+
+/// Adds the script whose text a path is for, if a test holds.
+pub(crate) fn push_script(
+    scripts: &mut Vec<Path>,
+    alloc: Global,
+    path: &Path,
+    holds: bool,
+) -> Mem<()>
+    requires { is_text_path path.now ≡ true }
+    ensures { OnOk result (AddsScript path.now holds scripts.old.items scripts.new.items) }
+{
+    if !holds {
+        return Ok(());
+    }
+    scripts.push(path.parent(alloc)?)?;
+    Ok(())
 }

@@ -6,7 +6,7 @@ use Rattle.script_rank.proofs.index.scripts_of.Goals as goal
 
 pub loop-row-preserved : goal.loop-row-preserved
 loop-row-preserved c =
-    scripts_more deref_pair c.as_slice-rows.result.now c.loop-row.row-index c.row-item.result c.loop-row.scripts.items c.push_script.new.scripts.items c.loop-row-test.true c.row-item.is c.loop-row.invariant c.in_ok-push_script.ensures
+    scripts_more deref_pair c.as_slice-rows.result.now c.loop-row.row-index c.row-item.result c.loop-row.scripts.items c.push_row.new.scripts.items c.loop-row-test.true c.row-item.is c.loop-row.invariant c.in_ok-push_row.ensures
 
 pub returns : goal.returns
 returns c =

@@ -289,8 +289,8 @@ change_is tree patch change good once noted = record {
       ∙ sym (ap (λ b. has_path change.added path || (b && not (has_path change.gone path))) (script_is tree path good));
 }
 
-pub noted_none : (tree : Content) → AreNoted tree [] (record { added = []; gone = [] })
-noted_none tree = record { added = λ path. refl; gone = λ path. refl }
+pub noted_none : (tree : Content) (change : Change) → change.added ≡ [] → change.gone ≡ [] → AreNoted tree [] change
+noted_none tree change added gone = record { added = λ path. ap (λ paths. has_path paths path) added; gone = λ path. ap (λ paths. has_path paths path) gone }
 
 -- ---- the change over the index
 

@@ -5,7 +5,7 @@ use Rattle.script_rank.proofs.TextLemmas.{AreNoted, change_is, noted_next, noted
 use Rattle.script_rank.proofs.change.script_change.Goals as goal
 
 pub loop-place-init : goal.loop-place-init
-loop-place-init c = noted_none c.args.tree.now
+loop-place-init c = noted_none c.args.tree.now (record { added = c.new.result.items; gone = c.new-2.result.items }) c.new.ensures.items c.new-2.ensures.items
 
 pub loop-place-preserved : goal.loop-place-preserved
 loop-place-preserved c =

@@ -1,13 +1,12 @@
 -- Paths in their order: what a binary search says of them, and what an insert and a removal leave.
-use Rattle.std.proofs.Common.{◌≡◌, ◌<◌, ◌≤◌, ◌+◌, ◌-◌, ◌⊎◌, ℕ, zero, suc, Bool, true, false, List, [], ◌∷◌, ◌++◌, Option, Some, None, Result, Ok, Err, length, get_or, take, refl, sym, ◌∙◌, ap, subst, ⊎_elim, arith}
+use Rattle.std.proofs.Common.{◌≡◌, ◌<◌, ◌≤◌, ◌+◌, ◌-◌, ℕ, Bool, true, false, List, [], ◌∷◌, ◌++◌, Result, Ok, Err, length, get_or, take, refl, sym, ◌∙◌, ap, ⊎_elim, arith}
 use Rattle.std.specs.Prelude.{◌&&◌, ◌||◌, is_ok, nat_eq, not}
 use Rattle.std.specs.declared.cmp.Ordering.{Ordering}
 use Rattle.std.specs.declared.cmp.Ordering.TheVariants.{Less, Equal, Greater}
 use Rattle.std.specs.Cmp.Lexicographic.{pointwise, nat_list_cmp_total, nat_list_eq_equiv, same_text, slice_cmp}
-use Rattle.std.specs.List.{AllPairs, HoldsAt, insert, list_any, remove}
-use Rattle.std.specs.List.Sorted.{IsBinarySearchResult, IsPartitionPoint, IsPermutation, IsSearchInRange, IsSorted}
-use Rattle.std.specs.Option.{option_map_or}
-use Rattle.std.specs.Ordering.{is_eq, is_gt, is_lt, nat_cmp, ordering_reverse, ordering_then}
+use Rattle.std.specs.List.{AllPairs, insert, remove}
+use Rattle.std.specs.List.Sorted.{IsBinarySearchResult, IsPartitionPoint, IsSearchInRange, IsSorted}
+use Rattle.std.specs.Ordering.{is_eq, is_lt, nat_cmp, ordering_reverse, ordering_then}
 use Rattle.std.proofs.lemmas.Bool.{and_from, and_parts, cases_Bool, cases_eq, cases_lt, cases_order, false_from_ne_true, false≢true, true≢false}
 use Rattle.std.proofs.lemmas.Cmp.{tied_back, tied_itself}
 use Rattle.std.proofs.lemmas.List.Edits.{get_or-insert_above, get_or-insert_at, get_or-insert_below, length-insert}
@@ -150,8 +149,10 @@ listed_twice xs i x q within found = ⊎_elim
     or_none : (a : Bool) → (a || false) ≡ a
     or_none true = refl
     or_none false = refl
+
     tells_one : (q x : Segments) → same_path q x ≡ true → q ≡ x
     tells_one q x e = path_from_same q x e
+
     there : (q : Segments) → q ≡ x → has_path xs q ≡ (has_path xs q || same_path q x)
     there q e = let yes : has_path xs q ≡ true = ap (has_path xs) e ∙ listed xs x i within found in yes ∙ sym (ap (λ b. b || same_path q x) yes)
 
@@ -205,9 +206,11 @@ forgotten xs ys x q i up found alike = ⊎_elim
     or_none : (a : Bool) → (a || false) ≡ a
     or_none true = refl
     or_none false = refl
+
     and_none : (a : Bool) → (a && false) ≡ false
     and_none true = refl
     and_none false = refl
+
     or_and : (a : Bool) → (a || false) ≡ (a && true)
     or_and true = refl
     or_and false = refl

@@ -1,21 +1,21 @@
 -- A script by the node that holds its text: in a tree, among the rows of a tree, and with a patch over it.
-use Rattle.std.proofs.Common.{◌≡◌, ◌≢◌, ◌<◌, ◌≤◌, ◌+◌, ◌++◌, add-one, cond, ℕ, Bool, true, false, List, [], ◌∷◌, Option, Some, None, length, get_or, map, take, refl, sym, ◌∙◌, ap, subst, ⊎_elim, arith}
+use Rattle.std.proofs.Common.{◌≡◌, ◌≢◌, ◌<◌, ◌≤◌, ◌+◌, ◌++◌, add-one, cond, ℕ, Bool, true, false, List, [], ◌∷◌, Option, Some, None, length, get_or, map, take, refl, sym, ◌∙◌, ap, subst, ⊎_elim}
 use Rattle.std.specs.Prelude.{◌&&◌, ◌||◌, codes, is_some, nat_eq, not, option_and_then, slice_get}
 use Rattle.std.specs.Cmp.{eq_by_cmp_equiv}
-use Rattle.std.specs.Cmp.Lexicographic.{pointwise, nat_list_eq_equiv, same_text}
-use Rattle.std.specs.List.{All, IsDistinct, list_any}
-use Rattle.std.specs.Map.{keys_of, lookup}
+use Rattle.std.specs.Cmp.Lexicographic.{pointwise, same_text}
+use Rattle.std.specs.List.{IsDistinct, list_any}
+use Rattle.std.specs.Map.{keys_of}
 use Rattle.std.specs.Option.{option_map_or}
 use Rattle.std.specs.Ordering.{eq_by_cmp}
 use Rattle.std.proofs.lemmas.Bool.{and_parts, cases_Bool, false_from_ne_true, true≢false}
-use Rattle.std.proofs.lemmas.List.Folds.{list_any_at, list_any_more, list_any_none, Any-from_list_any}
+use Rattle.std.proofs.lemmas.List.Folds.{list_any_more}
 use Rattle.std.proofs.lemmas.Map.{lookup-none}
 use Rattle.std.proofs.lemmas.Map.Entries.{none_past_head}
 use Rattle.std.proofs.lemmas.Map.Keys.{IsDistinct-tail}
 use Rattle.std.proofs.lemmas.Option.{get_or_from_slice_get, slice_get_within}
 use Rattle.std.proofs.lemmas.List.{take_all}
 use Rattle.sp_base.specs.Texts.{Segments}
-use Rattle.sp_base.specs.Paths.{fault_of, is_path, parent_of, path_or_fault, unless_fault}
+use Rattle.sp_base.specs.Paths.{fault_of, is_path, parent_of, unless_fault}
 use Rattle.sp_base.specs.Properties.{text_in}
 use Rattle.sp_base.specs.declared.path.PathFault.{PathFault}
 use Rattle.sp_base.proofs.PathParts.{checked_path}
@@ -26,7 +26,7 @@ use Rattle.resource_tree.specs.declared.nodes.Node.{Node}
 use Rattle.resource_tree.specs.declared.patch.PatchNode.{PatchNode}
 use Rattle.resource_tree.specs.declared.patch.PatchNode.TheVariants as patch_node
 use Rattle.resource_tree.proofs.PathLemmas.{by_path_total, kid_parts, name_of-kid, parent_of-kid, path_from_same, same_path_self}
-use Rattle.script_rank.specs.Index.{Change, Index, IsChangeOf, IsIndexOf, has_path, is_script_after}
+use Rattle.script_rank.specs.Index.{Change, Index, IsChangeOf, IsIndexOf, has_path}
 use Rattle.script_rank.specs.Noting.{AddsScript, NotesEntry, has_text, has_text_there, is_text_path, leaves_text, text_path}
 use Rattle.script_rank.specs.Ranking.{is_script, node_of, script_text}
 

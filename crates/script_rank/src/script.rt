@@ -36,12 +36,7 @@ fn after_slash(text: &str) -> Option<&str>
 }
 
 // The script of this name below a place.
-fn script_in<S: Scripts>(
-    alloc: Global,
-    scripts: &S,
-    place: &Path,
-    name: &str,
-) -> Mem<Option<Path>>
+fn script_in<S: Scripts>(alloc: Global, scripts: &S, place: &Path, name: &str) -> Mem<Option<Path>>
     ensures { IfOk result (λ o. o ≡ path_if (S.tells scripts.now) (child_of place.now name.now)) }
 {
     let path = match place.child(alloc, name) {

@@ -1,4 +1,4 @@
-use Rattle.std.proofs.Common.{◌≡◌, ◌∙◌, ℕ, true, ap, arith, sym, subst}
+use Rattle.std.proofs.Common.{◌≡◌, ◌∙◌, true, ap, arith, sym, subst}
 use Rattle.std.specs.Prelude.{◌||◌, if◌then◌else◌, is_ok}
 use Rattle.std.specs.List.{insert}
 use Rattle.std.specs.List.Sorted.{IsSorted}

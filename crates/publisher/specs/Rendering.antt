@@ -97,9 +97,13 @@ pub record ScriptAt : Type 0 where
   pub path : Segments
   pub text : Text
 
+-- a path with a text
+abbrev pub with_text : Segments → Text → ScriptAt
+with_text path text = record { path = path; text = text }
+
 -- the script at a path, if one is there
 abbrev pub script_at : Content → Segments → Option ScriptAt
-script_at tree path = option_map (λ text. record { path = path; text = text }) (script_text tree path)
+script_at tree path = option_map (with_text path) (script_text tree path)
 
 -- the script that ranks first for a resource, if there is one
 unfoldable pub script_for : Content → Parts → Resource → Option ScriptAt

@@ -84,10 +84,10 @@ impl PageText {
 
     /// The text by itself.
     pub(crate) fn into_text(self) -> TextBuf
-        ensures text { result ≡ self.entry.text }
-        ensures inclusions { self.entry.inclusions ≤ most_inclusions }
-        ensures rounds { self.entry.rounds ≤ most_rounds }
-        ensures depth { self.entry.is_deep ≡ false }
+        ensures text { result ≡ self.text }
+        ensures inclusions { self.inclusions ≤ most_inclusions }
+        ensures rounds { self.rounds ≤ most_rounds }
+        ensures depth { self.is_deep ≡ false }
     {
         let PageText {
             text,

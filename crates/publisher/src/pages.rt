@@ -130,10 +130,12 @@ fn include_script(
         return Ok(());
     };
     let inner = Setting {
+        tree: &*setting.tree,
         script: &script,
-        vars,
+        path: &*setting.path,
+        props: &*setting.props,
+        vars: &*vars,
         levels: setting.levels - 1,
-        ..*setting
     };
     write_script(page, alloc, templates, &inner)
 }
@@ -164,7 +166,7 @@ fn include_resource(
         return Ok(());
     };
     let inner = Setting {
-        tree: setting.tree,
+        tree: &*setting.tree,
         script: &script,
         path: res.path(),
         props: res.props(),

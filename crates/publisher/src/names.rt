@@ -5,14 +5,14 @@ ghost use Rattle.sp_base.specs.Paths.{child_of};
 ghost use Rattle.std.specs.Result.{result_ok};
 ghost use Rattle.publisher.specs.Pages.{is_script_name, path_named};
 
-use sp_base::{Mem, NoMemory, Path, PathFault};
+use sp_base::{Mem, NoMemory, Path, PathFault, begins_with_byte};
 use std::alloc::Global;
 
 /// Whether a name is one of a script.
 pub(crate) fn is_script_name(name: &str) -> bool
     ensures { result ≡ is_script_name name.now }
 {
-    name.ends_with(".html")
+    name.as_bytes().ends_with(b".html")
 }
 
 // The path with a name after it, where there is one.
@@ -31,7 +31,7 @@ fn below(alloc: Global, folder: &Path, name: &str) -> Mem<Option<Path>>
 pub(crate) fn path_named(alloc: Global, folder: &Path, name: &str) -> Mem<Option<Path>>
     ensures { IfOk result (λ o. o ≡ path_named folder.now name.now) }
 {
-    if name.as_bytes().starts_with(b"/") {
+    if begins_with_byte(b'/', name.as_bytes()) {
         Path::read_or_none(alloc, name)
     } else {
         below(alloc, folder, name)

@@ -4,38 +4,24 @@ ghost use Rattle.publisher.specs.Kept.{AreReadings};
 ghost use Rattle.publisher.specs.Pages.{page_of, place_of};
 ghost use Rattle.publisher.specs.Rendering.{mark_of, page_answer, script_representation};
 
-use crate::errors::answer_of;
 use crate::methods::mark_of;
 use crate::page_fault::PageFault;
 use crate::page_text::PageText;
 use crate::pages::write_blocks;
+use crate::representations::representation_of;
 use crate::setting::Setting;
 use crate::templates::{Reading, Templates};
 use error_answers::error_answer;
 use htl_blocks::Blocks;
 use htl_expr::Variables;
 use resource_tree::{Res, Tree};
-use sp_base::{Answer, ByteBuf, Mark, Mem, NoMemory, Path};
+use sp_base::{Answer, Mem, NoMemory, Path};
 use std::alloc::Global;
 
 const HTML_KIND: &str = "text/html;charset=utf-8";
 
 /// How many scripts and resources may stand one in another, in the script of the page itself.
 const MOST_LEVELS: usize = 16;
-
-// A page that is put together, or an error where a limit is passed.
-fn page_answer(
-    alloc: Global,
-    mark: Mark,
-    page: PageText,
-    written: Result<(), PageFault>,
-) -> Mem<Answer> {
-    match written {
-        Ok(()) => answer_of(alloc, 200, HTML_KIND, mark, ByteBuf::from(page.into_text())),
-        Err(PageFault::Over) => error_answer(alloc, 500),
-        Err(PageFault::NoMemory) => Err(NoMemory),
-    }
-}
 
 // The page that a script's blocks write for a resource.
 fn page_representation(
@@ -59,8 +45,11 @@ fn page_representation(
         levels: MOST_LEVELS,
     };
     let mut page = PageText::new(alloc);
-    let written = write_blocks(&mut page, alloc, templates, &setting, blocks);
-    page_answer(alloc, mark_of(res), page, written)
+    match write_blocks(&mut page, alloc, templates, &setting, blocks) {
+        Ok(()) => representation_of(alloc, HTML_KIND, mark_of(res), page.into_text()),
+        Err(PageFault::Over) => error_answer(alloc, 500),
+        Err(PageFault::NoMemory) => Err(NoMemory),
+    }
 }
 
 /// What a script writes for a resource; an error where the script's text has no reading.

@@ -1,7 +1,7 @@
 //! The answers that a connection still owes, in the order of its requests.
-ghost use Rattle.std.specs.Prelude.{◌≡◌, ◌+◌, ◌⊎◌, ℕ, List, false, IsTrue, IfNone, IfOk, IfSome, OnErr, OnOk, OnSome, position};
+ghost use Rattle.std.specs.Prelude.{◌≡◌, ◌+◌, ◌⊎◌, ◌||◌, ℕ, List, false, IsTrue, IfNone, IfOk, IfSome, OnErr, OnOk, OnSome, position};
 ghost use Rattle.std.specs.List.{count_by};
-ghost use Rattle.connections.specs.Slots.{Response, Slot};
+ghost use Rattle.connections.specs.Slots.{Response, Slot, are_fixed_507};
 ghost use Rattle.connections.specs.Connections as model;
 ghost use Rattle.connections.specs.Connections.{Connection, IsInPlaceOfDue, due, due_without_sending, fresh, with_end, with_sent, with_slot};
 ghost use Rattle.connections.specs.Histories.{IsDueSending};
@@ -10,7 +10,7 @@ ghost use Rattle.connections.specs.AnswerQueues.{IsSendingOf, PlaceStandsFor, Re
 use crate::awaited::Awaited;
 use crate::place::{AnswerPlace, Reply};
 use crate::sending::Sending;
-use http_front::fixed_507;
+use http_front::{SentBytes, fixed_507};
 use sp_base::{ByteBuf, Mem};
 use std::alloc::Global;
 use std::collections::VecDeque;
@@ -69,8 +69,9 @@ impl AnswerQueue {
             return None;
         }
         let place = self.places.pop_front()?;
-        let sending = self.make_sending(alloc, &place);
-        self.over = place.is_last(sending.bytes.bytes());
+        let closes = place.closes;
+        let sending = self.make_sending(alloc, place);
+        self.over = is_last(closes, &sending.bytes);
         Some(sending)
     }
 
@@ -85,8 +86,8 @@ impl AnswerQueue {
     }
 
     // A place's answer, or the spare bytes, where these are its own or memory runs out.
-    fn make_sending(&mut self, alloc: Global, place: &AnswerPlace) -> Sending
-        ensures sends { IsSendingOf place.now self.old.spare result }
+    fn make_sending(&mut self, alloc: Global, place: AnswerPlace) -> Sending
+        ensures sends { IsSendingOf place self.old.spare result }
         ensures kept { (self.new.places ≡ self.old.places) × (self.new.closing ≡ self.old.closing) × (self.new.over ≡ self.old.over) }
         ensures spare { (self.new.spare ≡ self.old.spare) ⊎ (result.bytes ≡ self.old.spare) }
     {
@@ -109,11 +110,12 @@ impl AnswerQueue {
     }
 
     // The spare bytes, which are gone then: after the fixed 507 nothing is sent.
-    fn take_spare(&mut self, alloc: Global) -> ByteBuf
+    fn take_spare(&mut self, alloc: Global) -> SentBytes
         ensures spare { result ≡ self.old.spare }
         ensures kept { (self.new.places ≡ self.old.places) × (self.new.closing ≡ self.old.closing) × (self.new.over ≡ self.old.over) }
     {
-        replace(&mut self.spare, ByteBuf::from(Vec::new(alloc)))
+        let spare = replace(&mut self.spare, ByteBuf::from(Vec::new(alloc)));
+        SentBytes::whole(alloc, spare)
     }
 
     /// Gives the first place that awaits this flight, or the end of this flush, its reply. Where none does, nothing changes.
@@ -155,6 +157,13 @@ impl AnswerQueue {
     {
         self.over
     }
+}
+
+// Whether a connection closes after these bytes, where it closes after their place (`closes`) or else goes on.
+fn is_last(closes: bool, bytes: &SentBytes) -> bool
+    ensures { result ≡ (closes || are_fixed_507 bytes.now) }
+{
+    closes || bytes.is(fixed_507())
 }
 
 fn awaiting_place(places: &VecDeque<AnswerPlace>, awaited: Awaited) -> Option<usize>

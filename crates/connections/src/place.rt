@@ -1,12 +1,12 @@
 //! The place of an answer among those that a connection owes.
-ghost use Rattle.std.specs.Prelude.{◌≡◌, ◌||◌, IfOk, IsTrue};
+ghost use Rattle.std.specs.Prelude.{◌≡◌, IfOk, IsTrue, false, true};
 ghost use Rattle.http_front.specs.Answers.{answer_bytes as bytes_of};
 ghost use Rattle.connections.specs.Slots as model;
 ghost use Rattle.connections.specs.AnswerQueues.{PlaceStandsFor, ReplyStandsFor, awaits as awaiting, is_final_reply, has_reply as answered, place_bytes};
 
 use crate::awaited::Awaited;
 use error_answers::error_answer;
-use http_front::{Framing, INSUFFICIENT_STORAGE, answer_bytes, fixed_507, interim_100};
+use http_front::{Framing, INSUFFICIENT_STORAGE, SentBytes, answer_bytes, fixed_507, interim_100};
 use sp_base::{Answer, ByteBuf, Mark, Mem, Req};
 use std::alloc::Global;
 
@@ -117,13 +117,6 @@ impl AnswerPlace {
         }
     }
 
-    // Whether the connection closes after these bytes of its answer.
-    pub(crate) fn is_last(&self, bytes: &[u8]) -> bool
-        ensures { result ≡ (self.now.closes || model.are_fixed_507 bytes.now) }
-    {
-        self.closes || bytes == fixed_507()
-    }
-
     // Whether the fixed 507 is its own answer, so that it is sent without taking memory.
     pub(crate) fn owns_fixed_507(&self) -> bool
         ensures { result ≡ model.are_fixed_507 (place_bytes self.now) }
@@ -148,20 +141,24 @@ impl AnswerPlace {
     }
 
     // The bytes of its answer: none while it is awaited.
-    pub(crate) fn written(&self, alloc: Global) -> Mem<ByteBuf>
-        ensures { IfOk result (λ bytes. bytes ≡ place_bytes self.now) }
+    pub(crate) fn written(self, alloc: Global) -> Mem<SentBytes>
+        ensures { IfOk result (λ bytes. bytes ≡ place_bytes self) }
     {
-        match &self.reply {
-            Reply::Interim => ByteBuf::of(alloc, interim_100()),
-            Reply::Fixed => ByteBuf::of(alloc, fixed_507()),
-            Reply::Own(status) => {
-                let answer = error_answer(alloc, *status)?;
-                answer_bytes(alloc, self.framing(), &answer)
-            }
-            Reply::Awaits(_) => ByteBuf::of(alloc, b""),
-            Reply::Says(answer) => answer_bytes(alloc, self.framing(), answer),
+        let framing = self.framing();
+        match self.reply {
+            Reply::Interim => copied(alloc, interim_100()),
+            Reply::Fixed => copied(alloc, fixed_507()),
+            Reply::Own(status) => answer_bytes(alloc, framing, error_answer(alloc, status)?),
+            Reply::Awaits(_) => copied(alloc, b""),
+            Reply::Says(answer) => answer_bytes(alloc, framing, answer),
         }
     }
+}
+
+fn copied(alloc: Global, bytes: &[u8]) -> Mem<SentBytes>
+    ensures { IfOk result (λ sent. sent ≡ bytes.now) }
+{
+    Ok(SentBytes::whole(alloc, ByteBuf::of(alloc, bytes)?))
 }
 
 // Whether an answer's bytes are those of the fixed 507.

@@ -3,6 +3,7 @@ use Rattle.std.specs.Prelude.{ℕ, suc, List, [], ◌∷◌, length, Bool, ◌||
 use Rattle.std.specs.FinMap.Entries.{put}
 use Rattle.std.specs.List.{list_any}
 use Rattle.std.specs.Str.{is_utf8}
+use Rattle.sp_base.specs.Texts.{Segments}
 use Rattle.serde_json.specs.Data.{Data, null, boolean, number, string, array, object, Members}
 use Rattle.serde_json.specs.Read.{read}
 use Rattle.sp_base.specs.Paths.{most_segments}
@@ -24,7 +25,7 @@ abbrev pub is_too_big : Members → Bool
 is_too_big ms = nat_lt most_nodes (suc (count_below ms)) || is_deeper_below most_segments ms
 
 -- the refusal for what was found against a value at a path
-abbrev pub refused_by : Cause → List (List ℕ) → ContentFault
+abbrev pub refused_by : Cause → Segments → ContentFault
 refused_by cause.BadName path = BadName path
 refused_by cause.BadNumber path = BadNumber path
 refused_by cause.MixedArray path = MixedArray path

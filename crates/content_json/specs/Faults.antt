@@ -3,6 +3,7 @@ use Rattle.std.specs.Prelude.{ℕ, List, [], ◌∷◌, take, Bool, true, false,
 use Rattle.std.specs.Option.{option_or, option_map_or}
 use Rattle.std.specs.List.{list_any}
 use Rattle.std.specs.Str.{bytes_eq}
+use Rattle.sp_base.specs.Texts.{Text}
 use Rattle.serde_json.specs.Data.{Data, null, boolean, number, string, array, object, Items, no_items, item, Members, no_members, member}
 use Rattle.serde_json.specs.Find.{as_str, as_array, as_i64, get_member}
 use Rattle.sp_base.specs.Paths.{most_segments}
@@ -13,7 +14,7 @@ use Rattle.content_json.specs.Names.{order_name, is_order, has_bad_name, is_kid}
 use Rattle.content_json.specs.Lists.{array_cause}
 
 -- each item is the name of a kid, and none of those before it
-abbrev pub names_kids : Members → List (List ℕ) → Items → Bool
+abbrev pub names_kids : Members → List Text → Items → Bool
 names_kids ms before no_items = true
 names_kids ms before (item d ds) = option_map_or (λ name. is_kid ms name && not (list_any (λ other. bytes_eq other name) before) && names_kids ms (name ∷ before) ds) (as_str d) false
 

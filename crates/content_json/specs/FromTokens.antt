@@ -7,6 +7,7 @@ use Rattle.std.specs.BTreeSet.{contains_by}
 use Rattle.std.specs.List.{list_any}
 use Rattle.std.specs.Str.{bytes_eq}
 use Rattle.std.specs.FinMap.Entries.{find}
+use Rattle.sp_base.specs.Texts.{Segments, Text}
 use Rattle.json.specs.Token.{Token}
 use Rattle.json.specs.Json as json
 use Rattle.serde_json.specs.Data.{Data, string, array, object, Members, no_members, put}
@@ -31,15 +32,15 @@ pub record IsFit (levels : ℕ) (name : List ℕ) (d : Data) : Type 0 where
   pub shallow : (if is_order name then false else is_deeper levels d) ≡ false
 
 -- the texts that are lent
-abbrev pub texts_in : List (Bor (List ℕ)) → List (List ℕ)
+abbrev pub texts_in : List (Bor (List ℕ)) → List Text
 texts_in names = map (λ name. name.now) names
 
 -- the first names, and those of others that aren't among them
-abbrev pub with_others : List (List ℕ) → List (List ℕ) → List (List ℕ)
+abbrev pub with_others : List Text → List Text → List Text
 with_others first names = first ++ filter (λ name. not (list_any (bytes_eq name) first)) names
 
 -- the texts as an array
-abbrev pub texts_array : List (List ℕ) → Data
+abbrev pub texts_array : List Text → Data
 texts_array texts = array (items_of (map string texts))
 
 -- what is kept of an object is of these members: the values of its properties, the names of its kids, what `:order` lists
@@ -73,25 +74,25 @@ abbrev pub depth_beside_levels : ℕ
 depth_beside_levels = 62
 
 -- these tokens begin with the value of a member, before the rest; the object takes it in, and its nodes are added
-pub record AddsMember (levels : ℕ) (path : List (List ℕ)) (name : List ℕ) (before after : OpenObject) (old new : Content) (ts rest : List Token) : Type 0 where
+pub record AddsMember (levels : ℕ) (path : Segments) (name : List ℕ) (before after : OpenObject) (old new : Content) (ts rest : List Token) : Type 0 where
   pub told : Data
   pub read : converted of_json (json.value (levels + depth_beside_levels) ts) ≡ Some (told, rest)
   pub fit : IsFit levels name told
   pub gains : Gains before after name told
-  pub nodes : (q : List (List ℕ)) → node_at new q ≡ with_nodes_at old (member_nodes path name told) q
+  pub nodes : (q : Segments) → node_at new q ≡ with_nodes_at old (member_nodes path name told) q
 
 -- so it is with all members up to the closing brace
-pub record AddsMembers (levels : ℕ) (path : List (List ℕ)) (after : OpenObject) (old new : Content) (ts rest : List Token) : Type 0 where
+pub record AddsMembers (levels : ℕ) (path : Segments) (after : OpenObject) (old new : Content) (ts rest : List Token) : Type 0 where
   pub found : Members
   pub read : converted (λ js. of_members js no_members) (json.members (json.value (levels + depth_beside_levels)) (length ts) ts) ≡ Some (found, rest)
   pub fit : AllMembers (IsFit levels) found
   pub holds : HoldsMembers after found
-  pub nodes : (q : List (List ℕ)) → node_at new q ≡ with_nodes_at old (nodes_below path found) q
+  pub nodes : (q : Segments) → node_at new q ≡ with_nodes_at old (nodes_below path found) q
 
 -- and with an object after its opening brace: it has no fault, and its nodes are added
-pub record AddsObject (levels : ℕ) (path : List (List ℕ)) (old new : Content) (ts rest : List Token) : Type 0 where
+pub record AddsObject (levels : ℕ) (path : Segments) (old new : Content) (ts rest : List Token) : Type 0 where
   pub found : Members
   pub read : converted (λ js. of_members js no_members) (json.members (json.value (levels + depth_beside_levels)) (length ts) ts) ≡ Some (found, rest)
   pub faultless : fault_in (object found) ≡ None
   pub shallow : is_deeper_below levels found ≡ false
-  pub nodes : (q : List (List ℕ)) → node_at new q ≡ with_nodes_at old (nodes_in path (object found)) q
+  pub nodes : (q : Segments) → node_at new q ≡ with_nodes_at old (nodes_in path (object found)) q

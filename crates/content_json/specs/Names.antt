@@ -2,6 +2,7 @@
 use Rattle.std.specs.Prelude.{ℕ, List, [], ◌∷◌, codes, Bool, false, not, ◌&&◌, ◌||◌, ◌==◌, slice_index, if◌then◌else◌, is_some}
 use Rattle.std.specs.Option.{option_map_or}
 use Rattle.std.specs.Str.{bytes_eq}
+use Rattle.sp_base.specs.Texts.{Text}
 use Rattle.serde_json.specs.Data.{Data, Members, no_members, member}
 use Rattle.serde_json.specs.Find.{get_member, as_object}
 use Rattle.sp_base.specs.Paths.{seg_ok}
@@ -32,7 +33,7 @@ abbrev pub is_kid_member : List ℕ → Data → Bool
 is_kid_member name d = not (is_order name) && is_object d
 
 -- the names of the kids, in the order of the members
-abbrev pub kid_names : Members → List (List ℕ)
+abbrev pub kid_names : Members → List Text
 kid_names no_members = []
 kid_names (member name d ms) = if is_kid_member name d then name ∷ kid_names ms else kid_names ms
 

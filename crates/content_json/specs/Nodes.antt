@@ -4,6 +4,7 @@ use Rattle.std.specs.List.{list_any, filter_map}
 use Rattle.std.specs.Option.{option_map_or}
 use Rattle.std.specs.Str.{bytes_eq}
 use Rattle.std.specs.FinMap.Entries.{put}
+use Rattle.sp_base.specs.Texts.{Segments, Text}
 use Rattle.serde_json.specs.Data.{Data, null, boolean, number, string, array, object, Items, no_items, Members, no_members, member}
 use Rattle.serde_json.specs.Find.{as_str, as_array, get_member}
 use Rattle.sp_base.specs.Names.{by_name}
@@ -18,11 +19,11 @@ abbrev pub order_items : Members → Items
 order_items ms = unwrap_or (option_and_then as_array (get_member order_name ms)) no_items
 
 -- the texts among what `:order` lists
-abbrev pub order_names : Members → List (List ℕ)
+abbrev pub order_names : Members → List Text
 order_names ms = filter_map as_str (item_list (order_items ms))
 
 -- the kids that `:order` names come first, the rest follow in the order of their bytes
-abbrev pub kids_of : Members → List (List ℕ)
+abbrev pub kids_of : Members → List Text
 kids_of ms = order_names ms ++ filter (λ name. not (list_any (bytes_eq name) (order_names ms))) (kid_names ms)
 
 -- the properties, and a member's value under its name
@@ -40,7 +41,7 @@ node_of_members ms = record { props = add_props [] ms; kids = kids_of ms }
 
 -- the nodes of a value at a path, and of the members of the object there: each node before those below it
 abbrev mutual
-  pub nodes_in : List (List ℕ) → Data → Content
+  pub nodes_in : Segments → Data → Content
   nodes_in path null = []
   nodes_in path (boolean b) = []
   nodes_in path (number n) = []
@@ -48,7 +49,7 @@ abbrev mutual
   nodes_in path (array ds) = []
   nodes_in path (object ms) = (path, node_of_members ms) ∷ nodes_below path ms
 
-  pub nodes_below : List (List ℕ) → Members → Content
+  pub nodes_below : Segments → Members → Content
   nodes_below path no_members = []
   nodes_below path (member name d ms) = (if is_order name then [] else nodes_in (kid path name) d) ++ nodes_below path ms
 

@@ -4,6 +4,7 @@ use Rattle.std.specs.FinMap.Entries.{is_sorted}
 use Rattle.std.specs.List.{list_all, list_any}
 use Rattle.std.specs.Option.{option_or}
 use Rattle.std.specs.Str.{bytes_eq}
+use Rattle.sp_base.specs.Texts.{Segments, Text}
 use Rattle.json.specs.Json as json
 use Rattle.json.specs.Token.{Token}
 use Rattle.json.specs.Tree.{json_tokens}
@@ -22,7 +23,7 @@ use Rattle.content_json.specs.Nodes.{nodes_in, count_in, count_below, is_deeper,
 use Rattle.content_json.specs.Written.{node_json}
 
 -- the second path is the first or is below it
-abbrev pub is_at_or_below : List (List ℕ) → List (List ℕ) → Bool
+abbrev pub is_at_or_below : Segments → Segments → Bool
 is_at_or_below [] q = true
 is_at_or_below (s ∷ path) [] = false
 is_at_or_below (s ∷ path) (t ∷ q) = bytes_eq s t && is_at_or_below path q
@@ -34,11 +35,11 @@ abbrev pub member_fault : List ℕ → Data → Option Found
 member_fault name d = if is_order name then None else option_map (in_member name) (fault_in d)
 
 -- the nodes of a member of the object at a path
-abbrev pub member_nodes : List (List ℕ) → List ℕ → Data → Content
+abbrev pub member_nodes : Segments → List ℕ → Data → Content
 member_nodes path name d = if is_order name then [] else nodes_in (kid path name) d
 
 -- the node at a path of a tree with other nodes added
-abbrev pub with_nodes_at : Content → Content → List (List ℕ) → Option Node
+abbrev pub with_nodes_at : Content → Content → Segments → Option Node
 with_nodes_at tree nodes q = option_or (node_at nodes q) (node_at tree q)
 
 -- no fault, and not too big
@@ -56,16 +57,16 @@ room_beside most levels ms = if is_some (fault_in (object ms)) || (nat_lt most (
 -- ---- writing
 
 -- the tokens of `:order`
-abbrev pub order_tokens : List (List ℕ) → List Token
+abbrev pub order_tokens : List Text → List Token
 order_tokens [] = []
 order_tokens (name ∷ names) = Token.key order_name ∷ json_tokens (json.array (items_of json.string (name ∷ names)))
 
 -- the node at a path, and all below it
-abbrev pub whole_at : Content → List (List ℕ) → json.Json
+abbrev pub whole_at : Content → Segments → json.Json
 whole_at tree path = node_json tree (most_segments - length path) path
 
 -- the tokens of kids of these names
-abbrev pub kid_tokens : Content → List (List ℕ) → List (List ℕ) → List Token
+abbrev pub kid_tokens : Content → Segments → List Text → List Token
 kid_tokens tree path names = flat_map (λ name. Token.key name ∷ json_tokens (whole_at tree (kid path name))) names
 
 -- properties in the order of their names, whose numbers are of 64 bits
@@ -74,9 +75,9 @@ pub record AreProps (props : List (List ℕ × Value)) : Type 0 where
   pub longs : list_all (λ p. has_longs p.1) props ≡ true
 
 -- so are those of each node at a path or below it
-abbrev pub AreBelow : Content → List (List ℕ) → Type 0
-AreBelow tree path = (q : List (List ℕ)) (node : Node) → is_at_or_below path q ≡ true → node_at tree q ≡ Some node → AreProps node.props
+abbrev pub AreBelow : Content → Segments → Type 0
+AreBelow tree path = (q : Segments) (node : Node) → is_at_or_below path q ≡ true → node_at tree q ≡ Some node → AreProps node.props
 
 -- and at or below one of these kids
-abbrev pub AreBelowKids : Content → List (List ℕ) → List (List ℕ) → Type 0
+abbrev pub AreBelowKids : Content → Segments → List Text → Type 0
 AreBelowKids tree path names = (name : List ℕ) → list_any (bytes_eq name) names ≡ true → AreBelow tree (kid path name)

@@ -1,5 +1,6 @@
 -- The way from the top of content to a path, a member at each step.
-use Rattle.std.specs.Prelude.{◌≡◌, take, ℕ, List, [], ◌∷◌, Option, Some, None, if◌then◌else◌, option_and_then, option_map}
+use Rattle.std.specs.Prelude.{◌≡◌, take, [], ◌∷◌, Option, Some, None, if◌then◌else◌, option_and_then, option_map}
+use Rattle.sp_base.specs.Texts.{Segments}
 use Rattle.serde_json.specs.Data.{Data}
 use Rattle.serde_json.specs.Find.{get, as_object}
 use Rattle.sp_base.specs.Paths.{most_segments}
@@ -10,7 +11,7 @@ use Rattle.content_json.specs.Faults.{own_cause}
 use Rattle.content_json.specs.Nodes.{node_of_members}
 
 -- the value that members of these names lead to, none of them `:order`
-abbrev pub way_end : List (List ℕ) → Data → Option Data
+abbrev pub way_end : Segments → Data → Option Data
 way_end [] d = Some d
 way_end (name ∷ way) d = if is_order name then None else option_and_then (way_end way) (get name d)
 
@@ -20,7 +21,7 @@ node_of_value d = option_map node_of_members (as_object d)
 
 -- a fault of content is at the end of a way, of which its place is the first 64 names
 pub record IsPlaced (top : Data) (found : Found) : Type 0 where
-  pub way : List (List ℕ)
+  pub way : Segments
   pub value : Data
   pub at : way_end way top ≡ Some value
   pub place : found.place ≡ take most_segments way

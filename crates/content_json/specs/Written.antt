@@ -2,6 +2,8 @@
 use Rattle.std.specs.Prelude.{ℕ, zero, suc, ◌==◌, ◌&&◌, Bool, true, not, slice_index, List, [], ◌∷◌, length}
 use Rattle.std.specs.List.{list_all}
 use Rattle.std.specs.Option.{option_map_or}
+use Rattle.sp_base.specs.Texts.{Segments}
+use Rattle.sp_base.specs.Texts as texts
 use Rattle.json.specs.Json.{Json, string, array, object, Members, no_members, member}
 use Rattle.json.specs.Tree.{json_tokens}
 use Rattle.json.specs.Print.{print}
@@ -15,25 +17,25 @@ use Rattle.property_json.specs.PropertyJson.{items_of, members_before}
 use Rattle.content_json.specs.Names.{order_name}
 
 -- the properties of the node at a path
-abbrev pub props_at : Content → List (List ℕ) → List (List ℕ × Value)
+abbrev pub props_at : Content → Segments → List (List ℕ × Value)
 props_at tree path = option_map_or (λ node. node.props) (node_at tree path) []
 
 -- the member `:order` before further members: all kids in their order, where there are some
-abbrev pub order_before : List (List ℕ) → Members → Members
+abbrev pub order_before : List texts.Text → Members → Members
 order_before [] ms = ms
 order_before (name ∷ names) ms = member order_name (array (items_of string (name ∷ names))) ms
 
 -- kids as members, each by the same rule
-abbrev pub kids_json : (List ℕ → Json) → List (List ℕ) → Members
+abbrev pub kids_json : (List ℕ → Json) → List texts.Text → Members
 kids_json json [] = no_members
 kids_json json (name ∷ names) = member name (json name) (kids_json json names)
 
 -- the node at a path, before its kids as members
-abbrev pub node_before : Content → List (List ℕ) → Members → Json
+abbrev pub node_before : Content → Segments → Members → Json
 node_before tree path ms = object (members_before (props_at tree path) (order_before (kids_at tree path) ms))
 
 -- the node at a path, and n levels below it
-unfoldable pub node_json : Content → ℕ → List (List ℕ) → Json
+unfoldable pub node_json : Content → ℕ → Segments → Json
 node_json tree zero path = node_before tree path no_members
 node_json tree (suc levels) path = node_before tree path (kids_json (λ name. node_json tree levels (kid path name)) (kids_at tree path))
 

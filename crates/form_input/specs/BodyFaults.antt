@@ -1,6 +1,7 @@
 -- Why a multipart body is refused, as a whole (RFC 7578; RFC 2046, section 5.1.1): the relation of which a fault of `multipart_of` is the answer.
 use Rattle.std.specs.Prelude.{◌≡◌, ◌≤◌, ◌+◌, ◌⊎◌, ℕ, Bool, true, not, List, [], ◌∷◌, ◌++◌, Some, None, map, length}
 use Rattle.std.specs.List.{list_all}
+use Rattle.sp_base.specs.Texts.{Text}
 use Rattle.form_input.specs.declared.fault.FormFault.{FormFault}
 use Rattle.form_input.specs.declared.fault.FormFault.TheVariants.{WrongKind, NoBoundary, BadPart, TooMany, NoMemory}
 use Rattle.form_input.specs.Lines.{lines}
@@ -8,7 +9,7 @@ use Rattle.form_input.specs.Multipart.{dash_boundary, line_kind, is_plain_line, 
 use Rattle.form_input.specs.Bodies.{BodyPart, part_lines, are_plain, is_body_part}
 
 -- the bytes of lines, each with its line end
-unfoldable pub bytes_of_lines : List (List ℕ) → ℕ
+unfoldable pub bytes_of_lines : List Text → ℕ
 bytes_of_lines [] = 0
 bytes_of_lines (line ∷ more) = length line + 2 + bytes_of_lines more
 
@@ -17,8 +18,8 @@ abbrev pub is_boundary_line : List ℕ → List ℕ → Bool
 is_boundary_line dash line = not (is_plain_line (line_kind dash line))
 
 -- lines begin with a preamble and with parts that each have a pair; the others are left
-pub record BeginsWithPairs (boundary : List ℕ) (ls : List (List ℕ)) (pairs : List (List ℕ × List ℕ)) (left : List (List ℕ)) : Type 0 where
-  pub preamble : List (List ℕ)
+pub record BeginsWithPairs (boundary : List ℕ) (ls : List Text) (pairs : List (List ℕ × List ℕ)) (left : List Text) : Type 0 where
+  pub preamble : List Text
   pub parts : List BodyPart
   pub spells : ls ≡ preamble ++ (part_lines parts ++ left)
   pub before : are_plain (dash_boundary boundary) preamble ≡ true
@@ -42,7 +43,7 @@ pub record HasBadPart (boundary body : List ℕ) (place : ℕ) : Type 0 where
   pub pairs : List (List ℕ × List ℕ)
   pub bad : BodyPart
   pub next : List ℕ
-  pub more : List (List ℕ)
+  pub more : List Text
   pub begins : BeginsWithPairs boundary (lines body) pairs (bad.line ∷ (bad.content ++ next ∷ more))
   pub few : length pairs ≤ most_pairs
   pub opened : is_body_part (dash_boundary boundary) bad ≡ true
@@ -54,7 +55,7 @@ pub record HasBadPart (boundary body : List ℕ) (place : ℕ) : Type 0 where
 pub record HasTooMany (boundary body : List ℕ) : Type 0 where
   pub pairs : List (List ℕ × List ℕ)
   pub next : List ℕ
-  pub more : List (List ℕ)
+  pub more : List Text
   pub begins : BeginsWithPairs boundary (lines body) pairs (next ∷ more)
   pub ended : is_boundary_line (dash_boundary boundary) next ≡ true
   pub many : length pairs ≡ most_pairs + 1

@@ -1,5 +1,6 @@
 -- What the search for boundary lines promises; a reader of the definition of a form needs none of it.
 use Rattle.std.specs.Prelude.{◌≡◌, ◌⊎◌, ◌-◌, ◌++◌, ℕ, List, [], ◌∷◌, Option, Some, None, nat_lt, if◌then◌else◌, length, take, option_copied}
+use Rattle.sp_base.specs.Texts.{Text}
 use Rattle.form_input.specs.declared.boundary.BoundaryLine.{BoundaryLine}
 use Rattle.form_input.specs.Lines.{lines, lines_left}
 use Rattle.form_input.specs.Multipart.{Section, Sections, sections}
@@ -10,17 +11,17 @@ sections_left dash end None = sections dash end []
 sections_left dash end (Some text) = sections dash (end - length text) (lines text)
 
 -- lines before the others
-abbrev pub with_lines : List (List ℕ) → Sections → Sections
+abbrev pub with_lines : List Text → Sections → Sections
 with_lines done s = record { before = done ++ s.before; later = s.later }
 
 -- these bytes are these lines, each ended
-abbrev pub IsEnded : List ℕ → List (List ℕ) → Type 0
+abbrev pub IsEnded : List ℕ → List Text → Type 0
 IsEnded prefix done = ((prefix ≡ []) × (done ≡ [])) ⊎ ((text : List ℕ) × (prefix ≡ text ++ 13 ∷ 10 ∷ []) × (done ≡ lines text))
 
 -- a part of what is left was read
 pub record IsPassed (dash : List ℕ) (end : ℕ) (whole rest : List ℕ) : Type 0 where
   pub prefix : List ℕ
-  pub done : List (List ℕ)
+  pub done : List Text
   pub parts : whole ≡ prefix ++ rest
   pub ended : IsEnded prefix done
   pub same : sections_left dash end (Some whole) ≡ with_lines done (sections_left dash end (Some rest))

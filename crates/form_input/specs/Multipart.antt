@@ -2,6 +2,7 @@
 use Rattle.std.specs.Prelude.{◌==◌, ◌&&◌, ◌+◌, ℕ, Bool, false, true, if◌then◌else◌, List, [], ◌∷◌, ◌++◌, Option, Some, None, Result, Ok, Err, codes, length, drop, take}
 use Rattle.std.specs.List.{list_all}
 use Rattle.std.specs.Str.{bytes_eq, is_utf8}
+use Rattle.sp_base.specs.Texts.{Text}
 use Rattle.form_input.specs.declared.fault.FormFault.{FormFault}
 use Rattle.form_input.specs.declared.fault.FormFault.TheVariants.{BadPart, TooMany}
 use Rattle.form_input.specs.declared.boundary.LineKind.{LineKind}
@@ -37,11 +38,11 @@ is_closing_line Plain = false
 pub record Section : Type 0 where
   pub place : ℕ
   pub closing : Bool
-  pub content : List (List ℕ)
+  pub content : List Text
 
 -- lines: those before the first boundary line, and a section for each boundary line
 pub record Sections : Type 0 where
-  pub before : List (List ℕ)
+  pub before : List Text
   pub later : List Section
 
 -- a line at a place before sections
@@ -50,7 +51,7 @@ with_line kind at line s = if is_plain_line kind then record { before = line ∷
     else record { before = []; later = record { place = at; closing = is_closing_line kind; content = s.before } ∷ s.later }
 
 -- the sections of lines, of which the first begins at this place of the body; a line takes its bytes and CR LF
-unfoldable pub sections : List ℕ → ℕ → List (List ℕ) → Sections
+unfoldable pub sections : List ℕ → ℕ → List Text → Sections
 sections dash at [] = record { before = []; later = [] }
 sections dash at (line ∷ more) = with_line (line_kind dash line) at line (sections dash (at + length line + 2) more)
 
@@ -60,17 +61,17 @@ first_some None other = other
 first_some (Some text) other = Some text
 
 -- the first Content-Disposition of a part: its head is what stands before the first empty line
-unfoldable pub disposition_in : List (List ℕ) → Option (List ℕ)
+unfoldable pub disposition_in : List Text → Option (List ℕ)
 disposition_in [] = None
 disposition_in (line ∷ more) = if length line == 0 then None else first_some (after_name 58 (codes "content-disposition") line) (disposition_in more)
 
 -- the text of lines, where there is one at least
-abbrev pub text_of_some : List (List ℕ) → Option (List ℕ)
+abbrev pub text_of_some : List Text → Option (List ℕ)
 text_of_some [] = None
 text_of_some (line ∷ more) = Some (lines_text (line ∷ more))
 
 -- the body of a part: what follows the first empty line
-unfoldable pub value_in : List (List ℕ) → Option (List ℕ)
+unfoldable pub value_in : List Text → Option (List ℕ)
 value_in [] = None
 value_in (line ∷ more) = if length line == 0 then text_of_some more else value_in more
 
@@ -91,7 +92,7 @@ both (Some name) None = None
 both (Some name) (Some value) = Some (name, value)
 
 -- the name and the value of a part, where it has a Content-Disposition of `form-data` with a name, and a body, both in UTF-8
-abbrev pub pair_of : List (List ℕ) → Option (List ℕ × List ℕ)
+abbrev pub pair_of : List Text → Option (List ℕ × List ℕ)
 pair_of content = both (part_name (disposition_in content)) (if_utf8 (value_in content))
 
 -- the most pairs of a form

@@ -3,6 +3,7 @@
 use Rattle.std.specs.Prelude.{◌==◌, ◌&&◌, ℕ, Bool, false, true, if◌then◌else◌, List, [], ◌∷◌, Option, Some, None, length, drop, take, slice_index, slice_index_or}
 use Rattle.std.specs.List.{list_all, onto_first}
 use Rattle.std.specs.Str.{str_eq_ignore_ascii_case}
+use Rattle.sp_base.specs.Texts.{Text}
 use Rattle.form_input.specs.declared.parameters.Quoting.{Quoting}
 use Rattle.form_input.specs.declared.parameters.Quoting.TheVariants.{Outside, Inside, Escaped}
 
@@ -37,12 +38,12 @@ separates Inside b = false
 separates Escaped b = false
 
 -- the pieces between the semicolons that stand outside quotes
-unfoldable pub parameter_pieces_from : Quoting → List ℕ → List (List ℕ)
+unfoldable pub parameter_pieces_from : Quoting → List ℕ → List Text
 parameter_pieces_from quoting [] = [] ∷ []
 parameter_pieces_from quoting (b ∷ text) = if separates quoting b then [] ∷ parameter_pieces_from Outside text else onto_first b (parameter_pieces_from (quoting_step quoting b) text)
 
 -- the pieces of a text between semicolons that stand outside quotes
-abbrev pub parameter_pieces : List ℕ → List (List ℕ)
+abbrev pub parameter_pieces : List ℕ → List Text
 parameter_pieces text = parameter_pieces_from Outside text
 
 -- whether the type, which is the first piece, is this word, without case
@@ -81,7 +82,7 @@ word_or None other = other
 word_or (Some text) other = parameter_word text
 
 -- the word of the first piece that has this name
-unfoldable pub parameter_word_in : List ℕ → List (List ℕ) → Option (List ℕ)
+unfoldable pub parameter_word_in : List ℕ → List Text → Option (List ℕ)
 parameter_word_in name [] = None
 parameter_word_in name (piece ∷ more) = word_or (after_name 61 name (after_blanks piece)) (parameter_word_in name more)
 
@@ -90,6 +91,6 @@ abbrev pub parameter : List ℕ → List ℕ → Option (List ℕ)
 parameter name text = parameter_word_in name (drop 1 (parameter_pieces text))
 
 -- the pieces of what is left of a text, where none or a text is left
-abbrev pub pieces_left : Option (List ℕ) → List (List ℕ)
+abbrev pub pieces_left : Option (List ℕ) → List Text
 pieces_left None = []
 pieces_left (Some text) = parameter_pieces text

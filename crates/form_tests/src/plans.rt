@@ -1,7 +1,7 @@
 //! The faults of a form in their order. The program answers each of them 400.
 use crate::forms::form;
 use form_input::Form;
-use post_plan::{Op, PlanFault, plan};
+use post_plan::{Op, PlanFault, TargetEnding, plan};
 use sp_base::Path;
 use std::alloc::Global;
 
@@ -24,7 +24,8 @@ fn is_named(planned: &Result<Op<'_>, PlanFault>, wanted: &str) -> bool {
 }
 
 fn is_refused_at(alloc: Global, target: &Path, form: &Form, wanted: &str) -> bool {
-    is_named(&plan(alloc, target, false, form), wanted)
+    let ending = TargetEnding { star: false };
+    is_named(&plan(alloc, target, ending, form), wanted)
 }
 
 fn is_refused(alloc: Global, form: &Form, wanted: &str) -> bool {

@@ -2,7 +2,7 @@
 use crate::forms::form;
 use form_input::Form;
 use post_apply::{ApplyFault, PostReport, apply};
-use post_plan::plan;
+use post_plan::{TargetEnding, plan};
 use resource_tree::Tree;
 use sp_base::{Path, Value, ValueFault};
 use std::alloc::Global;
@@ -16,7 +16,8 @@ fn post(
     target: &Path,
     form: &Form,
 ) -> Result<PostReport, ApplyFault> {
-    match &plan(alloc, target, false, form) {
+    let ending = TargetEnding { star: false };
+    match &plan(alloc, target, ending, form) {
         Ok(op) => apply(alloc, tree, op),
         Err(_) => Err(ApplyFault::NoMemory),
     }

@@ -1,6 +1,7 @@
 -- What the laws of JSON texts speak of: the objects in a JSON value, and resources whose numbers are of 64 bits.
-use Rattle.std.specs.Prelude.{◌≡◌, ◌+◌, ℕ, true, List, Some}
+use Rattle.std.specs.Prelude.{◌≡◌, ◌+◌, ℕ, true, Some}
 use Rattle.std.specs.List.{list_all}
+use Rattle.sp_base.specs.Texts.{Segments}
 use Rattle.json.specs.Json.{Json, null, boolean, number, string, array, object, Items, no_items, item, Members, no_members, member}
 use Rattle.resource_tree.specs.Seen.{Resource, Seen}
 use Rattle.property_json.specs.PropertyJson.{has_longs}
@@ -29,4 +30,4 @@ HasLongs res = list_all (λ p. has_longs p.1) res.props ≡ true
 
 -- so it is at each resource that is seen
 abbrev pub HaveLongs : Seen → Type 0
-HaveLongs seen = (path : List (List ℕ)) (res : Resource) → seen path ≡ Some res → HasLongs res
+HaveLongs seen = (path : Segments) (res : Resource) → seen path ≡ Some res → HasLongs res

@@ -3,6 +3,7 @@ use Rattle.std.specs.Prelude.{◌+◌, ◌∷◌, ℕ, Bool, zero, suc, nat_eq, 
 use Rattle.std.specs.List.{list_any}
 use Rattle.std.specs.Cmp.Lexicographic.{pointwise}
 use Rattle.std.specs.FinMap.Entries.{find}
+use Rattle.sp_base.specs.Texts.{Segments, Text}
 use Rattle.json.specs.Json.{Json, object, Members, no_members, member}
 use Rattle.json.specs.Tree.{json_tokens}
 use Rattle.json.specs.Print.{print}
@@ -14,11 +15,11 @@ use Rattle.property_json.specs.PropertyJson.{members_before}
 use Rattle.get_servlet.specs.declared.kids.Kid.{Kid}
 
 -- a resource and the path that it is seen at
-abbrev pub make_kid : List (List ℕ) → Resource → Kid
+abbrev pub make_kid : Segments → Resource → Kid
 make_kid path res = record { path = path; res = res }
 
 -- the resource that is seen at a path, where there is such a path
-abbrev pub kid_seen : Seen → Result (List (List ℕ)) PathFault → Option Kid
+abbrev pub kid_seen : Seen → Result Segments PathFault → Option Kid
 kid_seen seen (Err fault) = None
 kid_seen seen (Ok path) = option_map (make_kid path) (seen path)
 
@@ -27,25 +28,25 @@ abbrev pub lists_kid : Resource → List ℕ → Bool
 lists_kid res name = list_any (pointwise nat_eq name) res.kids
 
 -- the resource that is seen under a name, below a path
-unfoldable pub kid_of_name : Seen → List (List ℕ) → List ℕ → Option Kid
+unfoldable pub kid_of_name : Seen → Segments → List ℕ → Option Kid
 kid_of_name seen path name = kid_seen seen (child_of path name)
 
 -- the kid that a resource shows under a name: none where a property has the name
-unfoldable pub shown_kid : Seen → List (List ℕ) → Resource → List ℕ → Option Kid
+unfoldable pub shown_kid : Seen → Segments → Resource → List ℕ → Option Kid
 shown_kid seen path res name = if is_some (find by_name name res.props) then None else kid_of_name seen path name
 
 -- a kid as a member, before further members
-abbrev pub kid_before : List ℕ → (List (List ℕ) → Resource → Json) → Option Kid → Members → Members
+abbrev pub kid_before : List ℕ → (Segments → Resource → Json) → Option Kid → Members → Members
 kid_before name json None ms = ms
 kid_before name json (Some kid) ms = member name (json kid.path kid.res) ms
 
 -- the kids of these names as members
-abbrev pub members_of_kids : (List ℕ → Option Kid) → (List (List ℕ) → Resource → Json) → List (List ℕ) → Members
+abbrev pub members_of_kids : (List ℕ → Option Kid) → (Segments → Resource → Json) → List Text → Members
 members_of_kids kid json [] = no_members
 members_of_kids kid json (name ∷ names) = kid_before name json (kid name) (members_of_kids kid json names)
 
 -- a resource, by the path that it is seen at, and n levels below it
-unfoldable pub resource_json : Seen → ℕ → List (List ℕ) → Resource → Json
+unfoldable pub resource_json : Seen → ℕ → Segments → Resource → Json
 resource_json seen zero path res = object (members_before res.props no_members)
 resource_json seen (suc depth) path res = object (members_before res.props (members_of_kids (shown_kid seen path res) (resource_json seen depth) res.kids))
 
@@ -54,12 +55,12 @@ unfoldable pub json_text : Seen → ℕ → Resource → List ℕ
 json_text seen depth res = print (json_tokens (resource_json seen depth res.path res))
 
 -- a count for a kid, 0 where there is none
-abbrev pub kid_count : (List (List ℕ) → Resource → ℕ) → Option Kid → ℕ
+abbrev pub kid_count : (Segments → Resource → ℕ) → Option Kid → ℕ
 kid_count count None = 0
 kid_count count (Some kid) = count kid.path kid.res
 
 -- how many resources that shows, the first included
-unfoldable pub shown_at : Seen → ℕ → List (List ℕ) → Resource → ℕ
+unfoldable pub shown_at : Seen → ℕ → Segments → Resource → ℕ
 shown_at seen zero path res = 1
 shown_at seen (suc depth) path res = 1 + sum_by (λ name. kid_count (shown_at seen depth) (shown_kid seen path res name)) res.kids
 

@@ -1,5 +1,6 @@
 -- What the writer and the counter do step by step. Only private functions and proofs cite this.
 use Rattle.std.specs.Prelude.{◌≡◌, ◌+◌, ◌<◌, ◌≤◌, ◌||◌, ◌∷◌, ℕ, Bool, true, false, zero, suc, nat_le, if◌then◌else◌, List, [], Option, Some, None, flat_map, length, sum_by}
+use Rattle.sp_base.specs.Texts.{Segments, Text}
 use Rattle.json.specs.Json.{Json}
 use Rattle.json.specs.Token.{Token}
 use Rattle.json.specs.Tree.{json_tokens}
@@ -13,16 +14,16 @@ use Rattle.get_servlet.specs.Rendering.{most_resources, shown_kid, resource_json
 -- ---- writing
 
 -- the tokens of a kid as a member
-abbrev pub kid_member_tokens : List ℕ → (List (List ℕ) → Resource → Json) → Option Kid → List Token
+abbrev pub kid_member_tokens : List ℕ → (Segments → Resource → Json) → Option Kid → List Token
 kid_member_tokens name json None = []
 kid_member_tokens name json (Some kid) = Token.key name ∷ json_tokens (json kid.path kid.res)
 
 -- the tokens of the kids of these names
-unfoldable pub kids_tokens : Seen → ℕ → List (List ℕ) → Resource → List (List ℕ) → List Token
+unfoldable pub kids_tokens : Seen → ℕ → Segments → Resource → List Text → List Token
 kids_tokens seen depth path res names = flat_map (λ name. kid_member_tokens name (resource_json seen depth) (shown_kid seen path res name)) names
 
 -- the tokens of the kids of a resource, n levels of them
-unfoldable pub below_tokens : Seen → ℕ → List (List ℕ) → Resource → List Token
+unfoldable pub below_tokens : Seen → ℕ → Segments → Resource → List Token
 below_tokens seen zero path res = []
 below_tokens seen (suc depth) path res = kids_tokens seen depth path res res.kids
 
@@ -43,11 +44,11 @@ kid_list None = []
 kid_list (Some kid) = kid ∷ []
 
 -- the kids that a resource shows under these names
-unfoldable pub kids_under : Seen → List (List ℕ) → Resource → List (List ℕ) → List Kid
+unfoldable pub kids_under : Seen → Segments → Resource → List Text → List Kid
 kids_under seen path res names = flat_map (λ name. kid_list (shown_kid seen path res name)) names
 
 -- the kids that a resource shows
-abbrev pub shown_kids : Seen → List (List ℕ) → Resource → List Kid
+abbrev pub shown_kids : Seen → Segments → Resource → List Kid
 shown_kids seen path res = kids_under seen path res res.kids
 
 -- the kids of the kids of a level

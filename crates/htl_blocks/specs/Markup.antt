@@ -2,6 +2,7 @@
 use Rattle.std.specs.Prelude.{ℕ, zero, suc, ◌+◌, ◌-◌, Bool, false, not, nat_le, ◌||◌, ◌&&◌, ◌==◌, if◌then◌else◌, List, [], ◌∷◌, length, take, drop, codes, slice_index, Option, Some, None, is_none}
 use Rattle.std.specs.List.{position_or_len}
 use Rattle.std.specs.Str.{str_eq_ignore_ascii_case}
+use Rattle.sp_base.specs.Texts.{Text}
 use Rattle.sp_base.specs.Bytes.{begins_with_byte, is_digit}
 use Rattle.htl_syntax.specs.Tokens.{begins, is_letter, is_blank, is_quote}
 use Rattle.htl_blocks.specs.declared.byte_run.ByteRun.{ByteRun}
@@ -89,13 +90,13 @@ unfoldable pub part_len : List ℕ → ℕ
 part_len t = if begins_tag t then tag_len t else (if begins_end_tag t then name_len (drop 2 t) + 3 else 1)
 
 -- the parts of a text after the first `skip` bytes, which belong to the part before
-unfoldable pub parts_after : ℕ → List ℕ → List (List ℕ)
+unfoldable pub parts_after : ℕ → List ℕ → List Text
 parts_after skip [] = []
 parts_after (suc skip) (c ∷ t) = parts_after skip t
 parts_after zero (c ∷ t) = take (part_len (c ∷ t)) (c ∷ t) ∷ parts_after (part_len (c ∷ t) - 1) t
 
 -- a text as its tags and end tags, each as a whole, and the bytes between them, each alone
-abbrev pub parts : List ℕ → List (List ℕ)
+abbrev pub parts : List ℕ → List Text
 parts t = parts_after 0 t
 
 -- the elements that never have content
@@ -126,7 +127,7 @@ waiting_after name waiting part = if closes name part then waiting - 1 else (if 
 
 -- How many bytes stand before the end tag that closes an element of this name: the first that closes none of the tags of this name between.
 -- So many of them are waiting, and n bytes are passed.
-unfoldable pub inside_len : List ℕ → ℕ → ℕ → List (List ℕ) → Option ℕ
+unfoldable pub inside_len : List ℕ → ℕ → ℕ → List Text → Option ℕ
 inside_len name waiting n [] = None
 inside_len name waiting n (part ∷ more) =
     if waiting == 0 && closes name part then Some n else inside_len name (waiting_after name waiting part) (n + length part) more

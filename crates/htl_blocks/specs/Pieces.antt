@@ -1,6 +1,7 @@
 -- A list of pieces, as it stands for parts.
 use Rattle.std.specs.Prelude.{ℕ, Bool, true, false, List, [], ◌∷◌, ◌++◌, length, Option, Some, None}
 use Rattle.std.specs.List.{count_by, flat_map, fold, slice_index_or, sum_by}
+use Rattle.sp_base.specs.Texts.{Text}
 use Rattle.htl_expr.specs.Bindings.{Bindings}
 use Rattle.htl_expr.specs.Value.{list_in}
 use Rattle.htl_blocks.specs.declared.piece.Round.{Round}
@@ -11,7 +12,7 @@ use Rattle.htl_blocks.specs.Parts as part
 use Rattle.htl_blocks.specs.Written.{statement_value, with_variable}
 
 -- the items of a list; what is no list has none
-abbrev pub items_in : Option (List (List ℕ)) → List (List ℕ)
+abbrev pub items_in : Option (List Text) → List Text
 items_in None = []
 items_in (Some items) = items
 

@@ -1,5 +1,6 @@
 -- A script read as blocks, from left to right (HTML Template Language specification 1.4, "Block Statements"). `start_fault` is needed by a private function alone.
 use Rattle.std.specs.Prelude.{ℕ, zero, suc, ◌+◌, ◌-◌, ◌==◌, if◌then◌else◌, List, [], ◌∷◌, ◌++◌, length, take, drop, Option, Some, None, Result, Ok, Err}
+use Rattle.sp_base.specs.Texts.{Text}
 use Rattle.htl_text.specs.declared.piece.TemplatePiece.{TemplatePiece}
 use Rattle.htl_text.specs.declared.fault.TextFault.{TextFault}
 use Rattle.htl_text.specs.declared.fault.TextFault.TheVariants as text
@@ -25,7 +26,7 @@ abbrev pub ◌then◌ : {A B : Type 0} → Result A BlockFault → (A → Result
 (Err e) then f = Err e
 
 -- how many bytes stand before the first block tag
-unfoldable pub run_len : List (List ℕ) → ℕ
+unfoldable pub run_len : List Text → ℕ
 run_len [] = 0
 run_len (part ∷ more) = if is_block_tag part then 0 else length part + run_len more
 

@@ -2,6 +2,7 @@
 -- (HTML Template Language specification 1.4, "Block Statements").
 use Rattle.std.specs.Prelude.{◌⊎◌, ◌≡◌, ◌≤◌, ◌<◌, ℕ, zero, suc, ◌+◌, true, false, List, [], ◌∷◌, ◌++◌, length, Some, None, Ok, Err}
 use Rattle.std.specs.List.{flat_map}
+use Rattle.sp_base.specs.Texts.{Text}
 use Rattle.htl_text.specs.declared.piece.TemplatePiece.{TemplatePiece}
 use Rattle.htl_text.specs.declared.fault.TextFault.{TextFault}
 use Rattle.htl_text.specs.declared.fault.TextFault.TheVariants as text_fault
@@ -17,28 +18,28 @@ use Rattle.htl_blocks.specs.Reading.{told_at}
 use Rattle.htl_blocks.specs.Laws.{HasNoBlock, Balanced, bytes_of}
 
 -- the text that parts are together
-abbrev pub text_of : List (List ℕ) → List ℕ
+abbrev pub text_of : List Text → List ℕ
 text_of ps = flat_map (λ (p : List ℕ). p) ps
 
 -- the first block tag of a text, with the parts before it and those after it
 pub record FirstTag (t : List ℕ) : Type 0 where
-  pub before : List (List ℕ)
+  pub before : List Text
   pub tag : List ℕ
-  pub rest : List (List ℕ)
+  pub rest : List Text
   pub split : parts t ≡ before ++ tag ∷ rest
   pub plain : HasNoBlock before
   pub block : is_block_tag tag ≡ true
 
 -- what follows a tag, as its content, its end tag and the parts after the element; an element without content has no end tag
-pub data Closed (tag : List ℕ) : List (List ℕ) → List (List ℕ) → List ℕ → List (List ℕ) → Type 0 where
-  without_content : {after : List (List ℕ)} → has_no_content tag ≡ true → Closed tag after [] [] after
-  by_end_tag : {inner after : List (List ℕ)} {end_tag : List ℕ} → has_no_content tag ≡ false → Balanced (tag_name tag) inner → closes (tag_name tag) end_tag ≡ true → Closed tag (inner ++ end_tag ∷ after) inner end_tag after
+pub data Closed (tag : List ℕ) : List Text → List Text → List ℕ → List Text → Type 0 where
+  without_content : {after : List Text} → has_no_content tag ≡ true → Closed tag after [] [] after
+  by_end_tag : {inner after : List Text} {end_tag : List ℕ} → has_no_content tag ≡ false → Balanced (tag_name tag) inner → closes (tag_name tag) end_tag ≡ true → Closed tag (inner ++ end_tag ∷ after) inner end_tag after
 
 -- the element that a tag with its ">" begins, by the parts that follow the tag
-pub record Element (tag : List ℕ) (rest : List (List ℕ)) : Type 0 where
-  pub inner : List (List ℕ)
+pub record Element (tag : List ℕ) (rest : List Text) : Type 0 where
+  pub inner : List Text
   pub end_tag : List ℕ
-  pub after : List (List ℕ)
+  pub after : List Text
   pub ended : is_ended tag ≡ true
   pub closed : Closed tag rest inner end_tag after
 

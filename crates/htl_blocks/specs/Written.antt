@@ -1,6 +1,7 @@
 -- What the blocks of a script write for a resource and variables (HTML Template Language specification 1.4, "Block Statements").
 use Rattle.std.specs.Prelude.{ℕ, Bool, true, false, not, nat_lt, if◌then◌else◌, List, [], ◌∷◌, ◌++◌, length, Option, Some, None}
 use Rattle.std.specs.List.{flat_map}
+use Rattle.sp_base.specs.Texts.{Text}
 use Rattle.htl_expr.specs.Bindings.{Bindings, with_vars}
 use Rattle.htl_expr.specs.declared.out.Out.{Out}
 use Rattle.htl_expr.specs.declared.out.Out.TheVariants as out
@@ -68,7 +69,7 @@ abbrev pub round_parts : List ℕ → (Bindings → List Part) → Bindings → 
 round_parts name inside scope item = Round ∷ inside (with_variable scope name item)
 
 -- what stands in an element once for each item; without items the element is nothing
-abbrev pub repeated : List ℕ → (Bindings → List Part) → Bindings → Option (List (List ℕ)) → Option (List Part)
+abbrev pub repeated : List ℕ → (Bindings → List Part) → Bindings → Option (List Text) → Option (List Part)
 repeated name inside scope None = None
 repeated name inside scope (Some []) = None
 repeated name inside scope (Some (item ∷ items)) = Some (flat_map (round_parts name inside scope) (item ∷ items))

@@ -1,6 +1,7 @@
 -- What values that lend stand for. Only the invariant of `Evaluation`, proofs and private functions need this.
 use Rattle.std.specs.Prelude.{◌≡◌, ℕ, Bool, true, false, List, [], Option, None, Some, codes, map, option_map}
 use Rattle.std.specs.Fmt.{signed_decimal}
+use Rattle.sp_base.specs.Texts.{Text}
 use Rattle.htl_expr.specs.declared.out.Out.{Out}
 use Rattle.htl_expr.specs.declared.out.Out.TheVariants as out
 use Rattle.htl_expr.specs.declared.lent.Lent.{Lent, fold-Lent}
@@ -34,7 +35,7 @@ abbrev pub plain_item : Lent → List ℕ
 plain_item value = plain (codes ",") (out_of_lent value)
 
 -- the texts of a list
-abbrev pub listed_texts : Out → List (List ℕ)
+abbrev pub listed_texts : Out → List Text
 listed_texts (out.List texts) = texts
 listed_texts _ = []
 

@@ -2,6 +2,7 @@
 use Rattle.std.specs.Prelude.{◌≡◌, ◌<◌, ◌≤◌, ℕ, false, List, [], ◌∷◌, ◌++◌, codes, flat_map, length, get_or, map, nat_eq, take}
 use Rattle.std.specs.Fmt.{signed_decimal}
 use Rattle.std.specs.Cmp.Lexicographic.{pointwise}
+use Rattle.sp_base.specs.Texts.{Text}
 use Rattle.htl_expr.specs.declared.pieces.ItemPiece.{ItemPiece}
 use Rattle.htl_expr.specs.declared.pieces.ItemPiece.TheVariants as piece
 use Rattle.htl_expr.specs.Bindings.{Bindings}
@@ -15,11 +16,11 @@ item_piece_text scope (piece.Text text) = text.now
 item_piece_text scope (piece.Long n) = signed_decimal n
 
 -- the texts of pieces
-abbrev pub piece_texts : Bindings → List ItemPiece → List (List ℕ)
+abbrev pub piece_texts : Bindings → List ItemPiece → List Text
 piece_texts scope pieces = map (item_piece_text scope) pieces
 
 -- texts with a comma before each
-abbrev pub with_commas : List (List ℕ) → List ℕ
+abbrev pub with_commas : List Text → List ℕ
 with_commas texts = flat_map (λ next. codes "," ++ next) texts
 
 -- an item's text is put together of these pieces, of which there is one at least
@@ -27,15 +28,15 @@ abbrev pub AreItemPieces : Bindings → List ItemPiece → List ℕ → Type 0
 AreItemPieces scope pieces text = codes "," ++ text ≡ with_commas (piece_texts scope pieces)
 
 -- each text is put together of its pieces
-abbrev pub HavePieces : Bindings → List (List ItemPiece) → List (List ℕ) → Type 0
+abbrev pub HavePieces : Bindings → List (List ItemPiece) → List Text → Type 0
 HavePieces scope [] texts = texts ≡ []
 HavePieces scope (pieces ∷ items) [] = ⊥
 HavePieces scope (pieces ∷ items) (text ∷ texts) = AreItemPieces scope pieces text × HavePieces scope items texts
 
 -- the texts before this place are the same
-abbrev pub AgreeUpTo : List (List ℕ) → List (List ℕ) → ℕ → Type 0
+abbrev pub AgreeUpTo : List Text → List Text → ℕ → Type 0
 AgreeUpTo xs ys place = (place ≤ length xs) × (place ≤ length ys) × (take place xs ≡ take place ys)
 
 -- the texts at a place differ, where both have one there
-abbrev pub DifferAt : List (List ℕ) → List (List ℕ) → ℕ → Type 0
+abbrev pub DifferAt : List Text → List Text → ℕ → Type 0
 DifferAt xs ys place = place < length xs → place < length ys → pointwise nat_eq (get_or xs place []) (get_or ys place []) ≡ false

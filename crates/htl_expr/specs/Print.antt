@@ -2,6 +2,7 @@
 use Rattle.std.specs.Prelude.{◌≡◌, ℕ, suc, is_some, ◌==◌, ◌||◌, Bool, true, not, if◌then◌else◌, List, [], ◌∷◌, ◌++◌, Option, Some, None, codes, flat_map, unwrap_or}
 use Rattle.std.specs.List.{list_all}
 use Rattle.std.specs.Fmt.{signed_decimal}
+use Rattle.sp_base.specs.Texts.{Text}
 use Rattle.htl_expr.specs.declared.out.Out.{Out}
 use Rattle.htl_expr.specs.declared.out.Out.TheVariants as out
 use Rattle.htl_syntax.specs.declared.expression.Context.{Context}
@@ -12,7 +13,7 @@ abbrev pub truth_text : Bool → List ℕ
 truth_text b = if b then codes "true" else codes "false"
 
 -- texts with a join text between each two
-abbrev pub concatenation : List ℕ → List (List ℕ) → List ℕ
+abbrev pub concatenation : List ℕ → List Text → List ℕ
 concatenation join [] = []
 concatenation join (text ∷ texts) = text ++ flat_map (λ next. join ++ next) texts
 

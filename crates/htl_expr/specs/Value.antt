@@ -5,6 +5,7 @@ use Rattle.std.specs.FinMap.Entries.{find}
 use Rattle.std.specs.Map.{lookup}
 use Rattle.std.specs.Ordering.{int_eq}
 use Rattle.std.specs.Cmp.Lexicographic.{pointwise}
+use Rattle.sp_base.specs.Texts.{Text}
 use Rattle.sp_base.specs.Names.{by_name}
 use Rattle.sp_base.specs.declared.value.Value.{Value}
 use Rattle.sp_base.specs.declared.value.Value.TheVariants as stored
@@ -60,7 +61,7 @@ or_values a [] = a
 or_values a (b ∷ bs) = if is_true a then a else or_values b bs
 
 -- the items of a list literal as texts without escapes
-abbrev pub item_texts : List Out → List (List ℕ)
+abbrev pub item_texts : List Out → List Text
 item_texts items = map (plain (codes ",")) items
 
 -- a property: a text, a number, a truth, or a list with its items as texts
@@ -131,7 +132,7 @@ abbrev pub expr_value : Scope → Expression → Out
 expr_value scope e = value_or_nothing scope e.node
 
 -- the items of a list as texts; what is no list has none
-abbrev pub list_in : Out → Option (List (List ℕ))
+abbrev pub list_in : Out → Option (List Text)
 list_in (out.List texts) = Some texts
 list_in _ = None
 

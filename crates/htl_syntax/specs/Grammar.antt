@@ -1,5 +1,6 @@
 -- The grammar of an expression, line by line. A text is read from a token on, up to the next token (HTL specification 1.4, "Expression Language").
 use Rattle.std.specs.Prelude.{◌≡◌, ◌+◌, ◌*◌, ◌-◌, ℕ, ℤ, suc, Bool, true, false, List, [], ◌∷◌, ◌++◌, Option, Some, None, ◌==◌, codes}
+use Rattle.sp_base.specs.Texts as texts
 use Rattle.sp_base.specs.Bytes.{begins_with_byte, is_digit}
 use Rattle.htl_syntax.specs.declared.node.ExprNode.{ExprNode}
 use Rattle.htl_syntax.specs.declared.node.ExprNode.TheVariants as expr_node
@@ -103,9 +104,9 @@ pub data Access : ℕ → List ℕ → List ℕ → List ℕ → Type 0 where
   bracket : {depth : ℕ} {s r1 f r2 r : List ℕ} → Byte 91 s r1 → String r1 f r2 → Byte 93 r2 r → Access (suc depth) s f r
 
 -- one access after another
-pub data Accesses (depth : ℕ) : List ℕ → List (List ℕ) → List ℕ → Type 0 where
+pub data Accesses (depth : ℕ) : List ℕ → List texts.Text → List ℕ → Type 0 where
   none : {r : List ℕ} → Accesses depth r [] r
-  more : {s f r1 : List ℕ} {fs : List (List ℕ)} {r : List ℕ} → Access depth s f r1 → Accesses depth r1 fs r → Accesses depth s (f ∷ fs) r
+  more : {s f r1 : List ℕ} {fs : List texts.Text} {r : List ℕ} → Access depth s f r1 → Accesses depth r1 fs r → Accesses depth s (f ∷ fs) r
 
 -- what stands between two items
 pub data Separator : Type 0 where
@@ -148,7 +149,7 @@ mutual
     list : {depth : ℕ} {s r1 r2 r : List ℕ} {e : ExprNode} → Byte 91 s r1 → Reads Items depth r1 e r2 → Byte 93 r2 r → Reads Start (suc depth) s e r
     no_items : {depth : ℕ} {r : List ℕ} → Reads Items depth r (expr_node.List []) r
     items : {depth : ℕ} {s r1 r : List ℕ} {e : ExprNode} {es : List ExprNode} → Reads Choice depth s e r1 → More Comma depth r1 es r → Reads Items depth s (expr_node.List (e ∷ es)) r
-    atom : {depth : ℕ} {s r1 r : List ℕ} {e : ExprNode} {fs : List (List ℕ)} → Reads Start depth s e r1 → Accesses depth r1 fs r → Reads Atom depth s (access_of e fs) r
+    atom : {depth : ℕ} {s r1 r : List ℕ} {e : ExprNode} {fs : List texts.Text} → Reads Start depth s e r1 → Accesses depth r1 fs r → Reads Atom depth s (access_of e fs) r
     not : {depth : ℕ} {s r1 r : List ℕ} {e : ExprNode} → Byte 33 s r1 → Reads Operand depth r1 e r → Reads Operand (suc depth) s (expr_node.Not e) r
     bare : {depth : ℕ} {s r : List ℕ} {e : ExprNode} → Reads Atom depth s e r → Reads Operand depth s e r
     compare : {depth : ℕ} {s r1 r2 r : List ℕ} {a b : ExprNode} {op : Comparison} → Reads Operand depth s a r1 → Compares r1 op r2 → Reads Operand depth r2 b r → Reads Compare depth s (expr_node.Compare op a b) r

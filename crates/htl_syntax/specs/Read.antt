@@ -2,6 +2,7 @@
 -- "Faults").
 use Rattle.std.specs.Prelude.{ℕ, zero, suc, Bool, true, false, nat_eq, if◌then◌else◌, ◌==◌, ◌||◌, ◌&&◌, List, [], ◌∷◌, ◌++◌, length, drop, Option, Some, None, is_none, Result, Ok, Err, codes, slice_index}
 use Rattle.std.specs.Cmp.Lexicographic.{pointwise}
+use Rattle.sp_base.specs.Texts as texts
 use Rattle.sp_base.specs.Bytes.{begins_with_byte, is_digit}
 use Rattle.htl_syntax.specs.declared.stop.ExprStop.{ExprStop}
 use Rattle.htl_syntax.specs.declared.stop.ExprStop.TheVariants.{Unexpected, TooDeep}
@@ -18,7 +19,7 @@ use Rattle.htl_syntax.specs.declared.reader.Nested.TheVariants.{Choice, Operand,
 use Rattle.htl_syntax.specs.Tokens.{Outcome, ◌>>=◌, blanks_skipped, begins, is_quote, read_name, expect, second, literal, string, signed_number}
 
 -- without accesses there is no node for them
-abbrev pub access_of : ExprNode → List (List ℕ) → ExprNode
+abbrev pub access_of : ExprNode → List texts.Text → ExprNode
 access_of e [] = e
 access_of e (f ∷ fs) = expr_node.Access e (f ∷ fs)
 
@@ -92,7 +93,7 @@ module _ (depth : ℕ) where
   unfoldable pub access : List ℕ → Outcome (List ℕ)
   access t = if begins_with_byte 46 t then read_name Field (blanks_skipped (drop 1 t)) else bracket_access t
 
-  unfoldable pub accesses : ℕ → List (List ℕ) → List ℕ → Outcome (List (List ℕ))
+  unfoldable pub accesses : ℕ → List texts.Text → List ℕ → Outcome (List texts.Text)
   accesses zero found t = Ok (found, t)
   accesses (suc k) found t = if access_at t then (access t >>= λ x. accesses k (found ++ x.0 ∷ []) x.1) else Ok (found, t)
 

@@ -9,3 +9,4 @@ pub mod ParserLemmas
 pub mod StartLemmas
 pub mod IntakeLemmas
 pub mod ValueLemmas
+pub mod SentLemmas

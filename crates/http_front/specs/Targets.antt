@@ -3,6 +3,7 @@ use Rattle.std.specs.Prelude.{◌+◌, ◌-◌, ◌==◌, ◌&&◌, ℕ, Bool, n
 use Rattle.std.specs.List.{before_first}
 use Rattle.std.specs.Option.{option_map}
 use Rattle.std.specs.Str.{is_utf8}
+use Rattle.sp_base.specs.Texts.{Segments}
 use Rattle.percent_encoding.specs.Percent.{percent_decode}
 use Rattle.sp_base.specs.Paths.{path_in, unmangled_segs}
 use Rattle.http_front.specs.declared.target.Target.{Target}
@@ -33,11 +34,11 @@ abbrev pub utf8_text : List ℕ → Option (List ℕ)
 utf8_text bytes = if is_utf8 bytes then Some bytes else None
 
 -- the path that decoded bytes spell, where they spell one
-abbrev pub path_of_bytes : List ℕ → Option (List (List ℕ))
+abbrev pub path_of_bytes : List ℕ → Option Segments
 path_of_bytes bytes = option_and_then (λ text. path_in (without_slash text)) (utf8_text bytes)
 
 -- a target with this path
-abbrev pub with_path : List ℕ → List (List ℕ) → Target
+abbrev pub with_path : List ℕ → Segments → Target
 with_path target path = record { path = unmangled_segs path; slash = ends_in_slash (path_bytes target); query = query_of target }
 
 -- the first byte is a slash, as it stands (RFC 9112, section 3.2.1: the origin form)

@@ -4,6 +4,7 @@ ghost use Rattle.std.specs.Fmt.{decimal};
 ghost use Rattle.sp_base.specs.Bytes.{is_printable_ascii};
 ghost use Rattle.http_front.specs.Answers as spec;
 
+use crate::sent_bytes::SentBytes;
 use error_answers::phrase_of;
 use location_field::location_of;
 use sp_base::{Answer, ByteBuf, Mark, Mem};
@@ -22,18 +23,16 @@ pub struct Framing {
 /// The bytes of an answer: without its body where only the head is asked for, and with `Connection: close` where the connection
 /// closes after it. A byte of the media type that isn't printable is written as a space, one of the location is escaped.
 #[tactic(auto, unfolding(crate::specs::Answers::answer_bytes))]
-pub fn answer_bytes(alloc: Global, framing: Framing, answer: &Answer) -> Mem<ByteBuf>
-    ensures { IfOk result (λ bytes. bytes ≡ spec.answer_bytes framing.head_only framing.close answer.now) }
+pub fn answer_bytes(alloc: Global, framing: Framing, answer: Answer) -> Mem<SentBytes>
+    ensures { IfOk result (λ bytes. bytes ≡ spec.answer_bytes framing.head_only framing.close answer) }
 {
     let Framing { head_only, close } = framing;
-    let content = content_of(head_only, answer);
-    let room = content.len().saturating_add(HEAD_ROOM);
-    let mut out = Vec::with_capacity(alloc, room)?;
-    push_status_line(alloc, &mut out, answer.status)?;
-    push_fields(alloc, &mut out, head_only, close, answer)?;
-    push(&mut out, b"\r\n")?;
-    push(&mut out, content)?;
-    Ok(ByteBuf::from(out))
+    let mut head = Vec::with_capacity(alloc, HEAD_ROOM)?;
+    push_status_line(alloc, &mut head, answer.status)?;
+    push_fields(alloc, &mut head, head_only, close, &answer)?;
+    push(&mut head, b"\r\n")?;
+    let content = content_of(alloc, head_only, answer);
+    Ok(SentBytes::of_parts(ByteBuf::from(head), content))
 }
 
 /// The answer that needs no memory: 507, after which the connection closes (RFC 4918, section 11.5).
@@ -50,13 +49,13 @@ pub fn interim_100() -> &'static [u8]
     b"HTTP/1.1 100 Continue\r\n\r\n"
 }
 
-fn content_of(head_only: bool, answer: &Answer) -> &[u8]
-    ensures { result.now ≡ spec.answer_content head_only answer.now }
+fn content_of(alloc: Global, head_only: bool, answer: Answer) -> ByteBuf
+    ensures { result ≡ spec.answer_content head_only answer }
 {
     if head_only || is_without_content(answer.status) {
-        b""
+        ByteBuf::from(Vec::new(alloc))
     } else {
-        answer.body.bytes()
+        answer.body
     }
 }
 

@@ -29,14 +29,14 @@ const PLAIN: Framing = Framing {
     close: false,
 };
 
-fn are_bytes(alloc: Global, answer: &Answer, wanted: &str) -> bool {
-    matches!(answer_bytes(alloc, PLAIN, answer), Ok(bytes) if bytes.bytes() == wanted.as_bytes())
+fn are_bytes(alloc: Global, answer: Answer, wanted: &str) -> bool {
+    matches!(answer_bytes(alloc, PLAIN, answer), Ok(bytes) if bytes.is(wanted.as_bytes()))
 }
 
 fn is_written(alloc: Global, row: &AnswerRow<'_>) -> bool {
     let (status, kind, mark, body, wanted) = *row;
     match answer_of(alloc, status, kind, "", mark, body) {
-        Ok(answer) => are_bytes(alloc, &answer, wanted),
+        Ok(answer) => are_bytes(alloc, answer, wanted),
         Err(_) => false,
     }
 }

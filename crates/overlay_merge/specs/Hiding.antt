@@ -4,6 +4,7 @@ use Rattle.std.specs.List.{list_any}
 use Rattle.std.specs.Option.{option_map_or}
 use Rattle.std.specs.Cmp.Lexicographic.{pointwise}
 use Rattle.std.specs.FinMap.Entries.{find}
+use Rattle.sp_base.specs.Texts.{Segments}
 use Rattle.sp_base.specs.Names.{by_name}
 use Rattle.sp_base.specs.Paths.{is_path}
 use Rattle.sp_base.specs.Properties.{value_texts}
@@ -43,11 +44,11 @@ abbrev pub hides_kid : List ℕ → List (List ℕ × Value) → Bool
 hides_kid name props = lists_name (find by_name (codes "sling:hideChildren") props) name
 
 -- whether the node at a path hides its resource
-abbrev pub hides_resource_at : Content → List (List ℕ) → Bool
+abbrev pub hides_resource_at : Content → Segments → Bool
 hides_resource_at tree path = option_map_or (λ node. hides_resource node.props) (node_at tree path) false
 
 -- whether the node at a path hides a kid
-abbrev pub hides_kid_at : Content → List (List ℕ) → List ℕ → Bool
+abbrev pub hides_kid_at : Content → Segments → List ℕ → Bool
 hides_kid_at tree path name = option_map_or (λ node. hides_kid name node.props) (node_at tree path) false
 
 -- ---- along a path
@@ -58,26 +59,26 @@ some_below zero p = false
 some_below (suc n) p = p n || some_below n p
 
 -- a path's first k segments are at most n steps above it
-abbrev pub is_within : ℕ → List (List ℕ) → ℕ → Bool
+abbrev pub is_within : ℕ → Segments → ℕ → Bool
 is_within n path k = nat_le (length path) (k + n)
 
 -- the node at the path or at most n steps above it hides its resource
-abbrev pub hides_resource_within : Content → ℕ → List (List ℕ) → Bool
+abbrev pub hides_resource_within : Content → ℕ → Segments → Bool
 hides_resource_within tree n path = some_below (length path + 1) (λ k. is_within n path k && hides_resource_at tree (take k path))
 
 -- a node above the path, at most n steps, hides the kid through which the path goes on
-abbrev pub hides_kid_within : Content → ℕ → List (List ℕ) → Bool
+abbrev pub hides_kid_within : Content → ℕ → Segments → Bool
 hides_kid_within tree n path = some_below (length path) (λ k. is_within n path k && hides_kid_at tree (take k path) (slice_index_or path k []))
 
 -- ---- between layers
 
 -- the layers above one, each with how many last segments it has in common with that one: the least of the steps between them
-abbrev pub in_common : ℕ → List Layer → List (ℕ × List (List ℕ))
+abbrev pub in_common : ℕ → List Layer → List (ℕ × Segments)
 in_common n [] = []
 in_common n (layer ∷ above) = (n, layer.path) ∷ in_common (min n layer.common) above
 
 -- a layer above has a node that hides its resource or the kid on the way, as far up as its last segments in common go
-abbrev pub is_hidden_by : Content → ℕ × List (List ℕ) → Bool
+abbrev pub is_hidden_by : Content → ℕ × Segments → Bool
 is_hidden_by tree upper = hides_resource_within tree upper.0 upper.1 || hides_kid_within tree upper.0 upper.1
 
 -- A layer is cut, below these layers: in itself or in one of these a node hides its resource, or in one of these a node hides the kid on the
@@ -100,5 +101,5 @@ shown_resources tree [] = []
 shown_resources tree (layer ∷ above) = shown_resource tree layer above ++ shown_resources tree above
 
 -- the resources that are merged at a path
-unfoldable pub merged_from : Content → List (List ℕ) → List Resource
+unfoldable pub merged_from : Content → Segments → List Resource
 merged_from tree path = if is_path path then shown_resources tree (layers_of tree path) else []

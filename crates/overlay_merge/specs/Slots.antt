@@ -4,6 +4,7 @@ use Rattle.std.specs.List.{AllByRecursion}
 use Rattle.std.specs.BTreeMap.{get_by}
 use Rattle.std.specs.Ordering.{nat_cmp}
 use Rattle.std.specs.Cmp.Lexicographic.{pointwise, slice_cmp}
+use Rattle.sp_base.specs.Texts.{Text}
 use Rattle.overlay_merge.specs.declared.order.KidMove.{KidMove}
 use Rattle.overlay_merge.specs.declared.slots.Slots.{Slots}
 use Rattle.overlay_merge.specs.Kids.{names_after_move}
@@ -19,11 +20,11 @@ is_slot None s = false
 is_slot (Some t) s = t == s
 
 -- the name in a slot, unless it stands in another by now
-abbrev pub slot_name : (ℕ → List ℕ) → (List ℕ → Option ℕ) → ℕ → List (List ℕ)
+abbrev pub slot_name : (ℕ → List ℕ) → (List ℕ → Option ℕ) → ℕ → List Text
 slot_name held slot s = if is_slot (slot (held s)) s then held s ∷ [] else []
 
 -- the names in slots, the last of which is named first
-abbrev pub names_in : (ℕ → List ℕ) → (List ℕ → Option ℕ) → List ℕ → List (List ℕ)
+abbrev pub names_in : (ℕ → List ℕ) → (List ℕ → Option ℕ) → List ℕ → List Text
 names_in held slot [] = []
 names_in held slot (s ∷ slots) = names_in held slot slots ++ slot_name held slot s
 
@@ -77,9 +78,9 @@ abbrev pub IsPutIn : Slots → Slots → ℕ → List ℕ → Type 0
 IsPutIn old new t name = IsPut (before_in old) (held_in old) (slot_in old) (before_in new) (held_in new) (slot_in new) (length old.held.items) t name
 
 -- the names in their order
-unfoldable pub names_of : Slots → List (List ℕ)
+unfoldable pub names_of : Slots → List Text
 names_of slots = names_in (held_in slots) (slot_in slots) (walk (before_in slots) (length slots.held.items) 0)
 
 -- names with moves made, one after the other
-abbrev pub names_after_moves : List KidMove → List (List ℕ) → List (List ℕ)
+abbrev pub names_after_moves : List KidMove → List Text → List Text
 names_after_moves moves names = fold (λ so_far (m : KidMove). names_after_move m.name.now (Some m.other.now) so_far) names moves

@@ -3,6 +3,7 @@
 use Rattle.std.specs.Prelude.{◌+◌, ◌-◌, ◌||◌, ◌≡◌, ℕ, zero, suc, Bool, false, nat_lt, min, if◌then◌else◌, List, [], ◌∷◌, ◌++◌, Some, is_some, length, slice_index_or, take}
 use Rattle.std.specs.List.{list_any}
 use Rattle.std.specs.Prelude.{All}
+use Rattle.sp_base.specs.Texts.{Segments}
 use Rattle.resource_tree.specs.Content.{Content, kid, node_at}
 use Rattle.resource_tree.specs.Seen.{Resource, res_at}
 use Rattle.overlay_merge.specs.declared.layers.Layer.{Layer}
@@ -16,15 +17,15 @@ last_below zero p = 0
 last_below (suc n) p = if p n then suc n else last_below n p
 
 -- one more than the depth of the deepest of the first n nodes along a path that hides its resource, and 0 where none does
-abbrev pub resource_depth : Content → List (List ℕ) → ℕ → ℕ
+abbrev pub resource_depth : Content → Segments → ℕ → ℕ
 resource_depth tree path n = last_below n (λ k. hides_resource_at tree (take k path))
 
 -- one more than the depth of the deepest of the first n nodes along a path that hides the next one, and 0 where none does
-abbrev pub kid_depth : Content → List (List ℕ) → ℕ → ℕ
+abbrev pub kid_depth : Content → Segments → ℕ → ℕ
 kid_depth tree path n = last_below n (λ k. hides_kid_at tree (take k path) (slice_index_or path k []))
 
 -- both along the whole path
-unfoldable pub hiding_depths : Content → List (List ℕ) → HidingDepths
+unfoldable pub hiding_depths : Content → Segments → HidingDepths
 hiding_depths tree path = record { depth = length path; resource = resource_depth tree path (length path + 1); kid = kid_depth tree path (length path) }
 
 -- a layer with the depths along its path

@@ -1,5 +1,6 @@
 -- What holds of every POST.
 use Rattle.std.specs.Prelude.{◌≡◌, ◌<◌, ◌^◌, ℕ, Bool, true, false, List, IsTrue, IfErr}
+use Rattle.sp_base.specs.Texts.{Segments}
 use Rattle.resource_tree.specs.declared.faults.TreeFault.{TreeFault}
 use Rattle.resource_tree.specs.declared.faults.TreeFault.TheVariants.{NoSuch, RootFixed, IntoItself, Exists, Taken, NoSibling, TooDeep, FullTree, NoMemory as NoMemoryOfTree}
 use Rattle.resource_tree.specs.Content.{Content, IsGood}
@@ -39,11 +40,11 @@ abbrev pub RefusalsHaveCauses : Type 0
 RefusalsHaveCauses = (op : Op) (tree : Content) → IfErr (post_outcome op tree) (λ fault. wants_memory fault ≡ false)
 
 -- what is made of a hint isn't taken; it is the hint where that isn't, and else has the least number with which it isn't
-pub record IsMadeName (tree : Content) (parent : List (List ℕ)) (hint made : List ℕ) : Type 0 where
+pub record IsMadeName (tree : Content) (parent : Segments) (hint made : List ℕ) : Type 0 where
   pub free : is_taken tree parent made ≡ false
   pub bare : is_taken tree parent hint ≡ false → made ≡ hint
   pub least : is_taken tree parent hint ≡ true → (n : ℕ) × (made ≡ numbered_name hint n) × ((m : ℕ) → m < n → is_taken tree parent (numbered_name hint m) ≡ true)
 
 -- in a good content a new node gets such a name, below a node with fewer than 2^64 kids and properties: no node in memory has more
 abbrev pub MadeNamesAreLeast : Type 0
-MadeNamesAreLeast = (tree : Content) (parent : List (List ℕ)) (hint : List ℕ) → IsGood tree → most_taken tree parent < 2 ^ 64 → IsMadeName tree parent hint (name_given tree parent (Hint hint))
+MadeNamesAreLeast = (tree : Content) (parent : Segments) (hint : List ℕ) → IsGood tree → most_taken tree parent < 2 ^ 64 → IsMadeName tree parent hint (name_given tree parent (Hint hint))

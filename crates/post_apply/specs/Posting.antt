@@ -1,5 +1,6 @@
 -- What a POST makes of the content, and what it answers (Apache Sling, "SlingPostServlet").
-use Rattle.std.specs.Prelude.{ℕ, Bool, true, false, List, Option, Some, None, Ok, Err, is_none}
+use Rattle.std.specs.Prelude.{Bool, true, false, Option, Some, None, Ok, Err, is_none}
+use Rattle.sp_base.specs.Texts.{Segments}
 use Rattle.sp_base.specs.Paths.{path_or_none}
 use Rattle.resource_tree.specs.declared.places.Place.{Place}
 use Rattle.resource_tree.specs.Content.{Content, kid, node_at}
@@ -22,7 +23,7 @@ pub record PostEffect : Type 0 where
   pub report : PostReport
 
 -- a content with the report of the node at a path, and whether it is new
-abbrev pub posted_with_report : Bool → List (List ℕ) → Content → PostEffect
+abbrev pub posted_with_report : Bool → Segments → Content → PostEffect
 posted_with_report created path content = record { content = content; report = record { created = created; path = path } }
 
 -- ---- a node is made or modified
@@ -30,26 +31,26 @@ posted_with_report created path content = record { content = content; report = r
 -- the node that a POST makes or modifies: a content in which the parent of a new one is there, and the path of the node
 pub record PostedNode : Type 0 where
   pub content : Content
-  pub node : List (List ℕ)
+  pub node : Segments
 
 -- a content and the path of the node
-abbrev pub posted_node : Content → List (List ℕ) → PostedNode
+abbrev pub posted_node : Content → Segments → PostedNode
 posted_node content node = record { content = content; node = node }
 
 -- a new node below a target, which is made with all above it first
-abbrev pub new_posted_node : List (List ℕ) → NameWish → Content → ApplyOutcome PostedNode
+abbrev pub new_posted_node : Segments → NameWish → Content → ApplyOutcome PostedNode
 new_posted_node target wish tree = do
   above ← with_way target tree
   path ← or_too_deep (path_or_none (kid target (name_given above target wish)))
   Ok (posted_node above path)
 
 -- the target itself, or a new node below it
-abbrev pub posted_node_of : List (List ℕ) → Option NameWish → Content → ApplyOutcome PostedNode
+abbrev pub posted_node_of : Segments → Option NameWish → Content → ApplyOutcome PostedNode
 posted_node_of target None tree = Ok (posted_node tree target)
 posted_node_of target (Some wish) tree = new_posted_node target wish tree
 
 -- the node in another place, where one is asked for
-abbrev pub content_placed : List (List ℕ) → Option Place → Content → ApplyOutcome Content
+abbrev pub content_placed : Segments → Option Place → Content → ApplyOutcome Content
 content_placed node None tree = Ok tree
 content_placed node (Some place) tree = changed_unless_fault (order_fault tree node place) (reordering tree node place)
 
@@ -74,7 +75,7 @@ modify op tree = posted_node_of op.target op.fresh tree >>= modify_at op
 -- ---- the operations
 
 -- the target, taken away
-abbrev pub remove : List (List ℕ) → Content → ApplyOutcome PostEffect
+abbrev pub remove : Segments → Content → ApplyOutcome PostEffect
 remove path tree = removal_outcome tree path >>= λ after. Ok (posted_with_report false path after)
 
 -- a copy, or a move

@@ -1,5 +1,7 @@
 -- Properties that a POST sets (Apache Sling, "SlingPostServlet", `@TypeHint`).
 use Rattle.std.specs.Prelude.{◌==◌, ◌∷◌, [], ℕ, List, Option, Some, None, Result, Ok, Err, length, if◌then◌else◌}
+use Rattle.sp_base.specs.Texts.{Segments}
+use Rattle.sp_base.specs.Texts as texts
 use Rattle.sp_base.specs.declared.hint.Hint.{Hint}
 use Rattle.sp_base.specs.declared.hint.ValueFault.{ValueFault}
 use Rattle.sp_base.specs.declared.value.Value.{Value}
@@ -13,13 +15,13 @@ use Rattle.post_apply.specs.declared.fault.ApplyFault.TheVariants.{Tree, Value a
 use Rattle.post_apply.specs.Steps.{ApplyOutcome, ◌>>=◌, path_of_spot, changed_unless_fault, with_way}
 
 -- without a hint one word is a text, and more are a list of texts
-abbrev pub untyped_value : List (List ℕ) → Value
+abbrev pub untyped_value : List texts.Text → Value
 untyped_value [] = Texts []
 untyped_value (word ∷ []) = Text word
 untyped_value (word ∷ next ∷ more) = Texts (word ∷ next ∷ more)
 
 -- the value that words have with a hint or without one
-abbrev pub hinted_value : Option Hint → List (List ℕ) → Result Value ValueFault
+abbrev pub hinted_value : Option Hint → List texts.Text → Result Value ValueFault
 hinted_value None words = Ok (untyped_value words)
 hinted_value (Some hint) words = typed_of hint words
 
@@ -29,16 +31,16 @@ named_outcome name (Ok value) = Ok value
 named_outcome name (Err fault) = Err (ValueOf name fault)
 
 -- a property of a node that is there; the root's path is no property's
-abbrev pub put_at : Content → List (List ℕ) → Value → ApplyOutcome Content
+abbrev pub put_at : Content → Segments → Value → ApplyOutcome Content
 put_at tree path value = if length path == 0 then Err (Tree (Taken path))
     else changed_unless_fault (set_fault tree (parent_of path) (name_of path)) (update tree (parent_of path) (name_of path) value)
 
 -- the same, with its node and all above it made where they aren't there
-abbrev pub put_on_way : Content → List (List ℕ) → Value → ApplyOutcome Content
+abbrev pub put_on_way : Content → Segments → Value → ApplyOutcome Content
 put_on_way tree path value = with_way (parent_of path) tree >>= λ t. put_at t path value
 
 -- the words of a property, set at its spot
-abbrev pub set_at : List (List ℕ) → Content → PropSet → ApplyOutcome Content
+abbrev pub set_at : Segments → Content → PropSet → ApplyOutcome Content
 set_at node tree set = do
   value ← named_outcome (name_of set.spot.path) (hinted_value set.hint set.words)
   path ← path_of_spot node set.spot

@@ -4,6 +4,7 @@ use Rattle.std.specs.Prelude.{◌==◌, ◌&&◌, ℕ, Bool, true, false, not, i
 use Rattle.std.specs.List.{cons_option, filter_map, list_any}
 use Rattle.std.specs.Str.{bytes_eq}
 use Rattle.std.specs.Cmp.Lexicographic.{pointwise}
+use Rattle.sp_base.specs.Texts.{Segments, Text}
 use Rattle.sp_base.specs.Bytes.{first_text}
 use Rattle.sp_base.specs.declared.hint.Hint.{Hint}
 use Rattle.post_plan.specs.declared.suffix.Suffix.{Suffix}
@@ -28,15 +29,15 @@ entry_by (Some spot) None word = None
 entry_by (Some spot) (Some suffix) word = Some (record { spot = spot; suffix = suffix; word = word })
 
 -- the entry of a parameter, seen from a node
-abbrev pub parameter_entry : List (List ℕ) → List ℕ × List ℕ → Option Entry
+abbrev pub parameter_entry : Segments → List ℕ × List ℕ → Option Entry
 parameter_entry node p = entry_by (spot_of node (path_text p.0)) (parameter_suffix p.0) p.1
 
 -- the entries of the content parameters, where `marked` says whether any name is marked
-abbrev pub entries_where : List (List ℕ) → Bool → List (List ℕ × List ℕ) → List Entry
+abbrev pub entries_where : Segments → Bool → List (List ℕ × List ℕ) → List Entry
 entries_where node marked pairs = filter_map (parameter_entry node) (content_where marked pairs)
 
 -- the content parameters of a form, seen from a node
-abbrev pub entries : List (List ℕ) → List (List ℕ × List ℕ) → List Entry
+abbrev pub entries : Segments → List (List ℕ × List ℕ) → List Entry
 entries node pairs = entries_where node (any_marked pairs) pairs
 
 -- whether two suffixes are the same
@@ -65,11 +66,11 @@ carry_by None to = None
 carry_by (Some from) to = Some (record { from = from; to = to })
 
 -- the move or the copy that a parameter asks for
-abbrev pub carry_of : List (List ℕ) → Entry → Option Carry
+abbrev pub carry_of : Segments → Entry → Option Carry
 carry_of node e = carry_by (spot_of node e.word) e.spot
 
 -- each `@MoveFrom`, or each `@CopyFrom`, in the order of the form
-abbrev pub carries : List (List ℕ) → Suffix → List Entry → List Carry
+abbrev pub carries : Segments → Suffix → List Entry → List Carry
 carries node suffix es = filter_map (carry_of node) (with_suffix suffix es)
 
 -- whether two truths are the same
@@ -91,11 +92,11 @@ abbrev pub is_of_spot : Spot → Suffix → Entry → Bool
 is_of_spot spot suffix e = same_suffix suffix e.suffix && same_spot spot e.spot
 
 -- the words of a spot's parameters with a suffix
-abbrev pub words_at : Spot → Suffix → List Entry → List (List ℕ)
+abbrev pub words_at : Spot → Suffix → List Entry → List Text
 words_at spot suffix es = map (λ e. e.word) (filter (is_of_spot spot suffix) es)
 
 -- its own words, or those of the parameter that `@ValueFrom` names
-abbrev pub words_or_source : Option (List ℕ) → List (List ℕ × List ℕ) → List (List ℕ) → List (List ℕ)
+abbrev pub words_or_source : Option (List ℕ) → List (List ℕ × List ℕ) → List Text → List Text
 words_or_source None pairs own = own
 words_or_source (Some name) pairs own = words_of name pairs
 
@@ -105,34 +106,34 @@ is_word_true None = false
 is_word_true (Some word) = bytes_eq word (codes "true")
 
 -- the words, without the empty ones where those are ignored
-abbrev pub without_blanks : Bool → List (List ℕ) → List (List ℕ)
+abbrev pub without_blanks : Bool → List Text → List Text
 without_blanks ignores words = if ignores then filter (λ word. not (length word == 0)) words else words
 
 -- the word of a property that is given one alone
-abbrev pub lone_word : List (List ℕ) → Option (List ℕ)
+abbrev pub lone_word : List Text → Option (List ℕ)
 lone_word [] = None
 lone_word (word ∷ []) = Some word
 lone_word (word ∷ next ∷ more) = None
 
 -- whether there is one word alone, which is empty
-abbrev pub is_one_blank : List (List ℕ) → Bool
+abbrev pub is_one_blank : List Text → Bool
 is_one_blank [] = false
 is_one_blank (word ∷ []) = length word == 0
 is_one_blank (word ∷ next ∷ more) = false
 
 -- one empty word that is left gives way to defaults
-abbrev pub words_or_defaults : List (List ℕ) → List (List ℕ) → List (List ℕ)
+abbrev pub words_or_defaults : List Text → List Text → List Text
 words_or_defaults [] words = words
 words_or_defaults (default ∷ more) words = if is_one_blank words then default ∷ more else words
 
 -- the words that a spot is set to
-abbrev pub set_words : List (List ℕ × List ℕ) → List Entry → Spot → List (List ℕ)
+abbrev pub set_words : List (List ℕ × List ℕ) → List Entry → Spot → List Text
 set_words pairs es spot = words_or_defaults (words_at spot DefaultValue es)
     (without_blanks (is_word_true (first_text (words_at spot IgnoreBlanks es)))
     (words_or_source (first_text (words_at spot ValueFrom es)) pairs (words_at spot Plain es)))
 
 -- what sets a spot to words, where there is one at least
-abbrev pub set_by : Spot → Option Hint → List (List ℕ) → Option PropSet
+abbrev pub set_by : Spot → Option Hint → List Text → Option PropSet
 set_by spot hint [] = None
 set_by spot hint (word ∷ more) = Some (record { spot = spot; hint = hint; words = word ∷ more })
 

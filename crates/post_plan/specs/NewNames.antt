@@ -2,6 +2,7 @@
 use Rattle.std.specs.Prelude.{◌==◌, ℕ, Bool, true, false, not, if◌then◌else◌, List, [], ◌∷◌, Option, Some, None, unwrap_or, codes, length, take}
 use Rattle.std.specs.List.{find}
 use Rattle.std.specs.Char.{is_ascii_alphanumeric, to_ascii_lowercase}
+use Rattle.sp_base.specs.Texts.{Text}
 use Rattle.post_plan.specs.declared.operation.NameWish.{NameWish}
 use Rattle.post_plan.specs.declared.operation.NameWish.TheVariants.{Exact, Hint}
 use Rattle.post_plan.specs.Parameters.{first_word, words_of}
@@ -25,7 +26,7 @@ abbrev pub made_name : List ℕ → List ℕ
 made_name word = or_node (take longest_made (name_bytes false word))
 
 -- the parameters whose words a name is made from
-abbrev pub sources : List (List ℕ)
+abbrev pub sources : List Text
 sources = codes "title" ∷ codes "jcr:title" ∷ codes "name" ∷ codes "description" ∷ codes "jcr:description" ∷ codes "abstract" ∷ codes "text" ∷ codes "jcr:text" ∷ []
 
 -- the first word of a name that isn't empty
@@ -33,7 +34,7 @@ abbrev pub full_word : List ℕ → List (List ℕ × List ℕ) → Option (List
 full_word name pairs = find (λ word. not (length word == 0)) (words_of name pairs)
 
 -- the first word, not empty, of the first of these names that has one
-unfoldable pub source_in : List (List ℕ) → List (List ℕ × List ℕ) → List ℕ
+unfoldable pub source_in : List Text → List (List ℕ × List ℕ) → List ℕ
 source_in [] pairs = []
 source_in (name ∷ names) pairs = unwrap_or (full_word name pairs) (source_in names pairs)
 

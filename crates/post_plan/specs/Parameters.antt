@@ -2,6 +2,7 @@
 use Rattle.std.specs.Prelude.{◌==◌, ◌&&◌, ◌||◌, ℕ, Bool, not, nat_eq, if◌then◌else◌, List, [], ◌∷◌, Option, Some, None, codes, map, filter}
 use Rattle.std.specs.List.{list_any, starts_with, before_last, after_last}
 use Rattle.std.specs.Str.{bytes_eq}
+use Rattle.sp_base.specs.Texts.{Text}
 use Rattle.post_plan.specs.declared.suffix.Suffix.{Suffix}
 use Rattle.post_plan.specs.declared.suffix.Suffix.TheVariants.{Plain, TypeHint, DefaultValue, Delete, MoveFrom, CopyFrom, ValueFrom, IgnoreBlanks}
 
@@ -11,7 +12,7 @@ first_word name [] = None
 first_word name (p ∷ more) = if bytes_eq p.0 name then Some p.1 else first_word name more
 
 -- all words of the parameters of this name
-abbrev pub words_of : List ℕ → List (List ℕ × List ℕ) → List (List ℕ)
+abbrev pub words_of : List ℕ → List (List ℕ × List ℕ) → List Text
 words_of name pairs = map (λ p. p.1) (filter (λ p. bytes_eq p.0 name) pairs)
 
 -- a parameter that steers the operation and is no content

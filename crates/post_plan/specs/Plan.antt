@@ -3,6 +3,7 @@ use Rattle.std.specs.Prelude.{◌==◌, ◌&&◌, ◌||◌, ◌^◌, ℕ, Bool, 
 use Rattle.std.specs.List.{starts_with}
 use Rattle.std.specs.Str.{bytes_eq, all_ascii_digits}
 use Rattle.std.specs.Str.Parse.{digits_value}
+use Rattle.sp_base.specs.Texts.{Segments}
 use Rattle.form_input.specs.Multipart.{first_some}
 use Rattle.sp_base.specs.Paths.{seg_ok, text_of}
 use Rattle.resource_tree.specs.declared.places.Place.{Place}
@@ -114,7 +115,7 @@ abbrev pub fresh_wish : Bool → List (List ℕ × List ℕ) → Option NameWish
 fresh_wish star pairs = if star && is_modify (verb_of pairs) then Some (wish_of pairs) else None
 
 -- the node that names are relative to: the target, or the new node under it
-abbrev pub relative_node : List (List ℕ) → Bool → List (List ℕ × List ℕ) → List (List ℕ)
+abbrev pub relative_node : Segments → Bool → List (List ℕ × List ℕ) → Segments
 relative_node target star pairs = under target (option_map wished_name (fresh_wish star pairs))
 
 -- whether the parameter's word names what is copied or moved
@@ -130,12 +131,12 @@ names_source (Some ValueFrom) = false
 names_source (Some IgnoreBlanks) = false
 
 -- the text of a content parameter that names nothing that may be changed: its name's path, else its source
-abbrev pub bad_entry : List (List ℕ) → List ℕ × List ℕ → Option (List ℕ)
+abbrev pub bad_entry : Segments → List ℕ × List ℕ → Option (List ℕ)
 bad_entry node p = if is_none (spot_of node (path_text p.0)) then Some (path_text p.0)
     else (if names_source (parameter_suffix p.0) && is_none (spot_of node p.1) then Some p.1 else None)
 
 -- the goal of a copy or a move is no path
-abbrev pub is_bad_dest : List (List ℕ) → List (List ℕ × List ℕ) → Bool
+abbrev pub is_bad_dest : Segments → List (List ℕ × List ℕ) → Bool
 is_bad_dest target pairs = carries_node (verb_of pairs) && is_none (goal_of target (dest_word pairs))
 
 -- the name of a new node is none that a path may have
@@ -144,7 +145,7 @@ is_bad_wish None = false
 is_bad_wish (Some wish) = not (seg_ok (wished_name wish))
 
 -- the same of any parameter; of control parameters `:dest` and `:name` count, each where it is bad
-abbrev pub bad_text : List (List ℕ) → Bool → Bool → Bool → List ℕ × List ℕ → Option (List ℕ)
+abbrev pub bad_text : Segments → Bool → Bool → Bool → List ℕ × List ℕ → Option (List ℕ)
 bad_text node bad_dest bad_name marked p = if bytes_eq p.0 (codes ":dest") then (if bad_dest then Some p.1 else None)
     else (if bytes_eq p.0 (codes ":name") then (if bad_name then Some p.1 else None) else (if is_content marked p.0 then bad_entry node p else None))
 
@@ -158,7 +159,7 @@ abbrev pub if_fault : Bool → PlanFault → Option PlanFault
 if_fault bad fault = if bad then Some fault else None
 
 -- the node itself stands first, then the parameters in their order
-abbrev pub path_fault : List (List ℕ) → Bool → List (List ℕ × List ℕ) → Option PlanFault
+abbrev pub path_fault : Segments → Bool → List (List ℕ × List ℕ) → Option PlanFault
 path_fault target star pairs = if is_merged_path (relative_node target star pairs) then Some (BadPath (text_of (relative_node target star pairs)))
     else option_map BadPath (first_bad (bad_text (relative_node target star pairs) (is_bad_dest target pairs) (is_bad_wish (fresh_wish star pairs)) (any_marked pairs)) pairs)
 
@@ -169,7 +170,7 @@ first_plan_fault (None ∷ more) = first_plan_fault more
 first_plan_fault (Some fault ∷ more) = Some fault
 
 -- the faults in the order of their kinds
-abbrev pub faults : List (List ℕ) → Bool → List (List ℕ × List ℕ) → List (Option PlanFault)
+abbrev pub faults : Segments → Bool → List (List ℕ × List ℕ) → List (Option PlanFault)
 faults target star pairs = if_fault (is_none (verb_of pairs)) BadOperation
     ∷ if_fault (carries_node (verb_of pairs) && length (dest_word pairs) == 0) NoDest
     ∷ if_fault (is_bad_order (first_word (codes ":order") pairs)) BadOrder
@@ -177,7 +178,7 @@ faults target star pairs = if_fault (is_none (verb_of pairs)) BadOperation
     ∷ path_fault target star pairs ∷ []
 
 -- the change of a node that entries ask for
-abbrev pub modify_of : List (List ℕ) → Bool → List (List ℕ × List ℕ) → List Entry → List (List ℕ) → ModifyOp
+abbrev pub modify_of : Segments → Bool → List (List ℕ × List ℕ) → List Entry → Segments → ModifyOp
 modify_of target star pairs es node = record {
   target = target;
   fresh = fresh_wish star pairs;
@@ -188,14 +189,18 @@ modify_of target star pairs es node = record {
   place = order_place pairs;
 }
 
+-- the change of the target, or of a new node under it, that the parameters ask for
+abbrev pub modification : Segments → Bool → List (List ℕ × List ℕ) → ModifyOp
+modification target star pairs = modify_of target star pairs (entries (relative_node target star pairs) pairs) (relative_node target star pairs)
+
 -- the copy or the move of the target that the parameters ask for
-abbrev pub carry_operation : List (List ℕ) → List (List ℕ × List ℕ) → CarryOp
+abbrev pub carry_operation : Segments → List (List ℕ × List ℕ) → CarryOp
 carry_operation target pairs = record { from = target; to = unwrap_or (goal_of target (dest_word pairs)) []; replace = replaces pairs }
 
 -- the operation that the parameters ask for
-abbrev pub operation_by : Option Verb → List (List ℕ) → Bool → List (List ℕ × List ℕ) → Op
+abbrev pub operation_by : Option Verb → Segments → Bool → List (List ℕ × List ℕ) → Op
 operation_by None target star pairs = NopOperation target
-operation_by (Some Modify) target star pairs = ModifyOperation (modify_of target star pairs (entries (relative_node target star pairs) pairs) (relative_node target star pairs))
+operation_by (Some Modify) target star pairs = ModifyOperation (modification target star pairs)
 operation_by (Some Delete) target star pairs = DeleteOperation target
 operation_by (Some Copy) target star pairs = CopyOperation (carry_operation target pairs)
 operation_by (Some Move) target star pairs = MoveOperation (carry_operation target pairs)
@@ -207,5 +212,5 @@ operation_unless_fault (Some fault) operation = Err fault
 operation_unless_fault None operation = Ok operation
 
 -- the operation that a form asks for at a target; `star` asks for a new node under the target
-abbrev pub plan_of : List (List ℕ) → Bool → List (List ℕ × List ℕ) → Result Op PlanFault
+abbrev pub plan_of : Segments → Bool → List (List ℕ × List ℕ) → Result Op PlanFault
 plan_of target star pairs = operation_unless_fault (first_plan_fault (faults target star pairs)) (operation_by (verb_of pairs) target star pairs)

@@ -6,6 +6,7 @@ use Rattle.std.specs.BTreeMap.{BTreeMap, get_by}
 use Rattle.std.specs.declared.cmp.Ordering.{Ordering}
 use Rattle.std.specs.Ordering.{bool_cmp, nat_cmp, ordering_then}
 use Rattle.std.specs.Cmp.Lexicographic.{slice_cmp}
+use Rattle.sp_base.specs.Texts.{Segments}
 use Rattle.post_plan.specs.declared.spot.Spot.{Spot}
 use Rattle.post_plan.specs.Entries.{Entry, is_spot_named, same_spot}
 
@@ -22,11 +23,11 @@ abbrev pub numbered : List Entry → ℕ → List Entry
 numbered es n = filter (λ e. first_place es e.spot == n) es
 
 -- how a spot compares to a key
-abbrev pub spot_cmp : Spot → Bool × Bor (List (List ℕ)) → Ordering
+abbrev pub spot_cmp : Spot → Bool × Bor Segments → Ordering
 spot_cmp spot key = ordering_then (bool_cmp spot.at_target key.0) (slice_cmp (slice_cmp nat_cmp) spot.path key.1.now)
 
 -- the place that is noted for a spot
-abbrev pub place_noted : BTreeMap (Bool × Bor (List (List ℕ))) ℕ → Spot → Option ℕ
+abbrev pub place_noted : BTreeMap (Bool × Bor Segments) ℕ → Spot → Option ℕ
 place_noted first spot = get_by (spot_cmp spot) first
 
 -- what is noted once a spot that has no place yet has this one

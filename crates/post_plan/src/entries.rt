@@ -7,7 +7,7 @@ use crate::node::TargetNode;
 use crate::parameters::{path_text, suffix_of};
 use crate::spots::spot_of;
 use crate::suffix::Suffix;
-use crate::words::{any_marked, is_content};
+use crate::words::{ContentNames, any_marked, is_content};
 use sp_base::{Mem, TextBuf};
 use std::alloc::Global;
 use std::marker::Model;
@@ -56,7 +56,7 @@ pub fn entries<'a>(
     let marked = any_marked(pairs);
     let mut found = Vec::new(alloc);
     for (name, word) in pairs {
-        if is_content(marked, name.text())
+        if is_content(ContentNames { marked }, name.text())
             && let Some(entry) = entry_of(alloc, node, name.text(), word.text())?
         {
             found.push(entry)?;

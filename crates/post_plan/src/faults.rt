@@ -12,8 +12,8 @@ use crate::spots::spot_of;
 use crate::suffix::Suffix;
 use crate::verb::{carries_node, verb_of};
 use crate::wishes::{fresh_wish, name_in};
-use crate::words::{any_marked, first_word, is_content};
-use crate::{NameWish, PlanFault};
+use crate::words::{ContentNames, any_marked, first_word, is_content};
+use crate::{NameWish, PlanFault, TargetEnding};
 use sp_base::{Mem, Path, TextBuf, seg_ok};
 use std::alloc::Global;
 
@@ -53,7 +53,9 @@ fn bad_hint(pairs: &[(TextBuf, TextBuf)]) -> Option<&str>
     let marked = any_marked(pairs);
     let mut rest = pairs;
     while let [(name, word), more @ ..] = rest {
-        if is_content(marked, name.text()) && is_bad_word(suffix_of(name.text()), word.text()) {
+        if is_content(ContentNames { marked }, name.text())
+            && is_bad_word(suffix_of(name.text()), word.text())
+        {
             return Some(name.text());
         }
         rest = more;
@@ -114,7 +116,10 @@ fn bad_text<'a>(
     if name == ":name" {
         return Ok(if verdict.name { Some(word) } else { None });
     }
-    if is_content(verdict.marked, name) {
+    let names = ContentNames {
+        marked: verdict.marked,
+    };
+    if is_content(names, name) {
         bad_entry(alloc, node, name, word)
     } else {
         Ok(None)
@@ -163,12 +168,12 @@ fn is_bad_name(wish: &Option<NameWish>) -> bool
 fn path_fault(
     alloc: Global,
     target: &Path,
-    star: bool,
+    ending: TargetEnding,
     pairs: &[(TextBuf, TextBuf)],
 ) -> Mem<Option<PlanFault>>
-    ensures { IfOk result (λ o. o ≡ spec.path_fault target.now star pairs.now) }
+    ensures { IfOk result (λ o. o ≡ spec.path_fault target.now ending.star pairs.now) }
 {
-    let wish = fresh_wish(alloc, star, pairs)?;
+    let wish = fresh_wish(alloc, ending, pairs)?;
     let node = node_of(target, &wish);
     if is_merged_node(alloc, &node) {
         return Ok(Some(PlanFault::BadPath(node_text(alloc, &node)?)));
@@ -188,10 +193,10 @@ fn path_fault(
 pub fn fault_of(
     alloc: Global,
     target: &Path,
-    star: bool,
+    ending: TargetEnding,
     pairs: &[(TextBuf, TextBuf)],
 ) -> Mem<Option<PlanFault>>
-    ensures { IfOk result (λ o. o ≡ spec.first_plan_fault (spec.faults target.now star pairs.now)) }
+    ensures { IfOk result (λ o. o ≡ spec.first_plan_fault (spec.faults target.now ending.star pairs.now)) }
 {
     let verb = verb_of(pairs);
     if verb.is_none() {
@@ -206,5 +211,5 @@ pub fn fault_of(
     if let Some(name) = bad_hint(pairs) {
         return Ok(Some(PlanFault::BadHint(TextBuf::of(alloc, name)?)));
     }
-    path_fault(alloc, target, star, pairs)
+    path_fault(alloc, target, ending, pairs)
 }

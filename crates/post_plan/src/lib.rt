@@ -30,4 +30,5 @@ pub use laws::operations_name_paths;
 pub use operation::{CarryOp, ModifyOp, NameWish, Op, PropSet, SetList};
 pub use planning::plan;
 pub use spot::{Carry, CarryList, Spot, SpotList};
+pub use wishes::TargetEnding;
 pub use word_list::LentWords;

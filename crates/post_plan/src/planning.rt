@@ -1,6 +1,5 @@
 //! The operation that a form asks for.
 ghost use Rattle.std.specs.Prelude.{◌≡◌, ◌≢◌, [], IfOk, IfErr, Ok, Err, unwrap_or};
-ghost use Rattle.post_plan.specs.Entries as entry;
 ghost use Rattle.post_plan.specs.Plan as spec;
 ghost use Rattle.post_plan.specs.Spots as spot;
 
@@ -15,7 +14,7 @@ use crate::suffix::Suffix;
 use crate::verb::{Verb, verb_of};
 use crate::wishes::fresh_wish;
 use crate::words::first_word;
-use crate::{CarryOp, ModifyOp, Op, PlanFault};
+use crate::{CarryOp, ModifyOp, Op, PlanFault, TargetEnding};
 use form_input::Form;
 use resource_tree::Place;
 use sp_base::{Mem, Path, TextBuf};
@@ -61,12 +60,12 @@ fn carry_of(alloc: Global, target: &Path, pairs: &[(TextBuf, TextBuf)]) -> Mem<C
 fn modify_of<'a>(
     alloc: Global,
     target: &Path,
-    star: bool,
+    ending: TargetEnding,
     pairs: &'a [(TextBuf, TextBuf)],
 ) -> Mem<ModifyOp<'a>>
-    ensures { IfOk result (λ op. op ≡ spec.modify_of target.now star pairs.now (entry.entries (spec.relative_node target.now star pairs.now) pairs.now) (spec.relative_node target.now star pairs.now)) }
+    ensures { IfOk result (λ op. op ≡ spec.modification target.now ending.star pairs.now) }
 {
-    let wish = fresh_wish(alloc, star, pairs)?;
+    let wish = fresh_wish(alloc, ending, pairs)?;
     let node = node_of(target, &wish);
     let found = entries(alloc, &node, pairs)?;
     let moves = carries(alloc, &node, Suffix::MoveFrom, found.as_slice())?;
@@ -85,10 +84,10 @@ fn modify_of<'a>(
 fn operation<'a>(
     alloc: Global,
     target: &Path,
-    star: bool,
+    ending: TargetEnding,
     pairs: &'a [(TextBuf, TextBuf)],
 ) -> Mem<Op<'a>>
-    ensures { IfOk result (λ op. op ≡ spec.operation_by (spec.verb_of pairs.now) target.now star pairs.now) }
+    ensures { IfOk result (λ op. op ≡ spec.operation_by (spec.verb_of pairs.now) target.now ending.star pairs.now) }
 {
     match verb_of(pairs) {
         None => Ok(Op::Nop(target.duplicate(alloc)?)),
@@ -96,24 +95,24 @@ fn operation<'a>(
         Some(Verb::Delete) => Ok(Op::Delete(target.duplicate(alloc)?)),
         Some(Verb::Copy) => Ok(Op::Copy(carry_of(alloc, target, pairs)?)),
         Some(Verb::Move) => Ok(Op::Move(carry_of(alloc, target, pairs)?)),
-        Some(Verb::Modify) => Ok(Op::Modify(modify_of(alloc, target, star, pairs)?)),
+        Some(Verb::Modify) => Ok(Op::Modify(modify_of(alloc, target, ending, pairs)?)),
     }
 }
 
-/// The operation that a form asks for at a target; `star` asks for a new node under the target. Of several faults the first is answered in
+/// The operation that a form asks for at a target, or under one that ends in a star. Of several faults the first is answered in
 /// the order of the enum, and within one kind that of the first pair (Apache Sling, "SlingPostServlet"). The form lends the words.
 pub fn plan<'a>(
     alloc: Global,
     target: &Path,
-    star: bool,
+    ending: TargetEnding,
     form: &'a Form,
 ) -> Result<Op<'a>, PlanFault>
-    ensures ok { IfOk result (λ op. spec.plan_of target.now star form.now ≡ Ok op) }
-    ensures err { IfErr result (λ e. e ≢ PlanFault.NoMemory → spec.plan_of target.now star form.now ≡ Err e) }
+    ensures ok { IfOk result (λ op. spec.plan_of target.now ending.star form.now ≡ Ok op) }
+    ensures err { IfErr result (λ e. e ≢ PlanFault.NoMemory → spec.plan_of target.now ending.star form.now ≡ Err e) }
 {
     let pairs = form.as_slice();
-    match fault_of(alloc, target, star, pairs)? {
+    match fault_of(alloc, target, ending, pairs)? {
         Some(fault) => Err(fault),
-        None => Ok(operation(alloc, target, star, pairs)?),
+        None => Ok(operation(alloc, target, ending, pairs)?),
     }
 }

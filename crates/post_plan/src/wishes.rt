@@ -81,11 +81,22 @@ pub fn name_in(wish: &NameWish) -> &str
     }
 }
 
+/// How the target of a POST ends.
+#[derive(Clone, Copy, Drop)]
+pub struct TargetEnding {
+    /// A star, or a slash in its place, asks for a new node under the target.
+    pub star: bool,
+}
+
 /// The name of the new node that a form asks for, where it does.
-pub fn fresh_wish(alloc: Global, star: bool, pairs: &[(TextBuf, TextBuf)]) -> Mem<Option<NameWish>>
-    ensures { IfOk result (λ o. o ≡ plan.fresh_wish star pairs.now) }
+pub fn fresh_wish(
+    alloc: Global,
+    ending: TargetEnding,
+    pairs: &[(TextBuf, TextBuf)],
+) -> Mem<Option<NameWish>>
+    ensures { IfOk result (λ o. o ≡ plan.fresh_wish ending.star pairs.now) }
 {
-    if star && is_modify(verb_of(pairs)) {
+    if ending.star && is_modify(verb_of(pairs)) {
         Ok(Some(wish_of(alloc, pairs)?))
     } else {
         Ok(None)

@@ -48,15 +48,21 @@ pub fn any_marked(pairs: &[(TextBuf, TextBuf)]) -> bool
     false
 }
 
+/// How the names of content are told in a form: by their marks, where any name is marked.
+#[derive(Clone, Copy, Drop)]
+pub struct ContentNames {
+    pub marked: bool,
+}
+
 /// Whether a name is that of a content parameter.
-pub fn is_content(marked: bool, name: &str) -> bool
-    ensures { result ≡ spec.is_content marked name.now }
+pub fn is_content(names: ContentNames, name: &str) -> bool
+    ensures { result ≡ spec.is_content names.marked name.now }
 {
     if is_control(name) {
         return false;
     }
     let bytes = name.as_bytes();
-    !marked || (is_marked(name) || (bytes.starts_with(b"../") || bytes.starts_with(b"/")))
+    !names.marked || (is_marked(name) || (bytes.starts_with(b"../") || bytes.starts_with(b"/")))
 }
 
 /// All words of the parameters of this name.

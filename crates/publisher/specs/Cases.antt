@@ -1,6 +1,7 @@
 -- What a request is answered, case by case, as docs/sling/RENDERING.md has them: each with all that makes it the first that applies. It is
 -- the same answer as that of `Rendering.antt` (law `an_answer_is_one_of_the_cases`), said by relations in place of searches.
-use Rattle.std.specs.Prelude.{◌≡◌, ◌<◌, ◌≤◌, ℕ, true, false, List, [], Option, Some, None}
+use Rattle.std.specs.Prelude.{◌≡◌, ◌<◌, ◌≤◌, ℕ, true, false, List, [], Some, None}
+use Rattle.sp_base.specs.Texts.{Segments}
 use Rattle.sp_base.specs.Paths.{text_of}
 use Rattle.sp_base.specs.declared.answer.Answer.{Answer}
 use Rattle.sp_base.specs.declared.answer.Ask.{Ask}
@@ -46,7 +47,7 @@ pub record ReadsResource (tree : Content) (ask : Ask) (parts : Parts) (res : Res
 pub record ReadsByScript (tree : Content) (ask : Ask) (res : Resource) (text : List ℕ) : Type 0 where
   pub parts : Parts
   pub resource : ReadsResource tree ask parts res
-  pub script : List (List ℕ)
+  pub script : Segments
   pub first : IsFirstScript tree (chain_of tree res.props) parts script
   pub text_is : script_text tree script ≡ Some text
 

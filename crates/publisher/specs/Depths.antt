@@ -2,6 +2,7 @@
 use Rattle.std.specs.Prelude.{◌==◌, ◌&&◌, ◌||◌, ℕ, Bool, not, nat_eq, nat_le, if◌then◌else◌, List, [], ◌∷◌, Option, Some, None, option_map, codes, length, slice_index}
 use Rattle.std.specs.Str.Parse.{digits_value}
 use Rattle.std.specs.Cmp.Lexicographic.{pointwise}
+use Rattle.sp_base.specs.Texts.{Text}
 use Rattle.sp_base.specs.Typed.{are_digits}
 use Rattle.get_servlet.specs.declared.answer.Depth.{Depth}
 use Rattle.get_servlet.specs.declared.answer.Depth.TheVariants.{Levels, Infinity}
@@ -23,7 +24,7 @@ abbrev pub depth_named : List ℕ → Option Depth
 depth_named word = if pointwise nat_eq word (codes "infinity") then Some Infinity else option_map Levels (levels_named word)
 
 -- no selector asks for the resource alone, one for the depth that it spells; there is none for other selectors
-abbrev pub depth_of : List (List ℕ) → Option Depth
+abbrev pub depth_of : List Text → Option Depth
 depth_of [] = Some (Levels 0)
 depth_of (word ∷ []) = depth_named word
 depth_of (word ∷ next ∷ words) = None

@@ -1,6 +1,7 @@
 -- What a publisher keeps beside its tree: the readings of scripts, and the index of mappings. What is answered needs none of it: only private types and functions and proofs cite this.
-use Rattle.std.specs.Prelude.{◌≡◌, ℕ, Bool, List, Option, Some, None, IfSome, codes, option_map}
+use Rattle.std.specs.Prelude.{◌≡◌, Bool, List, Option, Some, None, IfSome, codes, option_map}
 use Rattle.std.specs.Map.{lookup}
+use Rattle.sp_base.specs.Texts.{Segments}
 use Rattle.resource_tree.specs.Content.{Content, kid, same_path}
 use Rattle.resource_tree.specs.Patches.{PatchEntries, entry_at}
 use Rattle.script_rank.specs.Ranking.{script_text}
@@ -10,28 +11,28 @@ use Rattle.publisher.specs.Readings.{reading_of}
 
 -- readings at the paths of scripts
 abbrev pub KeptReadings : Type 0
-KeptReadings = List (List (List ℕ) × Reading)
+KeptReadings = List (Segments × Reading)
 
 -- the reading that is kept at a path
-abbrev pub reading_at : KeptReadings → List (List ℕ) → Option Reading
+abbrev pub reading_at : KeptReadings → Segments → Option Reading
 reading_at kept path = lookup (same_path path) kept
 
 -- each reading that is kept is that of the script at its path
 abbrev pub AreReadings : Content → KeptReadings → Type 0
-AreReadings tree kept = (path : List (List ℕ)) (reading : Reading) → reading_at kept path ≡ Some reading
+AreReadings tree kept = (path : Segments) (reading : Reading) → reading_at kept path ≡ Some reading
     → option_map reading_of (script_text tree path) ≡ Some reading
 
 -- no reading is kept that wasn't before
 abbrev pub AreAmong : KeptReadings → KeptReadings → Type 0
-AreAmong old new = (path : List (List ℕ)) (reading : Reading) → reading_at new path ≡ Some reading → reading_at old path ≡ Some reading
+AreAmong old new = (path : Segments) (reading : Reading) → reading_at new path ≡ Some reading → reading_at old path ≡ Some reading
 
 -- where the text of a script stands
-abbrev pub text_path : List (List ℕ) → List (List ℕ)
+abbrev pub text_path : Segments → Segments
 text_path path = kid path (codes "jcr:content")
 
 -- no reading is kept of a script at whose text a patch has something
 abbrev pub AreUnpatched : PatchEntries → KeptReadings → Type 0
-AreUnpatched patch kept = (path : List (List ℕ)) (reading : Reading) → reading_at kept path ≡ Some reading → entry_at patch (text_path path) ≡ None
+AreUnpatched patch kept = (path : Segments) (reading : Reading) → reading_at kept path ≡ Some reading → entry_at patch (text_path path) ≡ None
 
 -- an index that is kept is the tree's
 abbrev pub IsIndexFor : Content → Option Index → Type 0

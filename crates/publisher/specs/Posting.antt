@@ -2,6 +2,7 @@
 use Rattle.std.specs.Prelude.{◌++◌, ℕ, Bool, true, nat_eq, if◌then◌else◌, List, [], ◌∷◌, Option, Some, None, option_map, Result, Ok, Err, codes, decimal}
 use Rattle.std.specs.List.{ends_with}
 use Rattle.std.specs.Option.{option_or}
+use Rattle.sp_base.specs.Texts.{Segments}
 use Rattle.sp_base.specs.Paths.{parent_of, path_in, text_of}
 use Rattle.sp_base.specs.declared.answer.Answer.{Answer}
 use Rattle.sp_base.specs.declared.answer.Ask.{Ask}
@@ -39,7 +40,7 @@ or_refused refusal (Err e) = Err (refusal e)
 -- ---- the target
 
 -- a path, and whether a new node is wished below it
-abbrev pub target_at : Bool → List (List ℕ) → PostTarget
+abbrev pub target_at : Bool → Segments → PostTarget
 target_at star path = record { path = path; star = star }
 
 -- the last segment of a text is `*`
@@ -47,7 +48,7 @@ abbrev pub ends_in_star : List ℕ → Bool
 ends_in_star text = ends_with nat_eq text (codes "/*")
 
 -- the path of the resource that a text names, else the path that the text spells
-abbrev pub named_path : Content → List ℕ → Option (List (List ℕ))
+abbrev pub named_path : Content → List ℕ → Option Segments
 named_path tree text = option_or (option_map (λ (parts : Parts). parts.path) (split_of (has_resource tree) text)) (path_in text)
 
 -- a new node is wished below the path before the last segment

@@ -10,7 +10,7 @@ use crate::targets::{PostTarget, target_of};
 use form_input::read_form;
 use location_field::location_of;
 use post_apply::{Planned, PostReport, patch_of};
-use post_plan::plan;
+use post_plan::{TargetEnding, plan};
 use resource_tree::Tree;
 use sp_base::{Answer, Ask, ByteBuf, Mark, Mem, TextBuf};
 use std::alloc::Global;
@@ -34,7 +34,8 @@ pub(crate) fn planned(alloc: Global, tree: &Tree, ask: &Ask, text: &str) -> Resu
 {
     let target = or_bad_request(target_of(alloc, tree, text, ask.slash)?)?;
     let form = read_form(alloc, ask.kind.text(), ask.body.bytes())?;
-    let operation = plan(alloc, &target.path, target.star, &form)?;
+    let ending = TargetEnding { star: target.star };
+    let operation = plan(alloc, &target.path, ending, &form)?;
     Ok(patch_of(alloc, tree, &operation)?)
 }
 

@@ -1,6 +1,7 @@
 //! Scenarios that are written, and notes that the program doesn't make, worked out by hand from `docs/formats/FORMATS.md`.
 use connections::{ConnectionId, FlightId, FlushId};
 use cover_rules::{Action, Invalidation, PageKey, page_key};
+use http_front::SentBytes;
 use replay_text::{Scenario, read_scenario, write_notes, write_scenario};
 use run_events::{Failure, Note, NoteList};
 use sp_base::{ByteBuf, Items, Mem, Path};
@@ -55,7 +56,7 @@ fn push_notes(alloc: Global, notes: &mut NoteList) -> Mem<()> {
     let page = key(alloc, "/content/site/en.html")?;
     notes.push(Note::Ask(FlightId::new(u64::MAX), ConnectionId::new(u32::MAX), page))?;
     let sent = ByteBuf::of(alloc, b"\"\x00\xff\\")?;
-    notes.push(Note::Sent(ConnectionId::new(3), sent))?;
+    notes.push(Note::Sent(ConnectionId::new(3), SentBytes::whole(alloc, sent)))?;
     push_flush_notes(alloc, notes)?;
     notes.push(Note::Dry)
 }

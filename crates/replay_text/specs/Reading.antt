@@ -1,6 +1,7 @@
 -- Scaffolding: the languages of the parts of a scenario, for the private functions of the reader and for proofs alone. A reader
 -- of the theorem needs none of it.
 use Rattle.std.specs.Prelude.{◌≡◌, ◌≢◌, ◌⊎◌, ◌+◌, ◌≤◌, ◌++◌, ℕ, List, ◌∷◌, length, take, drop, codes, Option}
+use Rattle.sp_base.specs.Texts.{Text}
 use Rattle.replay_text.specs.Lines.{newlines, text_of_lines, AreLines}
 use Rattle.replay_text.specs.Languages.{IsRefusedAt}
 use Rattle.replay_text.specs.Scenario.{AreActs, HaveNoDot, IsActs, IsBlock, IsFarm, act_lines}
@@ -35,7 +36,7 @@ Refuses Text bytes NoMemory = Unit {0}
 
 -- a block, and after its dot a text of the language
 pub record BlockThen (Rest : List ℕ → Type 0) (text : List ℕ) : Type 0 where
-  pub block : List (List ℕ)
+  pub block : List Text
   pub are : AreLines block
   pub no_dot : HaveNoDot block
   pub rest : List ℕ
@@ -60,7 +61,7 @@ IsContent text = (body : List ℕ) × IsContentBody body × (text ≡ codes "con
 
 -- what the part after the content's dot spells
 pub record SpellsTail (text : List ℕ) (farm : Option (List ℕ)) (bytes : List ℕ) : Type 0 where
-  pub lines : List (List ℕ)
+  pub lines : List Text
   pub farm_is : IsFarm farm lines
   pub acts : List EventLine
   pub acts_are : IsActs bytes acts
@@ -68,7 +69,7 @@ pub record SpellsTail (text : List ℕ) (farm : Option (List ℕ)) (bytes : List
 
 -- what the part after the line `farm` spells
 pub record SpellsFarm (text farm bytes : List ℕ) : Type 0 where
-  pub block : List (List ℕ)
+  pub block : List Text
   pub farm_is : IsBlock farm block
   pub acts : List EventLine
   pub acts_are : IsActs bytes acts
@@ -76,9 +77,9 @@ pub record SpellsFarm (text farm bytes : List ℕ) : Type 0 where
 
 -- what the part after the line `content` spells
 pub record SpellsBody (text : List ℕ) (s : Scenario) : Type 0 where
-  pub block : List (List ℕ)
+  pub block : List Text
   pub content : IsBlock s.content block
-  pub farm_lines : List (List ℕ)
+  pub farm_lines : List Text
   pub farm : IsFarm s.farm farm_lines
   pub acts : List EventLine
   pub acts_are : IsActs s.acts acts
@@ -86,7 +87,7 @@ pub record SpellsBody (text : List ℕ) (s : Scenario) : Type 0 where
 
 -- a block ends at a place, and has `count` lines
 pub record EndsBlock (text : List ℕ) (at count : ℕ) : Type 0 where
-  pub block : List (List ℕ)
+  pub block : List Text
   pub is_block : IsBlock (take at text) block
   pub text_is : text ≡ text_of_lines block ++ 46 ∷ 10 ∷ drop (at + 2) text
   pub within : at + 2 ≤ length text
@@ -95,7 +96,7 @@ pub record EndsBlock (text : List ℕ) (at count : ℕ) : Type 0 where
 
 -- no block ends in the text, and it has `count` whole lines
 pub record EndsNoBlock (text : List ℕ) (count : ℕ) : Type 0 where
-  pub block : List (List ℕ)
+  pub block : List Text
   pub are : AreLines block
   pub no_dot : HaveNoDot block
   pub rest : List ℕ

@@ -1,5 +1,6 @@
 -- Which scenario bytes spell.
 use Rattle.std.specs.Prelude.{◌≡◌, ◌≢◌, ◌≤◌, ◌++◌, ℕ, List, [], ◌∷◌, map, codes, length, Option, Some, None}
+use Rattle.sp_base.specs.Texts.{Text}
 use Rattle.replay_text.specs.Lines.{text_of_lines, AreLines}
 use Rattle.replay_text.specs.EventLines.{line_of, IsEventLine}
 use Rattle.replay_text.specs.declared.event_line.EventLine.{EventLine}
@@ -11,23 +12,23 @@ AreActs [] = Unit {0}
 AreActs (act ∷ acts) = IsEventLine act × AreActs acts
 
 -- none of the lines is a dot
-abbrev pub HaveNoDot : List (List ℕ) → Type 0
+abbrev pub HaveNoDot : List Text → Type 0
 HaveNoDot [] = Unit {0}
 HaveNoDot (line ∷ lines) = (line ≢ codes ".") × HaveNoDot lines
 
 -- the bytes of a block are its lines, none of which is a dot
-pub record IsBlock (bytes : List ℕ) (block : List (List ℕ)) : Type 0 where
+pub record IsBlock (bytes : List ℕ) (block : List Text) : Type 0 where
   pub are : AreLines block
   pub no_dot : HaveNoDot block
   pub bytes_are : bytes ≡ text_of_lines block
 
 -- the lines about the farm: none where there is no farm, else its block up to a dot
-abbrev pub IsFarm : Option (List ℕ) → List (List ℕ) → Type 0
+abbrev pub IsFarm : Option (List ℕ) → List Text → Type 0
 IsFarm None lines = lines ≡ []
-IsFarm (Some bytes) lines = (block : List (List ℕ)) × IsBlock bytes block × (lines ≡ codes "farm" ∷ (block ++ codes "." ∷ []))
+IsFarm (Some bytes) lines = (block : List Text) × IsBlock bytes block × (lines ≡ codes "farm" ∷ (block ++ codes "." ∷ []))
 
 -- the lines of acts, and the line that ends them
-abbrev pub act_lines : List EventLine → List (List ℕ)
+abbrev pub act_lines : List EventLine → List Text
 act_lines acts = map line_of acts ++ codes "end" ∷ []
 
 -- the bytes of acts are their lines, and what each asks for can be asked for
@@ -37,9 +38,9 @@ pub record IsActs (bytes : List ℕ) (acts : List EventLine) : Type 0 where
 
 -- The text spells the scenario: its head, the lines of its content up to a dot, those about its farm, its acts, and the end.
 pub record SpellsScenario (text : List ℕ) (s : Scenario) : Type 0 where
-  pub block : List (List ℕ)
+  pub block : List Text
   pub content : IsBlock s.content block
-  pub farm_lines : List (List ℕ)
+  pub farm_lines : List Text
   pub farm : IsFarm s.farm farm_lines
   pub acts : List EventLine
   pub acts_are : IsActs s.acts acts

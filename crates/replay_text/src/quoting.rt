@@ -5,6 +5,7 @@ ghost use Rattle.replay_text.specs.Quoting.{ArePlain, is_plain};
 ghost use Rattle.replay_text.specs.Transcript.{quoted_byte, quotation};
 
 use crate::transcript::{hex_digit, push};
+use http_front::SentParts;
 use sp_base::Mem;
 use std::simd::prelude::*;
 
@@ -92,9 +93,27 @@ pub fn push_quoted(out: &mut Vec<u8>, bytes: &[u8]) -> Mem<()>
 {
     out.reserve(bytes.len().saturating_add(2))?;
     push(out, b"\"")?;
+    push_quoted_bytes(out, bytes)?;
+    push(out, b"\"")
+}
+
+/// Writes one quoted text for two parts of it.
+pub fn push_quoted_parts(out: &mut Vec<u8>, parts: SentParts<'_>) -> Mem<()>
+    ensures { OnOk result (out.new.items ≡ out.old.items ++ quotation (parts.head.now ++ parts.body.now)) }
+{
+    push(out, b"\"")?;
+    push_quoted_bytes(out, parts.head)?;
+    push_quoted_bytes(out, parts.body)?;
+    push(out, b"\"")
+}
+
+// Writes bytes as they stand between quotes.
+fn push_quoted_bytes(out: &mut Vec<u8>, bytes: &[u8]) -> Mem<()>
+    ensures { OnOk result (out.new.items ≡ out.old.items ++ flat_map quoted_byte bytes.now) }
+{
     let mut rest = bytes;
     while !rest.is_empty() {
         rest = push_front(out, rest)?;
     }
-    push(out, b"\"")
+    Ok(())
 }

@@ -5,9 +5,10 @@ ghost use Rattle.sp_base.specs.Paths.{mangled_segs, text_of};
 ghost use Rattle.replay_text.specs.Transcript.{hex, quotation, quotation_or_dash, mark_text, answer_text, key_text, action_text, scope_word, invalidation_text, note_line, note_text, event_text};
 
 use crate::handles::mangled_text;
-use crate::quoting::push_quoted;
+use crate::quoting::{push_quoted, push_quoted_parts};
 use connections::{ConnectionId, FlightId, FlushId};
 use cover_rules::{Action, Invalidation, PageKey};
+use http_front::SentParts;
 use run_events::Note;
 use sp_base::{Answer, Mark, Mem, Path};
 use std::alloc::Global;
@@ -194,12 +195,17 @@ fn push_rendered(alloc: Global, out: &mut Vec<u8>, flight: FlightId, answer: &An
     push_answer(alloc, out, answer)
 }
 
-fn push_sent(alloc: Global, out: &mut Vec<u8>, connection: ConnectionId, bytes: &[u8]) -> Mem<()>
-    ensures { OnOk result (out.new.items ≡ out.old.items ++ (codes "sent " ++ decimal connection ++ codes " " ++ quotation bytes.now)) }
+fn push_sent(
+    alloc: Global,
+    out: &mut Vec<u8>,
+    connection: ConnectionId,
+    bytes: SentParts<'_>,
+) -> Mem<()>
+    ensures { OnOk result (out.new.items ≡ out.old.items ++ (codes "sent " ++ decimal connection ++ codes " " ++ quotation (bytes.head.now ++ bytes.body.now))) }
 {
     push_connection(alloc, out, b"sent ", connection)?;
     push(out, b" ")?;
-    push_quoted(out, bytes)
+    push_quoted_parts(out, bytes)
 }
 
 // The line of a note, without its newline. A slice that left more to do has none.
@@ -223,7 +229,7 @@ fn push_note_line(alloc: Global, out: &mut Vec<u8>, note: &Note) -> Mem<()>
         Note::Unkept(flight) => push_numbered(alloc, out, b"unkept ", flight.number()),
         Note::Passed(flight) => push_numbered(alloc, out, b"passed ", flight.number()),
         Note::Lost(flight) => push_numbered(alloc, out, b"lost ", flight.number()),
-        Note::Sent(connection, bytes) => push_sent(alloc, out, *connection, bytes.bytes()),
+        Note::Sent(connection, bytes) => push_sent(alloc, out, *connection, bytes.parts()),
         Note::Shut(connection) => push_connection(alloc, out, b"shut ", *connection),
         Note::Refused(connection) => push_connection(alloc, out, b"refused ", *connection),
         Note::Idle => push(out, b"none"),

@@ -1,7 +1,8 @@
 //! What happens in an event.
 use connections::{ConnectionId, FlightId, FlushId};
 use cover_rules::{Invalidation, PageKey};
-use sp_base::{Answer, ByteBuf, Items};
+use http_front::SentBytes;
+use sp_base::{Answer, Items};
 
 /// Why a flush failed.
 #[derive(Clone, Copy, PartialEq, Eq, Drop)]
@@ -44,7 +45,7 @@ pub enum Note {
     /// A flight is lost.
     Lost(FlightId),
     /// Bytes are sent on a connection.
-    Sent(ConnectionId, ByteBuf),
+    Sent(ConnectionId, SentBytes),
     /// A connection is shut.
     Shut(ConnectionId),
     /// There is no room for a connection.

@@ -1,6 +1,7 @@
 -- The scripts that may answer a request, and which of them ranks first (Apache Sling, "Servlets and Scripts", "Script Naming Conventions").
 use Rattle.std.specs.Prelude.{◌≡◌, ◌<◌, ◌≤◌, ◌&&◌, ◌⊎◌, ◌++◌, ◌∷◌, [], ℕ, Bool, true, false, IsTrue, is_some, nat_eq, List, Option, Some, None, option_and_then, Result, Ok, Err, codes, flat_map, length, slice_get, take}
 use Rattle.std.specs.Cmp.Lexicographic.{pointwise}
+use Rattle.sp_base.specs.Texts.{Segments, Text}
 use Rattle.sp_base.specs.Paths.{child_of, path_of, text_of}
 use Rattle.sp_base.specs.Properties.{text_in}
 use Rattle.sp_base.specs.declared.path.PathFault.{PathFault}
@@ -63,7 +64,7 @@ abbrev pub after_slashes : Parts → ℕ → List ℕ
 after_slashes parts k = flat_map (λ s. 47 ∷ s) (take k parts.selectors)
 
 -- how such a name is spelled after a place: of two spellings the one with the dot is the first
-abbrev pub spellings : Parts → List ℕ → Naming → List (List ℕ)
+abbrev pub spellings : Parts → List ℕ → Naming → List Text
 spellings parts label (SelectorsAndExtension k) = (after_slashes parts k ++ 46 ∷ parts.extension) ∷ (after_slashes parts k ++ 47 ∷ parts.extension) ∷ []
 spellings parts label (Selectors k) = after_slashes parts k ∷ []
 spellings parts label LabelAndExtension = (47 ∷ label ++ 46 ∷ parts.extension) ∷ []
@@ -74,16 +75,16 @@ spellings parts label Method = codes "/GET" ∷ []
 -- ---- scripts
 
 -- the node at a path, if it is one
-abbrev pub node_of : Content → Result (List (List ℕ)) PathFault → Option Node
+abbrev pub node_of : Content → Result Segments PathFault → Option Node
 node_of tree (Ok path) = node_at tree path
 node_of tree (Err e) = None
 
 -- the text of a script: the text `jcr:data` of the kid `jcr:content`
-unfoldable pub script_text : Content → List (List ℕ) → Option (List ℕ)
+unfoldable pub script_text : Content → Segments → Option (List ℕ)
 script_text tree path = option_and_then (λ node. text_in node.props (codes "jcr:data")) (node_of tree (child_of path (codes "jcr:content")))
 
 -- whether a node is at the path that has a script's text
-abbrev pub is_script : Content → List (List ℕ) → Bool
+abbrev pub is_script : Content → Segments → Bool
 is_script tree path = is_some (node_at tree path) && is_some (script_text tree path)
 
 -- by what a candidate is ranked: its naming, and the places of its type in the chain, of its place among the type's, and of its
@@ -96,9 +97,9 @@ pub record Key : Type 0 where
 
 -- A candidate for a request with an extension: a script whose path is spelled by a place of a type of the chain, a spelling, which begins with
 -- a slash, and `.html`.
-pub record Candidate (tree : Content) (chain : List TypeName) (parts : Parts) (path : List (List ℕ)) (key : Key) : Type 0 where
+pub record Candidate (tree : Content) (chain : List TypeName) (parts : Parts) (path : Segments) (key : Key) : Type 0 where
   pub type : TypeName
-  pub place : List (List ℕ)
+  pub place : Segments
   pub spelling : List ℕ
   pub asked : 0 < length parts.extension
   pub offered : IsOffered parts key.naming
@@ -130,11 +131,11 @@ IsBetter k l =
     (k.spelling < l.spelling)))))
 
 -- the script is a candidate, and none is better
-pub record IsFirstScript (tree : Content) (chain : List TypeName) (parts : Parts) (path : List (List ℕ)) : Type 0 where
+pub record IsFirstScript (tree : Content) (chain : List TypeName) (parts : Parts) (path : Segments) : Type 0 where
   pub key : Key
   pub candidate : Candidate tree chain parts path key
-  pub best : (other : List (List ℕ)) (k : Key) → Candidate tree chain parts other k → IsBetter k key → ⊥
+  pub best : (other : Segments) (k : Key) → Candidate tree chain parts other k → IsBetter k key → ⊥
 
 -- no script is a candidate
 abbrev pub HasNoCandidate : Content → List TypeName → Parts → Type 0
-HasNoCandidate tree chain parts = (path : List (List ℕ)) (key : Key) → Candidate tree chain parts path key → ⊥
+HasNoCandidate tree chain parts = (path : Segments) (key : Key) → Candidate tree chain parts path key → ⊥

@@ -1,5 +1,6 @@
 -- What the code does at the script places alone, which gives the same as the search at each place. Only the code and its proofs cite this.
 use Rattle.std.specs.Prelude.{◌==◌, ◌++◌, ◌∷◌, ℕ, if◌then◌else◌, List, Option, None, codes, drop, length, slice_index}
+use Rattle.sp_base.specs.Texts.{Segments}
 use Rattle.sp_base.specs.Paths.{child_of}
 use Rattle.resource_tree.specs.Content.{Content}
 use Rattle.type_chain.specs.Chain.{first_of}
@@ -20,22 +21,22 @@ spelling_with parts label Label mark = 47 ∷ label
 spelling_with parts label Method mark = codes "/GET"
 
 -- the script below a place, which is not the root, by a slash and a name
-unfoldable pub script_below : Content → List (List ℕ) → List ℕ → Option (List (List ℕ))
+unfoldable pub script_below : Content → Segments → List ℕ → Option Segments
 script_below tree place text = if length place == 0 then None
     else (if slice_index text 0 == 47 then script_in tree (child_of place (drop 1 text)) else None)
 
 -- the script at a script place that a spelling names
-abbrev pub script_named : Content → List (List ℕ) → List ℕ → Option (List (List ℕ))
+abbrev pub script_named : Content → Segments → List ℕ → Option Segments
 script_named tree place spelling = script_below tree place (spelling ++ codes ".html")
 
 -- the script by a naming at a script place: that of its first spelling that has one
-unfoldable pub at_script_place : Content → Parts → Naming → ScriptPlace → Option (List (List ℕ))
+unfoldable pub at_script_place : Content → Parts → Naming → ScriptPlace → Option Segments
 at_script_place tree parts naming script_place = first_of (script_named tree script_place.place) (spellings parts script_place.label naming)
 
 -- the script by a naming at the first of the script places that has one
-unfoldable pub at_script_places : Content → Parts → List ScriptPlace → Naming → Option (List (List ℕ))
+unfoldable pub at_script_places : Content → Parts → List ScriptPlace → Naming → Option Segments
 at_script_places tree parts script_places naming = first_of (at_script_place tree parts naming) script_places
 
 -- the script by the first naming by which a script place has one
-abbrev pub script_place_search : Content → List ScriptPlace → Parts → Option (List (List ℕ))
+abbrev pub script_place_search : Content → List ScriptPlace → Parts → Option Segments
 script_place_search tree script_places parts = first_of (at_script_places tree parts script_places) (namings parts)

@@ -1,10 +1,11 @@
 //! What of an event is handed on to the world.
-ghost use Rattle.std.specs.Prelude.{◌≡◌};
+ghost use Rattle.std.specs.Prelude.{◌≡◌, ◌++◌};
 ghost use Rattle.outside_world.specs.Faults.{HasRisenBy};
 ghost use Rattle.run_events.specs.declared.note.Note.TheVariants.{Sent};
 ghost use Rattle.serve_loop.specs.Hands.{HandsOn, HandsOneOn, failures_of};
 
 use connections::ConnectionId;
+use http_front::SentParts;
 use outside_world::{SendFault, World};
 use run_events::Note;
 use std::alloc::Global;
@@ -41,7 +42,7 @@ fn hand_one<W: World>(alloc: Global, world: &mut W, note: &Note) -> HandedOn
     ensures next_count { W.next_faults world.new ≡ W.next_faults world.old }
 {
     match note {
-        Note::Sent(c, bytes) => send(alloc, world, *c, bytes.bytes()),
+        Note::Sent(c, bytes) => send(alloc, world, *c, bytes.parts()),
         Note::Shut(c) | Note::Refused(c) => {
             world.shut(c.number());
             HandedOn::All
@@ -51,13 +52,13 @@ fn hand_one<W: World>(alloc: Global, world: &mut W, note: &Note) -> HandedOn
 }
 
 // Sends bytes on a connection, which is shut where that fails.
-fn send<W: World>(alloc: Global, world: &mut W, c: ConnectionId, bytes: &[u8]) -> HandedOn
-    ensures log { HandsOneOn result (W.log world.old) (W.log world.new) (Sent c bytes.now) }
+fn send<W: World>(alloc: Global, world: &mut W, c: ConnectionId, bytes: SentParts<'_>) -> HandedOn
+    ensures log { HandsOneOn result (W.log world.old) (W.log world.new) (Sent c (bytes.head.now ++ bytes.body.now)) }
     ensures send_count { HasRisenBy (failures_of result) (W.send_faults world.old) (W.send_faults world.new) }
     ensures next_count { W.next_faults world.new ≡ W.next_faults world.old }
 {
     let number = c.number();
-    match world.send(alloc, number, bytes) {
+    match world.send_both(alloc, number, bytes.head, bytes.body) {
         Ok(()) => HandedOn::All,
         Err(SendFault::Failed) => {
             world.shut(number);

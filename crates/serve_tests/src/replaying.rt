@@ -32,7 +32,7 @@ fn is_for_the_client(note: &Note) -> bool {
 
 fn is_done(note: &Note, done: &Done<'_>) -> bool {
     match (note, done) {
-        (Note::Sent(_, bytes), Done::Sent(text)) => bytes.bytes() == text.as_bytes(),
+        (Note::Sent(_, bytes), Done::Sent(text)) => bytes.is(text.as_bytes()),
         (Note::Shut(_), Done::Shut) => true,
         _ => false,
     }

@@ -4,6 +4,7 @@ use Rattle.std.specs.Cmp.Lexicographic.{pointwise}
 use Rattle.std.specs.List.{ends_with}
 use Rattle.std.specs.List.Sorted.{IsStrictlySortedBy}
 use Rattle.std.specs.Map.{lookup, keys_of}
+use Rattle.sp_base.specs.Texts.{Segments}
 use Rattle.sp_base.specs.Paths.{by_path, name_of}
 use Rattle.resource_tree.specs.Content.{Content, same_path}
 use Rattle.script_rank.specs.Ranking.{is_script, script_text}
@@ -50,14 +51,14 @@ is_search_top None = false
 is_search_top (Some top) = pointwise nat_eq top (codes "apps") || pointwise nat_eq top (codes "libs")
 
 -- whether a path is that of a script of a type: it is below a search path, and its name ends in `.html`
-abbrev pub is_script_path : List (List ℕ) → Bool
+abbrev pub is_script_path : Segments → Bool
 is_script_path path = is_search_top (slice_get path 0) && ends_with nat_eq (name_of path) (codes ".html")
 
 -- what is wrong with the script at a path, where one is there whose text is no template
-abbrev pub script_fault_at : Content → List (List ℕ) → Option ScriptFault
+abbrev pub script_fault_at : Content → Segments → Option ScriptFault
 script_fault_at tree path = if is_script_path path && is_script tree path then option_and_then fault_of_text (script_text tree path) else None
 
 -- Each script whose text is no template is told with what is wrong, and nothing else is, in the order of the paths.
-pub record AreScriptFaults (tree : Content) (told : List (List (List ℕ) × ScriptFault)) : Type 0 where
+pub record AreScriptFaults (tree : Content) (told : List (Segments × ScriptFault)) : Type 0 where
   pub ordered : IsStrictlySortedBy by_path (keys_of told)
-  pub each : (path : List (List ℕ)) → lookup (same_path path) told ≡ script_fault_at tree path
+  pub each : (path : Segments) → lookup (same_path path) told ≡ script_fault_at tree path

@@ -5,7 +5,11 @@ use std::alloc::Global;
 
 // Whether a target begins with a scheme (RFC 3986, section 3.1), and so may lead to another server.
 fn has_scheme(target: &str) -> bool {
-    for byte in target.as_bytes() {
+    let bytes = target.as_bytes();
+    if !matches!(bytes.first(), Some(first) if first.is_ascii_alphabetic()) {
+        return false;
+    }
+    for byte in bytes {
         if *byte == b':' {
             return true;
         }

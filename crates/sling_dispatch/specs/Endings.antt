@@ -1,6 +1,7 @@
 -- How a run may end, and what each ending says of the source and the sink.
 use Rattle.std.specs.Prelude.{false, ◌≡◌, ◌≢◌, ◌+◌, ◌++◌, ◌⊎◌, ℕ, List, [], ◌∷◌, Option, IfSome, Ok, Err, codes, take}
 use Rattle.std.specs.Fmt.{decimal}
+use Rattle.sp_base.specs.Texts.{Text}
 use Rattle.sp_outside.specs.Told.{held_after, IsAtEnd}
 use Rattle.resource_tree.specs.Content.{Content}
 use Rattle.content_json.specs.ContentOf.{content as content_of}
@@ -153,11 +154,11 @@ abbrev pub HasFarm : Scenario → Type 0
 HasFarm s = (farm : Farm) × (farm_in (farm_text s.farm) ≡ Ok farm)
 
 -- the words are `replay` alone
-abbrev pub IsReplay : List (List ℕ) → Type 0
+abbrev pub IsReplay : List Text → Type 0
 IsReplay words = words ≡ codes "replay" ∷ []
 
 -- these are the words of the command line, where it tells them
-abbrev pub AreWordsOf : Option (List (List ℕ)) → List (List ℕ) → Type 0
+abbrev pub AreWordsOf : Option (List Text) → List Text → Type 0
 AreWordsOf told words = IfSome told (λ all. words ≡ all)
 
 -- the call replays, no read failed, and of the source's bytes, where it tells them, this holds

@@ -1,6 +1,7 @@
 -- How a fault of a content or of a farm is written.
 use Rattle.std.specs.Prelude.{◌++◌, ℕ, List, [], codes}
 use Rattle.std.specs.Fmt.{decimal}
+use Rattle.sp_base.specs.Texts.{Segments}
 use Rattle.sp_base.specs.Paths.{text_of}
 use Rattle.content_json.specs.declared.fault.ContentFault.{ContentFault}
 use Rattle.content_json.specs.declared.fault.ContentFault.TheVariants.{NotJson, NotObject, BadName, BadNumber, MixedArray, BadOrder, TooBig, NoMemory}
@@ -12,7 +13,7 @@ use Rattle.sling_dispatch.specs.declared.farms.FarmRefusal.{FarmRefusal}
 use Rattle.sling_dispatch.specs.declared.farms.FarmRefusal.TheVariants.{NoFile, NoFarm}
 
 -- a fault at a place of the content
-abbrev pub fault_at_path : List ℕ → List (List ℕ) → List ℕ
+abbrev pub fault_at_path : List ℕ → Segments → List ℕ
 fault_at_path name path = name ++ codes " at " ++ text_of path
 
 -- a fault of a content, by its name and its place

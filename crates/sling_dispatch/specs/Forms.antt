@@ -1,6 +1,7 @@
 -- The words that the program knows.
 use Rattle.std.specs.Prelude.{◌≡◌, ◌≤◌, ◌^◌, ◌⊎◌, ℕ, List, [], ◌∷◌, IsUtf8, codes}
 use Rattle.std.specs.Fmt.{decimal}
+use Rattle.sp_base.specs.Texts.{Text}
 use Rattle.sling_dispatch.specs.declared.form.Beginning.{Beginning}
 use Rattle.sling_dispatch.specs.declared.form.Beginning.TheVariants.{Fresh, Warm}
 use Rattle.sling_dispatch.specs.declared.form.ServeWords.{ServeWords}
@@ -13,7 +14,7 @@ beginning_word Fresh = codes "fresh"
 beginning_word Warm = codes "warm"
 
 -- the words of a form: a number is decimal, without a sign or leading zeros
-abbrev pub form_words : Form → List (List ℕ)
+abbrev pub form_words : Form → List Text
 form_words Replay = codes "replay" ∷ []
 form_words (Scenario number) = codes "scenario" ∷ decimal number ∷ []
 form_words (Soak number) = codes "soak" ∷ decimal number ∷ []
@@ -42,18 +43,18 @@ IsInRange (Soak number) = number ≤ greatest_number
 IsInRange (Serve s) = AreServeWords s
 
 -- the words are those of this form
-pub record AsksFor (words : List (List ℕ)) (form : Form) : Type 0 where
+pub record AsksFor (words : List Text) (form : Form) : Type 0 where
   pub words_are : words ≡ form_words form
   pub in_range : IsInRange form
 
 -- the words are those of some form
-abbrev pub HasForm : List (List ℕ) → Type 0
+abbrev pub HasForm : List Text → Type 0
 HasForm words = (form : Form) × AsksFor words form
 
 -- the words ask that clients are served
-abbrev pub IsServe : List (List ℕ) → Type 0
+abbrev pub IsServe : List Text → Type 0
 IsServe words = (s : ServeWords) × AsksFor words (Serve s)
 
 -- the words ask for the scenario of a number, or for a run of it
-abbrev pub AsksNumber : List (List ℕ) → Type 0
+abbrev pub AsksNumber : List Text → Type 0
 AsksNumber words = (n : ℕ) × (AsksFor words (Scenario n) ⊎ AsksFor words (Soak n))

@@ -1,5 +1,6 @@
 -- Scaffolding: what the private functions of a run that serves or counts promise, for proofs alone. A reader of the theorem needs none of it.
 use Rattle.std.specs.Prelude.{◌≡◌, ◌≢◌, ◌++◌, ◌∷◌, ℕ, List, [], Option, Some, None, Ok}
+use Rattle.sp_base.specs.Texts.{Text}
 use Rattle.sp_outside.specs.Files.{Files}
 use Rattle.resource_tree.specs.Content.{Content}
 use Rattle.any_config.specs.declared.farm.Farm.{Farm}
@@ -78,7 +79,7 @@ CountsAll tree farm acts c = (s : Scenario) → s.acts ≡ acts → content_of s
     → (events : List Event) × IsSession s [] events × (c ≡ counts_of events)
 
 -- the call is to serve these words, and both inputs were read: this content and this farm's file
-pub record AreReadAs (asked : List (List ℕ)) (source : StreamReport (List ℕ)) (inputs : StreamReport Files) (words : ServeWords) (content any : List ℕ) : Type 0 where
+pub record AreReadAs (asked : List Text) (source : StreamReport (List ℕ)) (inputs : StreamReport Files) (words : ServeWords) (content any : List ℕ) : Type 0 where
   pub asks : AsksFor asked (Serve words)
   pub source_is : IsUntouched source
   pub inputs_are : IsUntouched inputs

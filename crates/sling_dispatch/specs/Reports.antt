@@ -1,5 +1,6 @@
 -- What a call of `run` made of the objects of the outside.
 use Rattle.std.specs.Prelude.{◌≡◌, ℕ, List, Option}
+use Rattle.sp_base.specs.Texts.{Text}
 use Rattle.sp_outside.specs.Files.{Files}
 use Rattle.sp_outside.specs.Causes.{Rose}
 use Rattle.serve_loop.specs.Served.{DiskReport, WorldReport}
@@ -29,14 +30,14 @@ IsUntouched o = (o.new ≡ o.old) × HasNotFailed o
 
 -- what is told of one call of `run`, beside the sink
 pub record RunCall : Type 0 where
-  pub words : List (List ℕ)
+  pub words : List Text
   pub source : StreamReport (List ℕ)
   pub inputs : StreamReport Files
   pub disk : DiskReport
   pub world : WorldReport
 
 -- one call of `run`
-abbrev pub call_of : List (List ℕ) → StreamReport (List ℕ) → StreamReport Files → DiskReport → WorldReport → RunCall
+abbrev pub call_of : List Text → StreamReport (List ℕ) → StreamReport Files → DiskReport → WorldReport → RunCall
 call_of words source inputs disk world = record { words = words; source = source; inputs = inputs; disk = disk; world = world }
 
 -- the disk's files and its count of faults are as before

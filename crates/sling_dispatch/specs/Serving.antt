@@ -1,5 +1,6 @@
 -- What a call that serves makes of its inputs, of the document root and of the world.
 use Rattle.std.specs.Prelude.{false, ◌≡◌, ◌≢◌, ◌≤◌, ◌<◌, ◌⊎◌, ◌∷◌, ℕ, List, [], Option, Some, IfSome, Ok, Err, length}
+use Rattle.sp_base.specs.Texts.{Text}
 use Rattle.sp_base.specs.Limits.{greatest_u64}
 use Rattle.sp_outside.specs.Files.{Files, file_at}
 use Rattle.sp_outside.specs.Causes.{Rose}
@@ -89,7 +90,7 @@ pub record LacksFarm (c : RunCall) (refusal : FarmRefusal) : Type 0 where
   pub not_memory : is_out_of_memory refusal ≡ false
 
 -- The call is to serve these words, read both inputs, and they have a reading: this content, and this farm.
-pub record HasInputs (asked : List (List ℕ)) (source : StreamReport (List ℕ)) (inputs : StreamReport Files) (words : ServeWords) (tree : Content) (farm : Farm) : Type 0 where
+pub record HasInputs (asked : List Text) (source : StreamReport (List ℕ)) (inputs : StreamReport Files) (words : ServeWords) (tree : Content) (farm : Farm) : Type 0 where
   pub asks : AsksFor asked (Serve words)
   pub source_is : IsUntouched source
   pub inputs_are : IsUntouched inputs

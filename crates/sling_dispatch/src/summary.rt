@@ -85,7 +85,7 @@ impl Counts {
             Note::Flush(_, _, _) => add(&mut self.flushes, 1),
             Note::Done(_) => add(&mut self.done, 1),
             Note::Failed(_, _) => add(&mut self.failed, 1),
-            Note::Sent(_, bytes) => add(&mut self.sent, bytes.bytes().len() as u64),
+            Note::Sent(_, bytes) => add(&mut self.sent, bytes.size()?),
             Note::Hurt => add(&mut self.hurt, 1),
             Note::Dry => add(&mut self.dry, 1),
             _ => Ok(()),

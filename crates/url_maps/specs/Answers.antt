@@ -4,6 +4,7 @@ use Rattle.std.specs.List.{list_all, range_with_len}
 use Rattle.std.specs.Map.{keys_of}
 use Rattle.std.specs.Option.{option_or}
 use Rattle.std.specs.Ordering.{is_lt}
+use Rattle.sp_base.specs.Texts.{Segments}
 use Rattle.sp_base.specs.Paths.{parent_of, path_of, text_of}
 use Rattle.sp_base.specs.declared.path.PathFault.{PathFault}
 use Rattle.resource_tree.specs.Content.{Content, kid, name_of, node_at}
@@ -25,7 +26,7 @@ use Rattle.url_maps.specs.VanityPaths.{has_vanity_path, vanity_page, vanity_cmp}
 -- ---- the pair of each kind with a prefix
 
 -- whether no node from the host node down to the path has a pattern
-abbrev pub is_without_pattern : Content → List (List ℕ) → List (List ℕ) → Bool
+abbrev pub is_without_pattern : Content → Segments → Segments → Bool
 is_without_pattern tree host_node path = list_all (λ depth. not (has_match tree (take depth path))) (range_with_len (length host_node) (length path + 1 - length host_node))
 
 -- the pair of a mapping
@@ -33,24 +34,24 @@ abbrev pub pair_to : List ℕ × Option ℕ → Pair
 pair_to leads = record { kind = Mapping; target = leads.0; away = leads.1 }
 
 -- the pair of the mapping at a path, where no node from the host node down to it has a pattern
-abbrev pub mapping_at : Content → List (List ℕ) → List (List ℕ) → Option Pair
+abbrev pub mapping_at : Content → Segments → Segments → Option Pair
 mapping_at tree host_node path = if is_without_pattern tree host_node path then option_map pair_to (option_and_then mapping_of (node_at tree path)) else None
 
 -- the mapping with a prefix
-abbrev pub mapping_with : Content → Option (List (List ℕ)) → List ℕ → Option Pair
+abbrev pub mapping_with : Content → Option Segments → List ℕ → Option Pair
 mapping_with tree None prefix = None
 mapping_with tree (Some host_node) prefix = option_and_then (mapping_at tree host_node) (mapped_path host_node prefix)
 
 -- the pair to a node
-abbrev pub pair_inside : PairKind → List (List ℕ) → Pair
+abbrev pub pair_inside : PairKind → Segments → Pair
 pair_inside kind path = record { kind = kind; target = text_of path; away = None }
 
 -- the first of a path's siblings that has its name as an alias
-abbrev pub sibling_with_alias : Content → List (List ℕ) → Option (List (List ℕ))
+abbrev pub sibling_with_alias : Content → Segments → Option Segments
 sibling_with_alias tree path = option_map (kid (parent_of path)) (find (λ sibling. has_alias tree (kid (parent_of path) sibling) (name_of path)) (kids_at tree (parent_of path)))
 
 -- the alias that a path is, where no node is there
-abbrev pub alias_at : Content → Result (List (List ℕ)) PathFault → Option Pair
+abbrev pub alias_at : Content → Result Segments PathFault → Option Pair
 alias_at tree (Ok path) = if is_none (node_at tree path) then option_map (pair_inside Alias) (sibling_with_alias tree path) else None
 alias_at tree (Err e) = None
 
@@ -59,21 +60,21 @@ abbrev pub alias_with : Content → List ℕ → Option Pair
 alias_with tree prefix = alias_at tree (path_of prefix)
 
 -- the nodes with a vanity path
-abbrev pub vanity_nodes : Content → List ℕ → List (List (List ℕ))
+abbrev pub vanity_nodes : Content → List ℕ → List Segments
 vanity_nodes tree text = filter (λ path. has_vanity_path tree path text) (keys_of tree)
 
 -- the one of two nodes that is before the other
-abbrev pub earlier : Content → List (List ℕ) → Option (List (List ℕ)) → List (List ℕ)
+abbrev pub earlier : Content → Segments → Option Segments → Segments
 earlier tree path None = path
 earlier tree path (Some other) = if is_lt (vanity_cmp tree path other) then path else other
 
 -- the one of some nodes that is before all others
-abbrev pub earliest : Content → List (List (List ℕ)) → Option (List (List ℕ))
+abbrev pub earliest : Content → List Segments → Option Segments
 earliest tree [] = None
 earliest tree (path ∷ paths) = Some (earlier tree path (earliest tree paths))
 
 -- the vanity path that a text is, where it spells a path at which no node is
-abbrev pub vanity_at : Content → List ℕ → Result (List (List ℕ)) PathFault → Option Pair
+abbrev pub vanity_at : Content → List ℕ → Result Segments PathFault → Option Pair
 vanity_at tree text (Ok at) = if is_none (node_at tree at) then option_map (λ path. pair_inside VanityPath (vanity_page path)) (earliest tree (vanity_nodes tree text)) else None
 vanity_at tree text (Err e) = None
 

@@ -5,6 +5,7 @@ use Rattle.std.specs.List.{list_any}
 use Rattle.std.specs.Map.{lookup}
 use Rattle.std.specs.Option.{option_map_or}
 use Rattle.std.specs.Str.{bytes_eq}
+use Rattle.sp_base.specs.Texts.{Segments}
 use Rattle.sp_base.specs.Paths.{is_path, parent_of, text_of}
 use Rattle.resource_tree.specs.declared.nodes.Node.{Node}
 use Rattle.resource_tree.specs.Content.{Content, node_at, same_path}
@@ -21,26 +22,26 @@ pub record Change : Type 0 where
   pub patterns : Option (List PatternNode)
 
 -- the claimants of a text with a change over them
-abbrev pub claimants_over : ClaimRows → ClaimRows → List ℕ → List (List (List ℕ))
+abbrev pub claimants_over : ClaimRows → ClaimRows → List ℕ → List Segments
 claimants_over changed rows text = option_map_or (λ paths. paths) (lookup (bytes_eq text) changed) (claimants rows text)
 
 -- whether a node claims a text as its vanity path, in a tree with a patch over it
-abbrev pub patched_vanity_path : Content → patches.PatchEntries → List (List ℕ) → List ℕ → Bool
+abbrev pub patched_vanity_path : Content → patches.PatchEntries → Segments → List ℕ → Bool
 patched_vanity_path tree patch path text = option_map_or (λ node. node_claims_vanity_path node text) (patches.patching_at tree patch path) false
 
 -- The rows lead from claims to others: where a text has a row, those in it claim the text after, and no others; where it has none, those claim it who did before.
-abbrev pub AreChanged : (List (List ℕ) → List ℕ → Bool) → (List (List ℕ) → List ℕ → Bool) → ClaimRows → Type 0
-AreChanged before after changed = (text : List ℕ) (path : List (List ℕ)) → option_map_or (list_any (same_path path)) (lookup (bytes_eq text) changed) (before path text) ≡ after path text
+abbrev pub AreChanged : (Segments → List ℕ → Bool) → (Segments → List ℕ → Bool) → ClaimRows → Type 0
+AreChanged before after changed = (text : List ℕ) (path : Segments) → option_map_or (list_any (same_path path)) (lookup (bytes_eq text) changed) (before path text) ≡ after path text
 
 -- The rows lead from the first siblings of a look-up to those of another: the text of each path has the first that claims it after, where it has a
 -- row, and else the first is the same before and after.
-abbrev pub LeadsOn : (List (List ℕ) → Option Node) → (List (List ℕ) → Option Node) → ClaimRows → Type 0
-LeadsOn before after changed = (path : List (List ℕ)) → is_path path ≡ true → 0 < length path
+abbrev pub LeadsOn : (Segments → Option Node) → (Segments → Option Node) → ClaimRows → Type 0
+LeadsOn before after changed = (path : Segments) → is_path path ≡ true → 0 < length path
     → option_map_or (λ paths. paths) (lookup (bytes_eq (text_of path)) changed) (option_to_list (first_claimant before (parent_of path) (text_of path))) ≡ option_to_list (first_claimant after (parent_of path) (text_of path))
 
 -- The nodes that claim a text without a row are after a patch as before it.
 abbrev pub LeavesOthers : Content → patches.PatchEntries → ClaimRows → Type 0
-LeavesOthers tree patch changed = (text : List ℕ) (path : List (List ℕ)) → lookup (bytes_eq text) changed ≡ None → claims_vanity_path tree path text ≡ true → patches.patching_at tree patch path ≡ node_at tree path
+LeavesOthers tree patch changed = (text : List ℕ) (path : Segments) → lookup (bytes_eq text) changed ≡ None → claims_vanity_path tree path text ≡ true → patches.patching_at tree patch path ≡ node_at tree path
 
 -- The change is the one that a patch of a tree makes.
 pub record IsChangeOf (tree : Content) (patch : patches.PatchEntries) (change : Change) : Type 0 where

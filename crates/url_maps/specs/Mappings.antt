@@ -3,6 +3,7 @@ use Rattle.std.specs.Prelude.{◌≡◌, ◌≤◌, ◌||◌, ◌==◌, ℕ, ℤ
 use Rattle.std.specs.Option.{option_map_or, option_or}
 use Rattle.std.specs.Char.{to_ascii_lowercase}
 use Rattle.std.specs.Fmt.{decimal}
+use Rattle.sp_base.specs.Texts.{Segments}
 use Rattle.sp_base.specs.Bytes.{first_text}
 use Rattle.sp_base.specs.PathTexts.{spelling_of}
 use Rattle.sp_base.specs.Properties.{text_in}
@@ -16,15 +17,15 @@ abbrev pub host_node_name : List ℕ → ℕ → List ℕ
 host_node_name host port = map to_ascii_lowercase host ++ 46 ∷ decimal port
 
 -- the path of that node
-abbrev pub host_node_of : List ℕ → ℕ → List (List ℕ)
+abbrev pub host_node_of : List ℕ → ℕ → Segments
 host_node_of host port = codes "etc" ∷ codes "map" ∷ codes "http" ∷ host_node_name host port ∷ []
 
 -- whether the node at a path has a `sling:match`
-unfoldable pub has_match : Content → List (List ℕ) → Bool
+unfoldable pub has_match : Content → Segments → Bool
 has_match tree path = option_map_or (λ node. is_some (prop_at node (codes "sling:match"))) (node_at tree path) false
 
 -- no node from the host node down to the path has a pattern
-abbrev pub IsPlain : Content → List (List ℕ) → List (List ℕ) → Type 0
+abbrev pub IsPlain : Content → Segments → Segments → Type 0
 IsPlain tree host_node path = (k : ℕ) → length host_node ≤ k → k ≤ length path → has_match tree (take k path) ≡ false
 
 -- the statuses of a redirect (RFC 9110, section 15.4)
@@ -63,8 +64,8 @@ mapping_of node = option_or (option_map (λ target. (target, None)) (internal_ta
 
 -- A text has a mapping of a host node: it is the text of the path below the host node at which a node leads to the target. A node with a pattern, and all
 -- below it, is passed over.
-pub record IsMapping (tree : Content) (host_node : List (List ℕ)) (text target : List ℕ) (away : Option ℕ) : Type 0 where
-  pub below : List (List ℕ)
+pub record IsMapping (tree : Content) (host_node : Segments) (text target : List ℕ) (away : Option ℕ) : Type 0 where
+  pub below : Segments
   pub text_is : text ≡ spelling_of below
   pub node : Node
   pub there : node_at tree (host_node ++ below) ≡ Some node

@@ -4,6 +4,7 @@ use Rattle.std.specs.List.{list_any}
 use Rattle.std.specs.Map.{lookup}
 use Rattle.std.specs.Option.{option_map_or}
 use Rattle.std.specs.Str.{bytes_eq}
+use Rattle.sp_base.specs.Texts.{Segments}
 use Rattle.resource_tree.specs.declared.nodes.Node.{Node}
 use Rattle.resource_tree.specs.declared.patch.PatchNode.{PatchNode}
 use Rattle.resource_tree.specs.Content.{same_path}
@@ -11,15 +12,15 @@ use Rattle.resource_tree.specs.Patches as patches
 use Rattle.url_maps.specs.Claims.{ClaimRows, IsLeader, IsLed, claimants, node_claims_vanity_path}
 
 -- those of some paths at which a patch has nothing
-abbrev pub untouched_paths : patches.PatchEntries → List (List (List ℕ)) → List (List (List ℕ))
+abbrev pub untouched_paths : patches.PatchEntries → List Segments → List Segments
 untouched_paths patch paths = filter (λ path. is_none (patches.entry_at patch path)) paths
 
 -- the claimants of a text as a change has them so far
-abbrev pub claimants_so_far : ClaimRows → patches.PatchEntries → ClaimRows → List ℕ → List (List (List ℕ))
+abbrev pub claimants_so_far : ClaimRows → patches.PatchEntries → ClaimRows → List ℕ → List Segments
 claimants_so_far rows patch changed text = option_map_or (λ paths. paths) (lookup (bytes_eq text) changed) (untouched_paths patch (claimants rows text))
 
 -- whether a path is the one, if there is one
-abbrev pub is_at_some : Option (List (List ℕ)) → List (List ℕ) → Bool
+abbrev pub is_at_some : Option Segments → Segments → Bool
 is_at_some path q = option_map_or (same_path q) path false
 
 -- whether a text has a row
@@ -27,42 +28,42 @@ abbrev pub has_row : ClaimRows → List ℕ → Bool
 has_row changed text = is_some (lookup (bytes_eq text) changed)
 
 -- Texts are noted, with more who claim them.
-pub record Notes (rows : ClaimRows) (patch : patches.PatchEntries) (who : List (List ℕ) → Bool) (texts : List ℕ → Bool) (old new : ClaimRows) : Type 0 where
-  pub claims : (text : List ℕ) (q : List (List ℕ)) → list_any (same_path q) (claimants_so_far rows patch new text) ≡ (list_any (same_path q) (claimants_so_far rows patch old text) || (who q && texts text))
+pub record Notes (rows : ClaimRows) (patch : patches.PatchEntries) (who : Segments → Bool) (texts : List ℕ → Bool) (old new : ClaimRows) : Type 0 where
+  pub claims : (text : List ℕ) (q : Segments) → list_any (same_path q) (claimants_so_far rows patch new text) ≡ (list_any (same_path q) (claimants_so_far rows patch old text) || (who q && texts text))
   pub has : (text : List ℕ) → has_row new text ≡ (has_row old text || texts text)
 
 -- The texts that the node at a path claims before a patch, and those that it claims after it, are noted.
-pub record NotesEntry (rows : ClaimRows) (patch : patches.PatchEntries) (path : List (List ℕ)) (before after : List ℕ → Bool) (old new : ClaimRows) : Type 0 where
-  pub claims : (text : List ℕ) (q : List (List ℕ)) → list_any (same_path q) (claimants_so_far rows patch new text) ≡ (list_any (same_path q) (claimants_so_far rows patch old text) || (same_path q path && after text))
+pub record NotesEntry (rows : ClaimRows) (patch : patches.PatchEntries) (path : Segments) (before after : List ℕ → Bool) (old new : ClaimRows) : Type 0 where
+  pub claims : (text : List ℕ) (q : Segments) → list_any (same_path q) (claimants_so_far rows patch new text) ≡ (list_any (same_path q) (claimants_so_far rows patch old text) || (same_path q path && after text))
   pub has : (text : List ℕ) → has_row new text ≡ (has_row old text || (before text || after text))
 
 -- what the node that an entry leaves at a path claims
-abbrev pub left_vanity_path : List (List ℕ) → PatchNode → List ℕ → Bool
+abbrev pub left_vanity_path : Segments → PatchNode → List ℕ → Bool
 left_vanity_path path row text = option_map_or (λ node. node_claims_vanity_path node text) (patches.left_by (Some row) None) false
 
 -- ---- the leaders
 
 -- a path is among others, and none of them is before it
-pub record IsFirstOf (at : List (List ℕ) → Option Node) (paths : List (List (List ℕ))) (path : List (List ℕ)) : Type 0 where
+pub record IsFirstOf (at : Segments → Option Node) (paths : List Segments) (path : Segments) : Type 0 where
   pub among : list_any (same_path path) paths ≡ true
   pub first : IsLeader at paths path
 
 -- those of some paths that are another one
-abbrev pub others : List (List ℕ) → List (List (List ℕ)) → List (List (List ℕ))
+abbrev pub others : Segments → List Segments → List Segments
 others path paths = filter (λ q. not (same_path q path)) paths
 
 -- The paths are the same, maybe in another order, and led.
-pub record PutsLeaderFirst (at : List (List ℕ) → Option Node) (old new : List (List (List ℕ))) : Type 0 where
-  pub paths : (q : List (List ℕ)) → list_any (same_path q) new ≡ list_any (same_path q) old
+pub record PutsLeaderFirst (at : Segments → Option Node) (old new : List Segments) : Type 0 where
+  pub paths : (q : Segments) → list_any (same_path q) new ≡ list_any (same_path q) old
   pub led : IsLed at new
 
 -- The same of a row, if there is one.
-abbrev pub LeadsRow : (List (List ℕ) → Option Node) → Option (List (List (List ℕ))) → Option (List (List (List ℕ))) → Type 0
+abbrev pub LeadsRow : (Segments → Option Node) → Option (List Segments) → Option (List Segments) → Type 0
 LeadsRow at None None = ⊤
 LeadsRow at None (Some new) = ⊥
 LeadsRow at (Some old) None = ⊥
 LeadsRow at (Some old) (Some new) = PutsLeaderFirst at old new
 
 -- The same of each row.
-abbrev pub LeadsRows : (List (List ℕ) → Option Node) → ClaimRows → ClaimRows → Type 0
+abbrev pub LeadsRows : (Segments → Option Node) → ClaimRows → ClaimRows → Type 0
 LeadsRows at old new = (text : List ℕ) → LeadsRow at (lookup (bytes_eq text) old) (lookup (bytes_eq text) new)

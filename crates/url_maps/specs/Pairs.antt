@@ -1,6 +1,7 @@
 -- The pairs of a prefix and a target that a tree has, which of them apply to a text, and which one decides (Apache Sling, "Mappings for
 -- resource resolution"; the order of kinds at a tie is this project's own).
 use Rattle.std.specs.Prelude.{◌≡◌, ◌≤◌, ◌<◌, ◌⊎◌, ◌||◌, ◌==◌, ℕ, Bool, true, List, [], ◌∷◌, Option, Some, None, drop, length, take}
+use Rattle.sp_base.specs.Texts.{Segments}
 use Rattle.sp_base.specs.Paths.{text_of}
 use Rattle.resource_tree.specs.Content.{Content}
 use Rattle.url_maps.specs.declared.pairs.Pair.{Pair}
@@ -12,7 +13,7 @@ use Rattle.url_maps.specs.Patterns.{Asked, IsPatternPair, host_of}
 use Rattle.url_maps.specs.VanityPaths.{IsVanityPath, vanity_page}
 
 -- a mapping of a host node, if there is one
-abbrev pub HasMapping : Content → Option (List (List ℕ)) → List ℕ → Pair → Type 0
+abbrev pub HasMapping : Content → Option Segments → List ℕ → Pair → Type 0
 HasMapping tree None prefix pair = ⊥
 HasMapping tree (Some host_node) prefix pair = IsMapping tree host_node prefix pair.target pair.away
 
@@ -23,14 +24,14 @@ HasPatternPair tree (Some asked) prefix pair = IsPatternPair tree asked prefix (
 
 -- the alias of a node
 pub record HasAlias (tree : Content) (prefix : List ℕ) (pair : Pair) : Type 0 where
-  pub path : List (List ℕ)
+  pub path : Segments
   pub alias : IsAlias tree prefix path
   pub target : pair.target ≡ text_of path
   pub inside : pair.away ≡ None
 
 -- the vanity path of a node
 pub record HasVanityPath (tree : Content) (prefix : List ℕ) (pair : Pair) : Type 0 where
-  pub path : List (List ℕ)
+  pub path : Segments
   pub vanity_path : IsVanityPath tree prefix path
   pub target : pair.target ≡ text_of (vanity_page path)
   pub inside : pair.away ≡ None

@@ -4,6 +4,7 @@ use Rattle.std.specs.Cmp.Lexicographic.{pointwise}
 use Rattle.std.specs.Option.{option_map_or}
 use Rattle.std.specs.Ordering.{is_lt}
 use Rattle.std.specs.Str.{chars}
+use Rattle.sp_base.specs.Texts.{Text}
 use Rattle.sp_base.specs.Names.{by_name}
 use Rattle.regex_rules.specs.Trees.{Tree}
 use Rattle.regex_rules.specs.Deciding.{pattern_tree}
@@ -57,12 +58,12 @@ lesser name None = name
 lesser name (Some other) = if is_lt (by_name name other) then name else other
 
 -- the least of some names
-abbrev pub least : List (List ℕ) → Option (List ℕ)
+abbrev pub least : List Text → Option (List ℕ)
 least [] = None
 least (name ∷ names) = Some (lesser name (least names))
 
 -- the names of the nodes that give a pair with a prefix
-abbrev pub givers : Content → Asked → List ℕ → List (List ℕ)
+abbrev pub givers : Content → Asked → List ℕ → List Text
 givers tree asked prefix = filter (λ name. is_some (given_at tree asked prefix name)) (kids_at tree mappings_path)
 
 abbrev pub pattern_pair : List ℕ × Option ℕ → Pair

@@ -3,6 +3,7 @@ use Rattle.std.specs.Prelude.{◌≡◌, ◌<◌, ◌⊎◌, ◌&&◌, ◌+◌, 
 use Rattle.std.specs.Cmp.Lexicographic.{pointwise}
 use Rattle.std.specs.List.{list_any}
 use Rattle.std.specs.Option.{option_map_or}
+use Rattle.sp_base.specs.Texts.{Segments, Text}
 use Rattle.sp_base.specs.Paths.{is_path, is_under}
 use Rattle.regex_rules.specs.Trees.{Tree, tree_of}
 use Rattle.resource_tree.specs.declared.nodes.Node.{Node}
@@ -27,7 +28,7 @@ abbrev pub IsRowAt : List PatternNode → ℕ → PatternNode → Type 0
 IsRowAt rows k row = (k < length rows) × (slice_index_or rows k row ≡ row)
 
 -- a row is of the node that a look-up has under its name directly below `/etc/map/http`
-pub record IsRowOf (at : List (List ℕ) → Option Node) (row : PatternNode) : Type 0 where
+pub record IsRowOf (at : Segments → Option Node) (row : PatternNode) : Type 0 where
   pub node : Node
   pub there : at (kid mappings_path row.name) ≡ Some node
   pub leads : LeadsBy node (tree_of row.pattern)
@@ -41,33 +42,33 @@ pub record HasRowOf (rows : List PatternNode) (name : List ℕ) (pattern : Tree)
   pub pattern_is : tree_of row.pattern ≡ pattern
 
 -- The node that a look-up has under a name has its row.
-abbrev pub IsListed : (List (List ℕ) → Option Node) → List PatternNode → List ℕ → Type 0
+abbrev pub IsListed : (Segments → Option Node) → List PatternNode → List ℕ → Type 0
 IsListed at rows name = (node : Node) (pattern : Tree) → is_path (kid mappings_path name) ≡ true → at (kid mappings_path name) ≡ Some node → LeadsBy node pattern → HasRowOf rows name pattern
 
 -- The rows are those of the nodes that a look-up has under some names directly below `/etc/map/http`.
-pub record AreRowsOfNames (at : List (List ℕ) → Option Node) (names : List (List ℕ)) (rows : List PatternNode) : Type 0 where
+pub record AreRowsOfNames (at : Segments → Option Node) (names : List Text) (rows : List PatternNode) : Type 0 where
   pub rows_are : (k : ℕ) (row : PatternNode) → IsRowAt rows k row → IsRowOf at row
   pub all : (name : List ℕ) → list_any (pointwise nat_eq name) names ≡ true → IsListed at rows name
 
 -- The rows are those of all kids of `/etc/map/http`.
-abbrev pub ArePatterns : (List (List ℕ) → Option Node) → List PatternNode → Type 0
+abbrev pub ArePatterns : (Segments → Option Node) → List PatternNode → Type 0
 ArePatterns at rows = AreRowsOfNames at (option_map_or (λ node. node.kids) (at mappings_path) []) rows
 
 -- One more name's row, where its node has one.
-pub record AddsPattern (at : List (List ℕ) → Option Node) (name : List ℕ) (old new : List PatternNode) : Type 0 where
+pub record AddsPattern (at : Segments → Option Node) (name : List ℕ) (old new : List PatternNode) : Type 0 where
   pub rows_are : (k : ℕ) (row : PatternNode) → IsRowAt new k row → IsRowAt old k row ⊎ IsRowOf at row
   pub stay : (k : ℕ) (row : PatternNode) → IsRowAt old k row → IsRowAt new k row
   pub listed : IsListed at new name
 
 -- whether a path is another, or one of a kid of it
-abbrev pub is_of_family : List (List ℕ) → List (List ℕ) → Bool
+abbrev pub is_of_family : Segments → Segments → Bool
 is_of_family path parent = is_under path parent && nat_le (length path) (length parent + 1)
 
 -- whether a patch has something there
-abbrev pub touches : PatchEntries → List (List ℕ) → Bool
+abbrev pub touches : PatchEntries → Segments → Bool
 touches patch parent = list_any (λ entry. is_of_family entry.0 parent) patch
 
 -- The rows after a patch, where it may change any; else those before it are right after it too.
-abbrev pub ArePatternsAfter : (List (List ℕ) → Option Node) → (List (List ℕ) → Option Node) → Option (List PatternNode) → Type 0
+abbrev pub ArePatternsAfter : (Segments → Option Node) → (Segments → Option Node) → Option (List PatternNode) → Type 0
 ArePatternsAfter before after (Some rows) = ArePatterns after rows
 ArePatternsAfter before after None = (rows : List PatternNode) → ArePatterns before rows → ArePatterns after rows

@@ -1,8 +1,9 @@
 -- The pairs that patterns give, for a host, a port and a text (Apache Sling, "Mappings for resource resolution", sling:match). The language of patterns is
 -- that of `regex_rules`.
-use Rattle.std.specs.Prelude.{◌≡◌, ◌≤◌, ◌⊎◌, ◌++◌, ℕ, true, List, [], ◌∷◌, Option, Some, None, codes, drop, length, option_map, take}
+use Rattle.std.specs.Prelude.{◌≡◌, ◌≤◌, ◌⊎◌, ◌++◌, ℕ, true, List, [], ◌∷◌, Option, Some, codes, drop, length, option_map, take}
 use Rattle.std.specs.Str.{chars}
 use Rattle.std.specs.declared.cmp.Ordering.TheVariants.{Less}
+use Rattle.sp_base.specs.Texts.{Segments}
 use Rattle.sp_base.specs.Names.{by_name}
 use Rattle.sp_base.specs.Properties.{text_in}
 use Rattle.regex_rules.specs.Trees.{Tree}
@@ -15,7 +16,7 @@ use Rattle.url_maps.specs.Mappings.{host_node_of, mapping_of}
 
 -- What the mappings of a first turn are asked for: the path of the node of a host and a port, and the text.
 pub record Asked : Type 0 where
-  pub host_node : List (List ℕ)
+  pub host_node : Segments
   pub text : List ℕ
 
 -- a text at a host and a port
@@ -23,11 +24,11 @@ abbrev pub asked_for : List ℕ → ℕ → List ℕ → Asked
 asked_for host port text = record { host_node = host_node_of host port; text = text }
 
 -- the host node, if mappings are asked for
-abbrev pub host_of : Option Asked → Option (List (List ℕ))
+abbrev pub host_of : Option Asked → Option Segments
 host_of asked = option_map (λ a. a.host_node) asked
 
 -- the node directly below which host nodes and nodes with a pattern are
-abbrev pub mappings_path : List (List ℕ)
+abbrev pub mappings_path : Segments
 mappings_path = codes "etc" ∷ codes "map" ∷ codes "http" ∷ []
 
 -- the text `sling:match` of a node, where its value is one

@@ -3,6 +3,7 @@
 use Rattle.std.specs.Prelude.{◌≡◌, ◌≤◌, ◌<◌, ◌⊎◌, ◌&&◌, ◌||◌, ◌==◌, ◌++◌, ℕ, Bool, true, false, is_none, is_some, not, List, [], ◌∷◌, Option, Some, None, length, slice_index, take}
 use Rattle.std.specs.List.{list_any}
 use Rattle.std.specs.declared.cmp.Ordering.TheVariants.{Less}
+use Rattle.sp_base.specs.Texts.{Segments}
 use Rattle.sp_base.specs.Paths.{path_in, path_or_none}
 use Rattle.resource_tree.specs.Content.{Content, node_at, same_path}
 use Rattle.url_maps.specs.declared.pairs.Pair.{Pair}
@@ -22,12 +23,12 @@ IsOf kind tree asked prefix (Some pair) = (pair.kind ≡ kind) × IsPair tree as
 IsOf kind tree asked prefix None = (pair : Pair) → pair.kind ≡ kind → IsPair tree asked prefix pair → ⊥
 
 -- the pair of a mapping of a host node, or that there is none
-abbrev pub IsMappingOf : Content → Option (List (List ℕ)) → List ℕ → Option Pair → Type 0
+abbrev pub IsMappingOf : Content → Option Segments → List ℕ → Option Pair → Type 0
 IsMappingOf tree host_node prefix (Some pair) = (pair.kind ≡ Mapping) × HasMapping tree host_node prefix pair
 IsMappingOf tree host_node prefix None = (pair : Pair) → HasMapping tree host_node prefix pair → ⊥
 
 -- whether no node is at a path
-abbrev pub is_free_at : Content → Option (List (List ℕ)) → Bool
+abbrev pub is_free_at : Content → Option Segments → Bool
 is_free_at tree None = false
 is_free_at tree (Some path) = is_none (node_at tree path)
 
@@ -36,9 +37,9 @@ abbrev pub is_free : Content → List ℕ → Bool
 is_free tree text = is_free_at tree (path_in text)
 
 -- a path is among others, and before each of them in the order of nodes with one vanity path
-pub record IsFirstPath (tree : Content) (paths : List (List (List ℕ))) (path : List (List ℕ)) : Type 0 where
+pub record IsFirstPath (tree : Content) (paths : List Segments) (path : Segments) : Type 0 where
   pub among : list_any (same_path path) paths ≡ true
-  pub first : (other : List (List ℕ)) → list_any (same_path other) paths ≡ true → (other ≡ path) ⊎ (vanity_cmp tree path other ≡ Less)
+  pub first : (other : Segments) → list_any (same_path other) paths ≡ true → (other ≡ path) ⊎ (vanity_cmp tree path other ≡ Less)
 
 -- the end of a text, or the rest from a dot or a slash on
 abbrev pub is_prefix_end : List ℕ → Bool
@@ -46,20 +47,20 @@ is_prefix_end [] = true
 is_prefix_end (b ∷ rest) = b == 46 || b == 47
 
 -- no mapping's prefix in a text has more bytes
-abbrev pub HasNoMappingBeyond : Content → Option (List (List ℕ)) → List ℕ → ℕ → Type 0
+abbrev pub HasNoMappingBeyond : Content → Option Segments → List ℕ → ℕ → Type 0
 HasNoMappingBeyond tree host_node text reach = (k : ℕ) (pair : Pair) → reach < k → k ≤ length text → HasMapping tree host_node (take k text) pair → ⊥
 
 -- a prefix of more bytes is none of a mapping
-abbrev pub IsBeyond : Content → Option (List (List ℕ)) → List ℕ → ℕ → Type 0
+abbrev pub IsBeyond : Content → Option Segments → List ℕ → ℕ → Type 0
 IsBeyond tree host_node prefix reach = (pair : Pair) → reach < length prefix → HasMapping tree host_node prefix pair → ⊥
 
 -- whether a node is at a path, and that one without a pattern
-abbrev pub is_passable : Content → List (List ℕ) → Bool
+abbrev pub is_passable : Content → Segments → Bool
 is_passable tree path = is_some (node_at tree path) && not (has_match tree path)
 
 -- The first segments of a path down to a depth, unless they are all, lead to no node below a host node, or to one with a pattern. The least such
 -- depth cuts the most off: a greater one would cost time, as more prefixes are looked up, and never change an answer.
-abbrev pub IsBarredAt : Content → List (List ℕ) → List (List ℕ) → ℕ → Type 0
+abbrev pub IsBarredAt : Content → Segments → Segments → ℕ → Type 0
 IsBarredAt tree host_node path depth = depth < length path → is_passable tree (host_node ++ take depth path) ≡ false
 
 -- a byte before which a text may be cut
@@ -95,12 +96,12 @@ IsTurn tree asked text (Some step) = IsStep tree asked text step
 IsTurn tree asked text None = HasNoPair tree asked text
 
 -- the path below a host node that a prefix names, where there is one
-abbrev pub below_host_node : List (List ℕ) → Option (List (List ℕ)) → Option (List (List ℕ))
+abbrev pub below_host_node : Segments → Option Segments → Option Segments
 below_host_node host_node None = None
 below_host_node host_node (Some below) = path_or_none (host_node ++ below)
 
 -- the path of the node at which a prefix has its mapping: the host node, or one below it
-abbrev pub mapped_path : List (List ℕ) → List ℕ → Option (List (List ℕ))
+abbrev pub mapped_path : Segments → List ℕ → Option Segments
 mapped_path host_node [] = Some host_node
 mapped_path host_node (b ∷ []) = None
 mapped_path host_node (b ∷ c ∷ text) = below_host_node host_node (path_in (b ∷ c ∷ text))

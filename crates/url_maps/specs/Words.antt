@@ -2,6 +2,7 @@
 use Rattle.std.specs.Prelude.{ℕ, ℤ, Bool, false, List, Option, Some, None}
 use Rattle.std.specs.List.{list_any}
 use Rattle.std.specs.Option.{option_map_or}
+use Rattle.sp_base.specs.Texts.{Segments}
 use Rattle.sp_base.specs.Properties.{value_texts}
 use Rattle.sp_base.specs.declared.value.Value.{Value}
 use Rattle.sp_base.specs.declared.value.Value.TheVariants.{Text, Long, Truth, Texts, Longs, Truths}
@@ -18,5 +19,5 @@ mapping_number (Some (Longs ns)) = None
 mapping_number (Some (Truths bs)) = None
 
 -- whether a test holds for one of the texts under a name of the node at a path
-abbrev pub any_text_at : Content → List (List ℕ) → List ℕ → (List ℕ → Bool) → Bool
+abbrev pub any_text_at : Content → Segments → List ℕ → (List ℕ → Bool) → Bool
 any_text_at tree path name test = option_map_or (λ node. list_any test (value_texts (prop_at node name))) (node_at tree path) false

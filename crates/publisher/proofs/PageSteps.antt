@@ -5,7 +5,7 @@ use Rattle.std.specs.List.{flat_map}
 use Rattle.std.proofs.lemmas.List.{take_all, take_more, take-append-drop}
 use Rattle.std.proofs.lemmas.List.Concat.{flat_map-append}
 use Rattle.sp_base.specs.Paths.{parent_of}
-use Rattle.sp_base.specs.Texts.{Pairs, Segments, Text}
+use Rattle.sp_base.specs.Texts.{Pairs, Properties, Segments, Text}
 use Rattle.resource_tree.specs.Content.{Content}
 use Rattle.resource_tree.specs.Seen.{Resource}
 use Rattle.overlay_merge.specs.Merged.{merged_alone, merged_resource, without_kids}
@@ -16,8 +16,8 @@ use Rattle.htl_blocks.specs.Parts.{Part, Script, Resource as ResourcePart, round
 use Rattle.publisher.specs.declared.page_fault.PageFault.{PageFault}
 use Rattle.publisher.specs.declared.page_fault.PageFault.TheVariants.{NoMemory}
 use Rattle.publisher.specs.Gathering.{Gathered, IsPassed, PassLimits}
-use Rattle.publisher.specs.Pages.{Page, Place, blank, html_parts, included_resource, included_script, inclusion, joined, parts_page, path_named, place_of, put_in, resource_by, rounds_page, shown_resource, too_deep, written_by_script, written_page}
-use Rattle.publisher.proofs.PageLemmas.{after, joined_assoc, joined_blank, parts_append, parts_pass, passed_before, passed_more, rounds_apart, stopped}
+use Rattle.publisher.specs.Pages.{Page, Place, blank, html_parts, included_resource, included_script, inclusion, joined, one_inclusion, parts_page, path_named, place_of, put_in, resource_by, rounds_page, shown_resource, too_deep, written_by_script, written_page}
+use Rattle.publisher.proofs.PageLemmas.{after, joined_assoc, joined_blank, parts_append, parts_pass, passed_before, passed_more, resource_is, rounds_apart, script_is, stopped}
 
 -- ---- the blocks of a script
 
@@ -66,6 +66,22 @@ each_stopped put g f old mid xs i d x lt is known h ne =
 
 pub each_done : {X : Type 0} (put : Part → Page) (g : X → List Part) (old new : Page) (xs : List X) (i : ℕ) → length xs ≤ i → new ≡ joined old (parts_page put (flat_map g (take i xs))) → new ≡ joined old (parts_page put (flat_map g xs))
 each_done {X} put g old new xs i le known = known ∙ ap (λ (ys : List X). joined old (parts_page put (flat_map g ys))) (take_all i xs le)
+
+-- ---- a piece
+
+pub script_written : {A : Type 0} (r : Result A PageFault) (put : Part → Page) (old mid new : Page) (name : Text) (vars : Pairs) → mid ≡ joined old one_inclusion → Gathered r mid new (put (Script name vars))
+    → Gathered r old new (parts_page put (Script name vars ∷ []))
+script_written r put old mid new name vars counted more = subst (Gathered r old new) (sym (script_is put name vars)) (after r old mid new one_inclusion (put (Script name vars)) counted more)
+
+pub resource_written : {A : Type 0} (r : Result A PageFault) (put : Part → Page) (old mid new : Page) (name : Text) → mid ≡ joined old one_inclusion → Gathered r mid new (put (ResourcePart name))
+    → Gathered r old new (parts_page put (ResourcePart name ∷ []))
+resource_written r put old mid new name counted more = subst (Gathered r old new) (sym (resource_is put name)) (after r old mid new one_inclusion (put (ResourcePart name)) counted more)
+
+pub script_stopped : (f : PageFault) (put : Part → Page) (old : Page) (name : Text) (vars : Pairs) → (f ≢ NoMemory → IsPassed (joined old one_inclusion)) → f ≢ NoMemory → IsPassed (joined old (parts_page put (Script name vars ∷ [])))
+script_stopped f put old name vars h known = subst (λ (p : Page). IsPassed (joined old p)) (sym (script_is put name vars)) (stopped f old one_inclusion (put (Script name vars)) h known)
+
+pub resource_stopped : (f : PageFault) (put : Part → Page) (old : Page) (name : Text) → (f ≢ NoMemory → IsPassed (joined old one_inclusion)) → f ≢ NoMemory → IsPassed (joined old (parts_page put (ResourcePart name ∷ [])))
+resource_stopped f put old name h known = subst (λ (p : Page). IsPassed (joined old p)) (sym (resource_is put name)) (stopped f old one_inclusion (put (ResourcePart name)) h known)
 
 -- ---- what is put in
 
@@ -116,3 +132,9 @@ shown_step tree path o seen_is = shown_alone tree path ∙ ap (shown_resource tr
 
 pub by_step : (tree : Content) (res : Resource) (o : Option Segments) → o ≡ first_script tree (chain_of tree res.props) (html_parts res.path) → shown_resource tree (Some res) ≡ resource_by tree res o
 by_step tree res o first = ap (resource_by tree res) (sym first)
+
+-- what a script writes at the place of a resource
+pub written_for : {A : Type 0} (r : Result A PageFault) (put : Place → Part → Page) (tree : Content) (res : Resource) (script path : Segments) (props : Properties) (vars : Pairs) (old new : Page) → path ≡ res.path → props ≡ res.props → vars ≡ []
+    → Gathered r old new (written_page put (written_by_script tree (record { script = script; path = path; props = props }) vars)) → Gathered r old new (written_page put (resource_by tree res (Some script)))
+written_for r put tree res script path props vars old new path_is props_is none written =
+    subst (Gathered r old new) (λ i. written_page put (written_by_script tree (record { script = script; path = path_is i; props = props_is i }) (none i))) written

@@ -6,22 +6,22 @@ use Rattle.publisher.specs.Pages.{joined, parts_page}
 use Rattle.publisher.proofs.pages.+page.Given as goal
 
 abbrev pub decreases-write_piece : goal.decreases-write_piece
-decreases-write_piece l = 4 * l.setting.now.levels
+decreases-write_piece l = 5 * l.setting.now.levels + 1
 
 abbrev pub decreases-write_pieces : goal.decreases-write_pieces
-decreases-write_pieces l = 4 * l.setting.now.levels + 1
+decreases-write_pieces l = 5 * l.setting.now.levels + 2
 
 abbrev pub decreases-write_blocks : goal.decreases-write_blocks
-decreases-write_blocks l = 4 * l.setting.now.levels + 2
+decreases-write_blocks l = 5 * l.setting.now.levels + 3
 
 abbrev pub decreases-write_script : goal.decreases-write_script
-decreases-write_script l = 4 * l.setting.now.levels + 3
+decreases-write_script l = 5 * l.setting.now.levels + 4
 
 abbrev pub decreases-include_script : goal.decreases-include_script
-decreases-include_script l = 4 * l.setting.now.levels
+decreases-include_script l = 5 * l.setting.now.levels
 
 abbrev pub decreases-include_resource : goal.decreases-include_resource
-decreases-include_resource l = 4 * l.setting.now.levels
+decreases-include_resource l = 5 * l.setting.now.levels
 
 abbrev pub invariant-write_pieces-loop-piece : goal.invariant-write_pieces-loop-piece
 invariant-write_pieces-loop-piece l =

@@ -2,6 +2,7 @@ pub mod DepthLemmas
 pub mod ChoiceLemmas
 pub mod PageLemmas
 pub mod PageSteps
+pub mod PageAnswers
 pub mod RenderingLemmas
 pub mod ScriptLaw
 pub mod KeptLemmas

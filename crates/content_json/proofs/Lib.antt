@@ -27,6 +27,7 @@ pub mod LawLemmas
 pub mod FaultLemmas
 pub mod PathCount
 pub mod PutLemmas
+pub mod OpenPropsLemmas
 pub mod OpenObjectLemmas
 pub mod ListedLemmas
 pub mod OpenNodeLemmas

@@ -15,12 +15,14 @@ use Rattle.serde_json.specs.Data.{Data, null, boolean, number, string, array, ob
 use Rattle.serde_json.specs.Find.{as_str, as_array, get_member}
 use Rattle.serde_json.specs.View.{items_of}
 use Rattle.sp_base.specs.Names.{by_name}
+use Rattle.sp_base.specs.declared.value.Value.{Value}
 use Rattle.content_json.specs.declared.open_object.OpenObject.{OpenObject}
 use Rattle.content_json.specs.Names.{order_name, is_order, is_kid_member, kid_names, is_kid}
 use Rattle.content_json.specs.Lists.{item_list}
 use Rattle.content_json.specs.Faults.{names_kids, has_good_order, is_good_order}
 use Rattle.content_json.specs.Nodes.{add_props, kids_of}
 use Rattle.content_json.specs.Members.{AreSorted, entries_of}
+use Rattle.content_json.specs.OpenProps.{held}
 use Rattle.content_json.specs.FromTokens.{HoldsMembers, texts_array, texts_in, with_others}
 use Rattle.content_json.proofs.Under.{both}
 use Rattle.content_json.proofs.JoinLemmas.{both as both_hold}
@@ -116,10 +118,10 @@ order_good ms (Some (object xs)) names e good = absurd (cc)
 -- ---- the node
 
 module _ (parent : OpenObject) (ms : Members) (h : HoldsMembers parent ms) where
-  pub props_are : T (is_sorted by_name parent.props) → parent.props ≡ add_props [] ms
-  props_are sorted =
-      same_entries by_name nat_list_cmp_total same_name parent.props (add_props [] ms) sorted (sorted_props ms [] tt)
-      (λ q. h.props q ∙ sym (find_added ms [] q h.sorted ∙ option_or-none (read_value q (get_member q ms))))
+  pub props_are : (props : List (List ℕ × Value)) → T (is_sorted by_name props) → ((q : List ℕ) → find by_name q props ≡ held parent.props q) → props ≡ add_props [] ms
+  props_are props sorted is =
+      same_entries by_name nat_list_cmp_total same_name props (add_props [] ms) sorted (sorted_props ms [] tt)
+      (λ q. is q ∙ h.props q ∙ sym (find_added ms [] q h.sorted ∙ option_or-none (read_value q (get_member q ms))))
 
   names_are : IsOrdered (λ j k. slice_cmp nat_cmp j.now k.now) parent.kids → texts_in parent.kids.keys ≡ kid_names ms
   names_are ordered =

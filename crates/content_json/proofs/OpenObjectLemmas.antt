@@ -1,29 +1,20 @@
 -- What is held of an object's members when one more is taken in.
-use Rattle.std.proofs.Common.{◌≡◌, ℕ, Bool, true, false, cond, not, ◌&&◌, ⊎_elim, List, [], Option, Some, None, is_some, option_copied, map, unwrap_or, if◌then◌else◌, Bor, nat_cmp, refl, sym, ap, ◌∙◌}
+use Rattle.std.proofs.Common.{◌≡◌, ℕ, Bool, true, false, cond, not, ◌&&◌, ⊎_elim, List, [], Option, Some, None, map, unwrap_or, if◌then◌else◌, Bor, nat_cmp, refl, sym, ap, ◌∙◌}
 use Rattle.std.specs.BTreeSet.{contains_by}
-use Rattle.std.specs.Cmp.Lexicographic.{slice_cmp, nat_list_cmp_total, same_text}
-use Rattle.std.specs.FinMap.Entries.{find, find-put}
-use Rattle.std.specs.FinMap.Entries as entries
+use Rattle.std.specs.Cmp.Lexicographic.{slice_cmp, same_text}
 use Rattle.std.specs.Option.{option_map_or}
 use Rattle.std.specs.Str.{bytes_eq}
 use Rattle.std.proofs.lemmas.Bool.{cases_Bool, true≢false}
 use Rattle.serde_json.specs.Data.{Data, null, boolean, number, string, array, object, Items, Members, put}
 use Rattle.serde_json.specs.Find.{get_member}
-use Rattle.sp_base.specs.Names.{by_name}
-use Rattle.sp_base.specs.declared.value.Value.{Value}
 use Rattle.content_json.specs.declared.open_object.OpenObject.{OpenObject}
 use Rattle.content_json.specs.Names.{order_name, is_order, is_content_name, is_object, is_kid}
 use Rattle.content_json.specs.Lists.{data_value}
+use Rattle.content_json.specs.OpenProps.{held}
 use Rattle.content_json.specs.FromTokens.{HoldsMembers, texts_array}
-use Rattle.content_json.proofs.PutLemmas.{not_order, value_no_kid}
 use Rattle.content_json.proofs.Under.{bytes_eq_itself}
-use Rattle.content_json.proofs.InsertLemmas.{get-put, sorted-put, tie_is}
+use Rattle.content_json.proofs.InsertLemmas.{get-put, sorted-put}
 use Rattle.content_json.proofs.ReturnNodes.{read_value}
-
--- what isn't found through a reference isn't there
-pub not_there : {A : Type 0} (o : Option (Bor A)) (p : Option A) → option_copied o ≡ p → is_some o ≡ false → p ≡ None
-not_there None p is none = sym is
-not_there (Some x) p is none = absurd (true≢false none)
 
 -- what has an answer at a name already
 pub same_at : {A : Type 0} (f : List ℕ → A) (q name : List ℕ) (x : A) → f name ≡ x → f q ≡ cond (bytes_eq q name) x (f q)
@@ -32,11 +23,6 @@ same_at f q name x is =
     (λ e. ap f (same_text q name (sym e)) ∙ is ∙ sym (ap (λ t. cond t x (f q)) e))
     (λ e. sym (ap (λ t. cond t x (f q)) e))
     (cases_Bool (bytes_eq q name))
-
-pub find_put_value : (q name : List ℕ) (v : Value) (d : Data) (props : List (List ℕ × Value)) → data_value d ≡ Some v
-    → find by_name q (entries.put by_name name v props) ≡ cond (bytes_eq q name) (data_value d) (find by_name q props)
-find_put_value q name v d props is =
-    find-put by_name nat_list_cmp_total q name v props ∙ ap (λ t. cond t (Some v) (find by_name q props)) (tie_is q name) ∙ ap (λ o. cond (bytes_eq q name) o (find by_name q props)) (sym is)
 
 -- an array is no object
 order_no_kid : (o : Option Data) (ds es : Items) → unwrap_or o (array ds) ≡ array es → option_map_or is_object o false ≡ false
@@ -65,14 +51,14 @@ module _ (before : OpenObject) (ms : Members) (h : HoldsMembers before ms) where
 
     -- a property, a kid, or a member that is neither
     pub holds-put : is_order name ≡ false
-        → ((q : List ℕ) → find by_name q after.props ≡ cond (bytes_eq q name) (data_value d) (find by_name q before.props))
+        → ((q : List ℕ) → held after.props q ≡ cond (bytes_eq q name) (data_value d) (held before.props q))
         → ((q : List ℕ) → contains_by (λ k. slice_cmp nat_cmp q k.now) after.kids ≡ cond (bytes_eq q name) (is_object d) (contains_by (λ k. slice_cmp nat_cmp q k.now) before.kids))
         → after.order ≡ before.order → HoldsMembers after (put name d ms)
     holds-put other props kids order = record {
       sorted = sorted-put name d ms h.sorted;
       props = λ q. props q ∙ ⊎_elim
-          (λ e. ap (λ t. cond t (data_value d) (find by_name q before.props)) e ∙ sym (ap (read_value q) (here q e) ∙ ap (λ t. if t then None else data_value d) (plain q e)))
-          (λ e. ap (λ t. cond t (data_value d) (find by_name q before.props)) e ∙ h.props q ∙ sym (ap (read_value q) (there q e)))
+          (λ e. ap (λ t. cond t (data_value d) (held before.props q)) e ∙ sym (ap (read_value q) (here q e) ∙ ap (λ t. if t then None else data_value d) (plain q e)))
+          (λ e. ap (λ t. cond t (data_value d) (held before.props q)) e ∙ h.props q ∙ sym (ap (read_value q) (there q e)))
           (cases_Bool (bytes_eq q name));
       kids = λ q. kids q ∙ ⊎_elim
           (λ e. ap (λ t. cond t (is_object d) (contains_by (λ k. slice_cmp nat_cmp q k.now) before.kids)) e
@@ -99,7 +85,7 @@ module _ (before : OpenObject) (ms : Members) (h : HoldsMembers before ms) where
     pub holds-order : after.props ≡ before.props → after.kids ≡ before.kids → d ≡ texts_array (map (λ name. name.now) after.order.items) → HoldsMembers after (put order_name d ms)
     holds-order props kids order = record {
       sorted = sorted-put order_name d ms h.sorted;
-      props = λ q. ap (find by_name q) props ∙ h.props q ∙ ⊎_elim
+      props = λ q. ap (λ ps. held ps q) props ∙ h.props q ∙ ⊎_elim
           (λ e. rw e refl)
           (λ e. ap (read_value q) (sym (other q e)))
           (cases_Bool (is_order q));

@@ -6,7 +6,6 @@ use Rattle.std.specs.Borrow.{Bor}
 use Rattle.std.specs.BTreeSet.{contains_by}
 use Rattle.std.specs.List.{list_any}
 use Rattle.std.specs.Str.{bytes_eq}
-use Rattle.std.specs.FinMap.Entries.{find}
 use Rattle.sp_base.specs.Texts.{Segments, Text}
 use Rattle.json.specs.Token.{Token}
 use Rattle.json.specs.Json as json
@@ -14,9 +13,9 @@ use Rattle.serde_json.specs.Data.{Data, string, array, object, Members, no_membe
 use Rattle.serde_json.specs.Find.{get_member}
 use Rattle.serde_json.specs.Read.{of_json, of_members, converted}
 use Rattle.serde_json.specs.View.{items_of}
-use Rattle.sp_base.specs.Names.{by_name}
 use Rattle.sp_base.specs.declared.value.Value.{Value}
 use Rattle.content_json.specs.declared.open_object.OpenObject.{OpenObject}
+use Rattle.content_json.specs.OpenProps.{held}
 use Rattle.resource_tree.specs.Content.{Content, node_at}
 use Rattle.content_json.specs.Names.{order_name, is_order, is_content_name, is_object, is_kid}
 use Rattle.content_json.specs.Lists.{data_value}
@@ -46,7 +45,7 @@ texts_array texts = array (items_of (map string texts))
 -- what is kept of an object is of these members: the values of its properties, the names of its kids, what `:order` lists
 pub record HoldsMembers (parent : OpenObject) (ms : Members) : Type 0 where
   pub sorted : AreSorted ms
-  pub props : (q : List ℕ) → find by_name q parent.props ≡ (if is_order q then None else option_and_then data_value (get_member q ms))
+  pub props : (q : List ℕ) → held parent.props q ≡ (if is_order q then None else option_and_then data_value (get_member q ms))
   pub kids : (q : List ℕ) → contains_by (λ k. slice_cmp nat_cmp q k.now) parent.kids ≡ (not (is_order q) && is_kid ms q)
   pub order : unwrap_or (get_member order_name ms) (texts_array []) ≡ texts_array (texts_in parent.order.items)
 

@@ -7,4 +7,5 @@ pub mod Ways
 pub mod ContentOf
 pub mod Written
 pub mod Steps
+pub mod OpenProps
 pub mod FromTokens

@@ -1,4 +1,4 @@
-// Reads content straight from the tokens of its JSON into nodes, where it has no fault and replaces no kid.
+// Reads content straight from the tokens of its JSON into nodes, where it has no fault and no kid is replaced.
 ghost use Rattle.std.specs.Prelude.{◌≡◌, ◌≤◌, ◌+◌, ◌∷◌, [], Some, None, true, false, length, IfOk, IfSome, OnOk};
 ghost use Rattle.serde_json.specs.Data.{Members, no_members, object};
 ghost use Rattle.serde_json.specs.Read.{read};
@@ -21,8 +21,8 @@ use sp_base::{MOST_SEGMENTS, Mem, Path};
 use std::alloc::Global;
 use std::hash::RandomState;
 
-/// The nodes of sound content. There may be none where a member takes the place of a former one of its name, where a node has
-/// many properties of which one stands out of order, and of content that isn't sound.
+/// The nodes of sound content. There may be none where a member takes the place of a kid of its name, where a fault is replaced by a
+/// later member of its name, and of content that isn't sound.
 pub(crate) fn nodes_of_text(alloc: Global, seeds: RandomState, text: &str) -> Mem<Option<NodeMap>>
     ensures { IfOk result (λ found. IfSome found (λ nodes. (ms : Members) × (read text.now ≡ Some (object ms)) × (is_sound ms ≡ true) × (nodes ≡ map_of (nodes_in [] (object ms))))) }
 {
@@ -128,7 +128,7 @@ fn add_member<'a>(
     }
     match reader.next() {
         Some(Token::BeginObject) => add_kid(alloc, reader, nodes, path, levels, name, parent),
-        Some(Token::Null) => Ok(parent.lacks(name)),
+        Some(Token::Null) => parent.put_null(name),
         Some(first) => add_property(alloc, reader, first, name, parent),
         None => Ok(false),
     }

@@ -8,6 +8,7 @@ mod laws;
 mod measure;
 mod names;
 mod open_object;
+mod open_props;
 mod order;
 mod read;
 mod search;

@@ -9,19 +9,16 @@ ghost use Rattle.content_json.specs.Names.{is_kid};
 ghost use Rattle.content_json.specs.Faults.{names_kids};
 ghost use Rattle.content_json.specs.FromTokens.{texts_in, with_others};
 
+use crate::open_props::OpenProps;
 use resource_tree::Node;
-use sp_base::{Mem, PropList, TextBuf, TextList, Value};
+use sp_base::{Mem, TextBuf, TextList, Value};
 use std::alloc::Global;
 use std::collections::BTreeSet;
-
-/// How many properties are put in their order one by one where their names don't rise: more would take a time that grows with
-/// the square of their number.
-const MOST_OUT_OF_ORDER: usize = 64;
 
 /// What is kept of an object's members: the values of its properties, the names of its kids, and what `:order` lists.
 #[derive(Drop)]
 pub(crate) struct OpenObject<'a> {
-    props: PropList,
+    props: OpenProps<'a>,
     kids: BTreeSet<&'a str>,
     order: Vec<&'a str>,
 }
@@ -39,52 +36,42 @@ impl<'a> OpenObject<'a> {
         ensures { HoldsMembers result no_members }
     {
         OpenObject {
-            props: PropList::new(alloc),
+            props: OpenProps::new(alloc),
             kids: BTreeSet::new(alloc),
             order: Vec::new(alloc),
         }
     }
 
-    // Whether MOST_OUT_OF_ORDER properties or more are held, and the last has a greater name.
-    fn is_out_of_order(&self, name: &str) -> bool {
-        let n = self.props.len();
-        if n < MOST_OUT_OF_ORDER {
-            return false;
-        }
-        match self.props.at(n - 1) {
-            Some((last, _)) => name < last,
-            None => false,
-        }
-    }
-
-    /// Takes the value of a property in, unless it has the name of a kid or stands out of order.
-    pub(crate) fn put_value(&mut self, alloc: Global, name: &str, value: Value) -> Mem<bool>
+    /// Takes the value of a property in, unless it has the name of a kid.
+    pub(crate) fn put_value(&mut self, alloc: Global, name: &'a str, value: Value) -> Mem<bool>
         requires plain { is_content_name name.now ≡ true }
-        ensures { IfOk result (λ done. done ≡ true → (d : Data) → data_value d ≡ Some value → Gains self.old self.new name.now d) }
+        ensures { IfOk result (λ done. done ≡ true → (d : Data) → data_value d ≡ Some value → Gains self.old self.new name.entry.now d) }
     {
-        if self.kids.contains(name) || self.is_out_of_order(name) {
+        if self.kids.contains(name) {
             return Ok(false);
         }
         self.props.put(alloc, name, value)?;
         Ok(true)
     }
 
-    /// Whether no property and no kid has a name, so that a member of this name that is `null` changes nothing.
-    pub(crate) fn lacks(&self, name: &str) -> bool
+    /// Takes `null` in, which takes the place of a property of its name, unless it has the name of a kid.
+    pub(crate) fn put_null(&mut self, name: &'a str) -> Mem<bool>
         requires plain { is_content_name name.now ≡ true }
-        ensures { result ≡ true → Gains self.now self.now name.now null }
+        ensures { IfOk result (λ done. done ≡ true → Gains self.old self.new name.entry.now null) }
     {
-        !self.kids.contains(name) && self.props.get(name).is_none()
+        if !self.kids.contains(name) {
+            self.props.remove(name)?;
+            return Ok(true);
+        }
+        Ok(false)
     }
 
-    /// Takes the name of a kid in, unless another member has it.
+    /// Takes the name of a kid in, which takes the place of a property of its name, unless another kid has it.
     pub(crate) fn put_kid(&mut self, name: &'a str) -> Mem<bool>
         requires plain { is_content_name name.now ≡ true }
-        ensures { IfOk result (λ done. done ≡ true → (ms : Members) → Gains self.old self.new name.now (object ms)) }
+        ensures { IfOk result (λ done. done ≡ true → (ms : Members) → Gains self.old self.new name.entry.now (object ms)) }
     {
-        if self.props.get(name).is_some() {
-            return Ok(false);
-        }
+        self.props.remove(name)?;
         Ok(self.kids.insert(name)?)
     }
 
@@ -101,7 +88,10 @@ impl<'a> OpenObject<'a> {
     {
         let OpenObject { props, kids, order } = self;
         match kids_in_order(alloc, &order, &kids)? {
-            Some(kids) => Ok(Some(Node { props, kids })),
+            Some(kids) => Ok(Some(Node {
+                props: props.into_list(alloc)?,
+                kids,
+            })),
             None => Ok(None),
         }
     }

@@ -1,4 +1,5 @@
 //! The text that a tree is written as. What is read, and each fault, are shown through the program (examples/runs, examples/refused/contents).
+use crate::unordered::UNORDERED;
 use content_json::{read_tree, write_tree};
 use resource_tree::Tree;
 use std::alloc::Global;
@@ -52,6 +53,15 @@ fn is_written_again(alloc: Global, seeds: RandomState, content: &str, wanted: &s
 fn writes_what_it_reads(rt: HostRuntime) -> Result<(), Fail> {
     let seeds = RandomState::new(&rt)?;
     for (content, wanted) in WRITTEN {
+        assert!(rt; is_written_again(rt.alloc(), seeds, *content, *wanted));
+    }
+    Ok(())
+}
+
+#[test]
+fn writes_what_has_no_order(rt: HostRuntime) -> Result<(), Fail> {
+    let seeds = RandomState::new(&rt)?;
+    for (content, wanted) in UNORDERED {
         assert!(rt; is_written_again(rt.alloc(), seeds, *content, *wanted));
     }
     Ok(())

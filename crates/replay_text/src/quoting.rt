@@ -99,7 +99,7 @@ pub fn push_quoted(out: &mut Vec<u8>, bytes: &[u8]) -> Mem<()>
 
 /// Writes one quoted text for two parts of it.
 pub fn push_quoted_parts(out: &mut Vec<u8>, parts: SentParts<'_>) -> Mem<()>
-    ensures { OnOk result (out.new.items ≡ out.old.items ++ quotation (parts.head.now ++ parts.body.now)) }
+    ensures { OnOk result (out.new.items ≡ out.old.items ++ quotation (parts.entry.head.now ++ parts.entry.body.now)) }
 {
     push(out, b"\"")?;
     push_quoted_bytes(out, parts.head)?;

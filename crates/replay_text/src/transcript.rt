@@ -201,7 +201,7 @@ fn push_sent(
     connection: ConnectionId,
     bytes: SentParts<'_>,
 ) -> Mem<()>
-    ensures { OnOk result (out.new.items ≡ out.old.items ++ (codes "sent " ++ decimal connection ++ codes " " ++ quotation (bytes.head.now ++ bytes.body.now))) }
+    ensures { OnOk result (out.new.items ≡ out.old.items ++ (codes "sent " ++ decimal connection ++ codes " " ++ quotation (bytes.entry.head.now ++ bytes.entry.body.now))) }
 {
     push_connection(alloc, out, b"sent ", connection)?;
     push(out, b" ")?;

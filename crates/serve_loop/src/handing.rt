@@ -53,7 +53,7 @@ fn hand_one<W: World>(alloc: Global, world: &mut W, note: &Note) -> HandedOn
 
 // Sends bytes on a connection, which is shut where that fails.
 fn send<W: World>(alloc: Global, world: &mut W, c: ConnectionId, bytes: SentParts<'_>) -> HandedOn
-    ensures log { HandsOneOn result (W.log world.old) (W.log world.new) (Sent c (bytes.head.now ++ bytes.body.now)) }
+    ensures log { HandsOneOn result (W.log world.old) (W.log world.new) (Sent c (bytes.entry.head.now ++ bytes.entry.body.now)) }
     ensures send_count { HasRisenBy (failures_of result) (W.send_faults world.old) (W.send_faults world.new) }
     ensures next_count { W.next_faults world.new ≡ W.next_faults world.old }
 {

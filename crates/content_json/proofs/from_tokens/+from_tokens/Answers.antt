@@ -38,17 +38,19 @@ add_member-returns-then-is_order-clause-added t c =
     c.add_order.ensures.added
 
 pub add_member-returns-in-Some-Null-clause-added : goal.add_member-returns-in-Some-Null-clause-added
-add_member-returns-in-Some-Null-clause-added t c done =
+add_member-returns-in-Some-Null-clause-added t c =
     let first : c.args.reader.now ≡ Token.null ∷ c.next.new.self = c.in-Some-Null.ensures.value ∙ ap (λ t. token_of t ∷ c.next.new.self) c.in-Some-Null.field-0-is in
     let plain : is_content_name c.args.name.now ≡ true = grind arith in
-    leaf_added c.args.levels c.args.path.now c.args.name.now c.args.parent.now c.args.parent.now c.args.nodes.now c.args.reader.now c.next.new.self (or_true (is_order c.args.name.now) (is_content_name c.args.name.now) plain)
+    IfOk-weaker c.put_null.result _ _
+    (λ done taken whole. leaf_added c.args.levels c.args.path.now c.args.name.now c.args.parent.now c.put_null.new.self c.args.nodes.now c.args.reader.now c.next.new.self (or_true (is_order c.args.name.now) (is_content_name c.args.name.now) plain)
     (record {
       told = null;
       read = λ depth. ap (λ ts. converted of_json (value (suc depth) ts)) first ∙ null_read (suc depth) c.next.new.self;
       faultless = member_fault-none c.args.name.now null refl;
       no_kid = refl;
-      gains = c.lacks.ensures done;
-    })
+      gains = taken whole;
+    }))
+    c.put_null.ensures
 
 pub add_member-returns-in-Some : goal.add_member-returns-in-Some
 add_member-returns-in-Some t c =

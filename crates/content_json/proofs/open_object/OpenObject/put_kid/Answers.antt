@@ -1,13 +1,11 @@
-use Rattle.std.proofs.Common.{◌≡◌, None, true, false, cond, nat_cmp, refl, sym, ap, ◌∙◌}
+use Rattle.std.proofs.Common.{◌≡◌, true, false, cond, nat_cmp, refl, sym, ap, ◌∙◌}
 use Rattle.std.specs.BTreeSet.{contains_by}
 use Rattle.std.specs.Cmp.Lexicographic.{slice_cmp}
-use Rattle.std.specs.FinMap.Entries.{find}
-use Rattle.sp_base.specs.Names.{by_name}
 use Rattle.std.proofs.lemmas.Map.Text.{is_eq-slice_cmp}
 use Rattle.content_json.proofs.OrderLemmas.{false_from_not}
 use Rattle.content_json.proofs.Under.{bytes_eq_swapped}
 use Rattle.content_json.proofs.PutLemmas.{not_order}
-use Rattle.content_json.proofs.OpenObjectLemmas.{not_there, same_at, no_kid, holds-put}
+use Rattle.content_json.proofs.OpenObjectLemmas.{no_kid, holds-put}
 use Rattle.content_json.proofs.open_object.OpenObject.put_kid.Goals as goal
 
 pub returns : goal.returns
@@ -15,11 +13,10 @@ returns c = λ added kid ms h.
     let before = c.args.self.now in
     let name = c.args.name.now in
     let other = not_order name c.requires.plain in
-    let none : contains_by (λ k. slice_cmp nat_cmp name k.now) before.kids ≡ false = false_from_not _ (sym c.in_ok-insert.ensures.added ∙ added) in
-    let no_prop : find by_name name before.props ≡ None = not_there c.get.result _ c.get.ensures (sym c.is_some.ensures ∙ c.if-is_some.false) in (
+    let none : contains_by (λ k. slice_cmp nat_cmp name k.now) before.kids ≡ false = false_from_not _ (sym c.in_ok-insert.ensures.added ∙ added) in (
       no_kid before ms h name other none,
       holds-put before ms h _ name _ other
-          (λ q. same_at (λ n. find by_name n before.props) q name None no_prop)
+          (λ q. c.in_ok-remove.ensures q)
           (λ q. c.in_ok-insert.ensures.updates.0 (record { ref_ptr = (0, 0); now = q })
           ∙ ap (λ t. cond t true (contains_by (λ k. slice_cmp nat_cmp q k.now) before.kids)) (is_eq-slice_cmp name q ∙ bytes_eq_swapped name q))
           refl,

@@ -1,5 +1,5 @@
 //! The connections of a front, before what is behind them.
-ghost use Rattle.std.specs.Prelude.{◌≡◌, Option, IfOk, IsTrue, false, is_some};
+ghost use Rattle.std.specs.Prelude.{◌≡◌, IfOk, IsTrue, false, is_some};
 ghost use Rattle.std.specs.BTreeMap.{btree_map_len, get};
 ghost use Rattle.std.specs.Ordering.{nat_cmp};
 ghost use Rattle.connections.specs.Connections as model;

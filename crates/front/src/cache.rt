@@ -1,5 +1,5 @@
 //! What stands behind the connections: the cache, the flights in the air, and the unfinished flushes.
-ghost use Rattle.std.specs.Prelude.{◌≡◌, ◌≢◌, ◌==◌, false, true, [], Ok, Err, IfErr, IfOk, IfSome};
+ghost use Rattle.std.specs.Prelude.{◌≡◌, ◌≢◌, ◌==◌, true, [], Ok, Err, IfErr, IfOk, IfSome};
 ghost use Rattle.cache_files.specs.declared.epoch.OpenFault.TheVariants as fault;
 ghost use Rattle.cache_files.specs.Epochs.{HasOpenCause, next_epoch, told_with_epoch};
 ghost use Rattle.coherence_core.specs.Cores.{flights_of, flushes_of};

@@ -1,5 +1,5 @@
 //! One connection, as the front keeps it.
-ghost use Rattle.std.specs.Prelude.{◌≡◌, ◌≢◌, ◌+◌, ◌≤◌, ◌<◌, Option, true, false, IfSome, IfNone, IfOk, OnOk, OnSome};
+ghost use Rattle.std.specs.Prelude.{◌≡◌, ◌≢◌, ◌+◌, ◌≤◌, ◌<◌, false, IfSome, IfNone, IfOk, OnOk, OnSome};
 ghost use Rattle.http_front.specs.declared.fault.InFault.TheVariants as variant;
 ghost use Rattle.http_front.specs.declared.turn.Turn.{Turn};
 ghost use Rattle.connections.specs.Connections as model;

@@ -1,7 +1,6 @@
 //! The ends of what connections wait for: flights that land or are lost, and slices of flushes.
-ghost use Rattle.std.specs.Prelude.{◌≡◌, ◌≢◌, ◌+◌, ◌&&◌, [], false, Option, IfNone, IfSome, IsSome, IsTrue, None, OnSome, Some, length, position};
+ghost use Rattle.std.specs.Prelude.{◌≡◌, ◌≢◌, ◌+◌, ◌&&◌, [], false, IfNone, IfSome, IsSome, IsTrue, None, OnSome, Some, length, position};
 ghost use Rattle.run_events.specs.declared.flying.Flying as model;
-ghost use Rattle.run_events.specs.declared.note.Note.TheVariants.{Lost};
 ghost use Rattle.run_events.specs.Events as events;
 ghost use Rattle.run_events.specs.Events.{is_any, is_rendered};
 ghost use Rattle.front.specs.Caches.{is_ending, landing_end_of, left_after, slice_end_of, DeliversPicked, HasNoFlush, LosesFirst, LosesPicked, SlicesOldest};

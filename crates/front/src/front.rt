@@ -1,5 +1,5 @@
 //! The front: one call for each step.
-ghost use Rattle.std.specs.Prelude.{◌≡◌, ◌≢◌, ◌<◌, ◌≤◌, [], false, Option, Ok, Err, IfErr, IfOk, IfSome, IsTrue, OnErr, OnOk, Some, length, option_map};
+ghost use Rattle.std.specs.Prelude.{◌≡◌, ◌≢◌, ◌<◌, ◌≤◌, [], false, Ok, Err, IfErr, IfOk, IfSome, IsTrue, OnErr, OnOk, length, option_map};
 ghost use Rattle.std.specs.List.{find};
 ghost use Rattle.sp_base.specs.MediaTypes.{is_kind};
 ghost use Rattle.cache_files.specs.declared.epoch.OpenFault.TheVariants as fault;

@@ -1,5 +1,5 @@
 //! What a connection is owed, given to it note by note.
-ghost use Rattle.std.specs.Prelude.{◌≡◌, ◌≤◌, ◌<◌, ◌+◌, ℕ, true, false, IfOk, OnOk};
+ghost use Rattle.std.specs.Prelude.{◌≡◌, ◌≤◌, ◌<◌, ◌+◌, ℕ, IfOk, OnOk};
 ghost use Rattle.connections.specs.Ids as ids;
 ghost use Rattle.run_events.specs.States.{RunState};
 ghost use Rattle.front.specs.Boards.{IsLess, ServedAs, TreatedAs, RefusesFault, ServesAll, ServesNext, ServesTurn};

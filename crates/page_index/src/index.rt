@@ -1,7 +1,6 @@
 //! The index.
 ghost use Rattle.std.specs.Prelude.{◌≡◌, ◌⊎◌, ◌≤◌, [], Contains, IfOk, IfSome, None, OnErr, OnOk, Some, true, length, option_copied, option_map};
 ghost use Rattle.sp_base.specs.Texts.{Segments};
-ghost use Rattle.cover_rules.specs.declared.page.PageKey.{PageKey};
 ghost use Rattle.page_index.specs.Effects.{ForgetsCovered, ForgetsPage, ForgetsStamp, IsBare, SetsPage, SetsStamp, PagesStayOrFall};
 ghost use Rattle.page_index.specs.Held.{after_hit, fresh_note, has_room, weight_of};
 ghost use Rattle.page_index.specs.Held as held;

@@ -1,5 +1,5 @@
 //! Which characters of a pattern may come after which, by its places in their order.
-ghost use Rattle.std.specs.Prelude.{◌≡◌, ◌∷◌, false, OnOk, IfOk, bit_or, if◌then◌else◌};
+ghost use Rattle.std.specs.Prelude.{◌≡◌, ◌∷◌, OnOk, IfOk, bit_or, if◌then◌else◌};
 ghost use Rattle.regex_rules.specs.Positions as sets;
 ghost use Rattle.regex_rules.specs.Linkings as spec;
 

@@ -48,6 +48,10 @@ pub record DiskReport : Type 0 where
 abbrev pub disk_report : Option Files → Option Files → ℕ → ℕ → DiskReport
 disk_report old new faults_old faults_new = record { old = old; new = new; faults_old = faults_old; faults_new = faults_new }
 
+-- a disk over one call, of which this says what it tells and how often it failed
+abbrev pub disk_over : {D : Type 0} → (D → Option Files) → (D → ℕ) → D → D → DiskReport
+disk_over files faults old new = disk_report (files old) (files new) (faults old) (faults new)
+
 -- a world over one call, of which this says what it tells, and how many of its calls of `next` and of its sendings failed
 abbrev pub world_over : {W : Type 0} → (W → Option (List WorldEntry)) → (W → ℕ) → (W → ℕ) → W → W → WorldReport
 world_over log next_faults send_faults old new = world_report (log old) (log new) (next_faults old) (next_faults new) (send_faults old) (send_faults new)
@@ -148,4 +152,4 @@ pub record LeavesLegalLog (farm : Farm) (told : Option Files) (w : RunState) : T
 abbrev pub RunsOn : {R D W : Type 0} → Publishing → (R → Content) → (D → Option Files) → (D → ℕ) → (W → Option (List WorldEntry)) → (W → ℕ) → (W → ℕ) → ℕ → ServeEnd → Front R → D → W → D → W → Type 0
 RunsOn publishing content files faults log next_faults send_faults turns end front before said after says = (w : RunState)
     → FrontStandsFor publishing (content front.renderer) (at_disk front.board (files before) (faults before)) w → IsServerAtRest w (log said)
-    → IsServed w turns end (disk_report (files before) (files after) (faults before) (faults after)) (world_over log next_faults send_faults said says)
+    → IsServed w turns end (disk_over files faults before after) (world_over log next_faults send_faults said says)

@@ -70,5 +70,5 @@ abbrev pub HaveBytes : Segments → Type 0
 HaveBytes segs = AllByRecursion AreBytes segs
 
 -- the invalidation touches the .stat file of the folder
-abbrev pub IsTouched : ℕ → Invalidation → Segments → Type 0
-IsTouched level inv folder = Contains (touched_of level inv) folder
+abbrev pub IsTouchedBy : ℕ → Invalidation → Segments → Type 0
+IsTouchedBy level inv folder = Contains (touched_of level inv) folder

@@ -6,7 +6,7 @@ ghost use Rattle.cover_rules.specs.Coverage.{deletes, stat_folder};
 ghost use Rattle.cover_rules.specs.Pages.{IsPageKey, page_key_of};
 ghost use Rattle.sp_base.specs.Paths.{is_path, mangled_segs};
 ghost use Rattle.sp_outside.specs.FileNames.{beside_ending};
-ghost use Rattle.docroot_format.specs.Names.{body_name, epoch_name, have_names, head_name, is_docroot_name, is_page_file, is_place, is_stat_file, stat_name, IsFolder, HaveBytes, IsTouched};
+ghost use Rattle.docroot_format.specs.Names.{body_name, epoch_name, have_names, head_name, is_docroot_name, is_page_file, is_place, is_stat_file, stat_name, IsFolder, HaveBytes, IsTouchedBy};
 ghost use Rattle.sp_base.specs.Texts.{Segments, Text};
 ghost use Rattle.docroot_format.specs.Readings.{HeadLine, epoch_of, head_of, stat_of, IsHeadReadBack};
 ghost use Rattle.docroot_format.specs.Deletions.{IsDeletedByName};
@@ -26,7 +26,7 @@ pub fn folders_are_mangled()
     ensures page { (path : Segments) (key : PageKey) → page_key_of path ≡ Some key → IsFolder key.folder }
     ensures file { (path : Segments) (key : PageKey) → page_key_of path ≡ Some key → mangled_segs (key.file ∷ []) ≡ key.file ∷ [] }
     ensures stat { (level : ℕ) (path : Segments) (key : PageKey) → page_key_of path ≡ Some key → IsFolder (stat_folder level key) }
-    ensures touched { (level : ℕ) (inv : Invalidation) (folder : Segments) → IsTouched level inv folder → IsFolder folder }
+    ensures touched { (level : ℕ) (inv : Invalidation) (folder : Segments) → IsTouchedBy level inv folder → IsFolder folder }
     ensures names { (folder : Segments) → IsFolder folder → IsTrue (have_names (mangled_segs folder)) }
     ensures one { (folder : Segments) → stat_name (mangled_segs folder) ≡ stat_name folder }
 {
@@ -36,8 +36,8 @@ pub fn folders_are_mangled()
 /// The folders that may have stamps for a page are paths of texts, where the page's key is one and the handle of the invalidation is such a
 /// path: the folder whose stamp the page is compared with, and each folder that the invalidation touches.
 pub fn folders_of_stamps_are_paths()
-    ensures touched { (level : ℕ) (inv : Invalidation) (folder : Segments) → IsTrue (is_path inv.handle) → IsTouched level inv folder → IsTrue (is_path folder) }
-    ensures touched_bytes { (level : ℕ) (inv : Invalidation) (folder : Segments) → HaveBytes inv.handle → IsTouched level inv folder → HaveBytes folder }
+    ensures touched { (level : ℕ) (inv : Invalidation) (folder : Segments) → IsTrue (is_path inv.handle) → IsTouchedBy level inv folder → IsTrue (is_path folder) }
+    ensures touched_bytes { (level : ℕ) (inv : Invalidation) (folder : Segments) → HaveBytes inv.handle → IsTouchedBy level inv folder → HaveBytes folder }
     ensures stat { (level : ℕ) (key : PageKey) → IsPageKey key → IsTrue (is_path (stat_folder level key)) }
     ensures stat_bytes { (level : ℕ) (key : PageKey) → IsPageKey key → HaveBytes (stat_folder level key) }
 {

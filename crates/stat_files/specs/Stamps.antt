@@ -61,8 +61,8 @@ abbrev pub IsReadBack : Files → Segments → Stamp → Type 0
 IsReadBack files folder stamp = stamp_at (files_with_stamp files folder stamp) folder ≡ Some stamp
 
 -- bytes that are written as the stamp of a folder keep those of others
-abbrev pub IsApart : Files → Segments → Text → Type 0
-IsApart files folder bytes = KeepsOtherStamps files (with_file files (stat_name folder) bytes) folder
+abbrev pub StampsAreApart : Files → Segments → Text → Type 0
+StampsAreApart files folder bytes = KeepsOtherStamps files (with_file files (stat_name folder) bytes) folder
 
 -- the stamp of a folder is as it was
 abbrev pub KeepsStamp : Files → Files → Segments → Type 0

@@ -12,7 +12,7 @@ ghost use Rattle.cover_rules.specs.Coverage.{stat_folder};
 ghost use Rattle.cover_rules.specs.declared.page.PageKey.{PageKey};
 ghost use Rattle.cover_rules.specs.declared.stamp.Stamp.{Stamp};
 ghost use Rattle.stat_files.specs.Outdated.{is_older, is_outdated, outdates_page, ForeignStatsOutdate, MissingStatsOutdateNothing, TouchesElsewhereChangeNothing};
-ghost use Rattle.stat_files.specs.Stamps.{IsHeldOrGreatest, IsUpTo, LeftByTouch, files_with_stamp, greatest_stamp, stamp_at, stamp_or_greatest, IsReadBack, IsApart, KeepsStamp, FailedTouchesKeepOthers};
+ghost use Rattle.stat_files.specs.Stamps.{IsHeldOrGreatest, IsUpTo, LeftByTouch, files_with_stamp, greatest_stamp, stamp_at, stamp_or_greatest, IsReadBack, StampsAreApart, KeepsStamp, FailedTouchesKeepOthers};
 
 use docroot_format::{names_are_apart, texts_are_read_back};
 use sp_outside::files_have_names;
@@ -27,7 +27,7 @@ pub fn a_stamp_is_read_back()
 
 /// The stamp of a folder is the same while another file is written or taken away, that of a folder with another mangled path among them.
 pub fn stamps_have_files_of_their_own()
-    ensures touched { (files : Files) (folder : Segments) (bytes : Text) → AllByRecursion AreBytes folder → IsApart files folder bytes }
+    ensures touched { (files : Files) (folder : Segments) (bytes : Text) → AllByRecursion AreBytes folder → StampsAreApart files folder bytes }
     ensures written { (files : Files) (folder : Segments) (name bytes : Text) → name ≢ stat_name folder → KeepsStamp files (with_file files name bytes) folder }
     ensures removed { (files : Files) (folder : Segments) (name : Text) → name ≢ stat_name folder → KeepsStamp files (without_file files name) folder }
 {

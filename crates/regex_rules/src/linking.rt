@@ -129,7 +129,7 @@ impl Linking {
     }
 
     fn pass_one(&mut self, repeat: Repeat)
-        ensures { self.new ≡ spec.past_one repeat self.old }
+        ensures { self.new ≡ spec.linked_past_one repeat self.old }
     {
         let piece = Piece {
             first: self.bit,
@@ -149,7 +149,7 @@ impl Linking {
     }
 
     fn pass_bar(&mut self)
-        ensures { self.new ≡ spec.past_bar self.old }
+        ensures { self.new ≡ spec.linked_past_bar self.old }
     {
         self.rows = Rows {
             earlier: self.whole(),

@@ -140,5 +140,5 @@ abbrev pub Renders : List ℕ → List ℕ → List ℕ → Type 0
 Renders old more new = (new ≡ old ++ more) × (length new ≤ most_rendered_bytes)
 
 -- it would go beyond the limit, unless memory lacks
-abbrev pub FailsAsTooLong : List ℕ → RenderFault → Type 0
-FailsAsTooLong text f = f ≢ render_fault.NoMemory → (f ≡ render_fault.TooLong) × (most_rendered_bytes < length text)
+abbrev pub RendersTooMuch : List ℕ → RenderFault → Type 0
+RendersTooMuch text f = f ≢ render_fault.NoMemory → (f ≡ render_fault.TooLong) × (most_rendered_bytes < length text)

@@ -14,8 +14,8 @@ use Rattle.htl_blocks.specs.declared.place.Place.{Place}
 use Rattle.htl_blocks.specs.declared.repetition.Repetition.{Repetition}
 
 -- the text of the script that a value names, with the variables of the place
-abbrev pub script_at : Bindings → Place → List TemplatePiece → List Part
-script_at scope place value = Script (statement_name (seen_at scope place) value) (vars_of place.vars.now) ∷ []
+abbrev pub script_named_at : Bindings → Place → List TemplatePiece → List Part
+script_named_at scope place value = Script (statement_name (seen_at scope place) value) (vars_of place.vars.now) ∷ []
 
 -- what stands in an element, of which this is the content
 abbrev pub parts_within : Option Body → List Block → Bindings → List Part

@@ -89,5 +89,5 @@ HasReadCause before after (Err read_failed) = Rose before after
 HasReadCause before after (Err read_memory) = after ≡ before
 
 -- some of what was gathered is sent, and what is left with the text after it stays gathered
-abbrev pub Gathers : Option (List ℕ) → List ℕ → Option (List ℕ) → List ℕ → List ℕ → Type 0
-Gathers before gathered after left text = (sent : List ℕ) × (after ≡ held_after before sent) × (sent ++ left ≡ gathered ++ text)
+abbrev pub GathersText : Option (List ℕ) → List ℕ → Option (List ℕ) → List ℕ → List ℕ → Type 0
+GathersText before gathered after left text = (sent : List ℕ) × (after ≡ held_after before sent) × (sent ++ left ≡ gathered ++ text)

@@ -154,18 +154,18 @@ EndsAsDue asked source inputs held sink_faults files disk_faults log next_faults
     Means (IsDue (call_of asked source inputs (disk_over files disk_faults old.disk new.disk) (world_over log next_faults send_faults old.world new.world))) ending (report_over held sink_faults old.sink new.sink)
 
 -- it ends so where these texts were read
-abbrev pub ServesTexts : {S K I D W : Type 0} → ServeWords → List ℕ → List ℕ → (K → Option (List ℕ)) → (K → ℕ) → (D → Option Files) → (D → ℕ) → (W → Option (List WorldEntry)) → (W → ℕ) → (W → ℕ) → Outside S K I D W → Outside S K I D W → Ending → Type 0
-ServesTexts words content any held sink_faults files disk_faults log next_faults send_faults old new ending = (asked : List Text) (source : StreamReport (List ℕ)) (inputs : StreamReport Files)
+abbrev pub EndsForTexts : {S K I D W : Type 0} → ServeWords → List ℕ → List ℕ → (K → Option (List ℕ)) → (K → ℕ) → (D → Option Files) → (D → ℕ) → (W → Option (List WorldEntry)) → (W → ℕ) → (W → ℕ) → Outside S K I D W → Outside S K I D W → Ending → Type 0
+EndsForTexts words content any held sink_faults files disk_faults log next_faults send_faults old new ending = (asked : List Text) (source : StreamReport (List ℕ)) (inputs : StreamReport Files)
     → AreReadAs asked source inputs words content any → EndsAsDue asked source inputs held sink_faults files disk_faults log next_faults send_faults old new ending
 
 -- it ends so where a text was read that gives this content, and this one for the farm
-abbrev pub ServesContent : {S K I D W : Type 0} → ServeWords → Content → List ℕ → (K → Option (List ℕ)) → (K → ℕ) → (D → Option Files) → (D → ℕ) → (W → Option (List WorldEntry)) → (W → ℕ) → (W → ℕ) → Outside S K I D W → Outside S K I D W → Ending → Type 0
-ServesContent words publisher any held sink_faults files disk_faults log next_faults send_faults old new ending = (asked : List Text) (source : StreamReport (List ℕ)) (inputs : StreamReport Files) (content : List ℕ)
+abbrev pub EndsForContent : {S K I D W : Type 0} → ServeWords → Content → List ℕ → (K → Option (List ℕ)) → (K → ℕ) → (D → Option Files) → (D → ℕ) → (W → Option (List WorldEntry)) → (W → ℕ) → (W → ℕ) → Outside S K I D W → Outside S K I D W → Ending → Type 0
+EndsForContent words publisher any held sink_faults files disk_faults log next_faults send_faults old new ending = (asked : List Text) (source : StreamReport (List ℕ)) (inputs : StreamReport Files) (content : List ℕ)
     → content_of content ≡ Ok publisher → AreReadAs asked source inputs words content any → EndsAsDue asked source inputs held sink_faults files disk_faults log next_faults send_faults old new ending
 
 -- it ends so where the inputs give this content and this farm
-abbrev pub ServesSite : {S K I D W : Type 0} → ServeWords → Content → Farm → (K → Option (List ℕ)) → (K → ℕ) → (D → Option Files) → (D → ℕ) → (W → Option (List WorldEntry)) → (W → ℕ) → (W → ℕ) → Outside S K I D W → Outside S K I D W → Ending → Type 0
-ServesSite words publisher farm held sink_faults files disk_faults log next_faults send_faults old new ending = (asked : List Text) (source : StreamReport (List ℕ)) (inputs : StreamReport Files)
+abbrev pub EndsForSite : {S K I D W : Type 0} → ServeWords → Content → Farm → (K → Option (List ℕ)) → (K → ℕ) → (D → Option Files) → (D → ℕ) → (W → Option (List WorldEntry)) → (W → ℕ) → (W → ℕ) → Outside S K I D W → Outside S K I D W → Ending → Type 0
+EndsForSite words publisher farm held sink_faults files disk_faults log next_faults send_faults old new ending = (asked : List Text) (source : StreamReport (List ℕ)) (inputs : StreamReport Files)
     → HasInputs asked source inputs words publisher farm → EndsAsDue asked source inputs held sink_faults files disk_faults log next_faults send_faults old new ending
 
 -- a scenario that a source holds is replayed, whatever the inputs and the disk, and the world is untouched: the run ends as is due

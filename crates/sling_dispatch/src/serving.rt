@@ -5,7 +5,7 @@ ghost use Rattle.docroot_changes.specs.DocrootCalls.{MakesDocrootCalls};
 ghost use Rattle.serve_loop.specs.Served.{disk_over, world_over};
 ghost use Rattle.sling_dispatch.specs.Endings.{IsDue, Means};
 ghost use Rattle.sling_dispatch.specs.Forms.{AreServeWords, AsksFor};
-ghost use Rattle.sling_dispatch.specs.InnerServing.{IsInputOr, IsOfServeEnd, IsOpeningOr, ServesContent, ServesSite, ServesTexts};
+ghost use Rattle.sling_dispatch.specs.InnerServing.{IsInputOr, IsOfServeEnd, IsOpeningOr, EndsForContent, EndsForSite, EndsForTexts};
 ghost use Rattle.sling_dispatch.specs.Reports.{IsUntouched, StreamReport, call_of, report_over};
 ghost use Rattle.sling_dispatch.specs.declared.form.Form.TheVariants.{Serve};
 
@@ -82,7 +82,7 @@ fn serve_texts<S, K: Sink, I: Inputs, D: Disk, W: World>(
     ensures source { outside.new.source ≡ outside.old.source }
     ensures inputs { outside.new.inputs ≡ outside.old.inputs }
     ensures calls { MakesDocrootCalls (D.calls outside.old.disk) (D.calls outside.new.disk) }
-    ensures ending { ServesTexts words texts.content texts.any K.held K.faults D.files D.faults W.log W.next_faults W.send_faults outside.old outside.new result }
+    ensures ending { EndsForTexts words texts.content texts.any K.held K.faults D.files D.faults W.log W.next_faults W.send_faults outside.old outside.new result }
 {
     docroot_calls_add_up();
     let Texts { content, any } = texts;
@@ -112,7 +112,7 @@ fn serve_before<S, K: Sink, I: Inputs, D: Disk, W: World>(
     ensures source { outside.new.source ≡ outside.old.source }
     ensures inputs { outside.new.inputs ≡ outside.old.inputs }
     ensures calls { MakesDocrootCalls (D.calls outside.old.disk) (D.calls outside.new.disk) }
-    ensures ending { ServesContent words.now publisher any K.held K.faults D.files D.faults W.log W.next_faults W.send_faults outside.old outside.new result }
+    ensures ending { EndsForContent words.now publisher any K.held K.faults D.files D.faults W.log W.next_faults W.send_faults outside.old outside.new result }
 {
     docroot_calls_add_up();
     let read = farm_in(alloc, any.bytes());
@@ -135,7 +135,7 @@ fn serve_site<S, K: Sink, I: Inputs, D: Disk, W: World>(
     ensures source { outside.new.source ≡ outside.old.source }
     ensures inputs { outside.new.inputs ≡ outside.old.inputs }
     ensures calls { MakesDocrootCalls (D.calls outside.old.disk) (D.calls outside.new.disk) }
-    ensures ending { ServesSite words.now publisher farm K.held K.faults D.files D.faults W.log W.next_faults W.send_faults outside.old outside.new result }
+    ensures ending { EndsForSite words.now publisher farm K.held K.faults D.files D.faults W.log W.next_faults W.send_faults outside.old outside.new result }
 {
     docroot_calls_add_up();
     events_leave_nothing_due();

@@ -1,7 +1,7 @@
 //! The answers that a connection still owes, in the order of its requests.
-ghost use Rattle.std.specs.Prelude.{◌≡◌, ◌+◌, ◌⊎◌, ℕ, List, false, IfNone, IfOk, IfSome, OnErr, OnOk, OnSome, position};
+ghost use Rattle.std.specs.Prelude.{◌≡◌, ◌+◌, ◌⊎◌, ◌||◌, ℕ, List, false, IfNone, IfOk, IfSome, OnErr, OnOk, OnSome, position};
 ghost use Rattle.std.specs.List.{count_by};
-ghost use Rattle.connections.specs.Slots.{Slot};
+ghost use Rattle.connections.specs.Slots.{Slot, are_fixed_507};
 ghost use Rattle.connections.specs.Connections as model;
 ghost use Rattle.connections.specs.Connections.{Connection, due, due_without_sending, fresh, with_slot};
 ghost use Rattle.connections.specs.Histories.{SendsDue, SendsInPlaceOfDue};
@@ -71,7 +71,7 @@ impl AnswerQueue {
         let place = self.places.pop_front()?;
         let closes = place.closes;
         let sending = self.make_sending(alloc, place);
-        self.over = closes || sending.bytes.is(fixed_507());
+        self.over = is_last(closes, &sending.bytes);
         Some(sending)
     }
 
@@ -157,6 +157,13 @@ impl AnswerQueue {
     {
         self.over
     }
+}
+
+// Whether a connection closes after these bytes, where it closes after their place (`closes`) or else goes on.
+fn is_last(closes: bool, bytes: &SentBytes) -> bool
+    ensures { result ≡ (closes || are_fixed_507 bytes.now) }
+{
+    closes || bytes.is(fixed_507())
 }
 
 fn awaiting_place(places: &VecDeque<AnswerPlace>, awaited: Awaited) -> Option<usize>

@@ -1,5 +1,5 @@
 //! The place of an answer among those that a connection owes.
-ghost use Rattle.std.specs.Prelude.{◌≡◌, ◌||◌, IfOk, IsTrue};
+ghost use Rattle.std.specs.Prelude.{◌≡◌, IfOk, IsTrue, false, true};
 ghost use Rattle.http_front.specs.Answers.{answer_bytes as bytes_of};
 ghost use Rattle.connections.specs.Slots as model;
 ghost use Rattle.connections.specs.AnswerQueues.{PlaceStandsFor, ReplyStandsFor, awaits as awaiting, is_final_reply, has_reply as answered, place_bytes};

@@ -12,8 +12,8 @@ same_truth false false there back = refl
 pub rest_is : (head body bytes rest : List ℕ) → pointwise nat_eq (take (length head) bytes) head ≡ true → rest ≡ drop (length head) bytes → pointwise nat_eq body rest ≡ pointwise nat_eq (head ++ body) bytes
 rest_is head body bytes rest begins is =
     same_truth (pointwise nat_eq body rest) (pointwise nat_eq (head ++ body) bytes)
-        (λ e. (bytes_decides (head ++ body) bytes).1 (ap (λ (t : List ℕ). head ++ t) ((bytes_decides body rest).0 e ∙ is) ∙ sym whole))
-        (λ e. (bytes_decides body rest).1 (sym (drop_at head body (length head) refl) ∙ ap (drop (length head)) ((bytes_decides (head ++ body) bytes).0 e) ∙ sym is)) where
+    (λ e. (bytes_decides (head ++ body) bytes).1 (ap (λ (t : List ℕ). head ++ t) ((bytes_decides body rest).0 e ∙ is) ∙ sym whole))
+    (λ e. (bytes_decides body rest).1 (sym (drop_at head body (length head) refl) ∙ ap (drop (length head)) ((bytes_decides (head ++ body) bytes).0 e) ∙ sym is)) where
       whole : bytes ≡ head ++ drop (length head) bytes
       whole = sym (take-append-drop (length head) bytes) ∙ ap (λ (t : List ℕ). t ++ drop (length head) bytes) ((bytes_decides (take (length head) bytes) head).0 begins)
 

@@ -14,7 +14,7 @@ fn fixed_place() -> AnswerPlace {
 }
 
 fn sends_fixed(alloc: Global, queue: &mut AnswerQueue) -> bool {
-    matches!(queue.send(alloc), Some(sending) if sending.bytes.bytes() == FIXED)
+    matches!(queue.send(alloc), Some(sending) if sending.bytes.is(FIXED))
 }
 
 // Whether the fixed answer is the last that is sent, whatever stands after it. No place awaits the flight that is filled.

@@ -1,5 +1,4 @@
-use Rattle.std.proofs.Common.{◌≡◌, ◌||◌, ◌∷◌, ap, sym, ◌∙◌}
-use Rattle.connections.specs.Slots.{are_fixed_507}
+use Rattle.std.proofs.Common.{◌≡◌, ◌∷◌, ap, sym, ◌∙◌}
 use Rattle.connections.specs.AnswerQueues.{first_has_reply}
 use Rattle.connections.proofs.QueueLemmas.{held-waits, in-place-due, over-waits, sent-left}
 use Rattle.connections.proofs.answer_queue.AnswerQueue.send.Goals as goal
@@ -19,7 +18,7 @@ returns-clause-sends c = λ m tied.
     let places : c.args.self.now.places.items ≡ place ∷ c.make_sending-sending.new.self.places.items = c.in_ok-place.ensures.items ∙ ap (λ q. place ∷ q.items) (sym kept.0) in
     let has = ap first_has_reply (sym places) ∙ sym c.is_ready.ensures ∙ c.if-not-is_ready.false in
     sent-left m place _ c.make_sending-sending.result _ _ _ tied places kept.1 c.if-self.false has c.make_sending-sending.ensures.sends c.make_sending-sending.ensures.spare
-    (c.is_last-self.ensures ∙ ap (λ bytes. place.closes || are_fixed_507 bytes) c.bytes.ensures)
+    c.is_last-self.ensures
 
 pub returns-clause-out_of_memory : goal.returns-clause-out_of_memory
 returns-clause-out_of_memory c = λ m tied out_of_memory.

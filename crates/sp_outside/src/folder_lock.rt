@@ -1,13 +1,16 @@
 //! The lock that keeps other processes out of a folder.
 use crate::DiskFault;
-use crate::folder_walk::is_file;
-use std::fs::{self, File, Files, OpenOptions};
-use std::io::{self, ErrorKind};
+use crate::folder_files::at_path;
+use std::fs::{File, Files, OpenOptions};
 
 /// The file that is locked, and its name in other letters. Neither a file's name nor that of a file beside it ends so.
 const LOCK_FILE: &str = ".lock%t%t";
 
 const LOCK_FILE_IN_CAPITALS: &str = ".LOCK%t%t";
+
+fn is_file<R: Files>(rt: &R, path: &str) -> Result<bool, DiskFault> {
+    Ok(matches!(at_path(rt, path)?, Some(found) if found.is_file()))
+}
 
 /// Whether the file that is locked stands in a folder.
 pub(crate) fn has_lock<R: Files + AllocGlobal>(rt: &R, folder: &str) -> Result<bool, DiskFault> {
@@ -22,21 +25,18 @@ pub(crate) fn lock<R: Files<File = File> + AllocGlobal>(
     folder: &str,
 ) -> Result<File, DiskFault> {
     let path = format!(in rt.alloc(); "{folder}/{LOCK_FILE}")?;
-    let file = open_lock(rt, path.as_str())?;
+    // The file that was there, or a new one, which no link leads elsewhere.
+    let file = if is_file(rt, path.as_str())? {
+        OpenOptions::new().write(true).open(rt, path.as_str())?
+    } else {
+        File::create_new(rt, path.as_str())?
+    };
     if file.try_lock().is_err() {
         return Err(DiskFault::Failed);
     }
     let other = format!(in rt.alloc(); "{folder}/{LOCK_FILE_IN_CAPITALS}")?;
-    match fs::symlink_metadata(rt, other.as_str()) {
-        Err(fault) if fault.kind() == ErrorKind::NotFound => Ok(file),
-        _ => Err(DiskFault::Failed),
+    match at_path(rt, other.as_str())? {
+        None => Ok(file),
+        Some(_) => Err(DiskFault::Failed),
     }
-}
-
-// The file that was there, or a new one, which no link leads elsewhere.
-fn open_lock<R: Files<File = File>>(rt: &R, path: &str) -> Result<File, DiskFault> {
-    if is_file(rt, path)? {
-        return Ok(OpenOptions::new().write(true).open(rt, path)?);
-    }
-    Ok(File::create_new(rt, path)?)
 }

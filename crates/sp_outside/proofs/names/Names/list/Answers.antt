@@ -5,15 +5,15 @@ use Rattle.std.specs.Map.Iter.{deref_pair}
 use Rattle.std.proofs.lemmas.Map.Iter.{rest_so_far, iter_end}
 use Rattle.std.proofs.lemmas.List.{length-append}
 use Rattle.std.proofs.lemmas.Str.Pattern.{starts_text}
-use Rattle.sp_outside.specs.DiskMemory.{DiskState}
-use Rattle.sp_outside.specs.Files.{IsListing, IsName, has_prefix, names_after}
-use Rattle.sp_outside.specs.MemoryFiles.{files_of}
+use Rattle.std.specs.FinMap.{keys}
+use Rattle.sp_outside.specs.Files.{IsListing, IsName, has_prefix, names_from}
+use Rattle.sp_outside.specs.NameEntries.{kept_by_name}
 use Rattle.sp_outside.proofs.Listing.{after_held, enough, all_names, lacking, one_more, listing, keys_held, sizes_held, texts_held}
-use Rattle.sp_outside.proofs.mem_disk.MemDisk.names.Goals as goal
-use Rattle.sp_outside.proofs.mem_disk.MemDisk.names.Goals.{in-None, in-Some+then-len-most, then-len-most-via-then-len-most, then-len-most-via-else-len-most+then-not-starts_with}
+use Rattle.sp_outside.proofs.names.Names.list.Goals as goal
+use Rattle.sp_outside.proofs.names.Names.list.Goals.{in-None, in-Some+then-len-most, then-len-most-via-then-len-most, then-len-most-via-else-len-most+then-not-starts_with}
 
 pub loop-name-preserved : goal.loop-name-preserved
-loop-name-preserved c =
+loop-name-preserved g c =
     let prefix = c.args.prefix.now in
     let names = c.loop-name.names in
     let name = string_bytes c.in-Some.name.now in
@@ -28,9 +28,9 @@ loop-name-preserved c =
     }
 
 -- what was found, by the files as they are held
-found : (c : goal.Joined-next) → c.loop-name.names ≡ take c.args.most (names_after (files_of c.self.inside.files.entries) c.args.prefix.now c.args.after.now)
-found c =
-    let held = c.self.inside.files.entries in
+found : (g : _) (c : goal.Joined-next g) → c.loop-name.names ≡ take c.args.most (names_from (keys (kept_by_name c.self.inside.held.entries)) c.args.prefix.now c.args.after.now)
+found g c =
+    let held = c.self.inside.held.entries in
     let range = c.range-name-items.result in
     let start = c.into_iter-name-iterator.ensures.into_iter_gives in
     let prefix = c.args.prefix.now in
@@ -56,13 +56,13 @@ found c =
     ∙ ap (take c.args.most) (sym (after_held prefix after place held range c.self.invariant.rising c.in_ok-start.ensures ranges))
 
 pub returns-clause-value : goal.returns-clause-value
-returns-clause-value c =
-    found c ∙ ap (λ (s : DiskState). take c.args.most (names_after s.files c.args.prefix.now c.args.after.now)) c.self.view_is
+returns-clause-value g c =
+    found g c ∙ ap (λ kept. take c.args.most (names_from (keys kept) c.args.prefix.now c.args.after.now)) c.self.view_is
 
 pub returns-clause-names : goal.returns-clause-names
-returns-clause-names c =
-    let held = c.self.inside.files.entries in
-    subst (IsListing c.args.prefix.now c.args.after.now c.args.most) (sym (found c))
-    (listing (files_of held) c.args.prefix.now c.args.after.now c.args.most
+returns-clause-names g c =
+    let held = c.self.inside.held.entries in
+    subst (IsListing c.args.prefix.now c.args.after.now c.args.most) (sym (found g c))
+    (listing (kept_by_name held) c.args.prefix.now c.args.after.now c.args.most
     (subst (All IsName) (sym (keys_held held c.self.invariant.rising)) (sizes_held held c.self.invariant.sizes))
     (subst (All IsUtf8) (sym (keys_held held c.self.invariant.rising)) (texts_held held)))

@@ -1,0 +1,108 @@
+//! With which of the files below its folder a disk begins.
+ghost use Rattle.std.specs.Prelude.{◌≡◌, false, IfOk, IfSome, OnErr, OnOk, if◌then◌else◌};
+ghost use Rattle.std.specs.FinMap.{empty};
+ghost use Rattle.sp_outside.specs.FolderFiles as spec;
+ghost use Rattle.sp_outside.specs.FolderFiles.{IsNamesOf, disk_files, files_begun};
+ghost use Rattle.sp_outside.specs.NameIndex.{IsNamesOfDisk, IsSameDisk, WhileTold};
+
+use crate::file_name::{is_inside, is_left, is_name};
+use crate::names::Names;
+use crate::{DiskFault, RawFiles};
+use sp_base::NameList;
+use std::alloc::Global;
+
+/// The file that has the number of the session. Without it no session can tell its stamps from those of the files that stand there.
+const SESSION_FILE: &str = ".epoch";
+
+/// The file that keeps the id of the boot of the machine in which the others were written.
+const BOOT_FILE: &str = ".boot%t%t";
+
+// Whether the disk goes on with the files that it finds.
+fn is_kept<F: RawFiles>(below: &mut F, alloc: Global) -> Result<bool, DiskFault>
+    ensures value { IfOk result (λ kept. IfSome (F.files below.old) (λ files. kept ≡ spec.is_kept F.boot files)) }
+    ensures same { F.files below.new ≡ F.files below.old }
+{
+    if below.read(alloc, SESSION_FILE)?.is_none() {
+        return Ok(false);
+    }
+    let Some(id) = below.boot_id(alloc)? else {
+        return Ok(false);
+    };
+    let Some(kept) = below.read(alloc, BOOT_FILE)? else {
+        return Ok(false);
+    };
+    Ok(id.bytes() == kept.bytes())
+}
+
+// Takes away the files of the disk among those that were found.
+fn remove_all<F: RawFiles>(below: &mut F, found: &NameList) -> Result<(), DiskFault>
+    requires { IfSome (F.files below.old) (λ files. IsNamesOf files found.now) }
+    ensures ok { OnOk result (WhileTold (λ old new. disk_files new ≡ empty) (F.files below.old) (F.files below.new)) }
+    ensures kept { WhileTold (λ old new. spec.is_kept F.boot old ≡ false → spec.is_kept F.boot new ≡ false) (F.files below.old) (F.files below.new) }
+{
+    for name in found.as_slice() {
+        if is_inside(name.text()) {
+            below.unlink(name.text())?;
+        }
+    }
+    Ok(())
+}
+
+// Notes that the files are of this boot. Where the system doesn't tell its id they are of none.
+fn note_boot<F: RawFiles>(below: &mut F, alloc: Global) -> Result<(), DiskFault>
+    ensures same { WhileTold (λ old new. disk_files new ≡ disk_files old) (F.files below.old) (F.files below.new) }
+{
+    match below.boot_id(alloc)? {
+        Some(id) => below.replace(BOOT_FILE, id.bytes()),
+        None => below.unlink(BOOT_FILE),
+    }
+}
+
+/// Whether the disk goes on with the files that were found. Else they are gone: what was removed before the machine was started again,
+/// or written again, may be as it was. The new boot is noted after the last of them is gone, so that a process which is killed meanwhile
+/// leaves the rest to the next.
+pub(crate) fn begin<F: RawFiles>(
+    below: &mut F,
+    alloc: Global,
+    found: &NameList,
+) -> Result<bool, DiskFault>
+    requires { IfSome (F.files below.old) (λ files. IsNamesOf files found.now) }
+    ensures ok { OnOk result (WhileTold (λ old new. disk_files new ≡ files_begun F.boot old) (F.files below.old) (F.files below.new)) }
+    ensures kept { IfOk result (λ kept. WhileTold (λ old new. disk_files new ≡ (if kept then disk_files old else empty)) (F.files below.old) (F.files below.new)) }
+    ensures err { OnErr result (WhileTold (λ old new. files_begun F.boot new ≡ files_begun F.boot old) (F.files below.old) (F.files below.new)) }
+{
+    if is_kept(below, alloc)? {
+        return Ok(true);
+    }
+    remove_all(below, found)?;
+    note_boot(below, alloc)?;
+    Ok(false)
+}
+
+/// Takes away the files beside others that a killed process left, where that may be done.
+pub(crate) fn take_left<F: RawFiles>(below: &mut F, found: &NameList)
+    ensures { WhileTold IsSameDisk (F.files below.old) (F.files below.new) }
+{
+    for name in found.as_slice() {
+        if is_left(name.text()) {
+            // One that stays is no file of the disk either, and goes when its file is written next.
+            let _ = below.unlink(name.text());
+        }
+    }
+}
+
+/// The names among those that were found that may be those of files of the disk.
+pub(crate) fn names_inside(alloc: Global, found: &NameList) -> Result<Names<()>, DiskFault>
+    ensures { IfOk result (IsNamesOfDisk found.now) }
+{
+    let mut names = Names::new(alloc);
+    for name in found.as_slice() {
+        if is_inside(name.text()) {
+            if !is_name(name.text()) {
+                return Err(DiskFault::Failed);
+            }
+            names.insert(name.text(), ())?;
+        }
+    }
+    Ok(names)
+}

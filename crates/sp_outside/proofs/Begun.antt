@@ -1,5 +1,5 @@
 -- With which files a disk begins: what the removal of those that were found makes of the files below a folder.
-use Rattle.std.proofs.Common.{◌≡◌, ◌≢◌, ◌+◌, ◌<◌, ◌≤◌, ◌&&◌, ◌⊎◌, inl, inr, ℕ, zero, suc, Bool, true, false, cond, List, [], ◌∷◌, Option, Some, None, get_or, length, refl, sym, ◌∙◌, ap, subst, arith}
+use Rattle.std.proofs.Common.{◌≡◌, ◌≢◌, ◌+◌, ◌<◌, ◌≤◌, ◌&&◌, not, ◌⊎◌, inl, inr, ℕ, zero, suc, Bool, true, false, cond, List, [], ◌∷◌, Option, Some, None, get_or, length, refl, sym, ◌∙◌, ap, subst, arith}
 use Rattle.std.specs.Prelude.{◌↔◌, Contains, IfSome, option_map}
 use Rattle.std.specs.Cmp.Lexicographic.{nat_list_cmp_total}
 use Rattle.std.specs.FinMap.{contains_key, empty, get, insert, get-empty, get-remove}
@@ -7,10 +7,10 @@ use Rattle.std.specs.Option.{is_some}
 use Rattle.std.specs.Ordering.{eq_by_cmp}
 use Rattle.std.proofs.lemmas.Bool.{true≢false}
 use Rattle.sp_base.specs.Names.{by_name}
-use Rattle.sp_outside.specs.FileNames.{is_inside}
+use Rattle.sp_outside.specs.FileNames.{is_below, is_beside, is_inside, is_left, is_own}
 use Rattle.sp_outside.specs.Files.{Files, IsOldOrNew, file_at, told_with, told_without, with_file, without_file}
 use Rattle.sp_outside.specs.FolderFiles.{IsNamesOf, boot_file, disk_files, files_begun, is_kept, is_same_boot, session_file}
-use Rattle.sp_outside.specs.NameIndex.{IsIndex, IsNamesOfDisk, IsSameDisk, NameSet, WhileTold}
+use Rattle.sp_outside.specs.NameIndex.{IsIndex, IsNamesOfDisk, IsSameDisk, IsTaken, IsTakenOrNot, NameSet, WhileTold}
 use Rattle.sp_outside.specs.declared.disk.DiskFault.{DiskFault}
 use Rattle.sp_outside.proofs.DiskFiles.{beside_with, beside_without, inside_at, outside_at, same_files}
 use Rattle.sp_outside.proofs.Indexed.{Knows}
@@ -91,6 +91,10 @@ pub record IsCleared (found : List (List ℕ)) (at : ℕ) (first now : Files) : 
 there : {X : Type 0} (o : Option X) → is_some o ≡ true → o ≢ None
 there None e none = true≢false (sym e)
 there (Some x) e none = true≢false (ap is_some none)
+
+there_some : {X : Type 0} (o : Option X) → o ≢ None → is_some o ≡ true
+there_some None there = absurd (there refl)
+there_some (Some x) there = refl
 
 no_some : {X : Type 0} (o : Option X) → is_some o ≡ false → o ≡ None
 no_some None e = refl
@@ -215,3 +219,265 @@ not_kept_told boot found at None None so_far = tt
 not_kept_told boot found at None (Some now) so_far = absurd so_far
 not_kept_told boot found at (Some first) None so_far = absurd so_far
 not_kept_told boot found at (Some first) (Some now) so_far = still_not_kept boot found at first now so_far
+
+-- ---- each call of the opening
+
+second_true : (a b : Bool) → a && b ≡ true → b ≡ true
+second_true true b e = e
+second_true false b e = absurd (true≢false (sym e))
+
+pub below_of_inside : (name : List ℕ) → is_inside name ≡ true → is_below name ≡ true
+below_of_inside name inside = second_true (not (is_beside name)) (is_below name) inside
+
+pub below_of_left : (name : List ℕ) → is_left name ≡ true → is_below name ≡ true
+below_of_left name left = second_true (not (is_own name)) (is_below name) (second_true (is_beside name) _ left)
+
+outside_first : (a b c d : Bool) → a && (c && d) ≡ true → not a && b ≡ false
+outside_first true b c d e = refl
+outside_first false b c d e = absurd (true≢false (sym e))
+
+pub outside_of_left : (name : List ℕ) → is_left name ≡ true → is_inside name ≡ false
+outside_of_left name left = outside_first (is_beside name) (is_below name) (not (is_own name)) (is_below name) left
+
+-- a removal that was made
+told_taken : (old : Option Files) (name : List ℕ) → is_inside name ≡ true → WhileTold (IsTaken name) old (told_without old name)
+told_taken None name inside = tt
+told_taken (Some files) name inside = sym (ap (λ b. cond b (without_file files name) files) inside)
+
+pub taken : (old new : Option Files) (name : List ℕ) → is_inside name ≡ true → new ≡ told_without old name → WhileTold (IsTaken name) old new
+taken old new name inside is = subst (WhileTold (IsTaken name) old) (sym is) (told_taken old name inside)
+
+told_taken_or_not : (old : Option Files) (name : List ℕ) → is_inside name ≡ true → WhileTold (IsTakenOrNot name) old (told_without old name)
+told_taken_or_not None name inside = tt
+told_taken_or_not (Some files) name inside = inr (inside, refl)
+
+pub taken_any : (old new : Option Files) (name : List ℕ) → is_inside name ≡ true → new ≡ told_without old name → WhileTold (IsTakenOrNot name) old new
+taken_any old new name inside is = subst (WhileTold (IsTakenOrNot name) old) (sym is) (told_taken_or_not old name inside)
+
+pub taken_or_not : (old new : Option Files) (name : List ℕ) (fault : DiskFault) → is_inside name ≡ true → IsOldOrNew old (told_without old name) new fault → WhileTold (IsTakenOrNot name) old new
+taken_or_not old new name fault inside (inl same) = while_same (IsTakenOrNot name) old new (λ files. inl refl) same
+taken_or_not old new name fault inside (inr is) = taken_any old new name inside is.1
+
+-- nothing to remove
+pub taken_none : (told : Option Files) (name : List ℕ) → is_inside name ≡ false → WhileTold (IsTaken name) told told
+taken_none None name outside = tt
+taken_none (Some files) name outside = sym (ap (λ b. cond b (without_file files name) files) outside)
+
+pub taken_none_any : (told : Option Files) (name : List ℕ) → WhileTold (IsTakenOrNot name) told told
+taken_none_any None name = tt
+taken_none_any (Some files) name = inl refl
+
+-- one step of the removal
+taken_step : (found : List (List ℕ)) (at : ℕ) (item : List ℕ) (a b c : Files) (e : Bool) → is_inside item ≡ e → item ≡ get_or found at item → IsCleared found at a b → c ≡ cond e (without_file b item) b
+    → IsCleared found (at + 1) a c
+taken_step found at item a b c true inside is so_far gone = unlinks found at item a b c is inside so_far gone
+taken_step found at item a b c false outside is so_far same = subst (IsCleared found (at + 1) a) (sym same) (passes_over found at item (Some a) (Some b) is outside so_far)
+
+pub one_taken : (found : List (List ℕ)) (at : ℕ) (item : List ℕ) (first now next : Option Files) → item ≡ get_or found at item → WhileTold (IsCleared found at) first now
+    → WhileTold (IsTaken item) now next → WhileTold (IsCleared found (at + 1)) first next
+one_taken found at item first now next is =
+    while_then (IsCleared found at) (IsTaken item) (IsCleared found (at + 1)) first now next (λ a b c so_far gone. taken_step found at item a b c (is_inside item) refl is so_far gone)
+
+still_not : (boot : Option (List ℕ)) (found : List (List ℕ)) (at : ℕ) (item : List ℕ) (a b c : Files) → IsCleared found at a b → IsTakenOrNot item b c → is_kept boot a ≡ false → is_kept boot c ≡ false
+still_not boot found at item a b c so_far (inl same) none = still_not_kept boot found at a c (subst (IsCleared found at a) (sym same) so_far) none
+still_not boot found at item a b c so_far (inr gone) none = still_not_kept boot found at a c (unlinks_or_not found at item a b c gone.0 so_far (inr gone.1)) none
+
+pub not_kept_then : (boot : Option (List ℕ)) (found : List (List ℕ)) (at : ℕ) (item : List ℕ) (first now next : Option Files) → WhileTold (IsCleared found at) first now → WhileTold (IsTakenOrNot item) now next
+    → WhileTold (λ a b. is_kept boot a ≡ false → is_kept boot b ≡ false) first next
+not_kept_then boot found at item first now next =
+    while_then (IsCleared found at) (IsTakenOrNot item) (λ a c. is_kept boot a ≡ false → is_kept boot c ≡ false) first now next (λ a b c so_far gone. still_not boot found at item a b c so_far gone)
+
+-- a removal of a file that was left beside another
+same_disk : (files : Files) → IsSameDisk files files
+same_disk files = record { files = refl; boot = refl }
+
+pub told_same_disk : (told : Option Files) → WhileTold IsSameDisk told told
+told_same_disk None = tt
+told_same_disk (Some files) = same_disk files
+
+boot_is_own : is_left boot_file ≡ false
+boot_is_own = refl
+
+left_same : (files : Files) (name : List ℕ) → is_left name ≡ true → IsSameDisk files (without_file files name)
+left_same files name left = record {
+  files = beside_without files name (outside_of_left name left);
+  boot = get-remove nat_list_cmp_total files name boot_file ∙ ap (λ b. cond b None (get files boot_file)) (not_true (eq_by_cmp by_name boot_file name) (λ same.
+      true≢false (sym left ∙ sym (ap is_left (one_key boot_file name same)) ∙ boot_is_own)));
+}
+
+told_left_same : (old : Option Files) (name : List ℕ) → is_left name ≡ true → WhileTold IsSameDisk old (told_without old name)
+told_left_same None name left = tt
+told_left_same (Some files) name left = left_same files name left
+
+pub left_gone : (old new : Option Files) (name : List ℕ) → is_left name ≡ true → new ≡ told_without old name → WhileTold IsSameDisk old new
+left_gone old new name left is = subst (WhileTold IsSameDisk old) (sym is) (told_left_same old name left)
+
+pub left_gone_or_not : (old new : Option Files) (name : List ℕ) (fault : DiskFault) → is_left name ≡ true → IsOldOrNew old (told_without old name) new fault → WhileTold IsSameDisk old new
+left_gone_or_not old new name fault left (inl same) = while_same IsSameDisk old new same_disk same
+left_gone_or_not old new name fault left (inr is) = left_gone old new name left is.1
+
+pub same_disk_then : (first now next : Option Files) → WhileTold IsSameDisk first now → WhileTold IsSameDisk now next → WhileTold IsSameDisk first next
+same_disk_then first now next =
+    while_then IsSameDisk IsSameDisk IsSameDisk first now next (λ a b c one two. record { files = two.files ∙ one.files; boot = two.boot ∙ one.boot })
+
+-- ---- what the opening leaves
+
+begun_none : (boot : Option (List ℕ)) (files : Files) → is_kept boot files ≡ false → files_begun boot files ≡ empty
+begun_none boot files none = ap (λ b. cond b (disk_files files) empty) none
+
+begun_empty : (boot : Option (List ℕ)) (files : Files) → disk_files files ≡ empty → files_begun boot files ≡ empty
+begun_empty boot files none = elim (is_kept boot files) as (λ b. cond b (disk_files files) empty ≡ empty) [ true ↦ none | false ↦ refl ]
+
+-- the disk goes on
+pub goes_on : (boot : Option (List ℕ)) (old new : Option Files) → new ≡ old → IfSome old (λ files. true ≡ is_kept boot files) → WhileTold (λ a b. disk_files b ≡ files_begun boot a) old new
+goes_on boot None new same kept = subst (WhileTold (λ a b. disk_files b ≡ files_begun boot a) None) (sym same) tt
+goes_on boot (Some files) new same kept =
+    subst (WhileTold (λ a b. disk_files b ≡ files_begun boot a) (Some files)) (sym same) (ap (λ b. cond b (disk_files files) empty) kept)
+
+pub goes_on_same : (old new : Option Files) → new ≡ old → WhileTold (λ a b. disk_files b ≡ disk_files a) old new
+goes_on_same old new same = while_same (λ a b. disk_files b ≡ disk_files a) old new (λ files. refl) same
+
+pub begun_same : (boot : Option (List ℕ)) (old new : Option Files) → new ≡ old → WhileTold (λ a b. files_begun boot b ≡ files_begun boot a) old new
+begun_same boot old new same = while_same (λ a b. files_begun boot b ≡ files_begun boot a) old new (λ files. refl) same
+
+abbrev kept_told : Option (List ℕ) → Option Files → Bool
+kept_told boot None = false
+kept_told boot (Some files) = is_kept boot files
+
+same_kept : (boot : Option (List ℕ)) (one other : Files) → Some one ≡ Some other → is_kept boot one ≡ is_kept boot other
+same_kept boot one other same = ap (kept_told boot) same
+
+gone_both : (boot : Option (List ℕ)) (old last : Option Files) → IfSome old (λ files. false ≡ is_kept boot files) → WhileTold (λ a b. disk_files b ≡ empty) old last
+    → WhileTold (λ a b. (disk_files b ≡ empty) × (files_begun boot b ≡ empty) × (files_begun boot a ≡ empty)) old last
+gone_both boot None None none gone = tt
+gone_both boot None (Some b) none gone = absurd gone
+gone_both boot (Some a) None none gone = absurd gone
+gone_both boot (Some a) (Some b) none gone = (gone, begun_empty boot b gone, begun_none boot a (sym none))
+
+-- it doesn't, and a removal failed
+pub begun_removal : (boot : Option (List ℕ)) (old next last : Option Files) → next ≡ old → IfSome old (λ files. false ≡ is_kept boot files)
+    → WhileTold (λ a b. is_kept boot a ≡ false → is_kept boot b ≡ false) next last → WhileTold (λ a b. files_begun boot b ≡ files_begun boot a) old last
+begun_removal boot None None None same none more = tt
+begun_removal boot None None (Some c) same none more = absurd more
+begun_removal boot None (Some b) last same none more = absurd (true≢false (ap is_some same))
+begun_removal boot (Some a) None last same none more = absurd (true≢false (sym (ap is_some same)))
+begun_removal boot (Some a) (Some b) None same none more = absurd more
+begun_removal boot (Some a) (Some b) (Some c) same none more =
+    let old_none : is_kept boot a ≡ false = sym none in
+    let next_none : is_kept boot b ≡ false = same_kept boot b a same ∙ old_none in
+    begun_none boot c (more next_none) ∙ sym (begun_none boot a old_none)
+
+-- or the files are gone, and the boot may be noted
+pub begun_gone : (boot : Option (List ℕ)) (old next then last : Option Files) → next ≡ old → IfSome old (λ files. false ≡ is_kept boot files)
+    → WhileTold (λ a b. disk_files b ≡ empty) next then → WhileTold (λ a b. disk_files b ≡ disk_files a) then last
+    → WhileTold (λ a b. (disk_files b ≡ empty) × (files_begun boot b ≡ empty) × (files_begun boot a ≡ empty)) old last
+begun_gone boot old next then last same none gone noted =
+    gone_both boot old last none (subst (λ told. WhileTold (λ a b. disk_files b ≡ empty) told last) same
+    (while_then (λ a b. disk_files b ≡ empty) (λ a b. disk_files b ≡ disk_files a) (λ a b. disk_files b ≡ empty) next then last (λ a b c one two. two ∙ one) gone noted))
+
+pub gone_ok : (boot : Option (List ℕ)) (old last : Option Files) → WhileTold (λ a b. (disk_files b ≡ empty) × (files_begun boot b ≡ empty) × (files_begun boot a ≡ empty)) old last
+    → WhileTold (λ a b. disk_files b ≡ files_begun boot a) old last
+gone_ok boot None None is = tt
+gone_ok boot None (Some b) is = absurd is
+gone_ok boot (Some a) None is = absurd is
+gone_ok boot (Some a) (Some b) is = is.0 ∙ sym is.2
+
+pub gone_empty : (boot : Option (List ℕ)) (old last : Option Files) → WhileTold (λ a b. (disk_files b ≡ empty) × (files_begun boot b ≡ empty) × (files_begun boot a ≡ empty)) old last
+    → WhileTold (λ a b. disk_files b ≡ empty) old last
+gone_empty boot None None is = tt
+gone_empty boot None (Some b) is = absurd is
+gone_empty boot (Some a) None is = absurd is
+gone_empty boot (Some a) (Some b) is = is.0
+
+pub gone_err : (boot : Option (List ℕ)) (old last : Option Files) → WhileTold (λ a b. (disk_files b ≡ empty) × (files_begun boot b ≡ empty) × (files_begun boot a ≡ empty)) old last
+    → WhileTold (λ a b. files_begun boot b ≡ files_begun boot a) old last
+gone_err boot None None is = tt
+gone_err boot None (Some b) is = absurd is
+gone_err boot (Some a) None is = absurd is
+gone_err boot (Some a) (Some b) is = is.1 ∙ sym is.2
+
+-- ---- the names that are found
+
+-- the set has exactly the names of the list that stand before a place, and may have a file of the disk
+abbrev pub IsNamesTo : List (List ℕ) → ℕ → NameSet → Type 0
+IsNamesTo found at names = (name : List ℕ) → contains_key names name ≡ true ↔ ((is_inside name ≡ true) × ((k : ℕ) × (k < at) × (k < length found) × (get_or found k name ≡ name)))
+
+pub no_names_yet : (found : List (List ℕ)) → IsNamesTo found 0 empty
+no_names_yet found name = (
+  λ has. absurd (true≢false (sym has ∙ ap is_some (get-empty by_name name))),
+  λ is. absurd (omega (arith, is.1.1)),
+)
+
+before_or_at : (at k : ℕ) → k < at + 1 → (k ≡ at) ⊎ (k < at)
+before_or_at zero zero lt = inl refl
+before_or_at zero (suc k) lt = absurd (omega (arith, lt))
+before_or_at (suc at) zero lt = inr (omega arith)
+before_or_at (suc at) (suc k) lt = elim (before_or_at at k (omega (arith, lt))) [
+  | inl same ↦ inl (ap (λ n. suc n) same)
+  | inr less ↦ inr (omega (arith, less))
+]
+
+-- of a place at or before this one, the name is this one's or stands before it
+this_or_before : (found : List (List ℕ)) (at : ℕ) (item name : List ℕ) → item ≡ get_or found at item → ((k : ℕ) × (k < at + 1) × (k < length found) × (get_or found k name ≡ name))
+    → (item ≡ name) ⊎ ((k : ℕ) × (k < at) × (k < length found) × (get_or found k name ≡ name))
+this_or_before found at item name is place = elim (before_or_at at place.0 place.1) [
+  | inl same ↦ inl (is ∙ same_default found at item name (subst (λ k. k < length found) same place.2) ∙ subst (λ k. get_or found k name ≡ name) same place.3)
+  | inr less ↦ inr (place.0, less, place.2, place.3)
+]
+
+still_has : (names : NameSet) (item name : List ℕ) → contains_key names name ≡ true → contains_key (insert names item tt) name ≡ true
+still_has names item name has = elim (eq_by_cmp by_name name item) as (λ e. eq_by_cmp by_name name item ≡ e → contains_key (insert names item tt) name ≡ true) [
+  | true ↦ λ t. ap (contains_key (insert names item tt)) (one_key name item t) ∙ inserted names item tt
+  | false ↦ λ t. inserted_other names item tt name t ∙ has
+] refl
+
+add_step : (found : List (List ℕ)) (at : ℕ) (item : List ℕ) (names new : NameSet) (e : Bool) → is_inside item ≡ e → at < length found → item ≡ get_or found at item → IsNamesTo found at names
+    → new ≡ cond e (insert names item tt) names → IsNamesTo found (at + 1) new
+add_step found at item names new true inside lt is so_far added name = (
+  λ has.
+      elim (eq_by_cmp by_name name item) as (λ e. eq_by_cmp by_name name item ≡ e → (is_inside name ≡ true) × ((k : ℕ) × (k < at + 1) × (k < length found) × (get_or found k name ≡ name))) [
+        | true ↦ λ t. let same : item ≡ name = sym (one_key name item t) in
+            (sym (ap is_inside same) ∙ inside, (at, omega arith, lt, same_default found at name item lt ∙ sym is ∙ same))
+        | false ↦ λ t.
+            let old = (so_far name).0 (sym (inserted_other names item tt name t) ∙ sym (ap (λ n. contains_key n name) added) ∙ has) in
+            (old.0, (old.1.0, omega (arith, old.1.1), old.1.2, old.1.3))
+      ] refl,
+  λ is_one.
+      ap (λ n. contains_key n name) added ∙ elim (this_or_before found at item name is is_one.1) [
+        | inl same ↦ ap (contains_key (insert names item tt)) (sym same) ∙ inserted names item tt
+        | inr before ↦ still_has names item name ((so_far name).1 (is_one.0, before))
+      ],
+)
+add_step found at item names new false outside lt is so_far same name = (
+  λ has. let old = (so_far name).0 (sym (ap (λ n. contains_key n name) same) ∙ has) in (old.0, (old.1.0, omega (arith, old.1.1), old.1.2, old.1.3)),
+  λ is_one.
+      ap (λ n. contains_key n name) same ∙ elim (this_or_before found at item name is is_one.1) [
+        | inl this ↦ absurd (true≢false (sym is_one.0 ∙ sym (ap is_inside this) ∙ outside))
+        | inr before ↦ (so_far name).1 (is_one.0, before)
+      ],
+)
+
+pub one_added : (found : List (List ℕ)) (at : ℕ) (item : List ℕ) (names new : NameSet) → at < length found → item ≡ get_or found at item → IsNamesTo found at names
+    → new ≡ cond (is_inside item) (insert names item tt) names → IsNamesTo found (at + 1) new
+one_added found at item names new lt is so_far added = add_step found at item names new (is_inside item) refl lt is so_far added
+
+pub all_added : (found : List (List ℕ)) (at : ℕ) (names : NameSet) → length found ≤ at → IsNamesTo found at names → IsNamesOfDisk found names
+all_added found at names end so_far name = (
+  λ has. let is = (so_far name).0 has in (is.0, (is.1.0, is.1.2, is.1.3)),
+  λ is. (so_far name).1 (is.0, (is.1.0, omega (arith, is.1.1, end), is.1.1, is.1.2)),
+)
+
+-- ---- and what is known of the files then
+
+index_found : (found : List (List ℕ)) (names : NameSet) (old new : Files) → IsNamesOf old found → IsNamesOfDisk found names → disk_files new ≡ disk_files old
+    → IsIndex (disk_files new) names empty
+index_found found names old new all inside same = subst (λ held. IsIndex held names empty) (sym same) (record {
+  listed = λ name has. let is = disk_has old name has in (inside name).1 (is.0, (all name).1 (there (get old name) is.1));
+  backed = λ name has sure. let is = (inside name).0 has in ap is_some (inside_at old name is.0) ∙ there_some (get old name) ((all name).0 is.1);
+})
+
+index_none : (new : Files) → disk_files new ≡ empty → IsIndex (disk_files new) empty empty
+index_none new none = record {
+  listed = λ name has. ap (λ (files : Files). contains_key files name) (sym none) ∙ has;
+  backed = λ name has sure. absurd (true≢false (sym has ∙ ap is_some (get-empty by_name name)));
+}

@@ -1,10 +1,10 @@
 -- What the names that a disk knows have to do with its files. Only the model of that disk and proofs need these.
-use Rattle.std.specs.Prelude.{◌≡◌, ◌↔◌, Bool, true, false, List, Option, Some, None, Contains, IfSome, ⊤}
+use Rattle.std.specs.Prelude.{◌≡◌, ◌↔◌, ◌⊎◌, if◌then◌else◌, Bool, true, false, List, Option, Some, None, Contains, IfSome, ⊤}
 use Rattle.std.specs.FinMap.{FinMap, contains_key}
 use Rattle.sp_base.specs.Names.{by_name}
 use Rattle.sp_base.specs.Texts.{Text}
 use Rattle.sp_outside.specs.FileNames.{is_inside}
-use Rattle.sp_outside.specs.Files.{Files, file_at}
+use Rattle.sp_outside.specs.Files.{Files, file_at, without_file}
 use Rattle.sp_outside.specs.FolderFiles.{boot_file, disk_files}
 
 -- a set of names
@@ -36,3 +36,11 @@ pub record IsSameDisk (old new : Files) : Type 0 where
 -- the set has exactly the names of a list that may have a file of the disk
 abbrev pub IsNamesOfDisk : List Text → NameSet → Type 0
 IsNamesOfDisk found names = (name : Text) → contains_key names name ≡ true ↔ ((is_inside name ≡ true) × Contains found name)
+
+-- the file of a name is gone, where it is one of the disk, and nothing else is changed
+abbrev pub IsTaken : Text → Files → Files → Type 0
+IsTaken name old new = new ≡ (if is_inside name then without_file old name else old)
+
+-- or it is as before
+abbrev pub IsTakenOrNot : Text → Files → Files → Type 0
+IsTakenOrNot name old new = (new ≡ old) ⊎ ((is_inside name ≡ true) × (new ≡ without_file old name))

@@ -1,22 +1,26 @@
 //! The files below a folder of the real system.
-ghost use Rattle.std.specs.Prelude.{◌≡◌, None, IfOk};
+ghost use Rattle.std.specs.Prelude.{◌≡◌, None};
 
 use crate::disk::counted;
 use crate::file_name::{BESIDE, is_name};
-use crate::folder_lock::{has_lock, lock};
 use crate::folder_walk::walk;
 use crate::names::Names;
 use crate::{DiskFault, RawFiles};
 use sp_base::{ByteBuf, Mem, NameList, NoMemory};
 use std::alloc::Global;
-use std::fs::{self, File, Files, Metadata};
+use std::fs::{self, File, Files, Metadata, OpenOptions};
 use std::io::{self, ErrorKind, Read, Write};
 
 /// The most bytes of a path that Linux takes.
 const LONGEST_PATH: usize = 4_095;
 
 /// The most bytes of a file.
-const LONGEST_FILE: usize = 67_108_864;
+const LONGEST_FILE: u64 = 67_108_864;
+
+/// The file that is locked, and its name in other letters. Neither a file's name nor that of a file beside it ends so.
+const LOCK_FILE: &str = ".lock%t%t";
+
+const LOCK_FILE_IN_CAPITALS: &str = ".LOCK%t%t";
 
 /// Where Linux tells the id of a boot.
 const BOOT_ID: &str = "/proc/sys/kernel/random/boot_id";
@@ -33,51 +37,56 @@ impl From<io::Error> for DiskFault {
     }
 }
 
-/// The files below a folder of the real system. They aren't told. So what the clauses of `RawFiles` say of them is not proved here, but trusted.
+/// The files below a folder of the real system. They aren't told, so what the clauses of `RawFiles` say of them is trusted of this
+/// object, and for its tests.
 ///
 /// A file is written beside the old one and renamed, so that at every moment the old file or the new one stands whole, also where the
-/// process is killed. Nothing is synced. A symbolic link below the folder is no file and no folder, and isn't followed: a file takes its place.
+/// process is killed. Nothing is synced. A symbolic link below the folder is no file and no folder, and isn't followed.
 #[derive(Drop)]
 pub struct FolderFiles<R: Files<File = File> + AllocGlobal + Clone + Drop> {
     rt: R,
     folder: String,
-    // The paths of the file that a call is about, and of the file beside it, in room that was taken at the beginning.
-    path: String,
+    // The path of the file beside the one that a call is about, in room that was taken at the beginning.
     beside: String,
     // The folders below that are known to stand there, and not as links.
     folders: Names<()>,
+    // The system gives up the lock as the process ends, in whichever way.
     lock: Option<File>,
     failed: u64,
 }
 
-/// Whether there is no file, as a fault tells.
-pub(crate) fn is_absent(fault: &io::Error) -> bool {
-    matches!(fault.kind(), ErrorKind::NotFound | ErrorKind::NotADirectory)
-}
-
-/// What stands at a path, if anything does; a link stands for itself.
-pub(crate) fn at_path<R: Files>(rt: &R, path: &str) -> Result<Option<Metadata>, DiskFault> {
+// What stands at a path, if anything does; a link stands for itself.
+fn at_path<R: Files>(rt: &R, path: &str) -> io::Result<Option<Metadata>> {
     match fs::symlink_metadata(rt, path) {
         Ok(found) => Ok(Some(found)),
         Err(fault) if is_absent(&fault) => Ok(None),
-        Err(fault) => Err(DiskFault::from(fault)),
+        Err(fault) => Err(fault),
     }
 }
 
-// A folder that is made, or was there before.
-fn make_folder<R: Files>(rt: &R, path: &str, follows: bool) -> Result<(), DiskFault> {
-    let Err(fault) = fs::create_dir(rt, path) else {
-        return Ok(());
-    };
-    let found = if follows {
-        fs::metadata(rt, path)
-    } else {
-        fs::symlink_metadata(rt, path)
-    };
+fn is_absent(fault: &io::Error) -> bool {
+    matches!(
+        fault.kind(),
+        ErrorKind::NotFound | ErrorKind::NotADirectory
+    )
+}
+
+fn make_folder<R: Files>(rt: &R, path: &str, found: io::Result<Metadata>) -> io::Result<()> {
     match found {
         Ok(found) if found.is_dir() => Ok(()),
-        _ => Err(DiskFault::from(fault)),
+        _ => fs::create_dir(rt, path),
     }
+}
+
+fn contents<R: Files>(rt: &R, alloc: Global, path: &str, size: u64) -> Result<ByteBuf, DiskFault> {
+    let size = match usize::try_from(size) {
+        Ok(fits) if size <= LONGEST_FILE => fits,
+        _ => return Err(DiskFault::Failed),
+    };
+    let mut bytes = vec![in alloc; 0u8; size]?;
+    let mut file = fs::open(rt, path)?;
+    file.read_exact(&mut bytes)?;
+    Ok(ByteBuf::from(bytes))
 }
 
 // Reading.
@@ -87,7 +96,6 @@ impl<R: Files<File = File> + AllocGlobal + Clone + Drop> FolderFiles<R> {
         let alloc = rt.alloc();
         Ok(FolderFiles {
             folder: String::from_str(alloc, folder)?,
-            path: String::with_capacity(alloc, LONGEST_PATH)?,
             beside: String::with_capacity(alloc, LONGEST_PATH)?,
             folders: Names::new(alloc),
             lock: None,
@@ -102,14 +110,15 @@ impl<R: Files<File = File> + AllocGlobal + Clone + Drop> FolderFiles<R> {
         if length.saturating_add(1 + BESIDE.len()) > LONGEST_PATH {
             return Err(DiskFault::Failed);
         }
-        self.path.clear();
-        self.path.push_str(self.folder.as_str())?;
-        self.path.push_str("/")?;
-        self.path.push_str(name)?;
         self.beside.clear();
-        self.beside.push_str(self.path.as_str())?;
-        self.beside.push_str(BESIDE)?;
+        for part in [self.folder.as_str(), "/", name, BESIDE] {
+            self.beside.push_str(part)?;
+        }
         Ok(())
+    }
+
+    fn path(&self) -> &str {
+        self.beside.as_str().strip_suffix(BESIDE).unwrap_or("")
     }
 
     fn knows_folder(&self, name: &str) -> bool {
@@ -119,24 +128,16 @@ impl<R: Files<File = File> + AllocGlobal + Clone + Drop> FolderFiles<R> {
         }
     }
 
-    fn contents(&self, alloc: Global, size: u64) -> Result<ByteBuf, DiskFault> {
-        let size = match usize::try_from(size) {
-            Ok(size) if size <= LONGEST_FILE => size,
-            _ => return Err(DiskFault::Failed),
-        };
-        let mut file = fs::open(&self.rt, self.path.as_str())?;
-        let mut bytes = vec![in alloc; 0u8; size]?;
-        file.read_exact(&mut bytes)?;
-        Ok(ByteBuf::from(bytes))
-    }
-
     fn find(&mut self, alloc: Global, name: &str) -> Result<Option<ByteBuf>, DiskFault> {
         if !self.knows_folder(name) {
             return Ok(None);
         }
         self.point_at(name)?;
-        match at_path(&self.rt, self.path.as_str())? {
-            Some(found) if found.is_file() => Ok(Some(self.contents(alloc, found.len())?)),
+        let path = self.path();
+        match at_path(&self.rt, path)? {
+            Some(found) if found.is_file() => {
+                Ok(Some(contents(&self.rt, alloc, path, found.len())?))
+            }
             _ => Ok(None),
         }
     }
@@ -149,78 +150,75 @@ impl<R: Files<File = File> + AllocGlobal + Clone + Drop> FolderFiles<R> {
 
 // Writing and removing.
 impl<R: Files<File = File> + AllocGlobal + Clone + Drop> FolderFiles<R> {
-    // Makes the folder, where it isn't there, and locks it, where it isn't locked or was taken away with its lock.
+    // Makes the folder, where it isn't there, and locks it, where it isn't locked or was taken away with its lock. This fails where
+    // another process holds the lock, and where the folder's file system takes names for the same that differ in the case of letters.
     fn occupy(&mut self) -> Result<(), DiskFault> {
-        make_folder(&self.rt, self.folder.as_str(), true)?;
-        if self.lock.is_none() || !has_lock(&self.rt, self.folder.as_str())? {
-            self.lock = Some(lock(&self.rt, self.folder.as_str())?);
+        let folder = self.folder.as_str();
+        make_folder(&self.rt, folder, fs::metadata(&self.rt, folder))?;
+        self.point_at(LOCK_FILE)?;
+        let stands = matches!(at_path(&self.rt, self.path())?, Some(found) if found.is_file());
+        if stands && self.lock.is_some() {
+            return Ok(());
         }
+        // A new file is one that no link leads elsewhere.
+        let lock = if stands {
+            OpenOptions::new().write(true).open(&self.rt, self.path())?
+        } else {
+            File::create_new(&self.rt, self.path())?
+        };
+        self.point_at(LOCK_FILE_IN_CAPITALS)?;
+        if lock.try_lock().is_err() || at_path(&self.rt, self.path())?.is_some() {
+            return Err(DiskFault::Failed);
+        }
+        self.lock = Some(lock);
         Ok(())
     }
 
     // Makes those folders on the way to a file that aren't there, the first among them.
     fn make_folders(&mut self, name: &str) -> Result<(), DiskFault> {
         self.occupy()?;
+        self.point_at(name)?;
+        let before = self.folder.len().saturating_add(1);
         for end in 1..name.len() {
             if let Some((folder, rest)) = name.split_at_checked(end)
                 && rest.starts_with('/')
             {
-                self.make_folder_below(folder)?;
+                let path = self.path().get(..before.saturating_add(end)).unwrap_or("");
+                make_folder(&self.rt, path, fs::symlink_metadata(&self.rt, path))?;
+                if is_name(folder) {
+                    self.folders.insert(folder, ())?;
+                }
             }
-        }
-        Ok(())
-    }
-
-    fn make_folder_below(&mut self, folder: &str) -> Result<(), DiskFault> {
-        let end = self.folder.len().saturating_add(1).saturating_add(folder.len());
-        let path = self.path.as_str().get(..end).unwrap_or("");
-        make_folder(&self.rt, path, false)?;
-        if is_name(folder) && !self.folders.has(folder) {
-            self.folders.insert(folder, ())?;
         }
         Ok(())
     }
 
     fn write(&mut self, name: &str, bytes: &[u8]) -> Result<(), DiskFault> {
-        if bytes.len() > LONGEST_FILE {
+        if bytes.len() as u64 > LONGEST_FILE {
             return Err(DiskFault::Failed);
         }
         self.point_at(name)?;
-        if !self.knows_folder(name) {
-            self.make_folders(name)?;
+        if self.knows_folder(name) && self.write_and_rename(bytes).is_ok() {
+            return Ok(());
         }
-        match self.write_and_rename(bytes) {
-            Err(fault) if fault.kind() == ErrorKind::NotFound => {
-                self.make_folders(name)?;
-                Ok(self.write_and_rename(bytes)?)
-            }
-            written => Ok(written?),
-        }
+        // The folder isn't there, or a link or what a killed process left was in the way.
+        self.make_folders(name)?;
+        Ok(self.write_and_rename(bytes)?)
     }
 
     fn write_and_rename(&self, bytes: &[u8]) -> io::Result<()> {
-        let (path, beside) = (self.path.as_str(), self.beside.as_str());
-        let renamed = match self.write_beside(bytes) {
-            Ok(()) => fs::rename(&self.rt, beside, path),
-            Err(fault) => Err(fault),
-        };
-        if renamed.is_err() {
-            let _ = fs::remove_file(&self.rt, beside);
+        let written = self.write_beside(bytes);
+        if written.is_err() {
+            let _ = fs::remove_file(&self.rt, self.beside.as_str());
         }
-        renamed
+        written
     }
 
-    // Writes a new file, which no link leads elsewhere. One that a killed process left is taken away first.
+    // Writes a new file, which no link leads elsewhere, and renames it.
     fn write_beside(&self, bytes: &[u8]) -> io::Result<()> {
-        let beside = self.beside.as_str();
-        let mut file = match File::create_new(&self.rt, beside) {
-            Err(fault) if fault.kind() == ErrorKind::AlreadyExists => {
-                fs::remove_file(&self.rt, beside)?;
-                File::create_new(&self.rt, beside)?
-            }
-            opened => opened?,
-        };
-        file.write_all(bytes)
+        let mut file = File::create_new(&self.rt, self.beside.as_str())?;
+        file.write_all(bytes)?;
+        fs::rename(&self.rt, self.beside.as_str(), self.path())
     }
 
     fn erase(&mut self, name: &str) -> Result<(), DiskFault> {
@@ -228,7 +226,7 @@ impl<R: Files<File = File> + AllocGlobal + Clone + Drop> FolderFiles<R> {
             return Ok(());
         }
         self.point_at(name)?;
-        match fs::remove_file(&self.rt, self.path.as_str()) {
+        match fs::remove_file(&self.rt, self.path()) {
             Err(fault) if is_absent(&fault) => Ok(()),
             removed => Ok(removed?),
         }

@@ -8,6 +8,7 @@ use std::fs::{self, DirEntry, Files, ReadDir};
 use std::io::{self, ErrorKind};
 
 // What a walk has found, and where it is still to go.
+#[derive(Drop)]
 struct Walk<'a> {
     alloc: Global,
     // How many bytes of a path stand before the name.
@@ -17,34 +18,37 @@ struct Walk<'a> {
     ahead: Vec<String>,
 }
 
-/// The names of all files below a folder, and the folders below it beside those that are known. A link is no file and no folder here,
-/// and a name that isn't UTF-8 is passed over. So is a folder below it that may not be read, as the `lost+found` of a file system.
+/// The names of all files below a folder; the folders below it are noted. A link is no file and no folder here, and a name that isn't
+/// UTF-8 is passed over. So is a folder below it that may not be read, as the `lost+found` of a file system.
 pub(crate) fn walk<R: Files + AllocGlobal + Clone + Drop>(
     rt: &R,
     alloc: Global,
     folder: &str,
     folders: &mut Names<()>,
 ) -> Result<NameList, DiskFault> {
-    let slash = usize::from(!folder.ends_with('/'));
     let mut walk = Walk {
         alloc,
-        before: folder.len().saturating_add(slash),
+        before: folder.len().saturating_add(usize::from(!folder.ends_with('/'))),
         names: NameList::new(alloc),
         folders,
         ahead: Vec::new(alloc),
     };
-    walk.take_entries(fs::read_dir(rt, folder)?)?;
+    push_path(alloc, &mut walk.ahead, folder)?;
     for _ in 0..u64::MAX {
         let Some(next) = walk.ahead.pop() else {
             return Ok(walk.names);
         };
         match fs::read_dir(rt, next.as_str()) {
             Ok(entries) => walk.take_entries(entries)?,
-            Err(fault) if fault.kind() == ErrorKind::PermissionDenied => {}
+            Err(fault) if may_not(&fault) && next.len() > folder.len() => {}
             Err(fault) => return Err(DiskFault::from(fault)),
         }
     }
     Err(DiskFault::Failed)
+}
+
+fn may_not(fault: &io::Error) -> bool {
+    fault.kind() == ErrorKind::PermissionDenied
 }
 
 fn push_path(alloc: Global, paths: &mut Vec<String>, path: &str) -> Mem<()> {
@@ -58,36 +62,29 @@ impl Walk<'_> {
         entries: ReadDir<R>,
     ) -> Result<(), DiskFault> {
         for entry in entries {
-            self.take_entry(entry)?;
+            match entry {
+                Ok(entry) => self.take_entry(&entry)?,
+                Err(fault) if fault.kind() == ErrorKind::InvalidFilename => {}
+                Err(fault) => return Err(DiskFault::from(fault)),
+            }
         }
         Ok(())
     }
 
-    fn take_entry<R: Files + AllocGlobal + Clone + Drop>(
-        &mut self,
-        entry: io::Result<DirEntry<R>>,
-    ) -> Result<(), DiskFault> {
-        let entry = match entry {
-            Ok(entry) => entry,
-            Err(fault) if fault.kind() == ErrorKind::InvalidFilename => return Ok(()),
-            Err(fault) => return Err(DiskFault::from(fault)),
-        };
+    fn take_entry<R: Files>(&mut self, entry: &DirEntry<R>) -> Result<(), DiskFault> {
         let path = entry.path().as_str();
         let name = path.get(self.before..).unwrap_or("");
         match entry.file_type() {
-            Ok(found) if found.is_dir() => self.take_folder(path, name),
-            Ok(found) if found.is_file() => Ok(self.names.push(TextBuf::of(self.alloc, name)?)?),
-            Ok(_) => Ok(()),
+            Ok(found) if found.is_dir() => {
+                push_path(self.alloc, &mut self.ahead, path)?;
+                if is_name(name) {
+                    self.folders.insert(name, ())?;
+                }
+            }
+            Ok(found) if found.is_file() => self.names.push(TextBuf::of(self.alloc, name)?)?,
             // The folder may be read, and nothing in it.
-            Err(fault) if fault.kind() == ErrorKind::PermissionDenied => Ok(()),
-            Err(fault) => Err(DiskFault::from(fault)),
-        }
-    }
-
-    fn take_folder(&mut self, path: &str, name: &str) -> Result<(), DiskFault> {
-        push_path(self.alloc, &mut self.ahead, path)?;
-        if is_name(name) {
-            self.folders.insert(name, ())?;
+            Err(fault) if !may_not(&fault) => return Err(DiskFault::from(fault)),
+            _ => {}
         }
         Ok(())
     }

@@ -7,7 +7,6 @@
 mod disk;
 mod file_name;
 mod folder_files;
-mod folder_lock;
 mod folder_walk;
 mod laws;
 mod mem_disk;

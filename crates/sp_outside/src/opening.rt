@@ -1,14 +1,15 @@
 //! With which of the files below its folder a disk begins.
 ghost use Rattle.std.specs.Prelude.{◌≡◌, false, IfOk, IfSome, OnErr, OnOk, if◌then◌else◌};
-ghost use Rattle.std.specs.FinMap.{empty};
+ghost use Rattle.std.specs.FinMap.{contains_key, empty, insert};
+ghost use Rattle.sp_outside.specs.FileNames as spec_names;
 ghost use Rattle.sp_outside.specs.FolderFiles as spec;
 ghost use Rattle.sp_outside.specs.FolderFiles.{IsNamesOf, disk_files, files_begun};
-ghost use Rattle.sp_outside.specs.NameIndex.{IsNamesOfDisk, IsSameDisk, WhileTold};
+ghost use Rattle.sp_outside.specs.NameIndex.{IsNamesOfDisk, IsSameDisk, IsTaken, IsTakenOrNot, WhileTold};
 
 use crate::file_name::{is_inside, is_left, is_name};
 use crate::names::Names;
 use crate::{DiskFault, RawFiles};
-use sp_base::NameList;
+use sp_base::TextBuf;
 use std::alloc::Global;
 
 /// The file that has the number of the session. Without it no session can tell its stamps from those of the files that stand there.
@@ -34,23 +35,32 @@ fn is_kept<F: RawFiles>(below: &mut F, alloc: Global) -> Result<bool, DiskFault>
     Ok(id.bytes() == kept.bytes())
 }
 
+// Takes a file away, where it is one of the disk.
+fn remove_inside<F: RawFiles>(below: &mut F, name: &str) -> Result<(), DiskFault>
+    ensures ok { OnOk result (WhileTold (IsTaken name.now) (F.files below.old) (F.files below.new)) }
+    ensures any { WhileTold (IsTakenOrNot name.now) (F.files below.old) (F.files below.new) }
+{
+    if is_inside(name) {
+        return below.unlink(name);
+    }
+    Ok(())
+}
+
 // Takes away the files of the disk among those that were found.
-fn remove_all<F: RawFiles>(below: &mut F, found: &NameList) -> Result<(), DiskFault>
+fn remove_all<F: RawFiles>(below: &mut F, found: &[TextBuf]) -> Result<(), DiskFault>
     requires { IfSome (F.files below.old) (λ files. IsNamesOf files found.now) }
     ensures ok { OnOk result (WhileTold (λ old new. disk_files new ≡ empty) (F.files below.old) (F.files below.new)) }
     ensures kept { WhileTold (λ old new. spec.is_kept F.boot old ≡ false → spec.is_kept F.boot new ≡ false) (F.files below.old) (F.files below.new) }
 {
-    for name in found.as_slice() {
-        if is_inside(name.text()) {
-            below.unlink(name.text())?;
-        }
+    for name in found {
+        remove_inside(below, name.text())?;
     }
     Ok(())
 }
 
 // Notes that the files are of this boot. Where the system doesn't tell its id they are of none.
 fn note_boot<F: RawFiles>(below: &mut F, alloc: Global) -> Result<(), DiskFault>
-    ensures same { WhileTold (λ old new. disk_files new ≡ disk_files old) (F.files below.old) (F.files below.new) }
+    ensures { WhileTold (λ old new. disk_files new ≡ disk_files old) (F.files below.old) (F.files below.new) }
 {
     match below.boot_id(alloc)? {
         Some(id) => below.replace(BOOT_FILE, id.bytes()),
@@ -64,7 +74,7 @@ fn note_boot<F: RawFiles>(below: &mut F, alloc: Global) -> Result<(), DiskFault>
 pub(crate) fn begin<F: RawFiles>(
     below: &mut F,
     alloc: Global,
-    found: &NameList,
+    found: &[TextBuf],
 ) -> Result<bool, DiskFault>
     requires { IfSome (F.files below.old) (λ files. IsNamesOf files found.now) }
     ensures ok { OnOk result (WhileTold (λ old new. disk_files new ≡ files_begun F.boot old) (F.files below.old) (F.files below.new)) }
@@ -79,30 +89,59 @@ pub(crate) fn begin<F: RawFiles>(
     Ok(false)
 }
 
-/// Takes away the files beside others that a killed process left, where that may be done.
-pub(crate) fn take_left<F: RawFiles>(below: &mut F, found: &NameList)
+// One that stays is no file of the disk either, and goes when its file is written next.
+fn remove_left<F: RawFiles>(below: &mut F, name: &str)
     ensures { WhileTold IsSameDisk (F.files below.old) (F.files below.new) }
 {
-    for name in found.as_slice() {
-        if is_left(name.text()) {
-            // One that stays is no file of the disk either, and goes when its file is written next.
-            let _ = below.unlink(name.text());
-        }
+    if is_left(name) {
+        let _ = below.unlink(name);
     }
 }
 
+/// Takes away the files beside others that a killed process left, where that may be done.
+pub(crate) fn take_left<F: RawFiles>(below: &mut F, found: &[TextBuf])
+    ensures { WhileTold IsSameDisk (F.files below.old) (F.files below.new) }
+{
+    for name in found {
+        remove_left(below, name.text());
+    }
+}
+
+// Adds a name, where it may be one of a file of the disk.
+fn add_inside(names: &mut Names<()>, name: &str) -> Result<(), DiskFault>
+    ensures { OnOk result (names.new ≡ (if spec_names.is_inside name.now then insert names.old name.now tt else names.old)) }
+{
+    if !is_inside(name) {
+        return Ok(());
+    }
+    if !is_name(name) {
+        return Err(DiskFault::Failed);
+    }
+    Ok(names.insert(name, ())?)
+}
+
 /// The names among those that were found that may be those of files of the disk.
-pub(crate) fn names_inside(alloc: Global, found: &NameList) -> Result<Names<()>, DiskFault>
+pub(crate) fn names_inside(alloc: Global, found: &[TextBuf]) -> Result<Names<()>, DiskFault>
     ensures { IfOk result (IsNamesOfDisk found.now) }
 {
     let mut names = Names::new(alloc);
-    for name in found.as_slice() {
-        if is_inside(name.text()) {
-            if !is_name(name.text()) {
-                return Err(DiskFault::Failed);
-            }
-            names.insert(name.text(), ())?;
-        }
+    for name in found {
+        add_inside(&mut names, name.text())?;
     }
     Ok(names)
+}
+
+/// Whether the disk has a file.
+pub(crate) fn has_file<F: RawFiles>(
+    below: &mut F,
+    alloc: Global,
+    name: &str,
+) -> Result<bool, DiskFault>
+    ensures value { IfOk result (λ has. IfSome (F.files below.old) (λ files. has ≡ contains_key (disk_files files) name.now)) }
+    ensures same { F.files below.new ≡ F.files below.old }
+{
+    if !is_inside(name) {
+        return Ok(false);
+    }
+    Ok(below.read(alloc, name)?.is_some())
 }

@@ -10,9 +10,9 @@ ghost use Rattle.sp_outside.specs.NameIndex.{IsIndex, WhileTold};
 use crate::disk::counted;
 use crate::file_name::is_inside;
 use crate::names::Names;
-use crate::opening::{begin, names_inside, take_left};
+use crate::opening::{begin, has_file, names_inside, take_left};
 use crate::{Disk, DiskFault, FolderFiles, RawFiles};
-use sp_base::{ByteBuf, Mem, NameList};
+use sp_base::{ByteBuf, Mem, NameList, TextBuf};
 use std::alloc::Global;
 use std::fs::{File, Files};
 use std::marker::Model;
@@ -94,7 +94,7 @@ impl<F: RawFiles + Drop> RealDisk<F> {
     }
 
     // Begins with the files that were found, where no call has, and says whether they are those of the disk. Else there are none.
-    fn open(&mut self, found: &NameList) -> Result<bool, DiskFault>
+    fn open(&mut self, found: &[TextBuf]) -> Result<bool, DiskFault>
         requires unknown { self.old.is_known ≡ false }
         requires names { IfSome self.old.below (λ files. IsNamesOf files found.now) }
         ensures same { files_held F.boot self.new ≡ files_held F.boot self.old }
@@ -119,14 +119,14 @@ impl<F: RawFiles + Drop> RealDisk<F> {
         ensures index { IfOk result (λ names. IfSome self.new.below (λ files. IsIndex (disk_files files) names empty)) }
         ensures count { self.new.failed ≡ self.old.failed }
     {
-        let found = self.below.walk(self.alloc)?;
-        let kept = self.open(&found)?;
-        take_left(&mut self.below, &found);
+        let walked = self.below.walk(self.alloc)?;
+        let found = walked.as_slice();
+        let kept = self.open(found)?;
+        take_left(&mut self.below, found);
         if kept {
-            names_inside(self.alloc, &found)
-        } else {
-            Ok(Names::new(self.alloc))
+            return names_inside(self.alloc, found);
         }
+        Ok(Names::new(self.alloc))
     }
 
     // Knows the names of the files from then on.
@@ -153,7 +153,10 @@ impl<F: RawFiles + Drop> RealDisk<F> {
         ensures count { self.new.failed ≡ self.old.failed }
     {
         self.know()?;
-        if !is_inside(name) || !self.names.has(name) {
+        if !is_inside(name) {
+            return Ok(None);
+        }
+        if !self.names.has(name) {
             return Ok(None);
         }
         self.below.read(alloc, name)
@@ -165,7 +168,7 @@ impl<F: RawFiles + Drop> RealDisk<F> {
         ensures known { self.new.is_known ≡ self.old.is_known }
         ensures count { self.new.failed ≡ self.old.failed }
     {
-        if !is_inside(name) || self.below.read(alloc, name)?.is_none() {
+        if !has_file(&mut self.below, alloc, name)? {
             self.names.remove(name);
         }
         self.doubts.remove(name);
@@ -227,7 +230,10 @@ impl<F: RawFiles + Drop> RealDisk<F> {
         ensures count { self.new.failed ≡ self.old.failed }
     {
         self.know()?;
-        if !is_inside(name) || !self.names.has(name) {
+        if !is_inside(name) {
+            return Ok(());
+        }
+        if !self.names.has(name) {
             return Ok(());
         }
         if let Err(fault) = self.below.unlink(name) {

@@ -24,12 +24,12 @@ while_same P (Some files) new itself same = subst (WhileTold P (Some files)) (sy
 
 pub while_then : (P Q R : Files → Files → Type 0) (first next last : Option Files) → ((a b c : Files) → P a b → Q b c → R a c)
     → WhileTold P first next → WhileTold Q next last → WhileTold R first last
-while_then P Q R None None None then p q = tt
-while_then P Q R None None (Some c) then p q = absurd q
-while_then P Q R None (Some b) last then p q = absurd p
-while_then P Q R (Some a) None last then p q = absurd p
-while_then P Q R (Some a) (Some b) None then p q = absurd q
-while_then P Q R (Some a) (Some b) (Some c) then p q = then a b c p q
+while_then P Q R None None None middle p q = tt
+while_then P Q R None None (Some c) middle p q = absurd q
+while_then P Q R None (Some b) last middle p q = absurd p
+while_then P Q R (Some a) None last middle p q = absurd p
+while_then P Q R (Some a) (Some b) None middle p q = absurd q
+while_then P Q R (Some a) (Some b) (Some c) middle p q = middle a b c p q
 
 -- the file of a name is as it was, or gone
 abbrev pub IsUnlinked : List ℕ → Files → Files → Type 0
@@ -368,12 +368,12 @@ begun_removal boot (Some a) (Some b) (Some c) same none more =
     begun_none boot c (more next_none) ∙ sym (begun_none boot a old_none)
 
 -- or the files are gone, and the boot may be noted
-pub begun_gone : (boot : Option (List ℕ)) (old next then last : Option Files) → next ≡ old → IfSome old (λ files. false ≡ is_kept boot files)
-    → WhileTold (λ a b. disk_files b ≡ empty) next then → WhileTold (λ a b. disk_files b ≡ disk_files a) then last
+pub begun_gone : (boot : Option (List ℕ)) (old next middle last : Option Files) → next ≡ old → IfSome old (λ files. false ≡ is_kept boot files)
+    → WhileTold (λ a b. disk_files b ≡ empty) next middle → WhileTold (λ a b. disk_files b ≡ disk_files a) middle last
     → WhileTold (λ a b. (disk_files b ≡ empty) × (files_begun boot b ≡ empty) × (files_begun boot a ≡ empty)) old last
-begun_gone boot old next then last same none gone noted =
+begun_gone boot old next middle last same none gone noted =
     gone_both boot old last none (subst (λ told. WhileTold (λ a b. disk_files b ≡ empty) told last) same
-    (while_then (λ a b. disk_files b ≡ empty) (λ a b. disk_files b ≡ disk_files a) (λ a b. disk_files b ≡ empty) next then last (λ a b c one two. two ∙ one) gone noted))
+    (while_then (λ a b. disk_files b ≡ empty) (λ a b. disk_files b ≡ disk_files a) (λ a b. disk_files b ≡ empty) next middle last (λ a b c one two. two ∙ one) gone noted))
 
 pub gone_ok : (boot : Option (List ℕ)) (old last : Option Files) → WhileTold (λ a b. (disk_files b ≡ empty) × (files_begun boot b ≡ empty) × (files_begun boot a ≡ empty)) old last
     → WhileTold (λ a b. disk_files b ≡ files_begun boot a) old last
@@ -467,7 +467,7 @@ all_added found at names end so_far name = (
   λ is. (so_far name).1 (is.0, (is.1.0, omega (arith, is.1.1, end), is.1.1, is.1.2)),
 )
 
--- ---- and what is known of the files then
+-- ---- and what is known of the files middle
 
 index_found : (found : List (List ℕ)) (names : NameSet) (old new : Files) → IsNamesOf old found → IsNamesOfDisk found names → disk_files new ≡ disk_files old
     → IsIndex (disk_files new) names empty
@@ -481,3 +481,42 @@ index_none new none = record {
   listed = λ name has. ap (λ (files : Files). contains_key files name) (sym none) ∙ has;
   backed = λ name has sure. absurd (true≢false (sym has ∙ ap is_some (get-empty by_name name)));
 }
+
+pub found_index : (found : List (List ℕ)) (names : NameSet) (old now new : Option Files) → IfSome old (λ files. IsNamesOf files found) → IsNamesOfDisk found names
+    → WhileTold (λ a b. disk_files b ≡ disk_files a) old now → WhileTold IsSameDisk now new → Knows new names empty
+found_index found names None None None all inside one two = tt
+found_index found names None None (Some c) all inside one two = absurd two
+found_index found names None (Some b) new all inside one two = absurd one
+found_index found names (Some a) None new all inside one two = absurd one
+found_index found names (Some a) (Some b) None all inside one two = absurd two
+found_index found names (Some a) (Some b) (Some c) all inside one two = index_found found names a c all inside (two.files ∙ one)
+
+pub none_index : (old now new : Option Files) → WhileTold (λ a b. disk_files b ≡ empty) old now → WhileTold IsSameDisk now new → Knows new empty empty
+none_index None None None one two = tt
+none_index None None (Some c) one two = absurd two
+none_index None (Some b) new one two = absurd one
+none_index (Some a) None new one two = absurd one
+none_index (Some a) (Some b) None one two = absurd two
+none_index (Some a) (Some b) (Some c) one two = index_none c (two.files ∙ one)
+
+-- the files of the disk are the same after files were taken away that were left beside others
+pub same_told : (old new : Option Files) → WhileTold IsSameDisk old new → option_map disk_files new ≡ option_map disk_files old
+same_told None None same = refl
+same_told None (Some b) same = absurd same
+same_told (Some a) None same = absurd same
+same_told (Some a) (Some b) same = ap Some same.files
+
+-- and where the disk has begun they are those that it was to begin with
+pub told_begun : (boot : Option (List ℕ)) (old new : Option Files) → WhileTold (λ a b. disk_files b ≡ files_begun boot a) old new
+    → option_map disk_files new ≡ option_map (files_begun boot) old
+told_begun boot None None is = refl
+told_begun boot None (Some b) is = absurd is
+told_begun boot (Some a) None is = absurd is
+told_begun boot (Some a) (Some b) is = ap Some is
+
+pub told_still : (boot : Option (List ℕ)) (old new : Option Files) → WhileTold (λ a b. files_begun boot b ≡ files_begun boot a) old new
+    → option_map (files_begun boot) new ≡ option_map (files_begun boot) old
+told_still boot None None is = refl
+told_still boot None (Some b) is = absurd is
+told_still boot (Some a) None is = absurd is
+told_still boot (Some a) (Some b) is = ap Some is

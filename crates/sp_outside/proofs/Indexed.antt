@@ -1,6 +1,6 @@
 -- What an index of names still knows after a change, and what it tells of the files of a disk.
-use Rattle.std.proofs.Common.{◌≡◌, ℕ, Bool, true, false, cond, List, Option, Some, None, refl, sym, ◌∙◌, ap, subst, inl, inr, ◌⊎◌}
-use Rattle.std.specs.Prelude.{IfSome, option_map}
+use Rattle.std.proofs.Common.{◌≡◌, ℕ, Bool, true, false, cond, List, Option, Some, None, Result, Ok, Err, refl, sym, ◌∙◌, ap, subst, inl, inr, ◌⊎◌}
+use Rattle.std.specs.Prelude.{IfOk, IfSome, option_map}
 use Rattle.std.specs.Cmp.Lexicographic.{nat_list_cmp_total}
 use Rattle.std.specs.FinMap.{contains_key, get, insert, remove, get-remove}
 use Rattle.std.specs.Option.{is_some}
@@ -24,9 +24,9 @@ record At (held : Files) (names doubts : NameSet) (name : List ℕ) : Type 0 whe
 
 -- what is as before at another
 record Beside (held new : Files) (names others doubts more : NameSet) (q : List ℕ) : Type 0 where
-  held : contains_key new q ≡ contains_key held q
-  names : contains_key others q ≡ contains_key names q
-  doubts : contains_key more q ≡ contains_key doubts q
+  same_held : contains_key new q ≡ contains_key held q
+  same_names : contains_key others q ≡ contains_key names q
+  same_doubts : contains_key more q ≡ contains_key doubts q
 
 listed_at : (held new : Files) (names others doubts more : NameSet) (name q : List ℕ) (e : Bool) → eq_by_cmp by_name q name ≡ e → IsIndex held names doubts
     → At new others more name → (eq_by_cmp by_name q name ≡ false → Beside held new names others doubts more q)
@@ -35,7 +35,7 @@ listed_at held new names others doubts more name q true t index at beside has =
     let same : name ≡ q = sym (one_key q name t) in
     subst (λ n. contains_key others n ≡ true) same (at.listed (subst (λ n. contains_key new n ≡ true) (sym same) has))
 listed_at held new names others doubts more name q false t index at beside has =
-    (beside t).names ∙ index.listed q (sym (beside t).held ∙ has)
+    (beside t).same_names ∙ index.listed q (sym (beside t).same_held ∙ has)
 
 backed_at : (held new : Files) (names others doubts more : NameSet) (name q : List ℕ) (e : Bool) → eq_by_cmp by_name q name ≡ e → IsIndex held names doubts
     → At new others more name → (eq_by_cmp by_name q name ≡ false → Beside held new names others doubts more q)
@@ -44,7 +44,7 @@ backed_at held new names others doubts more name q true t index at beside has su
     let same : name ≡ q = sym (one_key q name t) in
     subst (λ n. contains_key new n ≡ true) same (at.backed (subst (λ n. contains_key others n ≡ true) (sym same) has) (subst (λ n. contains_key more n ≡ false) (sym same) sure))
 backed_at held new names others doubts more name q false t index at beside has sure =
-    (beside t).held ∙ index.backed q (sym (beside t).names ∙ has) (sym (beside t).doubts ∙ sure)
+    (beside t).same_held ∙ index.backed q (sym (beside t).same_names ∙ has) (sym (beside t).same_doubts ∙ sure)
 
 changed : (held new : Files) (names others doubts more : NameSet) (name : List ℕ) → IsIndex held names doubts → At new others more name
     → ((q : List ℕ) → eq_by_cmp by_name q name ≡ false → Beside held new names others doubts more q) → IsIndex new others more
@@ -59,49 +59,49 @@ put_index : (held : Files) (names doubts : NameSet) (name bytes : List ℕ) → 
     → IsIndex (with_file held name bytes) (insert names name tt) (remove doubts name)
 put_index held names doubts name bytes index = changed held _ names _ doubts _ name index
     (record { listed = λ _. inserted names name tt; backed = λ _ _. inserted held name bytes })
-    (λ q apart. record { held = inserted_other held name bytes q apart; names = inserted_other names name tt q apart; doubts = removed_other doubts name q apart })
+    (λ q apart. record { same_held = inserted_other held name bytes q apart; same_names = inserted_other names name tt q apart; same_doubts = removed_other doubts name q apart })
 
 old_index : (held : Files) (names doubts : NameSet) (name : List ℕ) → IsIndex held names doubts
     → IsIndex held (insert names name tt) (insert doubts name tt)
 old_index held names doubts name index = changed held _ names _ doubts _ name index
     (record { listed = λ _. inserted names name tt; backed = λ _ sure. absurd (true≢false (sym (inserted doubts name tt) ∙ sure)) })
-    (λ q apart. record { held = refl; names = inserted_other names name tt q apart; doubts = inserted_other doubts name tt q apart })
+    (λ q apart. record { same_held = refl; same_names = inserted_other names name tt q apart; same_doubts = inserted_other doubts name tt q apart })
 
 new_index : (held : Files) (names doubts : NameSet) (name bytes : List ℕ) → IsIndex held names doubts
     → IsIndex (with_file held name bytes) (insert names name tt) (insert doubts name tt)
 new_index held names doubts name bytes index = changed held _ names _ doubts _ name index
     (record { listed = λ _. inserted names name tt; backed = λ _ sure. absurd (true≢false (sym (inserted doubts name tt) ∙ sure)) })
-    (λ q apart. record { held = inserted_other held name bytes q apart; names = inserted_other names name tt q apart; doubts = inserted_other doubts name tt q apart })
+    (λ q apart. record { same_held = inserted_other held name bytes q apart; same_names = inserted_other names name tt q apart; same_doubts = inserted_other doubts name tt q apart })
 
 removed_index : (held : Files) (names doubts : NameSet) (name : List ℕ) → IsIndex held names doubts
     → IsIndex (without_file held name) (remove names name) (remove doubts name)
 removed_index held names doubts name index = changed held _ names _ doubts _ name index
     (record { listed = λ has. absurd (true≢false (sym has ∙ removed held name)); backed = λ has _. absurd (true≢false (sym has ∙ removed names name)) })
-    (λ q apart. record { held = removed_other held name q apart; names = removed_other names name q apart; doubts = removed_other doubts name q apart })
+    (λ q apart. record { same_held = removed_other held name q apart; same_names = removed_other names name q apart; same_doubts = removed_other doubts name q apart })
 
 kept_index : (held : Files) (names doubts : NameSet) (name : List ℕ) → contains_key names name ≡ true → IsIndex held names doubts
     → IsIndex held names (insert doubts name tt)
 kept_index held names doubts name known index = changed held _ names _ doubts _ name index
     (record { listed = λ _. known; backed = λ _ sure. absurd (true≢false (sym (inserted doubts name tt) ∙ sure)) })
-    (λ q apart. record { held = refl; names = refl; doubts = inserted_other doubts name tt q apart })
+    (λ q apart. record { same_held = refl; same_names = refl; same_doubts = inserted_other doubts name tt q apart })
 
 left_index : (held : Files) (names doubts : NameSet) (name : List ℕ) → contains_key names name ≡ true → IsIndex held names doubts
     → IsIndex (without_file held name) names (insert doubts name tt)
 left_index held names doubts name known index = changed held _ names _ doubts _ name index
     (record { listed = λ _. known; backed = λ _ sure. absurd (true≢false (sym (inserted doubts name tt) ∙ sure)) })
-    (λ q apart. record { held = removed_other held name q apart; names = refl; doubts = inserted_other doubts name tt q apart })
+    (λ q apart. record { same_held = removed_other held name q apart; same_names = refl; same_doubts = inserted_other doubts name tt q apart })
 
 sure_index : (held : Files) (names doubts : NameSet) (name : List ℕ) → contains_key held name ≡ true → IsIndex held names doubts
     → IsIndex held names (remove doubts name)
 sure_index held names doubts name has index = changed held _ names _ doubts _ name index
     (record { listed = λ _. index.listed name has; backed = λ _ _. has })
-    (λ q apart. record { held = refl; names = refl; doubts = removed_other doubts name q apart })
+    (λ q apart. record { same_held = refl; same_names = refl; same_doubts = removed_other doubts name q apart })
 
 gone_index : (held : Files) (names doubts : NameSet) (name : List ℕ) → contains_key held name ≡ false → IsIndex held names doubts
     → IsIndex held (remove names name) (remove doubts name)
 gone_index held names doubts name none index = changed held _ names _ doubts _ name index
     (record { listed = λ has. absurd (true≢false (sym has ∙ none)); backed = λ has _. absurd (true≢false (sym has ∙ removed names name)) })
-    (λ q apart. record { held = refl; names = removed_other names name q apart; doubts = removed_other doubts name q apart })
+    (λ q apart. record { same_held = refl; same_names = removed_other names name q apart; same_doubts = removed_other doubts name q apart })
 
 -- ---- where the files are told
 
@@ -112,20 +112,30 @@ Knows below names doubts = IfSome below (λ files. IsIndex (disk_files files) na
 pub open_held : (boot : Option (List ℕ)) (s : FolderState) → s.is_open ≡ true → files_held boot s ≡ option_map disk_files s.below
 open_held boot s open = ap (λ b. option_map (λ files. cond b (disk_files files) (files_begun boot files)) s.below) open
 
+-- the disk's files now, where a call has left them as they were before and the state is seen as `view`
+pub held_now : (boot : Option (List ℕ)) (told : Option Files) (view s : FolderState) → view ≡ s → s.is_open ≡ true → files_held boot s ≡ told → option_map disk_files view.below ≡ told
+held_now boot told view s is open same = sym (open_held boot view (ap (λ (v : FolderState). v.is_open) is ∙ open)) ∙ ap (files_held boot) is ∙ same
+
 no_file : (o : Option (List ℕ)) → (is_some o ≡ true → ⊥) → None ≡ o
 no_file None none = refl
 no_file (Some bytes) none = absurd (none refl)
 
-pub absent : (below : Option Files) (names doubts : NameSet) (name : List ℕ) → Knows below names doubts → (is_inside name ≡ false) ⊎ (contains_key names name ≡ false)
-    → IfSome (option_map disk_files below) (λ held. None ≡ file_at held name)
-absent None names doubts name index why = tt
-absent (Some files) names doubts name index (inl outside) = sym (outside_at files name outside)
-absent (Some files) names doubts name index (inr none) = no_file (get (disk_files files) name) (λ has. true≢false (sym (index.listed name has) ∙ none))
+pub outside_absent : (below : Option Files) (name : List ℕ) → is_inside name ≡ false → IfSome (option_map disk_files below) (λ held. None ≡ file_at held name)
+outside_absent None name outside = tt
+outside_absent (Some files) name outside = sym (outside_at files name outside)
 
-pub met : (below : Option Files) (name : List ℕ) (found : Option (List ℕ)) → is_inside name ≡ true → IfSome below (λ files. found ≡ file_at files name)
-    → IfSome (option_map disk_files below) (λ held. found ≡ file_at held name)
-met None name found inside is = tt
-met (Some files) name found inside is = is ∙ sym (inside_at files name inside)
+pub unlisted_absent : (below : Option Files) (names doubts : NameSet) (name : List ℕ) → Knows below names doubts → contains_key names name ≡ false
+    → IfSome (option_map disk_files below) (λ held. None ≡ file_at held name)
+unlisted_absent None names doubts name index none = tt
+unlisted_absent (Some files) names doubts name index none = no_file (get (disk_files files) name) (λ has. true≢false (sym (index.listed name has) ∙ none))
+
+-- what a read of a name inside finds
+pub met : (below told : Option Files) (name : List ℕ) (found : Result (Option (List ℕ)) DiskFault) → is_inside name ≡ true → option_map disk_files below ≡ told
+    → IfOk found (λ bytes. IfSome below (λ files. bytes ≡ file_at files name)) → IfOk found (λ bytes. IfSome told (λ held. bytes ≡ file_at held name))
+met below told name (Err fault) inside is value = tt
+met None told name (Ok bytes) inside is value = subst (λ t. IfSome t (λ held. bytes ≡ file_at held name)) is tt
+met (Some files) told name (Ok bytes) inside is value =
+    subst (λ t. IfSome t (λ held. bytes ≡ file_at held name)) is (value ∙ sym (inside_at files name inside))
 
 pub told_disk_with : (below : Option Files) (name bytes : List ℕ) → is_inside name ≡ true
     → option_map disk_files (told_with below name bytes) ≡ told_with (option_map disk_files below) name bytes
@@ -137,15 +147,24 @@ pub told_disk_without : (below : Option Files) (name : List ℕ)
 told_disk_without None name = refl
 told_disk_without (Some files) name = ap Some (disk_without files name)
 
-pub put_left : (below new : Option Files) (name bytes : List ℕ) (fault : DiskFault) → is_inside name ≡ true → IsOldOrNew below (told_with below name bytes) new fault
-    → IsOldOrNew (option_map disk_files below) (told_with (option_map disk_files below) name bytes) (option_map disk_files new) fault
-put_left below new name bytes fault inside (inl same) = inl (ap (option_map disk_files) same)
-put_left below new name bytes fault inside (inr is) = inr (is.0, ap (option_map disk_files) is.1 ∙ told_disk_with below name bytes inside)
+pub put_ok : (below new told : Option Files) (name bytes : List ℕ) → is_inside name ≡ true → option_map disk_files below ≡ told → new ≡ told_with below name bytes
+    → option_map disk_files new ≡ told_with told name bytes
+put_ok below new told name bytes inside is made =
+    ap (option_map disk_files) made ∙ told_disk_with below name bytes inside ∙ ap (λ t. told_with t name bytes) is
 
-pub removal_left : (below new : Option Files) (name : List ℕ) (fault : DiskFault) → IsOldOrNew below (told_without below name) new fault
-    → IsOldOrNew (option_map disk_files below) (told_without (option_map disk_files below) name) (option_map disk_files new) fault
-removal_left below new name fault (inl same) = inl (ap (option_map disk_files) same)
-removal_left below new name fault (inr is) = inr (is.0, ap (option_map disk_files) is.1 ∙ told_disk_without below name)
+pub put_err : (below new told : Option Files) (name bytes : List ℕ) (fault : DiskFault) → is_inside name ≡ true → option_map disk_files below ≡ told
+    → IsOldOrNew below (told_with below name bytes) new fault → IsOldOrNew told (told_with told name bytes) (option_map disk_files new) fault
+put_err below new told name bytes fault inside is (inl same) = inl (ap (option_map disk_files) same ∙ is)
+put_err below new told name bytes fault inside is (inr made) = inr (made.0, put_ok below new told name bytes inside is made.1)
+
+pub removal_ok : (below new told : Option Files) (name : List ℕ) → option_map disk_files below ≡ told → new ≡ told_without below name
+    → option_map disk_files new ≡ told_without told name
+removal_ok below new told name is made = ap (option_map disk_files) made ∙ told_disk_without below name ∙ ap (λ t. told_without t name) is
+
+pub removal_err : (below new told : Option Files) (name : List ℕ) (fault : DiskFault) → option_map disk_files below ≡ told
+    → IsOldOrNew below (told_without below name) new fault → IsOldOrNew told (told_without told name) (option_map disk_files new) fault
+removal_err below new told name fault is (inl same) = inl (ap (option_map disk_files) same ∙ is)
+removal_err below new told name fault is (inr made) = inr (made.0, removal_ok below new told name is made.1)
 
 -- a removal of what isn't there
 nothing_there : (held : Files) (name : List ℕ) → None ≡ file_at held name → without_file held name ≡ held
@@ -219,15 +238,25 @@ after_failed_removal below new names doubts name fault known index (inl same) =
 after_failed_removal below new names doubts name fault known index (inr is) =
     subst (λ b. Knows b names (insert doubts name tt)) (sym is.1) (doubts_removal below names doubts name known index)
 
--- a doubt that is settled: the name has a file
-pub settled_there : (below : Option Files) (names doubts : NameSet) (name bytes : List ℕ) → is_inside name ≡ true → IfSome below (λ files. Some bytes ≡ file_at files name)
+there_known : (below : Option Files) (names doubts : NameSet) (name : List ℕ) → IfSome below (λ files. true ≡ contains_key (disk_files files) name)
     → Knows below names doubts → Knows below names (remove doubts name)
-settled_there None names doubts name bytes inside is index = tt
-settled_there (Some files) names doubts name bytes inside is index =
-    sure_index (disk_files files) names doubts name (ap is_some (inside_at files name inside ∙ sym is)) index
+there_known None names doubts name is index = tt
+there_known (Some files) names doubts name is index = sure_index (disk_files files) names doubts name (sym is) index
+
+gone_known : (below : Option Files) (names doubts : NameSet) (name : List ℕ) → IfSome below (λ files. false ≡ contains_key (disk_files files) name)
+    → Knows below names doubts → Knows below (remove names name) (remove doubts name)
+gone_known None names doubts name is index = tt
+gone_known (Some files) names doubts name is index = gone_index (disk_files files) names doubts name (sym is) index
+
+pub still_knows : (below new : Option Files) (names doubts : NameSet) → new ≡ below → Knows below names doubts → Knows new names doubts
+still_knows below new names doubts same index = subst (λ b. Knows b names doubts) (sym same) index
+
+-- a doubt that is settled: the name has a file
+pub settled_there : (below new : Option Files) (names doubts : NameSet) (name : List ℕ) → new ≡ below → IfSome below (λ files. true ≡ contains_key (disk_files files) name)
+    → Knows below names doubts → Knows new names (remove doubts name)
+settled_there below new names doubts name same is index = subst (λ b. Knows b names (remove doubts name)) (sym same) (there_known below names doubts name is index)
 
 -- or none
-pub settled_gone : (below : Option Files) (names doubts : NameSet) (name : List ℕ) → IfSome (option_map disk_files below) (λ held. None ≡ file_at held name)
-    → Knows below names doubts → Knows below (remove names name) (remove doubts name)
-settled_gone None names doubts name none index = tt
-settled_gone (Some files) names doubts name none index = gone_index (disk_files files) names doubts name (ap is_some (sym none)) index
+pub settled_gone : (below new : Option Files) (names doubts : NameSet) (name : List ℕ) → new ≡ below → IfSome below (λ files. false ≡ contains_key (disk_files files) name)
+    → Knows below names doubts → Knows new (remove names name) (remove doubts name)
+settled_gone below new names doubts name same is index = subst (λ b. Knows b (remove names name) (remove doubts name)) (sym same) (gone_known below names doubts name is index)

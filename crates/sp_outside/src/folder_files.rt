@@ -111,10 +111,10 @@ impl<R: Files<File = File> + AllocGlobal + Clone + Drop> FolderFiles<R> {
             return Err(DiskFault::Failed);
         }
         self.beside.clear();
-        for part in [self.folder.as_str(), "/", name, BESIDE] {
-            self.beside.push_str(part)?;
-        }
-        Ok(())
+        self.beside.push_str(self.folder.as_str())?;
+        self.beside.push_str("/")?;
+        self.beside.push_str(name)?;
+        Ok(self.beside.push_str(BESIDE)?)
     }
 
     fn path(&self) -> &str {
@@ -153,8 +153,8 @@ impl<R: Files<File = File> + AllocGlobal + Clone + Drop> FolderFiles<R> {
     // Makes the folder, where it isn't there, and locks it, where it isn't locked or was taken away with its lock. This fails where
     // another process holds the lock, and where the folder's file system takes names for the same that differ in the case of letters.
     fn occupy(&mut self) -> Result<(), DiskFault> {
-        let folder = self.folder.as_str();
-        make_folder(&self.rt, folder, fs::metadata(&self.rt, folder))?;
+        let found = fs::metadata(&self.rt, self.folder.as_str());
+        make_folder(&self.rt, self.folder.as_str(), found)?;
         self.point_at(LOCK_FILE)?;
         let stands = matches!(at_path(&self.rt, self.path())?, Some(found) if found.is_file());
         if stands && self.lock.is_some() {
@@ -184,7 +184,8 @@ impl<R: Files<File = File> + AllocGlobal + Clone + Drop> FolderFiles<R> {
                 && rest.starts_with('/')
             {
                 let path = self.path().get(..before.saturating_add(end)).unwrap_or("");
-                make_folder(&self.rt, path, fs::symlink_metadata(&self.rt, path))?;
+                let found = fs::symlink_metadata(&self.rt, path);
+                make_folder(&self.rt, path, found)?;
                 if is_name(folder) {
                     self.folders.insert(folder, ())?;
                 }

@@ -9,7 +9,7 @@ use std::io::{self, ErrorKind};
 
 // What a walk has found, and where it is still to go.
 #[derive(Drop)]
-struct Walk<'a> {
+struct FolderWalk<'a> {
     alloc: Global,
     // How many bytes of a path stand before the name.
     before: usize,
@@ -26,7 +26,7 @@ pub(crate) fn walk<R: Files + AllocGlobal + Clone + Drop>(
     folder: &str,
     folders: &mut Names<()>,
 ) -> Result<NameList, DiskFault> {
-    let mut walk = Walk {
+    let mut walk = FolderWalk {
         alloc,
         before: folder.len().saturating_add(usize::from(!folder.ends_with('/'))),
         names: NameList::new(alloc),
@@ -56,7 +56,7 @@ fn push_path(alloc: Global, paths: &mut Vec<String>, path: &str) -> Mem<()> {
     Ok(())
 }
 
-impl Walk<'_> {
+impl FolderWalk<'_> {
     fn take_entries<R: Files + AllocGlobal + Clone + Drop>(
         &mut self,
         entries: ReadDir<R>,

@@ -3,7 +3,7 @@ ghost use Rattle.std.specs.Prelude.{◌≡◌, IfOk, IfErr, OnOk, is_ok, OnErr, 
 ghost use Rattle.std.specs.FinMap.{empty};
 ghost use Rattle.sp_outside.specs.Files.{IsName, IsListing, IsOldOrNew, file_at, with_file, without_file, names_after};
 ghost use Rattle.sp_outside.specs.DiskMemory.{IsPlanned, IsPlannedPut, next_fails, plan_after, plan_gone, read_after, write_after};
-ghost use Rattle.sp_outside.specs.Calls.{Get, Put, Remove, Names, told_call};
+ghost use Rattle.sp_outside.specs.Calls.{Get, Put, Remove, Names as names_call, told_call};
 ghost use Rattle.sp_outside.specs.Causes.{HasDiskCause, Rose, next};
 
 use crate::names::Names;
@@ -243,7 +243,7 @@ impl Disk for MemDisk {
         ensures value { IfOk result (λ names. names ≡ take most (names_after self.old.files prefix.now after.now)) }
         ensures same { Some self.new.files ≡ Some self.old.files }
         ensures cause { HasDiskCause self.old.failed self.new.failed result }
-        ensures made { None ≡ told_call None (Names prefix.now after.now most (is_ok result)) }
+        ensures made { None ≡ told_call None (names_call prefix.now after.now most (is_ok result)) }
     {
         if self.begin().is_some() {
             return Err(self.fault());

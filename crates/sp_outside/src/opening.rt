@@ -1,15 +1,16 @@
 //! With which of the files below its folder a disk begins.
-ghost use Rattle.std.specs.Prelude.{◌≡◌, false, IfOk, IfSome, OnErr, OnOk, if◌then◌else◌};
+ghost use Rattle.std.specs.Prelude.{◌≡◌, false, IfOk, IfSome, OnErr, OnOk, if◌then◌else◌, is_some};
 ghost use Rattle.std.specs.FinMap.{contains_key, empty, insert};
 ghost use Rattle.sp_outside.specs.FileNames as spec_names;
+ghost use Rattle.sp_outside.specs.Files.{file_at};
 ghost use Rattle.sp_outside.specs.FolderFiles as spec;
-ghost use Rattle.sp_outside.specs.FolderFiles.{IsNamesOf, disk_files, files_begun};
+ghost use Rattle.sp_outside.specs.FolderFiles.{IsNamesOf, boot_file, disk_files, files_begun, is_same_boot, session_file};
 ghost use Rattle.sp_outside.specs.NameIndex.{IsNamesOfDisk, IsSameDisk, IsTaken, IsTakenOrNot, WhileTold};
 
 use crate::file_name::{is_inside, is_left, is_name};
 use crate::names::Names;
 use crate::{DiskFault, RawFiles};
-use sp_base::TextBuf;
+use sp_base::{ByteBuf, TextBuf};
 use std::alloc::Global;
 
 /// The file that has the number of the session. Without it no session can tell its stamps from those of the files that stand there.
@@ -18,21 +19,42 @@ const SESSION_FILE: &str = ".epoch";
 /// The file that keeps the id of the boot of the machine in which the others were written.
 const BOOT_FILE: &str = ".boot%t%t";
 
+// Whether a session has left its number.
+fn has_session<F: RawFiles>(below: &mut F, alloc: Global) -> Result<bool, DiskFault>
+    ensures value { IfOk result (λ has. IfSome (F.files below.old) (λ files. has ≡ is_some (file_at files session_file))) }
+    ensures same { F.files below.new ≡ F.files below.old }
+{
+    Ok(below.read(alloc, SESSION_FILE)?.is_some())
+}
+
+fn is_same(id: &Option<ByteBuf>, kept: &Option<ByteBuf>) -> bool
+    ensures { result ≡ is_same_boot id.now kept.now }
+{
+    match (id, kept) {
+        (Some(id), Some(kept)) => id.bytes() == kept.bytes(),
+        _ => false,
+    }
+}
+
+// Whether the files are of this boot.
+fn is_of_this_boot<F: RawFiles>(below: &mut F, alloc: Global) -> Result<bool, DiskFault>
+    ensures value { IfOk result (λ is. IfSome (F.files below.old) (λ files. is ≡ is_same_boot F.boot (file_at files boot_file))) }
+    ensures same { F.files below.new ≡ F.files below.old }
+{
+    let id = below.boot_id(alloc)?;
+    let kept = below.read(alloc, BOOT_FILE)?;
+    Ok(is_same(&id, &kept))
+}
+
 // Whether the disk goes on with the files that it finds.
 fn is_kept<F: RawFiles>(below: &mut F, alloc: Global) -> Result<bool, DiskFault>
     ensures value { IfOk result (λ kept. IfSome (F.files below.old) (λ files. kept ≡ spec.is_kept F.boot files)) }
     ensures same { F.files below.new ≡ F.files below.old }
 {
-    if below.read(alloc, SESSION_FILE)?.is_none() {
+    if !has_session(below, alloc)? {
         return Ok(false);
     }
-    let Some(id) = below.boot_id(alloc)? else {
-        return Ok(false);
-    };
-    let Some(kept) = below.read(alloc, BOOT_FILE)? else {
-        return Ok(false);
-    };
-    Ok(id.bytes() == kept.bytes())
+    is_of_this_boot(below, alloc)
 }
 
 // Takes a file away, where it is one of the disk.

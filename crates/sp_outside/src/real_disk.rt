@@ -1,5 +1,5 @@
 //! The disk of the real system: the files below a folder, and the names that are known of them.
-ghost use Rattle.std.specs.Prelude.{◌≡◌, false, true, None, IfErr, IfOk, IfSome, IsTrue, OnOk, take};
+ghost use Rattle.std.specs.Prelude.{◌≡◌, false, true, None, IfErr, IfOk, IfSome, IsTrue, OnOk, if◌then◌else◌, take};
 ghost use Rattle.std.specs.FinMap.{empty};
 ghost use Rattle.sp_outside.specs.Causes.{HasDiskCause};
 ghost use Rattle.sp_outside.specs.FileNames.{is_inside};
@@ -132,7 +132,8 @@ impl<F: RawFiles + Drop> RealDisk<F> {
     // Knows the names of the files from then on.
     fn know(&mut self) -> Result<(), DiskFault>
         ensures same { files_held F.boot self.new ≡ files_held F.boot self.old }
-        ensures ok { OnOk result (self.new.is_known ≡ true) }
+        ensures known { OnOk result (self.new.is_known ≡ true) }
+        ensures open { OnOk result (self.new.is_open ≡ true) }
         ensures count { self.new.failed ≡ self.old.failed }
     {
         if self.is_known {
@@ -166,11 +167,14 @@ impl<F: RawFiles + Drop> RealDisk<F> {
     fn settle(&mut self, alloc: Global, name: &str) -> Result<(), DiskFault>
         ensures same { files_held F.boot self.new ≡ files_held F.boot self.old }
         ensures known { self.new.is_known ≡ self.old.is_known }
+        ensures open { self.new.is_open ≡ self.old.is_open }
         ensures count { self.new.failed ≡ self.old.failed }
     {
-        if !has_file(&mut self.below, alloc, name)? {
-            self.names.remove(name);
+        if has_file(&mut self.below, alloc, name)? {
+            self.doubts.remove(name);
+            return Ok(());
         }
+        self.names.remove(name);
         self.doubts.remove(name);
         Ok(())
     }
@@ -188,7 +192,7 @@ impl<F: RawFiles + Drop> RealDisk<F> {
         ensures count { self.new.failed ≡ self.old.failed }
     {
         self.know()?;
-        for _ in 0..u64::MAX {
+        'doubts: for _ in 0..u64::MAX {
             let doubt = self.doubts.list(alloc, prefix, after, 1)?;
             match doubt.get(0) {
                 None => return Ok(self.names.list(alloc, prefix, after, most)?),

@@ -147,6 +147,11 @@ pub told_disk_without : (below : Option Files) (name : List ℕ)
 told_disk_without None name = refl
 told_disk_without (Some files) name = ap Some (disk_without files name)
 
+-- a change of the files below, as the disk's files see it
+pub held_then : (boot : Option (List ℕ)) (view : FolderState) (new : Option Files) → view.is_open ≡ true → new ≡ view.below
+    → files_held boot (record view { below = new }) ≡ files_held boot view
+held_then boot view new open same = ap (λ b. files_held boot (record view { below = b })) same
+
 pub put_ok : (below new told : Option Files) (name bytes : List ℕ) → is_inside name ≡ true → option_map disk_files below ≡ told → new ≡ told_with below name bytes
     → option_map disk_files new ≡ told_with told name bytes
 put_ok below new told name bytes inside is made =

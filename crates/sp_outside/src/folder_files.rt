@@ -71,6 +71,13 @@ fn is_absent(fault: &io::Error) -> bool {
     )
 }
 
+fn is_file<R: Files>(rt: &R, path: &str) -> io::Result<bool> {
+    match at_path(rt, path)? {
+        Some(found) => Ok(found.is_file()),
+        None => Ok(false),
+    }
+}
+
 fn make_folder<R: Files>(rt: &R, path: &str, found: io::Result<Metadata>) -> io::Result<()> {
     match found {
         Ok(found) if found.is_dir() => Ok(()),
@@ -156,7 +163,7 @@ impl<R: Files<File = File> + AllocGlobal + Clone + Drop> FolderFiles<R> {
         let found = fs::metadata(&self.rt, self.folder.as_str());
         make_folder(&self.rt, self.folder.as_str(), found)?;
         self.point_at(LOCK_FILE)?;
-        let stands = matches!(at_path(&self.rt, self.path())?, Some(found) if found.is_file());
+        let stands = is_file(&self.rt, self.path())?;
         if stands && self.lock.is_some() {
             return Ok(());
         }

@@ -112,6 +112,9 @@ Knows below names doubts = IfSome below (λ files. IsIndex (disk_files files) na
 pub open_held : (boot : Option (List ℕ)) (s : FolderState) → s.is_open ≡ true → files_held boot s ≡ option_map disk_files s.below
 open_held boot s open = ap (λ b. option_map (λ files. cond b (disk_files files) (files_begun boot files)) s.below) open
 
+pub closed_held : (boot : Option (List ℕ)) (s : FolderState) → s.is_open ≡ false → files_held boot s ≡ option_map (files_begun boot) s.below
+closed_held boot s closed = ap (λ b. option_map (λ files. cond b (disk_files files) (files_begun boot files)) s.below) closed
+
 -- the disk's files now, where a call has left them as they were before and the state is seen as `view`
 pub held_now : (boot : Option (List ℕ)) (told : Option Files) (view s : FolderState) → view ≡ s → s.is_open ≡ true → files_held boot s ≡ told → option_map disk_files view.below ≡ told
 held_now boot told view s is open same = sym (open_held boot view (ap (λ (v : FolderState). v.is_open) is ∙ open)) ∙ ap (files_held boot) is ∙ same
@@ -146,11 +149,6 @@ pub told_disk_without : (below : Option Files) (name : List ℕ)
     → option_map disk_files (told_without below name) ≡ told_without (option_map disk_files below) name
 told_disk_without None name = refl
 told_disk_without (Some files) name = ap Some (disk_without files name)
-
--- a change of the files below, as the disk's files see it
-pub held_then : (boot : Option (List ℕ)) (view : FolderState) (new : Option Files) → view.is_open ≡ true → new ≡ view.below
-    → files_held boot (record view { below = new }) ≡ files_held boot view
-held_then boot view new open same = ap (λ b. files_held boot (record view { below = b })) same
 
 pub put_ok : (below new told : Option Files) (name bytes : List ℕ) → is_inside name ≡ true → option_map disk_files below ≡ told → new ≡ told_with below name bytes
     → option_map disk_files new ≡ told_with told name bytes

@@ -1,0 +1,19 @@
+use Rattle.std.proofs.Common.{◌≡◌, ◌∙◌, sym, ap, subst, Option}
+use Rattle.std.specs.FinMap.{empty}
+use Rattle.sp_outside.specs.Files.{Files}
+use Rattle.sp_outside.specs.FolderFiles.{FolderState}
+use Rattle.sp_outside.specs.NameIndex.{NameSet}
+use Rattle.sp_outside.proofs.Indexed.{Knows}
+use Rattle.sp_outside.proofs.real_disk.RealDisk.know.Goals as goal
+
+pub names_found-requires : goal.names_found-requires
+names_found-requires g c = sym (ap (λ (s : FolderState). s.is_known) c.self.view_is) ∙ c.if-is_known.false
+
+-- the names that were found are those of the files, and none is in doubt
+pub invariant_of-self : goal.invariant_of-self
+invariant_of-self g c = record {
+  begun = λ known. ap (λ (s : FolderState). s.is_open) c.self-2.view_is ∙ c.in_ok-names_found.ensures.open;
+  index = λ known.
+      subst (λ (doubts : NameSet). Knows (g.F.RawFiles.files c.self-2.inside.below) c.in_ok-names_found.names doubts) (sym c.new.ensures)
+      (subst (λ (told : Option Files). Knows told c.in_ok-names_found.names empty) (sym (ap (λ (s : FolderState). s.below) c.self-2.view_is)) c.in_ok-names_found.ensures.index);
+}

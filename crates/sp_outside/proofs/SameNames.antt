@@ -68,13 +68,13 @@ pub listed_same : (files : Files) (names doubts : NameSet) (prefix after : List 
 listed_same files names doubts prefix after index none =
     same_lists (names_from (keys names) prefix after) (names_after files prefix after) (names_rise names prefix after) (names_rise files prefix after)
     (λ name has.
-        let is = (of_names names prefix after name).0 has in
-        let sure : contains_key doubts name ≡ false = not_true (contains_key doubts name) (λ in_doubt.
-        no_doubt doubts prefix after name none ((of_names doubts prefix after name).1 (is.0, is.1, in_doubt))) in
-        (of_names files prefix after name).1 (is.0, is.1, index.backed name is.2 sure))
+    let is = (of_names names prefix after name).0 has in
+    let sure : contains_key doubts name ≡ false = not_true (contains_key doubts name) (λ in_doubt.
+    no_doubt doubts prefix after name none ((of_names doubts prefix after name).1 (is.0, is.1, in_doubt))) in
+    (of_names files prefix after name).1 (is.0, is.1, index.backed name is.2 sure))
     (λ name has.
-        let is = (of_names files prefix after name).0 has in
-        (of_names names prefix after name).1 (is.0, is.1, index.listed name is.2))
+    let is = (of_names files prefix after name).0 has in
+    (of_names names prefix after name).1 (is.0, is.1, index.listed name is.2))
 
 pub listed_told : (below : Option Files) (names doubts : NameSet) (prefix after : List ℕ) (most : ℕ) (listed : List (List ℕ)) → Knows below names doubts
     → names_from (keys doubts) prefix after ≡ [] → listed ≡ take most (names_from (keys names) prefix after)

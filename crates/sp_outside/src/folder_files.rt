@@ -65,10 +65,7 @@ fn at_path<R: Files>(rt: &R, path: &str) -> io::Result<Option<Metadata>> {
 }
 
 fn is_absent(fault: &io::Error) -> bool {
-    matches!(
-        fault.kind(),
-        ErrorKind::NotFound | ErrorKind::NotADirectory
-    )
+    matches!(fault.kind(), ErrorKind::NotFound | ErrorKind::NotADirectory)
 }
 
 fn is_file<R: Files>(rt: &R, path: &str) -> io::Result<bool> {

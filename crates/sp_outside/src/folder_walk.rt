@@ -28,7 +28,9 @@ pub(crate) fn walk<R: Files + AllocGlobal + Clone + Drop>(
 ) -> Result<NameList, DiskFault> {
     let mut walk = FolderWalk {
         alloc,
-        before: folder.len().saturating_add(usize::from(!folder.ends_with('/'))),
+        before: folder
+            .len()
+            .saturating_add(usize::from(!folder.ends_with('/'))),
         names: NameList::new(alloc),
         folders,
         ahead: Vec::new(alloc),

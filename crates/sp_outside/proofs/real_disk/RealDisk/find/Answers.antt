@@ -32,4 +32,3 @@ pub returns-clause-value : goal.returns-clause-value
 returns-clause-value g c =
     let is = held_now g.F.RawFiles.boot (files_held g.F.RawFiles.boot c.args.self.now) _ c.know.new.self c.self.view_is c.in_ok-know.ensures.open c.in_ok-know.ensures.same in
     met (g.F.RawFiles.files c.self.inside.below) (files_held g.F.RawFiles.boot c.args.self.now) c.args.name.now c.read.result (sym c.is_inside.ensures ∙ c.if-not-is_inside.false) is c.read.ensures.value
-

@@ -1,11 +1,11 @@
 //! The disk of the real system, in folders of the tests' own.
 use sp_base::Mem;
-use sp_outside::{Disk, DiskFault, FolderFiles, LONGEST_FILE_NAME, RealDisk};
+use sp_outside::{Disk, DiskFault, LONGEST_FILE_NAME, RealDisk};
 use std::alloc::Global;
 use std::fs::{self, Files};
 
 // The disk of a folder that isn't there yet.
-pub(crate) fn fresh<'a>(rt: &'a HostRuntime, folder: &str) -> Mem<RealDisk<FolderFiles<&'a HostRuntime>>> {
+pub(crate) fn fresh<'a>(rt: &'a HostRuntime, folder: &str) -> Mem<RealDisk<&'a HostRuntime>> {
     let _ = fs::remove_dir_all(rt, folder);
     RealDisk::below(rt, folder)
 }

@@ -110,14 +110,14 @@ abbrev pub Knows : Option Files → NameSet → NameSet → Type 0
 Knows below names doubts = IfSome below (λ files. IsIndex (disk_files files) names doubts)
 
 pub open_held : (boot : Option (List ℕ)) (s : FolderState) → s.is_open ≡ true → files_held boot s ≡ option_map disk_files s.below
-open_held boot s open = ap (λ b. option_map (λ files. cond b (disk_files files) (files_begun boot files)) s.below) open
+open_held boot s begun = ap (λ b. option_map (λ files. cond b (disk_files files) (files_begun boot files)) s.below) begun
 
 pub closed_held : (boot : Option (List ℕ)) (s : FolderState) → s.is_open ≡ false → files_held boot s ≡ option_map (files_begun boot) s.below
 closed_held boot s closed = ap (λ b. option_map (λ files. cond b (disk_files files) (files_begun boot files)) s.below) closed
 
 -- the disk's files now, where a call has left them as they were before and the state is seen as `view`
 pub held_now : (boot : Option (List ℕ)) (told : Option Files) (view s : FolderState) → view ≡ s → s.is_open ≡ true → files_held boot s ≡ told → option_map disk_files view.below ≡ told
-held_now boot told view s is open same = sym (open_held boot view (ap (λ (v : FolderState). v.is_open) is ∙ open)) ∙ ap (files_held boot) is ∙ same
+held_now boot told view s is begun same = sym (open_held boot view (ap (λ (v : FolderState). v.is_open) is ∙ begun)) ∙ ap (files_held boot) is ∙ same
 
 no_file : (o : Option (List ℕ)) → (is_some o ≡ true → ⊥) → None ≡ o
 no_file None none = refl

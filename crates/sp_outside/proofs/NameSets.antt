@@ -13,7 +13,7 @@ use Rattle.sp_outside.proofs.HeldNames.{equal, same_name}
 -- ---- names that are the same
 
 pub same_key : (name : List ℕ) → eq_by_cmp by_name name name ≡ true
-same_key name = (eq_by_cmp_equiv nat_list_cmp_total).refl
+same_key name = (eq_by_cmp_equiv nat_list_cmp_total).refl name
 
 pub one_key : (name other : List ℕ) → eq_by_cmp by_name name other ≡ true → name ≡ other
 one_key name other e = same_name name other (equal (by_name name other) e)

@@ -6,6 +6,7 @@
 
 mod disk;
 mod file_name;
+mod folder_disk;
 mod folder_files;
 mod folder_walk;
 mod laws;
@@ -22,6 +23,7 @@ mod words;
 
 pub use disk::{Disk, DiskFault, LONGEST_FILE_NAME};
 pub use file_name::has_segments;
+pub use folder_disk::FolderDisk;
 pub use folder_files::FolderFiles;
 pub use laws::{
     fewer_names_follow, files_have_names, names_are_of_files, nothing_is_passed_over, walks_end,

@@ -5,7 +5,7 @@ use Rattle.sp_outside.specs.Files.{Files}
 use Rattle.sp_outside.specs.FolderFiles.{FolderState, disk_files, files_held}
 use Rattle.sp_outside.specs.NameIndex.{NameSet}
 use Rattle.sp_outside.proofs.Indexed.{Knows, settled_gone, settled_there, still_knows}
-use Rattle.sp_outside.proofs.real_disk.RealDisk.settle.Goals as goal
+use Rattle.sp_outside.proofs.folder_disk.FolderDisk.settle.Goals as goal
 
 pub invariant_of-self : goal.invariant_of-self
 invariant_of-self g c = record {

@@ -5,7 +5,7 @@ use Rattle.sp_outside.specs.Files.{Files}
 use Rattle.sp_outside.specs.FolderFiles.{FolderState, IsNamesOf, files_held}
 use Rattle.sp_outside.proofs.Begun.{goes_on_same, told_begun, told_still}
 use Rattle.sp_outside.proofs.Indexed.{closed_held}
-use Rattle.sp_outside.proofs.real_disk.RealDisk.open.Goals as goal
+use Rattle.sp_outside.proofs.folder_disk.FolderDisk.start.Goals as goal
 
 pub begin-requires : goal.begin-requires
 begin-requires g c =

@@ -2,19 +2,18 @@
 use Rattle.std.proofs.Common.{◌≡◌, ◌≢◌, ◌+◌, ◌<◌, ◌≤◌, ◌&&◌, not, ◌⊎◌, inl, inr, ℕ, zero, suc, Bool, true, false, cond, List, [], ◌∷◌, Option, Some, None, get_or, length, refl, sym, ◌∙◌, ap, subst, arith}
 use Rattle.std.specs.Prelude.{◌↔◌, Contains, IfSome, option_map}
 use Rattle.std.specs.Cmp.Lexicographic.{nat_list_cmp_total}
-use Rattle.std.specs.FinMap.{contains_key, empty, get, insert, get-empty, get-remove}
+use Rattle.std.specs.FinMap.{contains_key, empty, get, get-empty, get-insert, get-remove}
 use Rattle.std.specs.Option.{is_some}
 use Rattle.std.specs.Ordering.{eq_by_cmp}
 use Rattle.std.proofs.lemmas.Bool.{true≢false}
 use Rattle.sp_base.specs.Names.{by_name}
 use Rattle.sp_outside.specs.FileNames.{is_below, is_beside, is_inside, is_left, is_own}
-use Rattle.sp_outside.specs.Files.{Files, IsOldOrNew, file_at, told_with, told_without, with_file, without_file}
-use Rattle.sp_outside.specs.FolderFiles.{IsNamesOf, boot_file, disk_files, files_begun, is_kept, is_same_boot, session_file}
-use Rattle.sp_outside.specs.NameIndex.{IsIndex, IsNamesOfDisk, IsSameDisk, IsTaken, IsTakenOrNot, NameSet, WhileTold}
+use Rattle.sp_outside.specs.Files.{Files, IsOldOrNew, file_at, told_with, told_without, without_file}
+use Rattle.sp_outside.specs.FolderFiles.{IsNamesOf, WhileTold, boot_file, disk_files, files_begun, is_kept, is_same_boot, session_file}
+use Rattle.sp_outside.specs.NameIndex.{IsRestKept, IsSameBut, IsTaken, IsTakenOrNot}
 use Rattle.sp_outside.specs.declared.disk.DiskFault.{DiskFault}
-use Rattle.sp_outside.proofs.DiskFiles.{beside_with, beside_without, inside_at, outside_at, same_files}
-use Rattle.sp_outside.proofs.Indexed.{Knows}
-use Rattle.sp_outside.proofs.NameSets.{inserted, inserted_other, not_true, one_key, removed, removed_other}
+use Rattle.sp_outside.proofs.DiskFiles.{inside_at, outside_at, same_files}
+use Rattle.sp_outside.proofs.NameSets.{not_true, one_key, removed, removed_other}
 
 -- ---- files that are told before and after
 
@@ -50,31 +49,59 @@ pub while_unlinked : (old new : Option Files) (name : List ℕ) (fault : DiskFau
 while_unlinked old new name fault (inl same) = while_same (IsUnlinked name) old new (λ files. inl refl) same
 while_unlinked old new name fault (inr is) = subst (WhileTold (IsUnlinked name) old) (sym is.1) (told_unlinked old name)
 
+pub while_map : (P Q : Files → Files → Type 0) (first next : Option Files) → ((a b : Files) → P a b → Q a b) → WhileTold P first next → WhileTold Q first next
+while_map P Q None None more p = tt
+while_map P Q None (Some b) more p = absurd p
+while_map P Q (Some a) None more p = absurd p
+while_map P Q (Some a) (Some b) more p = more a b p
+
 -- ---- a file that is none of the disk
 
-put_same : (old : Option Files) (name bytes : List ℕ) → is_inside name ≡ false → WhileTold (λ a b. disk_files b ≡ disk_files a) old (told_with old name bytes)
-put_same None name bytes outside = tt
-put_same (Some files) name bytes outside = beside_with files name bytes outside
+put_but : (old : Option Files) (name bytes : List ℕ) → WhileTold (IsSameBut name) old (told_with old name bytes)
+put_but None name bytes = tt
+put_but (Some files) name bytes = λ other apart.
+    get-insert nat_list_cmp_total files name bytes other
+    ∙ ap (λ b. cond b (Some bytes) (get files other)) (not_true (eq_by_cmp by_name other name) (λ same. apart (one_key other name same)))
 
-pub noted : (old new : Option Files) (name bytes : List ℕ) → is_inside name ≡ false → new ≡ told_with old name bytes → WhileTold (λ a b. disk_files b ≡ disk_files a) old new
-noted old new name bytes outside is = subst (WhileTold (λ a b. disk_files b ≡ disk_files a) old) (sym is) (put_same old name bytes outside)
+pub noted : (old new : Option Files) (name bytes : List ℕ) → new ≡ told_with old name bytes → WhileTold (IsSameBut name) old new
+noted old new name bytes is = subst (WhileTold (IsSameBut name) old) (sym is) (put_but old name bytes)
 
-pub noted_or_not : (old new : Option Files) (name bytes : List ℕ) (fault : DiskFault) → is_inside name ≡ false → IsOldOrNew old (told_with old name bytes) new fault
-    → WhileTold (λ a b. disk_files b ≡ disk_files a) old new
-noted_or_not old new name bytes fault outside (inl same) = while_same (λ a b. disk_files b ≡ disk_files a) old new (λ files. refl) same
-noted_or_not old new name bytes fault outside (inr is) = noted old new name bytes outside is.1
+pub noted_or_not : (old new : Option Files) (name bytes : List ℕ) (fault : DiskFault) → IsOldOrNew old (told_with old name bytes) new fault → WhileTold (IsSameBut name) old new
+noted_or_not old new name bytes fault (inl same) = while_same (IsSameBut name) old new (λ files other apart. refl) same
+noted_or_not old new name bytes fault (inr is) = noted old new name bytes is.1
 
-gone_same : (old : Option Files) (name : List ℕ) → is_inside name ≡ false → WhileTold (λ a b. disk_files b ≡ disk_files a) old (told_without old name)
-gone_same None name outside = tt
-gone_same (Some files) name outside = beside_without files name outside
+gone_but : (old : Option Files) (name : List ℕ) → WhileTold (IsSameBut name) old (told_without old name)
+gone_but None name = tt
+gone_but (Some files) name = λ other apart.
+    get-remove nat_list_cmp_total files name other
+    ∙ ap (λ b. cond b None (get files other)) (not_true (eq_by_cmp by_name other name) (λ same. apart (one_key other name same)))
 
-pub cleared : (old new : Option Files) (name : List ℕ) → is_inside name ≡ false → new ≡ told_without old name → WhileTold (λ a b. disk_files b ≡ disk_files a) old new
-cleared old new name outside is = subst (WhileTold (λ a b. disk_files b ≡ disk_files a) old) (sym is) (gone_same old name outside)
+pub cleared : (old new : Option Files) (name : List ℕ) → new ≡ told_without old name → WhileTold (IsSameBut name) old new
+cleared old new name is = subst (WhileTold (IsSameBut name) old) (sym is) (gone_but old name)
 
-pub cleared_or_not : (old new : Option Files) (name : List ℕ) (fault : DiskFault) → is_inside name ≡ false → IsOldOrNew old (told_without old name) new fault
-    → WhileTold (λ a b. disk_files b ≡ disk_files a) old new
-cleared_or_not old new name fault outside (inl same) = while_same (λ a b. disk_files b ≡ disk_files a) old new (λ files. refl) same
-cleared_or_not old new name fault outside (inr is) = cleared old new name outside is.1
+pub cleared_or_not : (old new : Option Files) (name : List ℕ) (fault : DiskFault) → IsOldOrNew old (told_without old name) new fault → WhileTold (IsSameBut name) old new
+cleared_or_not old new name fault (inl same) = while_same (IsSameBut name) old new (λ files other apart. refl) same
+cleared_or_not old new name fault (inr is) = cleared old new name is.1
+
+pub same_but : (told : Option Files) (name : List ℕ) → WhileTold (IsSameBut name) told told
+same_but told name = while_same (IsSameBut name) told told (λ files other apart. refl) refl
+
+-- the same at each name inside, so the same files of the disk
+pub inside_same : (old new : Files) → ((name : List ℕ) → is_inside name ≡ true → file_at new name ≡ file_at old name) → disk_files new ≡ disk_files old
+inside_same old new same = same_files (disk_files new) (disk_files old) (λ q.
+    elim (is_inside q) as (λ e. is_inside q ≡ e → get (disk_files new) q ≡ get (disk_files old) q) [
+      | true ↦ λ inside. inside_at new q inside ∙ same q inside ∙ sym (inside_at old q inside)
+      | false ↦ λ outside. outside_at new q outside ∙ sym (outside_at old q outside)
+    ] refl)
+
+boot_outside : (name : List ℕ) → is_inside name ≡ true → name ≢ boot_file
+boot_outside name inside same = true≢false (sym inside ∙ ap is_inside same)
+
+but_disk : (old new : Files) → IsSameBut boot_file old new → disk_files new ≡ disk_files old
+but_disk old new but = inside_same old new (λ name inside. but name (boot_outside name inside))
+
+pub noted_disk : (old new : Option Files) → WhileTold (IsSameBut boot_file) old new → WhileTold (λ a b. disk_files b ≡ disk_files a) old new
+noted_disk old new = while_map (IsSameBut boot_file) (λ a b. disk_files b ≡ disk_files a) old new but_disk
 
 -- ---- the removal of the files that were found, in their order
 
@@ -82,21 +109,21 @@ cleared_or_not old new name fault outside (inr is) = cleared old new name outsid
 abbrev pub IsAhead : List (List ℕ) → ℕ → List ℕ → Type 0
 IsAhead found at name = (k : ℕ) × (at ≤ k) × (k < length found) × (get_or found k name ≡ name)
 
--- How far the removal has come: nothing is there that wasn't, the boot's file is the same, and each file of the disk that is there is still to come.
+-- How far the removal has come: what is no file of the disk is the same, nothing is there that wasn't, and each file of the disk that is there is still to come.
 pub record IsCleared (found : List (List ℕ)) (at : ℕ) (first now : Files) : Type 0 where
-  pub boot : file_at now boot_file ≡ file_at first boot_file
+  pub rest : (name : List ℕ) → is_inside name ≡ false → file_at now name ≡ file_at first name
   pub fewer : (name : List ℕ) → contains_key now name ≡ true → contains_key first name ≡ true
   pub ahead : (name : List ℕ) → contains_key (disk_files now) name ≡ true → IsAhead found at name
 
-there : {X : Type 0} (o : Option X) → is_some o ≡ true → o ≢ None
+pub there : {X : Type 0} (o : Option X) → is_some o ≡ true → o ≢ None
 there None e none = true≢false (sym e)
 there (Some x) e none = true≢false (ap is_some none)
 
-there_some : {X : Type 0} (o : Option X) → o ≢ None → is_some o ≡ true
+pub there_some : {X : Type 0} (o : Option X) → o ≢ None → is_some o ≡ true
 there_some None there = absurd (there refl)
 there_some (Some x) there = refl
 
-no_some : {X : Type 0} (o : Option X) → is_some o ≡ false → o ≡ None
+pub no_some : {X : Type 0} (o : Option X) → is_some o ≡ false → o ≡ None
 no_some None e = refl
 no_some (Some x) e = absurd (true≢false e)
 
@@ -112,12 +139,12 @@ disk_has files name has =
 pub begins_clearing : (found : List (List ℕ)) (told : Option Files) → IfSome told (λ files. IsNamesOf files found) → WhileTold (IsCleared found 0) told told
 begins_clearing found None names = tt
 begins_clearing found (Some files) names = record {
-  boot = refl;
+  rest = λ name outside. refl;
   fewer = λ name has. has;
   ahead = λ name has. let at = (names name).1 (there (get files name) (disk_has files name has).1) in (at.0, omega arith, at.1, at.2);
 }
 
-same_default : (xs : List (List ℕ)) (k : ℕ) (x y : List ℕ) → k < length xs → get_or xs k x ≡ get_or xs k y
+pub same_default : (xs : List (List ℕ)) (k : ℕ) (x y : List ℕ) → k < length xs → get_or xs k x ≡ get_or xs k y
 same_default [] k x y lt = absurd (omega (arith, lt))
 same_default (z ∷ xs) zero x y lt = refl
 same_default (z ∷ xs) (suc k) x y lt = same_default xs k x y (omega (arith, lt))
@@ -146,16 +173,16 @@ passes_over found at item None None is outside so_far = tt
 passes_over found at item None (Some now) is outside so_far = absurd so_far
 passes_over found at item (Some first) None is outside so_far = absurd so_far
 passes_over found at item (Some first) (Some now) is outside so_far = record {
-  boot = so_far.boot;
+  rest = so_far.rest;
   fewer = so_far.fewer;
   ahead = λ name has. passed found at item name is (λ same. true≢false (sym (disk_has now name has).0 ∙ sym (ap is_inside same) ∙ outside)) (so_far.ahead name has);
 }
 
--- the boot's file isn't one of the disk's, so a removal of one of these keeps it
-boot_stays : (files : Files) (name : List ℕ) → is_inside name ≡ true → file_at (without_file files name) boot_file ≡ file_at files boot_file
-boot_stays files name inside =
-    get-remove nat_list_cmp_total files name boot_file ∙ ap (λ b. cond b None (get files boot_file)) (not_true (eq_by_cmp by_name boot_file name) (λ same.
-    true≢false (sym inside ∙ sym (ap is_inside (one_key boot_file name same)))))
+-- a removal of one of the disk's keeps each file that is none
+rest_stays : (files : Files) (name q : List ℕ) → is_inside name ≡ true → is_inside q ≡ false → file_at (without_file files name) q ≡ file_at files q
+rest_stays files name q inside outside =
+    get-remove nat_list_cmp_total files name q ∙ ap (λ b. cond b None (get files q)) (not_true (eq_by_cmp by_name q name) (λ same.
+    true≢false (sym inside ∙ sym (ap is_inside (one_key q name same)) ∙ outside)))
 
 fewer_stay : (files : Files) (name q : List ℕ) (e : Bool) → eq_by_cmp by_name q name ≡ e → contains_key (without_file files name) q ≡ true → (contains_key files q ≡ true) × (e ≡ false)
 fewer_stay files name q true t has = absurd (true≢false (sym has ∙ ap (contains_key (without_file files name)) (one_key q name t) ∙ removed files name))
@@ -163,7 +190,7 @@ fewer_stay files name q false t has = (sym (removed_other files name q t) ∙ ha
 
 unlinked_part : (found : List (List ℕ)) (at : ℕ) (item : List ℕ) (first now : Files) → is_inside item ≡ true → IsCleared found at first now → IsCleared found at first (without_file now item)
 unlinked_part found at item first now inside so_far = record {
-  boot = boot_stays now item inside ∙ so_far.boot;
+  rest = λ name outside. rest_stays now item name inside outside ∙ so_far.rest name outside;
   fewer = λ name has. so_far.fewer name (fewer_stay now item name (eq_by_cmp by_name name item) refl has).0;
   ahead = λ name has.
       let is = disk_has (without_file now item) name has in
@@ -182,7 +209,7 @@ gone_name files item name has same = true≢false (sym has ∙ ap (contains_key 
 pub unlinks : (found : List (List ℕ)) (at : ℕ) (item : List ℕ) (a b c : Files) → item ≡ get_or found at item → is_inside item ≡ true → IsCleared found at a b → c ≡ without_file b item
     → IsCleared found (at + 1) a c
 unlinks found at item a b c is inside so_far gone = subst (IsCleared found (at + 1) a) (sym gone) (record {
-  boot = (unlinked_part found at item a b inside so_far).boot;
+  rest = (unlinked_part found at item a b inside so_far).rest;
   fewer = (unlinked_part found at item a b inside so_far).fewer;
   ahead = λ name has. passed found at item name is (gone_name b item name (disk_has (without_file b item) name has).1) ((unlinked_part found at item a b inside so_far).ahead name has);
 })
@@ -211,7 +238,7 @@ two a b false d more same none = refl
 pub still_not_kept : (boot : Option (List ℕ)) (found : List (List ℕ)) (at : ℕ) (first now : Files) → IsCleared found at first now → is_kept boot first ≡ false → is_kept boot now ≡ false
 still_not_kept boot found at first now so_far none =
     two (is_some (file_at first session_file)) (is_same_boot boot (file_at first boot_file)) (is_some (file_at now session_file)) (is_same_boot boot (file_at now boot_file))
-    (so_far.fewer session_file) (ap (is_same_boot boot) so_far.boot) none
+    (so_far.fewer session_file) (ap (is_same_boot boot) (so_far.rest boot_file refl)) none
 
 pub not_kept_told : (boot : Option (List ℕ)) (found : List (List ℕ)) (at : ℕ) (first now : Option Files) → WhileTold (IsCleared found at) first now
     → WhileTold (λ a b. is_kept boot a ≡ false → is_kept boot b ≡ false) first now
@@ -287,38 +314,28 @@ pub not_kept_then : (boot : Option (List ℕ)) (found : List (List ℕ)) (at : �
 not_kept_then boot found at item first now next =
     while_then (IsCleared found at) (IsTakenOrNot item) (λ a c. is_kept boot a ≡ false → is_kept boot c ≡ false) first now next (λ a b c so_far gone. still_not boot found at item a b c so_far gone)
 
--- a removal of a file that was left beside another
-same_disk : (files : Files) → IsSameDisk files files
-same_disk files = record { files = refl; boot = refl }
+rest_not : (found : List (List ℕ)) (at : ℕ) (item : List ℕ) (a b c : Files) → IsCleared found at a b → IsTakenOrNot item b c → IsRestKept a c
+rest_not found at item a b c so_far (inl same) name outside apart = ap (λ (f : Files). file_at f name) same ∙ so_far.rest name outside
+rest_not found at item a b c so_far (inr gone) name outside apart =
+    ap (λ (f : Files). file_at f name) gone.1 ∙ rest_stays b item name gone.0 outside ∙ so_far.rest name outside
 
-pub told_same_disk : (told : Option Files) → WhileTold IsSameDisk told told
-told_same_disk None = tt
-told_same_disk (Some files) = same_disk files
+pub rest_then : (found : List (List ℕ)) (at : ℕ) (item : List ℕ) (first now next : Option Files) → WhileTold (IsCleared found at) first now → WhileTold (IsTakenOrNot item) now next
+    → WhileTold IsRestKept first next
+rest_then found at item first now next = while_then (IsCleared found at) (IsTakenOrNot item) IsRestKept first now next (rest_not found at item)
 
-boot_is_own : is_left boot_file ≡ false
-boot_is_own = refl
+pub rest_told : (found : List (List ℕ)) (at : ℕ) (first now : Option Files) → WhileTold (IsCleared found at) first now → WhileTold IsRestKept first now
+rest_told found at first now = while_map (IsCleared found at) IsRestKept first now (λ a b so_far name outside apart. so_far.rest name outside)
 
-left_same : (files : Files) (name : List ℕ) → is_left name ≡ true → IsSameDisk files (without_file files name)
-left_same files name left = record {
-  files = beside_without files name (outside_of_left name left);
-  boot = get-remove nat_list_cmp_total files name boot_file ∙ ap (λ b. cond b None (get files boot_file)) (not_true (eq_by_cmp by_name boot_file name) (λ same.
-      true≢false (sym left ∙ sym (ap is_left (one_key boot_file name same)) ∙ boot_is_own)));
-}
+pub rest_same : (old new : Option Files) → new ≡ old → WhileTold IsRestKept old new
+rest_same old new same = while_same IsRestKept old new (λ files name outside apart. refl) same
 
-told_left_same : (old : Option Files) (name : List ℕ) → is_left name ≡ true → WhileTold IsSameDisk old (told_without old name)
-told_left_same None name left = tt
-told_left_same (Some files) name left = left_same files name left
+pub rest_removed : (old next last : Option Files) → next ≡ old → WhileTold IsRestKept next last → WhileTold IsRestKept old last
+rest_removed old next last same kept = subst (λ told. WhileTold IsRestKept told last) same kept
 
-pub left_gone : (old new : Option Files) (name : List ℕ) → is_left name ≡ true → new ≡ told_without old name → WhileTold IsSameDisk old new
-left_gone old new name left is = subst (WhileTold IsSameDisk old) (sym is) (told_left_same old name left)
-
-pub left_gone_or_not : (old new : Option Files) (name : List ℕ) (fault : DiskFault) → is_left name ≡ true → IsOldOrNew old (told_without old name) new fault → WhileTold IsSameDisk old new
-left_gone_or_not old new name fault left (inl same) = while_same IsSameDisk old new same_disk same
-left_gone_or_not old new name fault left (inr is) = left_gone old new name left is.1
-
-pub same_disk_then : (first now next : Option Files) → WhileTold IsSameDisk first now → WhileTold IsSameDisk now next → WhileTold IsSameDisk first next
-same_disk_then first now next =
-    while_then IsSameDisk IsSameDisk IsSameDisk first now next (λ a b c one two. record { files = two.files ∙ one.files; boot = two.boot ∙ one.boot })
+pub rest_noted : (old next middle last : Option Files) → next ≡ old → WhileTold IsRestKept next middle → WhileTold (IsSameBut boot_file) middle last → WhileTold IsRestKept old last
+rest_noted old next middle last same kept noted =
+    rest_removed old next last same (while_then IsRestKept (IsSameBut boot_file) IsRestKept next middle last
+    (λ a b c one two name outside apart. two name apart ∙ one name outside apart) kept noted)
 
 -- ---- what the opening leaves
 
@@ -369,11 +386,11 @@ begun_removal boot (Some a) (Some b) (Some c) same none more =
 
 -- or the files are gone, and the boot may be noted
 pub begun_gone : (boot : Option (List ℕ)) (old next middle last : Option Files) → next ≡ old → IfSome old (λ files. false ≡ is_kept boot files)
-    → WhileTold (λ a b. disk_files b ≡ empty) next middle → WhileTold (λ a b. disk_files b ≡ disk_files a) middle last
+    → WhileTold (λ a b. disk_files b ≡ empty) next middle → WhileTold (IsSameBut boot_file) middle last
     → WhileTold (λ a b. (disk_files b ≡ empty) × (files_begun boot b ≡ empty) × (files_begun boot a ≡ empty)) old last
 begun_gone boot old next middle last same none gone noted =
     gone_both boot old last none (subst (λ told. WhileTold (λ a b. disk_files b ≡ empty) told last) same
-    (while_then (λ a b. disk_files b ≡ empty) (λ a b. disk_files b ≡ disk_files a) (λ a b. disk_files b ≡ empty) next middle last (λ a b c one two. two ∙ one) gone noted))
+    (while_then (λ a b. disk_files b ≡ empty) (λ a b. disk_files b ≡ disk_files a) (λ a b. disk_files b ≡ empty) next middle last (λ a b c one two. two ∙ one) gone (noted_disk middle last noted)))
 
 pub gone_ok : (boot : Option (List ℕ)) (old last : Option Files) → WhileTold (λ a b. (disk_files b ≡ empty) × (files_begun boot b ≡ empty) × (files_begun boot a ≡ empty)) old last
     → WhileTold (λ a b. disk_files b ≡ files_begun boot a) old last
@@ -395,116 +412,6 @@ gone_err boot None None is = tt
 gone_err boot None (Some b) is = absurd is
 gone_err boot (Some a) None is = absurd is
 gone_err boot (Some a) (Some b) is = is.1 ∙ sym is.2
-
--- ---- the names that are found
-
--- the set has exactly the names of the list that stand before a place, and may have a file of the disk
-abbrev pub IsNamesTo : List (List ℕ) → ℕ → NameSet → Type 0
-IsNamesTo found at names = (name : List ℕ) → contains_key names name ≡ true ↔ ((is_inside name ≡ true) × ((k : ℕ) × (k < at) × (k < length found) × (get_or found k name ≡ name)))
-
-pub no_names_yet : (found : List (List ℕ)) → IsNamesTo found 0 empty
-no_names_yet found name = (
-  λ has. absurd (true≢false (sym has ∙ ap is_some (get-empty by_name name))),
-  λ is. absurd (omega (arith, is.1.1)),
-)
-
-before_or_at : (at k : ℕ) → k < at + 1 → (k ≡ at) ⊎ (k < at)
-before_or_at zero zero lt = inl refl
-before_or_at zero (suc k) lt = absurd (omega (arith, lt))
-before_or_at (suc at) zero lt = inr (omega arith)
-before_or_at (suc at) (suc k) lt = elim (before_or_at at k (omega (arith, lt))) [
-  | inl same ↦ inl (ap (λ n. suc n) same)
-  | inr less ↦ inr (omega (arith, less))
-]
-
--- of a place at or before this one, the name is this one's or stands before it
-this_or_before : (found : List (List ℕ)) (at : ℕ) (item name : List ℕ) → item ≡ get_or found at item → ((k : ℕ) × (k < at + 1) × (k < length found) × (get_or found k name ≡ name))
-    → (item ≡ name) ⊎ ((k : ℕ) × (k < at) × (k < length found) × (get_or found k name ≡ name))
-this_or_before found at item name is place = elim (before_or_at at place.0 place.1) [
-  | inl same ↦ inl (is ∙ same_default found at item name (subst (λ k. k < length found) same place.2) ∙ subst (λ k. get_or found k name ≡ name) same place.3)
-  | inr less ↦ inr (place.0, less, place.2, place.3)
-]
-
-still_has : (names : NameSet) (item name : List ℕ) → contains_key names name ≡ true → contains_key (insert names item tt) name ≡ true
-still_has names item name has = elim (eq_by_cmp by_name name item) as (λ e. eq_by_cmp by_name name item ≡ e → contains_key (insert names item tt) name ≡ true) [
-  | true ↦ λ t. ap (contains_key (insert names item tt)) (one_key name item t) ∙ inserted names item tt
-  | false ↦ λ t. inserted_other names item tt name t ∙ has
-] refl
-
-add_step : (found : List (List ℕ)) (at : ℕ) (item : List ℕ) (names new : NameSet) (e : Bool) → is_inside item ≡ e → at < length found → item ≡ get_or found at item → IsNamesTo found at names
-    → new ≡ cond e (insert names item tt) names → IsNamesTo found (at + 1) new
-add_step found at item names new true inside lt is so_far added name = (
-  λ has.
-      elim (eq_by_cmp by_name name item) as (λ e. eq_by_cmp by_name name item ≡ e → (is_inside name ≡ true) × ((k : ℕ) × (k < at + 1) × (k < length found) × (get_or found k name ≡ name))) [
-        | true ↦ λ t. let same : item ≡ name = sym (one_key name item t) in
-            (sym (ap is_inside same) ∙ inside, (at, omega arith, lt, same_default found at name item lt ∙ sym is ∙ same))
-        | false ↦ λ t.
-            let old = (so_far name).0 (sym (inserted_other names item tt name t) ∙ sym (ap (λ n. contains_key n name) added) ∙ has) in
-            (old.0, (old.1.0, omega (arith, old.1.1), old.1.2, old.1.3))
-      ] refl,
-  λ is_one.
-      ap (λ n. contains_key n name) added ∙ elim (this_or_before found at item name is is_one.1) [
-        | inl same ↦ ap (contains_key (insert names item tt)) (sym same) ∙ inserted names item tt
-        | inr before ↦ still_has names item name ((so_far name).1 (is_one.0, before))
-      ],
-)
-add_step found at item names new false outside lt is so_far same name = (
-  λ has. let old = (so_far name).0 (sym (ap (λ n. contains_key n name) same) ∙ has) in (old.0, (old.1.0, omega (arith, old.1.1), old.1.2, old.1.3)),
-  λ is_one.
-      ap (λ n. contains_key n name) same ∙ elim (this_or_before found at item name is is_one.1) [
-        | inl this ↦ absurd (true≢false (sym is_one.0 ∙ sym (ap is_inside this) ∙ outside))
-        | inr before ↦ (so_far name).1 (is_one.0, before)
-      ],
-)
-
-pub one_added : (found : List (List ℕ)) (at : ℕ) (item : List ℕ) (names new : NameSet) → at < length found → item ≡ get_or found at item → IsNamesTo found at names
-    → new ≡ cond (is_inside item) (insert names item tt) names → IsNamesTo found (at + 1) new
-one_added found at item names new lt is so_far added = add_step found at item names new (is_inside item) refl lt is so_far added
-
-pub all_added : (found : List (List ℕ)) (at : ℕ) (names : NameSet) → length found ≤ at → IsNamesTo found at names → IsNamesOfDisk found names
-all_added found at names end so_far name = (
-  λ has. let is = (so_far name).0 has in (is.0, (is.1.0, is.1.2, is.1.3)),
-  λ is. (so_far name).1 (is.0, (is.1.0, omega (arith, is.1.1, end), is.1.1, is.1.2)),
-)
-
--- ---- and what is known of the files middle
-
-index_found : (found : List (List ℕ)) (names : NameSet) (old new : Files) → IsNamesOf old found → IsNamesOfDisk found names → disk_files new ≡ disk_files old
-    → IsIndex (disk_files new) names empty
-index_found found names old new all inside same = subst (λ held. IsIndex held names empty) (sym same) (record {
-  listed = λ name has. let is = disk_has old name has in (inside name).1 (is.0, (all name).1 (there (get old name) is.1));
-  backed = λ name has sure. let is = (inside name).0 has in ap is_some (inside_at old name is.0) ∙ there_some (get old name) ((all name).0 is.1);
-})
-
-index_none : (new : Files) → disk_files new ≡ empty → IsIndex (disk_files new) empty empty
-index_none new none = record {
-  listed = λ name has. ap (λ (files : Files). contains_key files name) (sym none) ∙ has;
-  backed = λ name has sure. absurd (true≢false (sym has ∙ ap is_some (get-empty by_name name)));
-}
-
-pub found_index : (found : List (List ℕ)) (names : NameSet) (old now new : Option Files) → IfSome old (λ files. IsNamesOf files found) → IsNamesOfDisk found names
-    → WhileTold (λ a b. disk_files b ≡ disk_files a) old now → WhileTold IsSameDisk now new → Knows new names empty
-found_index found names None None None all inside one two = tt
-found_index found names None None (Some c) all inside one two = absurd two
-found_index found names None (Some b) new all inside one two = absurd one
-found_index found names (Some a) None new all inside one two = absurd one
-found_index found names (Some a) (Some b) None all inside one two = absurd two
-found_index found names (Some a) (Some b) (Some c) all inside one two = index_found found names a c all inside (two.files ∙ one)
-
-pub none_index : (old now new : Option Files) → WhileTold (λ a b. disk_files b ≡ empty) old now → WhileTold IsSameDisk now new → Knows new empty empty
-none_index None None None one two = tt
-none_index None None (Some c) one two = absurd two
-none_index None (Some b) new one two = absurd one
-none_index (Some a) None new one two = absurd one
-none_index (Some a) (Some b) None one two = absurd two
-none_index (Some a) (Some b) (Some c) one two = index_none c (two.files ∙ one)
-
--- the files of the disk are the same after files were taken away that were left beside others
-pub same_told : (old new : Option Files) → WhileTold IsSameDisk old new → option_map disk_files new ≡ option_map disk_files old
-same_told None None same = refl
-same_told None (Some b) same = absurd same
-same_told (Some a) None same = absurd same
-same_told (Some a) (Some b) same = ap Some same.files
 
 -- and where the disk has begun they are those that it was to begin with
 pub told_begun : (boot : Option (List ℕ)) (old new : Option Files) → WhileTold (λ a b. disk_files b ≡ files_begun boot a) old new

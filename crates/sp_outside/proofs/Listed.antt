@@ -17,6 +17,7 @@ use Rattle.std.proofs.lemmas.Map.Views.{list_any-from_Contains}
 use Rattle.sp_base.specs.Names.{by_name}
 use Rattle.sp_outside.specs.FileNames.{HasReached, IsNameAfter}
 use Rattle.sp_outside.specs.Files.{Files, file_at, has_prefix, names_after, names_from}
+use Rattle.sp_outside.specs.FolderFiles.{IsNamesOf}
 use Rattle.sp_outside.proofs.HeldNames.{equal, same_name}
 use Rattle.sp_outside.proofs.Listing.{rises, wanted}
 
@@ -103,6 +104,13 @@ of_files files prefix after name =
       λ has. let named = is.0 has in (named.0, named.1, some_there (file_at files name) named.2),
       λ named. is.1 (named.0, named.1, there_some (file_at files name) named.2),
     )
+
+-- all names are exactly those of files
+pub all_names_of : (files : Files) (names : List (List ℕ)) → names ≡ keys files → IsNamesOf files names
+all_names_of files names is name = (
+  λ has. some_there (file_at files name) (contains_key-keys files name ∙ list_any-from_Contains (eq_by_cmp_equiv nat_list_cmp_total) name (keys files) (subst (λ (l : List (List ℕ)). Contains l name) is has)),
+  λ stands. subst (λ (l : List (List ℕ)). Contains l name) (sym is) (among name (keys files) (sym (contains_key-keys files name) ∙ there_some (file_at files name) stands)),
+)
 
 -- ---- names that rise
 

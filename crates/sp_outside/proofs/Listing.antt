@@ -168,9 +168,14 @@ Seen X = List (Bor (String Global) × Bor X)
 abbrev pub name_in : {X : Type 0} → Bor (String Global) × Bor X → List ℕ
 name_in item = string_bytes item.0.now
 
-seen : {X : Type 0} (items : Seen X) → map name_in items ≡ names_of (map deref_pair items)
+pub seen : {X : Type 0} (items : Seen X) → map name_in items ≡ names_of (map deref_pair items)
 seen [] = refl
 seen (item ∷ items) = ap (λ rest. name_in item ∷ rest) (seen items)
+
+-- a loop over all entries takes one more name
+pub one_named : {X : Type 0} (items : Seen X) (item : Bor (String Global) × Bor X) (names : List (List ℕ)) → names ≡ map name_in items
+    → names ++ name_in item ∷ [] ≡ map name_in (items ++ item ∷ [])
+one_named items item names is = ap (λ ns. ns ++ name_in item ∷ []) is ∙ sym (map-append name_in items (item ∷ []))
 
 with_last : (b : Bool) (names : List (List ℕ)) (name : List ℕ) → names ++ cond b (name ∷ []) [] ≡ cond b (names ++ name ∷ []) names
 with_last true names name = refl

@@ -23,3 +23,7 @@ either (Err e) f h p q = h e q
 pub where_ok : {T E : Type 0} {P : Type 0} (r : Result T E) → is_ok r ≡ true → OnOk r P → P
 where_ok (Ok x) is p = p
 where_ok (Err e) is p = absurd (true≢false (sym is))
+
+pub on_err : {T E : Type 0} {P : Type 0} (r : Result T E) → P → OnErr r P
+on_err (Ok x) p = tt
+on_err (Err e) p = p

@@ -1,11 +1,12 @@
 //! The disk over the files below a folder, and the names that it knows of them.
-ghost use Rattle.std.specs.Prelude.{◌≡◌, false, true, None, IfErr, IfOk, IfSome, IsTrue, OnOk, if◌then◌else◌, take};
+ghost use Rattle.std.specs.Prelude.{◌≡◌, ◌≤◌, false, true, None, IfErr, IfOk, IfSome, IsTrue, OnOk, if◌then◌else◌, is_ok, take};
 ghost use Rattle.std.specs.FinMap.{empty};
+ghost use Rattle.sp_outside.specs.Calls.{Get, Put, Remove, Names as names_call, told_call};
 ghost use Rattle.sp_outside.specs.Causes.{HasDiskCause};
 ghost use Rattle.sp_outside.specs.FileNames.{is_inside};
 ghost use Rattle.sp_outside.specs.Files.{IsListing, IsName, IsOldOrNew, file_at, names_after, told_with, told_without};
-ghost use Rattle.sp_outside.specs.FolderFiles.{IsNamesOf, disk_files, files_held};
-ghost use Rattle.sp_outside.specs.NameIndex.{IsIndex, WhileTold};
+ghost use Rattle.sp_outside.specs.FolderFiles.{HasNoFault, HasNoneLeft, IsCleaned, IsNamesOf, IsOwnKept, WhileTold, disk_files, files_held};
+ghost use Rattle.sp_outside.specs.NameIndex.{IsIndex, IsRestKept};
 
 use crate::disk::counted;
 use crate::file_name::is_inside;
@@ -47,6 +48,7 @@ impl<F: RawFiles + Drop> Model for FolderDisk<F> {
 
     ghost view = { λ d. record {
       below = F.files d.below;
+      faults = F.faults d.below;
       is_open = d.is_open;
       is_known = d.is_known;
       failed = d.failed;
@@ -59,7 +61,7 @@ impl<F: RawFiles + Drop> Model for FolderDisk<F> {
 impl<F: RawFiles + Drop> FolderDisk<F> {
     /// The files below a folder. Nothing is opened.
     pub fn over(alloc: Global, below: F) -> FolderDisk<F>
-        ensures { result ≡ record { below = F.files below; is_open = false; is_known = false; failed = 0 } }
+        ensures { result ≡ record { below = F.files below; faults = F.faults below; is_open = false; is_known = false; failed = 0 } }
     {
         FolderDisk {
             alloc,
@@ -72,6 +74,13 @@ impl<F: RawFiles + Drop> FolderDisk<F> {
         }
     }
 
+    /// The files below the folder.
+    pub fn into_files(self) -> F
+        ensures { F.files result ≡ self.below }
+    {
+        self.below
+    }
+
     // Begins with the files that were found, where no call has, and says whether they are those of the disk. Else there are none.
     fn start(&mut self, found: &[TextBuf]) -> Result<bool, DiskFault>
         requires unknown { self.old.is_known ≡ false }
@@ -81,6 +90,8 @@ impl<F: RawFiles + Drop> FolderDisk<F> {
         ensures kept { IfOk result (λ kept. WhileTold (λ old new. disk_files new ≡ (if kept then disk_files old else empty)) self.old.below self.new.below) }
         ensures unknown { self.new.is_known ≡ false }
         ensures count { self.new.failed ≡ self.old.failed }
+        ensures rest { WhileTold IsRestKept self.old.below self.new.below }
+        ensures rising { self.old.faults ≤ self.new.faults }
     {
         if self.is_open {
             return Ok(true);
@@ -97,6 +108,9 @@ impl<F: RawFiles + Drop> FolderDisk<F> {
         ensures begun { OnOk result (self.new.is_open ≡ true) }
         ensures index { IfOk result (λ names. IfSome self.new.below (λ files. IsIndex (disk_files files) names empty)) }
         ensures count { self.new.failed ≡ self.old.failed }
+        ensures own { WhileTold IsOwnKept self.old.below self.new.below }
+        ensures left { OnOk result (HasNoFault self.old.faults self.new.faults → IfSome self.new.below HasNoneLeft) }
+        ensures rising { self.old.faults ≤ self.new.faults }
     {
         let walked = self.below.walk(self.alloc)?;
         let found = walked.as_slice();
@@ -114,6 +128,9 @@ impl<F: RawFiles + Drop> FolderDisk<F> {
         ensures known { OnOk result (self.new.is_known ≡ true) }
         ensures begun { OnOk result (self.new.is_open ≡ true) }
         ensures count { self.new.failed ≡ self.old.failed }
+        ensures own { WhileTold IsOwnKept self.old.below self.new.below }
+        ensures left { OnOk result (IsCleaned self.old self.new) }
+        ensures rising { self.old.faults ≤ self.new.faults }
     {
         if self.is_known {
             return Ok(());
@@ -131,6 +148,8 @@ impl<F: RawFiles + Drop> FolderDisk<F> {
         ensures value { IfOk result (λ found. IfSome (files_held F.boot self.old) (λ held. found ≡ file_at held name.now)) }
         ensures same { files_held F.boot self.new ≡ files_held F.boot self.old }
         ensures count { self.new.failed ≡ self.old.failed }
+        ensures own { WhileTold IsOwnKept self.old.below self.new.below }
+        ensures left { OnOk result (IsCleaned self.old self.new) }
     {
         self.know()?;
         if !is_inside(name) {
@@ -148,6 +167,8 @@ impl<F: RawFiles + Drop> FolderDisk<F> {
         ensures known { self.new.is_known ≡ self.old.is_known }
         ensures begun { self.new.is_open ≡ self.old.is_open }
         ensures count { self.new.failed ≡ self.old.failed }
+        ensures below { self.new.below ≡ self.old.below }
+        ensures rising { self.old.faults ≤ self.new.faults }
     {
         if has_file(&mut self.below, alloc, name)? {
             self.doubts.remove(name);
@@ -169,6 +190,8 @@ impl<F: RawFiles + Drop> FolderDisk<F> {
         ensures value { IfOk result (λ names. IfSome (files_held F.boot self.old) (λ held. names ≡ take most (names_after held prefix.now after.now))) }
         ensures same { files_held F.boot self.new ≡ files_held F.boot self.old }
         ensures count { self.new.failed ≡ self.old.failed }
+        ensures own { WhileTold IsOwnKept self.old.below self.new.below }
+        ensures left { OnOk result (IsCleaned self.old self.new) }
     {
         self.know()?;
         'doubts: for _ in 0..u64::MAX {
@@ -191,6 +214,8 @@ impl<F: RawFiles + Drop> FolderDisk<F> {
         ensures ok { OnOk result (files_held F.boot self.new ≡ told_with (files_held F.boot self.old) name.now bytes.now) }
         ensures err { IfErr result (IsOldOrNew (files_held F.boot self.old) (told_with (files_held F.boot self.old) name.now bytes.now) (files_held F.boot self.new)) }
         ensures count { self.new.failed ≡ self.old.failed }
+        ensures own { WhileTold IsOwnKept self.old.below self.new.below }
+        ensures left { OnOk result (IsCleaned self.old self.new) }
     {
         if !is_inside(name) {
             return Err(DiskFault::Failed);
@@ -211,6 +236,8 @@ impl<F: RawFiles + Drop> FolderDisk<F> {
         ensures ok { OnOk result (files_held F.boot self.new ≡ told_without (files_held F.boot self.old) name.now) }
         ensures err { IfErr result (IsOldOrNew (files_held F.boot self.old) (told_without (files_held F.boot self.old) name.now) (files_held F.boot self.new)) }
         ensures count { self.new.failed ≡ self.old.failed }
+        ensures own { WhileTold IsOwnKept self.old.below self.new.below }
+        ensures left { OnOk result (IsCleaned self.old self.new) }
     {
         self.know()?;
         if !is_inside(name) {
@@ -236,17 +263,46 @@ impl<F: RawFiles + Drop> Disk for FolderDisk<F> {
 
     ghost calls = { λ _. None };
 
-    fn get(&mut self, alloc: Global, name: &str) -> Result<Option<ByteBuf>, DiskFault> {
+    fn get(&mut self, alloc: Global, name: &str) -> Result<Option<ByteBuf>, DiskFault>
+        ensures own { WhileTold IsOwnKept self.old.below self.new.below }
+        ensures left { OnOk result (IsCleaned self.old self.new) }
+
+        // What every disk promises.
+        ensures value { IfOk result (λ found. IfSome (files_held F.boot self.old) (λ held. found ≡ file_at held name.now)) }
+        ensures same { files_held F.boot self.new ≡ files_held F.boot self.old }
+        ensures cause { HasDiskCause self.old.failed self.new.failed result }
+        ensures made { None ≡ told_call None (Get name.now (is_ok result)) }
+    {
         let found = self.find(alloc, name);
         counted(&mut self.failed, found)
     }
 
-    fn put(&mut self, name: &str, bytes: &[u8]) -> Result<(), DiskFault> {
+    fn put(&mut self, name: &str, bytes: &[u8]) -> Result<(), DiskFault>
+        requires { IsName name.now }
+        ensures own { WhileTold IsOwnKept self.old.below self.new.below }
+        ensures left { OnOk result (IsCleaned self.old self.new) }
+
+        // What every disk promises.
+        ensures ok { OnOk result (files_held F.boot self.new ≡ told_with (files_held F.boot self.old) name.now bytes.now) }
+        ensures err { IfErr result (IsOldOrNew (files_held F.boot self.old) (told_with (files_held F.boot self.old) name.now bytes.now) (files_held F.boot self.new)) }
+        ensures cause { HasDiskCause self.old.failed self.new.failed result }
+        ensures made { None ≡ told_call None (Put name.now bytes.now (is_ok result)) }
+    {
         let written = self.write(name, bytes);
         counted(&mut self.failed, written)
     }
 
-    fn remove(&mut self, name: &str) -> Result<(), DiskFault> {
+    fn remove(&mut self, name: &str) -> Result<(), DiskFault>
+        ensures own { WhileTold IsOwnKept self.old.below self.new.below }
+        ensures left { OnOk result (IsCleaned self.old self.new) }
+
+        // What every disk promises.
+        ensures ok { OnOk result (files_held F.boot self.new ≡ told_without (files_held F.boot self.old) name.now) }
+        ensures err { IfErr result (IsOldOrNew (files_held F.boot self.old) (told_without (files_held F.boot self.old) name.now) (files_held F.boot self.new)) }
+        ensures fails { IfErr result (λ e. e ≡ DiskFault.Failed) }
+        ensures cause { HasDiskCause self.old.failed self.new.failed result }
+        ensures made { None ≡ told_call None (Remove name.now (is_ok result)) }
+    {
         match self.take_away(name) {
             Ok(()) => Ok(()),
             Err(_) => counted(&mut self.failed, Err(DiskFault::Failed)),
@@ -259,7 +315,17 @@ impl<F: RawFiles + Drop> Disk for FolderDisk<F> {
         prefix: &str,
         after: &str,
         most: usize,
-    ) -> Result<NameList, DiskFault> {
+    ) -> Result<NameList, DiskFault>
+        ensures own { WhileTold IsOwnKept self.old.below self.new.below }
+        ensures left { OnOk result (IsCleaned self.old self.new) }
+
+        // What every disk promises.
+        ensures names { IfOk result (IsListing prefix.now after.now most) }
+        ensures value { IfOk result (λ names. IfSome (files_held F.boot self.old) (λ held. names ≡ take most (names_after held prefix.now after.now))) }
+        ensures same { files_held F.boot self.new ≡ files_held F.boot self.old }
+        ensures cause { HasDiskCause self.old.failed self.new.failed result }
+        ensures made { None ≡ told_call None (names_call prefix.now after.now most (is_ok result)) }
+    {
         let names = self.names_listed(alloc, prefix, after, most);
         counted(&mut self.failed, names)
     }

@@ -37,8 +37,8 @@ impl From<io::Error> for DiskFault {
     }
 }
 
-/// The files below a folder of the real system. They aren't told, so what the clauses of `RawFiles` say of them is trusted of this
-/// object, and for its tests.
+/// The files below a folder of the real system. They aren't told, so what the clauses of `RawFiles` say of them is trusted: that each function
+/// here does what its comment says, which is what POSIX says of the calls that it makes.
 ///
 /// A file is written beside the old one and renamed, so that at every moment the old file or the new one stands whole, also where the
 /// process is killed. Nothing is synced. A symbolic link below the folder is no file and no folder, and isn't followed.
@@ -55,7 +55,7 @@ pub struct FolderFiles<R: Files<File = File> + AllocGlobal + Clone + Drop> {
     failed: u64,
 }
 
-// What stands at a path, if anything does; a link stands for itself.
+// `lstat`: what stands at a path, where a link stands for itself. ENOENT and ENOTDIR say that nothing does.
 fn at_path<R: Files>(rt: &R, path: &str) -> io::Result<Option<Metadata>> {
     match fs::symlink_metadata(rt, path) {
         Ok(found) => Ok(Some(found)),
@@ -68,13 +68,12 @@ fn is_absent(fault: &io::Error) -> bool {
     matches!(fault.kind(), ErrorKind::NotFound | ErrorKind::NotADirectory)
 }
 
-fn is_file<R: Files>(rt: &R, path: &str) -> io::Result<bool> {
-    match at_path(rt, path)? {
-        Some(found) => Ok(found.is_file()),
-        None => Ok(false),
-    }
+// No folder is on the way, or a file stands where the one beside is to be made: nothing was renamed.
+fn is_in_the_way(fault: &io::Error) -> bool {
+    matches!(fault.kind(), ErrorKind::NotFound | ErrorKind::AlreadyExists)
 }
 
+// `mkdir` makes a folder where nothing stands, and fails where anything does, a link too (EEXIST).
 fn make_folder<R: Files>(rt: &R, path: &str, found: io::Result<Metadata>) -> io::Result<()> {
     match found {
         Ok(found) if found.is_dir() => Ok(()),
@@ -82,6 +81,7 @@ fn make_folder<R: Files>(rt: &R, path: &str, found: io::Result<Metadata>) -> io:
     }
 }
 
+// `read` gives the bytes that were written last. A file that ends before its size is a fault.
 fn contents<R: Files>(rt: &R, alloc: Global, path: &str, size: u64) -> Result<ByteBuf, DiskFault> {
     let size = match usize::try_from(size) {
         Ok(fits) if size <= LONGEST_FILE => fits,
@@ -132,6 +132,7 @@ impl<R: Files<File = File> + AllocGlobal + Clone + Drop> FolderFiles<R> {
         }
     }
 
+    // A name has a file where its path is that of a regular file, and each folder on the way is known, so that no link leads elsewhere.
     fn find(&mut self, alloc: Global, name: &str) -> Result<Option<ByteBuf>, DiskFault> {
         if !self.knows_folder(name) {
             return Ok(None);
@@ -154,13 +155,14 @@ impl<R: Files<File = File> + AllocGlobal + Clone + Drop> FolderFiles<R> {
 
 // Writing and removing.
 impl<R: Files<File = File> + AllocGlobal + Clone + Drop> FolderFiles<R> {
-    // Makes the folder, where it isn't there, and locks it, where it isn't locked or was taken away with its lock. This fails where
-    // another process holds the lock, and where the folder's file system takes names for the same that differ in the case of letters.
+    // Makes the folder, where it isn't there, and locks it, where it isn't locked or was taken away with its lock (`flock`). This fails
+    // where another process holds the lock, and where the folder's file system takes names for the same that differ in the case of letters.
+    // The folder itself may be a link to one.
     fn occupy(&mut self) -> Result<(), DiskFault> {
         let found = fs::metadata(&self.rt, self.folder.as_str());
         make_folder(&self.rt, self.folder.as_str(), found)?;
         self.point_at(LOCK_FILE)?;
-        let stands = is_file(&self.rt, self.path())?;
+        let stands = matches!(at_path(&self.rt, self.path())?, Some(found) if found.is_file());
         if stands && self.lock.is_some() {
             return Ok(());
         }
@@ -178,7 +180,7 @@ impl<R: Files<File = File> + AllocGlobal + Clone + Drop> FolderFiles<R> {
         Ok(())
     }
 
-    // Makes those folders on the way to a file that aren't there, the first among them.
+    // Makes those folders on the way to a file that aren't there, the first among them. Each that is there is a folder, and no link.
     fn make_folders(&mut self, name: &str) -> Result<(), DiskFault> {
         self.occupy()?;
         self.point_at(name)?;
@@ -188,8 +190,7 @@ impl<R: Files<File = File> + AllocGlobal + Clone + Drop> FolderFiles<R> {
                 && rest.starts_with('/')
             {
                 let path = self.path().get(..before.saturating_add(end)).unwrap_or("");
-                let found = fs::symlink_metadata(&self.rt, path);
-                make_folder(&self.rt, path, found)?;
+                make_folder(&self.rt, path, fs::symlink_metadata(&self.rt, path))?;
                 if is_name(folder) {
                     self.folders.insert(folder, ())?;
                 }
@@ -198,19 +199,23 @@ impl<R: Files<File = File> + AllocGlobal + Clone + Drop> FolderFiles<R> {
         Ok(())
     }
 
+    // Writes a file, once more where a folder on the way was taken away, or what a killed process left is in the way.
     fn write(&mut self, name: &str, bytes: &[u8]) -> Result<(), DiskFault> {
         if bytes.len() as u64 > LONGEST_FILE {
             return Err(DiskFault::Failed);
         }
         self.point_at(name)?;
-        if self.knows_folder(name) && self.write_and_rename(bytes).is_ok() {
-            return Ok(());
+        if self.knows_folder(name) {
+            match self.write_and_rename(bytes) {
+                Err(fault) if is_in_the_way(&fault) => {}
+                written => return Ok(written?),
+            }
         }
-        // The folder isn't there, or a link or what a killed process left was in the way.
         self.make_folders(name)?;
         Ok(self.write_and_rename(bytes)?)
     }
 
+    // After a failure no file stays beside: `unlink` takes it away.
     fn write_and_rename(&self, bytes: &[u8]) -> io::Result<()> {
         let written = self.write_beside(bytes);
         if written.is_err() {
@@ -219,13 +224,15 @@ impl<R: Files<File = File> + AllocGlobal + Clone + Drop> FolderFiles<R> {
         written
     }
 
-    // Writes a new file, which no link leads elsewhere, and renames it.
+    // `open` by O_CREAT and O_EXCL makes a new file, and fails where anything stands, a link too (EEXIST). `rename` puts it in the place of the old
+    // one, which stays visible, or the new one, at every moment; where it fails, by any error but EIO, the old one is unaffected.
     fn write_beside(&self, bytes: &[u8]) -> io::Result<()> {
         let mut file = File::create_new(&self.rt, self.beside.as_str())?;
         file.write_all(bytes)?;
         fs::rename(&self.rt, self.beside.as_str(), self.path())
     }
 
+    // `unlink` removes a file, or the link itself. Where it fails the file is unchanged; ENOENT and ENOTDIR say that there is none.
     fn erase(&mut self, name: &str) -> Result<(), DiskFault> {
         if !self.knows_folder(name) {
             return Ok(());
@@ -256,8 +263,10 @@ impl<R: Files<File = File> + AllocGlobal + Clone + Drop> RawFiles for FolderFile
     }
 
     fn unlink(&mut self, name: &str) -> Result<(), DiskFault> {
-        let removed = self.erase(name);
-        counted(&mut self.failed, removed)
+        match self.erase(name) {
+            Ok(()) => Ok(()),
+            Err(_) => counted(&mut self.failed, Err(DiskFault::Failed)),
+        }
     }
 
     fn walk(&mut self, alloc: Global) -> Result<NameList, DiskFault> {

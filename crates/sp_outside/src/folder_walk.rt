@@ -20,22 +20,23 @@ struct FolderWalk<'a> {
 
 /// The names of all files below a folder; the folders below it are noted. A link is no file and no folder here, and a name that isn't
 /// UTF-8 is passed over. So is a folder below it that may not be read, as the `lost+found` of a file system.
+///
+/// `readdir` gives each entry of a folder that is neither made nor removed meanwhile, and nothing is changed until the walk has ended.
 pub(crate) fn walk<R: Files + AllocGlobal + Clone + Drop>(
     rt: &R,
     alloc: Global,
     folder: &str,
     folders: &mut Names<()>,
 ) -> Result<NameList, DiskFault> {
+    let slash = usize::from(!folder.ends_with('/'));
     let mut walk = FolderWalk {
         alloc,
-        before: folder
-            .len()
-            .saturating_add(usize::from(!folder.ends_with('/'))),
+        before: folder.len().saturating_add(slash),
         names: NameList::new(alloc),
         folders,
         ahead: Vec::new(alloc),
     };
-    push_path(alloc, &mut walk.ahead, folder)?;
+    walk.go_into(folder)?;
     for _ in 0..u64::MAX {
         let Some(next) = walk.ahead.pop() else {
             return Ok(walk.names);
@@ -53,12 +54,12 @@ fn may_not(fault: &io::Error) -> bool {
     fault.kind() == ErrorKind::PermissionDenied
 }
 
-fn push_path(alloc: Global, paths: &mut Vec<String>, path: &str) -> Mem<()> {
-    paths.push(String::from_str(alloc, path)?)?;
-    Ok(())
-}
-
 impl FolderWalk<'_> {
+    fn go_into(&mut self, path: &str) -> Mem<()> {
+        self.ahead.push(String::from_str(self.alloc, path)?)?;
+        Ok(())
+    }
+
     fn take_entries<R: Files + AllocGlobal + Clone + Drop>(
         &mut self,
         entries: ReadDir<R>,
@@ -78,7 +79,7 @@ impl FolderWalk<'_> {
         let name = path.get(self.before..).unwrap_or("");
         match entry.file_type() {
             Ok(found) if found.is_dir() => {
-                push_path(self.alloc, &mut self.ahead, path)?;
+                self.go_into(path)?;
                 if is_name(name) {
                     self.folders.insert(name, ())?;
                 }

@@ -11,6 +11,7 @@ mod folder_files;
 mod folder_walk;
 mod laws;
 mod mem_disk;
+mod mem_files;
 mod memory;
 mod names;
 mod opening;

@@ -2,6 +2,7 @@
 ghost use Rattle.std.specs.Prelude.{◌≡◌, IfOk, IfErr, OnOk, is_ok, OnErr, Some, None, take};
 ghost use Rattle.std.specs.FinMap.{empty};
 ghost use Rattle.sp_outside.specs.Files.{IsName, IsListing, IsOldOrNew, file_at, with_file, without_file, names_after};
+ghost use Rattle.sp_outside.specs.FolderFiles.{IsNamesOf};
 ghost use Rattle.sp_outside.specs.DiskMemory.{IsPlanned, IsPlannedPut, next_fails, plan_after, plan_gone, read_after, write_after};
 ghost use Rattle.sp_outside.specs.Calls.{Get, Put, Remove, Names as names_call, told_call};
 ghost use Rattle.sp_outside.specs.Causes.{HasDiskCause, Rose, next};
@@ -107,7 +108,7 @@ impl MemDisk {
 
 impl MemDisk {
     // Counts a call, and answers how it fails, if it does.
-    fn begin(&mut self) -> Option<Way>
+    pub(crate) fn begin(&mut self) -> Option<Way>
         ensures way { result ≡ next_fails self.old.plan }
         ensures after { self.new ≡ record self.old { plan = plan_after self.old.plan; calls = next self.old.calls } }
     {
@@ -124,7 +125,7 @@ impl MemDisk {
         way
     }
 
-    fn fault(&mut self) -> DiskFault
+    pub(crate) fn fault(&mut self) -> DiskFault
         ensures fault { result ≡ DiskFault.Failed }
         ensures after { self.new ≡ record self.old { failed = next self.old.failed } }
         ensures rose { Rose self.old.failed self.new.failed }
@@ -140,6 +141,13 @@ impl MemDisk {
             Some(bytes) => Ok(Some(ByteBuf::of(alloc, bytes.bytes())?)),
             None => Ok(None),
         }
+    }
+
+    /// The names of all files.
+    pub(crate) fn all_names(&self, alloc: Global) -> Mem<NameList>
+        ensures { IfOk result (IsNamesOf self.now.files) }
+    {
+        self.files.all(alloc)
     }
 
     // The change that `put` makes.

@@ -75,6 +75,17 @@ impl<T> Names<T> {
         self.held.contains_key(name)
     }
 
+    /// All names, in their order.
+    pub(crate) fn all(&self, alloc: Global) -> Mem<NameList>
+        ensures { IfOk result (λ names. names ≡ map.keys self.now) }
+    {
+        let mut names = NameList::new(alloc);
+        for (name, _) in self.held.iter() {
+            names.push(TextBuf::of(alloc, name.as_str())?)?;
+        }
+        Ok(names)
+    }
+
     /// The first names, at most `most`, that begin with a prefix and are after a name.
     pub(crate) fn list(
         &self,

@@ -1,11 +1,12 @@
 //! With which of the files below its folder a disk begins.
-ghost use Rattle.std.specs.Prelude.{◌≡◌, false, IfOk, IfSome, OnErr, OnOk, if◌then◌else◌, is_some};
+ghost use Rattle.std.specs.Prelude.{◌≡◌, ◌≤◌, true, false, IfOk, IfSome, OnErr, OnOk, if◌then◌else◌, is_some};
 ghost use Rattle.std.specs.FinMap.{contains_key, empty, insert};
 ghost use Rattle.sp_outside.specs.FileNames as spec_names;
+ghost use Rattle.sp_outside.specs.FileNames.{is_left};
 ghost use Rattle.sp_outside.specs.Files.{file_at};
 ghost use Rattle.sp_outside.specs.FolderFiles as spec;
-ghost use Rattle.sp_outside.specs.FolderFiles.{IsNamesOf, boot_file, disk_files, files_begun, is_same_boot, session_file};
-ghost use Rattle.sp_outside.specs.NameIndex.{IsNamesOfDisk, IsSameDisk, IsTaken, IsTakenOrNot, WhileTold};
+ghost use Rattle.sp_outside.specs.FolderFiles.{HasNoFault, IsNamesOf, WhileTold, boot_file, disk_files, files_begun, is_same_boot, session_file};
+ghost use Rattle.sp_outside.specs.NameIndex.{IsLeftGone, IsLeftOrNot, IsLeftTaken, IsNamesOfDisk, IsRestKept, IsSameBut, IsTaken, IsTakenOrNot, IsWithout};
 
 use crate::file_name::{is_inside, is_left, is_name};
 use crate::names::Names;
@@ -20,9 +21,11 @@ const SESSION_FILE: &str = ".epoch";
 const BOOT_FILE: &str = ".boot%t%t";
 
 // Whether a session has left its number.
+#[tactic(auto, using(crate::proofs::Left::rises))]
 fn has_session<F: RawFiles>(below: &mut F, alloc: Global) -> Result<bool, DiskFault>
     ensures value { IfOk result (λ has. IfSome (F.files below.old) (λ files. has ≡ is_some (file_at files session_file))) }
     ensures same { F.files below.new ≡ F.files below.old }
+    ensures rising { F.faults below.old ≤ F.faults below.new }
 {
     Ok(below.read(alloc, SESSION_FILE)?.is_some())
 }
@@ -37,9 +40,11 @@ fn is_same(id: &Option<ByteBuf>, kept: &Option<ByteBuf>) -> bool
 }
 
 // Whether the files are of this boot.
+#[tactic(auto, using(crate::proofs::Left::rises))]
 fn is_of_this_boot<F: RawFiles>(below: &mut F, alloc: Global) -> Result<bool, DiskFault>
     ensures value { IfOk result (λ is. IfSome (F.files below.old) (λ files. is ≡ is_same_boot F.boot (file_at files boot_file))) }
     ensures same { F.files below.new ≡ F.files below.old }
+    ensures rising { F.faults below.old ≤ F.faults below.new }
 {
     let id = below.boot_id(alloc)?;
     let kept = below.read(alloc, BOOT_FILE)?;
@@ -47,9 +52,11 @@ fn is_of_this_boot<F: RawFiles>(below: &mut F, alloc: Global) -> Result<bool, Di
 }
 
 // Whether the disk goes on with the files that it finds.
+#[tactic(auto, using(crate::proofs::Left::rises))]
 fn is_kept<F: RawFiles>(below: &mut F, alloc: Global) -> Result<bool, DiskFault>
     ensures value { IfOk result (λ kept. IfSome (F.files below.old) (λ files. kept ≡ spec.is_kept F.boot files)) }
     ensures same { F.files below.new ≡ F.files below.old }
+    ensures rising { F.faults below.old ≤ F.faults below.new }
 {
     if !has_session(below, alloc)? {
         return Ok(false);
@@ -58,9 +65,11 @@ fn is_kept<F: RawFiles>(below: &mut F, alloc: Global) -> Result<bool, DiskFault>
 }
 
 // Takes a file away, where it is one of the disk.
+#[tactic(auto, using(crate::proofs::Left::rises))]
 fn remove_inside<F: RawFiles>(below: &mut F, name: &str) -> Result<(), DiskFault>
     ensures ok { OnOk result (WhileTold (IsTaken name.now) (F.files below.old) (F.files below.new)) }
     ensures any { WhileTold (IsTakenOrNot name.now) (F.files below.old) (F.files below.new) }
+    ensures rising { F.faults below.old ≤ F.faults below.new }
 {
     if is_inside(name) {
         return below.unlink(name);
@@ -73,6 +82,8 @@ fn remove_all<F: RawFiles>(below: &mut F, found: &[TextBuf]) -> Result<(), DiskF
     requires { IfSome (F.files below.old) (λ files. IsNamesOf files found.now) }
     ensures ok { OnOk result (WhileTold (λ old new. disk_files new ≡ empty) (F.files below.old) (F.files below.new)) }
     ensures kept { WhileTold (λ old new. spec.is_kept F.boot old ≡ false → spec.is_kept F.boot new ≡ false) (F.files below.old) (F.files below.new) }
+    ensures rest { WhileTold IsRestKept (F.files below.old) (F.files below.new) }
+    ensures rising { F.faults below.old ≤ F.faults below.new }
 {
     for name in found {
         remove_inside(below, name.text())?;
@@ -81,8 +92,10 @@ fn remove_all<F: RawFiles>(below: &mut F, found: &[TextBuf]) -> Result<(), DiskF
 }
 
 // Notes that the files are of this boot. Where the system doesn't tell its id they are of none.
+#[tactic(auto, using(crate::proofs::Left::rises))]
 fn note_boot<F: RawFiles>(below: &mut F, alloc: Global) -> Result<(), DiskFault>
-    ensures { WhileTold (λ old new. disk_files new ≡ disk_files old) (F.files below.old) (F.files below.new) }
+    ensures others { WhileTold (IsSameBut boot_file) (F.files below.old) (F.files below.new) }
+    ensures rising { F.faults below.old ≤ F.faults below.new }
 {
     match below.boot_id(alloc)? {
         Some(id) => below.replace(BOOT_FILE, id.bytes()),
@@ -102,6 +115,8 @@ pub(crate) fn begin<F: RawFiles>(
     ensures ok { OnOk result (WhileTold (λ old new. disk_files new ≡ files_begun F.boot old) (F.files below.old) (F.files below.new)) }
     ensures kept { IfOk result (λ kept. WhileTold (λ old new. disk_files new ≡ (if kept then disk_files old else empty)) (F.files below.old) (F.files below.new)) }
     ensures err { OnErr result (WhileTold (λ old new. files_begun F.boot new ≡ files_begun F.boot old) (F.files below.old) (F.files below.new)) }
+    ensures rest { WhileTold IsRestKept (F.files below.old) (F.files below.new) }
+    ensures rising { F.faults below.old ≤ F.faults below.new }
 {
     if is_kept(below, alloc)? {
         return Ok(true);
@@ -111,9 +126,11 @@ pub(crate) fn begin<F: RawFiles>(
     Ok(false)
 }
 
-// One that stays is no file of the disk either, and goes when its file is written next.
+// One that can't be taken away is no file of the disk either. It stands in the way of its file.
 fn remove_left<F: RawFiles>(below: &mut F, name: &str)
-    ensures { WhileTold IsSameDisk (F.files below.old) (F.files below.new) }
+    ensures left { WhileTold (IsLeftOrNot name.now) (F.files below.old) (F.files below.new) }
+    ensures gone { HasNoFault (F.faults below.old) (F.faults below.new) → is_left name.now ≡ true → WhileTold (IsWithout name.now) (F.files below.old) (F.files below.new) }
+    ensures rising { F.faults below.old ≤ F.faults below.new }
 {
     if is_left(name) {
         let _ = below.unlink(name);
@@ -122,7 +139,9 @@ fn remove_left<F: RawFiles>(below: &mut F, name: &str)
 
 /// Takes away the files beside others that a killed process left, where that may be done.
 pub(crate) fn take_left<F: RawFiles>(below: &mut F, found: &[TextBuf])
-    ensures { WhileTold IsSameDisk (F.files below.old) (F.files below.new) }
+    ensures left { WhileTold IsLeftTaken (F.files below.old) (F.files below.new) }
+    ensures gone { HasNoFault (F.faults below.old) (F.faults below.new) → IfSome (F.files below.new) (IsLeftGone found.now) }
+    ensures rising { F.faults below.old ≤ F.faults below.new }
 {
     for name in found {
         remove_left(below, name.text());
@@ -154,6 +173,7 @@ pub(crate) fn names_inside(alloc: Global, found: &[TextBuf]) -> Result<Names<()>
 }
 
 /// Whether the disk has a file.
+#[tactic(auto, using(crate::proofs::Left::rises))]
 pub(crate) fn has_file<F: RawFiles>(
     below: &mut F,
     alloc: Global,
@@ -161,6 +181,7 @@ pub(crate) fn has_file<F: RawFiles>(
 ) -> Result<bool, DiskFault>
     ensures value { IfOk result (λ has. IfSome (F.files below.old) (λ files. has ≡ contains_key (disk_files files) name.now)) }
     ensures same { F.files below.new ≡ F.files below.old }
+    ensures rising { F.faults below.old ≤ F.faults below.new }
 {
     if !is_inside(name) {
         return Ok(false);

@@ -2,7 +2,7 @@
 ghost use Rattle.std.specs.Prelude.{◌≡◌, ℕ, List, Option, IfSome, IfOk, IfErr, IsTrue, OnOk};
 ghost use Rattle.sp_outside.specs.Causes.{HasDiskCause};
 ghost use Rattle.sp_outside.specs.FileNames.{is_below};
-ghost use Rattle.sp_outside.specs.Files.{Files, IsOldOrNew, file_at, told_with, told_without};
+ghost use Rattle.sp_outside.specs.Files.{Files, IsName, IsOldOrNew, file_at, told_with, told_without};
 ghost use Rattle.sp_outside.specs.FolderFiles.{IsNamesOf};
 
 use crate::DiskFault;
@@ -32,7 +32,8 @@ pub trait RawFiles {
 
     /// Makes the file of this name exactly these bytes, with the folders on the way, at one moment.
     fn replace(&mut self, name: &str, bytes: &[u8]) -> Result<(), DiskFault>
-        requires { IsTrue (is_below name.now) }
+        requires below { IsTrue (is_below name.now) }
+        requires size { IsName name.now }
         ensures ok { OnOk result (files self.new ≡ told_with (files self.old) name.now bytes.now) }
         ensures err { IfErr result (IsOldOrNew (files self.old) (told_with (files self.old) name.now bytes.now) (files self.new)) }
         ensures cause { HasDiskCause (faults self.old) (faults self.new) result };
@@ -42,6 +43,7 @@ pub trait RawFiles {
         requires { IsTrue (is_below name.now) }
         ensures ok { OnOk result (files self.new ≡ told_without (files self.old) name.now) }
         ensures err { IfErr result (IsOldOrNew (files self.old) (told_without (files self.old) name.now) (files self.new)) }
+        ensures fails { IfErr result (λ e. e ≡ DiskFault.Failed) }
         ensures cause { HasDiskCause (faults self.old) (faults self.new) result };
 
     /// The names of all files, in any order.

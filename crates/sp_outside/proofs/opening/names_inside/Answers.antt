@@ -1,5 +1,5 @@
 use Rattle.std.proofs.Common.{get_or, sym, ◌∙◌, ap, arith, subst}
-use Rattle.sp_outside.proofs.Begun.{IsNamesTo, all_added, no_names_yet, one_added}
+use Rattle.sp_outside.proofs.Found.{IsNamesTo, all_added, no_names_yet, one_added}
 use Rattle.sp_outside.proofs.opening.names_inside.Goals as goal
 
 pub loop-name-init : goal.loop-name-init

@@ -1,4 +1,4 @@
-use Rattle.sp_outside.proofs.Begun.{IsNamesTo}
+use Rattle.sp_outside.proofs.Found.{IsNamesTo}
 use Rattle.sp_outside.proofs.opening.names_inside.Given as goal
 
 abbrev pub invariant-loop-name : goal.invariant-loop-name

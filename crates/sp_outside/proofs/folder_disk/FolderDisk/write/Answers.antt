@@ -8,8 +8,8 @@ use Rattle.sp_outside.proofs.Indexed.{Knows, after_failed_put, after_put, held_n
 use Rattle.sp_outside.proofs.Results.{where_ok}
 use Rattle.sp_outside.proofs.folder_disk.FolderDisk.write.Goals as goal
 
-pub replace-requires : goal.replace-requires
-replace-requires g c = below_of_inside c.args.name.now (sym c.is_inside.ensures ∙ c.if-not-is_inside.false)
+pub replace-requires-clause-below : goal.replace-requires-clause-below
+replace-requires-clause-below g c = below_of_inside c.args.name.now (sym c.is_inside.ensures ∙ c.if-not-is_inside.false)
 
 -- the file is written
 pub returns-clause-ok : goal.returns-clause-ok

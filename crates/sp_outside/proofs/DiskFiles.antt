@@ -28,14 +28,6 @@ with_inside : (q name : List ℕ) (x y : Option (List ℕ)) → is_inside name �
 with_inside q name x y inside true t = ap (λ b. cond b x None) (ap is_inside (one_key q name t) ∙ inside)
 with_inside q name x y inside false t = refl
 
--- and one at a name outside
-with_outside : (q name : List ℕ) (x y : Option (List ℕ)) → is_inside name ≡ false → (e : Bool) → eq_by_cmp by_name q name ≡ e
-    → cond (is_inside q) (cond e x y) None ≡ cond (is_inside q) y None
-with_outside q name x y outside true t =
-    let out : is_inside q ≡ false = ap is_inside (one_key q name t) ∙ outside in
-    ap (λ b. cond b x None) out ∙ sym (ap (λ b. cond b y None) out)
-with_outside q name x y outside false t = refl
-
 without_any : (e i : Bool) (y : Option (List ℕ)) → cond i (cond e None y) None ≡ cond e None (cond i y None)
 without_any true true y = refl
 without_any true false y = refl
@@ -56,17 +48,3 @@ disk_without files name = same_files _ _ (λ q.
     ∙ without_any (eq_by_cmp by_name q name) (is_inside q) (get files q)
     ∙ ap (cond (eq_by_cmp by_name q name) None) (sym (at_disk files q))
     ∙ sym (get-remove nat_list_cmp_total (disk_files files) name q))
-
-pub beside_with : (files : Files) (name bytes : List ℕ) → is_inside name ≡ false → disk_files (with_file files name bytes) ≡ disk_files files
-beside_with files name bytes outside = same_files _ _ (λ q.
-    at_disk (with_file files name bytes) q
-    ∙ ap (λ o. cond (is_inside q) o None) (get-insert nat_list_cmp_total files name bytes q)
-    ∙ with_outside q name (Some bytes) (get files q) outside (eq_by_cmp by_name q name) refl
-    ∙ sym (at_disk files q))
-
-pub beside_without : (files : Files) (name : List ℕ) → is_inside name ≡ false → disk_files (without_file files name) ≡ disk_files files
-beside_without files name outside = same_files _ _ (λ q.
-    at_disk (without_file files name) q
-    ∙ ap (λ o. cond (is_inside q) o None) (get-remove nat_list_cmp_total files name q)
-    ∙ with_outside q name None (get files q) outside (eq_by_cmp by_name q name) refl
-    ∙ sym (at_disk files q))

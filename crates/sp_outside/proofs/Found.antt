@@ -8,11 +8,11 @@ use Rattle.std.proofs.lemmas.Bool.{true≢false}
 use Rattle.sp_base.specs.Names.{by_name}
 use Rattle.sp_outside.specs.FileNames.{is_inside}
 use Rattle.sp_outside.specs.Files.{Files, file_at}
-use Rattle.sp_outside.specs.FolderFiles.{IsNamesOf, WhileTold, boot_file, disk_files, is_same_boot}
+use Rattle.sp_outside.specs.FolderFiles.{FolderState, IsNamesOf, WhileTold, boot_file, disk_files, files_begun, files_held, is_same_boot}
 use Rattle.sp_outside.specs.NameIndex.{IsIndex, IsLeftTaken, IsNamesOfDisk, NameSet}
 use Rattle.sp_outside.proofs.Begun.{disk_has, same_default, there, there_some}
 use Rattle.sp_outside.proofs.DiskFiles.{inside_at, outside_at}
-use Rattle.sp_outside.proofs.Indexed.{Knows}
+use Rattle.sp_outside.proofs.Indexed.{Knows, open_held}
 use Rattle.sp_outside.proofs.Left.{before_or_at, left_disk}
 use Rattle.sp_outside.proofs.NameSets.{inserted, inserted_other, one_key}
 
@@ -131,3 +131,35 @@ pub same_boot : (below : Option Files) (boot id kept : Option (List ℕ)) (b : B
     → IfSome below (λ files. b ≡ is_same_boot boot (file_at files boot_file))
 same_boot None boot id kept b is one two = tt
 same_boot (Some files) boot id kept b is one two = is ∙ ap (λ i. is_same_boot i kept) one ∙ ap (is_same_boot boot) two
+
+-- ---- the call that reads the names
+
+pub names_walked : (before walked : Option Files) (names found : List (List ℕ)) → walked ≡ before → found ≡ names → IfSome before (λ files. IsNamesOf files names) → IfSome walked (λ files. IsNamesOf files found)
+names_walked before walked names found same is all =
+    subst (λ told. IfSome told (λ files. IsNamesOf files found)) (sym same) (subst (λ (l : List (List ℕ)). IfSome before (λ files. IsNamesOf files l)) (sym is) all)
+
+pub kept_index : (found : List (List ℕ)) (names : NameSet) (walked begun opened last : Option Files) (kept : Bool) → kept ≡ true → IfSome walked (λ files. IsNamesOf files found) → IsNamesOfDisk found names
+    → WhileTold (λ a b. disk_files b ≡ cond kept (disk_files a) empty) walked begun → opened ≡ begun → WhileTold IsLeftTaken opened last → Knows last names empty
+kept_index found names walked begun opened last kept true_is all inside is seen taken =
+    found_index found names walked begun last all inside
+    (subst (λ k. WhileTold (λ a b. disk_files b ≡ cond k (disk_files a) empty) walked begun) true_is is)
+    (subst (λ told. WhileTold IsLeftTaken told last) seen taken)
+
+pub begun_index : (walked begun opened last : Option Files) (kept : Bool) → kept ≡ false
+    → WhileTold (λ a b. disk_files b ≡ cond kept (disk_files a) empty) walked begun → opened ≡ begun → WhileTold IsLeftTaken opened last → Knows last empty empty
+begun_index walked begun opened last kept false_is is seen taken =
+    none_index walked begun last
+    (subst (λ k. WhileTold (λ a b. disk_files b ≡ cond k (disk_files a) empty) walked begun) false_is is)
+    (subst (λ told. WhileTold IsLeftTaken told last) seen taken)
+
+-- the disk has the files that it had, by what is known of each step
+pub held_parts : (boot : Option (List ℕ)) (one other : Option Files) (x y : Bool) → one ≡ other → x ≡ y
+    → option_map (λ files. cond x (disk_files files) (files_begun boot files)) one ≡ option_map (λ files. cond y (disk_files files) (files_begun boot files)) other
+held_parts boot one other x y same begun =
+    ap (λ b. option_map (λ files. cond b (disk_files files) (files_begun boot files)) one) begun
+    ∙ ap (option_map (λ files. cond y (disk_files files) (files_begun boot files))) same
+
+pub held_found : (boot : Option (List ℕ)) (told : Option Files) (begun : FolderState) (opened last : Option Files) → begun.is_open ≡ true → opened ≡ begun.below → WhileTold IsLeftTaken opened last
+    → files_held boot begun ≡ told → option_map disk_files last ≡ told
+held_found boot told begun opened last open_is is taken same =
+    same_told opened last taken ∙ ap (option_map disk_files) is ∙ sym (open_held boot begun open_is) ∙ same

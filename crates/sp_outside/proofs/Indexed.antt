@@ -112,8 +112,13 @@ Knows below names doubts = IfSome below (λ files. IsIndex (disk_files files) na
 pub open_held : (boot : Option (List ℕ)) (s : FolderState) → s.is_open ≡ true → files_held boot s ≡ option_map disk_files s.below
 open_held boot s begun = ap (λ b. option_map (λ files. cond b (disk_files files) (files_begun boot files)) s.below) begun
 
-pub closed_held : (boot : Option (List ℕ)) (s : FolderState) → s.is_open ≡ false → files_held boot s ≡ option_map (files_begun boot) s.below
-closed_held boot s closed = ap (λ b. option_map (λ files. cond b (disk_files files) (files_begun boot files)) s.below) closed
+pub open_parts : (boot : Option (List ℕ)) (below : Option Files) (is_open : Bool) → is_open ≡ true
+    → option_map (λ files. cond is_open (disk_files files) (files_begun boot files)) below ≡ option_map disk_files below
+open_parts boot below is_open begun = ap (λ b. option_map (λ files. cond b (disk_files files) (files_begun boot files)) below) begun
+
+pub closed_parts : (boot : Option (List ℕ)) (below : Option Files) (is_open : Bool) → is_open ≡ false
+    → option_map (λ files. cond is_open (disk_files files) (files_begun boot files)) below ≡ option_map (files_begun boot) below
+closed_parts boot below is_open closed = ap (λ b. option_map (λ files. cond b (disk_files files) (files_begun boot files)) below) closed
 
 -- the disk's files now, where a call has left them as they were before and the state is seen as `view`
 pub held_now : (boot : Option (List ℕ)) (told : Option Files) (view s : FolderState) → view ≡ s → s.is_open ≡ true → files_held boot s ≡ told → option_map disk_files view.below ≡ told

@@ -23,6 +23,10 @@ rises before after (Ok x) same = omega (arith, same)
 rises before after (Err Failed) rose = rose.0
 rises before after (Err NoMemory) same = omega (arith, same)
 
+-- a count that is seen as another
+pub rising_seen : (first opened last : ℕ) → opened ≡ first → opened ≤ last → first ≤ last
+rising_seen first opened last is rise = subst (λ n. n ≤ last) is rise
+
 abbrev is_failed : DiskFault → Bool
 is_failed Failed = true
 is_failed NoMemory = false
@@ -52,7 +56,7 @@ left_gone_or_not old new name fault left (inr is) = left_gone old new name left 
 
 -- ---- those that were found, in their order
 
-none_stays : (files : Files) (name q : List ℕ) → file_at files q ≡ None → file_at (without_file files name) q ≡ None
+pub none_stays : (files : Files) (name q : List ℕ) → file_at files q ≡ None → file_at (without_file files name) q ≡ None
 none_stays files name q none =
     get-remove nat_list_cmp_total files name q
     ∙ elim (eq_by_cmp by_name q name) as (λ e. cond e None (get files q) ≡ None) [

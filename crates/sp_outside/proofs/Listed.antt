@@ -26,7 +26,7 @@ use Rattle.sp_outside.proofs.Listing.{rises, wanted}
 pub here : (x : List ℕ) (xs : List (List ℕ)) → Contains (x ∷ xs) x
 here x xs = (0, omega arith, refl)
 
-there : (x y : List ℕ) (xs : List (List ℕ)) → Contains xs y → Contains (x ∷ xs) y
+pub there : (x y : List ℕ) (xs : List (List ℕ)) → Contains xs y → Contains (x ∷ xs) y
 there x y xs has = (suc has.0, omega (arith, has.1), has.2)
 
 at_place : (x y : List ℕ) (xs : List (List ℕ)) (k : ℕ) → k < length (x ∷ xs) → get_or (x ∷ xs) k y ≡ y → (x ≡ y) ⊎ Contains xs y

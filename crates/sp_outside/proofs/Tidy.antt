@@ -1,5 +1,5 @@
 -- What the calls of a disk leave of the files that aren't its own: those that its folder keeps for itself, and those that a killed process left.
-use Rattle.std.proofs.Common.{◌≡◌, ◌≢◌, ◌+◌, ◌-◌, ◌&&◌, not, ◌++◌, inl, inr, ℕ, Bool, true, false, cond, List, Option, Some, None, take, length, refl, sym, ◌∙◌, ap, subst}
+use Rattle.std.proofs.Common.{◌≡◌, ◌≢◌, ◌≤◌, ◌+◌, ◌-◌, ◌&&◌, not, ◌++◌, inl, inr, ℕ, Bool, true, false, cond, List, Option, Some, None, take, length, refl, sym, ◌∙◌, ap, subst, arith}
 use Rattle.std.specs.Prelude.{Contains, IfSome}
 use Rattle.std.specs.Cmp.Lexicographic.{nat_list_cmp_total}
 use Rattle.std.specs.FinMap.{get, get-insert, get-remove}
@@ -12,7 +12,7 @@ use Rattle.std.proofs.lemmas.Slice.Eq.{ends_is}
 use Rattle.sp_base.specs.Names.{by_name}
 use Rattle.sp_outside.specs.FileNames.{beside_ending, is_below, is_beside, is_inside, is_left, is_own, own_ending}
 use Rattle.sp_outside.specs.Files.{Files, IsOldOrNew, file_at, told_with, told_without, with_file, without_file}
-use Rattle.sp_outside.specs.FolderFiles.{HasNoneLeft, IsNamesOf, IsOwnKept, WhileTold, boot_file}
+use Rattle.sp_outside.specs.FolderFiles.{FolderState, HasNoFault, HasNoneLeft, IsCleaned, IsNamesOf, IsOwnKept, WhileTold, boot_file}
 use Rattle.sp_outside.specs.NameIndex.{IsLeftGone, IsLeftTaken, IsRestKept}
 use Rattle.sp_outside.specs.declared.disk.DiskFault.{DiskFault}
 use Rattle.sp_outside.proofs.Begun.{outside_of_left, while_map, while_same, while_then}
@@ -121,3 +121,36 @@ removal_left (Some files) name none = λ q left. none_stays files name q (none q
 
 pub tidy_without : (old new : Option Files) (name : List ℕ) → new ≡ told_without old name → IfSome old HasNoneLeft → IfSome new HasNoneLeft
 tidy_without old new name is none = subst (λ told. IfSome told HasNoneLeft) (sym is) (removal_left old name none)
+
+-- ---- the steps of a call
+
+-- the files that a folder keeps for itself, while a disk begins
+pub own_begun : (first walked begun : Option Files) → walked ≡ first → WhileTold IsRestKept walked begun → WhileTold IsOwnKept first begun
+own_begun first walked begun same rest = own_then first walked begun (own_same first walked same) (own_of_rest walked begun rest)
+
+pub own_found : (first walked begun opened last : Option Files) → walked ≡ first → WhileTold IsRestKept walked begun → opened ≡ begun → WhileTold IsLeftTaken opened last → WhileTold IsOwnKept first last
+own_found first walked begun opened last same rest is taken =
+    own_then first opened last (own_then first begun opened (own_begun first walked begun same rest) (own_same begun opened is)) (own_of_left opened last taken)
+
+-- a state that is seen as another
+pub own_seen : (first known opened : Option Files) → opened ≡ known → WhileTold IsOwnKept first known → WhileTold IsOwnKept first opened
+own_seen first known opened is own = subst (WhileTold IsOwnKept first) (sym is) own
+
+pub own_after : (first known opened last : Option Files) → opened ≡ known → WhileTold IsOwnKept first known → WhileTold IsOwnKept opened last → WhileTold IsOwnKept first last
+own_after first known opened last is own more = own_then first opened last (own_seen first known opened is own) more
+
+-- the call that reads the names
+pub cleaned_found : (found : List (List ℕ)) (walked begun opened last : Option Files) → IfSome walked (λ files. IsNamesOf files found) → WhileTold IsRestKept walked begun → opened ≡ begun
+    → WhileTold IsLeftTaken opened last → IfSome last (IsLeftGone found) → IfSome last HasNoneLeft
+cleaned_found found walked begun opened last names rest is taken gone = tidy found walked opened last names (subst (WhileTold IsRestKept walked) (sym is) rest) taken gone
+
+pub fault_free : (first walked begun opened last : ℕ) → first ≤ walked → walked ≤ begun → opened ≡ begun → opened ≤ last → HasNoFault first last → HasNoFault opened last
+fault_free first walked begun opened last a b c d none = (omega (arith, a, b, c, d, none.0), omega (arith, a, b, c, d, none.0, none.1))
+
+-- a later step of a call, which leaves no fewer faults
+pub cleaned_then : (first known : FolderState) (faults : ℕ) (below : Option Files) → IsCleaned first known → first.faults ≤ known.faults → known.faults ≤ faults
+    → (IfSome known.below HasNoneLeft → IfSome below HasNoneLeft) → first.is_known ≡ false → HasNoFault first.faults faults → IfSome below HasNoneLeft
+cleaned_then first known faults below cleaned a b more unknown none = more (cleaned unknown (omega (arith, a, b, none.0), none.1))
+
+pub tidy_seen : (known new : Option Files) → new ≡ known → IfSome known HasNoneLeft → IfSome new HasNoneLeft
+tidy_seen known new is none = subst (λ told. IfSome told HasNoneLeft) (sym is) none

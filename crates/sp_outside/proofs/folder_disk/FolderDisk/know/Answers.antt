@@ -7,13 +7,13 @@ use Rattle.sp_outside.proofs.Indexed.{Knows}
 use Rattle.sp_outside.proofs.folder_disk.FolderDisk.know.Goals as goal
 
 pub names_found-requires : goal.names_found-requires
-names_found-requires g c = sym (ap (λ (s : FolderState). s.is_known) c.self.view_is) ∙ c.if-is_known.false
+names_found-requires g c = sym (ap (λ (s : FolderState). s.is_known) c.self.view_is) ∙ c.if-self.false
 
 -- the names that were found are those of the files, and none is in doubt
 pub invariant_of-self : goal.invariant_of-self
 invariant_of-self g c = record {
-  begun = λ known. ap (λ (s : FolderState). s.is_open) c.self-2.view_is ∙ c.in_ok-names_found.ensures.begun;
+  begun = λ known. ap (λ (s : FolderState). s.is_open) c.self-2.view_is ∙ c.in_ok-self-inside.ensures.begun;
   index = λ known.
-      subst (λ (doubts : NameSet). Knows (g.F.RawFiles.files c.self-2.inside.below) c.in_ok-names_found.names doubts) (sym c.new.ensures)
-      (subst (λ (told : Option Files). Knows told c.in_ok-names_found.names empty) (sym (ap (λ (s : FolderState). s.below) c.self-2.view_is)) c.in_ok-names_found.ensures.index);
+      subst (λ (doubts : NameSet). Knows (g.F.RawFiles.files c.self-2.inside.below) _ doubts) (sym c.new.ensures)
+      (subst (λ (told : Option Files). Knows told _ empty) (sym (ap (λ (s : FolderState). s.below) c.self-2.view_is)) c.in_ok-self-inside.ensures.index);
 }

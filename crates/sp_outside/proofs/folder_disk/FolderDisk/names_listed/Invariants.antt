@@ -1,4 +1,4 @@
-use Rattle.std.proofs.Common.{◌≡◌, true}
+use Rattle.std.proofs.Common.{◌≡◌, ◌≤◌, true}
 use Rattle.sp_outside.specs.FolderFiles.{files_held}
 use Rattle.sp_outside.proofs.folder_disk.FolderDisk.names_listed.Given as goal
 
@@ -8,4 +8,6 @@ invariant-doubts g l = record {
   known : l.self.is_known ≡ true;
   begun : l.self.is_open ≡ true;
   count : l.self.failed ≡ l.initial.self.failed;
+  below : l.self.below ≡ l.initial.self.below;
+  rising : l.initial.self.faults ≤ l.self.faults;
 }

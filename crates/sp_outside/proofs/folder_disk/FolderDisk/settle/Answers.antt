@@ -13,21 +13,21 @@ invariant_of-self g c = record {
   index = λ known. still_knows _ _ _ _ c.has_file.ensures.same (c.self.invariant.index known);
 }
 
-pub invariant_of-self-2 : goal.invariant_of-self-2
-invariant_of-self-2 g c = record {
+pub invariant_of-self-then-branch : goal.invariant_of-self-then-branch
+invariant_of-self-then-branch g c = record {
   begun = c.self.invariant.begun;
   index = λ known. subst (λ (doubts : NameSet). Knows (g.F.RawFiles.files c.has_file.new.below) c.self.inside.names doubts) (sym c.remove.ensures)
       (settled_there (g.F.RawFiles.files c.self.inside.below) _ c.self.inside.names c.self.inside.doubts c.args.name.now c.has_file.ensures.same
-      (subst (λ b. IfSome (g.F.RawFiles.files c.self.inside.below) (λ files. b ≡ contains_key (disk_files files) c.args.name.now)) c.if-has_file.true c.in_ok-has_file.ensures.value)
+      (subst (λ b. IfSome (g.F.RawFiles.files c.self.inside.below) (λ files. b ≡ contains_key (disk_files files) c.args.name.now)) c.if-branch.true c.in_ok-has_file.ensures.value)
       (c.self.invariant.index known));
 }
 
-pub invariant_of-self-3 : goal.invariant_of-self-3
-invariant_of-self-3 g c = record {
+pub invariant_of-self-2 : goal.invariant_of-self-2
+invariant_of-self-2 g c = record {
   begun = c.self.invariant.begun;
-  index = λ known. subst (λ (names : NameSet). Knows (g.F.RawFiles.files c.has_file.new.below) names c.remove-2.new.self) (sym c.remove.ensures)
-      (subst (λ (doubts : NameSet). Knows (g.F.RawFiles.files c.has_file.new.below) _ doubts) (sym c.remove-2.ensures)
+  index = λ known. subst (λ (names : NameSet). Knows (g.F.RawFiles.files c.has_file.new.below) names c.remove-3.new.self) (sym c.remove-2.ensures)
+      (subst (λ (doubts : NameSet). Knows (g.F.RawFiles.files c.has_file.new.below) _ doubts) (sym c.remove-3.ensures)
       (settled_gone (g.F.RawFiles.files c.self.inside.below) _ c.self.inside.names c.self.inside.doubts c.args.name.now c.has_file.ensures.same
-      (subst (λ b. IfSome (g.F.RawFiles.files c.self.inside.below) (λ files. b ≡ contains_key (disk_files files) c.args.name.now)) c.if-has_file.false c.in_ok-has_file.ensures.value)
+      (subst (λ b. IfSome (g.F.RawFiles.files c.self.inside.below) (λ files. b ≡ contains_key (disk_files files) c.args.name.now)) c.if-branch.false c.in_ok-has_file.ensures.value)
       (c.self.invariant.index known)));
 }

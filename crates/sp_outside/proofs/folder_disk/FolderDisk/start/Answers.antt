@@ -4,7 +4,7 @@ use Rattle.std.proofs.lemmas.Bool.{true≢false}
 use Rattle.sp_outside.specs.Files.{Files}
 use Rattle.sp_outside.specs.FolderFiles.{FolderState, IsNamesOf, files_held}
 use Rattle.sp_outside.proofs.Begun.{goes_on_same, told_begun, told_still}
-use Rattle.sp_outside.proofs.Indexed.{closed_held}
+use Rattle.sp_outside.proofs.Indexed.{closed_parts}
 use Rattle.sp_outside.proofs.folder_disk.FolderDisk.start.Goals as goal
 
 pub begin-requires : goal.begin-requires
@@ -32,12 +32,12 @@ pub returns-in_err-kept-clause-same : goal.returns-in_err-kept-clause-same
 returns-in_err-kept-clause-same g c =
     let boot = g.F.RawFiles.boot in
     let old = g.F.RawFiles.files c.self.inside.below in
-    let new = g.F.RawFiles.files c.begin-kept.new.below in
-    closed_held boot _ c.if-is_open.false ∙ told_still boot old new c.in_err-kept.ensures.err ∙ sym (closed_held boot _ c.if-is_open.false) ∙ ap (files_held boot) c.self.view_is
+    let new = g.F.RawFiles.files c.begin.new.below in
+    closed_parts boot new c.self.inside.is_open c.if-self.false ∙ told_still boot old new c.in_err-kept.ensures.err ∙ sym (closed_parts boot old c.self.inside.is_open c.if-self.false) ∙ ap (files_held boot) c.self.view_is
 
 pub returns-clause-same : goal.returns-clause-same
 returns-clause-same g c =
     let boot = g.F.RawFiles.boot in
     let old = g.F.RawFiles.files c.self.inside.below in
-    let new = g.F.RawFiles.files c.begin-kept.new.below in
-    told_begun boot old new c.in_ok-kept.ensures.ok ∙ sym (closed_held boot _ c.if-is_open.false) ∙ ap (files_held boot) c.self.view_is
+    let new = g.F.RawFiles.files c.begin.new.below in
+    told_begun boot old new c.in_ok-kept.ensures.ok ∙ sym (closed_parts boot old c.self.inside.is_open c.if-self.false) ∙ ap (files_held boot) c.self.view_is

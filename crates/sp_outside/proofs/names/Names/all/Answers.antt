@@ -17,6 +17,6 @@ pub returns : goal.returns
 returns g c =
     let held = c.self.inside.held.entries in
     c.loop-name.invariant ∙ seen c.loop-name.yielded
-    ∙ ap names_of (iter_end deref_pair held c.loop-name.yielded _ _ _ _ c.into_iter-name-iterator.ensures.into_iter_gives c.loop-name.yielded_by c.in-None.is c.next.ensures.steps).0
+    ∙ ap names_of (iter_end deref_pair held c.loop-name.yielded _ _ _ _ (c.into_iter-name-iterator.ensures.into_iter_gives ∙ c.iter-name-items.ensures.rest) c.loop-name.yielded_by c.in-None.is c.next.ensures.steps).0
     ∙ sym (keys_held held c.self.invariant.rising)
     ∙ ap keys c.self.view_is

@@ -2,7 +2,7 @@
 use Rattle.std.proofs.Common.{◌≡◌, ℕ, Bool, true, false, cond, List, Option, Some, None, Result, Ok, Err, refl, sym, ◌∙◌, ap, subst, inl, inr, ◌⊎◌}
 use Rattle.std.specs.Prelude.{IfOk, IfSome, option_map}
 use Rattle.std.specs.Cmp.Lexicographic.{nat_list_cmp_total}
-use Rattle.std.specs.FinMap.{contains_key, get, insert, remove, get-remove}
+use Rattle.std.specs.FinMap.{contains_key, empty, get, insert, remove, get-remove}
 use Rattle.std.specs.Option.{is_some}
 use Rattle.std.specs.Ordering.{eq_by_cmp}
 use Rattle.std.proofs.lemmas.Bool.{true≢false}
@@ -108,6 +108,11 @@ gone_index held names doubts name none index = changed held _ names _ doubts _ n
 -- the index knows the files of the disk
 abbrev pub Knows : Option Files → NameSet → NameSet → Type 0
 Knows below names doubts = IfSome below (λ files. IsIndex (disk_files files) names doubts)
+
+-- the names that were found, none of them in doubt, where the files are seen as others
+pub known_index : (below opened : Option Files) (names doubts : NameSet) → opened ≡ below → doubts ≡ empty → Knows below names empty → Knows opened names doubts
+known_index below opened names doubts same none index =
+    subst (λ (d : NameSet). Knows opened names d) (sym none) (subst (λ (b : Option Files). Knows b names empty) (sym same) index)
 
 pub open_held : (boot : Option (List ℕ)) (s : FolderState) → s.is_open ≡ true → files_held boot s ≡ option_map disk_files s.below
 open_held boot s begun = ap (λ b. option_map (λ files. cond b (disk_files files) (files_begun boot files)) s.below) begun

@@ -1,9 +1,6 @@
-use Rattle.std.proofs.Common.{◌≡◌, ◌∙◌, sym, ap, subst, Option}
-use Rattle.std.specs.FinMap.{empty}
-use Rattle.sp_outside.specs.Files.{Files}
+use Rattle.std.proofs.Common.{◌∙◌, sym, ap}
 use Rattle.sp_outside.specs.FolderFiles.{FolderState}
-use Rattle.sp_outside.specs.NameIndex.{NameSet}
-use Rattle.sp_outside.proofs.Indexed.{Knows}
+use Rattle.sp_outside.proofs.Indexed.{known_index}
 use Rattle.sp_outside.proofs.folder_disk.FolderDisk.know.Goals as goal
 
 pub names_found-requires : goal.names_found-requires
@@ -13,7 +10,5 @@ names_found-requires g c = sym (ap (λ (s : FolderState). s.is_known) c.self.vie
 pub invariant_of-self : goal.invariant_of-self
 invariant_of-self g c = record {
   begun = λ known. ap (λ (s : FolderState). s.is_open) c.self-2.view_is ∙ c.in_ok-self-inside.ensures.begun;
-  index = λ known.
-      subst (λ (doubts : NameSet). Knows (g.F.RawFiles.files c.self-2.inside.below) _ doubts) (sym c.new.ensures)
-      (subst (λ (told : Option Files). Knows told _ empty) (sym (ap (λ (s : FolderState). s.below) c.self-2.view_is)) c.in_ok-self-inside.ensures.index);
+  index = λ known. known_index _ _ _ _ (ap (λ (s : FolderState). s.below) c.self-2.view_is) c.new.ensures c.in_ok-self-inside.ensures.index;
 }

@@ -1,5 +1,6 @@
 use Rattle.std.proofs.Common.{◌≡◌, true, None, Option, sym, ◌∙◌, ap, subst}
 use Rattle.std.specs.Prelude.{IfSome}
+use Rattle.std.specs.FinMap.{remove}
 use Rattle.sp_outside.specs.Files.{Files, IsOldOrNew, file_at, told_without}
 use Rattle.sp_outside.specs.FolderFiles.{FolderState, files_held}
 use Rattle.sp_outside.specs.NameIndex.{NameSet}
@@ -54,7 +55,7 @@ returns-in-Err-clause-err g c =
     let new = g.F.RawFiles.files c.unlink.new.self in
     let is = held_now boot told _ c.know.new.self c.self.view_is c.in_ok-know.ensures.begun c.in_ok-know.ensures.same in
     let begun : c.self.inside.is_open ≡ true = ap (λ (s : FolderState). s.is_open) c.self.view_is ∙ c.in_ok-know.ensures.begun in
-    subst (λ (t : Option Files). IsOldOrNew told (told_without told c.args.name.now) t _) (sym (open_parts boot new c.self.inside.is_open begun))
+    subst (λ (t : Option Files). IsOldOrNew told (told_without told c.args.name.now) t c.in-Err.fault) (sym (open_parts boot new c.self.inside.is_open begun))
     (removal_err below new told c.args.name.now _ is c.in-Err.ensures.err)
 
 pub returns-in-Err-clause-own : goal.returns-in-Err-clause-own
@@ -72,7 +73,7 @@ invariant_of-self-2 g c =
       begun = c.self.invariant.begun;
       index = λ known.
           subst (λ (names : NameSet). Knows new names c.remove-2.new.self) (sym c.remove.ensures)
-          (subst (λ (doubts : NameSet). Knows new _ doubts) (sym c.remove-2.ensures)
+          (subst (λ (doubts : NameSet). Knows new (remove c.self.inside.names c.args.name.now) doubts) (sym c.remove-2.ensures)
           (after_removal below new c.self.inside.names c.self.inside.doubts c.args.name.now (c.self.invariant.index known) c.in_default.ensures.ok));
     }
 

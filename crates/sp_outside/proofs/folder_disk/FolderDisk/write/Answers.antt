@@ -39,7 +39,7 @@ returns-in-Err-clause-err g c =
     let inside = sym c.is_inside.ensures ∙ c.if-not-is_inside.false in
     let is = held_now boot told _ c.know.new.self c.self.view_is c.in_ok-know.ensures.begun c.in_ok-know.ensures.same in
     let begun : c.self.inside.is_open ≡ true = ap (λ (s : FolderState). s.is_open) c.self.view_is ∙ c.in_ok-know.ensures.begun in
-    subst (λ (t : Option Files). IsOldOrNew told (told_with told c.args.name.now c.args.bytes.now) t _) (sym (c.settle.ensures.same ∙ open_parts boot new c.self.inside.is_open begun))
+    subst (λ (t : Option Files). IsOldOrNew told (told_with told c.args.name.now c.args.bytes.now) t c.in-Err.fault) (sym (c.settle-in-Err.ensures.same ∙ open_parts boot new c.self.inside.is_open begun))
     (put_err below new told c.args.name.now c.args.bytes.now _ inside is c.in-Err.ensures.err)
 
 pub returns-in-Err-clause-own : goal.returns-in-Err-clause-own
@@ -47,7 +47,7 @@ returns-in-Err-clause-own g c =
     let below = g.F.RawFiles.files c.self.inside.below in
     let new = g.F.RawFiles.files c.replace.new.self in
     let inside = sym c.is_inside.ensures ∙ c.if-not-is_inside.false in
-    own_seen c.args.self.now.below new c.settle.new.self.below c.settle.ensures.below
+    own_seen c.args.self.now.below new c.settle-in-Err.new.self.below c.settle-in-Err.ensures.below
     (own_after c.args.self.now.below c.know.new.self.below below new (ap (λ (s : FolderState). s.below) c.self.view_is) c.know.ensures.own (own_with_or_not below new c.args.name.now c.args.bytes.now _ inside c.in-Err.ensures.err))
 
 -- the file is written

@@ -64,6 +64,13 @@ fn at_path<R: Files>(rt: &R, path: &str) -> io::Result<Option<Metadata>> {
     }
 }
 
+fn is_file<R: Files>(rt: &R, path: &str) -> io::Result<bool> {
+    match at_path(rt, path)? {
+        Some(found) => Ok(found.is_file()),
+        None => Ok(false),
+    }
+}
+
 fn is_absent(fault: &io::Error) -> bool {
     matches!(fault.kind(), ErrorKind::NotFound | ErrorKind::NotADirectory)
 }
@@ -162,7 +169,7 @@ impl<R: Files<File = File> + AllocGlobal + Clone + Drop> FolderFiles<R> {
         let found = fs::metadata(&self.rt, self.folder.as_str());
         make_folder(&self.rt, self.folder.as_str(), found)?;
         self.point_at(LOCK_FILE)?;
-        let stands = matches!(at_path(&self.rt, self.path())?, Some(found) if found.is_file());
+        let stands = is_file(&self.rt, self.path())?;
         if stands && self.lock.is_some() {
             return Ok(());
         }

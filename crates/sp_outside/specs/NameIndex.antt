@@ -5,7 +5,7 @@ use Rattle.sp_base.specs.Names.{by_name}
 use Rattle.sp_base.specs.Texts.{Text}
 use Rattle.sp_outside.specs.FileNames.{is_inside, is_left}
 use Rattle.sp_outside.specs.Files.{Files, file_at, without_file}
-use Rattle.sp_outside.specs.FolderFiles.{boot_file, disk_files}
+use Rattle.sp_outside.specs.FolderFiles.{WhileTold, boot_file, disk_files}
 
 -- a set of names
 abbrev pub NameSet : Type 0
@@ -49,6 +49,10 @@ IsNamesOfDisk found names = (name : Text) → contains_key names name ≡ true �
 -- the file of a name is gone
 abbrev pub IsWithout : Text → Files → Files → Type 0
 IsWithout name old new = new ≡ without_file old name
+
+-- the same, where the files are told
+abbrev pub IsGone : Text → Option Files → Option Files → Type 0
+IsGone name old new = WhileTold (IsWithout name) old new
 
 -- the file of a name is gone, where it is one of the disk, and nothing else is changed
 abbrev pub IsTaken : Text → Files → Files → Type 0

@@ -6,7 +6,7 @@ ghost use Rattle.sp_outside.specs.FileNames.{is_left};
 ghost use Rattle.sp_outside.specs.Files.{file_at};
 ghost use Rattle.sp_outside.specs.FolderFiles as spec;
 ghost use Rattle.sp_outside.specs.FolderFiles.{HasNoFault, IsNamesOf, WhileTold, boot_file, disk_files, files_begun, is_same_boot, session_file};
-ghost use Rattle.sp_outside.specs.NameIndex.{IsLeftGone, IsLeftOrNot, IsLeftTaken, IsNamesOfDisk, IsRestKept, IsSameBut, IsTaken, IsTakenOrNot, IsWithout};
+ghost use Rattle.sp_outside.specs.NameIndex.{IsGone, IsLeftGone, IsLeftOrNot, IsLeftTaken, IsNamesOfDisk, IsRestKept, IsSameBut, IsTaken, IsTakenOrNot};
 
 use crate::file_name::{is_inside, is_left, is_name};
 use crate::names::Names;
@@ -129,7 +129,7 @@ pub(crate) fn begin<F: RawFiles>(
 // One that can't be taken away is no file of the disk either. It stands in the way of its file.
 fn remove_left<F: RawFiles>(below: &mut F, name: &str)
     ensures left { WhileTold (IsLeftOrNot name.now) (F.files below.old) (F.files below.new) }
-    ensures gone { HasNoFault (F.faults below.old) (F.faults below.new) → is_left name.now ≡ true → WhileTold (IsWithout name.now) (F.files below.old) (F.files below.new) }
+    ensures gone { HasNoFault (F.faults below.old) (F.faults below.new) → is_left name.now ≡ true → IsGone name.now (F.files below.old) (F.files below.new) }
     ensures rising { F.faults below.old ≤ F.faults below.new }
 {
     if is_left(name) {

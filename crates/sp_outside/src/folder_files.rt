@@ -169,22 +169,36 @@ impl<R: Files<File = File> + AllocGlobal + Clone + Drop> FolderFiles<R> {
         let found = fs::metadata(&self.rt, self.folder.as_str());
         make_folder(&self.rt, self.folder.as_str(), found)?;
         self.point_at(LOCK_FILE)?;
-        let stands = is_file(&self.rt, self.path())?;
-        if stands && self.lock.is_some() {
+        let has_file = self.has_file()?;
+        if has_file && self.lock.is_some() {
             return Ok(());
         }
-        // A new file is one that no link leads elsewhere.
-        let lock = if stands {
-            OpenOptions::new().write(true).open(&self.rt, self.path())?
-        } else {
-            File::create_new(&self.rt, self.path())?
-        };
+        let lock = self.open_lock(has_file)?;
         self.point_at(LOCK_FILE_IN_CAPITALS)?;
-        if lock.try_lock().is_err() || at_path(&self.rt, self.path())?.is_some() {
+        if lock.try_lock().is_err() || self.has_any()? {
             return Err(DiskFault::Failed);
         }
         self.lock = Some(lock);
         Ok(())
+    }
+
+    // A file stands at the path.
+    fn has_file(&self) -> io::Result<bool> {
+        is_file(&self.rt, self.path())
+    }
+
+    // A file stands there, a folder, a link, or anything else.
+    fn has_any(&self) -> io::Result<bool> {
+        Ok(at_path(&self.rt, self.path())?.is_some())
+    }
+
+    // Opens the file at the path, or makes it. A new file is one that no link leads elsewhere.
+    fn open_lock(&self, has_file: bool) -> io::Result<File> {
+        if has_file {
+            OpenOptions::new().write(true).open(&self.rt, self.path())
+        } else {
+            File::create_new(&self.rt, self.path())
+        }
     }
 
     // Makes those folders on the way to a file that aren't there, the first among them. Each that is there is a folder, and no link.

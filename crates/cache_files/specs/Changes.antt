@@ -5,7 +5,7 @@ use Rattle.sp_base.specs.Bytes.{AreBytes}
 use Rattle.sp_base.specs.Texts.{Segments, Text}
 use Rattle.sp_base.specs.declared.answer.Answer.{Answer}
 use Rattle.sp_outside.specs.Calls.{Call}
-use Rattle.sp_outside.specs.Files.{Files, file_at}
+use Rattle.sp_outside.specs.Files.{Files, file_at, with_file, without_file}
 use Rattle.cover_rules.specs.Pages.{IsPageKey}
 use Rattle.cover_rules.specs.declared.page.PageKey.{PageKey}
 use Rattle.cover_rules.specs.declared.stamp.Stamp.{Stamp}
@@ -72,3 +72,37 @@ LeftByDryPut old new key stamp answer = (asked : Option (List Call)) × ((made :
 -- a drop that failed leaves these files
 abbrev pub LeftByDrop : Files → Files → PageKey → Type 0
 LeftByDrop old new key = (asked : Option (List Call)) × ((made : Option (List Call)) × ((fault : FileFault) × IsDropLeft asked made (Some old) (Some new) key fault))
+
+-- ---- whatever is put, and however a put fails
+
+-- this is so of all files, and of each answer that is put with a stamp under a key
+abbrev pub WhateverIsPut : (Files → PageKey → Stamp → Answer → Type 0) → Type 0
+WhateverIsPut IsSo = (files : Files) (key : PageKey) (stamp : Stamp) (answer : Answer) → IsSo files key stamp answer
+
+-- this is so of the files before and after
+abbrev pub HoweverItIsPut : (Files → Files → PageKey → Stamp → Answer → Type 0) → Type 0
+HoweverItIsPut IsSo = (files new : Files) (key : PageKey) (stamp : Stamp) (answer : Answer) → IsSo files new key stamp answer
+
+-- bytes that are written as the stamp of a folder change no page
+abbrev pub StampKeepsPages : Files → Segments → Text → Type 0
+StampKeepsPages files folder bytes = KeepsPages files (with_file files (stat_name folder) bytes)
+
+-- nor do they change the number of the session
+abbrev pub StampKeepsEpoch : Files → Segments → Text → Type 0
+StampKeepsEpoch files folder bytes = epoch_held (with_file files (stat_name folder) bytes) ≡ epoch_held files
+
+-- the files as a put leaves them before it writes the head: the old head is gone, and the body is there
+abbrev pub files_amid_put : Files → PageKey → Text → Files
+files_amid_put files key bytes = with_file (without_file files (page_head_name key)) (page_body_name key) bytes
+
+-- the page of a key is as it was, or there is none
+abbrev pub HasOldPageOrNone : Files → Files → PageKey → Type 0
+HasOldPageOrNone old new key = (page_at new key ≡ page_at old key) ⊎ (page_at new key ≡ None)
+
+-- the head of a key is as it was, or there is none
+abbrev pub HasOldHeadOrNone : Files → Files → PageKey → Type 0
+HasOldHeadOrNone old new key = (head_at new key ≡ head_at old key) ⊎ (head_at new key ≡ None)
+
+-- a file that goes, but for its two, leaves the page of a key as it was
+abbrev pub KeepsPageBeside : Files → PageKey → Text → Type 0
+KeepsPageBeside files key name = name ≢ page_head_name key → name ≢ page_body_name key → HasSamePage files (without_file files name) key

@@ -1,6 +1,7 @@
 -- The number of a session, which .epoch counts.
-use Rattle.std.specs.Prelude.{◌==◌, ◌+◌, ◌≡◌, ◌⊎◌, ◌∷◌, [], ℕ, true, false, List, Option, Some, None, Result, Ok, Err, IfSome, if◌then◌else◌, option_and_then, unwrap_or}
+use Rattle.std.specs.Prelude.{◌==◌, ◌+◌, ◌≡◌, ◌⊎◌, ◌∷◌, [], ℕ, true, false, List, Option, Some, None, Result, Ok, Err, IfSome, if◌then◌else◌, option_and_then, unwrap_or, ◌≢◌}
 use Rattle.sp_base.specs.Limits.{greatest_u64}
+use Rattle.sp_base.specs.Texts.{Text}
 use Rattle.sp_outside.specs.Causes.{Rose}
 use Rattle.sp_outside.specs.Calls.{Call, Get, Put, told_calls}
 use Rattle.sp_outside.specs.Files.{Files, file_at, told_with, with_file}
@@ -74,3 +75,11 @@ HasOpenCause before after (Err Disk) = Rose before after
 HasOpenCause before after (Err Foreign) = after ≡ before
 HasOpenCause before after (Err EpochEnd) = after ≡ before
 HasOpenCause before after (Err NoMemory) = after ≡ before
+
+-- the number of the session is as it was, or the next
+abbrev pub HasOldNumberOrNext : Files → Files → Type 0
+HasOldNumberOrNext old new = (epoch_held new ≡ epoch_held old) ⊎ (next_epoch old ≡ Ok (epoch_held new))
+
+-- a file but for that of the number is as it was
+abbrev pub KeepsFileBesideNumber : Files → Files → Text → Type 0
+KeepsFileBesideNumber old new name = name ≢ epoch_name → file_at new name ≡ file_at old name

@@ -1,5 +1,5 @@
 -- The stamps that the files of the docroot hold, beside the number of the session.
-use Rattle.std.specs.Prelude.{◌≡◌, ◌⊎◌, ◌≤◌, ◌<◌, ◌^◌, IsTrue, Some, option_and_then}
+use Rattle.std.specs.Prelude.{◌≡◌, ◌⊎◌, ◌≤◌, ◌<◌, ◌^◌, IsTrue, Some, option_and_then, ℕ}
 use Rattle.std.specs.List.{AllByRecursion}
 use Rattle.sp_base.specs.Bytes.{AreBytes}
 use Rattle.sp_base.specs.Paths.{is_path}
@@ -14,6 +14,7 @@ use Rattle.docroot_format.specs.Readings.{stat_of}
 use Rattle.cache_files.specs.declared.head_note.HeadNote.{HeadNote}
 use Rattle.cache_files.specs.Epochs.{epoch_held}
 use Rattle.cache_files.specs.Pages.{IsPagePut, head_at}
+use Rattle.cache_files.specs.Changes.{LeftByPut}
 
 -- the head of a page has this stamp
 abbrev pub IsPageStamp : Files → Stamp → Type 0
@@ -47,3 +48,12 @@ pub record IsSessionTouch (files : Files) (folder : Segments) (stamp : Stamp) : 
   pub epoch : stamp.epoch < 2 ^ 64
   pub count : stamp.count < 2 ^ 64
   pub session : stamp.epoch ≤ epoch_held files
+
+-- a put of the session, or of an earlier one, keeps the order of stamps also where it fails
+abbrev pub FailedPutsKeepOrder : Type 0
+FailedPutsKeepOrder = (files new : Files) (key : PageKey) (stamp : Stamp) (answer : Answer) → IsSessionPut files key stamp answer → LeftByPut files new key stamp answer
+    → KeepsOrder files new
+
+-- the number is above that of the stamp, where the files hold it
+abbrev pub IsAboveHeld : Files → ℕ → Stamp → Type 0
+IsAboveHeld files epoch stamp = HoldsStamp files stamp → stamp.epoch < epoch

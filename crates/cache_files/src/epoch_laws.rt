@@ -1,24 +1,20 @@
 //! The number of a session is above each stamp of an earlier one: laws, on functions that do nothing.
-ghost use Rattle.std.specs.Prelude.{◌≡◌, ◌≢◌, ◌⊎◌, ◌<◌, ◌≤◌, ◌^◌, ℕ, List, Option, Some, None, Ok};
+ghost use Rattle.std.specs.Prelude.{◌≡◌, ◌≢◌, ◌⊎◌, ℕ, Some, Ok};
 ghost use Rattle.std.specs.FinMap.{empty};
-ghost use Rattle.std.specs.List.{AllByRecursion};
-ghost use Rattle.sp_base.specs.Bytes.{AreBytes};
 ghost use Rattle.sp_base.specs.Texts.{Segments, Text};
-ghost use Rattle.sp_base.specs.declared.answer.Answer.{Answer};
-ghost use Rattle.sp_outside.specs.Calls.{Call};
-ghost use Rattle.sp_outside.specs.Files.{Files, file_at, with_file, without_file};
+ghost use Rattle.sp_outside.specs.Files.{Files, with_file, without_file};
 ghost use Rattle.docroot_format.specs.Names.{epoch_name, stat_name};
-ghost use Rattle.docroot_format.specs.Texts.{epoch_text, stat_text};
+ghost use Rattle.docroot_format.specs.Texts.{stat_text};
 ghost use Rattle.cover_rules.specs.Pages.{IsPageKey};
 ghost use Rattle.cover_rules.specs.declared.page.PageKey.{PageKey};
 ghost use Rattle.cover_rules.specs.declared.stamp.Stamp.{Stamp};
-ghost use Rattle.cache_files.specs.Changes.{HasNoPage, LeftByDrop, LeftByPut};
-ghost use Rattle.cache_files.specs.Epochs.{IsOpened, LeftByOpening, epoch_held, files_with_epoch, next_epoch};
+ghost use Rattle.cache_files.specs.Changes.{HasNoPage, LeftByDrop, WhateverIsPut};
+ghost use Rattle.cache_files.specs.Epochs.{IsOpened, LeftByOpening, epoch_held, files_with_epoch, next_epoch, HasOldNumberOrNext, KeepsFileBesideNumber};
 ghost use Rattle.cache_files.specs.declared.epoch.OpenFault.{OpenFault};
 ghost use Rattle.cache_files.specs.declared.epoch.OpenFault.TheVariants.{Disk as open_disk};
 ghost use Rattle.cache_files.specs.declared.page.Page.{Page};
-ghost use Rattle.cache_files.specs.HeldStamps.{HasNoLaterStamp, HoldsStamp, IsPageStamp, IsSessionPut, IsSessionTouch, KeepsOrder};
-ghost use Rattle.cache_files.specs.Pages.{IsPagePut, files_with_page, files_without_page, page_at};
+ghost use Rattle.cache_files.specs.HeldStamps.{HasNoLaterStamp, IsPageStamp, IsSessionPut, IsSessionTouch, KeepsOrder, FailedPutsKeepOrder, IsAboveHeld};
+ghost use Rattle.cache_files.specs.Pages.{files_with_page, files_without_page, page_at};
 
 use docroot_format::{names_are_apart, texts_are_read_back, what_reads_is_its_text};
 use sp_outside::files_have_names;
@@ -26,7 +22,7 @@ use sp_outside::files_have_names;
 /// A session that is opened has a number above each stamp in the files, and these then hold no stamp later than that, if they held none
 /// later than their own number before (`HasNoLaterStamp`). An opening that failed leaves none either.
 pub fn a_session_is_after_every_stamp()
-    ensures above { (files : Files) (epoch : ℕ) (stamp : Stamp) → HasNoLaterStamp files → next_epoch files ≡ Ok epoch → HoldsStamp files stamp → stamp.epoch < epoch }
+    ensures above { (files : Files) (epoch : ℕ) (stamp : Stamp) → HasNoLaterStamp files → next_epoch files ≡ Ok epoch → IsAboveHeld files epoch stamp }
     ensures opened { (files : Files) (epoch : ℕ) → next_epoch files ≡ Ok epoch → KeepsOrder files (files_with_epoch files epoch) }
     ensures failed { (files new : Files) (fault : OpenFault) → LeftByOpening files new fault → KeepsOrder files new }
 {
@@ -39,14 +35,14 @@ pub fn a_session_is_after_every_stamp()
 
 /// A page or a stamp of the session, or of an earlier one, is no later stamp, and neither does a file that goes leave one.
 pub fn no_stamp_is_later_than_the_session()
-    ensures put { (files : Files) (key : PageKey) (stamp : Stamp) (answer : Answer) → IsSessionPut files key stamp answer → KeepsOrder files (files_with_page files key stamp answer) }
+    ensures put { WhateverIsPut (λ files key stamp answer. IsSessionPut files key stamp answer → KeepsOrder files (files_with_page files key stamp answer)) }
     ensures dropped { (files : Files) (key : PageKey) → IsPageKey key → KeepsOrder files (files_without_page files key) }
     ensures touched { (files : Files) (folder : Segments) (stamp : Stamp) → IsSessionTouch files folder stamp
         → KeepsOrder files (with_file files (stat_name folder) (stat_text stamp.epoch stamp.count)) }
     ensures removed { (files : Files) (name : Text) → name ≢ epoch_name → KeepsOrder files (without_file files name) }
 
     // The same of what a put or a drop leaves that failed.
-    ensures put_failed { (files new : Files) (key : PageKey) (stamp : Stamp) (answer : Answer) → IsSessionPut files key stamp answer → LeftByPut files new key stamp answer → KeepsOrder files new }
+    ensures put_failed { FailedPutsKeepOrder }
     ensures drop_failed { (files new : Files) (key : PageKey) → IsPageKey key → LeftByDrop files new key → KeepsOrder files new }
 {
     files_have_names();
@@ -57,8 +53,8 @@ pub fn no_stamp_is_later_than_the_session()
 /// An opening that failed leaves the old number or, where the disk failed as it was written, the next; each other file is as it was.
 pub fn a_failed_opening_leaves_the_old_number_or_the_next()
     ensures whole { (files new : Files) (fault : OpenFault) → LeftByOpening files new fault → (new ≡ files) ⊎ ((fault ≡ open_disk) × IsOpened files new) }
-    ensures number { (files new : Files) (fault : OpenFault) → LeftByOpening files new fault → (epoch_held new ≡ epoch_held files) ⊎ (next_epoch files ≡ Ok (epoch_held new)) }
-    ensures beside { (files new : Files) (fault : OpenFault) (name : Text) → LeftByOpening files new fault → name ≢ epoch_name → file_at new name ≡ file_at files name }
+    ensures number { (files new : Files) (fault : OpenFault) → LeftByOpening files new fault → HasOldNumberOrNext files new }
+    ensures beside { (files new : Files) (fault : OpenFault) (name : Text) → LeftByOpening files new fault → KeepsFileBesideNumber files new name }
 {
     files_have_names();
     texts_are_read_back();

@@ -1,16 +1,16 @@
 //! What follows from the definitions of pages and epochs: laws, on functions that do nothing.
-ghost use Rattle.std.specs.Prelude.{◌≡◌, ◌≢◌, ◌⊎◌, ◌<◌, ◌≤◌, ◌+◌, ℕ, None, Ok, option_and_then};
+ghost use Rattle.std.specs.Prelude.{◌≡◌, ◌≢◌, ◌<◌, ◌≤◌, ◌+◌, ℕ, None, Ok, option_and_then};
 ghost use Rattle.std.specs.List.{AllByRecursion};
 ghost use Rattle.sp_base.specs.Bytes.{AreBytes};
 ghost use Rattle.sp_base.specs.Texts.{Segments, Text};
 ghost use Rattle.sp_base.specs.declared.answer.Answer.{Answer};
 ghost use Rattle.sp_outside.specs.Files.{Files, with_file, without_file};
-ghost use Rattle.docroot_format.specs.Names.{epoch_name, stat_name};
+ghost use Rattle.docroot_format.specs.Names.{epoch_name};
 ghost use Rattle.docroot_format.specs.Texts.{epoch_text};
 ghost use Rattle.cover_rules.specs.Pages.{IsPageKey};
 ghost use Rattle.cover_rules.specs.declared.page.PageKey.{PageKey};
 ghost use Rattle.cover_rules.specs.declared.stamp.Stamp.{Stamp};
-ghost use Rattle.cache_files.specs.Changes.{HasNoPage, HasPage, HasSamePage, IsOldNoneOrNew, IsOldOrNone, KeepsFiles, KeepsOtherPages, KeepsPages, KeepsStamps, LeftByDrop, LeftByDryPut, LeftByPut};
+ghost use Rattle.cache_files.specs.Changes.{HasNoPage, HasPage, IsOldNoneOrNew, IsOldOrNone, KeepsFiles, KeepsOtherPages, KeepsPages, KeepsStamps, LeftByDrop, LeftByDryPut, LeftByPut, StampKeepsPages, StampKeepsEpoch, files_amid_put, HasOldPageOrNone, HasOldHeadOrNone, KeepsPageBeside, HoweverItIsPut, WhateverIsPut};
 ghost use Rattle.cache_files.specs.Epochs.{epoch_held, greatest_epoch, next_epoch};
 ghost use Rattle.cache_files.specs.Pages.{IsPagePut, files_with_page, files_without_page, head_at, known_at, page_at, page_body_name, page_head_name};
 
@@ -19,7 +19,7 @@ use sp_outside::files_have_names;
 
 /// A page that was put is the page of its key, with an empty location, and its head says so.
 pub fn a_page_is_read_back()
-    ensures { (files : Files) (key : PageKey) (stamp : Stamp) (answer : Answer) → IsPagePut stamp answer → HasPage (files_with_page files key stamp answer) key stamp answer }
+    ensures { WhateverIsPut (λ files key stamp answer. IsPagePut stamp answer → HasPage (files_with_page files key stamp answer) key stamp answer) }
 {
     files_have_names();
     texts_are_read_back();
@@ -33,7 +33,7 @@ pub fn a_page_is_its_head_and_its_body()
 /// A page is there as it was while another is put, and while another is dropped, and one that was dropped isn't there. The same is true
 /// of the heads of pages.
 pub fn pages_have_files_of_their_own()
-    ensures put { (files : Files) (key : PageKey) (stamp : Stamp) (answer : Answer) → IsPageKey key → KeepsOtherPages files (files_with_page files key stamp answer) key }
+    ensures put { WhateverIsPut (λ files key stamp answer. IsPageKey key → KeepsOtherPages files (files_with_page files key stamp answer) key) }
     ensures dropped { (files : Files) (key : PageKey) → HasNoPage (files_without_page files key) key }
     ensures beside { (files : Files) (key : PageKey) → IsPageKey key → KeepsOtherPages files (files_without_page files key) key }
 {
@@ -45,11 +45,11 @@ pub fn pages_have_files_of_their_own()
 /// Bytes that are written as a folder's stamp or as the number change no page, and such a stamp not the number. Neither does a removal
 /// of another file than that of the number.
 pub fn pages_stand_apart()
-    ensures put { (files : Files) (key : PageKey) (stamp : Stamp) (answer : Answer) → IsPageKey key → KeepsStamps files (files_with_page files key stamp answer) }
+    ensures put { WhateverIsPut (λ files key stamp answer. IsPageKey key → KeepsStamps files (files_with_page files key stamp answer)) }
     ensures dropped { (files : Files) (key : PageKey) → IsPageKey key → KeepsStamps files (files_without_page files key) }
-    ensures touched { (files : Files) (folder : Segments) (bytes : Text) → AllByRecursion AreBytes folder → KeepsPages files (with_file files (stat_name folder) bytes) }
+    ensures touched { (files : Files) (folder : Segments) (bytes : Text) → AllByRecursion AreBytes folder → StampKeepsPages files folder bytes }
     ensures numbered { (files : Files) (bytes : Text) → KeepsPages files (with_file files epoch_name bytes) }
-    ensures epoch { (files : Files) (folder : Segments) (bytes : Text) → AllByRecursion AreBytes folder → epoch_held (with_file files (stat_name folder) bytes) ≡ epoch_held files }
+    ensures epoch { (files : Files) (folder : Segments) (bytes : Text) → AllByRecursion AreBytes folder → StampKeepsEpoch files folder bytes }
     ensures removed { (files : Files) (name : Text) → name ≢ epoch_name → epoch_held (without_file files name) ≡ epoch_held files }
 {
     files_have_names();
@@ -60,7 +60,7 @@ pub fn pages_stand_apart()
 /// is written.
 pub fn a_stopped_put_leaves_no_page()
     ensures headless { (files : Files) (key : PageKey) → HasNoPage (without_file files (page_head_name key)) key }
-    ensures written { (files : Files) (key : PageKey) (bytes : Text) → HasNoPage (with_file (without_file files (page_head_name key)) (page_body_name key) bytes) key }
+    ensures written { (files : Files) (key : PageKey) (bytes : Text) → HasNoPage (files_amid_put files key bytes) key }
 {
     files_have_names();
 }
@@ -68,9 +68,9 @@ pub fn a_stopped_put_leaves_no_page()
 /// A file that is taken away, whichever it is, leaves each page as it was, or takes it away. It takes a page away where it is its head or
 /// its body; without its body its head stays as it was.
 pub fn a_removal_leaves_pages_or_none()
-    ensures page { (files : Files) (key : PageKey) (name : Text) → (page_at (without_file files name) key ≡ page_at files key) ⊎ (page_at (without_file files name) key ≡ None) }
-    ensures head { (files : Files) (key : PageKey) (name : Text) → (head_at (without_file files name) key ≡ head_at files key) ⊎ (head_at (without_file files name) key ≡ None) }
-    ensures beside { (files : Files) (key : PageKey) (name : Text) → name ≢ page_head_name key → name ≢ page_body_name key → HasSamePage files (without_file files name) key }
+    ensures page { (files : Files) (key : PageKey) (name : Text) → HasOldPageOrNone files (without_file files name) key }
+    ensures head { (files : Files) (key : PageKey) (name : Text) → HasOldHeadOrNone files (without_file files name) key }
+    ensures beside { (files : Files) (key : PageKey) (name : Text) → KeepsPageBeside files key name }
     ensures headless { (files : Files) (key : PageKey) → HasNoPage (without_file files (page_head_name key)) key }
     ensures bodiless { (files : Files) (key : PageKey) → page_at (without_file files (page_body_name key)) key ≡ None }
     ensures its_head { (files : Files) (key : PageKey) (name : Text) → name ≢ page_head_name key → head_at (without_file files name) key ≡ head_at files key }
@@ -82,10 +82,10 @@ pub fn a_removal_leaves_pages_or_none()
 /// A put that failed leaves the old page, no page, or the new one, and each other page, each stamp, the number of the session and each
 /// other file as it was.
 pub fn a_failed_put_leaves_whole_pages()
-    ensures page { (files new : Files) (key : PageKey) (stamp : Stamp) (answer : Answer) → LeftByPut files new key stamp answer → IsOldNoneOrNew files new key stamp answer }
-    ensures others { (files new : Files) (key : PageKey) (stamp : Stamp) (answer : Answer) → IsPageKey key → LeftByPut files new key stamp answer → KeepsOtherPages files new key }
-    ensures stamps { (files new : Files) (key : PageKey) (stamp : Stamp) (answer : Answer) → IsPageKey key → LeftByPut files new key stamp answer → KeepsStamps files new }
-    ensures files { (files new : Files) (key : PageKey) (stamp : Stamp) (answer : Answer) → LeftByPut files new key stamp answer → KeepsFiles files new key }
+    ensures page { HoweverItIsPut (λ files new key stamp answer. LeftByPut files new key stamp answer → IsOldNoneOrNew files new key stamp answer) }
+    ensures others { HoweverItIsPut (λ files new key stamp answer. IsPageKey key → LeftByPut files new key stamp answer → KeepsOtherPages files new key) }
+    ensures stamps { HoweverItIsPut (λ files new key stamp answer. IsPageKey key → LeftByPut files new key stamp answer → KeepsStamps files new) }
+    ensures files { HoweverItIsPut (λ files new key stamp answer. LeftByPut files new key stamp answer → KeepsFiles files new key) }
 {
     files_have_names();
     names_are_apart();

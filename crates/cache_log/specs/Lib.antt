@@ -4,3 +4,4 @@ pub mod Entries
 pub mod Hits
 pub mod Flown
 pub mod Rules
+pub mod Laws

@@ -1,15 +1,16 @@
 //! What follows from the definitions of the log: laws, on functions that do nothing.
-ghost use Rattle.std.specs.Prelude.{◌≡◌, ◌<◌, ◌≤◌, ◌↔◌, ◌++◌, ℕ, false, List, ◌∷◌, [], IsTrue, Option, Some, None};
+ghost use Rattle.std.specs.Prelude.{◌≡◌, ◌<◌, ◌≤◌, ◌↔◌, ℕ, false, List, IsTrue, Option};
 ghost use Rattle.sp_base.specs.declared.answer.Answer.{Answer};
 ghost use Rattle.any_config.specs.declared.farm.Farm.{Farm};
 ghost use Rattle.cover_rules.specs.declared.page.PageKey.{PageKey};
 ghost use Rattle.cover_rules.specs.declared.invalidation.Invalidation.{Invalidation};
 ghost use Rattle.dispatch_rules.specs.Caching.{is_storable};
 ghost use Rattle.cache_log.specs.Ids.{FlightId, FlushId};
-ghost use Rattle.cache_log.specs.Entries.{LogEntry, Asked, Landed, Lost, Begun, Sliced, Ended, Hit, Up, Session, Fate, Kept, Done, Failed, downs_since, flights_asked, flushes_begun, is_up, last_epoch};
-ghost use Rattle.cache_log.specs.Hits.{Covers, HasDone, InAir, IsClear, MayHit, MustHit, NoneDoneSince, Unfinished, stored};
-ghost use Rattle.cache_log.specs.Flown.{HasEpoch, IsClearFlight, IsDoneFlush, IsFlying, IsOwedHit, IsPermittedBy, IsPermittedHit, IsUnfinishedFlush, since_asking};
-ghost use Rattle.cache_log.specs.Rules.{AllAllowed, Allowed, CallConditions, IsAboveAll, IsIdle, IsLegal};
+ghost use Rattle.cache_log.specs.Entries.{LogEntry, downs_since, is_up, last_epoch};
+ghost use Rattle.cache_log.specs.Hits.{HasDone, InAir, IsClear, MayHit, MustHit, NoneDoneSince, Unfinished};
+ghost use Rattle.cache_log.specs.Flown.{HasEpoch, IsClearFlight, IsDoneFlush, IsFlying, IsOwedHit, IsUnfinishedFlush};
+ghost use Rattle.cache_log.specs.Rules.{CallConditions, IsAboveAll, IsIdle, IsLegal};
+ghost use Rattle.cache_log.specs.Laws.{StaysLegal, WasAllowed, two_sessions, WasPermitted, KeptLandingsWereClear, FlushesHaveOneInvalidation, FlightsHaveTheirNumbers, FlushesHaveTheirNumbers, ClearFlightsAreUncovered, PermitsOfLandings, PermittedHitsWereAskedSince, IsTheOneAnswer, OwedHitsAreUncovered, KeptLandingsAreOwed};
 
 /// A flush is unfinished exactly where it began at a place of the log and has not ended since, and one ended done exactly where it did so at
 /// a place of the log and was unfinished before. A flight is in the air exactly where it was asked at a place of the log, the last one with
@@ -23,22 +24,22 @@ pub fn flights_and_flushes_are_at_places()
 /// A legal log stays legal with the entries of a call that are allowed; and each entry of a legal log was allowed by the log before it, which
 /// is legal too.
 pub fn a_legal_log_grows_by_what_is_allowed()
-    ensures call { (farm : Farm) (under : CallConditions) (entries log : List LogEntry) → AllAllowed farm under entries log → IsLegal farm log → IsLegal farm (entries ++ log) }
-    ensures place { (farm : Farm) (since : List LogEntry) (entry : LogEntry) (before : List LogEntry) → IsLegal farm (since ++ entry ∷ before) → ((under : CallConditions) × Allowed farm under entry before) × IsLegal farm before }
+    ensures call { (farm : Farm) (under : CallConditions) (entries log : List LogEntry) → StaysLegal farm under entries log }
+    ensures place { (farm : Farm) (since : List LogEntry) (entry : LogEntry) (before : List LogEntry) → WasAllowed farm since entry before }
 {}
 
 /// Such a log is legal, whatever page it is about, whatever its answer that may be stored, and whatever is flushed: a session begins; a flight
 /// is asked for the page, and its answer is kept; the page is a hit; a second flight is asked; a flush begins, and a slice leaves more to do;
 /// a restart loses the flight, fails the flush and comes up; and a second session begins.
 pub fn a_log_of_two_sessions_is_legal()
-    ensures { (farm : Farm) (key : PageKey) (answer : Answer) (inv : Invalidation) → IsTrue (is_storable answer) → IsLegal farm (Session 3 ∷ Up 2 ∷ Ended 1 Failed ∷ Lost 2 ∷ Sliced 1 ∷ Begun 1 inv ∷ Asked 2 None ∷ Hit key ∷ Landed 1 (Some key) answer Kept ∷ Asked 1 (Some key) ∷ Session 1 ∷ []) }
+    ensures { (farm : Farm) (key : PageKey) (answer : Answer) (inv : Invalidation) → IsTrue (is_storable answer) → IsLegal farm (two_sessions key answer inv) }
 {}
 
 /// At no place of a legal log is there a hit that isn't permitted there, nor a landing that is kept although its flight isn't clear there or
 /// its answer isn't storable.
 pub fn hits_and_landings_of_a_legal_log()
-    ensures hit { (farm : Farm) (since : List LogEntry) (key : PageKey) (before : List LogEntry) → IsLegal farm (since ++ Hit key ∷ before) → (answer : Answer) × IsPermittedHit farm before key answer }
-    ensures kept { (farm : Farm) (since : List LogEntry) (flight : FlightId) (key : PageKey) (given : Answer) (before : List LogEntry) → IsLegal farm (since ++ Landed flight (Some key) given Kept ∷ before) → IsTrue (is_storable given) × IsClearFlight farm before flight key }
+    ensures hit { (farm : Farm) (since : List LogEntry) (key : PageKey) (before : List LogEntry) → WasPermitted farm since key before }
+    ensures kept { KeptLandingsWereClear }
 {}
 
 /// While a cache is up, no restart has gone down since the last epoch; and of a legal log, while it isn't up, no flight is in the air and no
@@ -60,9 +61,9 @@ pub fn epochs_rise()
 /// as many as were asked or have begun in the session.
 pub fn flights_and_flushes_have_their_numbers()
     ensures key { (log : List LogEntry) (flight : FlightId) (key other : Option PageKey) → InAir log flight key → InAir log flight other → key ≡ other }
-    ensures inv { (farm : Farm) (log : List LogEntry) (flush : FlushId) (inv other : Invalidation) → IsLegal farm log → Unfinished log flush inv → Unfinished log flush other → inv ≡ other }
-    ensures flight { (farm : Farm) (log : List LogEntry) (flight : FlightId) (key : Option PageKey) → IsLegal farm log → InAir log flight key → (1 ≤ flight) × (flight ≤ flights_asked log) }
-    ensures flush { (farm : Farm) (log : List LogEntry) (flush : FlushId) (inv : Invalidation) → IsLegal farm log → Unfinished log flush inv → (1 ≤ flush) × (flush ≤ flushes_begun log) }
+    ensures inv { FlushesHaveOneInvalidation }
+    ensures flight { FlightsHaveTheirNumbers }
+    ensures flush { FlushesHaveTheirNumbers }
 {}
 
 /// A flight is clear exactly where it was asked for the page at a place of the log, no flush that covers the page was unfinished there, and
@@ -73,20 +74,20 @@ pub fn clear_flights_are_clear()
 
 /// No unfinished flush covers the page of a clear flight, and no flush that covers it has ended done since the flight was asked.
 pub fn no_flush_covers_a_clear_flight()
-    ensures unfinished { (farm : Farm) (log : List LogEntry) (flight : FlightId) (key : PageKey) (flush : FlushId) (inv : Invalidation) → IsClear farm log flight key → Unfinished log flush inv → Covers farm inv key → ⊥ }
+    ensures unfinished { ClearFlightsAreUncovered }
     ensures done { (farm : Farm) (log : List LogEntry) (flight : FlightId) (key : PageKey) → IsClear farm log flight key → NoneDoneSince farm log flight key }
 {}
 
 /// Of a legal log, a hit may be answered so exactly where a landing of the page was kept or unkept with the answer, no later one was kept,
 /// and each flush that covers the page and ended done did so before that landing's flight was asked.
 pub fn permitted_hits_are_of_landings()
-    ensures { (farm : Farm) (log : List LogEntry) (key : PageKey) (answer : Answer) → IsLegal farm log → MayHit farm log key answer ↔ IsPermittedHit farm log key answer }
+    ensures { (farm : Farm) (log : List LogEntry) (key : PageKey) (answer : Answer) → IsLegal farm log → PermitsOfLandings farm log key answer }
 {}
 
 /// What permits a hit was asked for after each flush that covers the page and ended done: wherever one did so in the log, the flight of the
 /// landing was asked since.
 pub fn a_permitted_hit_was_asked_for_after_each_flush()
-    ensures { (farm : Farm) (log : List LogEntry) (key : PageKey) (fate : Fate) (answer : Answer) (hit : IsPermittedBy farm log key fate answer) (since : List LogEntry) (flush : FlushId) (inv : Invalidation) (before : List LogEntry) → log ≡ since ++ Ended flush Done ∷ before → IsUnfinishedFlush before flush inv → Covers farm inv key → (more : List LogEntry) × (since ≡ since_asking hit.landing ++ Asked hit.landing.flight (Some key) ∷ more) }
+    ensures { PermittedHitsWereAskedSince }
 {}
 
 /// A hit with the answer is owed exactly where a landing of the page was kept with it, each later one was passed, no flush that covers the
@@ -98,11 +99,11 @@ pub fn owed_hits_are_of_landings()
 /// What is owed is permitted, and is then the one permitted answer; and no unfinished flush covers its page.
 pub fn what_is_owed_is_permitted()
     ensures permitted { (farm : Farm) (log : List LogEntry) (key : PageKey) (answer : Answer) → MustHit farm log key answer → MayHit farm log key answer }
-    ensures one { (farm : Farm) (log : List LogEntry) (key : PageKey) (answer other : Answer) → MustHit farm log key answer → MayHit farm log key other → other ≡ answer }
-    ensures uncovered { (farm : Farm) (log : List LogEntry) (key : PageKey) (answer : Answer) (flush : FlushId) (inv : Invalidation) → MustHit farm log key answer → Unfinished log flush inv → Covers farm inv key → ⊥ }
+    ensures one { (farm : Farm) (log : List LogEntry) (key : PageKey) (answer other : Answer) → IsTheOneAnswer farm log key answer other }
+    ensures uncovered { OwedHitsAreUncovered }
 {}
 
 /// A landing that is kept is owed at once, as it is stored.
 pub fn what_is_kept_is_owed()
-    ensures { (farm : Farm) (under : CallConditions) (log : List LogEntry) (flight : FlightId) (key : PageKey) (given : Answer) → Allowed farm under (Landed flight (Some key) given Kept) log → MustHit farm (Landed flight (Some key) given Kept ∷ log) key (stored given) }
+    ensures { KeptLandingsAreOwed }
 {}

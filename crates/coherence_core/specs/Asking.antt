@@ -20,11 +20,11 @@ use Rattle.flights.specs.Flights.{after_invalidation, covers_page, most_flights}
 use Rattle.invalidation.specs.Invalidations.{invalidation_of, is_invalidation}
 use Rattle.invalidation.specs.declared.inv_fault.InvFault.{InvFault}
 use Rattle.invalidation.specs.declared.inv_fault.InvFault.TheVariants as inv_fault
-use Rattle.coherence_core.specs.Requests.{ReachesCache}
+use Rattle.coherence_core.specs.Requests.{ReachesCache, GotAs}
 use Rattle.coherence_core.specs.Served.{serves_page}
 use Rattle.coherence_core.specs.declared.answers.Requested.{Requested}
 use Rattle.cache_log.specs.Ids.{FlushId}
-use Rattle.coherence_core.specs.Cores.{drawn_of}
+use Rattle.coherence_core.specs.Cores.{drawn_of, CoreStandsFor}
 use Rattle.coherence_core.specs.Notes.{HoldsStill, KnowsDisk, KnowsDiskWith, with_notes}
 use Rattle.page_index.specs.Agreement.{HasNoneCovered}
 use Rattle.page_index.specs.declared.index.PageIndex.{PageIndex}
@@ -33,6 +33,7 @@ use Rattle.coherence_core.specs.declared.answers.Got.TheVariants as got
 use Rattle.coherence_core.specs.declared.core_state.Core.{Core}
 use Rattle.coherence_core.specs.declared.pending.Pending.{Pending}
 use Rattle.cache_log.specs.Limits.{most_flushes, most_stamps}
+use Rattle.cache_log.specs.Entries.{LogEntry}
 
 -- nothing that a core stands for has changed
 pub record IsSameCore (old new : Core) : Type 0 where
@@ -161,3 +162,7 @@ IsKeyedRequest told old new req requested = ReachesCache old req × ((key : Page
 -- what a request came to
 abbrev pub RequestedAs : Option Files → Core → Core → Request → Text → Requested → Type 0
 RequestedAs told old new req peer requested = IsDryRequest old new requested ⊎ (IsDownRequest old new requested ⊎ (IsFlushRequest old new req peer requested ⊎ (IsDeniedRequest old new req requested ⊎ (IsUnkeyedRequest old new req requested ⊎ IsKeyedRequest told old new req requested))))
+
+-- in each session and for each log that a core and a disk stand for, what is got has its cause in the log
+abbrev pub GetsAs : Option Files → Core → Request → Text → Requested → Type 0
+GetsAs told core req peer requested = (found : ℕ) (log : List LogEntry) → CoreStandsFor found told core log → GotAs core log req peer requested.disk_failed requested.got

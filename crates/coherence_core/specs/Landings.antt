@@ -1,5 +1,5 @@
 -- What becomes of a flight that lands (RFC 9111, section 3).
-use Rattle.std.specs.Prelude.{◌≡◌, ◌⊎◌, true, false, Option, Some, None}
+use Rattle.std.specs.Prelude.{◌≡◌, ◌⊎◌, true, false, Option, Some, None, [], ◌∷◌}
 use Rattle.sp_base.specs.declared.answer.Answer.{Answer}
 use Rattle.sp_outside.specs.Files.{Files}
 use Rattle.cover_rules.specs.declared.page.PageKey.{PageKey}
@@ -10,13 +10,15 @@ use Rattle.docroot_changes.specs.Changes.{MayPut, PageSet, Told}
 use Rattle.flights.specs.declared.flight.Flight.{Flight}
 use Rattle.flights.specs.declared.landing.Landing.{Landing}
 use Rattle.flights.specs.declared.landing.Landing.TheVariants.{Clear, Voided, Unkeyed}
-use Rattle.cache_log.specs.Entries.{Fate, Kept, Unkept, Passed}
+use Rattle.cache_log.specs.Entries.{Fate, Kept, Unkept, Passed, Landed as landed_entry}
 use Rattle.cache_log.specs.Rules.{CallConditions}
-use Rattle.coherence_core.specs.Cores.{conditions_of_call}
+use Rattle.cache_log.specs.Ids.{FlightId}
+use Rattle.coherence_core.specs.Cores.{conditions_of_call, ExtendsCore}
 use Rattle.page_index.specs.Effects.{ForgetsPage}
 use Rattle.page_index.specs.declared.index.PageIndex.{PageIndex}
 use Rattle.coherence_core.specs.declared.answers.Landed.{Landed}
 use Rattle.coherence_core.specs.declared.answers.Landed.TheVariants as landed
+use Rattle.coherence_core.specs.declared.core_state.Core.{Core}
 
 -- its answer was stored; it was only passed on; or it may have been stored
 abbrev pub fate_of : Landed → Fate
@@ -66,3 +68,7 @@ ForgetsFrom Unkeyed out old new = new ≡ old
 abbrev pub DeliveredAs : Flight → Answer → Landed → Option Files → Option Files → Type 0
 DeliveredAs flight answer landed.Passed old new = ((flight.key ≡ None) ⊎ ((flight.voided ≡ true) ⊎ (is_storable answer ≡ false))) × (new ≡ old)
 DeliveredAs flight answer out old new = (flight.voided ≡ false) × ((key : PageKey) × ((flight.key ≡ Some key) × IsStored key flight.stamp answer out old new))
+
+-- a core and a disk before and after this flight landed so: the log has its landing
+abbrev pub LandsFlight : Option Files → Core → Option Files → Core → FlightId → Answer → Landed → Flight → Type 0
+LandsFlight told core after next ticket answer landed flight = ExtendsCore told core after next (landed_under landed) (landed_entry ticket flight.key answer (fate_of landed) ∷ [])

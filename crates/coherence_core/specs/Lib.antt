@@ -15,3 +15,6 @@ pub mod Flushes
 pub mod Sessions
 pub mod Openings
 pub mod Closings
+pub mod StatFilesKept
+pub mod SessionEnds
+pub mod StampLaws

@@ -1,6 +1,7 @@
 -- What a look at a page notes of it.
-use Rattle.std.specs.Prelude.{◌≡◌, ℕ, true, Contains, List, Option, Some, Result, IfSome}
+use Rattle.std.specs.Prelude.{◌≡◌, ℕ, true, Contains, List, Option, Some, Result, IfSome, ◌&&◌, Bool}
 use Rattle.sp_base.specs.Texts.{Segments, Text}
+use Rattle.sp_base.specs.declared.answer.Answer.{Answer}
 use Rattle.sp_outside.specs.Calls.{Call}
 use Rattle.sp_outside.specs.Files.{Files}
 use Rattle.cover_rules.specs.Coverage.{deletes, touched_of}
@@ -18,8 +19,9 @@ use Rattle.docroot_changes.specs.DocrootCalls.{MakesDocrootCalls}
 use Rattle.page_index.specs.Agreement.{Agrees, HasNoneCovered}
 use Rattle.page_index.specs.declared.index.PageIndex.{PageIndex}
 use Rattle.stat_files.specs.Stamps.{stamp_at}
+use Rattle.stat_files.specs.Outdated.{outdates_page}
 use Rattle.coherence_core.specs.Notes.{AreNotesUncovered}
-use Rattle.coherence_core.specs.Served.{stat_for}
+use Rattle.coherence_core.specs.Served.{stat_for, served}
 use Rattle.coherence_core.specs.declared.look.Look.{Look}
 
 -- Something is noted, of which this may be so and which these invalidations cover: where it is so of files, notes that agreed with them do so
@@ -79,3 +81,11 @@ pub record ReadsFiles {T : Type 0} (told after : Option Files) (faults now : ℕ
   pub files : after ≡ told
   pub cause : HasFileCause faults now result
   pub calls : MakesDocrootCalls asked made
+
+-- what was found is what these files serve
+abbrev pub GivesServed : Look → Option Answer → Files → Type 0
+GivesServed look found files = served look.auto (stat_asked look files) (page_at files look.key.now) ≡ found
+
+-- whether its .stat file among these files outdates a page with this stamp
+abbrev pub TellsStale : Look → Stamp → Bool → Files → Type 0
+TellsStale look page is files = (look.auto && outdates_page (stat_asked look files) page) ≡ is

@@ -9,7 +9,7 @@ use Rattle.cache_log.specs.Ids.{FlightId, FlushId}
 use Rattle.cache_log.specs.Entries.{LogEntry, Ended, Failed, Lost, Up, Down as down_entry, Session}
 use Rattle.cache_log.specs.Rules.{CallConditions}
 use Rattle.coherence_core.specs.Holds.{Holds, HoldsClosed, files_counted}
-use Rattle.coherence_core.specs.Cores.{CoreStandsFor, flushes_of}
+use Rattle.coherence_core.specs.Cores.{CoreStandsFor, flushes_of, ExtendsCore, flush_numbers}
 use Rattle.coherence_core.specs.declared.core_state.Core.{Core}
 use Rattle.page_index.specs.Effects.{IsBare}
 
@@ -70,3 +70,7 @@ OpensSession told after epoch = (farm : Farm) (core : Core) → IsNewCore farm e
 -- what log the files held they hold still
 abbrev pub KeepsHolds : Farm → Files → Files → Type 0
 KeepsHolds farm old new = (log : List LogEntry) → Holds farm old log → Holds farm new log
+
+-- a core and a disk before and after a restart that ended so: the log has its entries
+abbrev pub RestartsAs : Option Files → Core → Option Files → Core → Result ℕ OpenFault → Type 0
+RestartsAs told core after next result = ExtendsCore told core after next (restarted_under result) (restarted_entries (flush_numbers core.queue.items) result)

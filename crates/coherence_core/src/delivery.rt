@@ -1,15 +1,15 @@
 //! A flight that lands or is lost.
-ghost use Rattle.std.specs.Prelude.{◌≡◌, ◌<◌, ◌^◌, ◌∷◌, [], ℕ, Option, Some, IfSome, IsSome, IsTrue, length};
+ghost use Rattle.std.specs.Prelude.{◌≡◌, ◌<◌, ◌^◌, ◌∷◌, [], Option, Some, IfSome, IsSome, IsTrue, length};
 ghost use Rattle.sp_base.specs.MediaTypes.{is_kind};
 ghost use Rattle.sp_outside.specs.Files.{Files};
 ghost use Rattle.docroot_changes.specs.Changes.{Told};
 ghost use Rattle.docroot_changes.specs.DocrootCalls.{MakesDocrootCalls};
 ghost use Rattle.flights.specs.Flights.{flight_at, without};
-ghost use Rattle.cache_log.specs.Entries.{Landed as landed_entry, Lost};
+ghost use Rattle.cache_log.specs.Entries.{Lost};
 ghost use Rattle.cache_log.specs.Rules.{CallConditions};
 ghost use Rattle.coherence_core.specs.Cores.{ExtendsCore, FlightsRise, KeepsFarm};
 ghost use Rattle.coherence_core.specs.Holds.{KeepsStatFiles};
-ghost use Rattle.coherence_core.specs.Landings.{DeliveredAs, ForgetsFor, ForgetsFrom, IsKeptAs, IsKeptFrom, IsStored, fate_of, landed_under};
+ghost use Rattle.coherence_core.specs.Landings.{DeliveredAs, ForgetsFor, ForgetsFrom, IsKeptAs, IsKeptFrom, IsStored, landed_under, LandsFlight};
 ghost use Rattle.coherence_core.specs.Notes.{KnowsDisk};
 ghost use Rattle.sp_outside.specs.Causes.{IsDiskFailure};
 
@@ -40,7 +40,7 @@ impl Core {
     ) -> Landed
         requires flight { IsSome (flight_at ticket self.old.flights) }
         requires kind { IsTrue (is_kind answer.now.kind) }
-        ensures log { IfSome (flight_at ticket self.old.flights) (λ flight. ExtendsCore (D.files disk.old) self.old (D.files disk.new) self.new (landed_under result) (landed_entry ticket flight.key answer.now (fate_of result) ∷ [])) }
+        ensures log { IfSome (flight_at ticket self.old.flights) (LandsFlight (D.files disk.old) self.old (D.files disk.new) self.new ticket answer.now result) }
         ensures delivered { IfSome (flight_at ticket self.old.flights) (λ flight. DeliveredAs flight answer.now result (D.files disk.old) (D.files disk.new)) }
         ensures key { IfSome (flight_at ticket self.old.flights) (λ flight. IsKeptAs flight.key result) }
         ensures disk_failed { IsDiskFailure (D.faults disk.old) (D.faults disk.new) (landed_under result).disk_failed }

@@ -1,40 +1,28 @@
 //! What the core takes of the layers below, and what follows from what a core stands for: laws, on functions that do nothing but to call
 //! others.
-ghost use Rattle.std.specs.Prelude.{◌≡◌, ◌≤◌, ◌++◌, ℕ, AllPairs, Contains, IsTrue, List, [], ◌∷◌, Option, Some, Ok};
+ghost use Rattle.std.specs.Prelude.{◌≡◌, ◌++◌, ℕ, Contains, List, [], ◌∷◌, Option};
 ghost use Rattle.std.specs.FinMap.{empty};
-ghost use Rattle.sp_base.specs.Texts.{Segments};
 ghost use Rattle.sp_base.specs.declared.answer.Answer.{Answer};
-ghost use Rattle.sp_outside.specs.Calls.{Call};
-ghost use Rattle.sp_outside.specs.Files.{Files, file_at};
+ghost use Rattle.sp_outside.specs.Files.{Files};
 ghost use Rattle.any_config.specs.declared.farm.Farm.{Farm};
-ghost use Rattle.cover_rules.specs.Pages.{IsPageKey};
 ghost use Rattle.cover_rules.specs.declared.page.PageKey.{PageKey};
 ghost use Rattle.cover_rules.specs.declared.stamp.Stamp.{Stamp};
-ghost use Rattle.dispatch_rules.specs.Caching.{is_auto};
-ghost use Rattle.docroot_format.specs.Names.{epoch_name};
-ghost use Rattle.docroot_format.specs.declared.fault.FileFault.{FileFault};
-ghost use Rattle.cache_files.specs.declared.head_note.HeadNote.{HeadNote};
-ghost use Rattle.cache_files.specs.declared.epoch.OpenFault.{OpenFault};
-ghost use Rattle.cache_files.specs.declared.page.Page.{Page};
-ghost use Rattle.cache_files.specs.Epochs.{IsOpenLeft, next_epoch, told_with_epoch};
-ghost use Rattle.cache_files.specs.Pages.{IsPutLeft, head_at, page_at, told_with_page};
-ghost use Rattle.stat_files.specs.Stamps.{stamp_at};
-ghost use Rattle.docroot_changes.specs.Changes.{IsStampFolder, Told};
-ghost use Rattle.flights.specs.declared.flight.Flight.{Flight};
+ghost use Rattle.cache_files.specs.Epochs.{told_with_epoch};
+ghost use Rattle.docroot_changes.specs.Changes.{Told};
 ghost use Rattle.cache_log.specs.Entries.{LogEntry, Session};
-ghost use Rattle.cache_log.specs.Hits.{MayHit};
-ghost use Rattle.cache_log.specs.Rules.{AllAllowed, CallConditions, IsIdle, IsLegal, KeepsBound};
+ghost use Rattle.cache_log.specs.Rules.{CallConditions, IsIdle, IsLegal, KeepsBound};
 ghost use Rattle.coherence_core.specs.Asking.{next_stamp};
 ghost use Rattle.coherence_core.specs.Closings.{IsClosing};
-ghost use Rattle.coherence_core.specs.Cores.{StandsOver, flushes_of};
+ghost use Rattle.coherence_core.specs.Cores.{StandsOver};
 ghost use Rattle.coherence_core.specs.Facts.{CoverageFacts};
-ghost use Rattle.coherence_core.specs.Holds.{Holds, HoldsClosed, KeepsStatFiles, files_counted};
+ghost use Rattle.coherence_core.specs.Holds.{Holds, HoldsClosed, KeepsStatFiles};
 ghost use Rattle.coherence_core.specs.Openings.{IsCleared, IsCoreOpened};
-ghost use Rattle.coherence_core.specs.Served.{Before, IsFresh, stat_for};
-ghost use Rattle.coherence_core.specs.Sessions.{closing_entries, failed_entries};
-ghost use Rattle.coherence_core.specs.StampTies.{IsStampOfSession, IsStampOfTouch, MayHitOfStamp, drawn_stamps, first_epoch, stamp_after};
+ghost use Rattle.coherence_core.specs.Sessions.{closing_entries};
+ghost use Rattle.coherence_core.specs.StampTies.{IsStampOfSession, drawn_stamps, stamp_after};
 ghost use Rattle.coherence_core.specs.declared.core_state.Core.{Core};
-ghost use Rattle.coherence_core.specs.declared.pending.Pending.{Pending};
+ghost use Rattle.coherence_core.specs.StatFilesKept.{PutsKeepStatFiles, FailedPutsKeepStatFiles, FailedOpeningsKeepStatFiles};
+ghost use Rattle.coherence_core.specs.SessionEnds.{IsHeldClosed, IsHeldLanded, RestartsAllowClosing, AllowsClosing, HoldsOnceClosed, StandsForSession, FilesGoAfterOpening, SessionsGoOn};
+ghost use Rattle.coherence_core.specs.StampLaws.{FreshPagesHaveFlightStamps, StampPermits, FoldersHaveTouchStamps, HeadsAreBeforeNext, FoldersAreBeforeNext, FlightsAreBeforeNext, FlushesAreBeforeNext, DrawnAreBeforeNext, AreDrawnRising, WasDrawnInSession};
 
 use cache_files::{
     a_failed_opening_leaves_the_old_number_or_the_next, a_failed_put_leaves_whole_pages,
@@ -58,10 +46,10 @@ pub fn coverage_by_three_facts()
 
 /// Neither a put of a page nor an opening changes a `.stat` file, whether it is done (`put`, `opened`) or fails (`put_failed`, `opening_failed`).
 pub fn puts_and_openings_keep_stat_files()
-    ensures put { (before after : Option Files) (key : PageKey) (stamp : Stamp) (answer : Answer) → IsPageKey key → after ≡ told_with_page before key stamp answer → Told KeepsStatFiles before after }
-    ensures put_failed { (asked made : Option (List Call)) (before after : Option Files) (key : PageKey) (stamp : Stamp) (answer : Answer) (fault : FileFault) → IsPageKey key → IsPutLeft asked made before after key stamp answer fault → Told KeepsStatFiles before after }
+    ensures put { PutsKeepStatFiles }
+    ensures put_failed { FailedPutsKeepStatFiles }
     ensures opened { (before after : Option Files) (epoch : ℕ) → after ≡ told_with_epoch before epoch → Told KeepsStatFiles before after }
-    ensures opening_failed { (asked made : Option (List Call)) (before after : Option Files) (fault : OpenFault) → IsOpenLeft asked made before after fault → Told KeepsStatFiles before after }
+    ensures opening_failed { FailedOpeningsKeepStatFiles }
 {
     files_have_names();
     names_tell_their_files();
@@ -78,9 +66,9 @@ pub fn the_files_hold_what_stands()
 /// Wherever a session ends, also in the middle of it, its files hold its log once that is closed: where each flight that is in the air is lost,
 /// and then each unfinished flush is cut off. A restart allows this. With nothing in the air the flushes alone are cut off.
 pub fn a_session_may_end_at_any_time()
-    ensures closed { (found : ℕ) (files : Files) (core : Core) (log : List LogEntry) → StandsOver found files core log → HoldsClosed core.farm files (closing_entries core ++ log) }
-    ensures landed { (found : ℕ) (files : Files) (core : Core) (log : List LogEntry) → StandsOver found files core log → core.flights ≡ [] → HoldsClosed core.farm files (failed_entries (flushes_of core) ++ log) }
-    ensures allowed { (found : ℕ) (files : Files) (core : Core) (log : List LogEntry) (under : CallConditions) → StandsOver found files core log → IsTrue under.restarts → AllAllowed core.farm under (closing_entries core) log }
+    ensures closed { (found : ℕ) (files : Files) (core : Core) (log : List LogEntry) → StandsOver found files core log → IsHeldClosed files core log }
+    ensures landed { (found : ℕ) (files : Files) (core : Core) (log : List LogEntry) → StandsOver found files core log → IsHeldLanded files core log }
+    ensures allowed { RestartsAllowClosing }
 {
     coverage_by_three_facts();
     the_numbers_of_flights_rise();
@@ -92,9 +80,9 @@ pub fn a_session_may_end_at_any_time()
 pub fn a_log_is_closed_in_one_way()
     ensures there { (log : List LogEntry) → (entries : List LogEntry) × IsClosing log entries }
     ensures one { (log entries others : List LogEntry) → IsClosing log entries → IsClosing log others → entries ≡ others }
-    ensures allowed { (farm : Farm) (log entries : List LogEntry) (under : CallConditions) → IsClosing log entries → IsTrue under.restarts → AllAllowed farm under entries log }
+    ensures allowed { (farm : Farm) (log entries : List LogEntry) (under : CallConditions) → AllowsClosing farm log entries under }
     ensures legal { (farm : Farm) (log entries : List LogEntry) → IsClosing log entries → IsLegal farm log → IsLegal farm (entries ++ log) }
-    ensures closed { (farm : Farm) (files : Files) (log entries : List LogEntry) → Holds farm files log → IsClosing log entries → HoldsClosed farm files (entries ++ log) }
+    ensures closed { (farm : Farm) (files : Files) (log entries : List LogEntry) → HoldsOnceClosed farm files log entries }
     ensures idle { (log : List LogEntry) → IsIdle log → IsClosing log [] }
     ensures core { (found : ℕ) (files : Files) (core : Core) (log : List LogEntry) → StandsOver found files core log → IsClosing log (closing_entries core) }
 {}
@@ -103,9 +91,9 @@ pub fn a_log_is_closed_in_one_way()
 /// asked (`page`), and by this flight's landing a hit on it is permitted (`hit`). A .stat file has the stamp of a flush that touches its folder
 /// (`folder`). What has a stamp of an epoch below the session's first was there before.
 pub fn stamps_are_of_flights_and_flushes()
-    ensures page { (found : ℕ) (files : Files) (core : Core) (log : List LogEntry) (key : PageKey) (page : Page) → StandsOver found files core log → IsPageKey key → page_at files key ≡ Some page → IsFresh (is_auto core.farm key) (stat_for core.farm (stamp_at files) key) page.stamp → first_epoch log ≤ page.stamp.epoch → MayHitOfStamp core.farm log key page.answer page.stamp }
-    ensures hit { (farm : Farm) (log : List LogEntry) (key : PageKey) (answer : Answer) (stamp : Stamp) → MayHitOfStamp farm log key answer stamp → MayHit farm log key answer }
-    ensures folder { (found : ℕ) (files : Files) (core : Core) (log : List LogEntry) (folder : Segments) (stamp : Stamp) → StandsOver found files core log → IsStampFolder folder → stamp_at files folder ≡ Some stamp → first_epoch log ≤ stamp.epoch → IsStampOfTouch core.farm log folder stamp }
+    ensures page { FreshPagesHaveFlightStamps }
+    ensures hit { (farm : Farm) (log : List LogEntry) (key : PageKey) (answer : Answer) (stamp : Stamp) → StampPermits farm log key answer stamp }
+    ensures folder { FoldersHaveTouchStamps }
 {}
 
 /// The stamp that is drawn next is after each that was drawn and still stands, also over a restart: that of each head in the files, whether or not
@@ -113,28 +101,28 @@ pub fn stamps_are_of_flights_and_flushes()
 /// (`flush`). It is the one that the log tells (`next`), and where that is legal it is after each that was drawn, also in sessions before, and
 /// also after one that stands nowhere any more (`drawn`).
 pub fn each_stamp_is_before_the_next()
-    ensures head { (found : ℕ) (files : Files) (core : Core) (log : List LogEntry) (key : PageKey) (head : HeadNote) → StandsOver found files core log → IsPageKey key → head_at files key ≡ Some head → Before head.stamp (next_stamp core) }
-    ensures folder { (found : ℕ) (files : Files) (core : Core) (log : List LogEntry) (folder : Segments) (stamp : Stamp) → StandsOver found files core log → IsStampFolder folder → stamp_at files folder ≡ Some stamp → Before stamp (next_stamp core) }
-    ensures flight { (found : ℕ) (files : Files) (core : Core) (log : List LogEntry) (flight : Flight) → StandsOver found files core log → Contains core.flights flight → Before flight.stamp (next_stamp core) }
-    ensures flush { (found : ℕ) (files : Files) (core : Core) (log : List LogEntry) (flush : Pending) → StandsOver found files core log → Contains core.queue.items flush → Before flush.purge.stamp (next_stamp core) }
+    ensures head { HeadsAreBeforeNext }
+    ensures folder { FoldersAreBeforeNext }
+    ensures flight { FlightsAreBeforeNext }
+    ensures flush { FlushesAreBeforeNext }
     ensures next { (found : ℕ) (files : Files) (core : Core) (log : List LogEntry) → StandsOver found files core log → next_stamp core ≡ stamp_after log }
-    ensures drawn { (found : ℕ) (files : Files) (core : Core) (log : List LogEntry) (stamp : Stamp) → StandsOver found files core log → IsLegal core.farm log → Contains (drawn_stamps log) stamp → Before stamp (next_stamp core) }
+    ensures drawn { DrawnAreBeforeNext }
 {}
 
 /// Of the stamps that were drawn in a legal log, and of the one that is drawn next, each is after all that were drawn before it, over restarts and
 /// over sessions (`rising`). What was drawn is each stamp that a session of the log drew at any time, for a flight or for a flush (`each`), and no
 /// other (`only`).
 pub fn each_draw_is_after_those_before_it()
-    ensures rising { (farm : Farm) (log : List LogEntry) → IsLegal farm log → AllPairs (λ later earlier. Before earlier later) (stamp_after log ∷ drawn_stamps log) }
+    ensures rising { (farm : Farm) (log : List LogEntry) → IsLegal farm log → AreDrawnRising log }
     ensures each { (since before : List LogEntry) (stamp : Stamp) → IsStampOfSession before stamp → Contains (drawn_stamps (since ++ before)) stamp }
-    ensures only { (log : List LogEntry) (stamp : Stamp) → Contains (drawn_stamps log) stamp → (since : List LogEntry) × (before : List LogEntry) × (log ≡ since ++ before) × IsStampOfSession before stamp }
+    ensures only { (log : List LogEntry) (stamp : Stamp) → Contains (drawn_stamps log) stamp → WasDrawnInSession log stamp }
 {}
 
 /// Where a session was just opened, and no file is a page file or a .stat file, the core and the files stand for the log of this session alone.
 /// It stays one that was just opened as files go, but for that of the number.
 pub fn a_session_begins_without_pages()
-    ensures stands { (found : ℕ) (files : Files) (core : Core) → IsCoreOpened found files core → IsCleared files → StandsOver found files core (Session core.epoch ∷ []) }
-    ensures kept { (found : ℕ) (files after : Files) (core : Core) → IsCoreOpened found files core → file_at after epoch_name ≡ file_at files epoch_name → files_counted after ≤ files_counted files → IsCoreOpened found after core }
+    ensures stands { (found : ℕ) (files : Files) (core : Core) → IsCoreOpened found files core → IsCleared files → StandsForSession found files core }
+    ensures kept { FilesGoAfterOpening }
 {
     names_tell_their_files();
     no_notes_agree_with_any_files();
@@ -143,7 +131,7 @@ pub fn a_session_begins_without_pages()
 /// A session that goes on from a legal log begins in a legal one: over files that hold the log, closed, with the number after the one that they
 /// hold (`over`), and from the empty log with any number (`first`).
 pub fn a_session_begins_in_a_legal_log()
-    ensures over { (farm : Farm) (files : Files) (log : List LogEntry) (epoch : ℕ) → HoldsClosed farm files log → IsLegal farm log → next_epoch files ≡ Ok epoch → IsLegal farm (Session epoch ∷ log) }
+    ensures over { SessionsGoOn }
     ensures first { (farm : Farm) (epoch : ℕ) → IsLegal farm (Session epoch ∷ []) }
 {}
 

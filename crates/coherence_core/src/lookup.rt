@@ -1,8 +1,7 @@
 //! A page that is looked up: in what is noted, and else in the store.
 ghost use Rattle.std.specs.Prelude.{◌≡◌, IfOk, None, Some};
-ghost use Rattle.cache_files.specs.Pages.{page_at};
 ghost use Rattle.coherence_core.specs.LookCalls.{AreRead, ReadsPage, stat_file};
-ghost use Rattle.coherence_core.specs.Lookups.{IfAgreed, IsLook, NotesPage, ReadsFiles, stat_asked};
+ghost use Rattle.coherence_core.specs.Lookups.{IfAgreed, IsLook, NotesPage, ReadsFiles, stat_asked, GivesServed};
 ghost use Rattle.coherence_core.specs.Served.{served};
 ghost use Rattle.page_index.specs.Notes.{known_page};
 
@@ -26,7 +25,7 @@ pub(crate) fn look_up<D: Disk>(
     look: &Look,
 ) -> Result<Option<Answer>, FileFault>
     requires { IsLook look.now }
-    ensures value { IfOk result (λ found. IfAgreed (D.files disk.old) pages.old (λ files. served look.now.auto (stat_asked look.now files) (page_at files look.now.key.now) ≡ found)) }
+    ensures value { IfOk result (λ found. IfAgreed (D.files disk.old) pages.old (GivesServed look.now found)) }
     ensures notes { NotesPage look.now (D.files disk.old) pages.old pages.new }
     ensures reads { ReadsFiles (D.files disk.old) (D.files disk.new) (D.faults disk.old) (D.faults disk.new) (D.calls disk.old) (D.calls disk.new) result }
     ensures asks { ReadsPage (D.files disk.old) (D.calls disk.old) (D.calls disk.new) pages.old look.now.farm.now look.now.key.now result }
@@ -72,7 +71,7 @@ fn look_in_files<D: Disk>(
 ) -> Result<Option<Answer>, FileFault>
     requires look { IsLook look.now }
     requires unknown { known_page pages.old look.now.key.now ≡ None }
-    ensures value { IfOk result (λ found. IfAgreed (D.files disk.old) pages.old (λ files. served look.now.auto (stat_asked look.now files) (page_at files look.now.key.now) ≡ found)) }
+    ensures value { IfOk result (λ found. IfAgreed (D.files disk.old) pages.old (GivesServed look.now found)) }
     ensures notes { NotesPage look.now (D.files disk.old) pages.old pages.new }
     ensures reads { ReadsFiles (D.files disk.old) (D.files disk.new) (D.faults disk.old) (D.faults disk.new) (D.calls disk.old) (D.calls disk.new) result }
     ensures asks { ReadsPage (D.files disk.old) (D.calls disk.old) (D.calls disk.new) pages.old look.now.farm.now look.now.key.now result }

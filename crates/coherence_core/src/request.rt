@@ -1,16 +1,15 @@
 //! A request that comes to the cache.
-ghost use Rattle.std.specs.Prelude.{◌≡◌, ◌++◌, ℕ, false, IfOk, List, Some};
+ghost use Rattle.std.specs.Prelude.{◌≡◌, ◌++◌, false, IfOk, Some};
 ghost use Rattle.cover_rules.specs.Pages.{IsPageKey};
 ghost use Rattle.dispatch_rules.specs.Caching.{is_auto};
 ghost use Rattle.docroot_changes.specs.DocrootCalls.{MakesDocrootCalls};
 ghost use Rattle.flights.specs.Flights.{numbers_of};
-ghost use Rattle.cache_log.specs.Entries.{LogEntry};
-ghost use Rattle.coherence_core.specs.Asking.{IsLookedUp, KeyedAs, RequestedAs};
-ghost use Rattle.coherence_core.specs.Cores.{ExtendsCore, FlightsRise, KeepsFarm, CoreStandsFor, flight_labels, flush_numbers};
+ghost use Rattle.coherence_core.specs.Asking.{IsLookedUp, KeyedAs, RequestedAs, GetsAs};
+ghost use Rattle.coherence_core.specs.Cores.{ExtendsCore, FlightsRise, KeepsFarm, flight_labels, flush_numbers};
 ghost use Rattle.coherence_core.specs.LookCalls.{AsksDisk, ReadsPage, page_asked};
 ghost use Rattle.coherence_core.specs.Lookups.{ReadsFiles};
 ghost use Rattle.coherence_core.specs.Notes.{KnowsDisk, KnowsDiskWith, with_notes};
-ghost use Rattle.coherence_core.specs.Requests.{GotAs, got_entries, got_flights, got_flushes, got_labels, requested_under};
+ghost use Rattle.coherence_core.specs.Requests.{got_entries, got_flights, got_flushes, got_labels, requested_under};
 ghost use Rattle.sp_outside.specs.Causes.{IsDiskFailure};
 
 use crate::answers::{Got, Requested};
@@ -39,7 +38,7 @@ impl Core {
         peer: &str,
     ) -> Requested
         ensures log { ExtendsCore (D.files disk.old) self.old (D.files disk.new) self.new (requested_under result) (got_entries result.got) }
-        ensures cause { (found : ℕ) (log : List LogEntry) → CoreStandsFor found (D.files disk.old) self.old log → GotAs self.old log req.now peer.now result.disk_failed result.got }
+        ensures cause { GetsAs (D.files disk.old) self.old req.now peer.now result }
         ensures came { RequestedAs (D.files disk.old) self.old self.new req.now peer.now result }
         ensures files { D.files disk.new ≡ D.files disk.old }
         ensures disk_failed { IsDiskFailure (D.faults disk.old) (D.faults disk.new) result.disk_failed }

@@ -3,9 +3,9 @@ ghost use Rattle.std.specs.Prelude.{◌≡◌, ◌≢◌, [], false, true, Err, 
 ghost use Rattle.cache_files.specs.Epochs.{HasOpenCause, next_epoch};
 ghost use Rattle.docroot_changes.specs.Changes.{BesideNumber, Told};
 ghost use Rattle.docroot_changes.specs.DocrootCalls.{MakesDocrootCalls};
-ghost use Rattle.coherence_core.specs.Cores.{ExtendsCore, FlightsRise, flush_numbers};
+ghost use Rattle.coherence_core.specs.Cores.{FlightsRise};
 ghost use Rattle.coherence_core.specs.Notes.{KnowsDisk};
-ghost use Rattle.coherence_core.specs.Sessions.{restarted_entries, restarted_under};
+ghost use Rattle.coherence_core.specs.Sessions.{RestartsAs};
 
 use crate::core_state::Core;
 use crate::laws::{coverage_by_three_facts, puts_and_openings_keep_stat_files};
@@ -20,7 +20,7 @@ impl Core {
     /// down.
     pub fn restart<D: Disk>(&mut self, alloc: Global, disk: &mut D) -> Result<u64, OpenFault>
         requires { self.old.flights ≡ [] }
-        ensures log { ExtendsCore (D.files disk.old) self.old (D.files disk.new) self.new (restarted_under result) (restarted_entries (flush_numbers self.old.queue.items) result) }
+        ensures log { RestartsAs (D.files disk.old) self.old (D.files disk.new) self.new result }
         ensures ok { IfOk result (λ epoch. IfSome (D.files disk.old) (λ files. next_epoch files ≡ Ok epoch)) }
         ensures epoch { IfOk result (λ epoch. self.new.epoch ≡ epoch) }
         ensures up { OnOk result (self.new.down ≡ false) }

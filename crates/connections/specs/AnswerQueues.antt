@@ -12,7 +12,7 @@ use Rattle.connections.specs.declared.sending.Sending.{Sending}
 use Rattle.connections.specs.declared.awaited.Awaited.{Awaited}
 use Rattle.connections.specs.Slots.{IsHit, Slot, Response, is_answered, is_same_awaited, are_fixed_507}
 use Rattle.connections.specs.Slots as model
-use Rattle.connections.specs.Connections.{Connection}
+use Rattle.connections.specs.Connections.{Connection, with_end}
 
 -- ---- replies
 
@@ -100,3 +100,7 @@ QueueStandsFor queue c = IsLeft queue.places.items queue.closing queue.over queu
 -- how many places a queue has
 abbrev pub unsent_count : AnswerQueue → ℕ
 unsent_count queue = length queue.places.items
+
+-- each connection that was stood for is stood for with the response in its slot that waits for this
+abbrev pub FillsSlot : Awaited → Reply → (Old New : Connection → Type 0) → Type 0
+FillsSlot awaited reply Old New = (c : Connection) (response : Response) → ReplyStandsFor reply response → Old c → New (with_end awaited response c)

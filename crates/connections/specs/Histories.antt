@@ -1,5 +1,5 @@
 -- What may happen to a connection, one thing after another, and what is then sent on it.
-use Rattle.std.specs.Prelude.{◌≡◌, ◌≢◌, ℕ, Bool, true, false, List, [], ◌∷◌, length}
+use Rattle.std.specs.Prelude.{◌≡◌, ◌≢◌, ℕ, Bool, true, false, List, [], ◌∷◌, length, IsTrue}
 use Rattle.std.specs.List.{list_any}
 use Rattle.http_front.specs.Faults.{fault_status}
 use Rattle.http_front.specs.Turns.{End, Waits, Breaks}
@@ -9,7 +9,7 @@ use Rattle.http_front.specs.declared.turn.Turn.TheVariants.{Continue, Whole}
 use Rattle.connections.specs.declared.awaited.Awaited.{Awaited}
 use Rattle.connections.specs.declared.sending.Sending.{Sending}
 use Rattle.connections.specs.Slots.{Slot, Response, Fixed, MayAnswer, is_answered, is_last, local_response, request_slot, fault_slot, interim_slot}
-use Rattle.connections.specs.Connections.{Connection, Due, Send, Treat, Refuse, Close, Nothing, due, with_piece, with_slot, with_due_continue, with_end, with_sent}
+use Rattle.connections.specs.Connections.{Connection, Due, Send, Treat, Refuse, Close, Nothing, due, with_piece, with_slot, with_due_continue, with_end, with_sent, IsInPlaceOfDue, fresh}
 
 -- What happens to a connection: bytes come, with the turns that they add; a turn or a fault gets its slot; what a slot waits for, a flight or
 -- a flush, ends; a slot is sent; it is shut.
@@ -118,3 +118,22 @@ IsAtRest _ = ⊥
 pub record AreAllTreated (turns : List Turn) (ends : End) (slots : List Slot) : Type 0 where
   pub each : length slots ≡ length turns
   pub no_fault : ends ≡ Waits
+
+-- this is so of a connection that was just opened, whatever happens to it then
+abbrev pub WhateverHappens : (Connection → List Move → Type 0) → Type 0
+WhateverHappens IsSo = (peer : List ℕ) (moves : List Move) → Follows (fresh peer) moves → IsSo (after_all (fresh peer) moves) moves
+
+-- Where nothing is due of the connection but its end, each of its turns has its slot, and so has the fault that ends them, unless a slot closes
+-- the connection, or memory ran out as something was sent.
+abbrev pub AreTreatedAtRest : Connection → List Move → Type 0
+AreTreatedAtRest c moves = IsAtRest (due c) → some_closes c.slots ≡ false → HaveNoSendingOutOfMemory (sendings moves) → AreAllTreated c.turns c.ends c.slots
+
+-- ---- what the code keeps of a connection, before and after
+
+-- what is sent is due of each connection that was stood for, and the connection is stood for with it
+abbrev pub SendsDue : (Old New : Connection → Type 0) → Sending → Type 0
+SendsDue Old New sending = (c : Connection) → Old c → IsDueSending c sending × New (with_sent sending.bytes c)
+
+-- what is sent where memory runs out stands in place of what is due of each connection that was stood for
+abbrev pub SendsInPlaceOfDue : (Connection → Type 0) → Sending → Type 0
+SendsInPlaceOfDue Old sending = (c : Connection) → Old c → IsTrue sending.out_of_memory → IsInPlaceOfDue (due c) sending.bytes

@@ -9,6 +9,7 @@ use Rattle.cover_rules.specs.declared.page.PageKey.{PageKey}
 use Rattle.dispatch_rules.specs.Caching.{is_storable}
 use Rattle.cache_log.specs.Entries.{LogEntry}
 use Rattle.cache_log.specs.Hits.{MayHit}
+use Rattle.cache_log.specs.Rules.{IsLegal}
 use Rattle.error_answers.specs.Errors.{error_answer}
 use Rattle.http_front.specs.Answers.{answer_bytes, fixed_507, interim_100}
 use Rattle.http_front.specs.Faults.{insufficient_storage}
@@ -105,3 +106,11 @@ fault_slot response = record { head_only = false; closes = true; response = resp
 -- the slot of a sender that waits with its body for 100 Continue
 abbrev pub interim_slot : Slot
 interim_slot = record { head_only = false; closes = false; response = Interim }
+
+-- the fixed answer, sent whole where the connection closes after it
+abbrev pub IsFixedWhole : Bool → Bool → Answer → Type 0
+IsFixedWhole head_only closes answer = (head_only ≡ false) × (closes ≡ true) × (answer ≡ fixed_answer)
+
+-- a hit that a legal log permits may be answered so
+abbrev pub IsHitIfPermitted : Farm → List LogEntry → PageKey → Answer → Type 0
+IsHitIfPermitted farm log key answer = IsLegal farm log → MayHit farm log key answer → IsHit farm log key answer

@@ -1,11 +1,11 @@
 //! The answers that a connection still owes, in the order of its requests.
-ghost use Rattle.std.specs.Prelude.{◌≡◌, ◌+◌, ◌⊎◌, ◌||◌, ℕ, List, false, IsTrue, IfNone, IfOk, IfSome, OnErr, OnOk, OnSome, position};
+ghost use Rattle.std.specs.Prelude.{◌≡◌, ◌+◌, ◌⊎◌, ◌||◌, ℕ, List, false, IfNone, IfOk, IfSome, OnErr, OnOk, OnSome, position};
 ghost use Rattle.std.specs.List.{count_by};
-ghost use Rattle.connections.specs.Slots.{Response, Slot, are_fixed_507};
+ghost use Rattle.connections.specs.Slots.{Slot, are_fixed_507};
 ghost use Rattle.connections.specs.Connections as model;
-ghost use Rattle.connections.specs.Connections.{Connection, IsInPlaceOfDue, due, due_without_sending, fresh, with_end, with_sent, with_slot};
-ghost use Rattle.connections.specs.Histories.{IsDueSending};
-ghost use Rattle.connections.specs.AnswerQueues.{IsSendingOf, PlaceStandsFor, ReplyStandsFor, QueueStandsFor, awaits, is_final_reply, first_has_reply, unsent_count};
+ghost use Rattle.connections.specs.Connections.{Connection, due, due_without_sending, fresh, with_slot};
+ghost use Rattle.connections.specs.Histories.{SendsDue, SendsInPlaceOfDue};
+ghost use Rattle.connections.specs.AnswerQueues.{IsSendingOf, PlaceStandsFor, QueueStandsFor, awaits, is_final_reply, first_has_reply, unsent_count, FillsSlot};
 
 use crate::awaited::Awaited;
 use crate::place::{AnswerPlace, Reply};
@@ -59,8 +59,8 @@ impl AnswerQueue {
     /// What is sent next, if anything can be: the next place's answer; or in place of another the fixed 507, exactly where memory
     /// runs out. None where the connection is over or the next place waits.
     pub fn send(&mut self, alloc: Global) -> Option<Sending>
-        ensures sends { IfSome result (λ sending. (c : Connection) → QueueStandsFor self.old c → IsDueSending c sending × QueueStandsFor self.new (with_sent sending.bytes c)) }
-        ensures out_of_memory { IfSome result (λ sending. (c : Connection) → QueueStandsFor self.old c → IsTrue sending.out_of_memory → IsInPlaceOfDue (due c) sending.bytes) }
+        ensures sends { IfSome result (SendsDue (QueueStandsFor self.old) (QueueStandsFor self.new)) }
+        ensures out_of_memory { IfSome result (SendsInPlaceOfDue (QueueStandsFor self.old)) }
         ensures fewer { OnSome result (unsent_count self.new + 1 ≡ unsent_count self.old) }
         ensures waits { IfNone result ((c : Connection) → QueueStandsFor self.old c → due c ≡ due_without_sending c) }
         ensures same { IfNone result (self.new ≡ self.old) }
@@ -120,7 +120,7 @@ impl AnswerQueue {
 
     /// Gives the first place that awaits this flight, or the end of this flush, its reply. Where none does, nothing changes.
     pub fn fill(&mut self, awaited: Awaited, reply: Reply)
-        ensures filled { (c : Connection) (response : Response) → ReplyStandsFor reply response → QueueStandsFor self.old c → QueueStandsFor self.new (with_end awaited response c) }
+        ensures filled { FillsSlot awaited reply (QueueStandsFor self.old) (QueueStandsFor self.new) }
         ensures same { unsent_count self.new ≡ unsent_count self.old }
     {
         if let Some(at) = awaiting_place(&self.places, awaited) {

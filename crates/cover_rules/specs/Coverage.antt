@@ -1,5 +1,5 @@
 -- Which pages an invalidation covers (Adobe Dispatcher manual, "Invalidating Cached Pages From AEM" and "Invalidating Files by Folder Level"): those that it deletes, and those that a .stat file which it touches outdates.
-use Rattle.std.specs.Prelude.{◌==◌, ◌&&◌, ◌||◌, ◌++◌, ℕ, Bool, true, false, not, nat_eq, min, if◌then◌else◌, List, [], ◌∷◌, codes, take, length, map}
+use Rattle.std.specs.Prelude.{◌==◌, ◌&&◌, ◌||◌, ◌++◌, ℕ, Bool, true, false, not, nat_eq, min, if◌then◌else◌, List, [], ◌∷◌, codes, take, length, map, ◌≡◌, Contains}
 use Rattle.std.specs.List.{starts_with, take_while}
 use Rattle.std.specs.Cmp.Lexicographic.{pointwise}
 use Rattle.sp_base.specs.Texts.{Segments}
@@ -61,3 +61,16 @@ lineage (seg ∷ segs) = [] ∷ map (λ path. seg ∷ path) (lineage segs)
 -- in them: below a segment with a dot, or without a file name, there is none. (Where it has a dot a page may stand in its place.)
 abbrev pub touched_of : ℕ → Invalidation → List Segments
 touched_of level inv = if inv.only then [] else lineage (take_while is_folder_segment (take level (parent_of (handle_of inv))))
+
+-- an invalidation covers the same pages where its handle is spelled otherwise
+abbrev pub KeepsCoverage : (Segments → Segments) → Type 0
+KeepsCoverage spelled = (level : ℕ) (auto only : Bool) (action : Action) (handle : Segments) (key : PageKey)
+    → covers level auto (record { action = action; handle = spelled handle; only = only }) key ≡ covers level auto (record { action = action; handle = handle; only = only }) key
+
+-- the .stat file that the page is asked by is among those that the invalidation touches
+abbrev pub TouchesStat : ℕ → Invalidation → PageKey → Type 0
+TouchesStat level inv key = Contains (touched_of level inv) (stat_folder level key)
+
+-- that .stat file stands above the handle, as far down as its folder goes
+abbrev pub HasStatAboveHandle : ℕ → Invalidation → PageKey → Type 0
+HasStatAboveHandle level inv key = (n : ℕ) × (stat_folder level key ≡ take n (parent_of (handle_of inv)))

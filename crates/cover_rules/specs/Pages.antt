@@ -45,3 +45,7 @@ pub record IsPageKey (key : PageKey) : Type 0 where
   pub folder : IsTrue (is_path key.folder)
   pub folder_bytes : AllByRecursion AreBytes key.folder
   pub file_bytes : AreBytes key.file
+
+-- each segment of the page's folder is one that the folder of a page may have
+abbrev pub HasFolderSegments : PageKey → Type 0
+HasFolderSegments key = IsTrue (list_all is_folder_segment key.folder)

@@ -1,6 +1,7 @@
 -- What is left of a page's path after a handle's. Only proofs and private functions need this.
-use Rattle.std.specs.Prelude.{◌≡◌, ◌≢◌, ◌<◌, ◌++◌, ◌∷◌, [], ℕ, List, length}
-use Rattle.sp_base.specs.PathTexts.{spelling_of}
+use Rattle.std.specs.Prelude.{◌≡◌, ◌≢◌, ◌<◌, ◌++◌, ◌∷◌, [], ℕ, List, length, ◌==◌, ◌&&◌, ◌||◌, Bool, codes, nat_eq, not}
+use Rattle.std.specs.List.{starts_with}
+use Rattle.sp_base.specs.PathTexts.{spelling_of, text_under}
 use Rattle.cover_rules.specs.declared.page.PageKey.{PageKey}
 use Rattle.cover_rules.specs.declared.walk.Rest.{Rest}
 use Rattle.cover_rules.specs.declared.walk.Rest.TheVariants.{Folder, File}
@@ -29,3 +30,7 @@ LeavesNext file beginning (Folder text) (Folder more) = text.now ≡ beginning +
 LeavesNext file beginning (Folder text) (File more) = (text.now ≡ []) × (47 ∷ file ≡ beginning ++ more.now)
 LeavesNext file beginning (File text) (File more) = text.now ≡ beginning ++ more.now
 LeavesNext file beginning (File text) (Folder more) = ⊥
+
+-- by what is left of the page's folder: whether the page has the handle's name and an extension, is of a part of its content, or lies below it
+abbrev pub deletes_by_folder : ℕ → Bool → List ℕ → Bool
+deletes_by_folder depth below rest = not (depth == 0) && starts_with nat_eq rest (codes ".") || (text_under rest (codes "/_jcr_content") || below && text_under rest [])

@@ -4,6 +4,7 @@ ghost use Rattle.std.specs.List.{starts_with};
 ghost use Rattle.sp_base.specs.Paths.{is_under, parent_of};
 ghost use Rattle.sp_base.specs.PathTexts.{text_under};
 ghost use Rattle.cover_rules.specs.Coverage as spec;
+ghost use Rattle.cover_rules.specs.Walk.{deletes_by_folder};
 
 use crate::walk::{Rest, after};
 use crate::{Action, Invalidation, PageKey};
@@ -62,7 +63,7 @@ fn deletes(inv: &Invalidation, key: &PageKey) -> bool
 
 // By what is left of the page's folder after the handle.
 fn deletes_in_folder(depth: usize, below: bool, rest: &[u8]) -> bool
-    ensures { result ≡ (not (depth == 0) && starts_with nat_eq rest.now (codes ".") || (text_under rest.now (codes "/_jcr_content") || below && text_under rest.now [])) }
+    ensures { result ≡ deletes_by_folder depth below rest.now }
 {
     (depth != 0 && begins_with_dot(rest))
         || (text_under(rest, b"/_jcr_content") || (below && text_under(rest, b"")))

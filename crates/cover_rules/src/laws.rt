@@ -1,14 +1,13 @@
 //! What follows from the definitions of keys and coverage: laws, on functions that do nothing.
-ghost use Rattle.std.specs.Prelude.{◌≡◌, ◌↔◌, ℕ, Bool, List, IsTrue, true, Some, Contains, take};
-ghost use Rattle.std.specs.List.{AllByRecursion, list_all};
+ghost use Rattle.std.specs.Prelude.{◌≡◌, ◌↔◌, ℕ, Bool, List, IsTrue, true, Some};
+ghost use Rattle.std.specs.List.{AllByRecursion};
 ghost use Rattle.sp_base.specs.Bytes.{AreBytes};
 ghost use Rattle.sp_base.specs.Texts.{Segments};
-ghost use Rattle.sp_base.specs.Paths.{is_path, mangled_segs, unmangled_segs, parent_of};
+ghost use Rattle.sp_base.specs.Paths.{is_path, mangled_segs, unmangled_segs};
 ghost use Rattle.cover_rules.specs.declared.page.PageKey.{PageKey};
-ghost use Rattle.cover_rules.specs.declared.invalidation.Action.{Action};
 ghost use Rattle.cover_rules.specs.declared.invalidation.Invalidation.{Invalidation};
-ghost use Rattle.cover_rules.specs.Pages.{IsPageKey, is_folder_segment, page_key_of, page_path};
-ghost use Rattle.cover_rules.specs.Coverage.{covers, handle_of, outdates, stat_folder, touched_of};
+ghost use Rattle.cover_rules.specs.Pages.{IsPageKey, page_key_of, page_path, HasFolderSegments};
+ghost use Rattle.cover_rules.specs.Coverage.{outdates, KeepsCoverage, TouchesStat, HasStatAboveHandle};
 
 use sp_base::{mangling_and_unmangling, segments_and_their_spelling};
 
@@ -26,7 +25,7 @@ pub fn a_page_has_one_key()
 /// The key of a path, whose segments have bytes, is the key of a page. Each segment of its folder has a file name and no dot.
 pub fn the_key_of_a_path_is_a_page_key()
     ensures key { (path : Segments) (key : PageKey) → IsTrue (is_path path) → AllByRecursion AreBytes path → page_key_of path ≡ Some key → IsPageKey key }
-    ensures folder { (key : PageKey) → IsPageKey key → IsTrue (list_all is_folder_segment key.folder) }
+    ensures folder { (key : PageKey) → IsPageKey key → HasFolderSegments key }
 {
     a_page_has_one_key();
     mangling_and_unmangling();
@@ -34,8 +33,8 @@ pub fn the_key_of_a_path_is_a_page_key()
 
 /// What an invalidation covers doesn't depend on how its handle is spelled.
 pub fn the_spelling_of_a_handle()
-    ensures unmangled { (level : ℕ) (auto only : Bool) (action : Action) (handle : List (List ℕ)) (key : PageKey) → covers level auto (record { action = action; handle = unmangled_segs handle; only = only }) key ≡ covers level auto (record { action = action; handle = handle; only = only }) key }
-    ensures mangled { (level : ℕ) (auto only : Bool) (action : Action) (handle : List (List ℕ)) (key : PageKey) → covers level auto (record { action = action; handle = mangled_segs handle; only = only }) key ≡ covers level auto (record { action = action; handle = handle; only = only }) key }
+    ensures unmangled { KeepsCoverage unmangled_segs }
+    ensures mangled { KeepsCoverage mangled_segs }
 {
     mangling_and_unmangling();
 }
@@ -44,6 +43,6 @@ pub fn the_spelling_of_a_handle()
 /// folder are those of one, as each page's are (`the_key_of_a_path_is_a_page_key`). That folder is one of those
 /// above the handle, so a page elsewhere isn't outdated.
 pub fn a_touch_outdates_the_pages_of_its_folders()
-    ensures folders { (level : ℕ) (inv : Invalidation) (key : PageKey) → IsTrue (list_all is_folder_segment key.folder) → (outdates level true inv key ≡ true) ↔ Contains (touched_of level inv) (stat_folder level key) }
-    ensures above { (level : ℕ) (auto : Bool) (inv : Invalidation) (key : PageKey) → outdates level auto inv key ≡ true → (n : ℕ) × (stat_folder level key ≡ take n (parent_of (handle_of inv))) }
+    ensures folders { (level : ℕ) (inv : Invalidation) (key : PageKey) → HasFolderSegments key → (outdates level true inv key ≡ true) ↔ TouchesStat level inv key }
+    ensures above { (level : ℕ) (auto : Bool) (inv : Invalidation) (key : PageKey) → outdates level auto inv key ≡ true → HasStatAboveHandle level inv key }
 {}

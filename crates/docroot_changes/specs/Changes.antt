@@ -1,5 +1,5 @@
 -- What a call on the files of the docroot makes of the pages, the stamps of folders and the number of the session that they hold.
-use Rattle.std.specs.Prelude.{◌≡◌, ◌≢◌, ◌⊎◌, ◌≤◌, ◌<◌, ◌+◌, ℕ, Bool, IsTrue, Option, Some, None, length}
+use Rattle.std.specs.Prelude.{◌≡◌, ◌≢◌, ◌⊎◌, ◌≤◌, ◌<◌, ◌+◌, ℕ, Bool, IsTrue, Option, Some, None, length, OnOk, Result, IfErr, List, ◌^◌, ⊤}
 use Rattle.std.specs.FinMap.{keys}
 use Rattle.std.specs.List.{AllByRecursion, filter}
 use Rattle.sp_base.specs.Bytes.{AreBytes}
@@ -7,17 +7,21 @@ use Rattle.sp_base.specs.Paths.{is_path}
 use Rattle.sp_base.specs.Texts.{Segments, Text}
 use Rattle.sp_base.specs.declared.answer.Answer.{Answer}
 use Rattle.sp_outside.specs.Files.{Files}
+use Rattle.sp_outside.specs.Calls.{Call}
 use Rattle.cover_rules.specs.declared.page.PageKey.{PageKey}
 use Rattle.cover_rules.specs.declared.stamp.Stamp.{Stamp}
+use Rattle.cover_rules.specs.Pages.{IsPageKey}
 use Rattle.docroot_format.specs.Names.{IsFolder}
 use Rattle.docroot_format.specs.declared.fault.FileFault.{FileFault}
 use Rattle.docroot_format.specs.declared.fault.FileFault.TheVariants.{Disk}
+use Rattle.docroot_format.specs.Faults.{IsLeftByFault}
 use Rattle.cache_files.specs.Changes.{HasNoPage, HasPage, HasSamePage, KeepsOtherPages, KeepsPages}
 use Rattle.cache_files.specs.Epochs.{after_epoch, epoch_held, next_epoch}
 use Rattle.cache_files.specs.HeldStamps.{KeepsOrder}
 use Rattle.cache_files.specs.declared.epoch.OpenFault.{OpenFault}
 use Rattle.cache_files.specs.declared.epoch.OpenFault.TheVariants.{Disk as open_disk}
-use Rattle.stat_files.specs.Stamps.{stamp_at}
+use Rattle.cache_files.specs.Pages.{IsPagePut, told_with_page, IsPutLeft}
+use Rattle.stat_files.specs.Stamps.{stamp_at, told_with_stamp}
 
 -- This holds of the files before and after a call, where the disk tells them: it tells them after the call exactly where it told them before.
 abbrev pub Told : (Files → Files → Type 0) → Option Files → Option Files → Type 0
@@ -142,3 +146,25 @@ pub record MayOpen (fault : OpenFault) (old new : Files) : Type 0 where
   pub order : KeepsOrder old new
   pub names : AddsNames 1 old new
   pub again : 0 < epoch_held old → AddsNames 0 old new
+
+-- a put that is done sets the page of its key
+abbrev pub PutsSetThePage : Type 0
+PutsSetThePage = (result : Result ⊤ FileFault) (before after : Option Files) (key : PageKey) (stamp : Stamp) (answer : Answer) → IsPageKey key → IsPagePut stamp answer
+    → OnOk result (after ≡ told_with_page before key stamp answer) → OnOk result (Told (PageSet key stamp answer) before after)
+
+-- one that failed leaves the old page, none, or, where the disk failed, the new one
+abbrev pub StoppedPutsMaySetThePage : Type 0
+StoppedPutsMaySetThePage = (result : Result ⊤ FileFault) (asked made : Option (List Call)) (before after : Option Files) (key : PageKey) (stamp : Stamp) (answer : Answer)
+    → IsPageKey key → IsPagePut stamp answer → IfErr result (IsPutLeft asked made before after key stamp answer)
+    → IfErr result (λ fault. Told (MayPut key stamp answer fault) before after)
+
+-- a touch that is done sets the stamp of its folder
+abbrev pub TouchesSetTheStamp : Type 0
+TouchesSetTheStamp = (result : Result ⊤ FileFault) (before after : Option Files) (folder : Segments) (stamp : Stamp) → IsStampFolder folder → stamp.epoch < 2 ^ 64
+    → stamp.count < 2 ^ 64 → OnOk result (after ≡ told_with_stamp before folder stamp) → OnOk result (Told (StampSet folder stamp) before after)
+
+-- one that failed leaves the old stamp or, where the disk failed, the new one
+abbrev pub StoppedTouchesMaySetTheStamp : Type 0
+StoppedTouchesMaySetTheStamp = (result : Result ⊤ FileFault) (before after : Option Files) (folder : Segments) (stamp : Stamp) → IsStampFolder folder → stamp.epoch < 2 ^ 64
+    → stamp.count < 2 ^ 64 → IfErr result (IsLeftByFault before (told_with_stamp before folder stamp) after)
+    → IfErr result (λ fault. Told (MayTouch folder stamp fault) before after)

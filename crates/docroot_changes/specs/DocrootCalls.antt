@@ -1,13 +1,20 @@
 -- Which calls of a disk the cache makes. Each is of one of its files, and none leads out of the document root.
-use Rattle.std.specs.Prelude.{◌≡◌, ◌⊎◌, [], Bool, Contains, IsTrue, List, Option}
+use Rattle.std.specs.Prelude.{◌≡◌, ◌⊎◌, [], Bool, Contains, IsTrue, List, Option, ◌++◌, IfErr, OnOk, Result, ⊤}
 use Rattle.std.specs.List.{AllByRecursion, list_all}
 use Rattle.sp_base.specs.Paths.{is_path, parent_of, pieces}
 use Rattle.sp_base.specs.Texts.{Text}
+use Rattle.sp_base.specs.declared.answer.Answer.{Answer}
 use Rattle.sp_outside.specs.Calls.{Call, Get, Put, Remove, Names, told_calls}
 use Rattle.sp_outside.specs.FileNames.{is_inner}
+use Rattle.sp_outside.specs.Files.{Files}
 use Rattle.cover_rules.specs.declared.invalidation.Invalidation.{Invalidation}
+use Rattle.cover_rules.specs.Pages.{IsPageKey}
+use Rattle.cover_rules.specs.declared.page.PageKey.{PageKey}
+use Rattle.cover_rules.specs.declared.stamp.Stamp.{Stamp}
 use Rattle.docroot_format.specs.Deletions.{deleted_prefixes}
 use Rattle.docroot_format.specs.Names.{epoch_name, is_docroot_name, is_page_file, is_stat_file}
+use Rattle.docroot_format.specs.declared.fault.FileFault.{FileFault}
+use Rattle.cache_files.specs.Pages.{IsPutLeft, put_calls}
 
 -- the name is that of the session's number, of a page's file or of a folder's stamp
 abbrev pub IsCacheFile : Text → Type 0
@@ -32,3 +39,17 @@ MakesDocrootCalls before after = (made : List Call) × (AllByRecursion IsDocroot
 -- each piece of the beginning of names but the one after its last slash leads into a folder, so that it begins with no slash either
 abbrev pub leads_in : Text → Bool
 leads_in prefix = list_all is_inner (parent_of (pieces prefix))
+
+-- calls that the cache may make stay such calls when more of them follow
+abbrev pub CallsAddUp : Option (List Call) → Option (List Call) → Option (List Call) → Type 0
+CallsAddUp before between after = MakesDocrootCalls before between → MakesDocrootCalls between after → MakesDocrootCalls before after
+
+-- the calls before stay the first, and those after them are such calls
+abbrev pub FollowsByDocrootCalls : List Call → List Call → Type 0
+FollowsByDocrootCalls before after = (made : List Call) × (AllByRecursion IsDocrootCall made × (after ≡ before ++ made))
+
+-- a put of a page makes only calls that the cache may make, whatever it answers
+abbrev pub PutsTakeDocrootCalls : Type 0
+PutsTakeDocrootCalls = (result : Result ⊤ FileFault) (asked made : Option (List Call)) (before after : Option Files) (key : PageKey) (stamp : Stamp) (answer : Answer)
+    → IsPageKey key → OnOk result (made ≡ told_calls asked (put_calls key stamp answer))
+    → IfErr result (IsPutLeft asked made before after key stamp answer) → MakesDocrootCalls asked made

@@ -1,9 +1,7 @@
 //! Which calls of the disk are made for the files of the cache: laws, on functions that do nothing.
-ghost use Rattle.std.specs.Prelude.{◌≡◌, ◌++◌, ◌∷◌, [], ℕ, ⊤, true, Bool, List, Option, Result, Some, IfErr, IfOk, IsTrue, OnOk};
-ghost use Rattle.std.specs.List.{AllByRecursion};
+ghost use Rattle.std.specs.Prelude.{◌≡◌, ◌∷◌, [], ℕ, ⊤, true, Bool, List, Option, Result, Some, IfErr, IfOk, IsTrue, OnOk};
 ghost use Rattle.sp_base.specs.Paths.{is_path};
 ghost use Rattle.sp_base.specs.Texts.{Segments, Text};
-ghost use Rattle.sp_base.specs.declared.answer.Answer.{Answer};
 ghost use Rattle.sp_outside.specs.Calls.{Call, Get, MadeFirst, Names, Put, Remove, told_call, told_calls};
 ghost use Rattle.sp_outside.specs.FileNames.{has_segments, is_inside};
 ghost use Rattle.sp_outside.specs.Files.{Files};
@@ -14,11 +12,11 @@ ghost use Rattle.docroot_format.specs.Faults.{IsOneCall};
 ghost use Rattle.docroot_format.specs.Names.{stat_name};
 ghost use Rattle.docroot_format.specs.declared.fault.FileFault.{FileFault};
 ghost use Rattle.cache_files.specs.Epochs.{IsOpenLeft, open_calls};
-ghost use Rattle.cache_files.specs.Pages.{IsCallLeft, IsDropLeft, IsPutLeft, drop_calls, page_body_name, page_head_name, put_calls};
+ghost use Rattle.cache_files.specs.Pages.{IsCallLeft, IsDropLeft, drop_calls, page_body_name, page_head_name};
 ghost use Rattle.cache_files.specs.declared.epoch.OpenFault.{OpenFault};
 ghost use Rattle.cache_files.specs.declared.head_note.HeadNote.{HeadNote};
 ghost use Rattle.cache_files.specs.declared.page.Page.{Page};
-ghost use Rattle.docroot_changes.specs.DocrootCalls.{IsDocrootCall, MakesDocrootCalls, leads_in};
+ghost use Rattle.docroot_changes.specs.DocrootCalls.{IsDocrootCall, MakesDocrootCalls, leads_in, CallsAddUp, FollowsByDocrootCalls, PutsTakeDocrootCalls};
 
 use docroot_format::{names_lie_in_the_docroot, names_tell_their_files};
 
@@ -26,8 +24,8 @@ use docroot_format::{names_lie_in_the_docroot, names_tell_their_files};
 pub fn docroot_calls_add_up()
     ensures none { (calls : Option (List Call)) → MakesDocrootCalls calls calls }
     ensures one { (before : Option (List Call)) (call : Call) → IsDocrootCall call → MakesDocrootCalls before (told_call before call) }
-    ensures more { (before between after : Option (List Call)) → MakesDocrootCalls before between → MakesDocrootCalls between after → MakesDocrootCalls before after }
-    ensures told { (before after : List Call) → MakesDocrootCalls (Some before) (Some after) → (made : List Call) × (AllByRecursion IsDocrootCall made × (after ≡ before ++ made)) }
+    ensures more { (before between after : Option (List Call)) → CallsAddUp before between after }
+    ensures told { (before after : List Call) → MakesDocrootCalls (Some before) (Some after) → FollowsByDocrootCalls before after }
 {}
 
 /// No call that the cache may make leads out of the folder of a disk. A name that is read or written may have a file (`is_inside` of
@@ -42,8 +40,7 @@ pub fn docroot_calls_lead_nowhere_out()
 /// A put and a drop of a page make only calls that the cache may make, whatever they answer (`put_page` and `drop_page`: `made`, `err`),
 /// and so do the three calls that read one (`get_page`: `asked`; `get_head`, `get_known`: `made`, `left`).
 pub fn pages_take_docroot_calls()
-    ensures put { (result : Result ⊤ FileFault) (asked made : Option (List Call)) (before after : Option Files) (key : PageKey) (stamp : Stamp) (answer : Answer) → IsPageKey key
-        → OnOk result (made ≡ told_calls asked (put_calls key stamp answer)) → IfErr result (IsPutLeft asked made before after key stamp answer) → MakesDocrootCalls asked made }
+    ensures put { PutsTakeDocrootCalls }
     ensures dropped { (result : Result ⊤ FileFault) (asked made : Option (List Call)) (before after : Option Files) (key : PageKey) → IsPageKey key
         → OnOk result (made ≡ told_calls asked (drop_calls key)) → IfErr result (IsDropLeft asked made before after key) → MakesDocrootCalls asked made }
     ensures got { (asked made : Option (List Call)) (key : PageKey) → IsPageKey key

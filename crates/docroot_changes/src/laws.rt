@@ -1,19 +1,14 @@
 //! What each call on the files makes of the pages, the stamps and the number of the session: laws, on functions that do nothing.
-ghost use Rattle.std.specs.Prelude.{◌≡◌, ◌<◌, ◌^◌, ℕ, ⊤, List, Option, Result, Ok, IfSome, IfOk, IfErr, OnOk};
-ghost use Rattle.sp_base.specs.Texts.{Segments};
-ghost use Rattle.sp_base.specs.declared.answer.Answer.{Answer};
+ghost use Rattle.std.specs.Prelude.{◌≡◌, ℕ, ⊤, List, Option, Result, Ok, IfSome, IfOk, IfErr, OnOk};
 ghost use Rattle.sp_outside.specs.Calls.{Call};
 ghost use Rattle.sp_outside.specs.Files.{Files};
 ghost use Rattle.cover_rules.specs.Pages.{IsPageKey};
 ghost use Rattle.cover_rules.specs.declared.page.PageKey.{PageKey};
-ghost use Rattle.cover_rules.specs.declared.stamp.Stamp.{Stamp};
-ghost use Rattle.docroot_format.specs.Faults.{IsLeftByFault};
 ghost use Rattle.docroot_format.specs.declared.fault.FileFault.{FileFault};
 ghost use Rattle.cache_files.specs.Epochs.{IsOpenLeft, next_epoch, told_with_epoch};
-ghost use Rattle.cache_files.specs.Pages.{IsDropLeft, IsPagePut, IsPutLeft, told_with_page, told_without_page};
+ghost use Rattle.cache_files.specs.Pages.{IsDropLeft, told_without_page};
 ghost use Rattle.cache_files.specs.declared.epoch.OpenFault.{OpenFault};
-ghost use Rattle.stat_files.specs.Stamps.{told_with_stamp};
-ghost use Rattle.docroot_changes.specs.Changes.{IsStampFolder, MayDrop, MayOpen, MayPut, MayTouch, NumberSet, PageGone, PageSet, StampSet, Told};
+ghost use Rattle.docroot_changes.specs.Changes.{MayDrop, MayOpen, NumberSet, PageGone, Told, PutsSetThePage, StoppedPutsMaySetThePage, TouchesSetTheStamp, StoppedTouchesMaySetTheStamp};
 
 use cache_files::{
     a_failed_drop_leaves_whole_pages, a_failed_opening_leaves_the_old_number_or_the_next,
@@ -31,10 +26,8 @@ use stat_files::{
 /// A put sets the page of its key (`put_page`: `ok`); one that failed leaves the old page, none, or, where the disk failed, the new one
 /// (`err`). Other pages, each stamp and the number of the session are as they were.
 pub fn what_a_put_sets()
-    ensures put { (result : Result ⊤ FileFault) (before after : Option Files) (key : PageKey) (stamp : Stamp) (answer : Answer) → IsPageKey key → IsPagePut stamp answer
-        → OnOk result (after ≡ told_with_page before key stamp answer) → OnOk result (Told (PageSet key stamp answer) before after) }
-    ensures stopped { (result : Result ⊤ FileFault) (asked made : Option (List Call)) (before after : Option Files) (key : PageKey) (stamp : Stamp) (answer : Answer) → IsPageKey key → IsPagePut stamp answer
-        → IfErr result (IsPutLeft asked made before after key stamp answer) → IfErr result (λ fault. Told (MayPut key stamp answer fault) before after) }
+    ensures put { PutsSetThePage }
+    ensures stopped { StoppedPutsMaySetThePage }
 {
     a_page_is_read_back();
     a_failed_put_leaves_whole_pages();
@@ -60,10 +53,8 @@ pub fn what_a_drop_sets()
 /// A touch sets the stamp of its folder (`touch`: `ok`); one that failed leaves the old stamp or, where the disk failed, the new one
 /// (`err`). Each page, the stamps of other folders and the number of the session are as they were.
 pub fn what_a_touch_sets()
-    ensures touched { (result : Result ⊤ FileFault) (before after : Option Files) (folder : Segments) (stamp : Stamp) → IsStampFolder folder → stamp.epoch < 2 ^ 64 → stamp.count < 2 ^ 64
-        → OnOk result (after ≡ told_with_stamp before folder stamp) → OnOk result (Told (StampSet folder stamp) before after) }
-    ensures stopped { (result : Result ⊤ FileFault) (before after : Option Files) (folder : Segments) (stamp : Stamp) → IsStampFolder folder → stamp.epoch < 2 ^ 64 → stamp.count < 2 ^ 64
-        → IfErr result (IsLeftByFault before (told_with_stamp before folder stamp) after) → IfErr result (λ fault. Told (MayTouch folder stamp fault) before after) }
+    ensures touched { TouchesSetTheStamp }
+    ensures stopped { StoppedTouchesMaySetTheStamp }
 {
     a_stamp_is_read_back();
     a_failed_touch_leaves_the_old_stamp_or_the_new();

@@ -1,11 +1,14 @@
 -- The names of the files of the docroot.
-use Rattle.std.specs.Prelude.{◌≡◌, ◌==◌, ◌||◌, ◌&&◌, ◌++◌, ◌∷◌, [], ℕ, Bool, IsTrue, not, List, codes, flat_map, length, nat_eq, nat_lt, slice_index}
+use Rattle.std.specs.Prelude.{◌≡◌, ◌==◌, ◌||◌, ◌&&◌, ◌++◌, ◌∷◌, [], ℕ, Bool, IsTrue, not, List, codes, flat_map, length, nat_eq, nat_lt, slice_index, Contains}
 use Rattle.std.specs.Cmp.Lexicographic.{pointwise}
-use Rattle.std.specs.List.{list_all}
+use Rattle.std.specs.List.{list_all, AllByRecursion}
 use Rattle.sp_base.specs.Paths.{mangled_segs, name_of, pieces}
 use Rattle.sp_base.specs.Texts.{Segments, Text}
+use Rattle.sp_base.specs.Bytes.{AreBytes}
 use Rattle.sp_outside.specs.FileNames.{has_segments, is_inside}
 use Rattle.cover_rules.specs.Names.{file_name, has_file_name, is_plain_name_byte}
+use Rattle.cover_rules.specs.declared.invalidation.Invalidation.{Invalidation}
+use Rattle.cover_rules.specs.Coverage.{touched_of}
 
 -- The names of pages and stamps are of mangled segments, spelled as in URLs, so what lies below `jcr:content` stands below `_jcr_content`.
 -- The folder and the file of a key are mangled already; a folder that gets a stamp is mangled here.
@@ -61,3 +64,11 @@ is_page_file name = has_segments name && not (slice_index (name_of (pieces name)
 -- a .stat file: a name of segments of which the last is `.stat`
 abbrev pub is_stat_file : List ℕ → Bool
 is_stat_file name = has_segments name && pointwise nat_eq (name_of (pieces name)) (codes ".stat")
+
+-- each segment has bytes
+abbrev pub HaveBytes : Segments → Type 0
+HaveBytes segs = AllByRecursion AreBytes segs
+
+-- the invalidation touches the .stat file of the folder
+abbrev pub IsTouchedBy : ℕ → Invalidation → Segments → Type 0
+IsTouchedBy level inv folder = Contains (touched_of level inv) folder

@@ -1,11 +1,13 @@
 -- What bytes read as: a page's head, a folder's stamp, an epoch. A number is decimal digits without a leading zero, below 2^64.
 -- `next_of` is needed by private functions and proofs alone.
-use Rattle.std.specs.Prelude.{◌==◌, ◌&&◌, ◌+◌, ◌*◌, ◌-◌, ℕ, Bool, false, not, nat_eq, nat_le, nat_lt, if◌then◌else◌, List, [], ◌∷◌, Option, Some, None, option_and_then, option_map, codes, drop, take, length, slice_index}
+use Rattle.std.specs.Prelude.{◌==◌, ◌&&◌, ◌+◌, ◌*◌, ◌-◌, ℕ, Bool, false, not, nat_eq, nat_le, nat_lt, if◌then◌else◌, List, [], ◌∷◌, Option, Some, None, option_and_then, option_map, codes, drop, take, length, slice_index, IsTrue, ◌≡◌}
 use Rattle.std.specs.List.{starts_with}
 use Rattle.std.specs.Cmp.Lexicographic.{pointwise}
 use Rattle.sp_base.specs.Bytes.{is_digit}
 use Rattle.sp_base.specs.Limits.{greatest_u64}
 use Rattle.sp_base.specs.MediaTypes.{is_kind}
+use Rattle.sp_base.specs.Texts.{Text}
+use Rattle.docroot_format.specs.Texts.{head_text}
 
 -- the text begins with a digit that fits after a number
 unfoldable pub digit_fits : ℕ → List ℕ → Bool
@@ -67,3 +69,7 @@ body_of stamp text = option_and_then (λ n. option_map (λ kind. record { epoch 
 -- the head that bytes are
 unfoldable pub head_of : List ℕ → Option HeadLine
 head_of text = option_and_then (λ s. body_of s.0 s.1) (option_and_then stamp_of (after_word (codes "page 1 ") text))
+
+-- the line of a head that says this, of a media type, is read back
+abbrev pub IsHeadReadBack : ℕ → ℕ → ℕ → Text → Type 0
+IsHeadReadBack epoch count size kind = IsTrue (is_kind kind) → head_of (head_text epoch count size kind) ≡ Some (record { epoch = epoch; count = count; size = size; kind = kind })

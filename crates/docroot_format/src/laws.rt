@@ -1,16 +1,14 @@
 //! What follows from the definitions of names and texts: laws, on functions that do nothing.
-ghost use Rattle.std.specs.Prelude.{◌≡◌, ◌≢◌, ◌↔◌, ◌<◌, ◌^◌, ◌++◌, ◌∷◌, [], ℕ, List, Contains, IsTrue, Some, false, true};
-ghost use Rattle.sp_base.specs.Bytes.{AreBytes};
+ghost use Rattle.std.specs.Prelude.{◌≡◌, ◌≢◌, ◌↔◌, ◌<◌, ◌^◌, ◌++◌, ◌∷◌, [], ℕ, List, IsTrue, Some, false, true};
 ghost use Rattle.cover_rules.specs.declared.page.PageKey.{PageKey};
 ghost use Rattle.cover_rules.specs.declared.invalidation.Invalidation.{Invalidation};
-ghost use Rattle.cover_rules.specs.Coverage.{deletes, stat_folder, touched_of};
+ghost use Rattle.cover_rules.specs.Coverage.{deletes, stat_folder};
 ghost use Rattle.cover_rules.specs.Pages.{IsPageKey, page_key_of};
 ghost use Rattle.sp_base.specs.Paths.{is_path, mangled_segs};
-ghost use Rattle.std.specs.List.{AllByRecursion};
 ghost use Rattle.sp_outside.specs.FileNames.{beside_ending};
-ghost use Rattle.docroot_format.specs.Names.{body_name, epoch_name, have_names, head_name, is_docroot_name, is_page_file, is_place, is_stat_file, stat_name, IsFolder};
-ghost use Rattle.sp_base.specs.MediaTypes.{is_kind};
-ghost use Rattle.docroot_format.specs.Readings.{HeadLine, epoch_of, head_of, stat_of};
+ghost use Rattle.docroot_format.specs.Names.{body_name, epoch_name, have_names, head_name, is_docroot_name, is_page_file, is_place, is_stat_file, stat_name, IsFolder, HaveBytes, IsTouchedBy};
+ghost use Rattle.sp_base.specs.Texts.{Segments, Text};
+ghost use Rattle.docroot_format.specs.Readings.{HeadLine, epoch_of, head_of, stat_of, IsHeadReadBack};
 ghost use Rattle.docroot_format.specs.Deletions.{IsDeletedByName};
 ghost use Rattle.docroot_format.specs.Texts.{epoch_text, head_text, stat_text};
 
@@ -18,19 +16,19 @@ use sp_base::{mangling_and_unmangling, segments_and_their_spelling};
 
 /// A page that has a key has files, and so have the .stat files of its folder.
 pub fn a_page_has_files()
-    ensures page { (path : List (List ℕ)) (key : PageKey) → page_key_of path ≡ Some key → IsTrue (is_place key.folder key.file) }
-    ensures folder { (path : List (List ℕ)) (key : PageKey) → page_key_of path ≡ Some key → IsTrue (have_names key.folder) }
+    ensures page { (path : Segments) (key : PageKey) → page_key_of path ≡ Some key → IsTrue (is_place key.folder key.file) }
+    ensures folder { (path : Segments) (key : PageKey) → page_key_of path ≡ Some key → IsTrue (have_names key.folder) }
 {}
 
 /// The folder and the file of a page's key are mangled, and so are the folders that may have stamps for it: those of the key's folder,
 /// and each folder that an invalidation touches. Each of their segments has a file name. A folder has one .stat file however it is spelled.
 pub fn folders_are_mangled()
-    ensures page { (path : List (List ℕ)) (key : PageKey) → page_key_of path ≡ Some key → IsFolder key.folder }
-    ensures file { (path : List (List ℕ)) (key : PageKey) → page_key_of path ≡ Some key → mangled_segs (key.file ∷ []) ≡ key.file ∷ [] }
-    ensures stat { (level : ℕ) (path : List (List ℕ)) (key : PageKey) → page_key_of path ≡ Some key → IsFolder (stat_folder level key) }
-    ensures touched { (level : ℕ) (inv : Invalidation) (folder : List (List ℕ)) → Contains (touched_of level inv) folder → IsFolder folder }
-    ensures names { (folder : List (List ℕ)) → IsFolder folder → IsTrue (have_names (mangled_segs folder)) }
-    ensures one { (folder : List (List ℕ)) → stat_name (mangled_segs folder) ≡ stat_name folder }
+    ensures page { (path : Segments) (key : PageKey) → page_key_of path ≡ Some key → IsFolder key.folder }
+    ensures file { (path : Segments) (key : PageKey) → page_key_of path ≡ Some key → mangled_segs (key.file ∷ []) ≡ key.file ∷ [] }
+    ensures stat { (level : ℕ) (path : Segments) (key : PageKey) → page_key_of path ≡ Some key → IsFolder (stat_folder level key) }
+    ensures touched { (level : ℕ) (inv : Invalidation) (folder : Segments) → IsTouchedBy level inv folder → IsFolder folder }
+    ensures names { (folder : Segments) → IsFolder folder → IsTrue (have_names (mangled_segs folder)) }
+    ensures one { (folder : Segments) → stat_name (mangled_segs folder) ≡ stat_name folder }
 {
     mangling_and_unmangling();
 }
@@ -38,10 +36,10 @@ pub fn folders_are_mangled()
 /// The folders that may have stamps for a page are paths of texts, where the page's key is one and the handle of the invalidation is such a
 /// path: the folder whose stamp the page is compared with, and each folder that the invalidation touches.
 pub fn folders_of_stamps_are_paths()
-    ensures touched { (level : ℕ) (inv : Invalidation) (folder : List (List ℕ)) → IsTrue (is_path inv.handle) → Contains (touched_of level inv) folder → IsTrue (is_path folder) }
-    ensures touched_bytes { (level : ℕ) (inv : Invalidation) (folder : List (List ℕ)) → AllByRecursion AreBytes inv.handle → Contains (touched_of level inv) folder → AllByRecursion AreBytes folder }
+    ensures touched { (level : ℕ) (inv : Invalidation) (folder : Segments) → IsTrue (is_path inv.handle) → IsTouchedBy level inv folder → IsTrue (is_path folder) }
+    ensures touched_bytes { (level : ℕ) (inv : Invalidation) (folder : Segments) → HaveBytes inv.handle → IsTouchedBy level inv folder → HaveBytes folder }
     ensures stat { (level : ℕ) (key : PageKey) → IsPageKey key → IsTrue (is_path (stat_folder level key)) }
-    ensures stat_bytes { (level : ℕ) (key : PageKey) → IsPageKey key → AllByRecursion AreBytes (stat_folder level key) }
+    ensures stat_bytes { (level : ℕ) (key : PageKey) → IsPageKey key → HaveBytes (stat_folder level key) }
 {
     mangling_and_unmangling();
     segments_and_their_spelling();
@@ -49,7 +47,7 @@ pub fn folders_of_stamps_are_paths()
 
 /// The texts that are written read as what they were written of.
 pub fn texts_are_read_back()
-    ensures head { (epoch count size : ℕ) (kind : List ℕ) → epoch < 2 ^ 64 → count < 2 ^ 64 → size < 2 ^ 64 → IsTrue (is_kind kind) → head_of (head_text epoch count size kind) ≡ Some (record { epoch = epoch; count = count; size = size; kind = kind }) }
+    ensures head { (epoch count size : ℕ) (kind : Text) → epoch < 2 ^ 64 → count < 2 ^ 64 → size < 2 ^ 64 → IsHeadReadBack epoch count size kind }
     ensures stat { (epoch count : ℕ) → epoch < 2 ^ 64 → count < 2 ^ 64 → stat_of (stat_text epoch count) ≡ Some (epoch, count) }
     ensures epoch { (epoch : ℕ) → 0 < epoch → epoch < 2 ^ 64 → epoch_of (epoch_text epoch) ≡ Some epoch }
 {}
@@ -57,10 +55,10 @@ pub fn texts_are_read_back()
 /// What reads as a head, a stamp or the number of a session is the text of it: a text of one form has no other spelling. The number of a
 /// session is from 1 on and below 2^64.
 pub fn what_reads_is_its_text()
-    ensures head { (text : List ℕ) (line : HeadLine) → head_of text ≡ Some line → text ≡ head_text line.epoch line.count line.size line.kind }
-    ensures stat { (text : List ℕ) (epoch count : ℕ) → stat_of text ≡ Some (epoch, count) → text ≡ stat_text epoch count }
-    ensures epoch { (text : List ℕ) (epoch : ℕ) → epoch_of text ≡ Some epoch → text ≡ epoch_text epoch }
-    ensures fits { (text : List ℕ) (epoch : ℕ) → epoch_of text ≡ Some epoch → (0 < epoch) × (epoch < 2 ^ 64) }
+    ensures head { (text : Text) (line : HeadLine) → head_of text ≡ Some line → text ≡ head_text line.epoch line.count line.size line.kind }
+    ensures stat { (text : Text) (epoch count : ℕ) → stat_of text ≡ Some (epoch, count) → text ≡ stat_text epoch count }
+    ensures epoch { (text : Text) (epoch : ℕ) → epoch_of text ≡ Some epoch → text ≡ epoch_text epoch }
+    ensures fits { (text : Text) (epoch : ℕ) → epoch_of text ≡ Some epoch → (0 < epoch) × (epoch < 2 ^ 64) }
 {}
 
 /// The name of each file lies in the docroot: a disk's guard takes it (`is_inside` of `sp_outside`), since it has no empty segment and none
@@ -68,7 +66,7 @@ pub fn what_reads_is_its_text()
 pub fn names_lie_in_the_docroot()
     ensures body { (key : PageKey) → IsPageKey key → IsTrue (is_docroot_name (body_name key.folder key.file)) }
     ensures head { (key : PageKey) → IsPageKey key → IsTrue (is_docroot_name (head_name key.folder key.file)) }
-    ensures stat { (folder : List (List ℕ)) → IsTrue (is_path folder) → IsTrue (is_docroot_name (stat_name folder)) }
+    ensures stat { (folder : Segments) → IsTrue (is_path folder) → IsTrue (is_docroot_name (stat_name folder)) }
     ensures epoch { IsTrue (is_docroot_name epoch_name) }
 {}
 
@@ -77,13 +75,13 @@ pub fn names_lie_in_the_docroot()
 pub fn names_are_apart()
     ensures bodies { (key other : PageKey) → IsPageKey key → IsPageKey other → body_name key.folder key.file ≡ body_name other.folder other.file → key ≡ other }
     ensures heads { (key other : PageKey) → IsPageKey key → IsPageKey other → head_name key.folder key.file ≡ head_name other.folder other.file → key ≡ other }
-    ensures stats { (folder other : List (List ℕ)) → AllByRecursion AreBytes folder → AllByRecursion AreBytes other → stat_name folder ≡ stat_name other → mangled_segs folder ≡ mangled_segs other }
+    ensures stats { (folder other : Segments) → HaveBytes folder → HaveBytes other → stat_name folder ≡ stat_name other → mangled_segs folder ≡ mangled_segs other }
     ensures head { (key other : PageKey) → IsPageKey key → IsPageKey other → head_name key.folder key.file ≢ body_name other.folder other.file }
-    ensures stat_body { (folder : List (List ℕ)) (key : PageKey) → AllByRecursion AreBytes folder → IsPageKey key → stat_name folder ≢ body_name key.folder key.file }
-    ensures stat_head { (folder : List (List ℕ)) (key : PageKey) → AllByRecursion AreBytes folder → IsPageKey key → stat_name folder ≢ head_name key.folder key.file }
+    ensures stat_body { (folder : Segments) (key : PageKey) → HaveBytes folder → IsPageKey key → stat_name folder ≢ body_name key.folder key.file }
+    ensures stat_head { (folder : Segments) (key : PageKey) → HaveBytes folder → IsPageKey key → stat_name folder ≢ head_name key.folder key.file }
     ensures epoch_body { (key : PageKey) → IsPageKey key → epoch_name ≢ body_name key.folder key.file }
     ensures epoch_head { (key : PageKey) → IsPageKey key → epoch_name ≢ head_name key.folder key.file }
-    ensures epoch_stat { (folder : List (List ℕ)) → AllByRecursion AreBytes folder → stat_name folder ≢ epoch_name }
+    ensures epoch_stat { (folder : Segments) → HaveBytes folder → stat_name folder ≢ epoch_name }
 {}
 
 /// The files of pages and the .stat files are told by their names: a page's body and head are page files, a folder's stamp is a .stat
@@ -91,7 +89,7 @@ pub fn names_are_apart()
 pub fn names_tell_their_files()
     ensures body { (key : PageKey) → IsPageKey key → IsTrue (is_page_file (body_name key.folder key.file)) }
     ensures head { (key : PageKey) → IsPageKey key → IsTrue (is_page_file (head_name key.folder key.file)) }
-    ensures stat { (folder : List (List ℕ)) → IsTrue (is_path folder) → IsTrue (is_stat_file (stat_name folder)) }
+    ensures stat { (folder : Segments) → IsTrue (is_path folder) → IsTrue (is_stat_file (stat_name folder)) }
     ensures apart { (name : List ℕ) → IsTrue (is_page_file name) → is_stat_file name ≡ false }
     ensures epoch_page { is_page_file epoch_name ≡ false }
     ensures epoch_stat { is_stat_file epoch_name ≡ false }
@@ -99,18 +97,18 @@ pub fn names_tell_their_files()
 
 /// No name ends as that of a file which a disk writes beside another, so that a file of the cache is never taken for one of those.
 pub fn no_name_ends_as_one_beside()
-    ensures body { (folder : List (List ℕ)) (file rest : List ℕ) → body_name folder file ≢ rest ++ beside_ending }
-    ensures head { (folder : List (List ℕ)) (file rest : List ℕ) → head_name folder file ≢ rest ++ beside_ending }
-    ensures stat { (folder : List (List ℕ)) (rest : List ℕ) → stat_name folder ≢ rest ++ beside_ending }
+    ensures body { (folder : Segments) (file rest : List ℕ) → body_name folder file ≢ rest ++ beside_ending }
+    ensures head { (folder : Segments) (file rest : List ℕ) → head_name folder file ≢ rest ++ beside_ending }
+    ensures stat { (folder : Segments) (rest : List ℕ) → stat_name folder ≢ rest ++ beside_ending }
     ensures epoch { (rest : List ℕ) → epoch_name ≢ rest ++ beside_ending }
 {}
 
 /// An invalidation deletes exactly the page at its handle, and the pages whose files have names that begin with one of its prefixes. It is
 /// the same whether a page's body is looked at or its head.
 pub fn deleted_pages_are_told_by_names()
-    ensures body { (inv : Invalidation) (key : PageKey) → IsPageKey key → IsTrue (is_path inv.handle) → AllByRecursion AreBytes inv.handle
+    ensures body { (inv : Invalidation) (key : PageKey) → IsPageKey key → IsTrue (is_path inv.handle) → HaveBytes inv.handle
         → (deletes inv key ≡ true) ↔ IsDeletedByName inv key (body_name key.folder key.file) }
-    ensures head { (inv : Invalidation) (key : PageKey) → IsPageKey key → IsTrue (is_path inv.handle) → AllByRecursion AreBytes inv.handle
+    ensures head { (inv : Invalidation) (key : PageKey) → IsPageKey key → IsTrue (is_path inv.handle) → HaveBytes inv.handle
         → (deletes inv key ≡ true) ↔ IsDeletedByName inv key (head_name key.folder key.file) }
 {
     segments_and_their_spelling();

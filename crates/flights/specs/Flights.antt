@@ -1,5 +1,5 @@
 -- The flights in the air, and what an invalidation makes of them (Adobe Dispatcher manual, "Invalidating Cached Pages From AEM").
-use Rattle.std.specs.Prelude.{◌<◌, ◌≤◌, ◌==◌, ◌||◌, ℕ, Bool, false, if◌then◌else◌, List, [], ◌∷◌, Option, Some, None, IfSome, map}
+use Rattle.std.specs.Prelude.{◌<◌, ◌≤◌, ◌==◌, ◌||◌, ℕ, Bool, false, if◌then◌else◌, List, [], ◌∷◌, Option, Some, None, IfSome, map, ◌≡◌, option_map, ◌++◌, remove, slice_get}
 use Rattle.std.specs.List.{AllByRecursion}
 use Rattle.cover_rules.specs.declared.page.PageKey.{PageKey}
 use Rattle.cover_rules.specs.declared.invalidation.Invalidation.{Invalidation}
@@ -51,3 +51,27 @@ after_invalidation level inv flight = record flight { voided = flight.voided || 
 abbrev pub after_invalidations : ℕ → List Invalidation → Flight → Flight
 after_invalidations level [] flight = flight
 after_invalidations level (inv ∷ invs) flight = after_invalidations level invs (after_invalidation level inv flight)
+
+-- the flight is there under its number
+abbrev pub HasItsNumber : Flight → List Flight → Type 0
+HasItsNumber flight flights = flight_at flight.number flights ≡ Some flight
+
+-- the same flight is there under this number, or none still
+abbrev pub KeepsFlight : ℕ → List Flight → List Flight → Type 0
+KeepsFlight number old new = flight_at number new ≡ flight_at number old
+
+-- the flight under this number is there once the invalidation has begun, as that leaves it
+abbrev pub VoidsAlone : ℕ → ℕ → Invalidation → List Flight → Type 0
+VoidsAlone number level inv flights = flight_at number (map (after_invalidation level inv) flights) ≡ option_map (after_invalidation level inv) (flight_at number flights)
+
+-- where numbers rise they do so with that of a flight which is above them
+abbrev pub RisesWith : ℕ → ℕ → Flight → List Flight → Type 0
+RisesWith least most flight flights = AreRising least flights most → most < flight.number → AreRising least (flights ++ flight ∷ []) flight.number
+
+-- where they rise they do so once an invalidation has begun
+abbrev pub RisesAfter : ℕ → ℕ → ℕ → Invalidation → List Flight → Type 0
+RisesAfter least most level inv flights = AreRising least flights most → AreRising least (map (after_invalidation level inv) flights) most
+
+-- where this number stands at this place it alone goes from there as its flight does
+abbrev pub LeavesPlace : ℕ → ℕ → List Flight → Type 0
+LeavesPlace number place flights = slice_get (numbers_of flights) place ≡ Some number → numbers_of (without number flights) ≡ remove (numbers_of flights) place

@@ -1,31 +1,26 @@
 //! What follows for flights in the air, on functions that do nothing.
-ghost use Rattle.std.specs.Prelude.{◌≡◌, ◌≢◌, ◌<◌, ◌++◌, ◌∷◌, ◌||◌, [], ℕ, List, IsSome, Some, None, false, true, map, option_map, remove, slice_get};
-ghost use Rattle.std.specs.List.{list_any};
-ghost use Rattle.cover_rules.specs.declared.page.PageKey.{PageKey};
+ghost use Rattle.std.specs.Prelude.{◌≡◌, ◌≢◌, ◌<◌, ◌++◌, ◌∷◌, [], ℕ, List, IsSome, Some, None, map, slice_get};
 ghost use Rattle.cover_rules.specs.declared.invalidation.Invalidation.{Invalidation};
-ghost use Rattle.cover_rules.specs.Coverage.{covers};
 ghost use Rattle.flights.specs.declared.flight.Flight.{Flight};
-ghost use Rattle.flights.specs.declared.landing.Landing.{Landing};
-ghost use Rattle.flights.specs.declared.landing.Landing.TheVariants.{Clear, Voided, Unkeyed};
-ghost use Rattle.flights.specs.Flights.{AreRising, after_invalidation, after_invalidations, flight_at, numbers_of, without};
-ghost use Rattle.flights.specs.Landings.{LandsAs};
+ghost use Rattle.flights.specs.Flights.{AreRising, after_invalidation, flight_at, numbers_of, without, HasItsNumber, KeepsFlight, VoidsAlone, RisesWith, RisesAfter, LeavesPlace};
+ghost use Rattle.flights.specs.Landings.{UncoveredFlightsLandClear, CoveredFlightsLandVoided, UnkeyedFlightsLandUnkeyed};
 
 /// A flight that is asked under a number that no other has is there under it (`asked`), and stays so while others are asked
 /// (`others_asked`), land or are lost (`others_spent`), but that an invalidation that covers its page voids it (`voided`). Where numbers
 /// rise, none is there under its number once its ticket is spent (`spent`).
 pub fn a_flight_is_there_until_its_ticket_is_spent()
-    ensures asked { (flight : Flight) (flights : List Flight) → flight_at flight.number flights ≡ None → flight_at flight.number (flights ++ flight ∷ []) ≡ Some flight }
-    ensures others_asked { (number : ℕ) (other : Flight) (flights : List Flight) → number ≢ other.number → flight_at number (flights ++ other ∷ []) ≡ flight_at number flights }
+    ensures asked { (flight : Flight) (flights : List Flight) → flight_at flight.number flights ≡ None → HasItsNumber flight (flights ++ flight ∷ []) }
+    ensures others_asked { (number : ℕ) (other : Flight) (flights : List Flight) → number ≢ other.number → KeepsFlight number flights (flights ++ other ∷ []) }
     ensures others_spent { (number other : ℕ) (flights : List Flight) → number ≢ other → flight_at number (without other flights) ≡ flight_at number flights }
-    ensures voided { (number level : ℕ) (inv : Invalidation) (flights : List Flight) → flight_at number (map (after_invalidation level inv) flights) ≡ option_map (after_invalidation level inv) (flight_at number flights) }
+    ensures voided { (number level : ℕ) (inv : Invalidation) (flights : List Flight) → VoidsAlone number level inv flights }
     ensures spent { (least number most : ℕ) (flights : List Flight) → AreRising least flights most → flight_at number (without number flights) ≡ None }
 {}
 
 /// The numbers of the flights in the air rise where each that is asked has a higher number than all before it (`asked`): an invalidation
 /// and a landing keep that (`voided`, `left`), and no flight has a number above the greatest (`above`).
 pub fn the_numbers_of_flights_rise()
-    ensures asked { (least most : ℕ) (flight : Flight) (flights : List Flight) → AreRising least flights most → most < flight.number → AreRising least (flights ++ flight ∷ []) flight.number }
-    ensures voided { (least most level : ℕ) (inv : Invalidation) (flights : List Flight) → AreRising least flights most → AreRising least (map (after_invalidation level inv) flights) most }
+    ensures asked { (least most : ℕ) (flight : Flight) (flights : List Flight) → RisesWith least most flight flights }
+    ensures voided { (least most level : ℕ) (inv : Invalidation) (flights : List Flight) → RisesAfter least most level inv flights }
     ensures left { (least number most : ℕ) (flights : List Flight) → AreRising least flights most → AreRising least (without number flights) most }
     ensures above { (least number most : ℕ) (flights : List Flight) → AreRising least flights most → most < number → flight_at number flights ≡ None }
 {}
@@ -37,14 +32,14 @@ pub fn tickets_have_the_places_of_their_flights()
     ensures asked { (flight : Flight) (flights : List Flight) → numbers_of (flights ++ flight ∷ []) ≡ numbers_of flights ++ flight.number ∷ [] }
     ensures voided { (level : ℕ) (inv : Invalidation) (flights : List Flight) → numbers_of (map (after_invalidation level inv) flights) ≡ numbers_of flights }
     ensures there { (number place : ℕ) (flights : List Flight) → slice_get (numbers_of flights) place ≡ Some number → IsSome (flight_at number flights) }
-    ensures left { (least number most place : ℕ) (flights : List Flight) → AreRising least flights most → slice_get (numbers_of flights) place ≡ Some number → numbers_of (without number flights) ≡ remove (numbers_of flights) place }
+    ensures left { (least number most place : ℕ) (flights : List Flight) → AreRising least flights most → LeavesPlace number place flights }
 {}
 
 /// A flight that is for a page gives leave to keep it where it was not voided as it was asked, and no invalidation that has begun since
 /// covers the page (`clear`); it gives none where it was, or one does (`voided`), however many have begun since; and a flight that is for
 /// no page gives none (`unkeyed`).
 pub fn a_flight_lands_clear_where_nothing_covered_it()
-    ensures clear { (level : ℕ) (invs : List Invalidation) (flight : Flight) (key : PageKey) (landing : Landing) → flight.key ≡ Some key → (flight.voided || list_any (λ inv. covers level flight.auto inv key) invs) ≡ false → LandsAs (after_invalidations level invs flight) landing → landing ≡ Clear (record { key = key; stamp = flight.stamp }) }
-    ensures voided { (level : ℕ) (invs : List Invalidation) (flight : Flight) (key : PageKey) (landing : Landing) → flight.key ≡ Some key → (flight.voided || list_any (λ inv. covers level flight.auto inv key) invs) ≡ true → LandsAs (after_invalidations level invs flight) landing → landing ≡ Voided key }
-    ensures unkeyed { (level : ℕ) (invs : List Invalidation) (flight : Flight) (landing : Landing) → flight.key ≡ None → LandsAs (after_invalidations level invs flight) landing → landing ≡ Unkeyed }
+    ensures clear { UncoveredFlightsLandClear }
+    ensures voided { CoveredFlightsLandVoided }
+    ensures unkeyed { UnkeyedFlightsLandUnkeyed }
 {}

@@ -1,7 +1,8 @@
 -- What a front keeps of its connections, before what is behind them. (Of the theorem's reader this file is no concern.)
-use Rattle.std.specs.Prelude.{◌≡◌, ◌≢◌, ◌<◌, ◌-◌, ℕ, Bool, true, false, if◌then◌else◌, List, [], ◌∷◌, Option, Some, None, IsTrue}
+use Rattle.std.specs.Prelude.{◌≡◌, ◌≢◌, ◌<◌, ◌-◌, ℕ, Bool, true, false, if◌then◌else◌, List, [], ◌∷◌, Option, Some, None, IsTrue, ◌==◌}
 use Rattle.std.specs.BTreeMap.{BTreeMap, get, btree_map_len}
 use Rattle.std.specs.Ordering.{nat_cmp}
+use Rattle.std.specs.Option.{option_map}
 use Rattle.sp_base.specs.Limits.{greatest_u64}
 use Rattle.sp_base.specs.Requests.{Request}
 use Rattle.sp_outside.specs.Files.{Files}
@@ -10,9 +11,12 @@ use Rattle.http_front.specs.declared.fault.InFault.{InFault}
 use Rattle.http_front.specs.declared.turn.Turn.{Turn}
 use Rattle.http_front.specs.declared.turn.Turn.TheVariants.{Whole}
 use Rattle.cache_log.specs.Ids.{FlushId}
-use Rattle.connections.specs.Connections.{Connection, Close, Nothing, Refuse, Treat, due_without_sending}
+use Rattle.connections.specs.Connections.{Connection, Close, Nothing, Refuse, Treat, due_without_sending, is_crowded}
 use Rattle.connections.specs.Connections as model
 use Rattle.connections.specs.Ids.{ConnectionId}
+use Rattle.connections.specs.declared.awaited.Awaited.{Awaited}
+use Rattle.connections.specs.declared.place.Reply.{Reply}
+use Rattle.connections.specs.Slots.{Response}
 use Rattle.run_events.specs.declared.conditions.Conditions.{Conditions}
 use Rattle.run_events.specs.declared.note.Note.{Note}
 use Rattle.run_events.specs.declared.step.Step.{Step}
@@ -27,8 +31,9 @@ use Rattle.front.specs.declared.serve.Served.{Served}
 use Rattle.front.specs.declared.serve.Served.TheVariants.{Said, Begun, Quiet, Ended}
 use Rattle.front.specs.declared.treat.Treated.{Treated}
 use Rattle.front.specs.declared.effect.Effect.{Effect}
-use Rattle.front.specs.Caches.{Allows, Behind, BehindStandsFor, GivesIn, HasNoteCause, IsEnding, IsSlicing, behind}
+use Rattle.front.specs.Caches.{Allows, Behind, BehindStandsFor, GivesIn, HasNoteCause, IsEnding, IsSlicing, behind, CacheParts, RepliesFor, under_nothing, with_end_if}
 use Rattle.front.specs.KeptConnections.{AnswersStandFor, ConnectionStandsFor, Owes, ConnectionReads}
+use Rattle.front.specs.declared.serve.AllServed.{AllServed}
 use Rattle.sp_outside.specs.Causes.{IsDiskFailure}
 
 -- ---- connections
@@ -192,3 +197,57 @@ pub record FirstThen (ended : EndedAs) (w : RunState) (effect : Effect) (before 
   pub first : Allows ended.conditions effect.conditions
   pub cause : HaveCause before b.faults effect.conditions w effect.notes.items
   pub board_is : BoardStandsFor b (state_after_notes w effect.notes.items)
+
+-- ---- before and after a call, over a disk of which this says what it tells of its files, and that how often it failed
+
+-- the board made an event of this step
+abbrev pub BoardSteps : {D : Type 0} → (D → Option Files) → (D → ℕ) → Step → Board → D → Board → D → Effect → Type 0
+BoardSteps files faults step old before new after effect = BoardMakesEvent (at_disk old (files before) (faults before)) (at_disk new (files after) (faults after)) step effect
+
+-- the same of a step that leaves the disk alone: whatever this tells
+abbrev pub BoardStepsAlone : Step → Board → Board → Effect → Type 0
+BoardStepsAlone step old new effect = (files : Option Files) (faults : ℕ) → BoardMakesEvent (at_disk old files faults) (at_disk new files faults) step effect
+
+-- the board gave this connection all that it is owed, in each state that it stood for
+abbrev pub SettlesConnection : {D : Type 0} → (D → Option Files) → (D → ℕ) → ConnectionId → Board → D → Board → D → Effect → Type 0
+SettlesConnection files faults c old before new after effect =
+    (w : RunState) → BoardStandsFor (at_disk old (files before) (faults before)) w → SettlesIn effect.conditions w c effect.notes.items (faults before) (faults after) × BoardStandsFor (at_disk new (files after) (faults after)) (state_after_notes w effect.notes.items)
+
+-- the board gave the connection that waits for what ended its response, and then all that it is owed
+abbrev pub FinishesEnded : {D : Type 0} → (D → Option Files) → (D → ℕ) → EndedAs → Board → D → Board → D → Effect → Type 0
+FinishesEnded files faults ended old before new after effect =
+    (w : RunState) (count : ℕ) → HasEnded (at_disk old (files before) (faults before)) w ended count → FirstThen ended w effect count (at_disk new (files after) (faults after))
+
+-- this connection has the response in the slot that waits for it, if there are both, and the others are as before
+abbrev pub FillsConnection : ConnectionId → Awaited → Option Reply → Board → Board → Type 0
+FillsConnection c awaited reply old new =
+    (q : ℕ) (o : Option Connection) (response : Option Response) → RepliesFor reply response → EntryStandsFor (get nat_cmp old.open_connections q) o → EntryStandsFor (get nat_cmp new.open_connections q) (if q == c then option_map (with_end_if awaited response) o else o)
+
+-- a connection that was stood for is given the next thing that it is owed
+abbrev pub ServesNext : {D : Type 0} → (D → Option Files) → (D → ℕ) → ConnectionId → KeptConnection → CacheParts → D → KeptConnection → CacheParts → D → Served → Type 0
+ServesNext files faults c old cache before new next after served =
+    (w : RunState) → OpenStandsFor w c old (behind cache (files before) (faults before)) → ServedAs served w c new (behind cache (files before) (faults before)) (behind next (files after) (faults after))
+
+-- the same where nothing of it can be sent
+abbrev pub ServesTurn : {D : Type 0} → (D → Option Files) → (D → ℕ) → ConnectionId → KeptConnection → CacheParts → D → KeptConnection → CacheParts → D → Served → Type 0
+ServesTurn files faults c old cache before new next after served =
+    (w : RunState) → OpenWithoutSending w c old (behind cache (files before) (faults before)) → ServedAs served w c new (behind cache (files before) (faults before)) (behind next (files after) (faults after))
+
+-- it is given all that it is owed
+abbrev pub ServesAll : {D : Type 0} → (D → Option Files) → (D → ℕ) → ConnectionId → KeptConnection → CacheParts → D → KeptConnection → CacheParts → D → AllServed → Type 0
+ServesAll files faults c old cache before new next after all =
+    (w : RunState) → OpenStandsFor w c old (behind cache (files before) (faults before)) → AllGiven all.effect all.over w c new (behind cache (files before) (faults before)) (behind next (files after) (faults after))
+
+-- the request that was taken of it is treated
+abbrev pub TreatsRequest : {D : Type 0} → (D → Option Files) → (D → ℕ) → ConnectionId → Request → KeptConnection → CacheParts → D → KeptConnection → CacheParts → D → Treated → Type 0
+TreatsRequest files faults c request old cache before new next after treated =
+    (w : RunState) → OwesRequest w c old (behind cache (files before) (faults before)) request → TreatedAs treated w c new (behind cache (files before) (faults before)) (behind next (files after) (faults after))
+
+-- the request that was taken of a crowded connection is turned away, whatever is behind it
+abbrev pub TurnsAway : ConnectionId → Request → KeptConnection → KeptConnection → Treated → Type 0
+TurnsAway c request old new treated = (w : RunState) (b : Behind) (owes : OwesRequest w c old b request) → IsTrue (is_crowded owes.connection) → TreatedAs treated w c new b b
+
+-- the fault that was taken of it is answered, whatever is behind it
+abbrev pub RefusesFault : ConnectionId → InFault → KeptConnection → KeptConnection → Note → Type 0
+RefusesFault c fault old new note =
+    (w : RunState) (b : Behind) → OwesFault w c old b fault → GivesIn under_nothing w c note × HasNoteCause b.faults b.faults under_nothing w note × OpenAfterNote false (state_after_note w note) c new b

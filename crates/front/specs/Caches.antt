@@ -1,6 +1,6 @@
 -- What stands behind the connections: the cache, with the flights in the air and the unfinished flushes, and its disk. (Of the theorem's
 -- reader this file is no concern.)
-use Rattle.std.specs.Prelude.{◌≡◌, ◌<◌, ◌≤◌, ◌==◌, ◌||◌, ℕ, Bool, true, false, if◌then◌else◌, nat_eq, List, [], ◌∷◌, Option, Some, None, IfSome, IsTrue, drop, map}
+use Rattle.std.specs.Prelude.{◌≡◌, ◌<◌, ◌≤◌, ◌==◌, ◌||◌, ℕ, Bool, true, false, if◌then◌else◌, nat_eq, List, [], ◌∷◌, Option, Some, None, IfSome, IsTrue, drop, map, slice_get, slice_set}
 use Rattle.std.specs.Option.{option_map}
 use Rattle.sp_base.specs.MediaTypes.{is_kind}
 use Rattle.sp_base.specs.declared.answer.Answer.{Answer}
@@ -33,12 +33,13 @@ use Rattle.run_events.specs.declared.flying.Flying.{Flying}
 use Rattle.run_events.specs.declared.flying.Flushing.{Flushing}
 use Rattle.run_events.specs.declared.note.Note.{Note}
 use Rattle.run_events.specs.declared.note.Failure.TheVariants.{Disk, Memory}
-use Rattle.run_events.specs.declared.note.Note.TheVariants.{Done, Failed, Kept, Lost, Passed, Sliced, Unkept}
+use Rattle.run_events.specs.declared.note.Note.TheVariants.{Done, Failed, Kept, Lost, Passed, Sliced, Unkept, Local}
 use Rattle.run_events.specs.declared.step.Pick.{Pick}
 use Rattle.run_events.specs.Causes.{ShowsOutOfMemory, Spoils}
 use Rattle.run_events.specs.Events.{MayLand, is_any, is_rendered, picked_flight}
-use Rattle.run_events.specs.Moves.{GivesNext, GivesSlice, state_after_note, with_turn_slot}
+use Rattle.run_events.specs.Moves.{GivesNext, GivesSlice, state_after_note, with_turn_slot, with_rendered}
 use Rattle.run_events.specs.States.{AirRises, RunState}
+use Rattle.run_events.specs.declared.step.Pick.TheVariants.{First}
 use Rattle.front.specs.declared.answered.Answered.{Answered}
 use Rattle.front.specs.declared.answered.Ended.{Ended}
 use Rattle.front.specs.declared.ticketed.TicketedFlight.{TicketedFlight}
@@ -246,3 +247,41 @@ pub record IsPurging (w : RunState) (ended : Ended) (old new : Behind) : Type 0 
   pub waits : ended.connection ≡ flush.connection
   pub gives : (m : Conditions) → Allows ended.conditions m → GivesSlice m flush.number ended.note
   pub ending : IsEnding w ended old.faults new
+
+-- ---- before and after a call, over a disk of which this says what it tells of its files, and that how often it failed
+
+-- the request of the connection is answered so, in each state in which it comes to the cache
+abbrev pub AnswersRequest : {D : Type 0} → (D → Option Files) → (D → ℕ) → ConnectionId → Request → List ℕ → CacheParts → D → CacheParts → D → Answered → Type 0
+AnswersRequest files faults c request peer old before new after answered =
+    (w : RunState) → AsksCache w c request peer (behind old (files before) (faults before)) → IsAnswered w c request answered (behind old (files before) (faults before)) (behind new (files after) (faults after))
+
+-- a request is answered by the front itself, with this status
+abbrev pub local_answer : ConnectionId → ℕ → Bool → Conditions → Answered
+local_answer c status closes conditions = record { note = Local c status; reply = local_reply status; closes = closes; slices = false; conditions = conditions }
+
+-- the rendered flight that is asked for landed so, in each state that was stood for in which no slice is due
+abbrev pub DeliversPicked : {D : Type 0} → (D → Option Files) → (D → ℕ) → Pick → CacheParts → D → CacheParts → D → Ended → Type 0
+DeliversPicked files faults pick old before new after ended =
+    (w : RunState) → BehindStandsFor (behind old (files before) (faults before)) w → w.slicing ≡ None → IsDelivery w pick ended (behind old (files before) (faults before)) (behind new (files after) (faults after))
+
+-- the flight that is asked for was lost so, in each such state, whatever the disk
+abbrev pub LosesPicked : Pick → CacheParts → CacheParts → Ended → Type 0
+LosesPicked pick old new ended = (files : Option Files) (faults : ℕ) (w : RunState) → BehindStandsFor (behind old files faults) w → w.slicing ≡ None → IsLoss w pick ended (behind old files faults) (behind new files faults)
+
+-- where the first is asked for, it is the first flight that was lost
+abbrev pub LosesFirst : Pick → CacheParts → CacheParts → Ended → Type 0
+LosesFirst pick old new ended = pick ≡ First → (flying : Flying) × (old.flying ≡ flying ∷ new.flying) × (ended.note ≡ Lost flying.number)
+
+-- the oldest flush had a slice, in each state that was stood for
+abbrev pub SlicesOldest : {D : Type 0} → (D → Option Files) → (D → ℕ) → CacheParts → D → CacheParts → D → Ended → Type 0
+SlicesOldest files faults old before new after ended =
+    (w : RunState) → BehindStandsFor (behind old (files before) (faults before)) w → IsPurging w ended (behind old (files before) (faults before)) (behind new (files after) (faults after))
+
+-- no flush is unfinished in any such state, which is stood for still
+abbrev pub HasNoFlush : {D : Type 0} → (D → Option Files) → (D → ℕ) → CacheParts → D → CacheParts → D → Type 0
+HasNoFlush files faults old before new after =
+    (w : RunState) → BehindStandsFor (behind old (files before) (faults before)) w → (w.flushes ≡ []) × BehindStandsFor (behind new (files after) (faults after)) w
+
+-- the flight at this place has the answer
+abbrev pub RendersAt : ℕ → Answer → CacheParts → CacheParts → Type 0
+RendersAt at answer old new = (flying : Flying) → slice_get old.flying at ≡ Some flying → new.flying ≡ slice_set old.flying at (with_rendered answer flying)

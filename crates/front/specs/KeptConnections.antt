@@ -6,11 +6,16 @@ use Rattle.http_front.specs.declared.fault.InFault.{InFault}
 use Rattle.http_front.specs.declared.intake.Intake.{Intake}
 use Rattle.http_front.specs.declared.turn.Turn.{Turn}
 use Rattle.http_front.specs.declared.turn.Turn.TheVariants.{Continue, Whole}
-use Rattle.connections.specs.Connections.{Connection, Treat, Refuse, Close, Nothing, due, with_piece}
-use Rattle.connections.specs.AnswerQueues.{QueueStandsFor, unsent_count}
+use Rattle.connections.specs.Connections.{Connection, Treat, Refuse, Close, Nothing, due, with_piece, with_due_continue, with_slot}
+use Rattle.connections.specs.AnswerQueues.{QueueStandsFor, unsent_count, PlaceStandsFor}
+use Rattle.connections.specs.declared.place.AnswerPlace.{AnswerPlace}
+use Rattle.connections.specs.declared.place.Reply.{Reply}
+use Rattle.connections.specs.declared.awaited.Awaited.{Awaited}
+use Rattle.connections.specs.Slots.{Response, Slot}
 use Rattle.front.specs.declared.connection.Connection.{Connection as KeptConnection}
 use Rattle.front.specs.declared.connection.Taken.{Taken}
 use Rattle.front.specs.declared.connection.Taken.TheVariants.{Request, Fault, Waiting, Over}
+use Rattle.front.specs.Caches.{RepliesFor, with_end_if}
 
 -- how the turns of a stream end: by the fault, if there is one
 abbrev pub end_of : Option InFault → End
@@ -115,3 +120,17 @@ fault_work (Some fault) = 2
 -- at most how many notes the connection can still give
 abbrev pub work_of : KeptConnection → ℕ
 work_of k = unsent_count k.answers + 3 * length k.turns.items + fault_work k.fault
+
+-- ---- before and after a call
+
+-- this slot is there for the request that was taken of each connection of which one was owed
+abbrev pub TakesSlot : AnswerPlace → KeptConnection → KeptConnection → Type 0
+TakesSlot place old new = (c : Connection) (slot : Slot) → PlaceStandsFor place slot → Owes old c → ConnectionStandsFor new (with_due_continue (with_slot slot c))
+
+-- this slot, which closes the connection, is there whatever was taken of it
+abbrev pub TakesLastSlot : AnswerPlace → KeptConnection → KeptConnection → Type 0
+TakesLastSlot place old new = (c : Connection) (slot : Slot) → PlaceStandsFor place slot → slot.closes ≡ true → AnswersStandFor old c → ConnectionStandsFor new (with_due_continue (with_slot slot c))
+
+-- the slot that waits for this has the response, if there is one
+abbrev pub FillsSlotIf : Awaited → Option Reply → KeptConnection → KeptConnection → Type 0
+FillsSlotIf awaited reply old new = (c : Connection) (response : Option Response) → RepliesFor reply response → ConnectionStandsFor old c → ConnectionStandsFor new (with_end_if awaited response c)

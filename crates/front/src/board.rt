@@ -1,16 +1,10 @@
 //! The connections of a front, before what is behind them.
-ghost use Rattle.std.specs.Prelude.{◌≡◌, ◌==◌, ℕ, Option, IfOk, IsTrue, false, None, if◌then◌else◌, is_some};
+ghost use Rattle.std.specs.Prelude.{◌≡◌, IfOk, IsTrue, false, is_some};
 ghost use Rattle.std.specs.BTreeMap.{btree_map_len, get};
-ghost use Rattle.std.specs.Option.{option_map};
 ghost use Rattle.std.specs.Ordering.{nat_cmp};
-ghost use Rattle.sp_outside.specs.Files.{Files};
-ghost use Rattle.connections.specs.Slots.{Response};
 ghost use Rattle.connections.specs.Connections as model;
 ghost use Rattle.run_events.specs.declared.step.Step.TheVariants.{Opened, Piece, Gone, Deliver, Lose, Purge};
-ghost use Rattle.run_events.specs.Moves.{state_after_notes};
-ghost use Rattle.run_events.specs.States.{RunState};
-ghost use Rattle.front.specs.Boards.{BoardMakesEvent, BoardStandsFor, EntryStandsFor, FirstThen, HasEnded, ReadAt, SettlesIn, at_disk};
-ghost use Rattle.front.specs.Caches.{RepliesFor, with_end_if};
+ghost use Rattle.front.specs.Boards.{ReadAt, BoardSteps, BoardStepsAlone, FillsConnection, FinishesEnded, SettlesConnection};
 ghost use Rattle.front.specs.Uses.{UsesDisk};
 
 use crate::answered::{Ended, with_memory};
@@ -36,7 +30,7 @@ pub(crate) struct Board {
 impl Board {
     // Gives a connection all that it is owed.
     fn settle<D: Disk>(&mut self, alloc: Global, disk: &mut D, c: ConnectionId) -> Mem<Effect>
-        ensures given { IfOk result (λ effect. (w : RunState) → BoardStandsFor (at_disk self.old (D.files disk.old) (D.faults disk.old)) w → SettlesIn effect.conditions w c effect.notes.items (D.faults disk.old) (D.faults disk.new) × BoardStandsFor (at_disk self.new (D.files disk.new) (D.faults disk.new)) (state_after_notes w effect.notes.items)) }
+        ensures given { IfOk result (SettlesConnection D.files D.faults c self.old disk.old self.new disk.new) }
         ensures disk { UsesDisk (D.faults disk.old) (D.faults disk.new) (D.calls disk.old) (D.calls disk.new) }
     {
         let Some(connection) = self.open_connections.get_mut(&c) else {
@@ -58,7 +52,7 @@ impl Board {
 
     /// A connection is there, where there is room for it.
     pub(crate) fn open(&mut self, alloc: Global, c: ConnectionId, peer: &TextBuf) -> Mem<Effect>
-        ensures { IfOk result (λ effect. (files : Option Files) (faults : ℕ) → BoardMakesEvent (at_disk self.old files faults) (at_disk self.new files faults) (Opened c peer.now) effect) }
+        ensures { IfOk result (BoardStepsAlone (Opened c peer.now) self.old self.new) }
     {
         if self.open_connections.contains_key(&c) {
             return Effect::idle(alloc);
@@ -92,7 +86,7 @@ impl Board {
         c: ConnectionId,
         bytes: &ByteBuf,
     ) -> Mem<Effect>
-        ensures event { IfOk result (λ effect. BoardMakesEvent (at_disk self.old (D.files disk.old) (D.faults disk.old)) (at_disk self.new (D.files disk.new) (D.faults disk.new)) (Piece c bytes.now) effect) }
+        ensures event { IfOk result (BoardSteps D.files D.faults (Piece c bytes.now) self.old disk.old self.new disk.new) }
         ensures disk { UsesDisk (D.faults disk.old) (D.faults disk.new) (D.calls disk.old) (D.calls disk.new) }
     {
         if !self.read(alloc, c, bytes.bytes())? {
@@ -104,7 +98,7 @@ impl Board {
 
     /// A connection is gone.
     pub(crate) fn close(&mut self, alloc: Global, c: ConnectionId) -> Mem<Effect>
-        ensures { IfOk result (λ effect. (files : Option Files) (faults : ℕ) → BoardMakesEvent (at_disk self.old files faults) (at_disk self.new files faults) (Gone c) effect) }
+        ensures { IfOk result (BoardStepsAlone (Gone c) self.old self.new) }
     {
         if !self.open_connections.contains_key(&c) {
             return Effect::idle(alloc);
@@ -115,7 +109,7 @@ impl Board {
 
     // Gives a connection what it waited for, if it is there.
     fn fill(&mut self, c: ConnectionId, awaited: Awaited, reply: Option<Reply>)
-        ensures connection { (q : ℕ) (o : Option model.Connection) (response : Option Response) → RepliesFor reply response → EntryStandsFor (get nat_cmp self.old.open_connections q) o → EntryStandsFor (get nat_cmp self.new.open_connections q) (if q == c then option_map (with_end_if awaited response) o else o) }
+        ensures connection { FillsConnection c awaited reply self.old self.new }
         ensures count { btree_map_len self.new.open_connections ≡ btree_map_len self.old.open_connections }
         ensures cache { self.new.cache ≡ self.old.cache }
     {
@@ -126,7 +120,7 @@ impl Board {
 
     // Gives a connection what it waited for, and then all that it is owed.
     fn finish<D: Disk>(&mut self, alloc: Global, disk: &mut D, ended: Ended) -> Mem<Effect>
-        ensures given { IfOk result (λ effect. (w : RunState) (before : ℕ) → HasEnded (at_disk self.old (D.files disk.old) (D.faults disk.old)) w ended before → FirstThen ended w effect before (at_disk self.new (D.files disk.new) (D.faults disk.new))) }
+        ensures given { IfOk result (FinishesEnded D.files D.faults ended self.old disk.old self.new disk.new) }
         ensures disk { UsesDisk (D.faults disk.old) (D.faults disk.new) (D.calls disk.old) (D.calls disk.new) }
     {
         let Ended {
@@ -149,7 +143,7 @@ impl Board {
         disk: &mut D,
         pick: &Pick,
     ) -> Mem<Effect>
-        ensures event { IfOk result (λ effect. BoardMakesEvent (at_disk self.old (D.files disk.old) (D.faults disk.old)) (at_disk self.new (D.files disk.new) (D.faults disk.new)) (Deliver pick.now) effect) }
+        ensures event { IfOk result (BoardSteps D.files D.faults (Deliver pick.now) self.old disk.old self.new disk.new) }
         ensures disk { UsesDisk (D.faults disk.old) (D.faults disk.new) (D.calls disk.old) (D.calls disk.new) }
     {
         let Some(ended) = self.cache.deliver(alloc, disk, pick) else {
@@ -161,7 +155,7 @@ impl Board {
 
     /// A flight is lost.
     pub(crate) fn lose<D: Disk>(&mut self, alloc: Global, disk: &mut D, pick: &Pick) -> Mem<Effect>
-        ensures event { IfOk result (λ effect. BoardMakesEvent (at_disk self.old (D.files disk.old) (D.faults disk.old)) (at_disk self.new (D.files disk.new) (D.faults disk.new)) (Lose pick.now) effect) }
+        ensures event { IfOk result (BoardSteps D.files D.faults (Lose pick.now) self.old disk.old self.new disk.new) }
         ensures disk { UsesDisk (D.faults disk.old) (D.faults disk.new) (D.calls disk.old) (D.calls disk.new) }
     {
         let Some(ended) = self.cache.lose(pick) else {
@@ -173,7 +167,7 @@ impl Board {
 
     /// The oldest unfinished flush gets a slice.
     pub(crate) fn purge<D: Disk>(&mut self, alloc: Global, disk: &mut D) -> Mem<Effect>
-        ensures event { IfOk result (λ effect. BoardMakesEvent (at_disk self.old (D.files disk.old) (D.faults disk.old)) (at_disk self.new (D.files disk.new) (D.faults disk.new)) Purge effect) }
+        ensures event { IfOk result (BoardSteps D.files D.faults Purge self.old disk.old self.new disk.new) }
         ensures disk { UsesDisk (D.faults disk.old) (D.faults disk.new) (D.calls disk.old) (D.calls disk.new) }
     {
         let Some(ended) = self.cache.slice(alloc, disk) else {

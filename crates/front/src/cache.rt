@@ -1,5 +1,5 @@
 //! What stands behind the connections: the cache, the flights in the air, and the unfinished flushes.
-ghost use Rattle.std.specs.Prelude.{◌≡◌, ◌≢◌, ◌==◌, false, true, [], Ok, Err, IfErr, IfOk, IfSome};
+ghost use Rattle.std.specs.Prelude.{◌≡◌, ◌≢◌, ◌==◌, true, [], Ok, Err, IfErr, IfOk, IfSome};
 ghost use Rattle.cache_files.specs.declared.epoch.OpenFault.TheVariants as fault;
 ghost use Rattle.cache_files.specs.Epochs.{HasOpenCause, next_epoch, told_with_epoch};
 ghost use Rattle.coherence_core.specs.Cores.{flights_of, flushes_of};
@@ -7,9 +7,7 @@ ghost use Rattle.coherence_core.specs.Openings.{OpensCore};
 ghost use Rattle.coherence_core.specs.Sessions.{BeginsSession, KeepsHolds};
 ghost use Rattle.docroot_changes.specs.Changes.{Told};
 ghost use Rattle.http_front.specs.Faults.{insufficient_storage};
-ghost use Rattle.run_events.specs.declared.note.Note.TheVariants.{Local};
-ghost use Rattle.run_events.specs.States.{RunState};
-ghost use Rattle.front.specs.Caches.{AsksCache, IsAnswered, behind, local_reply};
+ghost use Rattle.front.specs.Caches.{AnswersRequest, local_answer};
 ghost use Rattle.front.specs.Uses.{UsesDisk};
 
 use crate::answered::{Answered, with_memory, without_memory};
@@ -86,7 +84,7 @@ impl Cache {
         request: Req,
         peer: &TextBuf,
     ) -> Answered
-        ensures given { (w : RunState) → AsksCache w c request peer.now (behind self.old (D.files disk.old) (D.faults disk.old)) → IsAnswered w c request result (behind self.old (D.files disk.old) (D.faults disk.old)) (behind self.new (D.files disk.new) (D.faults disk.new)) }
+        ensures given { AnswersRequest D.files D.faults c request peer.now self.old disk.old self.new disk.new result }
         ensures disk { UsesDisk (D.faults disk.old) (D.faults disk.new) (D.calls disk.old) (D.calls disk.new) }
     {
         tickets_have_the_places_of_their_flights();
@@ -132,7 +130,7 @@ impl Cache {
 
 // Answers a request for which memory ran out.
 fn out_of_memory(c: ConnectionId, request: Req, disk_failed: bool) -> Answered
-    ensures { result ≡ record { note = Local c insufficient_storage; reply = local_reply insufficient_storage; closes = true; slices = false; conditions = record { disk_failed = disk_failed; out_of_memory = true } } }
+    ensures { result ≡ local_answer c insufficient_storage true (record { disk_failed = disk_failed; out_of_memory = true }) }
 {
     turned_away(
         c,
@@ -144,7 +142,7 @@ fn out_of_memory(c: ConnectionId, request: Req, disk_failed: bool) -> Answered
 
 // Answers a request by the front itself, with this status.
 fn turned_away(c: ConnectionId, _request: Req, status: u16, conditions: Conditions) -> Answered
-    ensures { result ≡ record { note = Local c status; reply = local_reply status; closes = status == insufficient_storage; slices = false; conditions = conditions } }
+    ensures { result ≡ local_answer c status (status == insufficient_storage) conditions }
 {
     Answered::local(c, status, conditions)
 }

@@ -4,10 +4,9 @@ ghost use Rattle.coherence_core.specs.Openings.{IsCleared};
 ghost use Rattle.docroot_changes.specs.Changes.{Told};
 ghost use Rattle.docroot_changes.specs.DocrootCalls.{MakesDocrootCalls};
 ghost use Rattle.docroot_format.specs.Faults.{HasFileCause};
-ghost use Rattle.front.specs.Boards.{at_disk};
 ghost use Rattle.front.specs.Clearings as spec;
 ghost use Rattle.front.specs.Clearings.{ClearsFiles, ClearsPagesFirst, HasNoFile, HasNoneAmong, HasNoneBetween, IsNearer, is_page_or_stamp};
-ghost use Rattle.front.specs.Fronts.{BeginsFresh};
+ghost use Rattle.front.specs.Fronts.{FrontBeginsFresh};
 ghost use Rattle.sp_outside.specs.Causes.{HasDiskCause};
 ghost use Rattle.sp_outside.specs.Files.{file_at, longest_file_name};
 
@@ -34,7 +33,7 @@ impl<R: Renderer + Drop> Front<R> {
     /// called before the first step. The .stat files go last (`order`), since pages are outdated by them: a call that fails half-way leaves no page
     /// that was outdated and isn't any more.
     pub fn fresh<D: Disk>(&self, alloc: Global, disk: &mut D) -> Result<(), FileFault>
-        ensures stands { OnOk result (BeginsFresh R.publishing (R.content self.now.renderer) (D.files disk.old) (at_disk self.now.board (D.files disk.new) (D.faults disk.new))) }
+        ensures stands { OnOk result (FrontBeginsFresh R.publishing R.content D.files D.faults self.now disk.old disk.new) }
         ensures left { Told (ClearsFiles is_page_or_stamp) (D.files disk.old) (D.files disk.new) }
         ensures order { Told ClearsPagesFirst (D.files disk.old) (D.files disk.new) }
         ensures cleared { OnOk result (Told (λ _ files. IsCleared files) (D.files disk.old) (D.files disk.new)) }

@@ -1,15 +1,13 @@
 //! One connection, as the front keeps it.
-ghost use Rattle.std.specs.Prelude.{◌≡◌, ◌≢◌, ◌+◌, ◌≤◌, ◌<◌, ℕ, List, Option, true, false, IsTrue, IfSome, IfNone, IfOk, OnOk, OnSome};
+ghost use Rattle.std.specs.Prelude.{◌≡◌, ◌≢◌, ◌+◌, ◌≤◌, ◌<◌, false, IfSome, IfNone, IfOk, OnOk, OnSome};
 ghost use Rattle.http_front.specs.declared.fault.InFault.TheVariants as variant;
 ghost use Rattle.http_front.specs.declared.turn.Turn.{Turn};
-ghost use Rattle.connections.specs.Slots.{Response, Slot};
 ghost use Rattle.connections.specs.Connections as model;
-ghost use Rattle.connections.specs.Connections.{IsInPlaceOfDue, with_due_continue, due, due_without_sending, fresh, with_end, with_sent, with_slot};
-ghost use Rattle.connections.specs.Histories.{IsDueSending};
-ghost use Rattle.connections.specs.AnswerQueues.{PlaceStandsFor, ReplyStandsFor, QueueStandsFor};
-ghost use Rattle.front.specs.Caches.{RepliesFor, with_end_if};
+ghost use Rattle.connections.specs.Connections.{with_due_continue, due, due_without_sending, fresh};
+ghost use Rattle.connections.specs.Histories.{SendsDue, SendsInPlaceOfDue};
+ghost use Rattle.connections.specs.AnswerQueues.{QueueStandsFor, FillsSlot};
 ghost use Rattle.front.specs.KeptConnections as kept;
-ghost use Rattle.front.specs.KeptConnections.{AnswersStandFor, ConnectionStandsFor, StandsForButContinue, Owes, ConnectionReads, TakenAs, TellsTurns, taken_work, work_of};
+ghost use Rattle.front.specs.KeptConnections.{ConnectionStandsFor, StandsForButContinue, ConnectionReads, TakenAs, TellsTurns, taken_work, work_of, FillsSlotIf, TakesLastSlot, TakesSlot};
 
 use connections::{AnswerPlace, AnswerQueue, Awaited, Reply, Sending};
 use http_front::{InFault, Intake, Turn};
@@ -92,8 +90,8 @@ impl Connection {
 
     /// What is sent next, if anything can be.
     pub(crate) fn send(&mut self, alloc: Global) -> Option<Sending>
-        ensures sends { IfSome result (λ sending. (c : model.Connection) → ConnectionStandsFor self.old c → IsDueSending c sending × ConnectionStandsFor self.new (with_sent sending.bytes c)) }
-        ensures out_of_memory { IfSome result (λ sending. (c : model.Connection) → ConnectionStandsFor self.old c → IsTrue sending.out_of_memory → IsInPlaceOfDue (due c) sending.bytes) }
+        ensures sends { IfSome result (SendsDue (ConnectionStandsFor self.old) (ConnectionStandsFor self.new)) }
+        ensures out_of_memory { IfSome result (SendsInPlaceOfDue (ConnectionStandsFor self.old)) }
         ensures waits { IfNone result ((c : model.Connection) → ConnectionStandsFor self.old c → due c ≡ due_without_sending c) }
         ensures less { OnSome result (work_of self.new < work_of self.old) }
         ensures same { IfNone result (self.new ≡ self.old) }
@@ -124,8 +122,8 @@ impl Connection {
 
     /// Gives the turn that was taken its place.
     pub(crate) fn push(&mut self, place: AnswerPlace) -> Mem<()>
-        ensures request { OnOk result ((c : model.Connection) (slot : Slot) → PlaceStandsFor place slot → Owes self.old c → ConnectionStandsFor self.new (with_due_continue (with_slot slot c))) }
-        ensures fault { OnOk result ((c : model.Connection) (slot : Slot) → PlaceStandsFor place slot → slot.closes ≡ true → AnswersStandFor self.old c → ConnectionStandsFor self.new (with_due_continue (with_slot slot c))) }
+        ensures request { OnOk result (TakesSlot place self.old self.new) }
+        ensures fault { OnOk result (TakesLastSlot place self.old self.new) }
         ensures work { OnOk result (work_of self.new ≤ work_of self.old + 1) }
     {
         self.answers.push(place)?;
@@ -135,7 +133,7 @@ impl Connection {
 
     /// Gives the slot that awaits this flight, or the end of this flush, its reply.
     pub(crate) fn fill(&mut self, awaited: Awaited, reply: Reply)
-        ensures filled { (c : model.Connection) (response : Response) → ReplyStandsFor reply response → ConnectionStandsFor self.old c → ConnectionStandsFor self.new (with_end awaited response c) }
+        ensures filled { FillsSlot awaited reply (ConnectionStandsFor self.old) (ConnectionStandsFor self.new) }
         ensures work { work_of self.new ≡ work_of self.old }
     {
         self.answers.fill(awaited, reply);
@@ -143,7 +141,7 @@ impl Connection {
 
     /// The same of what may go on: without a reply the slot waits on.
     pub(crate) fn end_wait(&mut self, awaited: Awaited, reply: Option<Reply>)
-        ensures filled { (c : model.Connection) (response : Option Response) → RepliesFor reply response → ConnectionStandsFor self.old c → ConnectionStandsFor self.new (with_end_if awaited response c) }
+        ensures filled { FillsSlotIf awaited reply self.old self.new }
         ensures work { work_of self.new ≡ work_of self.old }
     {
         if let Some(reply) = reply {

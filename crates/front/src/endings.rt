@@ -1,13 +1,9 @@
 //! The ends of what connections wait for: flights that land or are lost, and slices of flushes.
-ghost use Rattle.std.specs.Prelude.{◌≡◌, ◌≢◌, ◌+◌, ◌∷◌, ◌&&◌, [], false, ℕ, Option, IfNone, IfSome, IsSome, IsTrue, None, OnSome, Some, length, position};
-ghost use Rattle.sp_outside.specs.Files.{Files};
+ghost use Rattle.std.specs.Prelude.{◌≡◌, ◌≢◌, ◌+◌, ◌&&◌, [], false, IfNone, IfSome, IsSome, IsTrue, None, OnSome, Some, length, position};
 ghost use Rattle.run_events.specs.declared.flying.Flying as model;
-ghost use Rattle.run_events.specs.declared.note.Note.TheVariants.{Lost};
-ghost use Rattle.run_events.specs.declared.step.Pick.TheVariants.{First};
 ghost use Rattle.run_events.specs.Events as events;
 ghost use Rattle.run_events.specs.Events.{is_any, is_rendered};
-ghost use Rattle.run_events.specs.States.{RunState};
-ghost use Rattle.front.specs.Caches.{BehindStandsFor, IsDelivery, IsLoss, IsPurging, behind, is_ending, landing_end_of, left_after, slice_end_of};
+ghost use Rattle.front.specs.Caches.{is_ending, landing_end_of, left_after, slice_end_of, DeliversPicked, HasNoFlush, LosesFirst, LosesPicked, SlicesOldest};
 ghost use Rattle.front.specs.Uses.{UsesDisk};
 
 use crate::answered::{Ended, with_memory, without_memory};
@@ -30,7 +26,7 @@ impl Cache {
         disk: &mut D,
         pick: &Pick,
     ) -> Option<Ended>
-        ensures landing { IfSome result (λ ended. (w : RunState) → BehindStandsFor (behind self.old (D.files disk.old) (D.faults disk.old)) w → w.slicing ≡ None → IsDelivery w pick.now ended (behind self.old (D.files disk.old) (D.faults disk.old)) (behind self.new (D.files disk.new) (D.faults disk.new))) }
+        ensures landing { IfSome result (DeliversPicked D.files D.faults pick.now self.old disk.old self.new disk.new) }
         ensures none { IfNone result (position (λ flying. events.is_picked pick.now flying && is_rendered flying) self.old.flying ≡ None) }
         ensures same { IfNone result ((self.new ≡ self.old) × (D.files disk.new ≡ D.files disk.old) × (D.faults disk.new ≡ D.faults disk.old)) }
         ensures disk { UsesDisk (D.faults disk.old) (D.faults disk.new) (D.calls disk.old) (D.calls disk.new) }
@@ -47,11 +43,11 @@ impl Cache {
 
     /// A flight is lost, the first that is asked for.
     pub(crate) fn lose(&mut self, pick: &Pick) -> Option<Ended>
-        ensures loss { IfSome result (λ ended. (files : Option Files) (faults : ℕ) (w : RunState) → BehindStandsFor (behind self.old files faults) w → w.slicing ≡ None → IsLoss w pick.now ended (behind self.old files faults) (behind self.new files faults)) }
+        ensures loss { IfSome result (LosesPicked pick.now self.old self.new) }
         ensures none { IfNone result (position (λ flying. events.is_picked pick.now flying && is_any flying) self.old.flying ≡ None) }
         ensures same { IfNone result (self.new ≡ self.old) }
         ensures fewer { OnSome result (length self.new.flying + 1 ≡ length self.old.flying) }
-        ensures first { IfSome result (λ ended. pick.now ≡ First → (flying : model.Flying) × (self.old.flying ≡ flying ∷ self.new.flying) × (ended.note ≡ Lost flying.number)) }
+        ensures first { IfSome result (LosesFirst pick.now self.old self.new) }
         ensures flushes { self.new.flushes ≡ self.old.flushes }
     {
         tickets_have_the_places_of_their_flights();
@@ -77,8 +73,8 @@ impl Cache {
 
     /// The oldest unfinished flush gets a slice.
     pub(crate) fn slice<D: Disk>(&mut self, alloc: Global, disk: &mut D) -> Option<Ended>
-        ensures slice { IfSome result (λ ended. (w : RunState) → BehindStandsFor (behind self.old (D.files disk.old) (D.faults disk.old)) w → IsPurging w ended (behind self.old (D.files disk.old) (D.faults disk.old)) (behind self.new (D.files disk.new) (D.faults disk.new))) }
-        ensures none { IfNone result ((w : RunState) → BehindStandsFor (behind self.old (D.files disk.old) (D.faults disk.old)) w → (w.flushes ≡ []) × BehindStandsFor (behind self.new (D.files disk.new) (D.faults disk.new)) w) }
+        ensures slice { IfSome result (SlicesOldest D.files D.faults self.old disk.old self.new disk.new) }
+        ensures none { IfNone result (HasNoFlush D.files D.faults self.old disk.old self.new disk.new) }
         ensures quiet { IfNone result (D.faults disk.new ≡ D.faults disk.old) }
         ensures disk { UsesDisk (D.faults disk.old) (D.faults disk.new) (D.calls disk.old) (D.calls disk.new) }
     {

@@ -1,23 +1,18 @@
 //! The front: one call for each step.
-ghost use Rattle.std.specs.Prelude.{◌≡◌, ◌≢◌, ◌<◌, ◌≤◌, [], false, ℕ, Option, Ok, Err, IfErr, IfOk, IfSome, IsTrue, OnErr, OnOk, Some, length, option_map, slice_get};
+ghost use Rattle.std.specs.Prelude.{◌≡◌, ◌≢◌, ◌<◌, ◌≤◌, [], false, Ok, Err, IfErr, IfOk, IfSome, IsTrue, OnErr, OnOk, length, option_map};
 ghost use Rattle.std.specs.List.{find};
-ghost use Rattle.sp_outside.specs.Files.{Files};
 ghost use Rattle.sp_base.specs.MediaTypes.{is_kind};
 ghost use Rattle.cache_files.specs.declared.epoch.OpenFault.TheVariants as fault;
 ghost use Rattle.cache_files.specs.Epochs.{HasOpenCause, next_epoch, told_with_epoch};
 ghost use Rattle.docroot_changes.specs.Changes.{Told};
 ghost use Rattle.docroot_changes.specs.DocrootCalls.{MakesDocrootCalls};
-ghost use Rattle.resource_tree.specs.Content.{Content};
 ghost use Rattle.coherence_core.specs.Sessions.{KeepsHolds};
-ghost use Rattle.dispatch_rules.specs.Asking.{publisher_ask};
 ghost use Rattle.http_front.specs.Faults.{insufficient_storage};
 ghost use Rattle.run_events.specs.declared.flying.Flying as model;
 ghost use Rattle.run_events.specs.declared.step.Step.TheVariants.{Direct, Render};
-ghost use Rattle.run_events.specs.Events.{Extends, is_unrendered};
+ghost use Rattle.run_events.specs.Events.{is_unrendered};
 ghost use Rattle.run_events.specs.Publishers.{direct_answer};
-ghost use Rattle.run_events.specs.States.{RunState};
-ghost use Rattle.front.specs.Boards.{at_disk};
-ghost use Rattle.front.specs.Fronts.{BeginsRun, FrontStandsFor, IsRenderGiven, MakesEvent, OpensFront, epoch_of_board};
+ghost use Rattle.front.specs.Fronts.{IsRenderGiven, OpensFront, FrontBegins, FrontExtends, FrontMakesEvent, FrontMakesEventAlone, InEachState, IsAnswerAt, IsContentAfter, epoch_of_front};
 ghost use Rattle.front.specs.Uses.{UsesDisk};
 
 use crate::asking::{fixed_answer, get_of, shared};
@@ -59,12 +54,12 @@ impl<R: Renderer + Drop> Front<R> {
         farm: Farm,
         disk: &mut D,
     ) -> Result<Self, OpenFault>
-        ensures stands { IfOk result (λ front. BeginsRun R.publishing (R.content renderer) farm (D.files disk.old) (at_disk front.board (D.files disk.new) (D.faults disk.new)) (R.content front.renderer)) }
+        ensures stands { IfOk result (FrontBegins R.publishing R.content D.files D.faults renderer farm disk.old disk.new) }
         ensures left { IfErr result (λ fault. Told (KeepsHolds farm) (D.files disk.old) (D.files disk.new)) }
         ensures err { IfErr result (λ e. e ≢ fault.NoMemory → e ≢ fault.Disk → IfSome (D.files disk.old) (λ files. next_epoch files ≡ Err e)) }
-        ensures epoch { IfOk result (λ front. IfSome (D.files disk.old) (λ files. next_epoch files ≡ Ok (epoch_of_board (at_disk front.board (D.files disk.new) (D.faults disk.new))))) }
+        ensures epoch { IfOk result (λ front. IfSome (D.files disk.old) (λ files. next_epoch files ≡ Ok (epoch_of_front front))) }
         ensures renderer { IfOk result (λ front. front.renderer ≡ renderer) }
-        ensures after { IfOk result (λ front. D.files disk.new ≡ told_with_epoch (D.files disk.old) (epoch_of_board (at_disk front.board (D.files disk.new) (D.faults disk.new)))) }
+        ensures after { IfOk result (λ front. D.files disk.new ≡ told_with_epoch (D.files disk.old) (epoch_of_front front)) }
         ensures opened { IfOk result (λ front. OpensFront farm (D.files disk.old) (D.files disk.new) front.board) }
         ensures unopened { IfErr result (λ e. e ≢ fault.Disk → D.files disk.new ≡ D.files disk.old) }
         ensures cause { HasOpenCause (D.faults disk.old) (D.faults disk.new) result }
@@ -82,7 +77,7 @@ impl<R: Renderer + Drop> Front<R> {
 
     /// One step, with what happens in it: its event. An `Err` ends the run.
     pub fn step<D: Disk>(&mut self, alloc: Global, disk: &mut D, step: &Step) -> Mem<NoteList>
-        ensures event { IfOk result (λ notes. Extends (FrontStandsFor R.publishing (R.content self.old.renderer) (at_disk self.old.board (D.files disk.old) (D.faults disk.old))) (FrontStandsFor R.publishing (R.content self.new.renderer) (at_disk self.new.board (D.files disk.new) (D.faults disk.new))) (D.faults disk.old) (D.faults disk.new) step.now notes) }
+        ensures event { IfOk result (FrontExtends R.publishing R.content D.files D.faults step.now self.old disk.old self.new disk.new) }
         ensures count { D.faults disk.old ≤ D.faults disk.new }
         ensures calls { MakesDocrootCalls (D.calls disk.old) (D.calls disk.new) }
     {
@@ -94,15 +89,15 @@ impl<R: Renderer + Drop> Front<R> {
 
     /// The least number of a flight in the air that isn't rendered. This takes no memory.
     pub fn unrendered(&self) -> Option<FlightId>
-        ensures { (content : Content) (files : Option Files) (faults : ℕ) (w : RunState) → FrontStandsFor R.publishing content (at_disk self.now.board files faults) w → result ≡ option_map (λ (flying : model.Flying). flying.number) (find is_unrendered w.flights) }
+        ensures { InEachState R.publishing self.now.board (λ w. result ≡ option_map (λ (flying : model.Flying). flying.number) (find is_unrendered w.flights)) }
     {
         self.board.cache.unrendered()
     }
 
     /// Whether a flush is unfinished. This takes no memory.
     pub fn purging(&self) -> bool
-        ensures some { (content : Content) (files : Option Files) (faults : ℕ) (w : RunState) → FrontStandsFor R.publishing content (at_disk self.now.board files faults) w → IsTrue result → w.flushes ≢ [] }
-        ensures none { (content : Content) (files : Option Files) (faults : ℕ) (w : RunState) → FrontStandsFor R.publishing content (at_disk self.now.board files faults) w → result ≡ false → w.flushes ≡ [] }
+        ensures some { InEachState R.publishing self.now.board (λ w. IsTrue result → w.flushes ≢ []) }
+        ensures none { InEachState R.publishing self.now.board (λ w. result ≡ false → w.flushes ≡ []) }
     {
         self.board.cache.is_purging()
     }
@@ -121,7 +116,7 @@ impl<R: Renderer + Drop> Front<R> {
     }
 
     fn take_step<D: Disk>(&mut self, alloc: Global, disk: &mut D, step: &Step) -> Mem<Effect>
-        ensures event { IfOk result (λ effect. MakesEvent (FrontStandsFor R.publishing (R.content self.old.renderer) (at_disk self.old.board (D.files disk.old) (D.faults disk.old))) (FrontStandsFor R.publishing (R.content self.new.renderer) (at_disk self.new.board (D.files disk.new) (D.faults disk.new))) step.now effect (D.faults disk.old) (D.faults disk.new)) }
+        ensures event { IfOk result (FrontMakesEvent R.publishing R.content D.files D.faults step.now self.old disk.old self.new disk.new) }
         ensures disk { UsesDisk (D.faults disk.old) (D.faults disk.new) (D.calls disk.old) (D.calls disk.new) }
     {
         match step {
@@ -138,7 +133,7 @@ impl<R: Renderer + Drop> Front<R> {
     }
 
     fn answer_directly(&mut self, alloc: Global, target: &str) -> Mem<Effect>
-        ensures { IfOk result (λ effect. (files : Option Files) (faults : ℕ) → MakesEvent (FrontStandsFor R.publishing (R.content self.old.renderer) (at_disk self.old.board files faults)) (FrontStandsFor R.publishing (R.content self.new.renderer) (at_disk self.new.board files faults)) (Direct target.now) effect faults faults) }
+        ensures { IfOk result (FrontMakesEventAlone R.publishing R.content (Direct target.now) self.old self.new) }
     {
         let answer = self.answer_target(alloc, target);
         let OrFixed {
@@ -153,7 +148,7 @@ impl<R: Renderer + Drop> Front<R> {
     }
 
     fn render(&mut self, alloc: Global, pick: &Pick) -> Mem<Effect>
-        ensures { IfOk result (λ effect. (files : Option Files) (faults : ℕ) → MakesEvent (FrontStandsFor R.publishing (R.content self.old.renderer) (at_disk self.old.board files faults)) (FrontStandsFor R.publishing (R.content self.new.renderer) (at_disk self.new.board files faults)) (Render pick.now) effect faults faults) }
+        ensures { IfOk result (FrontMakesEventAlone R.publishing R.content (Render pick.now) self.old self.new) }
     {
         let Some(at) = self.board.cache.first_unrendered(pick) else {
             return Effect::idle(alloc);
@@ -190,8 +185,8 @@ impl<R: Renderer + Drop> Front<R> {
     // The publisher's answer to the request of the flight that stands there.
     fn answer_flight(&mut self, alloc: Global, at: usize) -> Mem<Answer>
         requires { at < length self.old.board.cache.flying }
-        ensures ok { IfOk result (λ a. (flying : model.Flying) → slice_get self.old.board.cache.flying at ≡ Some flying → a ≡ (R.publishing (R.content self.old.renderer) (publisher_ask self.old.board.cache.core.farm flying.request)).answer) }
-        ensures after { OnOk result ((flying : model.Flying) → slice_get self.old.board.cache.flying at ≡ Some flying → R.content self.new.renderer ≡ (R.publishing (R.content self.old.renderer) (publisher_ask self.old.board.cache.core.farm flying.request)).content) }
+        ensures ok { IfOk result (IsAnswerAt R.publishing (R.content self.old.renderer) self.old.board at) }
+        ensures after { OnOk result (IsContentAfter R.publishing (R.content self.old.renderer) self.old.board at (R.content self.new.renderer)) }
         ensures status { IfOk result (λ a. a.status ≢ insufficient_storage) }
         ensures kind { IfOk result (λ a. IsTrue (is_kind a.kind)) }
         ensures unchanged { OnErr result (R.content self.new.renderer ≡ R.content self.old.renderer) }

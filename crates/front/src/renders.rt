@@ -1,12 +1,12 @@
 //! The renders of flights.
 ghost use Rattle.std.specs.List.{find};
-ghost use Rattle.std.specs.Prelude.{◌≡◌, ◌<◌, ◌&&◌, IfOk, IsTrue, Some, length, option_map, position, slice_get, slice_set};
+ghost use Rattle.std.specs.Prelude.{◌≡◌, ◌<◌, ◌&&◌, IfOk, IsTrue, Some, length, option_map, position, slice_get};
 ghost use Rattle.sp_base.specs.MediaTypes.{is_kind};
 ghost use Rattle.dispatch_rules.specs.Asking.{publisher_ask};
 ghost use Rattle.run_events.specs.declared.flying.Flying as model;
 ghost use Rattle.run_events.specs.Events as events;
 ghost use Rattle.run_events.specs.Events.{is_unrendered};
-ghost use Rattle.run_events.specs.Moves.{with_rendered};
+ghost use Rattle.front.specs.Caches.{RendersAt};
 
 use crate::cache::Cache;
 use crate::ticketed::first_unrendered;
@@ -45,7 +45,7 @@ impl Cache {
         requires within { at < length self.old.flying }
         requires kind { IsTrue (is_kind answer.kind) }
         ensures number { (flying : model.Flying) → slice_get self.old.flying at ≡ Some flying → result ≡ flying.number }
-        ensures flying { (flying : model.Flying) → slice_get self.old.flying at ≡ Some flying → self.new.flying ≡ slice_set self.old.flying at (with_rendered answer flying) }
+        ensures flying { RendersAt at answer self.old self.new }
         ensures core { self.new.core ≡ self.old.core }
         ensures flushes { self.new.flushes ≡ self.old.flushes }
     {

@@ -5,8 +5,7 @@ ghost use Rattle.sp_outside.specs.Files.{Files};
 ghost use Rattle.coherence_core.specs.Cores.{flights_of};
 ghost use Rattle.run_events.specs.declared.note.Note.TheVariants.{Shut};
 ghost use Rattle.run_events.specs.declared.step.Step.TheVariants.{Restart};
-ghost use Rattle.run_events.specs.States.{RunState};
-ghost use Rattle.front.specs.Boards.{BoardMakesEvent, at_disk};
+ghost use Rattle.front.specs.Boards.{BoardSteps};
 ghost use Rattle.front.specs.Caches.{behind};
 ghost use Rattle.front.specs.Restarts.{AreKeys, IsReopened, LosesFlights, failed_notes, lost_notes, reopened_by};
 ghost use Rattle.front.specs.Uses.{UsesDisk};
@@ -106,7 +105,7 @@ fn restart_end(opened: Result<u64, OpenFault>) -> Reopened
 impl Board {
     /// The cache and its connections begin anew.
     pub(crate) fn restart<D: Disk>(&mut self, alloc: Global, disk: &mut D) -> Mem<Effect>
-        ensures event { IfOk result (λ effect. BoardMakesEvent (at_disk self.old (D.files disk.old) (D.faults disk.old)) (at_disk self.new (D.files disk.new) (D.faults disk.new)) Restart effect) }
+        ensures event { IfOk result (BoardSteps D.files D.faults Restart self.old disk.old self.new disk.new) }
         ensures disk { UsesDisk (D.faults disk.old) (D.faults disk.new) (D.calls disk.old) (D.calls disk.new) }
     {
         let mut notes = Vec::new(alloc);

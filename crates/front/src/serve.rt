@@ -1,13 +1,12 @@
 //! What a connection is owed, given to it note by note.
-ghost use Rattle.std.specs.Prelude.{◌≡◌, ◌≤◌, ◌<◌, ◌+◌, ℕ, true, false, IfOk, OnOk};
+ghost use Rattle.std.specs.Prelude.{◌≡◌, ◌≤◌, ◌<◌, ◌+◌, ℕ, IfOk, OnOk};
 ghost use Rattle.connections.specs.Ids as ids;
-ghost use Rattle.run_events.specs.Moves.{state_after_note};
 ghost use Rattle.run_events.specs.States.{RunState};
-ghost use Rattle.front.specs.Boards.{AllGiven, IsLess, OpenAfterNote, OpenStandsFor, OpenWithoutSending, OwesFault, ServedAs, TreatedAs};
-ghost use Rattle.front.specs.Caches.{Behind, GivesIn, HasNoteCause, behind, under_nothing};
+ghost use Rattle.front.specs.Boards.{IsLess, ServedAs, TreatedAs, RefusesFault, ServesAll, ServesNext, ServesTurn};
+ghost use Rattle.front.specs.Caches.{Behind};
 ghost use Rattle.front.specs.declared.connection.Connection.{Connection as KeptConnection};
 ghost use Rattle.front.specs.KeptConnections.{work_of};
-ghost use Rattle.front.specs.Serving.{NotesThen};
+ghost use Rattle.front.specs.Serving.{SlicesFirst};
 ghost use Rattle.front.specs.Uses.{UsesDisk};
 
 use crate::answered::{Ended, local_reply, with_memory};
@@ -50,7 +49,7 @@ fn serve_one<D: Disk>(
     connection: &mut Connection,
     cache: &mut Cache,
 ) -> Mem<Served>
-    ensures served { IfOk result (λ served. (w : RunState) → OpenStandsFor w c connection.old (behind cache.old (D.files disk.old) (D.faults disk.old)) → ServedAs served w c connection.new (behind cache.old (D.files disk.old) (D.faults disk.old)) (behind cache.new (D.files disk.new) (D.faults disk.new))) }
+    ensures served { IfOk result (ServesNext D.files D.faults c connection.old cache.old disk.old connection.new cache.new disk.new) }
     ensures less { IfOk result (λ served. IsLess served (work_of connection.new) (work_of connection.old)) }
     ensures disk { UsesDisk (D.faults disk.old) (D.faults disk.new) (D.calls disk.old) (D.calls disk.new) }
 {
@@ -74,7 +73,7 @@ fn serve_turn<D: Disk>(
     connection: &mut Connection,
     cache: &mut Cache,
 ) -> Mem<Served>
-    ensures served { IfOk result (λ served. (w : RunState) → OpenWithoutSending w c connection.old (behind cache.old (D.files disk.old) (D.faults disk.old)) → ServedAs served w c connection.new (behind cache.old (D.files disk.old) (D.faults disk.old)) (behind cache.new (D.files disk.new) (D.faults disk.new))) }
+    ensures served { IfOk result (ServesTurn D.files D.faults c connection.old cache.old disk.old connection.new cache.new disk.new) }
     ensures less { IfOk result (λ served. IsLess served (work_of connection.new) (work_of connection.old)) }
     ensures disk { UsesDisk (D.faults disk.old) (D.faults disk.new) (D.calls disk.old) (D.calls disk.new) }
 {
@@ -107,7 +106,7 @@ impl Treated {
 
 // Answers the fault of a stream.
 fn refuse(c: ConnectionId, fault: InFault, connection: &mut Connection) -> Mem<Note>
-    ensures given { IfOk result (λ note. (w : RunState) (b : Behind) → OwesFault w c connection.old b fault → GivesIn under_nothing w c note × HasNoteCause b.faults b.faults under_nothing w note × OpenAfterNote false (state_after_note w note) c connection.new b) }
+    ensures given { IfOk result (RefusesFault c fault connection.old connection.new) }
     ensures work { OnOk result (work_of connection.new ≤ work_of connection.old + 1) }
 {
     let status = fault.status();
@@ -123,7 +122,7 @@ fn push_first_slice<D: Disk>(
     cache: &mut Cache,
     effect: &mut Effect,
 ) -> Mem<()>
-    ensures given { OnOk result ((w : RunState) (c : ids.ConnectionId) (old : Behind) → NotesThen true effect.old w c connection.old old (behind cache.old (D.files disk.old) (D.faults disk.old)) → NotesThen false effect.new w c connection.new old (behind cache.new (D.files disk.new) (D.faults disk.new))) }
+    ensures given { OnOk result (SlicesFirst D.files D.faults effect.old connection.old cache.old disk.old effect.new connection.new cache.new disk.new) }
     ensures work { work_of connection.new ≡ work_of connection.old }
     ensures disk { UsesDisk (D.faults disk.old) (D.faults disk.new) (D.calls disk.old) (D.calls disk.new) }
 {
@@ -149,7 +148,7 @@ pub(crate) fn serve_all<D: Disk>(
     connection: &mut Connection,
     cache: &mut Cache,
 ) -> Mem<AllServed>
-    ensures given { IfOk result (λ all. (w : RunState) → OpenStandsFor w c connection.old (behind cache.old (D.files disk.old) (D.faults disk.old)) → AllGiven all.effect all.over w c connection.new (behind cache.old (D.files disk.old) (D.faults disk.old)) (behind cache.new (D.files disk.new) (D.faults disk.new))) }
+    ensures given { IfOk result (ServesAll D.files D.faults c connection.old cache.old disk.old connection.new cache.new disk.new) }
     ensures disk { UsesDisk (D.faults disk.old) (D.faults disk.new) (D.calls disk.old) (D.calls disk.new) }
 {
     let mut effect = Effect::nothing(alloc);

@@ -1,9 +1,7 @@
 //! How a request is answered: by the front itself, or through the cache.
-ghost use Rattle.std.specs.Prelude.{◌≤◌, ◌+◌, IfOk, IsTrue, OnOk};
+ghost use Rattle.std.specs.Prelude.{◌≤◌, ◌+◌, IfOk, OnOk};
 ghost use Rattle.connections.specs.Connections as model;
-ghost use Rattle.run_events.specs.States.{RunState};
-ghost use Rattle.front.specs.Boards.{OwesRequest, TreatedAs};
-ghost use Rattle.front.specs.Caches.{Behind, behind};
+ghost use Rattle.front.specs.Boards.{TreatsRequest, TurnsAway};
 ghost use Rattle.front.specs.KeptConnections.{work_of};
 ghost use Rattle.front.specs.Uses.{UsesDisk};
 
@@ -33,7 +31,7 @@ pub(crate) fn treat<D: Disk>(
     connection: &mut Connection,
     cache: &mut Cache,
 ) -> Mem<Treated>
-    ensures given { IfOk result (λ it. (w : RunState) → OwesRequest w c connection.old (behind cache.old (D.files disk.old) (D.faults disk.old)) request → TreatedAs it w c connection.new (behind cache.old (D.files disk.old) (D.faults disk.old)) (behind cache.new (D.files disk.new) (D.faults disk.new))) }
+    ensures given { IfOk result (TreatsRequest D.files D.faults c request connection.old cache.old disk.old connection.new cache.new disk.new) }
     ensures work { OnOk result (work_of connection.new ≤ work_of connection.old + 1) }
     ensures disk { UsesDisk (D.faults disk.old) (D.faults disk.new) (D.calls disk.old) (D.calls disk.new) }
 {
@@ -62,7 +60,7 @@ pub(crate) fn treat<D: Disk>(
 
 // Turns away a request of a connection that is crowded, which closes.
 fn turn_away(c: ConnectionId, request: &Req, connection: &mut Connection) -> Mem<Treated>
-    ensures given { IfOk result (λ it. (w : RunState) (b : Behind) (owes : OwesRequest w c connection.old b request.now) → IsTrue (model.is_crowded owes.connection) → TreatedAs it w c connection.new b b) }
+    ensures given { IfOk result (TurnsAway c request.now connection.old connection.new) }
     ensures work { OnOk result (work_of connection.new ≤ work_of connection.old + 1) }
 {
     connection.push(AnswerPlace::of_last_request(request, local_reply(503)))?;

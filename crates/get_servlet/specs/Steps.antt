@@ -18,9 +18,13 @@ abbrev pub kid_member_tokens : List ℕ → (Segments → Resource → Json) →
 kid_member_tokens name json None = []
 kid_member_tokens name json (Some kid) = Token.key name ∷ json_tokens (json kid.path kid.res)
 
+-- the tokens of the kid of a name
+abbrev pub named_kid_tokens : Seen → ℕ → Segments → Resource → Text → List Token
+named_kid_tokens seen depth path res name = kid_member_tokens name (resource_json seen depth) (shown_kid seen path res name)
+
 -- the tokens of the kids of these names
 unfoldable pub kids_tokens : Seen → ℕ → Segments → Resource → List Text → List Token
-kids_tokens seen depth path res names = flat_map (λ name. kid_member_tokens name (resource_json seen depth) (shown_kid seen path res name)) names
+kids_tokens seen depth path res names = flat_map (λ name. named_kid_tokens seen depth path res name) names
 
 -- the tokens of the kids of a resource, n levels of them
 unfoldable pub below_tokens : Seen → ℕ → Segments → Resource → List Token

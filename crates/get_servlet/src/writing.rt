@@ -2,8 +2,8 @@
 ghost use Rattle.std.specs.Prelude.{◌≡◌, IfOk, Some};
 ghost use Rattle.json.specs.Tree.{json_tokens};
 ghost use Rattle.get_servlet.specs.Answers.{text_within, ReadsAs};
-ghost use Rattle.get_servlet.specs.Rendering.{shown_kid, resource_json, json_text};
-ghost use Rattle.get_servlet.specs.Steps.{kid_member_tokens, below_tokens, Spends};
+ghost use Rattle.get_servlet.specs.Rendering.{resource_json, json_text};
+ghost use Rattle.get_servlet.specs.Steps.{kid_member_tokens, below_tokens, Spends, named_kid_tokens};
 
 use crate::answer::JsonAnswer;
 use crate::kids::{Kid, shown_kid};
@@ -77,7 +77,7 @@ fn write_kid<L: Look>(
     depth: u32,
     room: usize,
 ) -> Mem<Option<usize>>
-    ensures { IfOk result (λ left. Spends room left writer.old writer.new (kid_member_tokens name.now (resource_json (L.seen look.now) depth) (shown_kid (L.seen look.now) path.now res.now name.now))) }
+    ensures { IfOk result (λ left. Spends room left writer.old writer.new (named_kid_tokens (L.seen look.now) depth path.now res.now name.now)) }
 {
     match shown_kid(alloc, look, path, res, name)? {
         Some(kid) => write_member(alloc, look, writer, &kid, name, depth, room),

@@ -18,6 +18,10 @@ unfoldable pub after_first_run : List GlobPiece → List ℕ → Option (List �
 after_first_run run [] = after_run run []
 after_first_run run (c ∷ cs) = option_or (after_run run (c ∷ cs)) (after_first_run run cs)
 
+-- at no place a run stands for what is there
+abbrev pub HasNoRun : List GlobPiece → List ℕ → Type 0
+HasNoRun run cs = after_first_run run cs ≡ None
+
 -- no star is among these pieces
 abbrev pub IsRun : List GlobPiece → Type 0
 IsRun run = list_any is_star run ≡ false

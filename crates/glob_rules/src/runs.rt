@@ -1,5 +1,5 @@
 //! Runs: parts of a glob without a star.
-ghost use Rattle.std.specs.Prelude.{◌≡◌, ◌≤◌, ◌<◌, ◌∷◌, ◌++◌, Some, None, MatchOption, length};
+ghost use Rattle.std.specs.Prelude.{◌≡◌, ◌≤◌, ◌∷◌, ◌++◌, Some, None, MatchOption, length};
 ghost use Rattle.std.specs.Str.{chars};
 ghost use Rattle.std.specs.List.{position, position_or_len};
 ghost use Rattle.glob_rules.specs.Globs.{is_match, is_star};
@@ -54,7 +54,7 @@ pub fn after_run<'a>(run: &[GlobPiece], text: &'a str) -> Option<&'a str>
 
 /// The text after the first place at which a run stands for what is there.
 pub fn after_first_run<'a>(run: &[GlobPiece], text: &'a str) -> Option<&'a str>
-    ensures { MatchOption result (spec.after_first_run run.now (chars text.now) ≡ None) (λ rest. spec.after_first_run run.now (chars text.now) ≡ Some (chars rest.now)) }
+    ensures { MatchOption result (spec.HasNoRun run.now (chars text.now)) (λ rest. spec.after_first_run run.now (chars text.now) ≡ Some (chars rest.now)) }
 {
     let mut rest = text;
     loop {

@@ -1,5 +1,5 @@
 -- The tags of a script, its end tags, and the bytes between them (HTML Living Standard, 13.1.2 "Elements"). `parts_after` is needed by `parts` and proofs alone.
-use Rattle.std.specs.Prelude.{ℕ, zero, suc, ◌+◌, ◌-◌, Bool, false, not, nat_le, ◌||◌, ◌&&◌, ◌==◌, if◌then◌else◌, List, [], ◌∷◌, length, take, drop, codes, slice_index, Option, Some, None, is_none}
+use Rattle.std.specs.Prelude.{ℕ, zero, suc, ◌+◌, ◌-◌, Bool, false, not, nat_le, ◌||◌, ◌&&◌, ◌==◌, if◌then◌else◌, List, [], ◌∷◌, length, take, drop, codes, slice_index, Option, Some, None, is_none, ◌≡◌, true}
 use Rattle.std.specs.List.{position_or_len}
 use Rattle.std.specs.Str.{str_eq_ignore_ascii_case}
 use Rattle.sp_base.specs.Texts.{Text}
@@ -131,3 +131,7 @@ unfoldable pub inside_len : List ℕ → ℕ → ℕ → List Text → Option �
 inside_len name waiting n [] = None
 inside_len name waiting n (part ∷ more) =
     if waiting == 0 && closes name part then Some n else inside_len name (waiting_after name waiting part) (n + length part) more
+
+-- the tag at the beginning has its ">", and this is it, and that what comes after it
+abbrev pub SplitsTag : List ℕ → List ℕ → List ℕ → Type 0
+SplitsTag text tag rest = (is_ended text ≡ true) × (tag ≡ take (tag_len text) text) × (rest ≡ drop (tag_len text) text)

@@ -1,15 +1,17 @@
 -- A list of pieces, as it stands for parts.
-use Rattle.std.specs.Prelude.{ℕ, Bool, true, false, List, [], ◌∷◌, ◌++◌, length, Option, Some, None}
+use Rattle.std.specs.Prelude.{ℕ, Bool, true, false, List, [], ◌∷◌, ◌++◌, length, Option, Some, None, ◌≡◌, ◌≤◌}
 use Rattle.std.specs.List.{count_by, flat_map, fold, slice_index_or, sum_by}
 use Rattle.sp_base.specs.Texts.{Text}
+use Rattle.sp_base.specs.Limits.{most_rendered_bytes}
 use Rattle.htl_expr.specs.Bindings.{Bindings}
 use Rattle.htl_expr.specs.Value.{list_in}
 use Rattle.htl_blocks.specs.declared.piece.Round.{Round}
 use Rattle.htl_blocks.specs.declared.piece.Piece.{Piece}
 use Rattle.htl_blocks.specs.declared.piece.Piece.TheVariants as piece
-use Rattle.htl_blocks.specs.Parts.{Part, text_parts}
+use Rattle.htl_blocks.specs.Parts.{Part, text_parts, inclusions, rounds, text_of}
 use Rattle.htl_blocks.specs.Parts as part
 use Rattle.htl_blocks.specs.Written.{statement_value, with_variable}
+use Rattle.htl_blocks.specs.Refused.{most_inclusions, most_rounds}
 
 -- the items of a list; what is no list has none
 abbrev pub items_in : Option (List Text) → List Text
@@ -68,3 +70,11 @@ pub record ScriptText : Type 0 where
   pub scope : Bindings
   pub parts : List Part
   pub rounds : ℕ
+
+-- the pieces stand for these parts, of which this is kept, and the rounds are counted
+abbrev pub StandsForParts : Bindings → (List Part → List Part) → List Part → ScriptText → Type 0
+StandsForParts scope kept parts text = (text.scope ≡ scope) × (text.parts ≡ kept parts) × (text.rounds ≡ rounds parts)
+
+-- nothing of it is above its limit
+abbrev pub IsWithinLimits : ScriptText → Type 0
+IsWithinLimits text = (length (text_of text.parts) ≤ most_rendered_bytes) × (inclusions text.parts ≤ most_inclusions) × (text.rounds ≤ most_rounds)

@@ -48,3 +48,7 @@ Stops f old ps = f ≢ NoMemory → IsOver f (with_parts old ps)
 abbrev pub Wrote : {A : Type 0} → Result A RunFault → SheetText → SheetText → List Part → Type 0
 Wrote (Ok _) old new ps = new ≡ with_parts old ps
 Wrote (Err f) old new ps = Stops f old ps
+
+-- a text is too long, unless memory lacks
+abbrev pub RunsTooLong : List ℕ → RunFault → Type 0
+RunsTooLong text f = f ≢ NoMemory → (f ≡ TooLong) × (most_rendered_bytes < length text)

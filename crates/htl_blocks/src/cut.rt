@@ -1,6 +1,6 @@
 //! Where block elements stand in a text.
 
-ghost use Rattle.std.specs.Prelude.{◌≡◌, ◌==◌, ◌&&◌, ◌<◌, ◌+◌, IfSome, IfOk, IfErr, Some, None, Ok, Err, true, false, length, take, drop};
+ghost use Rattle.std.specs.Prelude.{◌≡◌, ◌==◌, ◌&&◌, ◌<◌, IfSome, IfOk, IfErr, Some, None, Ok, Err, true, false, length, take, drop};
 ghost use Rattle.htl_blocks.specs.LentValues.{cut_shown};
 ghost use Rattle.htl_blocks.specs.Markup as spec;
 ghost use Rattle.htl_blocks.specs.Reading as reading;
@@ -116,7 +116,7 @@ fn cut_at<'a>(tag: &'a str, text: &'a str, len: usize) -> Cut<'a>
 #[tactic(auto, unfolding(crate::specs::Markup::is_ended, crate::specs::Markup::tag_len))]
 fn tag_split(text: &str) -> Option<(&str, &str)>
     ensures none { result ≡ None → spec.is_ended text.now ≡ false }
-    ensures some { IfSome result (λ x. (spec.is_ended text.now ≡ true) × (x.0.now ≡ take (spec.tag_len text.now) text.now) × (x.1.now ≡ drop (spec.tag_len text.now) text.now)) }
+    ensures some { IfSome result (λ x. spec.SplitsTag text.now x.0.now x.1.now) }
 {
     match tag_end(text.as_bytes()) {
         Some(place) => Some(text.split_at(place + 1)),

@@ -1,11 +1,11 @@
 //! What a script's blocks write.
 
-ghost use Rattle.std.specs.Prelude.{◌≡◌, ◌≢◌, ◌≤◌, IfOk, IfErr, length};
-ghost use Rattle.sp_base.specs.Limits.{most_rendered_bytes};
-ghost use Rattle.htl_blocks.specs.Parts.{inclusions, rounds, seen, text_of};
-ghost use Rattle.htl_blocks.specs.Refused.{Fits, IsRefused, most_inclusions, most_rounds};
+ghost use Rattle.std.specs.Prelude.{◌≡◌, ◌≢◌, IfOk, IfErr};
+ghost use Rattle.htl_blocks.specs.Parts.{seen};
+ghost use Rattle.htl_blocks.specs.Refused.{Fits, IsRefused};
 ghost use Rattle.htl_blocks.specs.Sheets.{IsOver, empty_sheet, kept, with_parts};
 ghost use Rattle.htl_blocks.specs.Written.{blocks_parts};
+ghost use Rattle.htl_blocks.specs.Pieces.{IsWithinLimits, StandsForParts};
 
 use crate::block::Block;
 use crate::blocks::Blocks;
@@ -46,8 +46,8 @@ fn written<'a>(
     keeping: Keeping,
     all: &'a [Block],
 ) -> Result<PieceList<'a>, RunFault>
-    ensures parts { IfOk result (λ l. (l.scope ≡ scope.now) × (l.parts ≡ kept keeping (blocks_parts scope.now all.now)) × (l.rounds ≡ rounds (blocks_parts scope.now all.now))) }
-    ensures fits { IfOk result (λ l. (length (text_of l.parts) ≤ most_rendered_bytes) × (inclusions l.parts ≤ most_inclusions) × (l.rounds ≤ most_rounds)) }
+    ensures parts { IfOk result (StandsForParts scope.now (kept keeping) (blocks_parts scope.now all.now)) }
+    ensures fits { IfOk result IsWithinLimits }
     ensures err { IfErr result (λ f. f ≢ RunFault.NoMemory → IsOver f (with_parts (empty_sheet scope.now keeping) (blocks_parts scope.now all.now))) }
 {
     let sheet = filled(alloc, scope, keeping, all)?;
@@ -70,7 +70,7 @@ impl Blocks {
     /// much text, it is the text that is told; but after 1,000,000 rounds nothing more is looked at.
     #[tactic(auto, using(crate::proofs::PieceLemmas::all_are_seen, crate::proofs::PieceLemmas::all_fits, crate::proofs::PieceLemmas::long_is_refused))]
     pub fn pieces<'a>(&'a self, alloc: Global, scope: &Scope<'a>) -> Result<PieceList<'a>, RunFault>
-        ensures parts { IfOk result (λ l. (l.scope ≡ scope.now) × (l.parts ≡ seen (blocks_parts scope.now self.now)) × (l.rounds ≡ rounds (blocks_parts scope.now self.now))) }
+        ensures parts { IfOk result (StandsForParts scope.now seen (blocks_parts scope.now self.now)) }
         ensures fits { IfOk result (λ l. Fits (blocks_parts scope.now self.now)) }
         ensures err { IfErr result (λ f. f ≢ RunFault.NoMemory → IsRefused f (blocks_parts scope.now self.now)) }
     {

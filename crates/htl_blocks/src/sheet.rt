@@ -7,11 +7,12 @@ ghost use Rattle.htl_expr.specs.Value.{list_in};
 ghost use Rattle.htl_expr.specs.Variables.{vars_of};
 ghost use Rattle.htl_text.specs.Template.{template_output};
 ghost use Rattle.htl_blocks.specs.Parts as part;
-ghost use Rattle.htl_blocks.specs.Pieces.{piece_parts, pieces_parts, puts_in};
-ghost use Rattle.htl_blocks.specs.Places.{IsPlaceIn, seen_at};
+ghost use Rattle.htl_blocks.specs.Pieces.{piece_parts, pieces_parts, puts_in, IsWithinLimits};
+ghost use Rattle.htl_blocks.specs.Places.{IsPlaceIn};
 ghost use Rattle.htl_blocks.specs.Refused.{most_inclusions, most_rounds};
 ghost use Rattle.htl_blocks.specs.Sheets as spec;
 ghost use Rattle.htl_blocks.specs.Written as written;
+ghost use Rattle.htl_blocks.specs.PlaceParts.{script_named_at};
 
 use crate::attribute::Unwrap;
 use crate::bounded_pieces::BoundedPieces;
@@ -77,7 +78,7 @@ fn push_template<'v, 'a: 'v>(
     template: &'v Template,
 ) -> Result<(), RunFault>
     ensures ok { OnOk result (string_bytes text.new ≡ string_bytes text.old ++ template_output (with_vars of.old (vars_of vars.now)) template.now) }
-    ensures err { IfErr result (λ f. f ≢ RunFault.NoMemory → (f ≡ RunFault.TooLong) × (most_rendered_bytes < length (string_bytes text.old ++ template_output (with_vars of.old (vars_of vars.now)) template.now))) }
+    ensures err { IfErr result (spec.RunsTooLong (string_bytes text.old ++ template_output (with_vars of.old (vars_of vars.now)) template.now)) }
     ensures resource { of.new ≡ of.old }
 {
     match template.write(text, alloc, of, vars) {
@@ -162,7 +163,7 @@ pub fn include_script<'v, 'a: 'v>(
     value: &'v Template,
 ) -> Result<(), RunFault>
     requires { IsPlaceIn sheet.old.scope place.now }
-    ensures { spec.Wrote result sheet.old sheet.new (part.Script (written.statement_name (seen_at sheet.old.scope place.now) value.now) (vars_of place.now.vars.now) ∷ []) }
+    ensures { spec.Wrote result sheet.old sheet.new (script_named_at sheet.old.scope place.now value.now) }
 {
     let name = name(alloc, &mut sheet.of, place.vars, value)?;
     let frame = place.frame.duplicate(alloc)?;
@@ -254,7 +255,7 @@ fn list_of<'a>(scope: &Scope<'a>, pieces: BoundedPieces<'a>, rounds: usize) -> P
 pub fn finished<'a>(sheet: Sheet<'a>, scope: &Scope<'a>) -> Result<PieceList<'a>, RunFault>
     requires { scope.now ≡ sheet.scope }
     ensures parts { IfOk result (λ l. (l.scope ≡ sheet.entry.scope) × (l.parts ≡ sheet.entry.parts) × (l.rounds ≡ sheet.entry.rounds)) }
-    ensures fits { IfOk result (λ l. (length (part.text_of l.parts) ≤ most_rendered_bytes) × (part.inclusions l.parts ≤ most_inclusions) × (l.rounds ≤ most_rounds)) }
+    ensures fits { IfOk result IsWithinLimits }
     ensures err { IfErr result (λ f. f ≢ RunFault.NoMemory → spec.IsOver f sheet.entry) }
 {
     let Sheet {

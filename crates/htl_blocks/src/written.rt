@@ -1,13 +1,13 @@
 //! What blocks write.
 
-ghost use Rattle.std.specs.Prelude.{◌≡◌, ◌≢◌, ◌<◌, [], ◌∷◌, IfOk, Some, length};
-ghost use Rattle.std.specs.List.{flat_map, slice_index_or};
+ghost use Rattle.std.specs.Prelude.{◌<◌, length};
 ghost use Rattle.htl_expr.specs.Bindings.{with_vars};
 ghost use Rattle.htl_expr.specs.Variables.{vars_of};
 ghost use Rattle.htl_text.specs.Template.{template_output};
 ghost use Rattle.htl_blocks.specs.Places.{HasItems, IsPlaceIn, seen_at};
 ghost use Rattle.htl_blocks.specs.Sheets.{Wrote};
 ghost use Rattle.htl_blocks.specs.Written as spec;
+ghost use Rattle.htl_blocks.specs.PlaceParts.{element_at, element_for_items, element_for_list, element_once, round_at, rounds_at};
 
 use crate::attribute::Body;
 use crate::block::Block;
@@ -81,7 +81,7 @@ fn round<'v, 'a: 'v>(
     requires place { IsPlaceIn sheet.old.scope place.now }
     requires items { HasItems (seen_at sheet.old.scope place.now) repetition.now }
     requires index { index < length repetition.now.items }
-    ensures { Wrote result sheet.old sheet.new (spec.round_parts repetition.now.name.now (spec.body_parts repetition.now.body.now (λ scope. spec.blocks_parts scope content.now)) (seen_at sheet.old.scope place.now) (slice_index_or repetition.now.items index [])) }
+    ensures { Wrote result sheet.old sheet.new (round_at sheet.old.scope place.now content.now repetition.now index) }
 {
     let Some(item) = repetition.items.item(alloc, index)? else {
         return Ok(());
@@ -114,7 +114,7 @@ fn rounds<'v, 'a: 'v>(
 ) -> Result<(), RunFault>
     requires place { IsPlaceIn sheet.old.scope place.now }
     requires items { HasItems (seen_at sheet.old.scope place.now) repetition.now }
-    ensures { Wrote result sheet.old sheet.new (flat_map (spec.round_parts repetition.now.name.now (spec.body_parts repetition.now.body.now (λ scope. spec.blocks_parts scope content.now)) (seen_at sheet.old.scope place.now)) repetition.now.items) }
+    ensures { Wrote result sheet.old sheet.new (rounds_at sheet.old.scope place.now content.now repetition.now) }
 {
     for index in 0..repetition.items.len() {
         round(sheet, alloc, place, content, repetition, index)?;
@@ -132,7 +132,7 @@ fn once<'v, 'a: 'v>(
     content: &'a [Block],
 ) -> Result<(), RunFault>
     requires { IsPlaceIn sheet.old.scope place.now }
-    ensures { Wrote result sheet.old sheet.new (spec.between_tags tags.now.start.now tags.now.end.now (seen_at sheet.old.scope place.now) (Some (spec.body_parts tags.now.start.now.attributes.body (λ scope. spec.blocks_parts scope content.now) (seen_at sheet.old.scope place.now)))) }
+    ensures { Wrote result sheet.old sheet.new (element_once sheet.old.scope place.now tags.now content.now) }
 {
     let start = tags.start;
     let keeps = keeps_tags(sheet, alloc, place.vars, &start.attributes.unwrap)?;
@@ -153,7 +153,7 @@ fn for_items<'v, 'a: 'v>(
 ) -> Result<(), RunFault>
     requires place { IsPlaceIn sheet.old.scope place.now }
     requires items { HasItems (seen_at sheet.old.scope place.now) repetition.now }
-    ensures { Wrote result sheet.old sheet.new (spec.between_tags tags.now.start.now tags.now.end.now (seen_at sheet.old.scope place.now) (spec.repeated repetition.now.name.now (spec.body_parts repetition.now.body.now (λ scope. spec.blocks_parts scope content.now)) (seen_at sheet.old.scope place.now) (Some repetition.now.items))) }
+    ensures { Wrote result sheet.old sheet.new (element_for_items sheet.old.scope place.now tags.now content.now repetition.now) }
 {
     if repetition.items.len() == 0 {
         return Ok(());
@@ -176,7 +176,7 @@ fn repeated<'v, 'a: 'v>(
     list: &'a (TextBuf, Template),
 ) -> Result<(), RunFault>
     requires { IsPlaceIn sheet.old.scope place.now }
-    ensures { Wrote result sheet.old sheet.new (spec.between_tags tags.now.start.now tags.now.end.now (seen_at sheet.old.scope place.now) (spec.listed (Some list.now) (spec.body_parts tags.now.start.now.attributes.body (λ scope. spec.blocks_parts scope content.now)) (seen_at sheet.old.scope place.now))) }
+    ensures { Wrote result sheet.old sheet.new (element_for_list sheet.old.scope place.now tags.now content.now list.now) }
 {
     let Some(items) = listed(sheet, alloc, place.vars, &list.1)? else {
         return Ok(());
@@ -200,7 +200,7 @@ fn element<'v, 'a: 'v>(
     content: &'a [Block],
 ) -> Result<(), RunFault>
     requires { IsPlaceIn sheet.old.scope place.now }
-    ensures { Wrote result sheet.old sheet.new (spec.element_parts tags.now.start.now (λ scope. spec.blocks_parts scope content.now) tags.now.end.now (seen_at sheet.old.scope place.now)) }
+    ensures { Wrote result sheet.old sheet.new (element_at sheet.old.scope place.now tags.now content.now) }
 {
     let start = tags.start;
     if !passes(sheet, alloc, place.vars, &start.attributes.test)? {

@@ -1,6 +1,6 @@
 //! What an element writes, statement by statement: laws of the definitions, on functions that do nothing.
 
-ghost use Rattle.std.specs.Prelude.{◌≡◌, ℕ, [], ◌∷◌, ◌++◌, List, Some, None, true, false};
+ghost use Rattle.std.specs.Prelude.{◌≡◌, ℕ, [], ◌∷◌, ◌++◌, List, Some, None};
 ghost use Rattle.std.specs.List.{flat_map};
 ghost use Rattle.htl_expr.specs.Bindings.{Bindings};
 ghost use Rattle.htl_expr.specs.Value.{list_in};
@@ -11,12 +11,12 @@ ghost use Rattle.htl_blocks.specs.declared.block.Tag.{Tag};
 ghost use Rattle.htl_blocks.specs.declared.block.Block.{Block};
 ghost use Rattle.htl_blocks.specs.declared.block.Block.TheVariants.{Text, Element};
 ghost use Rattle.htl_blocks.specs.Parts.{Round, Script, Resource, text_parts};
-ghost use Rattle.htl_blocks.specs.Written.{block_parts, blocks_parts, keeps_tags, passes, statement_name, statement_value, with_variable};
-ghost use Rattle.htl_blocks.specs.WrittenLaws.{StandsInTags};
+ghost use Rattle.htl_blocks.specs.Written.{block_parts, blocks_parts, statement_name, statement_value, with_variable};
+ghost use Rattle.htl_blocks.specs.WrittenLaws.{StandsInTags, IsLeftOutUntrue, StandsUnwrapped, HidesStatements};
 
 /// An element whose test is false is left out.
 pub fn a_false_test_leaves_the_element_out()
-    ensures { (scope : Bindings) (tag : Tag) (content : List Block) (end_tag : List ℕ) → passes scope tag.attributes.test ≡ false → block_parts (Element tag content end_tag) scope ≡ [] }
+    ensures { (scope : Bindings) (tag : Tag) (content : List Block) (end_tag : List ℕ) → IsLeftOutUntrue scope tag content end_tag }
 {}
 
 /// The content of an element stands between its tags once for each item of its list, in their order, with the item as the variable. The
@@ -50,14 +50,12 @@ pub fn a_body_stands_in_place_of_the_content()
 
 /// Unwrapping leaves the tags out and keeps the content.
 pub fn unwrapping_keeps_the_content()
-    ensures { (scope : Bindings) (tag : Tag) (content : List Block) (end_tag : List ℕ) → passes scope tag.attributes.test ≡ true → tag.attributes.list ≡ None → tag.attributes.body ≡ None
-        → keeps_tags scope tag.attributes.unwrap ≡ false → block_parts (Element tag content end_tag) scope ≡ blocks_parts scope content }
+    ensures { (scope : Bindings) (tag : Tag) (content : List Block) (end_tag : List ℕ) → StandsUnwrapped scope tag content end_tag }
 {}
 
 /// Of a tag stands what its template writes, which is its text without the statements: they themselves don't show.
 pub fn statements_dont_show()
-    ensures { (scope : Bindings) (tag : Tag) (content : List Block) (end_tag : List ℕ) → StandsInTags scope tag → tag.attributes.list ≡ None → tag.attributes.body ≡ None
-        → block_parts (Element tag content end_tag) scope ≡ text_parts (template_output scope tag.start) ++ (blocks_parts scope content ++ text_parts end_tag) }
+    ensures { (scope : Bindings) (tag : Tag) (content : List Block) (end_tag : List ℕ) → HidesStatements scope tag content end_tag }
 {}
 
 /// A template writes its own text.

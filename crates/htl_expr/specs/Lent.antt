@@ -1,5 +1,5 @@
 -- What values that lend stand for. Only the invariant of `Evaluation`, proofs and private functions need this.
-use Rattle.std.specs.Prelude.{◌≡◌, ℕ, Bool, true, false, List, [], Option, None, Some, codes, map, option_map}
+use Rattle.std.specs.Prelude.{◌≡◌, ℕ, Bool, true, false, List, [], Option, None, Some, codes, map, option_map, get_or}
 use Rattle.std.specs.Fmt.{signed_decimal}
 use Rattle.sp_base.specs.Texts.{Text}
 use Rattle.htl_expr.specs.declared.out.Out.{Out}
@@ -67,3 +67,11 @@ KnowsItself scope (Some name) items v = v ≡ property scope name
 -- what an operand says of itself holds for this resource
 abbrev pub IsOperand : Bindings → Operand → Type 0
 IsOperand scope operand = KnowsItself scope (option_map (λ name. name.now) operand.property) operand.items (out_of_lent operand.value)
+
+-- the text of a value that lends before it is escaped
+abbrev pub plain_lent : List ℕ → Lent → List ℕ
+plain_lent join value = plain join (out_of_lent value)
+
+-- the item at a place of a list
+abbrev pub listed_item : Lent → ℕ → List ℕ
+listed_item value place = get_or (listed_texts (out_of_lent value)) place []

@@ -40,3 +40,7 @@ AgreeUpTo xs ys place = (place ≤ length xs) × (place ≤ length ys) × (take 
 -- the texts at a place differ, where both have one there
 abbrev pub DifferAt : List Text → List Text → ℕ → Type 0
 DifferAt xs ys place = place < length xs → place < length ys → pointwise nat_eq (get_or xs place []) (get_or ys place []) ≡ false
+
+-- both have an item at a place, of as many bytes
+abbrev pub AreAsLongAt : Bindings → List ItemPiece → List ItemPiece → ℕ → Type 0
+AreAsLongAt scope a b place = (place < length a) × (place < length b) × (length (get_or (piece_texts scope a) place []) ≡ length (get_or (piece_texts scope b) place []))

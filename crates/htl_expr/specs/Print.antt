@@ -1,5 +1,5 @@
 -- How a value is printed. `reference_place` and `first_reference` are needed by proofs and private functions alone.
-use Rattle.std.specs.Prelude.{◌≡◌, ℕ, suc, is_some, ◌==◌, ◌||◌, Bool, true, not, if◌then◌else◌, List, [], ◌∷◌, ◌++◌, Option, Some, None, codes, flat_map, unwrap_or}
+use Rattle.std.specs.Prelude.{◌≡◌, ℕ, suc, is_some, ◌==◌, ◌||◌, Bool, true, not, if◌then◌else◌, List, [], ◌∷◌, ◌++◌, Option, Some, None, codes, flat_map, unwrap_or, ℤ, map}
 use Rattle.std.specs.List.{list_all}
 use Rattle.std.specs.Fmt.{signed_decimal}
 use Rattle.sp_base.specs.Texts.{Text}
@@ -69,3 +69,7 @@ abbrev pub IsInert : Option Context → List ℕ → Type 0
 IsInert None text = list_all is_inert text ≡ true
 IsInert (Some context.Text) text = list_all is_inert text ≡ true
 IsInert (Some context.Unsafe) text = Unit {0}
+
+-- numbers in decimal, with a join text between each two
+abbrev pub joined_numbers : List ℕ → List ℤ → List ℕ
+joined_numbers join numbers = concatenation join (map signed_decimal numbers)

@@ -50,6 +50,14 @@ comparison_holds Above a b = are_ordered int_lt b a
 comparison_holds AtMost a b = are_ordered int_le a b
 comparison_holds AtLeast a b = are_ordered int_le b a
 
+-- a && b: the first if it is false, else the second
+abbrev pub and_value : Out → Out → Out
+and_value a b = if is_true a then b else a
+
+-- a || b: the first if it is true, else the second
+abbrev pub or_value : Out → Out → Out
+or_value a b = if is_true a then a else b
+
 -- a && b && ..: the first that is false, else the last
 abbrev pub and_values : Out → List Out → Out
 and_values a [] = a
@@ -121,6 +129,10 @@ value_step scope (ExprNode-F.Choice condition a b) = if is_true condition then a
 -- the value of a tree
 abbrev pub value : Scope → ExprNode → Out
 value scope = fold-ExprNode Out (value_step scope)
+
+-- the values of trees
+abbrev pub values : Scope → List ExprNode → List Out
+values scope nodes = map (value scope) nodes
 
 -- an expression without a tree is nothing
 abbrev pub value_or_nothing : Scope → Option ExprNode → Out

@@ -3,6 +3,7 @@ use Rattle.std.specs.Prelude.{ℕ, List, [], ◌∷◌, map}
 use Rattle.std.specs.Borrow.{Bor}
 use Rattle.htl_expr.specs.declared.variables.Variables.{Variables, fold-Variables}
 use Rattle.htl_expr.specs.declared.variables.Variables.TheOpen.{Variables-F}
+use Rattle.htl_expr.specs.Bindings.{Bindings, with_vars}
 
 -- pairs that lend, as they are seen
 abbrev pub lent_pairs : List (Bor (List ℕ) × Bor (List ℕ)) → List (List ℕ × List ℕ)
@@ -17,3 +18,7 @@ vars_step (Variables-F.Pairs pairs) = lent_pairs pairs.now
 -- all names with their texts
 abbrev pub vars_of : Variables → List (List ℕ × List ℕ)
 vars_of = fold-Variables (List (List ℕ × List ℕ)) vars_step
+
+-- what is seen of a resource with these variables
+abbrev pub seen_by : Bindings → Variables → Bindings
+seen_by scope vars = with_vars scope (vars_of vars)

@@ -20,3 +20,11 @@ Wrote most (Err f) old more new = IsStopped most f old more new
 -- the text of a text
 abbrev pub itself : List ℕ → List ℕ
 itself text = text
+
+-- a text is written after what stood there, within the limit
+abbrev pub IsWrittenWithin : ℕ → List ℕ → List ℕ → List ℕ → Type 0
+IsWrittenWithin most old more new = (new ≡ old ++ more) × (length new ≤ most)
+
+-- it would go beyond the limit, unless memory lacks
+abbrev pub FailsAsTooLong : ℕ → List ℕ → WriteFault → Type 0
+FailsAsTooLong most text f = f ≢ NoMemory → (f ≡ TooLong) × (most < length text)

@@ -96,7 +96,7 @@ pub(crate) fn push_longs(
     items: &[i64],
 ) -> Result<(), WriteFault>
     requires { length (string_bytes text.old) ≤ most }
-    ensures { Wrote most result (string_bytes text.old) (spec.in_context context (spec.concatenation join.now (map signed_decimal items.now))) (string_bytes text.new) }
+    ensures { Wrote most result (string_bytes text.old) (spec.in_context context (spec.joined_numbers join.now items.now)) (string_bytes text.new) }
 {
     let mut before = "";
     for item in items {

@@ -2,7 +2,7 @@
 
 ghost use Rattle.std.specs.Prelude.{◌≡◌, ◌<◌, ◌++◌, IfOk, [], nat_eq, length, get_or, codes};
 ghost use Rattle.std.specs.Cmp.Lexicographic.{pointwise};
-ghost use Rattle.htl_expr.specs.Lent.{out_of_lent, listed_texts, IsOperand};
+ghost use Rattle.htl_expr.specs.Lent.{out_of_lent, listed_texts, IsOperand, listed_item};
 ghost use Rattle.htl_expr.specs.Pieces.{item_piece_text, piece_texts, with_commas};
 ghost use Rattle.htl_expr.specs.Value as spec;
 
@@ -66,7 +66,7 @@ fn has_pieces_at<'v, 'a: 'v>(
 ) -> Mem<bool>
     requires list { IsOperand scope.old list.now }
     requires within { place < length (listed_texts (out_of_lent list.now.value)) }
-    ensures same { IfOk result (λ same. same ≡ pointwise nat_eq (codes "," ++ get_or (listed_texts (out_of_lent list.now.value)) place []) (with_commas (piece_texts scope.old pieces.now))) }
+    ensures same { IfOk result (λ same. same ≡ pointwise nat_eq (codes "," ++ listed_item list.now.value place) (with_commas (piece_texts scope.old pieces.now))) }
     ensures scope { scope.new ≡ scope.old }
 {
     match list.property {
@@ -91,7 +91,7 @@ fn has_same_item_at<'v, 'a: 'v>(
     requires second { IsOperand scope.old b.now }
     requires within { place < length (listed_texts (out_of_lent a.now.value)) }
     requires within_other { place < length (listed_texts (out_of_lent b.now.value)) }
-    ensures same { IfOk result (λ same. same ≡ pointwise nat_eq (get_or (listed_texts (out_of_lent a.now.value)) place []) (get_or (listed_texts (out_of_lent b.now.value)) place [])) }
+    ensures same { IfOk result (λ same. same ≡ pointwise nat_eq (listed_item a.now.value place) (listed_item b.now.value place)) }
     ensures scope { scope.new ≡ scope.old }
 {
     match b.property {

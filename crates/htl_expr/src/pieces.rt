@@ -3,7 +3,7 @@
 ghost use Rattle.std.specs.Prelude.{◌≡◌, ◌<◌, ◌+◌, ◌∷◌, ◌++◌, [], List, IfOk, OnOk, nat_eq, length, get_or, flat_map, codes, string_bytes, true};
 ghost use Rattle.std.specs.Cmp.Lexicographic.{pointwise};
 ghost use Rattle.htl_expr.specs.declared.pieces.ItemPiece.{ItemPiece};
-ghost use Rattle.htl_expr.specs.Pieces.{item_piece_text, piece_texts, with_commas, AgreeUpTo, DifferAt};
+ghost use Rattle.htl_expr.specs.Pieces.{item_piece_text, piece_texts, with_commas, AgreeUpTo, DifferAt, AreAsLongAt};
 
 use crate::evaluation::Evaluation;
 use crate::lists::long_text;
@@ -182,7 +182,7 @@ fn is_as_long_at(
     b: &[ItemPiece],
     place: usize,
 ) -> Mem<bool>
-    ensures long { IfOk result (λ long. long ≡ true → (place < length a.now) × (place < length b.now) × (length (get_or (piece_texts scope.old a.now) place []) ≡ length (get_or (piece_texts scope.old b.now) place []))) }
+    ensures long { IfOk result (λ long. long ≡ true → AreAsLongAt scope.old a.now b.now place) }
     ensures scope { scope.new ≡ scope.old }
 {
     if place >= a.len() || place >= b.len() {

@@ -1,12 +1,11 @@
 //! How a value is printed.
 
-ghost use Rattle.std.specs.Prelude.{◌≡◌, ◌≢◌, ◌≤◌, ◌<◌, ◌++◌, [], IfOk, IfErr, OnOk, OnErr, string_bytes, map, length};
-ghost use Rattle.htl_expr.specs.Lent.{out_of_lent, plain_item, IsOperand};
+ghost use Rattle.std.specs.Prelude.{◌≡◌, ◌≤◌, ◌++◌, [], IfOk, IfErr, OnOk, OnErr, string_bytes, map, length};
+ghost use Rattle.htl_expr.specs.Lent.{out_of_lent, plain_item, IsOperand, plain_lent};
 ghost use Rattle.htl_expr.specs.Print as spec;
-ghost use Rattle.htl_expr.specs.Bindings.{with_vars};
 ghost use Rattle.htl_expr.specs.Value.{plain_text, print};
-ghost use Rattle.htl_expr.specs.Variables.{vars_of};
-ghost use Rattle.htl_expr.specs.Writing.{Wrote};
+ghost use Rattle.htl_expr.specs.Variables.{seen_by};
+ghost use Rattle.htl_expr.specs.Writing.{Wrote, FailsAsTooLong, IsWrittenWithin};
 
 use crate::empty_join::push_joined;
 use crate::escape::push;
@@ -122,7 +121,7 @@ fn push_operand(
 ) -> Result<(), WriteFault>
     requires room { length (string_bytes text.old) ≤ most }
     requires operand { IsOperand scope.old operand.now }
-    ensures text { Wrote most result (string_bytes text.old) (spec.in_context context (spec.plain join.now (out_of_lent operand.now.value))) (string_bytes text.new) }
+    ensures text { Wrote most result (string_bytes text.old) (spec.in_context context (plain_lent join.now operand.now.value)) (string_bytes text.new) }
     ensures scope { scope.new ≡ scope.old }
 {
     if join.is_empty() {
@@ -154,7 +153,7 @@ impl Expr {
         context: Option<Context>,
     ) -> Result<(), WriteFault>
         requires { length (string_bytes text.old) ≤ most }
-        ensures text { Wrote most result (string_bytes text.old) (spec.in_context context (plain_text (with_vars of.old (vars_of vars.now)) self.now)) (string_bytes text.new) }
+        ensures text { Wrote most result (string_bytes text.old) (spec.in_context context (plain_text (seen_by of.old vars.now) self.now)) (string_bytes text.new) }
         ensures resource { of.new ≡ of.old }
     {
         match &self.expression.node {
@@ -176,8 +175,8 @@ impl Expr {
         vars: &'v Variables<'v>,
         most: usize,
     ) -> Result<(), WriteFault>
-        ensures ok { OnOk result ((string_bytes text.new ≡ string_bytes text.old ++ print (with_vars of.old (vars_of vars.now)) self.now) × (length (string_bytes text.new) ≤ most)) }
-        ensures err { IfErr result (λ f. f ≢ WriteFault.NoMemory → (f ≡ WriteFault.TooLong) × (most < length (string_bytes text.old ++ print (with_vars of.old (vars_of vars.now)) self.now))) }
+        ensures ok { OnOk result (IsWrittenWithin most (string_bytes text.old) (print (seen_by of.old vars.now) self.now) (string_bytes text.new)) }
+        ensures err { IfErr result (FailsAsTooLong most (string_bytes text.old ++ print (seen_by of.old vars.now) self.now)) }
         // A text that isn't written whole isn't written in part.
         ensures kept { OnErr result (string_bytes text.new ≡ string_bytes text.old) }
         ensures resource { of.new ≡ of.old }

@@ -1,9 +1,9 @@
 //! What block statements ask of an expression: a truth, a list, or a name.
 
-ghost use Rattle.std.specs.Prelude.{◌≡◌, ◌≢◌, ◌≤◌, ◌<◌, IfOk, IfErr, length};
-ghost use Rattle.htl_expr.specs.Bindings.{with_vars};
+ghost use Rattle.std.specs.Prelude.{◌≡◌, ◌≤◌, IfOk, IfErr, length};
 ghost use Rattle.htl_expr.specs.Value as spec;
-ghost use Rattle.htl_expr.specs.Variables.{vars_of};
+ghost use Rattle.htl_expr.specs.Variables.{seen_by};
+ghost use Rattle.htl_expr.specs.Writing.{FailsAsTooLong};
 
 use crate::evaluation::Evaluation;
 use crate::expression::Expr;
@@ -24,7 +24,7 @@ impl Expr {
         of: &mut Evaluation<'a>,
         vars: &'v Variables<'v>,
     ) -> Mem<bool>
-        ensures truth { IfOk result (λ truth. truth ≡ spec.is_true (spec.expr_value (with_vars of.old (vars_of vars.now)) self.now)) }
+        ensures truth { IfOk result (λ truth. truth ≡ spec.is_true (spec.expr_value (seen_by of.old vars.now) self.now)) }
         ensures resource { of.new ≡ of.old }
     {
         match &self.expression.node {
@@ -40,7 +40,7 @@ impl Expr {
         of: &mut Evaluation<'a>,
         vars: &'v Variables<'v>,
     ) -> Mem<Option<Listed<'v>>>
-        ensures items { IfOk result (λ items. items ≡ spec.list_in (spec.expr_value (with_vars of.old (vars_of vars.now)) self.now)) }
+        ensures items { IfOk result (λ items. items ≡ spec.list_in (spec.expr_value (seen_by of.old vars.now) self.now)) }
         ensures resource { of.new ≡ of.old }
     {
         match &self.expression.node {
@@ -57,8 +57,8 @@ impl Expr {
         vars: &'v Variables<'v>,
         most: usize,
     ) -> Result<TextBuf, WriteFault>
-        ensures ok { IfOk result (λ text. (text ≡ spec.plain_text (with_vars of.old (vars_of vars.now)) self.now) × (length text ≤ most)) }
-        ensures err { IfErr result (λ f. f ≢ WriteFault.NoMemory → (f ≡ WriteFault.TooLong) × (most < length (spec.plain_text (with_vars of.old (vars_of vars.now)) self.now))) }
+        ensures ok { IfOk result (λ text. (text ≡ spec.plain_text (seen_by of.old vars.now) self.now) × (length text ≤ most)) }
+        ensures err { IfErr result (FailsAsTooLong most (spec.plain_text (seen_by of.old vars.now) self.now)) }
         ensures resource { of.new ≡ of.old }
     {
         let mut text = String::new(alloc);

@@ -1,9 +1,9 @@
 //! The value of a tree.
 
-ghost use Rattle.std.specs.Prelude.{◌≡◌, IfOk, map, if◌then◌else◌, not, true, false};
+ghost use Rattle.std.specs.Prelude.{◌≡◌, IfOk, map, not, true, false};
 ghost use Rattle.htl_expr.specs.Bindings.{with_vars};
 ghost use Rattle.htl_expr.specs.Value as spec;
-ghost use Rattle.htl_expr.specs.Variables.{vars_of};
+ghost use Rattle.htl_expr.specs.Variables.{vars_of, seen_by};
 ghost use Rattle.htl_expr.specs.Lent.{out_of_lent, plain_item, property_item, listed_texts, is_list, IsOperand};
 ghost use Rattle.htl_expr.specs.Pieces.{item_piece_text, AreItemPieces, HavePieces};
 ghost use Rattle.htl_expr.specs.declared.out.Out.TheVariants as out;
@@ -32,7 +32,7 @@ fn and_next<'v, 'a: 'v>(
     last: Operand<'v>,
 ) -> Mem<Operand<'v>>
     requires { IsOperand scope.old last }
-    ensures value { IfOk result (λ v. out_of_lent v.value ≡ (if spec.is_true (out_of_lent last.entry.value) then spec.value (with_vars scope.old (vars_of vars.now)) operand.now else out_of_lent last.entry.value)) }
+    ensures value { IfOk result (λ v. out_of_lent v.value ≡ spec.and_value (out_of_lent last.entry.value) (spec.value (seen_by scope.old vars.now) operand.now)) }
     ensures operand { IfOk result (IsOperand scope.old) }
     ensures scope { scope.new ≡ scope.old }
 {
@@ -53,7 +53,7 @@ fn and_values<'v, 'a: 'v>(
     first: Operand<'v>,
 ) -> Mem<Operand<'v>>
     requires { IsOperand scope.old first }
-    ensures value { IfOk result (λ v. out_of_lent v.value ≡ spec.and_values (out_of_lent first.entry.value) (map (spec.value (with_vars scope.old (vars_of vars.now))) more.now)) }
+    ensures value { IfOk result (λ v. out_of_lent v.value ≡ spec.and_values (out_of_lent first.entry.value) (spec.values (seen_by scope.old vars.now) more.now)) }
     ensures operand { IfOk result (IsOperand scope.old) }
     ensures scope { scope.new ≡ scope.old }
 {
@@ -74,7 +74,7 @@ fn or_next<'v, 'a: 'v>(
     last: Operand<'v>,
 ) -> Mem<Operand<'v>>
     requires { IsOperand scope.old last }
-    ensures value { IfOk result (λ v. out_of_lent v.value ≡ (if spec.is_true (out_of_lent last.entry.value) then out_of_lent last.entry.value else spec.value (with_vars scope.old (vars_of vars.now)) operand.now)) }
+    ensures value { IfOk result (λ v. out_of_lent v.value ≡ spec.or_value (out_of_lent last.entry.value) (spec.value (seen_by scope.old vars.now) operand.now)) }
     ensures operand { IfOk result (IsOperand scope.old) }
     ensures scope { scope.new ≡ scope.old }
 {
@@ -95,7 +95,7 @@ fn or_values<'v, 'a: 'v>(
     first: Operand<'v>,
 ) -> Mem<Operand<'v>>
     requires { IsOperand scope.old first }
-    ensures value { IfOk result (λ v. out_of_lent v.value ≡ spec.or_values (out_of_lent first.entry.value) (map (spec.value (with_vars scope.old (vars_of vars.now))) more.now)) }
+    ensures value { IfOk result (λ v. out_of_lent v.value ≡ spec.or_values (out_of_lent first.entry.value) (spec.values (seen_by scope.old vars.now) more.now)) }
     ensures operand { IfOk result (IsOperand scope.old) }
     ensures scope { scope.new ≡ scope.old }
 {
@@ -198,7 +198,7 @@ fn list_value<'v, 'a: 'v>(
     vars: &'v Variables<'v>,
     items: &'v [ExprNode],
 ) -> Mem<Operand<'v>>
-    ensures value { IfOk result (λ v. out_of_lent v.value ≡ out.List (spec.item_texts (map (spec.value (with_vars scope.old (vars_of vars.now))) items.now))) }
+    ensures value { IfOk result (λ v. out_of_lent v.value ≡ out.List (spec.item_texts (map (spec.value (seen_by scope.old vars.now)) items.now))) }
     ensures operand { IfOk result (IsOperand scope.old) }
     ensures scope { scope.new ≡ scope.old }
 {
@@ -272,7 +272,7 @@ fn compares_with<'v, 'a: 'v>(
     b: &'v ExprNode,
 ) -> Mem<bool>
     requires { IsOperand scope.old a }
-    ensures holds { IfOk result (λ holds. holds ≡ spec.comparison_holds comparison (out_of_lent a.entry.value) (spec.value (with_vars scope.old (vars_of vars.now)) b.now)) }
+    ensures holds { IfOk result (λ holds. holds ≡ spec.comparison_holds comparison (out_of_lent a.entry.value) (spec.value (seen_by scope.old vars.now) b.now)) }
     ensures scope { scope.new ≡ scope.old }
 {
     let b = value(alloc, scope, vars, b)?;
@@ -287,7 +287,7 @@ fn opposite<'v, 'a: 'v>(
     vars: &'v Variables<'v>,
     operand: &'v ExprNode,
 ) -> Mem<Operand<'v>>
-    ensures value { IfOk result (λ v. out_of_lent v.value ≡ out.Truth (not (spec.is_true (spec.value (with_vars scope.old (vars_of vars.now)) operand.now)))) }
+    ensures value { IfOk result (λ v. out_of_lent v.value ≡ out.Truth (not (spec.is_true (spec.value (seen_by scope.old vars.now) operand.now)))) }
     ensures operand { IfOk result (IsOperand scope.old) }
     ensures scope { scope.new ≡ scope.old }
 {
@@ -303,7 +303,7 @@ pub(crate) fn value<'v, 'a: 'v>(
     vars: &'v Variables<'v>,
     node: &'v ExprNode,
 ) -> Mem<Operand<'v>>
-    ensures value { IfOk result (λ v. out_of_lent v.value ≡ spec.value (with_vars scope.old (vars_of vars.now)) node.now) }
+    ensures value { IfOk result (λ v. out_of_lent v.value ≡ spec.value (seen_by scope.old vars.now) node.now) }
     ensures operand { IfOk result (IsOperand scope.old) }
     ensures scope { scope.new ≡ scope.old }
 {

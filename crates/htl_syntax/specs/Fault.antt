@@ -89,3 +89,7 @@ abbrev pub IsExpressionFault : ExprFault → List ℕ → Type 0
 IsExpressionFault NoMemory s = Unit {0}
 IsExpressionFault (Unexpected place) s = MayGoOn nesting_limit s place × ((levels : ℕ) → HasNone levels s place)
 IsExpressionFault (TooDeep place) s = MayGoOn nesting_limit s place × (HasNone nesting_limit s place × (HasSome (suc nesting_limit) s place × (begins nests (drop place s) ≡ true)))
+
+-- faults of a text are one
+abbrev pub AreOneFault : List ℕ → ExprFault → ExprFault → Type 0
+AreOneFault text f g = IsExpressionFault f text → IsExpressionFault g text → f ≡ g

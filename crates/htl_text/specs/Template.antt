@@ -1,14 +1,17 @@
 -- The pieces of a template, and the text that they write (HTL specification 1.4, "Expression Language"). `opening_len`, `plain_len`
 -- and `plain_pieces` are needed by proofs and private functions alone; `Quotes`, `quotes_step` and `closing` say how the reading finds a closing "}", for which readers
 -- have `Inside` of Spelling.antt.
-use Rattle.std.specs.Prelude.{ℕ, zero, suc, ◌+◌, ◌-◌, Bool, false, ◌||◌, ◌&&◌, ◌==◌, if◌then◌else◌, List, [], ◌∷◌, ◌++◌, length, take, drop, codes, Option, Some, None, Result, Ok, Err}
+use Rattle.std.specs.Prelude.{ℕ, zero, suc, ◌+◌, ◌-◌, Bool, false, ◌||◌, ◌&&◌, ◌==◌, if◌then◌else◌, List, [], ◌∷◌, ◌++◌, length, take, drop, codes, Option, Some, None, Result, Ok, Err, ◌≡◌, ◌≢◌, ◌<◌, ◌≤◌}
 use Rattle.std.specs.List.{flat_map}
 use Rattle.sp_base.specs.Bytes.{begins_with_byte}
+use Rattle.sp_base.specs.Limits.{most_rendered_bytes}
 use Rattle.htl_syntax.specs.declared.expression.Expression.{Expression}
 use Rattle.htl_syntax.specs.declared.expression.ExprFault.{ExprFault}
 use Rattle.htl_expr.specs.declared.scope.Scope.{Scope}
 use Rattle.htl_syntax.specs.Fault.{expression_of}
 use Rattle.htl_expr.specs.Value.{print}
+use Rattle.htl_text.specs.declared.fault.RenderFault.{RenderFault}
+use Rattle.htl_text.specs.declared.fault.RenderFault.TheVariants as render_fault
 use Rattle.htl_text.specs.declared.fault.TextFault.{TextFault}
 use Rattle.htl_text.specs.declared.fault.TextFault.TheVariants.{Unclosed, BadExpr, NoMemory}
 use Rattle.htl_text.specs.declared.piece.TemplatePiece.{TemplatePiece}
@@ -129,3 +132,13 @@ piece_text scope (Value e) = print scope e
 -- the text of a template: what its pieces write, one after another
 abbrev pub template_output : Scope → List TemplatePiece → List ℕ
 template_output scope ps = flat_map (piece_text scope) ps
+
+-- ---- what is written within the limit
+
+-- a text is written after what stood there, within the limit
+abbrev pub Renders : List ℕ → List ℕ → List ℕ → Type 0
+Renders old more new = (new ≡ old ++ more) × (length new ≤ most_rendered_bytes)
+
+-- it would go beyond the limit, unless memory lacks
+abbrev pub RendersTooMuch : List ℕ → RenderFault → Type 0
+RendersTooMuch text f = f ≢ render_fault.NoMemory → (f ≡ render_fault.TooLong) × (most_rendered_bytes < length text)

@@ -1,10 +1,10 @@
 //! Laws of the definitions: functions that do nothing.
-ghost use Rattle.std.specs.Prelude.{◌≡◌, ◌<◌, ◌≤◌, ◌⊎◌, ◌++◌, ℕ, List, length};
-ghost use Rattle.http_front.specs.declared.fault.InFault.TheVariants.{BadHead, LongHead};
+ghost use Rattle.std.specs.Prelude.{◌≡◌, ◌++◌, ℕ, List};
+ghost use Rattle.http_front.specs.declared.fault.InFault.TheVariants.{BadHead};
 ghost use Rattle.http_front.specs.declared.turn.Turn.{Turn};
 ghost use Rattle.http_front.specs.FieldValues.{ValuesStayInTheirLines};
-ghost use Rattle.http_front.specs.OpenEnds.{BeginsWithTurns, EndsInSpoiltTarget, LeavesEndOpen};
-ghost use Rattle.http_front.specs.Turns.{Breaks, End, SpellsTurns, Waits, longest_head};
+ghost use Rattle.http_front.specs.OpenEnds.{BeginsWithTurns, EndsInSpoiltTarget, LeavesEndOpen, SpoiltTargetsEndSo, EndsAlike, MayWait, MayBeLong};
+ghost use Rattle.http_front.specs.Turns.{Breaks, End, SpellsTurns};
 
 /// The turns of the beginning of a stream are the beginning of its turns, however the stream goes on.
 pub fn the_turns_of_a_beginning()
@@ -16,12 +16,11 @@ pub fn the_turns_of_a_beginning()
 /// target that isn't UTF-8 and can't become it. There it has a bad head (`bad`), and where fewer than 16,384 bytes come after the turns
 /// it waits (`waits`), where as many or more do it has a long head (`long`): these are all its ends (`only`).
 pub fn the_end_of_a_stream()
-    ensures one { (stream : List ℕ) (turns : List Turn) (end last : End) → SpellsTurns stream turns end → SpellsTurns stream turns last → (end ≡ last) ⊎ LeavesEndOpen stream turns }
+    ensures one { (stream : List ℕ) (turns : List Turn) (end last : End) → SpellsTurns stream turns end → EndsAlike stream turns end last }
     ensures bad { (stream : List ℕ) (turns : List Turn) → LeavesEndOpen stream turns → SpellsTurns stream turns (Breaks BadHead) }
-    ensures waits { (stream last : List ℕ) (turns : List Turn) → BeginsWithTurns stream turns last → EndsInSpoiltTarget last → length last < longest_head → SpellsTurns stream turns Waits }
-    ensures long { (stream last : List ℕ) (turns : List Turn) → BeginsWithTurns stream turns last → EndsInSpoiltTarget last → longest_head ≤ length last → SpellsTurns stream turns (Breaks LongHead) }
-    ensures only { (stream last : List ℕ) (turns : List Turn) (end : End) → BeginsWithTurns stream turns last → EndsInSpoiltTarget last → SpellsTurns stream turns end
-        → (end ≡ Breaks BadHead) ⊎ (((end ≡ Waits) × (length last < longest_head)) ⊎ ((end ≡ Breaks LongHead) × (longest_head ≤ length last))) }
+    ensures waits { (stream last : List ℕ) (turns : List Turn) → BeginsWithTurns stream turns last → EndsInSpoiltTarget last → MayWait stream turns last }
+    ensures long { (stream last : List ℕ) (turns : List Turn) → BeginsWithTurns stream turns last → EndsInSpoiltTarget last → MayBeLong stream turns last }
+    ensures only { SpoiltTargetsEndSo }
 {}
 
 /// Whatever an answer says whose body has fewer than 2^64 bytes, no value of a field ends its line (RFC 9110, section 5.5), and each byte

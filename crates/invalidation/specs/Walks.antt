@@ -14,10 +14,11 @@ use Rattle.cache_files.specs.Epochs.{epoch_held}
 use Rattle.cache_files.specs.HeldStamps.{KeepsOrder}
 use Rattle.stat_files.specs.Stamps.{stamp_at}
 use Rattle.docroot_changes.specs.Changes.{AddsNames, IsStampFolder, KeepsNumber, count_names}
-use Rattle.invalidation.specs.Slices.{ChangesFiles, IsHandlePage, IsListedPage, IsStatOf, LosesNames, is_passed, is_to_look_at, slice_names}
+use Rattle.invalidation.specs.Slices.{ChangesFiles, IsHandlePage, IsListedPage, IsStatOf, LosesNames, is_passed, is_to_look_at, slice_names, folders_of, most_added}
 use Rattle.invalidation.specs.declared.place.Place.{Place}
 use Rattle.invalidation.specs.declared.purge.PurgeStep.{PurgeStep}
 use Rattle.invalidation.specs.declared.purge.PurgeStep.TheVariants.{More, Done as PurgeDone, DiskFailed, NoMemory as PurgeNoMemory}
+use Rattle.invalidation.specs.declared.purge.Purge.{Purge}
 
 -- ---- files that are taken away
 
@@ -135,3 +136,8 @@ purge_step_of (Ok true) = More
 purge_step_of (Ok false) = PurgeDone
 purge_step_of (Err Disk) = DiskFailed
 purge_step_of (Err NoMemory) = PurgeNoMemory
+
+-- The files changed as the beginning of a slice may change them, wherever it ends: folders were touched, and then maybe the page at the handle went.
+abbrev pub BeginsSlice : Purge → Files → Files → Type 0
+BeginsSlice purge old new =
+    SliceChange (IsTakenFirst purge.inv purge.place) (folders_of purge.level purge.inv purge.place) (most_added purge) (handle_files purge.place) purge.stamp old new

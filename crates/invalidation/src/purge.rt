@@ -3,8 +3,8 @@ ghost use Rattle.std.specs.Prelude.{◌≡◌, None, OnOk, Some};
 ghost use Rattle.docroot_format.specs.Faults.{HasFileCause};
 ghost use Rattle.docroot_changes.specs.Changes.{Told};
 ghost use Rattle.docroot_changes.specs.DocrootCalls.{MakesDocrootCalls};
-ghost use Rattle.invalidation.specs.Slices.{HasSliceCause, IsSamePurge, IsSlice, folders_of, inv_of, level_of, most_added, place_of, place_or_start, stamp_of};
-ghost use Rattle.invalidation.specs.Walks.{IsBegun, IsTakenFirst, SliceChange, handle_files, purge_step_of};
+ghost use Rattle.invalidation.specs.Slices.{HasSliceCause, IsSamePurge, IsSlice, inv_of, level_of, place_of, place_or_start, stamp_of};
+ghost use Rattle.invalidation.specs.Walks.{IsBegun, purge_step_of, BeginsSlice};
 
 use crate::opening::open;
 use crate::place::Place;
@@ -105,7 +105,7 @@ impl Purge {
     // Opens the flush, where no slice has yet.
     fn begin_walk<D: Disk>(&mut self, alloc: Global, disk: &mut D) -> Result<(), FileFault>
         ensures same { IsSamePurge self.old self.new }
-        ensures changes { Told (SliceChange (IsTakenFirst self.old.inv self.old.place) (folders_of self.old.level self.old.inv self.old.place) (most_added self.old) (handle_files self.old.place) self.old.stamp) (D.files disk.old) (D.files disk.new) }
+        ensures changes { Told (BeginsSlice self.old) (D.files disk.old) (D.files disk.new) }
         ensures begun { OnOk result (Told (IsBegun self.old.level self.old.inv self.old.stamp self.old.place) (D.files disk.old) (D.files disk.new)) }
         ensures place { OnOk result (self.new.place ≡ Some (place_or_start self.old.place)) }
         ensures cause { HasFileCause (D.faults disk.old) (D.faults disk.new) result }

@@ -1,5 +1,5 @@
 -- Which happenings may come one after the other, and which connections a world in memory keeps room for.
-use Rattle.std.specs.Prelude.{◌≡◌, ◌≤◌, ◌++◌, ◌==◌, ◌+◌, ℕ, Bool, List, [], ◌∷◌, Some, length, map}
+use Rattle.std.specs.Prelude.{◌≡◌, ◌≤◌, ◌++◌, ◌==◌, ◌+◌, ℕ, Bool, List, [], ◌∷◌, Some, length, map, false}
 use Rattle.std.specs.List.{flat_map, list_any}
 use Rattle.outside_world.specs.declared.world.Happening.{Happening}
 use Rattle.outside_world.specs.declared.world.WorldEntry.{WorldEntry}
@@ -34,3 +34,7 @@ has_connection c numbers = list_any (λ d. d == c) numbers
 pub record KeepsRoom (capacity : ℕ) (log : List WorldEntry) (numbers : List ℕ) : Type 0 where
   pub listed : (c : ℕ) → is_connected log c ≡ has_connection c numbers
   pub room : length log + length numbers ≤ capacity
+
+-- no connection with this number is open after these happenings
+abbrev pub HasFreeNumberAfter : List Happening → ℕ → Type 0
+HasFreeNumberAfter before c = is_connected (map Came before) c ≡ false

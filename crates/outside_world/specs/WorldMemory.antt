@@ -55,3 +55,8 @@ send_after s c bytes (Err send_memory) = record s { send_calls = next s.send_cal
 -- a shutting is told where the connection was open
 abbrev pub shut_after : WorldState → ℕ → WorldState
 shut_after s c = record s { log = s.log ++ shut_entries s.log c }
+
+-- a world in memory to which nothing has come yet
+abbrev pub fresh_world : List Happening → List ℕ → List ℕ → WorldState
+fresh_world happenings next_fails send_fails =
+    record { coming = happenings; log = []; next_fails = next_fails; next_calls = 0; next_failed = 0; send_fails = send_fails; send_calls = 0; send_failed = 0 }

@@ -97,3 +97,7 @@ shut_entries log c = if is_connected log c then Shut c ∷ [] else []
 -- the log after a shutting, where the world tells it
 abbrev pub told_shut : Option (List WorldEntry) → ℕ → Option (List WorldEntry)
 told_shut told c = option_map (λ log. log ++ shut_entries log c) told
+
+-- a log that grows by the one and then by the other grows by both
+abbrev pub GrowsByBoth : Option (List WorldEntry) → List WorldEntry → List WorldEntry → Type 0
+GrowsByBoth told entries later = told_more (told_more told entries) later ≡ told_more told (entries ++ later)

@@ -6,7 +6,7 @@ ghost use Rattle.sp_outside.specs.Memory.{fails_next};
 ghost use Rattle.outside_world.specs.Worlds.{IsNewsTo, told_after_send, told_came, told_shut};
 ghost use Rattle.outside_world.specs.Comings.{MayCome};
 ghost use Rattle.outside_world.specs.Faults.{HasNextCause, HasSendCause};
-ghost use Rattle.outside_world.specs.WorldMemory.{IsSendListed, first_coming, has_next_failed, next_after, send_after, shut_after};
+ghost use Rattle.outside_world.specs.WorldMemory.{IsSendListed, first_coming, has_next_failed, next_after, send_after, shut_after, fresh_world};
 
 use crate::coming::Coming;
 use crate::{Happening, HappeningList, SendFault, Work, World, WorldEntry, WorldFault, WorldLog};
@@ -57,7 +57,7 @@ impl MemWorld {
         send_fails: CallList,
     ) -> MemWorld
         requires { MayCome happenings }
-        ensures { result ≡ record { coming = happenings; log = []; next_fails = next_fails; next_calls = 0; next_failed = 0; send_fails = send_fails; send_calls = 0; send_failed = 0 } }
+        ensures { result ≡ fresh_world happenings next_fails send_fails }
     {
         MemWorld {
             coming: Coming::new(happenings),

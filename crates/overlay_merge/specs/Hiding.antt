@@ -1,5 +1,5 @@
 -- Which layers hide which (Apache Sling, "Resource Merger": sling:hideResource, sling:hideChildren).
-use Rattle.std.specs.Prelude.{◌+◌, ◌||◌, ◌&&◌, ℕ, zero, suc, Bool, false, nat_eq, nat_le, min, if◌then◌else◌, List, [], ◌∷◌, ◌++◌, Option, Some, None, codes, length, slice_index_or, take}
+use Rattle.std.specs.Prelude.{◌+◌, ◌||◌, ◌&&◌, ℕ, zero, suc, Bool, false, nat_eq, nat_le, min, if◌then◌else◌, List, [], ◌∷◌, ◌++◌, Option, Some, None, codes, length, slice_index_or, take, ◌≡◌}
 use Rattle.std.specs.List.{list_any}
 use Rattle.std.specs.Option.{option_map_or}
 use Rattle.std.specs.Cmp.Lexicographic.{pointwise}
@@ -103,3 +103,7 @@ shown_resources tree (layer ∷ above) = shown_resource tree layer above ++ show
 -- the resources that are merged at a path
 unfoldable pub merged_from : Content → Segments → List Resource
 merged_from tree path = if is_path path then shown_resources tree (layers_of tree path) else []
+
+-- the layer adds nothing to what is merged
+abbrev pub IsLeftOut : Content → Layer → List Layer → Type 0
+IsLeftOut tree layer above = shown_resources tree (layer ∷ above) ≡ shown_resources tree above

@@ -1,5 +1,5 @@
 -- The kids of a merged resource, and their order (Apache Sling, "Resource Merger": sling:orderBefore).
-use Rattle.std.specs.Prelude.{◌==◌, ℕ, Bool, not, nat_eq, if◌then◌else◌, List, [], ◌++◌, Option, Some, None, option_and_then, codes, filter, fold, insert, length, position, remove, unwrap_or}
+use Rattle.std.specs.Prelude.{◌==◌, ℕ, Bool, not, nat_eq, if◌then◌else◌, List, [], ◌++◌, Option, Some, None, option_and_then, codes, filter, fold, insert, length, position, remove, unwrap_or, true, ◌≡◌}
 use Rattle.std.specs.List.{list_any}
 use Rattle.std.specs.Cmp.Lexicographic.{pointwise}
 use Rattle.sp_base.specs.Texts.{Segments, Text}
@@ -50,3 +50,15 @@ ordered_by tree names layer = fold (λ so_far name. names_after_move name (wish_
 -- the kids of layers at a path, the lowest layer first
 unfoldable pub layers_kids : Content → Segments → List Resource → List Text
 layers_kids tree path layers = fold (ordered_by tree) (kids_there tree path (all_kids layers)) layers
+
+-- one of the layers has this kid
+abbrev pub HaveKid : List Resource → Text → Type 0
+HaveKid layers name = list_any (λ (layer : Resource). has_text layer.kids name) layers ≡ true
+
+-- this kid is given of the layers
+abbrev pub GivesKid : Content → Segments → List Resource → Text → Type 0
+GivesKid tree path layers name = has_text (layers_kids tree path layers) name ≡ true
+
+-- a merged resource is at the path of this kid
+abbrev pub IsKidMerged : Content → Segments → Text → Type 0
+IsKidMerged tree path name = is_merged_there tree (kid path name) ≡ true

@@ -1,7 +1,8 @@
 -- The layers of a merged path: the paths that it stands for, the lowest first (Apache Sling, "Resource Merger": overlay and override).
 use Rattle.std.specs.Prelude.{◌-◌, ℕ, zero, suc, Bool, if◌then◌else◌, List, [], ◌∷◌, ◌++◌, Option, Some, None, is_some, option_and_then, option_map, codes, drop, take, length, reverse}
 use Rattle.std.specs.List.{list_any}
-use Rattle.sp_base.specs.Texts.{Segments}
+use Rattle.std.specs.Option.{option_or}
+use Rattle.sp_base.specs.Texts.{Segments, Text}
 use Rattle.sp_base.specs.Paths.{path_or_none}
 use Rattle.resource_tree.specs.Content.{Content, node_at, same_path}
 use Rattle.type_chain.specs.Types.{place_of}
@@ -76,3 +77,7 @@ layers_of tree path = if is_overlay path then overlay_layers (drop root_depth pa
 -- whether a node is at one of the layers
 abbrev pub has_node : Content → List Layer → Bool
 has_node tree layers = list_any (λ layer. is_some (node_at tree layer.path)) layers
+
+-- the deeper of two nodes that name a super type: this one, where it names one
+abbrev pub deeper_base : ℕ → Option Text → Option (ℕ × Text) → Option (ℕ × Text)
+deeper_base n text base = option_or (option_map (base_at n) text) base

@@ -7,7 +7,9 @@ use Rattle.std.specs.Cmp.Lexicographic.{pointwise, slice_cmp}
 use Rattle.sp_base.specs.Texts.{Text}
 use Rattle.overlay_merge.specs.declared.order.KidMove.{KidMove}
 use Rattle.overlay_merge.specs.declared.slots.Slots.{Slots}
-use Rattle.overlay_merge.specs.Kids.{names_after_move}
+use Rattle.overlay_merge.specs.Kids.{names_after_move, ordered_by}
+use Rattle.resource_tree.specs.Content.{Content}
+use Rattle.resource_tree.specs.Seen.{Resource}
 
 -- n slots, each the one before the slot that was named last
 abbrev pub walk : (ℕ → ℕ) → ℕ → ℕ → List ℕ
@@ -84,3 +86,11 @@ names_of slots = names_in (held_in slots) (slot_in slots) (walk (before_in slots
 -- names with moves made, one after the other
 abbrev pub names_after_moves : List KidMove → List Text → List Text
 names_after_moves moves names = fold (λ so_far (m : KidMove). names_after_move m.name.now (Some m.other.now) so_far) names moves
+
+-- the move of a name comes last, if it wishes one
+abbrev pub AddsMove : Text → Option Text → List KidMove → List KidMove → Type 0
+AddsMove name wish old new = (names : List Text) → names_after_moves new names ≡ names_after_move name wish (names_after_moves old names)
+
+-- the moves of a layer's kids come last
+abbrev pub AddsMoves : Content → Resource → List KidMove → List KidMove → Type 0
+AddsMoves tree layer old new = (names : List Text) → names_after_moves new names ≡ ordered_by tree (names_after_moves old names) layer

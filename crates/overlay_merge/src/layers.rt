@@ -1,8 +1,8 @@
 // The layers of a merged path.
 ghost use Rattle.std.specs.Prelude.{◌≡◌, [], Some, None, IfOk, true, drop, option_map};
-ghost use Rattle.std.specs.Option.{option_copied, option_or};
+ghost use Rattle.std.specs.Option.{option_copied};
 ghost use Rattle.sp_base.specs.Paths.{seg_ok};
-ghost use Rattle.overlay_merge.specs.Layers.{base_at, base_of, descent, has_layer, has_node, layer_below, layers_of, most_layers, overlay_layer, overlay_layers, override_layer, override_layers};
+ghost use Rattle.overlay_merge.specs.Layers.{base_at, base_of, descent, has_layer, has_node, layer_below, layers_of, most_layers, overlay_layer, overlay_layers, override_layer, override_layers, deeper_base};
 ghost use Rattle.overlay_merge.specs.Roots.{root_depth};
 
 use crate::roots::{is_overlay, is_override};
@@ -33,7 +33,7 @@ fn deeper<'a>(
     n: usize,
     text: Option<&'a TextBuf>,
 ) -> Option<(usize, &'a TextBuf)>
-    ensures { option_map (λ b. base_at b.0 b.1.now) result ≡ option_or (option_map (base_at n) (option_copied text.entry)) (option_map (λ b. base_at b.0 b.1.now) base.entry) }
+    ensures { option_map (λ b. base_at b.0 b.1.now) result ≡ deeper_base n (option_copied text.entry) (option_map (λ b. base_at b.0 b.1.now) base.entry) }
 {
     match text {
         Some(text) => Some((n, text)),

@@ -4,7 +4,7 @@ ghost use Rattle.std.specs.Cmp.Lexicographic.{pointwise};
 ghost use Rattle.std.specs.List.{IsDistinct};
 ghost use Rattle.resource_tree.specs.Content.{kid};
 ghost use Rattle.overlay_merge.specs.Kids.{names_after_move, ordered_by, wish_at};
-ghost use Rattle.overlay_merge.specs.Slots.{SlotsAreGood, names_after_moves, names_of};
+ghost use Rattle.overlay_merge.specs.Slots.{SlotsAreGood, names_after_moves, names_of, AddsMove, AddsMoves};
 
 use crate::slots::{Slots, slots_of};
 use resource_tree::{Res, Tree};
@@ -36,7 +36,7 @@ fn wish_of<'a>(alloc: Global, tree: &'a Tree, path: &Path, name: &str) -> Mem<Op
 // Adds the move of a name, if it wishes one.
 #[tactic(auto, unfolding(crate::specs::Kids::names_after_move))]
 fn push_move<'a>(moves: &mut Vec<KidMove<'a>>, name: &'a str, wish: Option<&'a TextBuf>) -> Mem<()>
-    ensures { OnOk result ((names : List (List ℕ)) → names_after_moves moves.new.items names ≡ names_after_move name.entry.now (option_copied wish.entry) (names_after_moves moves.old.items names)) }
+    ensures { OnOk result (AddsMove name.entry.now (option_copied wish.entry) moves.old.items moves.new.items) }
 {
     if let Some(other) = wish {
         let other = other.text();
@@ -53,7 +53,7 @@ fn add_moves<'a>(
     layer: &'a Res<'_>,
     moves: &mut Vec<KidMove<'a>>,
 ) -> Mem<()>
-    ensures { OnOk result ((names : List (List ℕ)) → names_after_moves moves.new.items names ≡ ordered_by tree.entry.now (names_after_moves moves.old.items names) layer.entry.now) }
+    ensures { OnOk result (AddsMoves tree.entry.now layer.entry.now moves.old.items moves.new.items) }
 {
     for name in layer.kids() {
         let wish = wish_of(alloc, tree, layer.path(), name.text())?;

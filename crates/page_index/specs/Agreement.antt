@@ -32,3 +32,7 @@ pub record ChangesCovered (level : ℕ) (inv : Invalidation) (old new : Files) :
   pub pages : (key : PageKey) → IsPageKey key → (page_at new key ≡ page_at old key) ⊎ (deletes inv key ≡ true)
   pub heads : (key : PageKey) → IsPageKey key → (head_at new key ≡ head_at old key) ⊎ (deletes inv key ≡ true)
   pub stamps : (folder : Segments) → IsStampFolder folder → (stamp_at new folder ≡ stamp_at old folder) ⊎ Contains (touched_of level inv) folder
+
+-- notes that agreed with the old files agree with the new ones
+abbrev pub AgreesStill : PageIndex → Files → Files → Type 0
+AgreesStill index old new = Agrees index old → Agrees index new

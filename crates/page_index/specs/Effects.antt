@@ -5,9 +5,9 @@ use Rattle.cover_rules.specs.Coverage.{deletes, touched_of}
 use Rattle.cover_rules.specs.declared.invalidation.Invalidation.{Invalidation}
 use Rattle.cover_rules.specs.declared.page.PageKey.{PageKey}
 use Rattle.cover_rules.specs.declared.stamp.Stamp.{Stamp}
-use Rattle.page_index.specs.Held.{has_room, place_of}
+use Rattle.page_index.specs.Held.{has_room, place_of, HeldStamps}
 use Rattle.page_index.specs.Limits.{most_young}
-use Rattle.page_index.specs.Notes.{page_noted, stamp_noted}
+use Rattle.page_index.specs.Notes.{page_noted, stamp_noted, held_stamp}
 use Rattle.page_index.specs.declared.index.PageIndex.{PageIndex}
 use Rattle.page_index.specs.declared.page_note.PageNote.{PageNote}
 
@@ -64,3 +64,11 @@ pub record ForgetsCovered (level : ℕ) (inv : Invalidation) (old new : PageInde
   pub others : (key : PageKey) → deletes inv key ≡ false → page_noted new key ≡ page_noted old key
   pub touched : (folder : Segments) → Contains (touched_of level inv) folder → stamp_noted new folder ≡ None
   pub stamps : (folder : Segments) → (stamp_noted new folder ≡ stamp_noted old folder) ⊎ (stamp_noted new folder ≡ None)
+
+-- each page's note is as it was, or fell for so many bytes, since the younger generation is full
+abbrev pub PagesStayOrFall : ℕ → PageIndex → PageIndex → Type 0
+PagesStayOrFall bytes old new = (key : PageKey) → (page_noted new key ≡ page_noted old key) ⊎ ((has_room old.young bytes ≡ false) × (page_noted new key ≡ None))
+
+-- the folder's stamp is held as it was, or fell since the younger generation is full
+abbrev pub StampStaysOrFalls : Segments → HeldStamps → HeldStamps → Type 0
+StampStaysOrFalls folder old new = (held_stamp new folder ≡ held_stamp old folder) ⊎ ((most_young ≤ length old.young) × (held_stamp new folder ≡ None))

@@ -3,3 +3,4 @@ pub mod Held
 pub mod Notes
 pub mod Effects
 pub mod Agreement
+pub mod NotedFiles

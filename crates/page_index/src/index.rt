@@ -1,8 +1,7 @@
 //! The index.
-ghost use Rattle.std.specs.Prelude.{◌≡◌, ◌⊎◌, ◌≤◌, ℕ, [], Contains, IfOk, IfSome, None, OnErr, OnOk, Some, false, true, length, option_copied, option_map};
+ghost use Rattle.std.specs.Prelude.{◌≡◌, ◌⊎◌, ◌≤◌, [], Contains, IfOk, IfSome, None, OnErr, OnOk, Some, true, length, option_copied, option_map};
 ghost use Rattle.sp_base.specs.Texts.{Segments};
-ghost use Rattle.cover_rules.specs.declared.page.PageKey.{PageKey};
-ghost use Rattle.page_index.specs.Effects.{ForgetsCovered, ForgetsPage, ForgetsStamp, IsBare, SetsPage, SetsStamp};
+ghost use Rattle.page_index.specs.Effects.{ForgetsCovered, ForgetsPage, ForgetsStamp, IsBare, SetsPage, SetsStamp, PagesStayOrFall};
 ghost use Rattle.page_index.specs.Held.{after_hit, fresh_note, has_room, weight_of};
 ghost use Rattle.page_index.specs.Held as held;
 ghost use Rattle.page_index.specs.Limits.{longest_kept, most_bytes, most_notes};
@@ -218,7 +217,7 @@ impl PageIndex {
     fn make_room(&mut self, bytes: usize)
         requires { bytes ≤ longest_kept }
         ensures room { has_room self.new.young bytes ≡ true }
-        ensures kept { (key : PageKey) → (page_noted self.new key ≡ page_noted self.old key) ⊎ ((has_room self.old.young bytes ≡ false) × (page_noted self.new key ≡ None)) }
+        ensures kept { PagesStayOrFall bytes self.old self.new }
         ensures stamps { self.new.stamps ≡ self.old.stamps }
     {
         if self.young.has_room(bytes) {

@@ -1,21 +1,15 @@
 //! What follows from the definitions of notes: laws, on functions that do nothing.
-ghost use Rattle.std.specs.Prelude.{◌≡◌, ◌≢◌, ◌⊎◌, ℕ, false, Contains, None, Option, Some, option_map};
-ghost use Rattle.sp_base.specs.Texts.{Segments, Text};
+ghost use Rattle.std.specs.Prelude.{◌≡◌, ℕ, None};
+ghost use Rattle.sp_base.specs.Texts.{Segments};
 ghost use Rattle.sp_outside.specs.Files.{Files};
-ghost use Rattle.cover_rules.specs.Coverage.{deletes, touched_of};
 ghost use Rattle.cover_rules.specs.declared.invalidation.Invalidation.{Invalidation};
 ghost use Rattle.cover_rules.specs.declared.page.PageKey.{PageKey};
-ghost use Rattle.cover_rules.specs.declared.stamp.Stamp.{Stamp};
-ghost use Rattle.cache_files.specs.Pages.{head_at, page_at};
-ghost use Rattle.cache_files.specs.declared.head_note.HeadNote.{HeadNote};
-ghost use Rattle.cache_files.specs.declared.page.Page.{Page};
-ghost use Rattle.stat_files.specs.Stamps.{stamp_at};
-ghost use Rattle.docroot_changes.specs.Changes.{BesideNumber, BesidePage, BesideStamp, IsStampFolder};
-ghost use Rattle.page_index.specs.Agreement.{Agrees, ChangesCovered, HasNoneCovered};
+ghost use Rattle.docroot_changes.specs.Changes.{BesideNumber, BesidePage, BesideStamp};
+ghost use Rattle.page_index.specs.Agreement.{Agrees, HasNoneCovered, AgreesStill};
 ghost use Rattle.page_index.specs.Effects.{ForgetsCovered, ForgetsPage, ForgetsStamp, IsBare, IsFewer, SetsPage, SetsStamp};
-ghost use Rattle.page_index.specs.Held.{after_hit, fresh_note};
-ghost use Rattle.page_index.specs.Notes.{head_noted, page_noted, stamp_noted};
+ghost use Rattle.page_index.specs.Notes.{page_noted, stamp_noted};
 ghost use Rattle.page_index.specs.declared.index.PageIndex.{PageIndex};
+ghost use Rattle.page_index.specs.NotedFiles.{NotedHeadsAgree, NotedHeadsAreUncovered, NotedStampsAgree, NotedStampsAreUncovered, CountedHitsAgree, CountedHitsAreUncovered, FlushesLeaveUncoveredNotes};
 
 use cache_files::a_page_is_its_head_and_its_body;
 
@@ -46,43 +40,38 @@ pub fn forgotten_notes_agree()
 /// Where the head of a page is noted as the files have it, or that it has none, the notes agree with them still. The note isn't covered where the page
 /// isn't.
 pub fn a_noted_head_agrees()
-    ensures agrees { (key : PageKey) (head : Option HeadNote) (bytes : ℕ) (old new : PageIndex) (files : Files) → SetsPage key bytes (Some (fresh_note key head)) old new
-        → head_at files key ≡ head → Agrees old files → Agrees new files }
-    ensures covered { (key : PageKey) (head : Option HeadNote) (bytes : ℕ) (old new : PageIndex) (level : ℕ) (inv : Invalidation) → SetsPage key bytes (Some (fresh_note key head)) old new
-        → deletes inv key ≡ false → HasNoneCovered level inv old → HasNoneCovered level inv new }
+    ensures agrees { NotedHeadsAgree }
+    ensures covered { NotedHeadsAreUncovered }
 {}
 
 /// The same of a stamp.
 pub fn a_noted_stamp_agrees()
-    ensures agrees { (folder : Segments) (stamp : Option Stamp) (old new : PageIndex) (files : Files) → SetsStamp folder (Some stamp) old new → stamp_at files folder ≡ stamp → Agrees old files → Agrees new files }
-    ensures covered { (folder : Segments) (stamp : Option Stamp) (old new : PageIndex) (level : ℕ) (inv : Invalidation) → SetsStamp folder (Some stamp) old new
-        → (Contains (touched_of level inv) folder → ⊥) → HasNoneCovered level inv old → HasNoneCovered level inv new }
+    ensures agrees { NotedStampsAgree }
+    ensures covered { NotedStampsAreUncovered }
 {}
 
 /// Where a hit is counted that read the body of the page that the files have, the notes agree with them still.
 pub fn a_counted_hit_agrees()
-    ensures agrees { (key : PageKey) (body : Text) (bytes : ℕ) (page : Page) (old new : PageIndex) (files : Files) → SetsPage key bytes (option_map (after_hit body) (page_noted old key)) old new
-        → page_at files key ≡ Some page → page.answer.body ≡ body → Agrees old files → Agrees new files }
-    ensures covered { (key : PageKey) (body : Text) (bytes : ℕ) (old new : PageIndex) (level : ℕ) (inv : Invalidation) → SetsPage key bytes (option_map (after_hit body) (page_noted old key)) old new
-        → HasNoneCovered level inv old → HasNoneCovered level inv new }
+    ensures agrees { CountedHitsAgree }
+    ensures covered { CountedHitsAreUncovered }
 {
     a_page_is_its_head_and_its_body();
 }
 
 /// Where a page changes that isn't noted, by a put or a drop, the notes agree with the files still.
 pub fn a_changed_page_leaves_other_notes()
-    ensures { (index : PageIndex) (key : PageKey) (old new : Files) → BesidePage key old new → page_noted index key ≡ None → Agrees index old → Agrees index new }
+    ensures { (index : PageIndex) (key : PageKey) (old new : Files) → BesidePage key old new → page_noted index key ≡ None → AgreesStill index old new }
 {}
 
 /// Where a folder gets a stamp that isn't noted, the notes agree with the files still.
 pub fn a_touch_leaves_other_notes()
-    ensures { (index : PageIndex) (folder : Segments) (old new : Files) → BesideStamp folder old new → stamp_noted index folder ≡ None → Agrees index old → Agrees index new }
+    ensures { (index : PageIndex) (folder : Segments) (old new : Files) → BesideStamp folder old new → stamp_noted index folder ≡ None → AgreesStill index old new }
 {}
 
 /// Where the files change in what an invalidation covers, as in each slice of a flush, however it ends, and nothing covered is noted, the notes agree
 /// with the files still.
 pub fn a_flush_leaves_what_it_does_not_cover()
-    ensures { (index : PageIndex) (level : ℕ) (inv : Invalidation) (old new : Files) → ChangesCovered level inv old new → HasNoneCovered level inv index → Agrees index old → Agrees index new }
+    ensures { FlushesLeaveUncoveredNotes }
 {}
 
 /// Where a session is opened, the notes agree with the files still.

@@ -1,8 +1,9 @@
 //! Notes of the stamps of folders.
-ghost use Rattle.std.specs.Prelude.{◌≡◌, ◌⊎◌, ◌≤◌, ◌<◌, ◌+◌, List, ℕ, [], None, OnOk, OnErr, Some, cond, false, length};
+ghost use Rattle.std.specs.Prelude.{◌≡◌, ◌≤◌, ◌<◌, ◌+◌, List, ℕ, [], None, OnOk, OnErr, Some, cond, false, length};
 ghost use Rattle.page_index.specs.Held.{HeldStamps, same_folder};
 ghost use Rattle.page_index.specs.Limits.{most_notes, most_young};
 ghost use Rattle.page_index.specs.Notes.{held_stamp};
+ghost use Rattle.page_index.specs.Effects.{StampStaysOrFalls};
 
 use cover_rules::Stamp;
 use sp_base::{Mem, Path};
@@ -64,7 +65,7 @@ impl Stamps {
     pub(crate) fn put(&mut self, folder: Path, stamp: Option<Stamp>) -> Mem<()>
         ensures here { OnOk result (held_stamp self.new folder ≡ Some stamp) }
         ensures err { OnErr result (held_stamp self.new folder ≡ None) }
-        ensures others { (other : List (List ℕ)) → same_folder folder other ≡ false → (held_stamp self.new other ≡ held_stamp self.old other) ⊎ ((most_young ≤ length self.old.young) × (held_stamp self.new other ≡ None)) }
+        ensures others { (other : List (List ℕ)) → same_folder folder other ≡ false → StampStaysOrFalls other self.old self.new }
     {
         self.forget(&folder);
         self.make_room();
@@ -74,7 +75,7 @@ impl Stamps {
     // Makes room in the younger generation: where it is full, the older one falls.
     fn make_room(&mut self)
         ensures room { length self.new.young < most_young }
-        ensures kept { (folder : List (List ℕ)) → (held_stamp self.new folder ≡ held_stamp self.old folder) ⊎ ((most_young ≤ length self.old.young) × (held_stamp self.new folder ≡ None)) }
+        ensures kept { (folder : List (List ℕ)) → StampStaysOrFalls folder self.old self.new }
     {
         if self.young.len() < MOST_YOUNG {
             return;

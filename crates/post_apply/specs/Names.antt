@@ -24,9 +24,13 @@ free_number tree parent name n (suc more) = if is_taken tree parent (numbered_na
 abbrev pub most_taken : Content → Segments → ℕ
 most_taken tree parent = option_map_or (λ node. length node.kids + length node.props) (node_at tree parent) 0
 
+-- a name with the least number with which it isn't taken
+abbrev pub free_numbered : Content → Segments → List ℕ → List ℕ
+free_numbered tree parent name = numbered_name name (free_number tree parent name 0 (most_taken tree parent))
+
 -- a made name, with the least number where it is taken
 abbrev pub free_name : Content → Segments → List ℕ → List ℕ
-free_name tree parent name = if is_taken tree parent name then numbered_name name (free_number tree parent name 0 (most_taken tree parent)) else name
+free_name tree parent name = if is_taken tree parent name then free_numbered tree parent name else name
 
 -- the name of a new node below a parent
 abbrev pub name_given : Content → Segments → NameWish → List ℕ

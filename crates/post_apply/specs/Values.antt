@@ -30,10 +30,14 @@ abbrev pub named_outcome : List ℕ → Result Value ValueFault → ApplyOutcome
 named_outcome name (Ok value) = Ok value
 named_outcome name (Err fault) = Err (ValueOf name fault)
 
+-- a property of the node at a path, which is to be there
+abbrev pub set_outcome : Segments → List ℕ → Value → Content → ApplyOutcome Content
+set_outcome path name value tree = changed_unless_fault (set_fault tree path name) (update tree path name value)
+
 -- a property of a node that is there; the root's path is no property's
 abbrev pub put_at : Content → Segments → Value → ApplyOutcome Content
 put_at tree path value = if length path == 0 then Err (Tree (Taken path))
-    else changed_unless_fault (set_fault tree (parent_of path) (name_of path)) (update tree (parent_of path) (name_of path) value)
+    else set_outcome (parent_of path) (name_of path) value tree
 
 -- the same, with its node and all above it made where they aren't there
 abbrev pub put_on_way : Content → Segments → Value → ApplyOutcome Content

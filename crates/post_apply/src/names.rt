@@ -61,7 +61,7 @@ fn first_free(
 // A name with the least number with which it isn't taken: at most as many as the parent has kids and properties.
 fn free_numbered(alloc: Global, draft: &Draft, parent: &Path, name: &str) -> Mem<TextBuf>
     requires { IsSound draft.now }
-    ensures { IfOk result (λ t. t ≡ spec.numbered_name name.now (spec.free_number draft.now.content parent.now name.now 0 (spec.most_taken draft.now.content parent.now))) }
+    ensures { IfOk result (λ t. t ≡ spec.free_numbered draft.now.content parent.now name.now) }
 {
     let Some(node) = draft.node(parent) else {
         return numbered(alloc, name, 0);

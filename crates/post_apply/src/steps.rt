@@ -2,11 +2,11 @@
 ghost use Rattle.std.specs.Prelude.{◌≡◌, ◌≢◌, OnOk, IfErr, IsTrue, Ok, Err, true, false};
 ghost use Rattle.sp_base.specs.Paths.{seg_ok};
 ghost use Rattle.tree_draft.specs.Drafts.{DraftFollows, IsSound};
-ghost use Rattle.resource_tree.specs.Changes.{order_fault, reordering, set_fault, update};
 ghost use Rattle.post_apply.specs.Steps as step;
 ghost use Rattle.post_apply.specs.Removals.{removal_outcome};
 ghost use Rattle.post_apply.specs.Carries.{carry_outcome};
 ghost use Rattle.post_apply.specs.Posting.{content_placed};
+ghost use Rattle.post_apply.specs.Values.{set_outcome};
 
 use crate::ApplyFault;
 use resource_tree::Place;
@@ -38,8 +38,8 @@ pub fn remove(alloc: Global, draft: &mut Draft, path: &Path) -> Result<(), Apply
 
 fn order(alloc: Global, draft: &mut Draft, path: &Path, place: &Place) -> Result<(), ApplyFault>
     requires { IsSound draft.old }
-    ensures ok { OnOk result (step.changed_unless_fault (order_fault draft.old.content path.now place.now) (reordering draft.old.content path.now place.now) ≡ Ok draft.new.content) }
-    ensures err { IfErr result (λ e. e ≢ ApplyFault.NoMemory → step.changed_unless_fault (order_fault draft.old.content path.now place.now) (reordering draft.old.content path.now place.now) ≡ Err e) }
+    ensures ok { OnOk result (content_placed path.now (Some place.now) draft.old.content ≡ Ok draft.new.content) }
+    ensures err { IfErr result (λ e. e ≢ ApplyFault.NoMemory → content_placed path.now (Some place.now) draft.old.content ≡ Err e) }
     ensures follows { OnOk result (DraftFollows draft.old draft.new) }
 {
     draft.order(alloc, path, place)?;
@@ -96,8 +96,8 @@ pub fn set(
 ) -> Result<(), ApplyFault>
     requires sound { IsSound draft.old }
     requires name { IsTrue (seg_ok name.now) }
-    ensures ok { OnOk result (step.changed_unless_fault (set_fault draft.old.content path.now name.now) (update draft.old.content path.now name.now value) ≡ Ok draft.new.content) }
-    ensures err { IfErr result (λ e. e ≢ ApplyFault.NoMemory → step.changed_unless_fault (set_fault draft.old.content path.now name.now) (update draft.old.content path.now name.now value) ≡ Err e) }
+    ensures ok { OnOk result (set_outcome path.now name.now value draft.old.content ≡ Ok draft.new.content) }
+    ensures err { IfErr result (λ e. e ≢ ApplyFault.NoMemory → set_outcome path.now name.now value draft.old.content ≡ Err e) }
     ensures follows { OnOk result (DraftFollows draft.old draft.new) }
 {
     draft.set(alloc, path, name, value)?;

@@ -126,11 +126,15 @@ abbrev pub words_or_defaults : List Text → List Text → List Text
 words_or_defaults [] words = words
 words_or_defaults (default ∷ more) words = if is_one_blank words then default ∷ more else words
 
+-- the words that a spot is given: its own, or those of the parameter that `@ValueFrom` names
+abbrev pub given_words : List (List ℕ × List ℕ) → List Entry → Spot → List Text
+given_words pairs es spot = words_or_source (first_text (words_at spot ValueFrom es)) pairs (words_at spot Plain es)
+
 -- the words that a spot is set to
 abbrev pub set_words : List (List ℕ × List ℕ) → List Entry → Spot → List Text
 set_words pairs es spot = words_or_defaults (words_at spot DefaultValue es)
     (without_blanks (is_word_true (first_text (words_at spot IgnoreBlanks es)))
-    (words_or_source (first_text (words_at spot ValueFrom es)) pairs (words_at spot Plain es)))
+    (given_words pairs es spot))
 
 -- what sets a spot to words, where there is one at least
 abbrev pub set_by : Spot → Option Hint → List Text → Option PropSet

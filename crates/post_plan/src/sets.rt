@@ -133,7 +133,7 @@ fn given<'a>(
     spot: &Spot,
     entries: &LentEntries<'_, 'a>,
 ) -> Mem<LentWords<'a>>
-    ensures { IfOk result (λ l. l ≡ spec.words_or_source (first_text (spec.words_at spot.now Suffix.ValueFrom entries.now)) pairs.now (spec.words_at spot.now Suffix.Plain entries.now)) }
+    ensures { IfOk result (λ l. l ≡ spec.given_words pairs.now entries.now spot.now) }
 {
     match first_at(spot, Suffix::ValueFrom, entries) {
         Some(name) => words_of(alloc, name, pairs),

@@ -43,11 +43,19 @@ abbrev pub closed : Repeat → Linking → List Rows → Linking
 closed repeat self [] = self
 closed repeat self (outer ∷ around) = added (either self.rows.earlier self.rows.row) repeat self.follow outer around self.bit
 
+-- past one character
+abbrev pub linked_past_one : Repeat → Linking → Linking
+linked_past_one repeat self = added (piece_of self.bit self.bit false) repeat self.follow self.rows self.around (next_bit self.bit)
+
+-- past a bar: the innermost open rows begin another one
+abbrev pub linked_past_bar : Linking → Linking
+linked_past_bar self = linking_at self.follow (record { earlier = either self.rows.earlier self.rows.row; row = empty_row }) self.around self.bit
+
 -- past one place
 abbrev pub past : Place → Linking → Linking
-past (One one repeat) self = added (piece_of self.bit self.bit false) repeat self.follow self.rows self.around (next_bit self.bit)
+past (One one repeat) self = linked_past_one repeat self
 past Open self = linking_at self.follow begun (self.rows ∷ self.around) self.bit
-past Bar self = linking_at self.follow (record { earlier = either self.rows.earlier self.rows.row; row = empty_row }) self.around self.bit
+past Bar self = linked_past_bar self
 past (Close repeat) self = closed repeat self self.around
 
 -- past all these places

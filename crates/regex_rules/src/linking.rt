@@ -1,5 +1,5 @@
 //! Which characters of a pattern may come after which, by its places in their order.
-ghost use Rattle.std.specs.Prelude.{◌≡◌, ◌∷◌, false, OnOk, IfOk, bit_or, if◌then◌else◌};
+ghost use Rattle.std.specs.Prelude.{◌≡◌, ◌∷◌, OnOk, IfOk, bit_or, if◌then◌else◌};
 ghost use Rattle.regex_rules.specs.Positions as sets;
 ghost use Rattle.regex_rules.specs.Linkings as spec;
 
@@ -129,7 +129,7 @@ impl Linking {
     }
 
     fn pass_one(&mut self, repeat: Repeat)
-        ensures { self.new ≡ spec.added (sets.piece_of self.old.bit self.old.bit false) repeat self.old.follow self.old.rows self.old.around (spec.next_bit self.old.bit) }
+        ensures { self.new ≡ spec.linked_past_one repeat self.old }
     {
         let piece = Piece {
             first: self.bit,
@@ -149,7 +149,7 @@ impl Linking {
     }
 
     fn pass_bar(&mut self)
-        ensures { self.new ≡ spec.linking_at self.old.follow (record { earlier = sets.either self.old.rows.earlier self.old.rows.row; row = sets.empty_row }) self.old.around self.old.bit }
+        ensures { self.new ≡ spec.linked_past_bar self.old }
     {
         self.rows = Rows {
             earlier: self.whole(),

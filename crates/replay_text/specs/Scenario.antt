@@ -61,3 +61,11 @@ ReadsScenario bytes s = SpellsScenario bytes s × (length bytes ≤ longest_scen
 -- the text spells some scenario
 abbrev pub IsScenario : List ℕ → Type 0
 IsScenario text = (s : Scenario) × SpellsScenario text s
+
+-- no act stands first
+abbrev pub HasNoAct : List ℕ → Type 0
+HasNoAct lines = (act : EventLine) (rest : List ℕ) → IsEventLine act → lines ≢ line_of act ++ 10 ∷ rest
+
+-- where the line of an act stands first, the act is the first of them, and the lines after it are those of the others
+abbrev pub TellsFirst : List ℕ → List ℕ → List EventLine → EventLine → Type 0
+TellsFirst lines rest acts act = IsActs lines acts → IsEventLine act → lines ≡ line_of act ++ 10 ∷ rest → (left : List EventLine) × (acts ≡ act ∷ left) × IsActs rest left

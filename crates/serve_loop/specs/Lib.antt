@@ -4,3 +4,4 @@ pub mod Hands
 pub mod Steps
 pub mod TurnParts
 pub mod Totals
+pub mod Beginnings

@@ -16,10 +16,15 @@ use Rattle.connections.specs.Ids.{ConnectionId}
 use Rattle.run_events.specs.declared.flying.Flushing.{Flushing}
 use Rattle.run_events.specs.States.{RunState}
 use Rattle.run_events.specs.Events.{Event, Run, HasCause, after_event, state_after_events}
+use Rattle.run_events.specs.Publishers.{Publishing}
 use Rattle.run_laws.specs.Rounds.{HasNothingDue}
 use Rattle.serve_loop.specs.declared.serving.ServeEnd.{ServeEnd}
 use Rattle.serve_loop.specs.declared.serving.ServeEnd.TheVariants.{Turns, WorldFailed, NoMemory}
 use Rattle.serve_loop.specs.Turns.{ServedTurn, AreWholeTurns, IsCutTurn, with_cut, turn_events, turn_entries}
+use Rattle.resource_tree.specs.Content.{Content}
+use Rattle.front.specs.Boards.{at_disk}
+use Rattle.front.specs.Fronts.{FrontStandsFor}
+use Rattle.front.specs.declared.front.Front.{Front}
 
 -- a world over one call
 pub record WorldReport : Type 0 where
@@ -42,6 +47,14 @@ pub record DiskReport : Type 0 where
 
 abbrev pub disk_report : Option Files → Option Files → ℕ → ℕ → DiskReport
 disk_report old new faults_old faults_new = record { old = old; new = new; faults_old = faults_old; faults_new = faults_new }
+
+-- a disk over one call, of which this says what it tells and how often it failed
+abbrev pub disk_over : {D : Type 0} → (D → Option Files) → (D → ℕ) → D → D → DiskReport
+disk_over files faults old new = disk_report (files old) (files new) (faults old) (faults new)
+
+-- a world over one call, of which this says what it tells, and how many of its calls of `next` and of its sendings failed
+abbrev pub world_over : {W : Type 0} → (W → Option (List WorldEntry)) → (W → ℕ) → (W → ℕ) → W → W → WorldReport
+world_over log next_faults send_faults old new = world_report (log old) (log new) (next_faults old) (next_faults new) (send_faults old) (send_faults new)
 
 -- as many whole turns were made as were asked for; or fewer, and one more may have begun
 abbrev pub IsTurnCount : ServeEnd → ℕ → ℕ → Type 0
@@ -134,3 +147,9 @@ pub record LeavesLegalLog (farm : Farm) (told : Option Files) (w : RunState) : T
   pub told_is : told ≡ Some files
   pub holds : HoldsClosed farm files (left_log w)
   pub legal : IsLegal farm (left_log w)
+
+-- Over a publisher, a disk and a world so many turns are served, which end so: with each state that the front stood for, between two turns.
+abbrev pub RunsOn : {R D W : Type 0} → Publishing → (R → Content) → (D → Option Files) → (D → ℕ) → (W → Option (List WorldEntry)) → (W → ℕ) → (W → ℕ) → ℕ → ServeEnd → Front R → D → W → D → W → Type 0
+RunsOn publishing content files faults log next_faults send_faults turns end front before said after says = (w : RunState)
+    → FrontStandsFor publishing (content front.renderer) (at_disk front.board (files before) (faults before)) w → IsServerAtRest w (log said)
+    → IsServed w turns end (disk_over files faults before after) (world_over log next_faults send_faults said says)

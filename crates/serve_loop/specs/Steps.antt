@@ -1,6 +1,7 @@
 -- What single steps of a server make of a run. (Of the theorem's reader this file is no concern.)
 use Rattle.std.specs.Prelude.{◌≡◌, ◌≤◌, ◌+◌, ◌⊎◌, ℕ, true, false, List, [], ◌∷◌, Option, Some, None, IfSome, IsSome, length}
 use Rattle.sp_outside.specs.Causes.{Rose}
+use Rattle.sp_outside.specs.Files.{Files}
 use Rattle.resource_tree.specs.Content.{Content}
 use Rattle.outside_world.specs.Faults.{HasRisenBy}
 use Rattle.outside_world.specs.Worlds.{is_connected, told_more}
@@ -17,8 +18,9 @@ use Rattle.run_events.specs.States.{RunState}
 use Rattle.run_events.specs.Events.{Event, Happens, Run, after_event, notes_of, state_after_events}
 use Rattle.run_laws.specs.Addressed.{LeavesSession, opened_by_step}
 use Rattle.run_laws.specs.Rounds.{AreUnrendered, HasNothingDue}
-use Rattle.front.specs.Boards.{BoardAt}
+use Rattle.front.specs.Boards.{BoardAt, at_disk}
 use Rattle.front.specs.Fronts.{FrontStandsFor}
+use Rattle.front.specs.declared.front.Front.{Front}
 use Rattle.serve_loop.specs.declared.turn.TurnEnd.{TurnEnd}
 use Rattle.serve_loop.specs.declared.turn.TurnEnd.TheVariants.{Whole, WorldFailed, NoMemory}
 use Rattle.serve_loop.specs.Turns.{HandedEvent, IsHandedOn, ServedTurn, AreDue, AreWholeTurns, IsCutTurn, MayRest, Stage, Renders, due_step, entries_made, events_made, stage_after, stage_handed, stage_of, turn_entries, turn_events, with_cut}
@@ -238,3 +240,16 @@ pub record TakesTurns (old new : ServerAt) (count : ℕ) (w : RunState) : Type 0
   pub unsents : HasRisenBy (count_unsent (turn_entries turns)) old.send_faults new.send_faults
   pub caused : AreCaused old.board.faults new.board.faults w (turn_events turns)
   pub rests : RestsAt new (state_after_events w (turn_events turns))
+
+-- ---- before and after a call, over a publisher, a disk and a world, of which this says what the publisher does, which content it has, what the
+-- ---- disk tells of its files, how often it failed, what the world tells, and how many sendings failed
+
+-- this is so of the server before and after
+abbrev pub Serving : {R D W : Type 0} → Publishing → (R → Content) → (D → Option Files) → (D → ℕ) → (W → Option (List WorldEntry)) → (W → ℕ) → (ServerAt → ServerAt → Type 0) → Front R → D → W → Front R → D → W → Type 0
+Serving publishing content files faults log send_faults IsSo old before said new after says =
+    IsSo (server_at publishing (content old.renderer) (at_disk old.board (files before) (faults before)) (log said) (send_faults said)) (server_at publishing (content new.renderer) (at_disk new.board (files after) (faults after)) (log says) (send_faults says))
+
+-- this is so where the call leaves the world alone, whatever that tells
+abbrev pub ServingAlone : {R D : Type 0} → Publishing → (R → Content) → (D → Option Files) → (D → ℕ) → (ServerAt → ServerAt → Type 0) → Front R → D → Front R → D → Type 0
+ServingAlone publishing content files faults IsSo old before new after = (told : Option (List WorldEntry)) (send_faults : ℕ)
+    → IsSo (server_at publishing (content old.renderer) (at_disk old.board (files before) (faults before)) told send_faults) (server_at publishing (content new.renderer) (at_disk new.board (files after) (faults after)) told send_faults)

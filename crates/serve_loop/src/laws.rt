@@ -1,19 +1,14 @@
 //! What follows of serving, on functions that do nothing but to call others.
-ghost use Rattle.std.specs.Prelude.{◌≡◌, ◌≢◌, ◌∷◌, [], ℕ, List, Ok, map};
-ghost use Rattle.sp_outside.specs.Files.{Files};
-ghost use Rattle.cache_files.specs.Epochs.{next_epoch};
-ghost use Rattle.cache_log.specs.Entries.{LogEntry, Session};
-ghost use Rattle.cache_log.specs.Rules.{IsLegal};
-ghost use Rattle.coherence_core.specs.Holds.{HoldsClosed};
-ghost use Rattle.run_events.specs.States.{RunState, Start, start_of};
-ghost use Rattle.run_events.specs.Events.{state_after_events};
+ghost use Rattle.std.specs.Prelude.{◌≡◌, ◌∷◌, [], ℕ, map};
+ghost use Rattle.cache_log.specs.Entries.{Session};
+ghost use Rattle.run_events.specs.States.{RunState, Start};
 ghost use Rattle.run_laws.specs.Logs.{IsBeginning};
-ghost use Rattle.serve_loop.specs.Served.{DiskReport, IsServed, LeavesLegalLog, WorldReport};
+ghost use Rattle.serve_loop.specs.Served.{DiskReport, IsServed, WorldReport};
 ghost use Rattle.serve_loop.specs.Totals.{FailuresAreCounted};
 ghost use Rattle.serve_loop.specs.TurnParts.{ConnectionsGoForACause, TurnsHaveOneSlice, TurnsLandAll};
-ghost use Rattle.serve_loop.specs.Turns.{ServedTurn, happenings_of, turn_entries, turn_events, with_cut};
+ghost use Rattle.serve_loop.specs.Turns.{ServedTurn, happenings_of, turn_entries, with_cut};
 ghost use Rattle.serve_loop.specs.declared.serving.ServeEnd.{ServeEnd};
-ghost use Rattle.serve_loop.specs.declared.serving.ServeEnd.TheVariants.{NoMemory};
+ghost use Rattle.serve_loop.specs.Beginnings.{SessionsBeginOverFiles, SessionsLeaveLegalLogs};
 
 use coherence_core::a_session_begins_in_a_legal_log;
 use run_laws::{
@@ -30,7 +25,7 @@ pub fn each_happening_has_a_turn()
 /// A session begins as the laws of runs want it: over files that hold a closed log, which is legal, with the number after the one that they
 /// hold (`over`), and from the empty log with any number (`first`).
 pub fn sessions_begin_in_legal_logs()
-    ensures over { (s : Start) (files : Files) (log : List LogEntry) (epoch : ℕ) → HoldsClosed s.farm files log → IsLegal s.farm log → next_epoch files ≡ Ok epoch → s.log ≡ Session epoch ∷ log → IsBeginning s }
+    ensures over { SessionsBeginOverFiles }
     ensures first { (s : Start) (epoch : ℕ) → s.log ≡ Session epoch ∷ [] → IsBeginning s }
 {
     a_session_begins_in_a_legal_log();
@@ -39,8 +34,7 @@ pub fn sessions_begin_in_legal_logs()
 /// A session that was served from a legal log leaves one, unless memory ran out: the files hold it at the end, closed, so a session may go on
 /// with it.
 pub fn served_sessions_leave_legal_logs()
-    ensures { (s : Start) (limit : ℕ) (end : ServeEnd) (disk : DiskReport) (world : WorldReport) → IsBeginning s → (served : IsServed (start_of s) limit end disk world) → end ≢ NoMemory
-        → LeavesLegalLog s.farm disk.new (state_after_events (start_of s) (turn_events served.turns)) }
+    ensures { SessionsLeaveLegalLogs }
 {
     logs_are_legal();
     events_keep_the_farm();

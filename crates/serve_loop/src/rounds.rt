@@ -1,8 +1,7 @@
 //! What a turn does after the step of what came.
 ghost use Rattle.std.specs.Prelude.{◌≡◌, OnErr, OnOk};
 ghost use Rattle.docroot_changes.specs.DocrootCalls.{MakesDocrootCalls};
-ghost use Rattle.front.specs.Boards.{at_disk};
-ghost use Rattle.serve_loop.specs.Steps.{CutsEnd, CutsLanding, CutsLandings, EndsTurn, LandsAll, LandsFirst, server_at};
+ghost use Rattle.serve_loop.specs.Steps.{CutsEnd, CutsLanding, CutsLandings, EndsTurn, LandsAll, LandsFirst, Serving};
 
 use crate::steps::make;
 use docroot_changes::docroot_calls_add_up;
@@ -24,8 +23,10 @@ pub(crate) fn land_all<R: Renderer + Drop, D: Disk, W: World>(
     disk: &mut D,
     world: &mut W,
 ) -> Mem<()>
-    ensures ok { OnOk result (LandsAll (server_at R.publishing (R.content front.old.renderer) (at_disk front.old.board (D.files disk.old) (D.faults disk.old)) (W.log world.old) (W.send_faults world.old)) (server_at R.publishing (R.content front.new.renderer) (at_disk front.new.board (D.files disk.new) (D.faults disk.new)) (W.log world.new) (W.send_faults world.new))) }
-    ensures err { OnErr result (CutsLandings (server_at R.publishing (R.content front.old.renderer) (at_disk front.old.board (D.files disk.old) (D.faults disk.old)) (W.log world.old) (W.send_faults world.old)) (server_at R.publishing (R.content front.new.renderer) (at_disk front.new.board (D.files disk.new) (D.faults disk.new)) (W.log world.new) (W.send_faults world.new))) }
+    ensures ok { OnOk result (Serving R.publishing R.content D.files D.faults W.log W.send_faults LandsAll
+        front.old disk.old world.old front.new disk.new world.new) }
+    ensures err { OnErr result (Serving R.publishing R.content D.files D.faults W.log W.send_faults CutsLandings
+        front.old disk.old world.old front.new disk.new world.new) }
     ensures next_count { W.next_faults world.new ≡ W.next_faults world.old }
     ensures calls { MakesDocrootCalls (D.calls disk.old) (D.calls disk.new) }
 {
@@ -46,8 +47,10 @@ fn land_first<R: Renderer + Drop, D: Disk, W: World>(
     disk: &mut D,
     world: &mut W,
 ) -> Mem<()>
-    ensures ok { OnOk result (LandsFirst (server_at R.publishing (R.content front.old.renderer) (at_disk front.old.board (D.files disk.old) (D.faults disk.old)) (W.log world.old) (W.send_faults world.old)) (server_at R.publishing (R.content front.new.renderer) (at_disk front.new.board (D.files disk.new) (D.faults disk.new)) (W.log world.new) (W.send_faults world.new))) }
-    ensures err { OnErr result (CutsLanding (server_at R.publishing (R.content front.old.renderer) (at_disk front.old.board (D.files disk.old) (D.faults disk.old)) (W.log world.old) (W.send_faults world.old)) (server_at R.publishing (R.content front.new.renderer) (at_disk front.new.board (D.files disk.new) (D.faults disk.new)) (W.log world.new) (W.send_faults world.new))) }
+    ensures ok { OnOk result (Serving R.publishing R.content D.files D.faults W.log W.send_faults LandsFirst
+        front.old disk.old world.old front.new disk.new world.new) }
+    ensures err { OnErr result (Serving R.publishing R.content D.files D.faults W.log W.send_faults CutsLanding
+        front.old disk.old world.old front.new disk.new world.new) }
     ensures next_count { W.next_faults world.new ≡ W.next_faults world.old }
     ensures calls { MakesDocrootCalls (D.calls disk.old) (D.calls disk.new) }
 {
@@ -64,8 +67,10 @@ pub(crate) fn purge_once<R: Renderer + Drop, D: Disk, W: World>(
     disk: &mut D,
     world: &mut W,
 ) -> Mem<()>
-    ensures ok { OnOk result (EndsTurn (server_at R.publishing (R.content front.old.renderer) (at_disk front.old.board (D.files disk.old) (D.faults disk.old)) (W.log world.old) (W.send_faults world.old)) (server_at R.publishing (R.content front.new.renderer) (at_disk front.new.board (D.files disk.new) (D.faults disk.new)) (W.log world.new) (W.send_faults world.new))) }
-    ensures err { OnErr result (CutsEnd (server_at R.publishing (R.content front.old.renderer) (at_disk front.old.board (D.files disk.old) (D.faults disk.old)) (W.log world.old) (W.send_faults world.old)) (server_at R.publishing (R.content front.new.renderer) (at_disk front.new.board (D.files disk.new) (D.faults disk.new)) (W.log world.new) (W.send_faults world.new))) }
+    ensures ok { OnOk result (Serving R.publishing R.content D.files D.faults W.log W.send_faults EndsTurn
+        front.old disk.old world.old front.new disk.new world.new) }
+    ensures err { OnErr result (Serving R.publishing R.content D.files D.faults W.log W.send_faults CutsEnd
+        front.old disk.old world.old front.new disk.new world.new) }
     ensures next_count { W.next_faults world.new ≡ W.next_faults world.old }
     ensures calls { MakesDocrootCalls (D.calls disk.old) (D.calls disk.new) }
 {

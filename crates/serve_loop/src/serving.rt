@@ -1,10 +1,7 @@
 //! The loop over what comes from the world.
 ghost use Rattle.std.specs.Prelude.{◌<◌};
 ghost use Rattle.docroot_changes.specs.DocrootCalls.{MakesDocrootCalls};
-ghost use Rattle.front.specs.Boards.{at_disk};
-ghost use Rattle.front.specs.Fronts.{FrontStandsFor};
-ghost use Rattle.run_events.specs.States.{RunState};
-ghost use Rattle.serve_loop.specs.Served.{HasEndCause, IsServerAtRest, IsServed, disk_report, world_report};
+ghost use Rattle.serve_loop.specs.Served.{HasEndCause, RunsOn, world_over};
 
 use crate::turn::{TurnEnd, turn};
 use cache_log::a_legal_log_grows_by_what_is_allowed;
@@ -35,8 +32,8 @@ pub fn serve<R: Renderer + Drop, D: Disk, W: World>(
     turns: u64,
 ) -> ServeEnd
     requires { 0 < turns }
-    ensures served { (w : RunState) → FrontStandsFor R.publishing (R.content front.old.renderer) (at_disk front.old.board (D.files disk.old) (D.faults disk.old)) w → IsServerAtRest w (W.log world.old) → IsServed w turns result (disk_report (D.files disk.old) (D.files disk.new) (D.faults disk.old) (D.faults disk.new)) (world_report (W.log world.old) (W.log world.new) (W.next_faults world.old) (W.next_faults world.new) (W.send_faults world.old) (W.send_faults world.new)) }
-    ensures cause { HasEndCause result (world_report (W.log world.old) (W.log world.new) (W.next_faults world.old) (W.next_faults world.new) (W.send_faults world.old) (W.send_faults world.new)) }
+    ensures served { RunsOn R.publishing R.content D.files D.faults W.log W.next_faults W.send_faults turns result front.old disk.old world.old disk.new world.new }
+    ensures cause { HasEndCause result (world_over W.log W.next_faults W.send_faults world.old world.new) }
     ensures calls { MakesDocrootCalls (D.calls disk.old) (D.calls disk.new) }
 {
     docroot_calls_add_up();

@@ -1,9 +1,7 @@
 //! One step of a front, with what is handed on of it.
-ghost use Rattle.std.specs.Prelude.{◌≡◌, ℕ, List, OnErr, OnOk, Option};
-ghost use Rattle.outside_world.specs.declared.world.WorldEntry.{WorldEntry};
+ghost use Rattle.std.specs.Prelude.{◌≡◌, OnErr, OnOk};
 ghost use Rattle.docroot_changes.specs.DocrootCalls.{MakesDocrootCalls};
-ghost use Rattle.front.specs.Boards.{at_disk};
-ghost use Rattle.serve_loop.specs.Steps.{CutsGoneOf, CutsStepOf, MakesGoneOf, MakesStepOf, server_at};
+ghost use Rattle.serve_loop.specs.Steps.{CutsGoneOf, CutsStepOf, MakesGoneOf, MakesStepOf, Serving, ServingAlone};
 
 use crate::handing::{HandedOn, hand_on};
 use connections::ConnectionId;
@@ -27,8 +25,10 @@ pub(crate) fn make<R: Renderer + Drop, D: Disk, W: World>(
     world: &mut W,
     step: &Step,
 ) -> Mem<()>
-    ensures ok { OnOk result (MakesStepOf step.now (server_at R.publishing (R.content front.old.renderer) (at_disk front.old.board (D.files disk.old) (D.faults disk.old)) (W.log world.old) (W.send_faults world.old)) (server_at R.publishing (R.content front.new.renderer) (at_disk front.new.board (D.files disk.new) (D.faults disk.new)) (W.log world.new) (W.send_faults world.new))) }
-    ensures err { OnErr result (CutsStepOf step.now (server_at R.publishing (R.content front.old.renderer) (at_disk front.old.board (D.files disk.old) (D.faults disk.old)) (W.log world.old) (W.send_faults world.old)) (server_at R.publishing (R.content front.new.renderer) (at_disk front.new.board (D.files disk.new) (D.faults disk.new)) (W.log world.new) (W.send_faults world.new))) }
+    ensures ok { OnOk result (Serving R.publishing R.content D.files D.faults W.log W.send_faults (MakesStepOf step.now)
+        front.old disk.old world.old front.new disk.new world.new) }
+    ensures err { OnErr result (Serving R.publishing R.content D.files D.faults W.log W.send_faults (CutsStepOf step.now)
+        front.old disk.old world.old front.new disk.new world.new) }
     ensures next_count { W.next_faults world.new ≡ W.next_faults world.old }
     ensures calls { MakesDocrootCalls (D.calls disk.old) (D.calls disk.new) }
 {
@@ -52,8 +52,8 @@ pub(crate) fn go<R: Renderer + Drop, D: Disk>(
     disk: &mut D,
     c: ConnectionId,
 ) -> Mem<()>
-    ensures ok { OnOk result ((told : Option (List WorldEntry)) (send_faults : ℕ) → MakesGoneOf c (server_at R.publishing (R.content front.old.renderer) (at_disk front.old.board (D.files disk.old) (D.faults disk.old)) told send_faults) (server_at R.publishing (R.content front.new.renderer) (at_disk front.new.board (D.files disk.new) (D.faults disk.new)) told send_faults)) }
-    ensures err { OnErr result ((told : Option (List WorldEntry)) (send_faults : ℕ) → CutsGoneOf c (server_at R.publishing (R.content front.old.renderer) (at_disk front.old.board (D.files disk.old) (D.faults disk.old)) told send_faults) (server_at R.publishing (R.content front.new.renderer) (at_disk front.new.board (D.files disk.new) (D.faults disk.new)) told send_faults)) }
+    ensures ok { OnOk result (ServingAlone R.publishing R.content D.files D.faults (MakesGoneOf c) front.old disk.old front.new disk.new) }
+    ensures err { OnErr result (ServingAlone R.publishing R.content D.files D.faults (CutsGoneOf c) front.old disk.old front.new disk.new) }
     ensures calls { MakesDocrootCalls (D.calls disk.old) (D.calls disk.new) }
 {
     events_leave_nothing_due();

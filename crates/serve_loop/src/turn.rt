@@ -1,8 +1,7 @@
 //! One turn.
 ghost use Rattle.std.specs.Prelude.{◌≡◌, OnErr, OnOk};
 ghost use Rattle.docroot_changes.specs.DocrootCalls.{MakesDocrootCalls};
-ghost use Rattle.front.specs.Boards.{at_disk};
-ghost use Rattle.serve_loop.specs.Steps.{BeginsTurn, CutsTurn, EndsAs, HasTurnCause, MakesTurn, server_at};
+ghost use Rattle.serve_loop.specs.Steps.{BeginsTurn, CutsTurn, EndsAs, HasTurnCause, MakesTurn, Serving};
 
 use crate::rounds::{land_all, purge_once};
 use crate::steps::{go, make};
@@ -31,7 +30,7 @@ pub(crate) fn turn<R: Renderer + Drop, D: Disk, W: World>(
     disk: &mut D,
     world: &mut W,
 ) -> TurnEnd
-    ensures ends { EndsAs result (server_at R.publishing (R.content front.old.renderer) (at_disk front.old.board (D.files disk.old) (D.faults disk.old)) (W.log world.old) (W.send_faults world.old)) (server_at R.publishing (R.content front.new.renderer) (at_disk front.new.board (D.files disk.new) (D.faults disk.new)) (W.log world.new) (W.send_faults world.new)) }
+    ensures ends { Serving R.publishing R.content D.files D.faults W.log W.send_faults (EndsAs result) front.old disk.old world.old front.new disk.new world.new }
     ensures cause { HasTurnCause result (W.next_faults world.old) (W.next_faults world.new) }
     ensures calls { MakesDocrootCalls (D.calls disk.old) (D.calls disk.new) }
 {
@@ -65,8 +64,10 @@ fn follow<R: Renderer + Drop, D: Disk, W: World>(
     world: &mut W,
     news: Happening,
 ) -> Mem<()>
-    ensures ok { OnOk result (MakesTurn news (server_at R.publishing (R.content front.old.renderer) (at_disk front.old.board (D.files disk.old) (D.faults disk.old)) (W.log world.old) (W.send_faults world.old)) (server_at R.publishing (R.content front.new.renderer) (at_disk front.new.board (D.files disk.new) (D.faults disk.new)) (W.log world.new) (W.send_faults world.new))) }
-    ensures err { OnErr result (CutsTurn news (server_at R.publishing (R.content front.old.renderer) (at_disk front.old.board (D.files disk.old) (D.faults disk.old)) (W.log world.old) (W.send_faults world.old)) (server_at R.publishing (R.content front.new.renderer) (at_disk front.new.board (D.files disk.new) (D.faults disk.new)) (W.log world.new) (W.send_faults world.new))) }
+    ensures ok { OnOk result (Serving R.publishing R.content D.files D.faults W.log W.send_faults (MakesTurn news)
+        front.old disk.old world.old front.new disk.new world.new) }
+    ensures err { OnErr result (Serving R.publishing R.content D.files D.faults W.log W.send_faults (CutsTurn news)
+        front.old disk.old world.old front.new disk.new world.new) }
     ensures next_count { W.next_faults world.new ≡ W.next_faults world.old }
     ensures calls { MakesDocrootCalls (D.calls disk.old) (D.calls disk.new) }
 {
@@ -84,8 +85,10 @@ fn begin<R: Renderer + Drop, D: Disk, W: World>(
     world: &mut W,
     news: Happening,
 ) -> Mem<()>
-    ensures ok { OnOk result (BeginsTurn news (server_at R.publishing (R.content front.old.renderer) (at_disk front.old.board (D.files disk.old) (D.faults disk.old)) (W.log world.old) (W.send_faults world.old)) (server_at R.publishing (R.content front.new.renderer) (at_disk front.new.board (D.files disk.new) (D.faults disk.new)) (W.log world.new) (W.send_faults world.new))) }
-    ensures err { OnErr result (CutsTurn news (server_at R.publishing (R.content front.old.renderer) (at_disk front.old.board (D.files disk.old) (D.faults disk.old)) (W.log world.old) (W.send_faults world.old)) (server_at R.publishing (R.content front.new.renderer) (at_disk front.new.board (D.files disk.new) (D.faults disk.new)) (W.log world.new) (W.send_faults world.new))) }
+    ensures ok { OnOk result (Serving R.publishing R.content D.files D.faults W.log W.send_faults (BeginsTurn news)
+        front.old disk.old world.old front.new disk.new world.new) }
+    ensures err { OnErr result (Serving R.publishing R.content D.files D.faults W.log W.send_faults (CutsTurn news)
+        front.old disk.old world.old front.new disk.new world.new) }
     ensures next_count { W.next_faults world.new ≡ W.next_faults world.old }
     ensures calls { MakesDocrootCalls (D.calls disk.old) (D.calls disk.new) }
 {

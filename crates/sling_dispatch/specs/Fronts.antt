@@ -83,3 +83,7 @@ abbrev pub arming_of_task : Task → Option Arming
 arming_of_task (task.Step step) = None
 arming_of_task (task.Fail n way) = Some OneFailure
 arming_of_task (task.Stop n way) = Some UntilRestart
+
+-- a front over the disk of a scenario made a step, in which the disk might fail so, and may fail then so
+abbrev pub FrontMakesNext : Front PublisherRenderer → ScriptedDisk → Front PublisherRenderer → ScriptedDisk → Step → List Note → Type 0
+FrontMakesNext old before new after step notes = ExtendsArmed (FrontStandsOver old before) (FrontStandsOver new after) (arming_of_disk before) (arming_of_disk after) step notes

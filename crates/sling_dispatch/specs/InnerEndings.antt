@@ -87,3 +87,7 @@ abbrev pub HasReadCause : {T : Type 0} → ℕ → ℕ → Result T ReadFault �
 HasReadCause before after (Ok _) = after ≡ before
 HasReadCause before after (Err read_failed) = Rose before after
 HasReadCause before after (Err read_memory) = after ≡ before
+
+-- some of what was gathered is sent, and what is left with the text after it stays gathered
+abbrev pub GathersText : Option (List ℕ) → List ℕ → Option (List ℕ) → List ℕ → List ℕ → Type 0
+GathersText before gathered after left text = (sent : List ℕ) × (after ≡ held_after before sent) × (sent ++ left ≡ gathered ++ text)

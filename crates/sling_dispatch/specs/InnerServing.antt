@@ -9,10 +9,12 @@ use Rattle.cache_files.specs.declared.epoch.OpenFault.TheVariants as open_fault
 use Rattle.cache_log.specs.Entries.{LogEntry}
 use Rattle.docroot_format.specs.declared.fault.FileFault.{FileFault}
 use Rattle.docroot_format.specs.declared.fault.FileFault.TheVariants as file_fault
-use Rattle.front.specs.Boards.{BoardAt}
-use Rattle.front.specs.Fronts.{FrontStandsFor, epoch_of_board}
+use Rattle.front.specs.Boards.{BoardAt, at_disk}
+use Rattle.front.specs.Fronts.{FrontStandsFor, epoch_of_board, BeginsFresh}
+use Rattle.front.specs.declared.front.Front.{Front}
 use Rattle.outside_world.specs.declared.inputs.InputFault.{InputFault}
 use Rattle.outside_world.specs.declared.inputs.InputFault.TheVariants as input_fault
+use Rattle.outside_world.specs.declared.world.WorldEntry.{WorldEntry}
 use Rattle.replay_text.specs.Scenario.{ReadsScenario}
 use Rattle.replay_text.specs.declared.scenario.Scenario.{Scenario}
 use Rattle.content_json.specs.ContentOf.{content as content_of}
@@ -21,12 +23,13 @@ use Rattle.run_events.specs.declared.note.Note.{Note}
 use Rattle.run_events.specs.States.{start_of}
 use Rattle.serve_loop.specs.declared.serving.ServeEnd.{ServeEnd}
 use Rattle.serve_loop.specs.declared.serving.ServeEnd.TheVariants as serve_end
+use Rattle.serve_loop.specs.Served.{DiskReport, WorldReport, disk_over, world_over}
 use Rattle.soak_scenarios.specs.Soaks.{generated_text}
-use Rattle.sling_dispatch.specs.Endings.{Writing, Nothing, Generated, Summary, OfServing, ServeWriting, Served, CutOff, WorldLine, DocrootLine, OpeningLine, InputLine}
+use Rattle.sling_dispatch.specs.Endings.{Writing, Nothing, Generated, Summary, OfServing, ServeWriting, Served, CutOff, WorldLine, DocrootLine, OpeningLine, InputLine, IsDue, IsReplay, Means}
 use Rattle.sling_dispatch.specs.Forms.{AsksFor}
-use Rattle.sling_dispatch.specs.Reports.{IsUntouched, StreamReport}
+use Rattle.sling_dispatch.specs.Reports.{IsUntouched, StreamReport, IsWorldUntouched, call_of, report_over}
 use Rattle.sling_dispatch.specs.Runs.{IsSession, sling_publisher}
-use Rattle.sling_dispatch.specs.Serving.{MayBeginOver, OfInput, served_start}
+use Rattle.sling_dispatch.specs.Serving.{MayBeginOver, OfInput, served_start, HasInputs}
 use Rattle.sling_dispatch.specs.Farms.{farm_in, farm_text}
 use Rattle.sling_dispatch.specs.Fronts.{IsNextEvent}
 use Rattle.sling_dispatch.specs.Summaries.{counts_of, summary_text}
@@ -35,6 +38,9 @@ use Rattle.sling_dispatch.specs.declared.summary.Counts.{Counts}
 use Rattle.sling_dispatch.specs.declared.form.Beginning.{Beginning}
 use Rattle.sling_dispatch.specs.declared.form.Form.TheVariants.{Serve}
 use Rattle.sling_dispatch.specs.declared.form.ServeWords.{ServeWords}
+use Rattle.sling_dispatch.specs.declared.ending.Ending.{Ending}
+use Rattle.sling_dispatch.specs.declared.outside.Outside.{Outside}
+use Rattle.sling_dispatch.specs.declared.renderer.PublisherRenderer.{PublisherRenderer}
 
 -- the text is the summary of all events of the scenario that was made from the number
 pub record IsSummaryOf (number : ℕ) (text : List ℕ) : Type 0 where
@@ -131,3 +137,38 @@ abbrev pub OpensRun : Beginning → Farm → Content → Option Files → BoardA
 OpensRun beginning farm tree None b now = Unit {0}
 OpensRun beginning farm tree (Some files) b now =
     (log : List LogEntry) → MayBeginOver beginning farm files log → FrontStandsFor sling_publisher now b (start_of (served_start farm tree (epoch_of_board b) files log))
+
+-- ---- over the outside, of whose objects this says what they tell and how often they failed
+
+-- a front opens over the disk the run that was asked for
+abbrev pub OpensRunOver : {D : Type 0} → (D → Option Files) → (D → ℕ) → Beginning → Farm → Content → D → D → Front PublisherRenderer → Type 0
+OpensRunOver files faults beginning farm publisher before after front = OpensRun beginning farm publisher (files before) (at_disk front.board (files after) (faults after)) front.renderer.publisher
+
+-- a front that was just opened begins a run over files that were cleared
+abbrev pub BeginsFreshOver : {D : Type 0} → (D → Option Files) → (D → ℕ) → Front PublisherRenderer → D → D → Type 0
+BeginsFreshOver files faults front before after = BeginsFresh sling_publisher front.renderer.publisher (files before) (at_disk front.board (files after) (faults after))
+
+-- the run ends as is due of these words, with such a source and such inputs
+abbrev pub EndsAsDue : {S K I D W : Type 0} → List Text → StreamReport (List ℕ) → StreamReport Files → (K → Option (List ℕ)) → (K → ℕ) → (D → Option Files) → (D → ℕ) → (W → Option (List WorldEntry)) → (W → ℕ) → (W → ℕ) → Outside S K I D W → Outside S K I D W → Ending → Type 0
+EndsAsDue asked source inputs held sink_faults files disk_faults log next_faults send_faults old new ending =
+    Means (IsDue (call_of asked source inputs (disk_over files disk_faults old.disk new.disk) (world_over log next_faults send_faults old.world new.world))) ending (report_over held sink_faults old.sink new.sink)
+
+-- it ends so where these texts were read
+abbrev pub EndsForTexts : {S K I D W : Type 0} → ServeWords → List ℕ → List ℕ → (K → Option (List ℕ)) → (K → ℕ) → (D → Option Files) → (D → ℕ) → (W → Option (List WorldEntry)) → (W → ℕ) → (W → ℕ) → Outside S K I D W → Outside S K I D W → Ending → Type 0
+EndsForTexts words content any held sink_faults files disk_faults log next_faults send_faults old new ending = (asked : List Text) (source : StreamReport (List ℕ)) (inputs : StreamReport Files)
+    → AreReadAs asked source inputs words content any → EndsAsDue asked source inputs held sink_faults files disk_faults log next_faults send_faults old new ending
+
+-- it ends so where a text was read that gives this content, and this one for the farm
+abbrev pub EndsForContent : {S K I D W : Type 0} → ServeWords → Content → List ℕ → (K → Option (List ℕ)) → (K → ℕ) → (D → Option Files) → (D → ℕ) → (W → Option (List WorldEntry)) → (W → ℕ) → (W → ℕ) → Outside S K I D W → Outside S K I D W → Ending → Type 0
+EndsForContent words publisher any held sink_faults files disk_faults log next_faults send_faults old new ending = (asked : List Text) (source : StreamReport (List ℕ)) (inputs : StreamReport Files) (content : List ℕ)
+    → content_of content ≡ Ok publisher → AreReadAs asked source inputs words content any → EndsAsDue asked source inputs held sink_faults files disk_faults log next_faults send_faults old new ending
+
+-- it ends so where the inputs give this content and this farm
+abbrev pub EndsForSite : {S K I D W : Type 0} → ServeWords → Content → Farm → (K → Option (List ℕ)) → (K → ℕ) → (D → Option Files) → (D → ℕ) → (W → Option (List WorldEntry)) → (W → ℕ) → (W → ℕ) → Outside S K I D W → Outside S K I D W → Ending → Type 0
+EndsForSite words publisher farm held sink_faults files disk_faults log next_faults send_faults old new ending = (asked : List Text) (source : StreamReport (List ℕ)) (inputs : StreamReport Files)
+    → HasInputs asked source inputs words publisher farm → EndsAsDue asked source inputs held sink_faults files disk_faults log next_faults send_faults old new ending
+
+-- a scenario that a source holds is replayed, whatever the inputs and the disk, and the world is untouched: the run ends as is due
+abbrev pub ReplaysSource : {S K : Type 0} → (S → Option (List ℕ)) → (S → ℕ) → (K → Option (List ℕ)) → (K → ℕ) → S → S → K → K → Ending → Type 0
+ReplaysSource left source_faults held sink_faults source after sink written ending = (asked : List Text) (inputs : StreamReport Files) (disk : DiskReport) (world : WorldReport) → IsReplay asked → IsWorldUntouched world
+    → Means (IsDue (call_of asked (report_over left source_faults source after) inputs disk world)) ending (report_over held sink_faults sink written)

@@ -3,7 +3,9 @@ use Rattle.std.specs.Prelude.{◌≡◌, ℕ, List, Option}
 use Rattle.sp_base.specs.Texts.{Text}
 use Rattle.sp_outside.specs.Files.{Files}
 use Rattle.sp_outside.specs.Causes.{Rose}
-use Rattle.serve_loop.specs.Served.{DiskReport, WorldReport}
+use Rattle.serve_loop.specs.Served.{DiskReport, WorldReport, disk_over, world_over}
+use Rattle.outside_world.specs.declared.world.WorldEntry.{WorldEntry}
+use Rattle.sling_dispatch.specs.declared.outside.Outside.{Outside}
 
 -- an object of the outside over one call: what it told before and after, and its count of faults before and after
 pub record StreamReport (T : Type 0) : Type 0 where
@@ -15,6 +17,10 @@ pub record StreamReport (T : Type 0) : Type 0 where
 -- what an object told before and after a call, with its counts of faults
 abbrev pub report_of : {T : Type 0} → Option T → Option T → ℕ → ℕ → StreamReport T
 report_of old new faults_old faults_new = record { old = old; new = new; faults_old = faults_old; faults_new = faults_new }
+
+-- the same of an object of which this says what it tells and how often it failed
+abbrev pub report_over : {T O : Type 0} → (O → Option T) → (O → ℕ) → O → O → StreamReport T
+report_over told faults old new = report_of (told old) (told new) (faults old) (faults new)
 
 -- no call of it failed
 abbrev pub HasNotFailed : {T : Type 0} → StreamReport T → Type 0
@@ -39,6 +45,12 @@ pub record RunCall : Type 0 where
 -- one call of `run`
 abbrev pub call_of : List Text → StreamReport (List ℕ) → StreamReport Files → DiskReport → WorldReport → RunCall
 call_of words source inputs disk world = record { words = words; source = source; inputs = inputs; disk = disk; world = world }
+
+-- one call of `run` over the outside, of whose objects this says what they tell and how often they failed
+abbrev pub call_over : {S K I D W : Type 0} → List Text → (S → Option (List ℕ)) → (S → ℕ) → (I → Option Files) → (I → ℕ) → (D → Option Files) → (D → ℕ) → (W → Option (List WorldEntry)) → (W → ℕ) → (W → ℕ) → Outside S K I D W → Outside S K I D W → RunCall
+call_over words left source_faults contents input_faults files disk_faults log next_faults send_faults old new =
+    call_of words (report_over left source_faults old.source new.source) (report_over contents input_faults old.inputs new.inputs)
+    (disk_over files disk_faults old.disk new.disk) (world_over log next_faults send_faults old.world new.world)
 
 -- the disk's files and its count of faults are as before
 pub record IsDiskUntouched (disk : DiskReport) : Type 0 where

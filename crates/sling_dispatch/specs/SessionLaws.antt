@@ -1,5 +1,5 @@
 -- What a site's operator may rely on, of each session.
-use Rattle.std.specs.Prelude.{◌≡◌, ◌++◌, false, List, ◌∷◌, Option, Some, Contains}
+use Rattle.std.specs.Prelude.{◌≡◌, ◌++◌, false, List, ◌∷◌, Option, Some, Contains, map, ℕ}
 use Rattle.sp_base.specs.declared.answer.Answer.{Answer}
 use Rattle.cover_rules.specs.declared.page.PageKey.{PageKey}
 use Rattle.cover_rules.specs.declared.invalidation.Invalidation.{Invalidation}
@@ -9,12 +9,14 @@ use Rattle.cache_log.specs.Hits.{Covers}
 use Rattle.cache_log.specs.Ids.{FlightId, FlushId}
 use Rattle.cache_log.specs.Rules.{IsLegal}
 use Rattle.connections.specs.Slots.{IsHit}
-use Rattle.run_events.specs.Events.{Event, state_after_events, state_before_notes}
+use Rattle.run_events.specs.Events.{Event, state_after_events, state_before_notes, notes_of}
 use Rattle.run_events.specs.States.{start_of}
 use Rattle.run_laws.specs.Logs.{IsAnswerOf, OwedAreHits, log_after}
 use Rattle.replay_text.specs.declared.event_line.EventLine.{EventLine}
 use Rattle.replay_text.specs.declared.scenario.Scenario.{Scenario}
-use Rattle.sling_dispatch.specs.Runs.{IsSession, sling_start}
+use Rattle.replay_text.specs.Scenario.{ReadsScenario}
+use Rattle.replay_text.specs.Transcript.{told_notes}
+use Rattle.sling_dispatch.specs.Runs.{IsSession, sling_start, told_of_events}
 
 -- the log of the cache after a session
 abbrev pub session_log : {s : Scenario} {left : List EventLine} {events : List Event} → IsSession s left events → List LogEntry
@@ -45,3 +47,8 @@ abbrev pub SessionsServeKeptPages : Type 0
 SessionsServeKeptPages = (s : Scenario) (left : List EventLine) (before after : List Event) (e : Event) (session : IsSession s left (before ++ e ∷ after))
     → e.conditions.disk_failed ≡ false → e.conditions.out_of_memory ≡ false
     → OwedAreHits (state_before_notes (state_after_events (start_of (sling_start session.farm session.tree)) before) e e.step) e.body
+
+-- no two sessions of scenarios that are read have the same transcript, but those in which the same is told
+abbrev pub TranscriptsTellSessions : Type 0
+TranscriptsTellSessions = (read other : List ℕ) (s t : Scenario) (left right : List EventLine) (a b : List Event) → ReadsScenario read s → ReadsScenario other t
+    → IsSession s left a → IsSession t right b → told_of_events a ≡ told_of_events b → map told_notes (map notes_of a) ≡ map told_notes (map notes_of b)

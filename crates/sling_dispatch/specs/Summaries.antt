@@ -1,5 +1,5 @@
 -- The summary of events: how many there are, and how many notes of each kind.
-use Rattle.std.specs.Prelude.{◌+◌, ◌++◌, ℕ, Bool, true, false, List, codes, flat_map, length}
+use Rattle.std.specs.Prelude.{◌+◌, ◌++◌, ℕ, Bool, true, false, List, codes, flat_map, length, ◌≡◌, ◌∷◌, []}
 use Rattle.std.specs.Fmt.{decimal}
 use Rattle.std.specs.List.{count_by, sum_by}
 use Rattle.run_events.specs.Events.{Event, notes_of}
@@ -127,3 +127,7 @@ counts_text c =
 -- the summary of events
 abbrev pub summary_text : List Event → List ℕ
 summary_text events = counts_text (counts_of events)
+
+-- where these were the counts of events, and the notes are those of one more, they are the counts of all
+abbrev pub CountsEvent : List Note → Counts → Counts → Type 0
+CountsEvent notes old new = (events : List Event) (event : Event) → old ≡ counts_of events → notes ≡ notes_of event → new ≡ counts_of (events ++ event ∷ [])

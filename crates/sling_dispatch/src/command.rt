@@ -1,13 +1,12 @@
 //! The whole program over a command line: the words that it is given, and the status that it ends with.
 ghost use Rattle.std.specs.Prelude.{◌≡◌, ◌+◌, ℕ, List, map, IfOk};
 ghost use Rattle.docroot_changes.specs.DocrootCalls.{MakesDocrootCalls};
-ghost use Rattle.serve_loop.specs.Served.{disk_report, world_report};
 ghost use Rattle.sling_dispatch.specs.declared.ending.Ending.{Ending};
 ghost use Rattle.replay_text.specs.Scenario.{longest_scenario};
 ghost use Rattle.sling_dispatch.specs.Streams.{HasTaken};
 ghost use Rattle.sling_dispatch.specs.Endings.{Means, IsDue, IsReplay, AreWordsOf, ending_status};
 ghost use Rattle.sling_dispatch.specs.Forms.{IsServe};
-ghost use Rattle.sling_dispatch.specs.Reports.{IsApart, IsUntouched, call_of, report_of};
+ghost use Rattle.sling_dispatch.specs.Reports.{IsApart, IsUntouched, report_over, call_over};
 
 use crate::ending::Ending;
 use crate::outside::Outside;
@@ -27,17 +26,11 @@ pub fn command<L: Words, S: Source, K: Sink, I: Inputs, D: Disk, W: World>(
     outside: &mut Outside<S, K, I, D, W>,
 ) -> u8
     ensures taken { HasTaken (longest_scenario + 1) (S.left outside.old.source) (S.left outside.new.source) }
-    ensures ending { (words : List (List ℕ)) × AreWordsOf (L.told line.now) words × (e : Ending) × (result ≡ ending_status e) × Means (IsDue (call_of words
-        (report_of (S.left outside.old.source) (S.left outside.new.source) (S.faults outside.old.source) (S.faults outside.new.source))
-        (report_of (I.contents outside.old.inputs) (I.contents outside.new.inputs) (I.faults outside.old.inputs) (I.faults outside.new.inputs))
-        (disk_report (D.files outside.old.disk) (D.files outside.new.disk) (D.faults outside.old.disk) (D.faults outside.new.disk))
-        (world_report (W.log outside.old.world) (W.log outside.new.world) (W.next_faults outside.old.world) (W.next_faults outside.new.world) (W.send_faults outside.old.world) (W.send_faults outside.new.world)))) e
-        (report_of (K.held outside.old.sink) (K.held outside.new.sink) (K.faults outside.old.sink) (K.faults outside.new.sink)) × ((IsServe words → ⊥) → IsApart (call_of words
-        (report_of (S.left outside.old.source) (S.left outside.new.source) (S.faults outside.old.source) (S.faults outside.new.source))
-        (report_of (I.contents outside.old.inputs) (I.contents outside.new.inputs) (I.faults outside.old.inputs) (I.faults outside.new.inputs))
-        (disk_report (D.files outside.old.disk) (D.files outside.new.disk) (D.faults outside.old.disk) (D.faults outside.new.disk))
-        (world_report (W.log outside.old.world) (W.log outside.new.world) (W.next_faults outside.old.world) (W.next_faults outside.new.world) (W.send_faults outside.old.world) (W.send_faults outside.new.world))) × (D.calls outside.new.disk ≡ D.calls outside.old.disk))
-        × ((IsReplay words → ⊥) → IsUntouched (report_of (S.left outside.old.source) (S.left outside.new.source) (S.faults outside.old.source) (S.faults outside.new.source))) }
+    ensures ending { (words : List (List ℕ)) × AreWordsOf (L.told line.now) words × (e : Ending) × (result ≡ ending_status e) × Means (IsDue (call_over words
+        S.left S.faults I.contents I.faults D.files D.faults W.log W.next_faults W.send_faults outside.old outside.new)) e
+        (report_over K.held K.faults outside.old.sink outside.new.sink) × ((IsServe words → ⊥) → IsApart (call_over words
+        S.left S.faults I.contents I.faults D.files D.faults W.log W.next_faults W.send_faults outside.old outside.new) × (D.calls outside.new.disk ≡ D.calls outside.old.disk))
+        × ((IsReplay words → ⊥) → IsUntouched (report_over S.left S.faults outside.old.source outside.new.source)) }
     ensures calls { MakesDocrootCalls (D.calls outside.old.disk) (D.calls outside.new.disk) }
 {
     docroot_calls_add_up();

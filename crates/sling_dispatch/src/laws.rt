@@ -1,6 +1,7 @@
 //! Laws of the definitions, on functions that do nothing.
-ghost use Rattle.std.specs.Prelude.{◌≡◌, ◌⊎◌, ◌<◌, ℕ, Bool, List, Some, length, map};
+ghost use Rattle.std.specs.Prelude.{◌≡◌, ◌⊎◌, ◌<◌, ℕ, Bool, List, Some, length};
 ghost use Rattle.sp_base.specs.Limits.{greatest_u64};
+ghost use Rattle.sp_base.specs.Texts.{Segments};
 ghost use Rattle.resource_tree.specs.Content.{Content};
 ghost use Rattle.http_front.specs.Targets.{begins_with_slash, path_bytes};
 ghost use Rattle.any_config.specs.declared.farm.Farm as models;
@@ -8,10 +9,8 @@ ghost use Rattle.url_split.specs.declared.decompose.Parts as split;
 ghost use Rattle.url_split.specs.Split.{IsSplit};
 ghost use Rattle.dispatch_rules.specs.UrlParts.{stem};
 ghost use Rattle.run_events.specs.Publishers.{direct_answer};
-ghost use Rattle.run_events.specs.Events.{Event, notes_of};
 ghost use Rattle.replay_text.specs.Scenario.{ReadsScenario};
-ghost use Rattle.replay_text.specs.Transcript.{told_notes};
-ghost use Rattle.sling_dispatch.specs.SessionLaws.{SessionHitsAreFresh, SessionLogsAreLegal, SessionRepliesInFlightAreNotStored, SessionsServeKeptPages};
+ghost use Rattle.sling_dispatch.specs.SessionLaws.{SessionHitsAreFresh, SessionLogsAreLegal, SessionRepliesInFlightAreNotStored, SessionsServeKeptPages, TranscriptsTellSessions};
 ghost use Rattle.sling_dispatch.specs.ServedLaws.{ServedHitsAreFresh, ServedLogsAreLegal, ServedRepliesInFlightAreNotStored, ServedSessionsGoOn, ServedSessionsLeaveLegalLogs, ServedSessionsServeKeptPages, SessionsAreServed};
 ghost use Rattle.sling_dispatch.specs.SessionsWithMemory.{SessionsWithMemoryAreOne, UncachedTextsAreOne, UncachedScenariosAreOne};
 ghost use Rattle.sling_dispatch.specs.Endings.{Means, IsDue, IsReplay, HasContent, HasFarm};
@@ -22,8 +21,7 @@ ghost use Rattle.sling_dispatch.specs.declared.form.ServeWords.{ServeWords};
 ghost use Rattle.sling_dispatch.specs.declared.ending.Ending.{Ending};
 ghost use Rattle.sling_dispatch.specs.declared.ending.Ending.TheVariants.{Done, NoMemory, SinkFailed};
 ghost use Rattle.sling_dispatch.specs.FilterParts.{SeesParts};
-ghost use Rattle.sling_dispatch.specs.Runs.{IsSession, sling_publisher, told_of_events};
-ghost use Rattle.replay_text.specs.declared.event_line.EventLine.{EventLine};
+ghost use Rattle.sling_dispatch.specs.Runs.{sling_publisher};
 ghost use Rattle.replay_text.specs.declared.scenario.Scenario.{Scenario};
 
 use publisher::statuses_are_short;
@@ -61,8 +59,7 @@ pub fn complete()
 /// A transcript tells what the lines of its session's events can tell: no two sessions of scenarios that are read have the same, but those in
 /// which the same is told. (Such a scenario has too few lines for an epoch that doesn't fit 64 bits.)
 pub fn a_transcript_tells_its_session()
-    ensures { (read other : List ℕ) (s t : Scenario) (left right : List EventLine) (a b : List Event) → ReadsScenario read s → ReadsScenario other t → IsSession s left a → IsSession t right b
-        → told_of_events a ≡ told_of_events b → map told_notes (map notes_of a) ≡ map told_notes (map notes_of b) }
+    ensures { TranscriptsTellSessions }
 {
     notes_name_pages();
     statuses_are_short();
@@ -72,7 +69,7 @@ pub fn a_transcript_tells_its_session()
 /// What an entry of the filter asks about are the parts of the path text's decomposition, where the resource path of that ends at the
 /// text's first dot.
 pub fn a_filter_sees_the_decomposition()
-    ensures { (known : List (List ℕ) → Bool) (text : List ℕ) (parts : split.Parts) (s : IsSplit known text parts) → s.at ≡ length (stem text) → SeesParts text parts }
+    ensures { (known : Segments → Bool) (text : List ℕ) (parts : split.Parts) (s : IsSplit known text parts) → s.at ≡ length (stem text) → SeesParts text parts }
 {}
 
 /// A scenario has one transcript, where in no event the disk fails or memory runs out, no page is served from the cache, no flush begins and

@@ -3,11 +3,8 @@ ghost use Rattle.std.specs.Prelude.{◌≡◌, ◌≢◌, IfOk, IfErr, IfSome, O
 ghost use Rattle.cache_files.specs.declared.epoch.OpenFault.TheVariants as fault;
 ghost use Rattle.cache_files.specs.Epochs.{HasOpenCause, next_epoch};
 ghost use Rattle.docroot_changes.specs.DocrootCalls.{MakesDocrootCalls};
-ghost use Rattle.docroot_format.specs.Faults.{HasFileCause};
-ghost use Rattle.front.specs.Boards.{at_disk};
-ghost use Rattle.front.specs.Fronts.{BeginsFresh, epoch_of_board};
-ghost use Rattle.sling_dispatch.specs.InnerServing.{OpensRun, open_fault_of};
-ghost use Rattle.sling_dispatch.specs.Runs.{sling_publisher};
+ghost use Rattle.front.specs.Fronts.{epoch_of_front};
+ghost use Rattle.sling_dispatch.specs.InnerServing.{open_fault_of, BeginsFreshOver, OpensRunOver};
 ghost use Rattle.sling_dispatch.specs.Serving.{KeepsLogs};
 
 use crate::form::Beginning;
@@ -29,8 +26,8 @@ pub fn open_front<D: Disk>(
     beginning: Beginning,
     disk: &mut D,
 ) -> Result<Front<PublisherRenderer>, OpenFault>
-    ensures opens { IfOk result (λ front. OpensRun beginning farm publisher (D.files disk.old) (at_disk front.board (D.files disk.new) (D.faults disk.new)) front.renderer.publisher) }
-    ensures epoch { IfOk result (λ front. IfSome (D.files disk.old) (λ files. next_epoch files ≡ Ok (epoch_of_board (at_disk front.board (D.files disk.new) (D.faults disk.new))))) }
+    ensures opens { IfOk result (OpensRunOver D.files D.faults beginning farm publisher disk.old disk.new) }
+    ensures epoch { IfOk result (λ front. IfSome (D.files disk.old) (λ files. next_epoch files ≡ Ok (epoch_of_front front))) }
     ensures err { IfErr result (λ e. e ≢ fault.NoMemory → e ≢ fault.Disk → IfSome (D.files disk.old) (λ files. next_epoch files ≡ Err e)) }
     ensures unopened { IfErr result (λ e. e ≢ fault.NoMemory → e ≢ fault.Disk → D.files disk.new ≡ D.files disk.old) }
     ensures keeps { IfErr result (λ e. KeepsLogs beginning farm (D.files disk.old) (D.files disk.new)) }
@@ -52,7 +49,7 @@ fn cleared<D: Disk>(
     disk: &mut D,
 ) -> Result<Front<PublisherRenderer>, OpenFault>
     ensures same { IfOk result (λ cleared. cleared ≡ front) }
-    ensures stands { IfOk result (λ _. BeginsFresh sling_publisher front.renderer.publisher (D.files disk.old) (at_disk front.board (D.files disk.new) (D.faults disk.new))) }
+    ensures stands { IfOk result (λ _. BeginsFreshOver D.files D.faults front disk.old disk.new) }
     ensures err { IfErr result (λ e. (e ≢ fault.Disk → e ≡ fault.NoMemory)) }
     ensures cause { HasOpenCause (D.faults disk.old) (D.faults disk.new) result }
     ensures calls { MakesDocrootCalls (D.calls disk.old) (D.calls disk.new) }

@@ -1,9 +1,9 @@
 //! Makes the events of a scenario, and writes its transcript in large parts.
-ghost use Rattle.std.specs.Prelude.{◌≡◌, ◌++◌, ℕ, List, IfOk, OnOk, OnErr, take, true, false};
+ghost use Rattle.std.specs.Prelude.{◌≡◌, ◌++◌, ℕ, OnOk, OnErr, take, true, false};
 ghost use Rattle.sp_outside.specs.Told.{held_after};
 ghost use Rattle.sp_outside.specs.Causes.{HasSinkCause};
-ghost use Rattle.sling_dispatch.specs.Reports.{report_of};
-ghost use Rattle.sling_dispatch.specs.InnerEndings.{AreActLines, PlaysAll};
+ghost use Rattle.sling_dispatch.specs.Reports.{report_over};
+ghost use Rattle.sling_dispatch.specs.InnerEndings.{AreActLines, PlaysAll, GathersText};
 
 use crate::ending::Ending;
 use crate::session::Session;
@@ -29,7 +29,7 @@ pub fn play<K: Sink>(
     sink: &mut K,
 ) -> Ending
     requires { AreActLines acts.now }
-    ensures { PlaysAll publisher farm acts.now result (report_of (K.held sink.old) (K.held sink.new) (K.faults sink.old) (K.faults sink.new)) }
+    ensures { PlaysAll publisher farm acts.now result (report_over K.held K.faults sink.old sink.new) }
 {
     events_extend();
     acts_are_told_by_their_lines();
@@ -58,7 +58,7 @@ pub fn play<K: Sink>(
 // Puts a text after those gathered. They are written first where there would be too many bytes, and the text with them
 // where there is no memory to gather it.
 fn gather<K: Sink>(sink: &mut K, gathered: &mut Vec<u8>, text: &[u8]) -> Result<(), SinkFault>
-    ensures ok { OnOk result ((sent : List ℕ) × (K.held sink.new ≡ held_after (K.held sink.old) sent) × (sent ++ gathered.new.items ≡ gathered.old.items ++ text.now)) }
+    ensures ok { OnOk result (GathersText (K.held sink.old) gathered.old.items (K.held sink.new) gathered.new.items text.now) }
     ensures err { OnErr result ((n : ℕ) × (K.held sink.new ≡ held_after (K.held sink.old) (take n (gathered.old.items ++ text.now)))) }
     ensures cause { HasSinkCause (K.faults sink.old) (K.faults sink.new) result }
 {

@@ -1,15 +1,13 @@
 //! The run: what the words say is done, from the source, the inputs, the disk and the world to the sink.
-ghost use Rattle.std.specs.Prelude.{◌≡◌, ◌+◌, ℕ, List, map};
+ghost use Rattle.std.specs.Prelude.{◌≡◌, ◌+◌, map};
 ghost use Rattle.replay_text.specs.Scenario.{longest_scenario};
-ghost use Rattle.sp_outside.specs.Files.{Files};
 ghost use Rattle.docroot_changes.specs.DocrootCalls.{MakesDocrootCalls};
-ghost use Rattle.serve_loop.specs.Served.{DiskReport, WorldReport, disk_report, world_report};
 ghost use Rattle.sling_dispatch.specs.declared.ending.Ending.{Ending};
 ghost use Rattle.sling_dispatch.specs.Streams.{HasTaken};
 ghost use Rattle.sling_dispatch.specs.Endings.{Means, IsDue, IsReplay, ending_status};
 ghost use Rattle.sling_dispatch.specs.Forms.{IsServe};
-ghost use Rattle.sling_dispatch.specs.InnerServing.{IsScenarioOr, IsSummaryOr};
-ghost use Rattle.sling_dispatch.specs.Reports.{IsApart, IsUntouched, IsWorldUntouched, StreamReport, call_of, report_of};
+ghost use Rattle.sling_dispatch.specs.InnerServing.{IsScenarioOr, IsSummaryOr, ReplaysSource};
+ghost use Rattle.sling_dispatch.specs.Reports.{IsApart, IsUntouched, report_over, call_over};
 
 use crate::ending::Ending;
 use crate::form::{Form, form_of};
@@ -36,20 +34,14 @@ pub fn run<S: Source, K: Sink, I: Inputs, D: Disk, W: World>(
     outside: &mut Outside<S, K, I, D, W>,
 ) -> u8
     ensures taken { HasTaken (longest_scenario + 1) (S.left outside.old.source) (S.left outside.new.source) }
-    ensures ending { (e : Ending) × (result ≡ ending_status e) × Means (IsDue (call_of (map (λ w. w.now) words.now)
-        (report_of (S.left outside.old.source) (S.left outside.new.source) (S.faults outside.old.source) (S.faults outside.new.source))
-        (report_of (I.contents outside.old.inputs) (I.contents outside.new.inputs) (I.faults outside.old.inputs) (I.faults outside.new.inputs))
-        (disk_report (D.files outside.old.disk) (D.files outside.new.disk) (D.faults outside.old.disk) (D.faults outside.new.disk))
-        (world_report (W.log outside.old.world) (W.log outside.new.world) (W.next_faults outside.old.world) (W.next_faults outside.new.world) (W.send_faults outside.old.world) (W.send_faults outside.new.world)))) e
-        (report_of (K.held outside.old.sink) (K.held outside.new.sink) (K.faults outside.old.sink) (K.faults outside.new.sink)) }
-    ensures apart { (IsServe (map (λ w. w.now) words.now) → ⊥) → IsApart (call_of (map (λ w. w.now) words.now)
-        (report_of (S.left outside.old.source) (S.left outside.new.source) (S.faults outside.old.source) (S.faults outside.new.source))
-        (report_of (I.contents outside.old.inputs) (I.contents outside.new.inputs) (I.faults outside.old.inputs) (I.faults outside.new.inputs))
-        (disk_report (D.files outside.old.disk) (D.files outside.new.disk) (D.faults outside.old.disk) (D.faults outside.new.disk))
-        (world_report (W.log outside.old.world) (W.log outside.new.world) (W.next_faults outside.old.world) (W.next_faults outside.new.world) (W.send_faults outside.old.world) (W.send_faults outside.new.world))) }
+    ensures ending { (e : Ending) × (result ≡ ending_status e) × Means (IsDue (call_over (map (λ w. w.now) words.now)
+        S.left S.faults I.contents I.faults D.files D.faults W.log W.next_faults W.send_faults outside.old outside.new)) e
+        (report_over K.held K.faults outside.old.sink outside.new.sink) }
+    ensures apart { (IsServe (map (λ w. w.now) words.now) → ⊥) → IsApart (call_over (map (λ w. w.now) words.now)
+        S.left S.faults I.contents I.faults D.files D.faults W.log W.next_faults W.send_faults outside.old outside.new) }
     ensures calls { MakesDocrootCalls (D.calls outside.old.disk) (D.calls outside.new.disk) }
     ensures uncalled { (IsServe (map (λ w. w.now) words.now) → ⊥) → D.calls outside.new.disk ≡ D.calls outside.old.disk }
-    ensures source { (IsReplay (map (λ w. w.now) words.now) → ⊥) → IsUntouched (report_of (S.left outside.old.source) (S.left outside.new.source) (S.faults outside.old.source) (S.faults outside.new.source)) }
+    ensures source { (IsReplay (map (λ w. w.now) words.now) → ⊥) → IsUntouched (report_over S.left S.faults outside.old.source outside.new.source) }
 {
     ending(alloc, seeds, words, outside).status()
 }
@@ -61,20 +53,14 @@ fn ending<S: Source, K: Sink, I: Inputs, D: Disk, W: World>(
     outside: &mut Outside<S, K, I, D, W>,
 ) -> Ending
     ensures taken { HasTaken (longest_scenario + 1) (S.left outside.old.source) (S.left outside.new.source) }
-    ensures ending { Means (IsDue (call_of (map (λ w. w.now) words.now)
-        (report_of (S.left outside.old.source) (S.left outside.new.source) (S.faults outside.old.source) (S.faults outside.new.source))
-        (report_of (I.contents outside.old.inputs) (I.contents outside.new.inputs) (I.faults outside.old.inputs) (I.faults outside.new.inputs))
-        (disk_report (D.files outside.old.disk) (D.files outside.new.disk) (D.faults outside.old.disk) (D.faults outside.new.disk))
-        (world_report (W.log outside.old.world) (W.log outside.new.world) (W.next_faults outside.old.world) (W.next_faults outside.new.world) (W.send_faults outside.old.world) (W.send_faults outside.new.world)))) result
-        (report_of (K.held outside.old.sink) (K.held outside.new.sink) (K.faults outside.old.sink) (K.faults outside.new.sink)) }
-    ensures apart { (IsServe (map (λ w. w.now) words.now) → ⊥) → IsApart (call_of (map (λ w. w.now) words.now)
-        (report_of (S.left outside.old.source) (S.left outside.new.source) (S.faults outside.old.source) (S.faults outside.new.source))
-        (report_of (I.contents outside.old.inputs) (I.contents outside.new.inputs) (I.faults outside.old.inputs) (I.faults outside.new.inputs))
-        (disk_report (D.files outside.old.disk) (D.files outside.new.disk) (D.faults outside.old.disk) (D.faults outside.new.disk))
-        (world_report (W.log outside.old.world) (W.log outside.new.world) (W.next_faults outside.old.world) (W.next_faults outside.new.world) (W.send_faults outside.old.world) (W.send_faults outside.new.world))) }
+    ensures ending { Means (IsDue (call_over (map (λ w. w.now) words.now)
+        S.left S.faults I.contents I.faults D.files D.faults W.log W.next_faults W.send_faults outside.old outside.new)) result
+        (report_over K.held K.faults outside.old.sink outside.new.sink) }
+    ensures apart { (IsServe (map (λ w. w.now) words.now) → ⊥) → IsApart (call_over (map (λ w. w.now) words.now)
+        S.left S.faults I.contents I.faults D.files D.faults W.log W.next_faults W.send_faults outside.old outside.new) }
     ensures calls { MakesDocrootCalls (D.calls outside.old.disk) (D.calls outside.new.disk) }
     ensures uncalled { (IsServe (map (λ w. w.now) words.now) → ⊥) → D.calls outside.new.disk ≡ D.calls outside.old.disk }
-    ensures source { (IsReplay (map (λ w. w.now) words.now) → ⊥) → IsUntouched (report_of (S.left outside.old.source) (S.left outside.new.source) (S.faults outside.old.source) (S.faults outside.new.source)) }
+    ensures source { (IsReplay (map (λ w. w.now) words.now) → ⊥) → IsUntouched (report_over S.left S.faults outside.old.source outside.new.source) }
 {
     docroot_calls_add_up();
     let Ok(asked) = form_of(alloc, words) else {
@@ -103,9 +89,7 @@ fn replay_source<S: Source, K: Sink>(
     sink: &mut K,
 ) -> Ending
     ensures taken { HasTaken (longest_scenario + 1) (S.left source.old) (S.left source.new) }
-    ensures ending { (asked : List (List ℕ)) (inputs : StreamReport Files) (disk : DiskReport) (world : WorldReport) → IsReplay asked → IsWorldUntouched world → Means
-        (IsDue (call_of asked (report_of (S.left source.old) (S.left source.new) (S.faults source.old) (S.faults source.new)) inputs disk world))
-        result (report_of (K.held sink.old) (K.held sink.new) (K.faults sink.old) (K.faults sink.new)) }
+    ensures ending { ReplaysSource S.left S.faults K.held K.faults source.old source.new sink.old sink.new result }
 {
     match read_whole(alloc, source, LONGEST_SCENARIO) {
         Ok(text) => replay(alloc, seeds, text, sink),
@@ -116,14 +100,14 @@ fn replay_source<S: Source, K: Sink>(
 
 // Writes the scenario that is made from a number.
 fn write_scenario<K: Sink>(alloc: Global, number: u32, sink: &mut K) -> Ending
-    ensures { Means (IsScenarioOr number) result (report_of (K.held sink.old) (K.held sink.new) (K.faults sink.old) (K.faults sink.new)) }
+    ensures { Means (IsScenarioOr number) result (report_over K.held K.faults sink.old sink.new) }
 {
     say_line(sink, generated(alloc, number), Ending::Done)
 }
 
 // Runs the scenario that is made from a number, and writes the summary of its events.
 fn soak<K: Sink>(alloc: Global, seeds: RandomState, number: u32, sink: &mut K) -> Ending
-    ensures { Means (IsSummaryOr number) result (report_of (K.held sink.old) (K.held sink.new) (K.faults sink.old) (K.faults sink.new)) }
+    ensures { Means (IsSummaryOr number) result (report_over K.held K.faults sink.old sink.new) }
 {
     say_line(sink, summary_of(alloc, seeds, number), Ending::Done)
 }

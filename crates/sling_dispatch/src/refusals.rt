@@ -1,7 +1,7 @@
 //! Says why a content or a farm is refused.
 ghost use Rattle.sling_dispatch.specs.Endings.{Means};
 ghost use Rattle.sling_dispatch.specs.InnerEndings.{IsContentOr, IsFarmOr};
-ghost use Rattle.sling_dispatch.specs.Reports.{report_of};
+ghost use Rattle.sling_dispatch.specs.Reports.{report_over};
 
 use crate::ending::Ending;
 use crate::farms::{FarmRefusal, is_out_of_memory};
@@ -13,7 +13,7 @@ use std::alloc::Global;
 
 // Says why the content is refused.
 pub fn refuse_content<K: Sink>(alloc: Global, fault: &ContentFault, sink: &mut K) -> Ending
-    ensures { Means (IsContentOr fault.now) result (report_of (K.held sink.old) (K.held sink.new) (K.faults sink.old) (K.faults sink.new)) }
+    ensures { Means (IsContentOr fault.now) result (report_over K.held K.faults sink.old sink.new) }
 {
     if is_memory(fault) {
         return Ending::NoMemory;
@@ -23,7 +23,7 @@ pub fn refuse_content<K: Sink>(alloc: Global, fault: &ContentFault, sink: &mut K
 
 // Says why the farm is refused.
 pub fn refuse_farm<K: Sink>(alloc: Global, refusal: &FarmRefusal, sink: &mut K) -> Ending
-    ensures { Means (IsFarmOr refusal.now) result (report_of (K.held sink.old) (K.held sink.new) (K.faults sink.old) (K.faults sink.new)) }
+    ensures { Means (IsFarmOr refusal.now) result (report_over K.held K.faults sink.old sink.new) }
 {
     if is_out_of_memory(refusal) {
         return Ending::NoMemory;

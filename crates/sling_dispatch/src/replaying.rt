@@ -4,7 +4,7 @@ ghost use Rattle.replay_text.specs.Scenario.{ReadsScenario, IsScenario, longest_
 ghost use Rattle.replay_text.specs.Languages.{RefusesWithin};
 ghost use Rattle.sling_dispatch.specs.Endings.{Means};
 ghost use Rattle.sling_dispatch.specs.InnerEndings.{AreActLines, IsDueAt, IsDueIn, PlaysOn};
-ghost use Rattle.sling_dispatch.specs.Reports.{report_of};
+ghost use Rattle.sling_dispatch.specs.Reports.{report_over};
 ghost use Rattle.sling_dispatch.specs.Farms as spec;
 
 use crate::ending::Ending;
@@ -24,7 +24,7 @@ use std::hash::RandomState;
 
 // Runs the scenario that a text spells. The text is given up before the content is read.
 pub fn replay<K: Sink>(alloc: Global, seeds: RandomState, text: Vec<u8>, sink: &mut K) -> Ending
-    ensures { Means (IsDueAt text.items) result (report_of (K.held sink.old) (K.held sink.new) (K.faults sink.old) (K.faults sink.new)) }
+    ensures { Means (IsDueAt text.items) result (report_over K.held K.faults sink.old sink.new) }
 {
     match scenario_of(alloc, text) {
         Ok(scenario) => session(alloc, seeds, scenario, sink),
@@ -46,7 +46,7 @@ fn scenario_of(alloc: Global, text: Vec<u8>) -> Result<Scenario, ScenarioFault>
 // Runs a scenario. The bytes of its content are given up before the run begins.
 fn session<K: Sink>(alloc: Global, seeds: RandomState, scenario: Scenario, sink: &mut K) -> Ending
     requires { AreActLines scenario.acts }
-    ensures { Means (IsDueIn scenario) result (report_of (K.held sink.old) (K.held sink.new) (K.faults sink.old) (K.faults sink.new)) }
+    ensures { Means (IsDueIn scenario) result (report_over K.held K.faults sink.old sink.new) }
 {
     let Scenario {
         content,
@@ -84,7 +84,7 @@ fn run_on<K: Sink>(
     sink: &mut K,
 ) -> Ending
     requires { AreActLines acts.now }
-    ensures { PlaysOn publisher given acts.now result (report_of (K.held sink.old) (K.held sink.new) (K.faults sink.old) (K.faults sink.new)) }
+    ensures { PlaysOn publisher given acts.now result (report_over K.held K.faults sink.old sink.new) }
 {
     match farm_given(alloc, given) {
         Ok(farm) => play(alloc, publisher, farm, acts, sink),

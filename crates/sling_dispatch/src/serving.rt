@@ -1,15 +1,12 @@
 //! Serves a content before a farm, over the document root and the world.
-ghost use Rattle.std.specs.Prelude.{◌≡◌, ◌++◌, ◌∷◌, [], ℕ, List, IfOk, Ok, codes};
+ghost use Rattle.std.specs.Prelude.{◌≡◌, ◌++◌, ◌∷◌, [], ℕ, List, IfOk, codes};
 ghost use Rattle.std.specs.Fmt.{decimal};
-ghost use Rattle.sp_outside.specs.Files.{Files};
-ghost use Rattle.content_json.specs.ContentOf.{content as content_of};
 ghost use Rattle.docroot_changes.specs.DocrootCalls.{MakesDocrootCalls};
-ghost use Rattle.serve_loop.specs.Served.{disk_report, world_report};
+ghost use Rattle.serve_loop.specs.Served.{disk_over, world_over};
 ghost use Rattle.sling_dispatch.specs.Endings.{IsDue, Means};
 ghost use Rattle.sling_dispatch.specs.Forms.{AreServeWords, AsksFor};
-ghost use Rattle.sling_dispatch.specs.InnerServing.{AreReadAs, IsInputOr, IsOfServeEnd, IsOpeningOr};
-ghost use Rattle.sling_dispatch.specs.Reports.{IsUntouched, StreamReport, call_of, report_of};
-ghost use Rattle.sling_dispatch.specs.Serving.{HasInputs};
+ghost use Rattle.sling_dispatch.specs.InnerServing.{IsInputOr, IsOfServeEnd, IsOpeningOr, EndsForContent, EndsForSite, EndsForTexts};
+ghost use Rattle.sling_dispatch.specs.Reports.{IsUntouched, StreamReport, call_of, report_over};
 ghost use Rattle.sling_dispatch.specs.declared.form.Form.TheVariants.{Serve};
 
 use crate::ending::Ending;
@@ -54,10 +51,10 @@ pub fn serve_named<S, K: Sink, I: Inputs, D: Disk, W: World>(
     ensures calls { MakesDocrootCalls (D.calls outside.old.disk) (D.calls outside.new.disk) }
     ensures ending { (asked : List (List ℕ)) (source : StreamReport (List ℕ)) → AsksFor asked (Serve words) → IsUntouched source → Means
         (IsDue (call_of asked source
-        (report_of (I.contents outside.old.inputs) (I.contents outside.new.inputs) (I.faults outside.old.inputs) (I.faults outside.new.inputs))
-        (disk_report (D.files outside.old.disk) (D.files outside.new.disk) (D.faults outside.old.disk) (D.faults outside.new.disk))
-        (world_report (W.log outside.old.world) (W.log outside.new.world) (W.next_faults outside.old.world) (W.next_faults outside.new.world) (W.send_faults outside.old.world) (W.send_faults outside.new.world))))
-        result (report_of (K.held outside.old.sink) (K.held outside.new.sink) (K.faults outside.old.sink) (K.faults outside.new.sink)) }
+        (report_over I.contents I.faults outside.old.inputs outside.new.inputs)
+        (disk_over D.files D.faults outside.old.disk outside.new.disk)
+        (world_over W.log W.next_faults W.send_faults outside.old.world outside.new.world)))
+        result (report_over K.held K.faults outside.old.sink outside.new.sink) }
 {
     docroot_calls_add_up();
     let content = match outside.inputs.whole(alloc, words.content.text()) {
@@ -85,11 +82,7 @@ fn serve_texts<S, K: Sink, I: Inputs, D: Disk, W: World>(
     ensures source { outside.new.source ≡ outside.old.source }
     ensures inputs { outside.new.inputs ≡ outside.old.inputs }
     ensures calls { MakesDocrootCalls (D.calls outside.old.disk) (D.calls outside.new.disk) }
-    ensures ending { (asked : List (List ℕ)) (source : StreamReport (List ℕ)) (inputs : StreamReport Files) → AreReadAs asked source inputs words texts.content texts.any → Means
-        (IsDue (call_of asked source inputs
-        (disk_report (D.files outside.old.disk) (D.files outside.new.disk) (D.faults outside.old.disk) (D.faults outside.new.disk))
-        (world_report (W.log outside.old.world) (W.log outside.new.world) (W.next_faults outside.old.world) (W.next_faults outside.new.world) (W.send_faults outside.old.world) (W.send_faults outside.new.world))))
-        result (report_of (K.held outside.old.sink) (K.held outside.new.sink) (K.faults outside.old.sink) (K.faults outside.new.sink)) }
+    ensures ending { EndsForTexts words texts.content texts.any K.held K.faults D.files D.faults W.log W.next_faults W.send_faults outside.old outside.new result }
 {
     docroot_calls_add_up();
     let Texts { content, any } = texts;
@@ -119,11 +112,7 @@ fn serve_before<S, K: Sink, I: Inputs, D: Disk, W: World>(
     ensures source { outside.new.source ≡ outside.old.source }
     ensures inputs { outside.new.inputs ≡ outside.old.inputs }
     ensures calls { MakesDocrootCalls (D.calls outside.old.disk) (D.calls outside.new.disk) }
-    ensures ending { (asked : List (List ℕ)) (source : StreamReport (List ℕ)) (inputs : StreamReport Files) (content : List ℕ) → content_of content ≡ Ok publisher → AreReadAs asked source inputs words.now content any → Means
-        (IsDue (call_of asked source inputs
-        (disk_report (D.files outside.old.disk) (D.files outside.new.disk) (D.faults outside.old.disk) (D.faults outside.new.disk))
-        (world_report (W.log outside.old.world) (W.log outside.new.world) (W.next_faults outside.old.world) (W.next_faults outside.new.world) (W.send_faults outside.old.world) (W.send_faults outside.new.world))))
-        result (report_of (K.held outside.old.sink) (K.held outside.new.sink) (K.faults outside.old.sink) (K.faults outside.new.sink)) }
+    ensures ending { EndsForContent words.now publisher any K.held K.faults D.files D.faults W.log W.next_faults W.send_faults outside.old outside.new result }
 {
     docroot_calls_add_up();
     let read = farm_in(alloc, any.bytes());
@@ -146,11 +135,7 @@ fn serve_site<S, K: Sink, I: Inputs, D: Disk, W: World>(
     ensures source { outside.new.source ≡ outside.old.source }
     ensures inputs { outside.new.inputs ≡ outside.old.inputs }
     ensures calls { MakesDocrootCalls (D.calls outside.old.disk) (D.calls outside.new.disk) }
-    ensures ending { (asked : List (List ℕ)) (source : StreamReport (List ℕ)) (inputs : StreamReport Files) → HasInputs asked source inputs words.now publisher farm → Means
-        (IsDue (call_of asked source inputs
-        (disk_report (D.files outside.old.disk) (D.files outside.new.disk) (D.faults outside.old.disk) (D.faults outside.new.disk))
-        (world_report (W.log outside.old.world) (W.log outside.new.world) (W.next_faults outside.old.world) (W.next_faults outside.new.world) (W.send_faults outside.old.world) (W.send_faults outside.new.world))))
-        result (report_of (K.held outside.old.sink) (K.held outside.new.sink) (K.faults outside.old.sink) (K.faults outside.new.sink)) }
+    ensures ending { EndsForSite words.now publisher farm K.held K.faults D.files D.faults W.log W.next_faults W.send_faults outside.old outside.new result }
 {
     docroot_calls_add_up();
     events_leave_nothing_due();
@@ -173,7 +158,7 @@ fn serve_site<S, K: Sink, I: Inputs, D: Disk, W: World>(
 
 // Says why an input wasn't read.
 fn refuse_input<K: Sink>(alloc: Global, fault: InputFault, name: &str, sink: &mut K) -> Ending
-    ensures { Means (IsInputOr fault name.now) result (report_of (K.held sink.old) (K.held sink.new) (K.faults sink.old) (K.faults sink.new)) }
+    ensures { Means (IsInputOr fault name.now) result (report_over K.held K.faults sink.old sink.new) }
 {
     match fault {
         InputFault::NoMemory => Ending::NoMemory,
@@ -183,7 +168,7 @@ fn refuse_input<K: Sink>(alloc: Global, fault: InputFault, name: &str, sink: &mu
 
 // Says why no session begins.
 fn refuse_opening<K: Sink>(fault: OpenFault, sink: &mut K) -> Ending
-    ensures { Means (IsOpeningOr fault) result (report_of (K.held sink.old) (K.held sink.new) (K.faults sink.old) (K.faults sink.new)) }
+    ensures { Means (IsOpeningOr fault) result (report_over K.held K.faults sink.old sink.new) }
 {
     match fault {
         OpenFault::Disk => say(sink, b"docroot failed\n", Ending::DocrootFailed),
@@ -195,7 +180,7 @@ fn refuse_opening<K: Sink>(fault: OpenFault, sink: &mut K) -> Ending
 
 // Says how serving ended.
 fn say_end<K: Sink>(alloc: Global, end: ServeEnd, words: &ServeWords, sink: &mut K) -> Ending
-    ensures { Means (IsOfServeEnd end words.now) result (report_of (K.held sink.old) (K.held sink.new) (K.faults sink.old) (K.faults sink.new)) }
+    ensures { Means (IsOfServeEnd end words.now) result (report_over K.held K.faults sink.old sink.new) }
 {
     match end {
         ServeEnd::Turns => say_line(sink, served_line(alloc, words.turns), Ending::Done),

@@ -1,7 +1,7 @@
 //! A scenario's session: a front before the publisher, the disk of its cache, and what was played so far.
 ghost use Rattle.std.specs.Prelude.{◌≡◌, ◌≢◌, ◌+◌, ◌≤◌, ◌<◌, ◌^◌, [], false, IfOk, OnOk, length};
 ghost use Rattle.run_events.specs.States.{start_of};
-ghost use Rattle.sling_dispatch.specs.Fronts.{ExtendsArmed, FrontStandsOver, IsNext, IsNextEvent, MakesNext, SessionStandsFor, lines_of_event};
+ghost use Rattle.sling_dispatch.specs.Fronts.{IsNext, IsNextEvent, MakesNext, SessionStandsFor, lines_of_event, FrontMakesNext};
 ghost use Rattle.sling_dispatch.specs.InnerEndings.{AreActLines};
 ghost use Rattle.sling_dispatch.specs.Runs.{Unarmed, asked_publisher_host, sling_start};
 ghost use Rattle.sling_dispatch.specs.Runs as spec;
@@ -160,7 +160,7 @@ fn step_over(
     disk: &mut ScriptedDisk,
     step: &Step,
 ) -> Mem<NoteList>
-    ensures { IfOk result (λ notes. ExtendsArmed (FrontStandsOver front.old disk.old) (FrontStandsOver front.new disk.new) (arming_of_disk disk.old) (arming_of_disk disk.new) step.now notes) }
+    ensures { IfOk result (FrontMakesNext front.old disk.old front.new disk.new step.now) }
 {
     a_front_stands_whatever_the_count();
     match disk {

@@ -1,8 +1,6 @@
 //! Counts what happens in events, and writes the counts.
-ghost use Rattle.std.specs.Prelude.{◌≡◌, ◌+◌, ◌++◌, ◌∷◌, [], List, IfOk, OnOk};
-ghost use Rattle.std.specs.Fmt.{decimal};
-ghost use Rattle.run_events.specs.Events.{Event, notes_of};
-ghost use Rattle.sling_dispatch.specs.Summaries.{counts, counts_of, counts_text, plus, row};
+ghost use Rattle.std.specs.Prelude.{◌≡◌, ◌+◌, ◌++◌, ◌∷◌, [], IfOk, OnOk};
+ghost use Rattle.sling_dispatch.specs.Summaries.{counts, counts_of, counts_text, plus, row, CountsEvent};
 
 use run_events::Note;
 use sp_base::{Mem, NoMemory};
@@ -63,7 +61,7 @@ impl Counts {
     /// An event came, with these notes.
     pub fn count(&mut self, notes: &[Note]) -> Mem<()>
         ensures added { OnOk result (self.new ≡ plus self.old (counts 1 notes.now)) }
-        ensures counted { OnOk result ((events : List Event) (event : Event) → self.old ≡ counts_of events → notes.now ≡ notes_of event → self.new ≡ counts_of (events ++ event ∷ [])) }
+        ensures counted { OnOk result (CountsEvent notes.now self.old self.new) }
     {
         add(&mut self.events, 1)?;
         for note in notes {

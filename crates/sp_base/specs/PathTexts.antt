@@ -8,7 +8,7 @@ use Rattle.std.specs.declared.cmp.Ordering.TheVariants.{Less, Equal, Greater}
 use Rattle.sp_base.specs.Texts.{Segments}
 use Rattle.sp_base.specs.declared.path.PathFault.{PathFault}
 use Rattle.sp_base.specs.declared.path.PathFault.TheVariants.{EmptySegment, DotSegment}
-use Rattle.sp_base.specs.Paths.{is_empty, is_dots, is_long, has_slash, is_path, pieces, size_fault}
+use Rattle.sp_base.specs.Paths.{is_empty, is_dots, is_long, has_slash, is_path, pieces, size_fault, is_under}
 
 -- a piece that is no segment, whatever stands beside it
 abbrev pub is_unfit : List ℕ → Bool
@@ -54,3 +54,7 @@ ends_segment (b ∷ text) = b == 47
 -- the first text begins with the second, and a segment ends there
 abbrev pub text_under : List ℕ → List ℕ → Bool
 text_under text other = starts_with nat_eq text other && ends_segment (drop (length other) text)
+
+-- whether the first of two such paths is under the second is read off their texts
+abbrev pub SpellingsTell : Segments → Segments → Type 0
+SpellingsTell path other = text_under (spelling_of path) (spelling_of other) ≡ is_under path other

@@ -1,5 +1,5 @@
 -- What a path is, the text that spells it, and what is made of one.
-use Rattle.std.specs.Prelude.{◌==◌, ◌&&◌, ◌||◌, ◌++◌, ◌-◌, ℕ, Bool, not, nat_eq, nat_lt, nat_le, if◌then◌else◌, List, [], ◌∷◌, Option, Some, None, Result, Ok, Err, codes, drop, take, length, flat_map, map, slice_index_or}
+use Rattle.std.specs.Prelude.{◌==◌, ◌&&◌, ◌||◌, ◌++◌, ◌-◌, ℕ, Bool, not, nat_eq, nat_lt, nat_le, if◌then◌else◌, List, [], ◌∷◌, Option, Some, None, Result, Ok, Err, codes, drop, take, length, flat_map, map, slice_index_or, ◌≡◌, ◌≤◌, true, slice_index}
 use Rattle.std.specs.List.{list_any, list_all, position, slice_split, starts_with}
 use Rattle.std.specs.Result.{result_ok}
 use Rattle.std.specs.Cmp.Lexicographic.{pointwise, slice_cmp}
@@ -147,3 +147,19 @@ mangled_segs segs = map mangled_seg segs
 -- the mangled path: a segment of 200 bytes may become too long
 abbrev pub mangled_of : Segments → Result Segments PathFault
 mangled_of segs = path_or_fault (mangled_segs segs)
+
+-- the first `n` bytes of the path's text read as this path
+abbrev pub HasPrefix : Segments → ℕ → Segments → Type 0
+HasPrefix path n read = path_of (take n (text_of path)) ≡ Ok read
+
+-- the path is under the parent of that one
+abbrev pub IsUnderParentOf : Segments → Segments → Type 0
+IsUnderParentOf path read = is_under path (parent_of read) ≡ true
+
+-- where that has no more segments than so many, they are no more bytes than those of as many first segments
+abbrev pub FitsWithin : Segments → ℕ → Segments → ℕ → Type 0
+FitsWithin path n read most = length read ≤ most → n ≤ length (text_of (take most path))
+
+-- a slash follows the first `n` segments
+abbrev pub HasSlashAfter : Segments → ℕ → Type 0
+HasSlashAfter path n = slice_index (text_of path) (length (text_of (take n path))) ≡ 47

@@ -55,3 +55,20 @@ LeftByTouch old new folder stamp fault = IsLeftByFault (Some old) (told_with_sta
 -- each folder with another mangled path than this has the stamp that it had
 abbrev pub KeepsOtherStamps : Files → Files → Segments → Type 0
 KeepsOtherStamps old new folder = (other : Segments) → AllByRecursion AreBytes other → mangled_segs other ≢ mangled_segs folder → stamp_at new other ≡ stamp_at old other
+
+-- the stamp that a folder is given is read back
+abbrev pub IsReadBack : Files → Segments → Stamp → Type 0
+IsReadBack files folder stamp = stamp_at (files_with_stamp files folder stamp) folder ≡ Some stamp
+
+-- bytes that are written as the stamp of a folder keep those of others
+abbrev pub StampsAreApart : Files → Segments → Text → Type 0
+StampsAreApart files folder bytes = KeepsOtherStamps files (with_file files (stat_name folder) bytes) folder
+
+-- the stamp of a folder is as it was
+abbrev pub KeepsStamp : Files → Files → Segments → Type 0
+KeepsStamp old new folder = stamp_at new folder ≡ stamp_at old folder
+
+-- a touch that failed leaves the stamps of other folders as they were
+abbrev pub FailedTouchesKeepOthers : Type 0
+FailedTouchesKeepOthers = (files new : Files) (folder : Segments) (stamp : Stamp) (fault : FileFault) → AllByRecursion AreBytes folder
+    → LeftByTouch files new folder stamp fault → KeepsOtherStamps files new folder

@@ -1,28 +1,25 @@
 //! What follows from the definitions of stamps: laws, on functions that do nothing.
-ghost use Rattle.std.specs.Prelude.{◌≡◌, ◌≢◌, ◌⊎◌, ◌<◌, ◌≤◌, ◌^◌, ℕ, Bool, true, false, not, Some, None};
+ghost use Rattle.std.specs.Prelude.{◌≡◌, ◌≢◌, ◌⊎◌, ◌<◌, ◌^◌, ℕ, true, false, not, Some, None};
 ghost use Rattle.std.specs.FinMap.{empty};
 ghost use Rattle.std.specs.List.{AllByRecursion};
 ghost use Rattle.sp_base.specs.Bytes.{AreBytes};
 ghost use Rattle.sp_base.specs.Texts.{Segments, Text};
 ghost use Rattle.sp_outside.specs.Files.{Files, file_at, with_file, without_file};
-ghost use Rattle.sp_base.specs.Paths.{mangled_segs};
 ghost use Rattle.docroot_format.specs.declared.fault.FileFault.{FileFault};
 ghost use Rattle.docroot_format.specs.declared.fault.FileFault.TheVariants.{Disk as disk_failed};
 ghost use Rattle.docroot_format.specs.Names.{stat_name};
-ghost use Rattle.docroot_format.specs.Readings.{stat_of};
 ghost use Rattle.cover_rules.specs.Coverage.{stat_folder};
-ghost use Rattle.cover_rules.specs.Pages.{IsPageKey};
 ghost use Rattle.cover_rules.specs.declared.page.PageKey.{PageKey};
 ghost use Rattle.cover_rules.specs.declared.stamp.Stamp.{Stamp};
-ghost use Rattle.stat_files.specs.Outdated.{is_older, is_outdated, outdates_page};
-ghost use Rattle.stat_files.specs.Stamps.{IsHeldOrGreatest, IsUpTo, KeepsOtherStamps, LeftByTouch, files_with_stamp, greatest_stamp, stamp_at, stamp_or_greatest};
+ghost use Rattle.stat_files.specs.Outdated.{is_older, is_outdated, outdates_page, ForeignStatsOutdate, MissingStatsOutdateNothing, TouchesElsewhereChangeNothing};
+ghost use Rattle.stat_files.specs.Stamps.{IsHeldOrGreatest, IsUpTo, LeftByTouch, files_with_stamp, greatest_stamp, stamp_at, stamp_or_greatest, IsReadBack, StampsAreApart, KeepsStamp, FailedTouchesKeepOthers};
 
 use docroot_format::{names_are_apart, texts_are_read_back};
 use sp_outside::files_have_names;
 
 /// The stamp of a folder is the one that it was given last.
 pub fn a_stamp_is_read_back()
-    ensures { (files : Files) (folder : Segments) (stamp : Stamp) → stamp.epoch < 2 ^ 64 → stamp.count < 2 ^ 64 → stamp_at (files_with_stamp files folder stamp) folder ≡ Some stamp }
+    ensures { (files : Files) (folder : Segments) (stamp : Stamp) → stamp.epoch < 2 ^ 64 → stamp.count < 2 ^ 64 → IsReadBack files folder stamp }
 {
     files_have_names();
     texts_are_read_back();
@@ -30,9 +27,9 @@ pub fn a_stamp_is_read_back()
 
 /// The stamp of a folder is the same while another file is written or taken away, that of a folder with another mangled path among them.
 pub fn stamps_have_files_of_their_own()
-    ensures touched { (files : Files) (folder : Segments) (bytes : Text) → AllByRecursion AreBytes folder → KeepsOtherStamps files (with_file files (stat_name folder) bytes) folder }
-    ensures written { (files : Files) (folder : Segments) (name bytes : Text) → name ≢ stat_name folder → stamp_at (with_file files name bytes) folder ≡ stamp_at files folder }
-    ensures removed { (files : Files) (folder : Segments) (name : Text) → name ≢ stat_name folder → stamp_at (without_file files name) folder ≡ stamp_at files folder }
+    ensures touched { (files : Files) (folder : Segments) (bytes : Text) → AllByRecursion AreBytes folder → StampsAreApart files folder bytes }
+    ensures written { (files : Files) (folder : Segments) (name bytes : Text) → name ≢ stat_name folder → KeepsStamp files (with_file files name bytes) folder }
+    ensures removed { (files : Files) (folder : Segments) (name : Text) → name ≢ stat_name folder → KeepsStamp files (without_file files name) folder }
 {
     files_have_names();
     names_are_apart();
@@ -69,9 +66,8 @@ pub fn what_outdates_a_page()
     ensures same { (stamp : Stamp) → outdates_page (Some stamp) stamp ≡ true }
     ensures newer { (stat page : Stamp) → is_older page stat ≡ true → outdates_page (Some stat) page ≡ true }
     ensures older { (stat page : Stamp) → is_older stat page ≡ true → outdates_page (Some stat) page ≡ false }
-    ensures foreign { (level : ℕ) (files : Files) (key : PageKey) (bytes : Text) (page : Stamp) → page.epoch < 2 ^ 64 → page.count < 2 ^ 64 → file_at files (stat_name (stat_folder level key)) ≡ Some bytes
-        → stat_of bytes ≡ None → is_outdated level true files key page ≡ true }
-    ensures missing { (level : ℕ) (auto : Bool) (files : Files) (key : PageKey) (page : Stamp) → file_at files (stat_name (stat_folder level key)) ≡ None → is_outdated level auto files key page ≡ false }
+    ensures foreign { ForeignStatsOutdate }
+    ensures missing { MissingStatsOutdateNothing }
 {
     a_foreign_stamp_is_the_greatest();
     stamps_are_in_order();
@@ -82,8 +78,7 @@ pub fn what_outdates_a_page()
 pub fn a_touch_outdates_what_is_not_newer()
     ensures touched { (level : ℕ) (files : Files) (key : PageKey) (stamp page : Stamp) → stamp.epoch < 2 ^ 64 → stamp.count < 2 ^ 64
         → is_outdated level true (files_with_stamp files (stat_folder level key) stamp) key page ≡ not (is_older stamp page) }
-    ensures beside { (level : ℕ) (auto : Bool) (files : Files) (key : PageKey) (folder : Segments) (stamp page : Stamp) → IsPageKey key → AllByRecursion AreBytes folder
-        → mangled_segs folder ≢ mangled_segs (stat_folder level key) → is_outdated level auto (files_with_stamp files folder stamp) key page ≡ is_outdated level auto files key page }
+    ensures beside { TouchesElsewhereChangeNothing }
 {
     a_stamp_is_read_back();
     files_have_names();
@@ -97,8 +92,7 @@ pub fn a_failed_touch_leaves_the_old_stamp_or_the_new()
     ensures stamp { (files new : Files) (folder : Segments) (stamp : Stamp) (fault : FileFault) → stamp.epoch < 2 ^ 64 → stamp.count < 2 ^ 64
         → LeftByTouch files new folder stamp fault
         → (stamp_at new folder ≡ stamp_at files folder) ⊎ (stamp_at new folder ≡ Some stamp) }
-    ensures others { (files new : Files) (folder : Segments) (stamp : Stamp) (fault : FileFault) → AllByRecursion AreBytes folder → LeftByTouch files new folder stamp fault
-        → KeepsOtherStamps files new folder }
+    ensures others { FailedTouchesKeepOthers }
     ensures beside { (files new : Files) (folder : Segments) (stamp : Stamp) (fault : FileFault) (name : Text)
         → LeftByTouch files new folder stamp fault
         → name ≢ stat_name folder → file_at new name ≡ file_at files name }

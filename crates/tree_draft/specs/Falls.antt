@@ -1,5 +1,5 @@
 -- The kids' names of a changed node, of which some have fallen away. Only private functions and proofs cite this.
-use Rattle.std.specs.Prelude.{◌≤◌, ◌+◌, ◌∷◌, [], ℕ, Bool, List, nat_le, if◌then◌else◌}
+use Rattle.std.specs.Prelude.{◌≤◌, ◌+◌, ◌∷◌, [], ℕ, Bool, List, nat_le, if◌then◌else◌, ◌++◌}
 use Rattle.std.specs.Map.{lookup}
 use Rattle.std.specs.Option.{option_map_or}
 use Rattle.std.specs.Str.{bytes_eq}
@@ -16,6 +16,10 @@ fall_of falls name = option_map_or (λ n. n) (lookup (bytes_eq name) falls) 0
 -- whether a name at a place of the list stands: it came after the name's last fall
 abbrev pub stands : NameFalls → ℕ → List ℕ → Bool
 stands falls place name = nat_le (fall_of falls name) place
+
+-- the name after others, where it stands at a place of the list
+abbrev pub with_standing : NameFalls → ℕ → Text → List Text → List Text
+with_standing falls place name names = if stands falls place name then names ++ name ∷ [] else names
 
 -- the names that stand in a list whose first name has the place
 unfoldable pub standing_names : NameFalls → ℕ → List Text → List Text

@@ -4,3 +4,4 @@ pub mod Edits
 pub mod Falls
 pub mod Held
 pub mod Shown
+pub mod Copies

@@ -1,17 +1,17 @@
 // A node that is copied with all below it to another path.
-ghost use Rattle.std.specs.Prelude.{◌≡◌, ◌≢◌, ◌≤◌, ◌+◌, ◌&&◌, ℕ, List, None, Some, OnOk, IfOk, IfErr, is_some, length, not, true, false};
+ghost use Rattle.std.specs.Prelude.{◌≡◌, ◌≢◌, ◌≤◌, ◌+◌, ◌&&◌, ℕ, List, None, Some, OnOk, IfOk, IfErr, is_some, length, true, false};
 ghost use Rattle.std.specs.List.{list_any, IsDistinct};
 ghost use Rattle.std.specs.List.Sorted.{IsStrictlySortedBy};
 ghost use Rattle.std.specs.Map.{keys_of};
 ghost use Rattle.std.specs.Ordering.{eq_by_cmp};
 ghost use Rattle.sp_base.specs.Paths.{is_path, is_under};
-ghost use Rattle.resource_tree.specs.declared.nodes.Node.{Node};
 ghost use Rattle.resource_tree.specs.declared.patch.PatchNode.TheVariants as patch_node;
 ghost use Rattle.resource_tree.specs.Content.{by_path, most_nodes, name_of, node_at, same_path, parent_of};
 ghost use Rattle.resource_tree.specs.Changes.{change_at, with_kid};
-ghost use Rattle.resource_tree.specs.Patches.{patching, entry_at, with_entry};
+ghost use Rattle.resource_tree.specs.Patches.{patching, entry_at};
 ghost use Rattle.resource_tree.specs.Moves.{copy, copy_fault, is_too_deep, part, part_there, path_there, target_fault};
 ghost use Rattle.tree_draft.specs.Drafts.{DraftFollows, IsCounted, IsSound};
+ghost use Rattle.tree_draft.specs.Copies.{PutsCopy, some_are_too_deep};
 
 use crate::Draft;
 use crate::held::HeldEntry;
@@ -141,8 +141,8 @@ pub(crate) fn part_there(
     requires all { (q : List (List ℕ)) → list_any (same_path q) paths.now ≡ (is_some (node_at draft.now.content q) && is_under q source.now) }
     ensures ok { IfOk result (λ part. (q : List (List ℕ)) → entry_at part.entries q ≡ entry_at (part_there draft.now.content source.now target.now) q) }
     ensures once { IfOk result (λ part. IsDistinct (eq_by_cmp by_path) (keys_of part.entries)) }
-    ensures fits { OnOk result (list_any (λ p. not (is_path (path_there source.now target.now p))) paths.now ≡ false) }
-    ensures err { IfErr result (λ e. e ≢ TreeFault.NoMemory → (e ≡ TreeFault.TooDeep) × (list_any (λ p. not (is_path (path_there source.now target.now p))) paths.now ≡ true)) }
+    ensures fits { OnOk result (some_are_too_deep source.now target.now paths.now ≡ false) }
+    ensures err { IfErr result (λ e. e ≢ TreeFault.NoMemory → (e ≡ TreeFault.TooDeep) × (some_are_too_deep source.now target.now paths.now ≡ true)) }
 {
     let mut part = IndexMap::with_hasher(alloc, draft.tree.seeds());
     for path in paths {
@@ -160,7 +160,7 @@ fn put_copy(
     target: &Path,
     path: &Path,
 ) -> Result<(), TreeFault>
-    ensures ok { OnOk result ((node : Node) → node_at draft.now.content path.now ≡ Some node → part.new.entries ≡ with_entry part.old.entries (path_there source.now target.now path.now) (patch_node.Node node)) }
+    ensures ok { OnOk result (PutsCopy draft.now.content path.now (path_there source.now target.now path.now) part.old.entries part.new.entries) }
     ensures once { OnOk result (IsDistinct (eq_by_cmp by_path) (keys_of part.old.entries) → IsDistinct (eq_by_cmp by_path) (keys_of part.new.entries)) }
     ensures fits { OnOk result (is_path (path_there source.now target.now path.now) ≡ true) }
     ensures err { IfErr result (λ e. e ≢ TreeFault.NoMemory → (e ≡ TreeFault.TooDeep) × (is_path (path_there source.now target.now path.now) ≡ false)) }

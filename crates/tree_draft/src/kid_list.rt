@@ -1,5 +1,5 @@
 // The kids' names of a changed node.
-ghost use Rattle.std.specs.Prelude.{◌≡◌, ◌≤◌, ◌++◌, ◌∷◌, [], ℕ, List, IfOk, OnOk, if◌then◌else◌, map, length, insert};
+ghost use Rattle.std.specs.Prelude.{◌≡◌, ◌≤◌, ◌++◌, ◌∷◌, [], ℕ, List, IfOk, OnOk, map, length, insert};
 ghost use Rattle.resource_tree.specs.Kids.{other_kids};
 ghost use Rattle.tree_draft.specs.Falls as spec;
 
@@ -105,7 +105,7 @@ fn push_standing<'a>(
     name: &'a TextBuf,
     lent: &mut Vec<&'a TextBuf>,
 ) -> Mem<()>
-    ensures { OnOk result (map (λ n. n.now) lent.new.items ≡ (if spec.stands falls.now place name.entry.now then map (λ n. n.now) lent.old.items ++ name.entry.now ∷ [] else map (λ n. n.now) lent.old.items)) }
+    ensures { OnOk result (map (λ n. n.now) lent.new.items ≡ spec.with_standing falls.now place name.entry.now (map (λ n. n.now) lent.old.items)) }
 {
     if falls.stands(place, name.text()) {
         lent.push(name)?;

@@ -1,8 +1,8 @@
 -- The chain of a resource's types (Apache Sling, "Servlets and Scripts", "Resource types": resource super types).
-use Rattle.std.specs.Prelude.{ℕ, zero, suc, Bool, false, if◌then◌else◌, List, [], ◌∷◌, ◌++◌, ◌-◌, Option, Some, None, option_and_then, unwrap_or, codes}
+use Rattle.std.specs.Prelude.{ℕ, zero, suc, Bool, false, if◌then◌else◌, List, [], ◌∷◌, ◌++◌, ◌-◌, Option, Some, None, option_and_then, unwrap_or, codes, slice_get, ◌≡◌, ◌+◌, ◌⊎◌}
 use Rattle.std.specs.List.{before_first, list_any}
 use Rattle.std.specs.Option.{option_or}
-use Rattle.sp_base.specs.Texts.{Segments}
+use Rattle.sp_base.specs.Texts.{Segments, Properties, Text}
 use Rattle.sp_base.specs.Properties.{text_in}
 use Rattle.sp_base.specs.declared.value.Value.{Value}
 use Rattle.resource_tree.specs.Content.{Content, node_at}
@@ -78,3 +78,23 @@ own_types tree props own = until_repeat (line_from tree own (super_of tree props
 -- there
 unfoldable pub chain_of : Content → List (List ℕ × Value) → List TypeName
 chain_of tree props = with_default (own_types tree props (type_of (type_text props)))
+
+-- the chain has this type at this place
+abbrev pub HasTypeAt : Content → Properties → ℕ → TypeName → Type 0
+HasTypeAt tree props k type = slice_get (chain_of tree props) k ≡ Some type
+
+-- what comes after this type is its super type, or the default type
+abbrev pub FollowsBySuper : Content → Properties → ℕ → TypeName → TypeName → Type 0
+FollowsBySuper tree props k type next = HasTypeAt tree props (k + 1) next → (super_type tree type ≡ Some next) ⊎ (next ≡ default_type)
+
+-- after the resource's own type comes its super type, where that is another
+abbrev pub FollowsOwn : Content → Properties → TypeName → TypeName → Type 0
+FollowsOwn tree props own next = super_of tree props (Some own) ≡ Some next → same_type own next ≡ false → HasTypeAt tree props 1 next
+
+-- the chain of a resource without a type begins with its super type
+abbrev pub BeginsWithSuper : Content → Properties → TypeName → Type 0
+BeginsWithSuper tree props next = super_of tree props None ≡ Some next → HasTypeAt tree props 0 next
+
+-- where the resource's own text names a super type it is that
+abbrev pub NamesSuper : Content → Properties → Option TypeName → Text → Type 0
+NamesSuper tree props own text = own_super props ≡ Some text → super_of tree props own ≡ type_of text

@@ -1,11 +1,12 @@
 -- The types of a chain before the default type, step by step: which is the first, and which follows each.
-use Rattle.std.specs.Prelude.{◌≡◌, ◌+◌, ℕ, zero, suc, nat_lt, if◌then◌else◌, List, Option, Some, None, slice_get, take}
+use Rattle.std.specs.Prelude.{◌≡◌, ◌+◌, ℕ, zero, suc, nat_lt, if◌then◌else◌, List, Option, Some, None, slice_get, take, false, ◌<◌, ◌≤◌, ◌⊎◌}
 use Rattle.std.specs.Option.{option_or}
 use Rattle.sp_base.specs.declared.value.Value.{Value}
+use Rattle.sp_base.specs.Texts.{Properties}
 use Rattle.resource_tree.specs.Content.{Content}
 use Rattle.type_chain.specs.declared.type_name.TypeName.{TypeName}
-use Rattle.type_chain.specs.Types.{type_of}
-use Rattle.type_chain.specs.Chain.{has_type, most_types, super_of, super_type, type_text}
+use Rattle.type_chain.specs.Types.{type_of, same_type}
+use Rattle.type_chain.specs.Chain.{has_type, most_types, super_of, super_type, type_text, chain_of, default_type}
 
 -- the super type that the type at this place of the chain gives: of the resource's own type it is that of the resource
 abbrev pub super_after : Content → List (List ℕ × Value) → Option TypeName → ℕ → TypeName → Option TypeName
@@ -28,3 +29,15 @@ pub record AreSteps (tree : Content) (props : List (List ℕ × Value)) (own : O
 -- the types of a resource with these properties, without the default type at the end
 abbrev pub AreOwnTypes : Content → List (List ℕ × Value) → List TypeName → Type 0
 AreOwnTypes tree props types = AreSteps tree props (type_of (type_text props)) types
+
+-- a super type follows a type after the first, other than the default type and the last of the most types, unless it came before
+abbrev pub SuperTypesFollow : Type 0
+SuperTypesFollow = (tree : Content) (props : Properties) (k : ℕ) (type next : TypeName) → 0 < k → k + 1 < most_types → slice_get (chain_of tree props) k ≡ Some type
+    → same_type type default_type ≡ false → super_type tree type ≡ Some next → has_type next (take (k + 1) (chain_of tree props)) ≡ false
+    → slice_get (chain_of tree props) (k + 1) ≡ Some next
+
+-- after a type with no super type but one that came before, and after the most types, comes the default type, or nothing
+abbrev pub DefaultTypesEndChains : Type 0
+DefaultTypesEndChains = (tree : Content) (props : Properties) (k : ℕ) (type : TypeName) → 0 < k → slice_get (chain_of tree props) k ≡ Some type
+    → same_type type default_type ≡ false → (unless_there (take (k + 1) (chain_of tree props)) (super_type tree type) ≡ None) ⊎ (most_types ≤ k + 1)
+    → (slice_get (chain_of tree props) (k + 1) ≡ Some default_type) ⊎ (slice_get (chain_of tree props) (k + 1) ≡ None)

@@ -1,10 +1,10 @@
 -- What a tree maps a text to, as one answer. It is the answer of the relation in Turns.antt: a law of the crate says so.
-use Rattle.std.specs.Prelude.{◌+◌, ◌-◌, ℕ, zero, suc, Bool, not, is_none, if◌then◌else◌, List, [], ◌∷◌, Option, Some, None, Result, Ok, Err, drop, filter, find, length, option_and_then, option_map, take}
+use Rattle.std.specs.Prelude.{◌+◌, ◌-◌, ℕ, zero, suc, Bool, not, is_none, if◌then◌else◌, List, [], ◌∷◌, Option, Some, None, Result, Ok, Err, drop, filter, find, length, option_and_then, option_map, take, ◌≡◌, true}
 use Rattle.std.specs.List.{list_all, range_with_len}
 use Rattle.std.specs.Map.{keys_of}
 use Rattle.std.specs.Option.{option_or}
 use Rattle.std.specs.Ordering.{is_lt}
-use Rattle.sp_base.specs.Texts.{Segments}
+use Rattle.sp_base.specs.Texts.{Segments, Text}
 use Rattle.sp_base.specs.Paths.{parent_of, path_of, text_of}
 use Rattle.sp_base.specs.declared.path.PathFault.{PathFault}
 use Rattle.resource_tree.specs.Content.{Content, kid, name_of, node_at}
@@ -15,12 +15,12 @@ use Rattle.url_maps.specs.declared.pairs.Pair.{Pair}
 use Rattle.url_maps.specs.declared.pairs.PairKind.{PairKind}
 use Rattle.url_maps.specs.declared.pairs.PairKind.TheVariants.{Mapping, Alias, VanityPath}
 use Rattle.url_maps.specs.Aliases.{has_alias}
-use Rattle.url_maps.specs.Mappings.{has_match, mapping_of}
+use Rattle.url_maps.specs.Mappings.{has_match, mapping_of, is_redirect}
 use Rattle.url_maps.specs.Patterns.{Asked, asked_for, host_of}
 use Rattle.url_maps.specs.PatternAnswers.{pattern_with}
 use Rattle.url_maps.specs.Pairs.{goes_on_after_prefix}
 use Rattle.url_maps.specs.Search.{is_prefix_end, mapped_path}
-use Rattle.url_maps.specs.Turns.{most_turns, text_after}
+use Rattle.url_maps.specs.Turns.{most_turns, text_after, IsMapped}
 use Rattle.url_maps.specs.VanityPaths.{has_vanity_path, vanity_page, vanity_cmp}
 
 -- ---- the pair of each kind with a prefix
@@ -117,3 +117,11 @@ answer_of tree (suc n) asked text = turn text (answer_of tree n None) (deciding_
 -- what the tree maps the text to, for a host and a port
 unfoldable pub map_answer : Content → List ℕ → ℕ → List ℕ → MapAnswer
 map_answer tree host port text = answer_of tree most_turns (Some (asked_for host port text)) text
+
+-- the answer to which a text is mapped is this
+abbrev pub IsTheAnswer : Content → Text → ℕ → Text → MapAnswer → Type 0
+IsTheAnswer tree host port text answer = IsMapped tree host port text answer → answer ≡ map_answer tree host port text
+
+-- where a text leads away it does so by a status of a redirect
+abbrev pub IsAwayByRedirect : Content → Text → ℕ → Text → Text → ℕ → Type 0
+IsAwayByRedirect tree host port text target status = map_answer tree host port text ≡ Away status target → is_redirect status ≡ true

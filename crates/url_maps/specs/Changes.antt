@@ -12,7 +12,7 @@ use Rattle.resource_tree.specs.Content.{Content, node_at, same_path}
 use Rattle.resource_tree.specs.Patches as patches
 use Rattle.url_maps.specs.PatternRows.{ArePatternsAfter}
 use Rattle.url_maps.specs.declared.patterns.PatternNode.{PatternNode}
-use Rattle.url_maps.specs.Claims.{AreLed, Index, ClaimRows, claimants, claims_vanity_path, first_claimant, node_claims_vanity_path}
+use Rattle.url_maps.specs.Claims.{AreLed, Index, ClaimRows, claimants, claims_vanity_path, first_claimant, node_claims_vanity_path, IsIndexOf}
 
 -- texts whose claimants change, each with those after the change: of an alias the first, of a vanity path all, led by the one that is named; and all nodes
 -- with a pattern after the change, where it may change any
@@ -54,3 +54,8 @@ pub record IsChangeOf (tree : Content) (patch : patches.PatchEntries) (change : 
 -- The index has room for the change.
 abbrev pub HasRoom : Index → Change → Type 0
 HasRoom index change = (length change.aliases ≤ index.aliases.room) × (length change.vanity_paths ≤ index.vanity_paths.room)
+
+-- The change is taken: of each tree, the index of what a patch leaves of it, where this is its change by the patch.
+abbrev pub TakesChange : Change → Index → Index → Type 0
+TakesChange change old new = (tree after : Content) (patch : patches.PatchEntries) → IsIndexOf tree old → IsChangeOf tree patch change
+    → ((path : Segments) → node_at after path ≡ patches.patching_at tree patch path) → IsIndexOf after new

@@ -1,6 +1,6 @@
 -- The nodes that claim a text as their alias or their vanity path, by the text.
 -- `claims_alias`, `AddsClaims` and `ClaimsAreWithin` are needed by private functions, an invariant and proofs alone.
-use Rattle.std.specs.Prelude.{⊤, ◌≡◌, ◌<◌, ◌&&◌, ◌||◌, ◌==◌, [], ◌∷◌, ℕ, Bool, true, false, not, nat_eq, find, List, Option, codes, length, option_map, option_to_list, is_some}
+use Rattle.std.specs.Prelude.{⊤, ◌≡◌, ◌<◌, ◌&&◌, ◌||◌, ◌==◌, [], ◌∷◌, ℕ, Bool, true, false, not, nat_eq, find, List, Option, codes, length, option_map, option_to_list, is_some, ◌++◌, if◌then◌else◌}
 use Rattle.std.specs.Cmp.Lexicographic.{pointwise}
 use Rattle.std.specs.List.{list_any}
 use Rattle.std.specs.Map.{lookup}
@@ -118,3 +118,11 @@ pub record IsIndexOf (tree : Content) (index : Index) : Type 0 where
   pub vanity_paths : AreClaims (claims_vanity_path tree) index.vanity_paths.rows
   pub leaders : AreLed (node_at tree) index.vanity_paths.rows
   pub patterns : ArePatterns (node_at tree) index.patterns
+
+-- the texts that are so are these
+abbrev pub AreTextsThat : (Text → Bool) → List Text → Type 0
+AreTextsThat is_so texts = (t : Text) → list_any (bytes_eq t) texts ≡ is_so t
+
+-- one more path claims the text, the last of them, and those of other texts are as before
+abbrev pub AddsClaimant : Text → Segments → ClaimRows → ClaimRows → Type 0
+AddsClaimant text path old new = (t : Text) → claimants new t ≡ (if bytes_eq text t then claimants old t ++ path ∷ [] else claimants old t)

@@ -1,15 +1,15 @@
 -- For the making of a change alone: how far it has come.
-use Rattle.std.specs.Prelude.{⊤, ◌≡◌, ◌||◌, ◌&&◌, ℕ, Bool, true, false, not, List, Option, Some, None, filter, is_none, is_some}
+use Rattle.std.specs.Prelude.{⊤, ◌≡◌, ◌||◌, ◌&&◌, ℕ, Bool, true, false, not, List, Option, Some, None, filter, is_none, is_some, ◌++◌, cond, option_to_list}
 use Rattle.std.specs.List.{list_any}
 use Rattle.std.specs.Map.{lookup}
 use Rattle.std.specs.Option.{option_map_or}
 use Rattle.std.specs.Str.{bytes_eq}
-use Rattle.sp_base.specs.Texts.{Segments}
+use Rattle.sp_base.specs.Texts.{Segments, Text}
 use Rattle.resource_tree.specs.declared.nodes.Node.{Node}
 use Rattle.resource_tree.specs.declared.patch.PatchNode.{PatchNode}
-use Rattle.resource_tree.specs.Content.{same_path}
+use Rattle.resource_tree.specs.Content.{same_path, Content}
 use Rattle.resource_tree.specs.Patches as patches
-use Rattle.url_maps.specs.Claims.{ClaimRows, IsLeader, IsLed, claimants, node_claims_vanity_path}
+use Rattle.url_maps.specs.Claims.{ClaimRows, IsLeader, IsLed, claimants, node_claims_vanity_path, Index, claims_vanity_path}
 
 -- those of some paths at which a patch has nothing
 abbrev pub untouched_paths : patches.PatchEntries → List Segments → List Segments
@@ -67,3 +67,19 @@ LeadsRow at (Some old) (Some new) = PutsLeaderFirst at old new
 -- The same of each row.
 abbrev pub LeadsRows : (Segments → Option Node) → ClaimRows → ClaimRows → Type 0
 LeadsRows at old new = (text : List ℕ) → LeadsRow at (lookup (bytes_eq text) old) (lookup (bytes_eq text) new)
+
+-- the vanity paths that an entry of a patch changes are noted
+abbrev pub NotesVanityPaths : Index → Content → patches.PatchEntries → Segments → PatchNode → ClaimRows → ClaimRows → Type 0
+NotesVanityPaths index tree patch path row old new = NotesEntry index.vanity_paths.rows patch path (claims_vanity_path tree path) (left_vanity_path path row) old new
+
+-- the text is among these
+abbrev pub is_one_of : List Text → Text → Bool
+is_one_of texts t = list_any (bytes_eq t) texts
+
+-- the paths of this text are these, and those of others are as before
+abbrev pub PutsRow : Text → List Segments → ClaimRows → ClaimRows → Type 0
+PutsRow text paths old new = (t : Text) → lookup (bytes_eq t) new ≡ cond (bytes_eq text t) (Some paths) (lookup (bytes_eq t) old)
+
+-- the path, if there is one, is noted as the last that claims this text so far
+abbrev pub NotesRow : ClaimRows → patches.PatchEntries → Text → Option Segments → ClaimRows → ClaimRows → Type 0
+NotesRow rows patch text path old new = PutsRow text (claimants_so_far rows patch old text ++ option_to_list path) old new

@@ -1,7 +1,7 @@
 -- The pairs of a prefix and a target that a tree has, which of them apply to a text, and which one decides (Apache Sling, "Mappings for
 -- resource resolution"; the order of kinds at a tie is this project's own).
 use Rattle.std.specs.Prelude.{◌≡◌, ◌≤◌, ◌<◌, ◌⊎◌, ◌||◌, ◌==◌, ℕ, Bool, true, List, [], ◌∷◌, Option, Some, None, drop, length, take}
-use Rattle.sp_base.specs.Texts.{Segments}
+use Rattle.sp_base.specs.Texts.{Segments, Text}
 use Rattle.sp_base.specs.Paths.{text_of}
 use Rattle.resource_tree.specs.Content.{Content}
 use Rattle.url_maps.specs.declared.pairs.Pair.{Pair}
@@ -76,3 +76,7 @@ pub record Decides (tree : Content) (asked : Option Asked) (text : List ℕ) (at
 -- no pair applies to a text
 abbrev pub HasNoPair : Content → Option Asked → List ℕ → Type 0
 HasNoPair tree asked text = (k : ℕ) (pair : Pair) → Applies tree asked text k pair → ⊥
+
+-- where a pair decides a turn no other does
+abbrev pub DecidesAlone : Content → Option Asked → Text → ℕ → Pair → ℕ → Pair → Type 0
+DecidesAlone tree asked text at pair k other = Decides tree asked text at pair → Decides tree asked text k other → (at ≡ k) × (pair ≡ other)

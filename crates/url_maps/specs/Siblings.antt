@@ -8,7 +8,7 @@ use Rattle.resource_tree.specs.declared.nodes.Node.{Node}
 use Rattle.resource_tree.specs.declared.patch.PatchNode.{PatchNode}
 use Rattle.resource_tree.specs.Content.{Content, kid, node_at, prop_at, same_path}
 use Rattle.resource_tree.specs.Patches as patches
-use Rattle.url_maps.specs.Claims.{ClaimRows, claimants, first_claimant}
+use Rattle.url_maps.specs.Claims.{ClaimRows, claimants, first_claimant, claims_by}
 use Rattle.url_maps.specs.Noting.{has_row}
 use Rattle.sp_base.specs.Properties.{value_texts}
 
@@ -90,3 +90,7 @@ IsWithin old new = (path : Segments) → list_any (same_path path) old ≡ true 
 -- where a node isn't among the parents, its kids that claim a text are the same before a patch and after it
 abbrev pub KeepsOthers : Content → patches.PatchEntries → List Segments → Type 0
 KeepsOthers tree patch parents = (parent : Segments) (text : List ℕ) → list_any (same_path parent) parents ≡ false → first_claimant (node_at tree) parent text ≡ first_claimant (patches.patching_at tree patch) parent text
+
+-- the texts that the node at this path claims after a patch are put, by its path where it is named
+abbrev pub PutsKid : Content → patches.PatchEntries → Segments → Bool → ClaimRows → ClaimRows → Type 0
+PutsKid tree patch path names old new = PutsRows (path_if names path) (claims_by (patches.patching_at tree patch) path) old new

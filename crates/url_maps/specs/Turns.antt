@@ -9,6 +9,7 @@ use Rattle.url_maps.specs.declared.pairs.PairKind.{PairKind}
 use Rattle.url_maps.specs.declared.pairs.PairKind.TheVariants.{Mapping, Pattern, Alias, VanityPath}
 use Rattle.url_maps.specs.Patterns.{Asked, asked_for}
 use Rattle.url_maps.specs.Pairs.{Decides, HasNoPair}
+use Rattle.sp_base.specs.Texts.{Text}
 
 -- what follows the target: what followed the prefix, after a vanity path's target at least `.html`
 abbrev pub target_ending : PairKind → List ℕ → List ℕ
@@ -47,3 +48,11 @@ most_turns = 16
 -- The tree maps the text to the answer, for a host and a port: mappings count in the first turn alone.
 unfoldable pub IsMapped : Content → List ℕ → ℕ → List ℕ → MapAnswer → Type 0
 IsMapped tree host port text answer = Turns tree most_turns (Some (asked_for host port text)) text answer
+
+-- a text to which no pair applies is mapped to itself
+abbrev pub IsMappedToItself : Content → Text → ℕ → Text → Type 0
+IsMappedToItself tree host port text = HasNoPair tree (Some (asked_for host port text)) text → IsMapped tree host port text (Inside text)
+
+-- answers to which a text is mapped are one
+abbrev pub AreOneAnswer : Content → Text → ℕ → Text → MapAnswer → MapAnswer → Type 0
+AreOneAnswer tree host port text answer other = IsMapped tree host port text answer → IsMapped tree host port text other → answer ≡ other

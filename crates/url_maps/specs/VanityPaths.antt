@@ -1,10 +1,10 @@
 -- The vanity paths of a tree (Apache Sling, "Mappings for resource resolution", sling:vanityPath).
-use Rattle.std.specs.Prelude.{◌≡◌, ◌==◌, ◌⊎◌, ℕ, ℤ, pos, Bool, true, nat_eq, if◌then◌else◌, List, ◌∷◌, Option, None, Ok, codes, slice_index, unwrap_or, option_and_then}
+use Rattle.std.specs.Prelude.{◌≡◌, ◌==◌, ◌⊎◌, ℕ, ℤ, pos, Bool, true, nat_eq, if◌then◌else◌, List, ◌∷◌, Option, None, Ok, codes, slice_index, unwrap_or, option_and_then, ◌≢◌}
 use Rattle.std.specs.Cmp.Lexicographic.{pointwise}
 use Rattle.std.specs.Ordering.{int_cmp, ordering_then}
 use Rattle.std.specs.declared.cmp.Ordering.{Ordering}
-use Rattle.std.specs.declared.cmp.Ordering.TheVariants.{Less}
-use Rattle.sp_base.specs.Texts.{Segments}
+use Rattle.std.specs.declared.cmp.Ordering.TheVariants.{Less, Greater}
+use Rattle.sp_base.specs.Texts.{Segments, Text}
 use Rattle.sp_base.specs.Names.{by_name}
 use Rattle.sp_base.specs.Paths.{parent_of, path_of, text_of}
 use Rattle.resource_tree.specs.declared.nodes.Node.{Node}
@@ -43,3 +43,13 @@ pub record IsVanityPath (tree : Content) (text : List ℕ) (path : Segments) : T
 -- the page that a node with a vanity path stands for: its parent, where the node is the page's content
 abbrev pub vanity_page : Segments → Segments
 vanity_page path = if pointwise nat_eq (name_of path) (codes "jcr:content") then parent_of path else path
+
+-- of several nodes with one vanity path one with the greatest order is named
+abbrev pub GreatestOrdersAreNamed : Type 0
+GreatestOrdersAreNamed = (tree : Content) (text : Text) (path other : Segments) → IsVanityPath tree text path → has_vanity_path tree other text ≡ true
+    → int_cmp (vanity_order tree other) (vanity_order tree path) ≢ Greater
+
+-- of those with that order the one whose path's text is least is named
+abbrev pub LeastPathsAreNamed : Type 0
+LeastPathsAreNamed = (tree : Content) (text : Text) (path other : Segments) → IsVanityPath tree text path → has_vanity_path tree other text ≡ true
+    → vanity_order tree other ≡ vanity_order tree path → (other ≡ path) ⊎ (by_name (text_of path) (text_of other) ≡ Less)

@@ -1,10 +1,8 @@
 // The change of an index by a patch of the tree.
-ghost use Rattle.std.specs.Prelude.{◌≡◌, ℕ, List, IfOk, OnOk};
-ghost use Rattle.resource_tree.specs.Content.{Content, node_at};
-ghost use Rattle.resource_tree.specs.Patches.{PatchEntries, patching_at};
+ghost use Rattle.std.specs.Prelude.{IfOk, OnOk};
 ghost use Rattle.url_maps.specs.Claims.{IsIndexOf, claims_vanity_path};
-ghost use Rattle.url_maps.specs.Changes.{AreChanged, HasRoom, IsChangeOf, LeavesOthers, patched_vanity_path};
-ghost use Rattle.url_maps.specs.Noting.{NotesEntry, left_vanity_path};
+ghost use Rattle.url_maps.specs.Changes.{AreChanged, HasRoom, IsChangeOf, LeavesOthers, patched_vanity_path, TakesChange};
+ghost use Rattle.url_maps.specs.Noting.{NotesVanityPaths};
 
 use crate::MapIndex;
 use crate::claimed::vanity_texts;
@@ -54,7 +52,7 @@ impl MapIndex {
     /// Changes the index, with no memory.
     pub fn take(&mut self, change: IndexChange)
         requires { HasRoom self.old change }
-        ensures { (tree after : Content) (patch : PatchEntries) → IsIndexOf tree self.old → IsChangeOf tree patch change → ((path : List (List ℕ)) → node_at after path ≡ patching_at tree patch path) → IsIndexOf after self.new }
+        ensures { TakesChange change self.old self.new }
     {
         let IndexChange {
             aliases,
@@ -104,7 +102,7 @@ fn note_row(
     path: &Path,
     row: &PatchNode,
 ) -> Mem<()>
-    ensures { OnOk result (NotesEntry index.now.vanity_paths.rows patch.now path.now (claims_vanity_path tree.now path.now) (left_vanity_path path.now row.now) change.old change.new) }
+    ensures { OnOk result (NotesVanityPaths index.now tree.now patch.now path.now row.now change.old change.new) }
 {
     let old = tree.node(path);
     let new = left_by(row);

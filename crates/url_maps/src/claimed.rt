@@ -4,7 +4,7 @@ ghost use Rattle.std.specs.List.{list_any};
 ghost use Rattle.std.specs.Option.{option_map_or};
 ghost use Rattle.std.specs.Str.{bytes_eq};
 ghost use Rattle.sp_base.specs.Paths.{path_in};
-ghost use Rattle.url_maps.specs.Claims.{node_claims_alias, node_claims_vanity_path, spells_alias, spells_vanity_path};
+ghost use Rattle.url_maps.specs.Claims.{node_claims_alias, node_claims_vanity_path, spells_alias, spells_vanity_path, AreTextsThat};
 ghost use Rattle.url_maps.specs.VanityPaths.{with_slash};
 
 use resource_tree::Node;
@@ -13,7 +13,7 @@ use std::alloc::Global;
 
 // The texts that a node at a path claims as its aliases, none where no node is.
 pub(crate) fn alias_texts(alloc: Global, path: &Path, node: Option<&Node>) -> Mem<TextList>
-    ensures { IfOk result (λ claimed. (t : List ℕ) → list_any (bytes_eq t) claimed ≡ option_map_or (λ n. node_claims_alias path.now n t) (option_copied node.entry) false) }
+    ensures { IfOk result (AreTextsThat (λ t. option_map_or (λ n. node_claims_alias path.now n t) (option_copied node.entry) false)) }
 {
     match node {
         Some(node) => aliases_of(alloc, path, node),
@@ -53,7 +53,7 @@ fn push_alias(claimed: &mut TextList, alloc: Global, path: &Path, alias: &str) -
 
 // The texts that a node claims as its vanity paths, none where no node is.
 pub(crate) fn vanity_texts(alloc: Global, node: Option<&Node>) -> Mem<TextList>
-    ensures { IfOk result (λ claimed. (t : List ℕ) → list_any (bytes_eq t) claimed ≡ option_map_or (λ n. node_claims_vanity_path n t) (option_copied node.entry) false) }
+    ensures { IfOk result (AreTextsThat (λ t. option_map_or (λ n. node_claims_vanity_path n t) (option_copied node.entry) false)) }
 {
     match node {
         Some(node) => vanity_paths_of(alloc, node),

@@ -1,10 +1,10 @@
 // The table of the nodes that claim a text, by the text.
-ghost use Rattle.std.specs.Prelude.{◌≡◌, ◌≤◌, ◌<◌, ◌+◌, ◌++◌, ◌∷◌, [], ℕ, List, IfOk, OnOk, if◌then◌else◌, length, string_bytes, true};
+ghost use Rattle.std.specs.Prelude.{◌≡◌, ◌≤◌, ◌<◌, ◌+◌, [], ℕ, List, IfOk, OnOk, if◌then◌else◌, length, string_bytes, true};
 ghost use Rattle.std.specs.List.{list_any};
 ghost use Rattle.std.specs.Str.{bytes_eq};
 ghost use Rattle.resource_tree.specs.Content.{same_path};
 ghost use Rattle.resource_tree.specs.Patches.{patching_at};
-ghost use Rattle.url_maps.specs.Claims.{AddsClaims, claimants};
+ghost use Rattle.url_maps.specs.Claims.{AddsClaims, claimants, AddsClaimant};
 ghost use Rattle.url_maps.specs.Changes.{claimants_over};
 ghost use Rattle.url_maps.specs.Noting.{PutsLeaderFirst};
 ghost use Rattle.url_maps.specs.Siblings.{HasParent, IsWithin};
@@ -60,7 +60,7 @@ impl Claims {
     }
 
     pub(crate) fn add(&mut self, alloc: Global, text: &str, path: Path) -> Mem<()>
-        ensures { OnOk result ((t : List ℕ) → claimants self.new.rows t ≡ (if bytes_eq text.now t then claimants self.old.rows t ++ path ∷ [] else claimants self.old.rows t)) }
+        ensures { OnOk result (AddsClaimant text.now path self.old.rows self.new.rows) }
     {
         let mut paths = self.take(alloc, text);
         paths.push(path)?;

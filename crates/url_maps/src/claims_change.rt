@@ -5,7 +5,7 @@ ghost use Rattle.std.specs.Map.{lookup};
 ghost use Rattle.std.specs.Str.{bytes_eq};
 ghost use Rattle.resource_tree.specs.Patches.{patching_at};
 ghost use Rattle.url_maps.specs.Claims.{claimants};
-ghost use Rattle.url_maps.specs.Noting.{LeadsRows, Notes, NotesEntry, has_row, is_at_some, untouched_paths, claimants_so_far};
+ghost use Rattle.url_maps.specs.Noting.{LeadsRows, Notes, NotesEntry, has_row, is_at_some, untouched_paths, claimants_so_far, NotesRow, PutsRow, is_one_of};
 ghost use Rattle.url_maps.specs.Siblings.{PutsRows, or_else};
 
 use crate::claims::Claims;
@@ -57,7 +57,7 @@ impl ClaimsChange {
         before: &TextList,
         after: &TextList,
     ) -> Mem<()>
-        ensures { OnOk result (NotesEntry claims.now.rows patch.now path.now (λ t. list_any (bytes_eq t) before.now) (λ t. list_any (bytes_eq t) after.now) self.old self.new) }
+        ensures { OnOk result (NotesEntry claims.now.rows patch.now path.now (is_one_of before.now) (is_one_of after.now) self.old self.new) }
     {
         self.note_all(alloc, claims, patch, before.as_slice(), None)?;
         self.note_all(alloc, claims, patch, after.as_slice(), Some(path))?;
@@ -89,7 +89,7 @@ impl ClaimsChange {
         text: &str,
         path: Option<&Path>,
     ) -> Mem<()>
-        ensures { OnOk result ((t : List ℕ) → lookup (bytes_eq t) self.new ≡ cond (bytes_eq text.now t) (Some (claimants_so_far claims.now.rows patch.now self.old text.now ++ option_to_list (option_copied path.entry))) (lookup (bytes_eq t) self.old)) }
+        ensures { OnOk result (NotesRow claims.now.rows patch.now text.now (option_copied path.entry) self.old self.new) }
     {
         let mut paths = self.take_noted(alloc, claims, patch, text)?;
         push_some(&mut paths, alloc, path)?;
@@ -149,7 +149,7 @@ impl ClaimsChange {
     }
 
     fn put(&mut self, alloc: Global, text: &str, path: Option<&Path>) -> Mem<()>
-        ensures { OnOk result ((t : List ℕ) → lookup (bytes_eq t) self.new ≡ cond (bytes_eq text.now t) (Some (or_else (claimants self.old text.now) (option_to_list (option_copied path.entry)))) (lookup (bytes_eq t) self.old)) }
+        ensures { OnOk result (PutsRow text.now (or_else (claimants self.old text.now) (option_to_list (option_copied path.entry))) self.old self.new) }
     {
         let mut paths = self.take_paths(alloc, text);
         push_first(&mut paths, alloc, path)?;

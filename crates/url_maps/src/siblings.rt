@@ -2,9 +2,9 @@
 ghost use Rattle.std.specs.Prelude.{◌≡◌, IfOk, OnOk, option_copied};
 ghost use Rattle.resource_tree.specs.Content.{kid, node_at};
 ghost use Rattle.resource_tree.specs.Patches.{patching_at};
-ghost use Rattle.url_maps.specs.Claims.{AreClaims, NamesFirst, claims_alias, claims_by};
+ghost use Rattle.url_maps.specs.Claims.{AreClaims, NamesFirst, claims_alias};
 ghost use Rattle.url_maps.specs.Changes.{LeadsOn};
-ghost use Rattle.url_maps.specs.Siblings.{PutsFamilies, PutsKids, PutsRows, path_if};
+ghost use Rattle.url_maps.specs.Siblings.{PutsFamilies, PutsKids, path_if, PutsKid};
 
 use crate::claimed::alias_texts;
 use crate::claims::Claims;
@@ -101,7 +101,7 @@ fn put_kid(
     name: &str,
     names: bool,
 ) -> Mem<()>
-    ensures { OnOk result (PutsRows (path_if names (kid parent.now name.now)) (claims_by (patching_at tree.now patch.now) (kid parent.now name.now)) change.old change.new) }
+    ensures { OnOk result (PutsKid tree.now patch.now (kid parent.now name.now) names change.old change.new) }
 {
     let Some(path) = parent.child_or_none(alloc, name)? else {
         return Ok(());

@@ -1,10 +1,7 @@
 //! What a decomposition is: laws of the definitions, on functions that do nothing.
-ghost use Rattle.std.specs.Prelude.{◌≡◌, ◌⊎◌, ◌&&◌, ◌++◌, ◌∷◌, [], ℕ, Bool, List, Some, IsTrue, IfSome, IfNone};
-ghost use Rattle.std.specs.List.{list_all};
-ghost use Rattle.sp_base.specs.Bytes.{is_full};
-ghost use Rattle.sp_base.specs.Paths.{text_of};
+ghost use Rattle.std.specs.Prelude.{◌≡◌, ℕ, Bool, List, Some, IsTrue, IfSome, IfNone};
 ghost use Rattle.url_split.specs.Split.{IsLost, IsSplit, split_of};
-ghost use Rattle.url_split.specs.Spelling.{SpellsParts, is_word};
+ghost use Rattle.url_split.specs.Spelling.{is_word, GivesBack, AreSelectors, IsSuffix};
 ghost use Rattle.url_split.specs.declared.decompose.Parts.{Parts};
 
 use sp_base::a_path_and_its_text;
@@ -21,10 +18,10 @@ pub fn the_split_is_the_longest()
 /// extension with a dot before each, and the suffix. No selector is empty, none has a dot or a slash, and nor has the extension; a
 /// suffix begins with a slash.
 pub fn the_parts_give_the_text_back()
-    ensures text { (known : List (List ℕ) → Bool) (text : List ℕ) (parts : Parts) → IsSplit known text parts → (rest : List ℕ) × (text ≡ text_of parts.path ++ rest) × SpellsParts rest parts }
-    ensures selectors { (known : List (List ℕ) → Bool) (text : List ℕ) (parts : Parts) → IsSplit known text parts → IsTrue (list_all (λ piece. is_full piece && is_word piece) parts.selectors) }
+    ensures text { (known : List (List ℕ) → Bool) (text : List ℕ) (parts : Parts) → IsSplit known text parts → GivesBack text parts }
+    ensures selectors { (known : List (List ℕ) → Bool) (text : List ℕ) (parts : Parts) → IsSplit known text parts → AreSelectors parts.selectors }
     ensures extension { (known : List (List ℕ) → Bool) (text : List ℕ) (parts : Parts) → IsSplit known text parts → IsTrue (is_word parts.extension) }
-    ensures suffix { (known : List (List ℕ) → Bool) (text : List ℕ) (parts : Parts) → IsSplit known text parts → (parts.suffix ≡ []) ⊎ ((more : List ℕ) × (parts.suffix ≡ 47 ∷ more)) }
+    ensures suffix { (known : List (List ℕ) → Bool) (text : List ℕ) (parts : Parts) → IsSplit known text parts → IsSuffix parts.suffix }
 {
     a_path_and_its_text()
 }

@@ -12,3 +12,4 @@ pub mod Pieces
 pub mod Sheets
 pub mod Places
 pub mod WrittenLaws
+pub mod FaultTexts

@@ -3,3 +3,4 @@ pub mod Read
 pub mod Farms
 pub mod Grammar
 pub mod Faults
+pub mod FaultTexts

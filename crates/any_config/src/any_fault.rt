@@ -1,9 +1,11 @@
 //! Why bytes are no `dispatcher.any` file.
-ghost use Rattle.std.specs.Prelude.{◌≡◌};
+ghost use Rattle.std.specs.Prelude.{◌≡◌, Some};
+ghost use Rattle.any_config.specs.FaultTexts.{file_fault_text};
 ghost use Rattle.any_config.specs.declared.any_fault.AnyFault.TheVariants.{NoMemory as no_memory};
 
 use sp_base::NoMemory;
 use std::alloc::{AllocError, AllocFailed};
+use std::fmt;
 
 /// Why bytes are no `dispatcher.any` file. Places are counted in bytes from 0.
 #[derive(Clone, Copy, PartialEq, Eq, Drop)]
@@ -17,6 +19,20 @@ pub enum AnyFault {
     /// Here opens a group that nothing closes.
     Unclosed(usize),
     NoMemory,
+}
+
+impl fmt::Display for AnyFault {
+    ghost output = { λ fault. Some (file_fault_text fault) };
+
+    fn fmt<W: fmt::Write>(&self, f: &mut fmt::Formatter<W>) -> fmt::Result {
+        match self {
+            AnyFault::BadName(at) => write!(f, "BadName at {at}"),
+            AnyFault::BadQuote(at) => write!(f, "BadQuote at {at}"),
+            AnyFault::TooDeep(at) => write!(f, "TooDeep at {at}"),
+            AnyFault::Unclosed(at) => write!(f, "Unclosed at {at}"),
+            AnyFault::NoMemory => Ok(()),
+        }
+    }
 }
 
 impl From<NoMemory> for AnyFault {

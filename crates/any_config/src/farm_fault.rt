@@ -1,9 +1,11 @@
 //! Why a file has no farm that can be used.
-ghost use Rattle.std.specs.Prelude.{◌≡◌};
+ghost use Rattle.std.specs.Prelude.{◌≡◌, Some};
+ghost use Rattle.any_config.specs.FaultTexts.{farm_fault_text};
 ghost use Rattle.any_config.specs.declared.farm_fault.FarmFault.TheVariants.{NoMemory as no_memory};
 
 use sp_base::{NoMemory, TextBuf};
 use std::alloc::{AllocError, AllocFailed};
+use std::fmt;
 
 /// Why a file has no farm that can be used. Each names the member that it is about; where that has no name, the group in which it
 /// stands.
@@ -16,6 +18,19 @@ pub enum FarmFault {
     /// It asks for what isn't built: a second farm, or a text in single quotes that no member of the filter has.
     NotSupported(TextBuf),
     NoMemory,
+}
+
+impl fmt::Display for FarmFault {
+    ghost output = { λ fault. Some (farm_fault_text fault) };
+
+    fn fmt<W: fmt::Write>(&self, f: &mut fmt::Formatter<W>) -> fmt::Result {
+        match self {
+            FarmFault::Missing(member) => write!(f, "Missing {}", member.text()),
+            FarmFault::BadKind(member) => write!(f, "BadKind {}", member.text()),
+            FarmFault::NotSupported(member) => write!(f, "NotSupported {}", member.text()),
+            FarmFault::NoMemory => Ok(()),
+        }
+    }
 }
 
 impl From<NoMemory> for FarmFault {

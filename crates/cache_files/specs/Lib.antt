@@ -2,3 +2,4 @@ pub mod Epochs
 pub mod Pages
 pub mod HeldStamps
 pub mod Changes
+pub mod FaultTexts

@@ -1,5 +1,6 @@
 //! The number of a session, by which stamps of different sessions are told apart.
-ghost use Rattle.std.specs.Prelude.{◌≡◌, ◌≢◌, Ok, Err, IfOk, IfErr, IfSome};
+ghost use Rattle.std.specs.Prelude.{◌≡◌, ◌≢◌, Ok, Err, IfOk, IfErr, IfSome, Some};
+ghost use Rattle.cache_files.specs.FaultTexts.{open_fault_text};
 ghost use Rattle.sp_outside.specs.Calls.{told_calls};
 ghost use Rattle.cache_files.specs.Epochs.{epoch_after, next_epoch, open_calls, open_fault, told_with_epoch, HasOpenCause, IsOpenLeft};
 ghost use Rattle.cache_files.specs.declared.epoch.OpenFault.TheVariants.{NoMemory as no_memory};
@@ -8,6 +9,7 @@ use docroot_format::{EPOCH_NAME, epoch_in, epoch_text};
 use sp_base::{ByteBuf, NoMemory};
 use sp_outside::{Disk, DiskFault};
 use std::alloc::Global;
+use std::fmt;
 
 /// Why no session begins.
 #[derive(Clone, Copy, PartialEq, Eq, Debug, Drop)]
@@ -19,6 +21,19 @@ pub enum OpenFault {
     /// The file holds the greatest number.
     EpochEnd,
     NoMemory,
+}
+
+impl fmt::Display for OpenFault {
+    ghost output = { λ fault. Some (open_fault_text fault) };
+
+    fn fmt<W: fmt::Write>(&self, f: &mut fmt::Formatter<W>) -> fmt::Result {
+        match self {
+            OpenFault::Disk => f.write_str("docroot failed"),
+            OpenFault::Foreign => f.write_str("docroot foreign"),
+            OpenFault::EpochEnd => f.write_str("epoch at its end"),
+            OpenFault::NoMemory => f.write_str("Out of memory"),
+        }
+    }
 }
 
 impl From<NoMemory> for OpenFault {

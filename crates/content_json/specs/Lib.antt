@@ -9,3 +9,4 @@ pub mod Written
 pub mod Steps
 pub mod OpenProps
 pub mod FromTokens
+pub mod FaultTexts

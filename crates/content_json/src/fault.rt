@@ -1,6 +1,10 @@
 // Why content is refused.
+ghost use Rattle.std.specs.Prelude.{Some};
+ghost use Rattle.content_json.specs.FaultTexts.{fault_text};
+
 use sp_base::{NoMemory, Path};
 use std::alloc::AllocError;
+use std::fmt;
 
 /// Why bytes are no content. A path of more than 64 segments is cut to its first 64.
 #[derive(Drop)]
@@ -22,6 +26,23 @@ pub enum ContentFault {
     /// There are more than 200,000 nodes, or one below 64 levels.
     TooBig,
     NoMemory,
+}
+
+impl fmt::Display for ContentFault {
+    ghost output = { λ fault. Some (fault_text fault) };
+
+    fn fmt<W: fmt::Write>(&self, f: &mut fmt::Formatter<W>) -> fmt::Result {
+        match self {
+            ContentFault::NotJson => f.write_str("NotJson"),
+            ContentFault::NotObject => f.write_str("NotObject"),
+            ContentFault::BadName(path) => write!(f, "BadName at {}", path.as_text()),
+            ContentFault::BadNumber(path) => write!(f, "BadNumber at {}", path.as_text()),
+            ContentFault::MixedArray(path) => write!(f, "MixedArray at {}", path.as_text()),
+            ContentFault::BadOrder(path) => write!(f, "BadOrder at {}", path.as_text()),
+            ContentFault::TooBig => f.write_str("TooBig"),
+            ContentFault::NoMemory => Ok(()),
+        }
+    }
 }
 
 impl From<NoMemory> for ContentFault {

@@ -3,3 +3,4 @@ pub mod Texts
 pub mod Readings
 pub mod Faults
 pub mod Deletions
+pub mod FaultTexts

@@ -1,3 +1,4 @@
 pub mod ClearPages
 pub mod Flights
 pub mod Landings
+pub mod FaultTexts

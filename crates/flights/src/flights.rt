@@ -1,5 +1,6 @@
 //! The flights in the air.
 ghost use Rattle.std.specs.Prelude.{◌≡◌, ◌<◌, ◌≤◌, ◌++◌, ◌∷◌, [], IfOk, IfSome, IsSome, OnErr, OnOk, Some, length, map, remove, slice_get, vec_capacity};
+ghost use Rattle.flights.specs.FaultTexts.{ask_fault_text};
 ghost use Rattle.cover_rules.specs.Pages.{IsPageKey};
 ghost use Rattle.flights.specs.Flights.{AreForPages, after_invalidation, covers_page, flight_at, most_flights, without};
 ghost use Rattle.flights.specs.Landings.{LandsAs};
@@ -10,6 +11,7 @@ use crate::ticket::Ticket;
 use cover_rules::{Invalidation, StatRule, covers};
 use sp_base::Mem;
 use std::alloc::Global;
+use std::fmt;
 use std::marker::Model;
 
 const MOST_FLIGHTS: usize = 256;
@@ -19,6 +21,16 @@ const MOST_FLIGHTS: usize = 256;
 pub enum AskFault {
     /// There are as many in the air as may be.
     FullAir,
+}
+
+impl fmt::Display for AskFault {
+    ghost output = { λ fault. Some (ask_fault_text fault) };
+
+    fn fmt<W: fmt::Write>(&self, f: &mut fmt::Formatter<W>) -> fmt::Result {
+        match self {
+            AskFault::FullAir => f.write_str("FullAir"),
+        }
+    }
 }
 
 /// The flights in the air, the oldest first. Room for all that may be there is taken with it, so no later call takes memory.

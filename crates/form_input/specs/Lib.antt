@@ -7,3 +7,4 @@ pub mod BodyFaults
 pub mod Forms
 pub mod Words
 pub mod FormLaws
+pub mod FaultTexts

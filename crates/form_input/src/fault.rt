@@ -1,9 +1,11 @@
 //! Why a body is no form.
-ghost use Rattle.std.specs.Prelude.{◌≡◌};
+ghost use Rattle.std.specs.Prelude.{◌≡◌, Some};
+ghost use Rattle.form_input.specs.FaultTexts.{form_fault_text};
 ghost use Rattle.form_input.specs.declared.fault.FormFault.TheVariants.{NoMemory as no_memory};
 
 use sp_base::NoMemory;
 use std::alloc::{AllocError, AllocFailed};
+use std::fmt;
 
 #[derive(Clone, Copy, PartialEq, Eq, Debug, Drop)]
 pub enum FormFault {
@@ -17,6 +19,20 @@ pub enum FormFault {
     /// There are more than `MOST_PAIRS` pairs.
     TooMany,
     NoMemory,
+}
+
+impl fmt::Display for FormFault {
+    ghost output = { λ fault. Some (form_fault_text fault) };
+
+    fn fmt<W: fmt::Write>(&self, f: &mut fmt::Formatter<W>) -> fmt::Result {
+        match self {
+            FormFault::WrongKind => f.write_str("WrongKind"),
+            FormFault::NoBoundary => f.write_str("NoBoundary"),
+            FormFault::BadPart(at) => write!(f, "BadPart at {at}"),
+            FormFault::TooMany => f.write_str("TooMany"),
+            FormFault::NoMemory => f.write_str("Out of memory"),
+        }
+    }
 }
 
 impl From<NoMemory> for FormFault {

@@ -4,3 +4,4 @@ pub mod Spelling
 pub mod Runs
 pub mod Forms
 pub mod Rules
+pub mod FaultTexts

@@ -1,9 +1,11 @@
 //! Why a text is no glob.
-ghost use Rattle.std.specs.Prelude.{◌≡◌};
+ghost use Rattle.std.specs.Prelude.{◌≡◌, Some};
+ghost use Rattle.glob_rules.specs.FaultTexts.{glob_fault_text};
 ghost use Rattle.glob_rules.specs.declared.fault.GlobFault.TheVariants.{NoMemory as no_memory};
 
 use sp_base::NoMemory;
 use std::alloc::{AllocError, AllocFailed};
+use std::fmt;
 
 /// Why a text is no glob.
 #[derive(Clone, Copy, PartialEq, Eq, Debug, Drop)]
@@ -11,6 +13,17 @@ pub enum GlobFault {
     /// No `]` closes the class whose `[` stands at this byte, counted from 0.
     OpenClass(usize),
     NoMemory,
+}
+
+impl fmt::Display for GlobFault {
+    ghost output = { λ fault. Some (glob_fault_text fault) };
+
+    fn fmt<W: fmt::Write>(&self, f: &mut fmt::Formatter<W>) -> fmt::Result {
+        match self {
+            GlobFault::OpenClass(at) => write!(f, "OpenClass at {at}"),
+            GlobFault::NoMemory => f.write_str("Out of memory"),
+        }
+    }
 }
 
 impl From<NoMemory> for GlobFault {

@@ -13,3 +13,4 @@ pub mod Sheets
 pub mod Places
 pub mod WrittenLaws
 pub mod PlaceParts
+pub mod FaultTexts

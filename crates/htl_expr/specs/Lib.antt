@@ -8,3 +8,4 @@ pub mod Remembered
 pub mod Value
 pub mod Variables
 pub mod Writing
+pub mod FaultTexts

@@ -1,11 +1,13 @@
 //! Writing within a limit.
 
-ghost use Rattle.std.specs.Prelude.{◌≡◌, ◌≤◌, string_bytes, length};
+ghost use Rattle.std.specs.Prelude.{◌≡◌, ◌≤◌, string_bytes, length, Some};
+ghost use Rattle.htl_expr.specs.FaultTexts.{write_fault_text};
 ghost use Rattle.htl_expr.specs.Writing.{Wrote};
 ghost use Rattle.htl_expr.specs.declared.room.WriteFault.TheVariants as fault;
 
 use sp_base::NoMemory;
 use std::alloc::AllocError;
+use std::fmt;
 
 /// Why a text was not written.
 #[derive(Drop)]
@@ -13,6 +15,17 @@ pub enum WriteFault {
     /// What stands there and the text would have more bytes than the limit.
     TooLong,
     NoMemory,
+}
+
+impl fmt::Display for WriteFault {
+    ghost output = { λ fault. Some (write_fault_text fault) };
+
+    fn fmt<W: fmt::Write>(&self, f: &mut fmt::Formatter<W>) -> fmt::Result {
+        match self {
+            WriteFault::TooLong => f.write_str("TooLong"),
+            WriteFault::NoMemory => f.write_str("Out of memory"),
+        }
+    }
 }
 
 impl From<NoMemory> for WriteFault {

@@ -3,3 +3,4 @@ pub mod Grammar
 pub mod Read
 pub mod Steps
 pub mod Tokens
+pub mod FaultTexts

@@ -1,6 +1,7 @@
 //! A whole expression.
 
-ghost use Rattle.std.specs.Prelude.{◌≡◌, ◌≢◌, ◌≤◌, IfOk, IfErr, Ok, Err, length, ◌++◌, string_bytes};
+ghost use Rattle.std.specs.Prelude.{◌≡◌, ◌≢◌, ◌≤◌, IfOk, IfErr, Ok, Err, length, ◌++◌, string_bytes, Some};
+ghost use Rattle.htl_syntax.specs.FaultTexts.{expr_fault_text};
 ghost use Rattle.htl_syntax.specs.Tokens.{Gives};
 ghost use Rattle.htl_syntax.specs.Read as spec;
 ghost use Rattle.htl_syntax.specs.Grammar.{nesting_limit, Whole};
@@ -14,6 +15,7 @@ use crate::stop::ExprStop;
 use crate::tokens::skip;
 use sp_base::{Mem, NoMemory, TextBuf, begins_with_byte};
 use std::alloc::Global;
+use std::fmt;
 
 /// Why a text is no expression. A place is counted in bytes from 0.
 #[derive(Drop)]
@@ -23,6 +25,18 @@ pub enum ExprFault {
     /// The bracket, `!` or `?` at this place would nest deeper than 32.
     TooDeep(usize),
     NoMemory,
+}
+
+impl fmt::Display for ExprFault {
+    ghost output = { λ fault. Some (expr_fault_text fault) };
+
+    fn fmt<W: fmt::Write>(&self, f: &mut fmt::Formatter<W>) -> fmt::Result {
+        match self {
+            ExprFault::Unexpected(at) => write!(f, "Unexpected at {at}"),
+            ExprFault::TooDeep(at) => write!(f, "TooDeep at {at}"),
+            ExprFault::NoMemory => f.write_str("Out of memory"),
+        }
+    }
 }
 
 /// How the printed text is escaped.

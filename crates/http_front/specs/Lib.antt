@@ -11,3 +11,4 @@ pub mod StreamBeginnings
 pub mod Intakes
 pub mod FieldValues
 pub mod LentHeads
+pub mod FaultTexts

@@ -1,9 +1,11 @@
 //! Why a stream is read no further.
-ghost use Rattle.std.specs.Prelude.{◌≡◌};
+ghost use Rattle.std.specs.Prelude.{◌≡◌, Some};
+ghost use Rattle.http_front.specs.FaultTexts.{in_fault_text};
 ghost use Rattle.http_front.specs.Faults.{fault_status};
 
 use sp_base::NoMemory as OutOfMemory;
 use std::alloc::AllocError;
+use std::fmt;
 
 /// The status where no memory was there (RFC 4918, section 11.5).
 pub const INSUFFICIENT_STORAGE: u16 = 507;
@@ -27,6 +29,23 @@ pub enum InFault {
     LongHead,
     /// The stream can be read on once memory is there.
     NoMemory,
+}
+
+impl fmt::Display for InFault {
+    ghost output = { λ fault. Some (in_fault_text fault) };
+
+    fn fmt<W: fmt::Write>(&self, f: &mut fmt::Formatter<W>) -> fmt::Result {
+        match self {
+            InFault::BadHead => f.write_str("BadHead"),
+            InFault::ManyHeaders => f.write_str("ManyHeaders"),
+            InFault::BadTarget => f.write_str("BadTarget"),
+            InFault::NoLength => f.write_str("NoLength"),
+            InFault::BadLength => f.write_str("BadLength"),
+            InFault::LongBody => f.write_str("LongBody"),
+            InFault::LongHead => f.write_str("LongHead"),
+            InFault::NoMemory => f.write_str("Out of memory"),
+        }
+    }
 }
 
 impl InFault {

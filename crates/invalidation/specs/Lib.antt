@@ -1,3 +1,4 @@
 pub mod Invalidations
 pub mod Slices
 pub mod Walks
+pub mod FaultTexts

@@ -4,3 +4,4 @@ pub mod Faults
 pub mod InputFiles
 pub mod WorldMemory
 pub mod InputMemory
+pub mod FaultTexts

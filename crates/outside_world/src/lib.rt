@@ -6,6 +6,7 @@
 
 mod coming;
 mod comings;
+mod fault_text;
 mod inputs;
 mod laws;
 mod mem_inputs;

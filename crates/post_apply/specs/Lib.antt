@@ -7,3 +7,4 @@ pub mod Names
 pub mod Marks
 pub mod Posting
 pub mod Laws
+pub mod FaultTexts

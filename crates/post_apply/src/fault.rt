@@ -1,10 +1,12 @@
 //! Why an operation is refused.
-ghost use Rattle.std.specs.Prelude.{◌≡◌};
+ghost use Rattle.std.specs.Prelude.{◌≡◌, Some};
+ghost use Rattle.post_apply.specs.FaultTexts.{apply_fault_text};
 ghost use Rattle.post_apply.specs.declared.fault.ApplyFault.TheVariants.{NoMemory as no_memory};
 
 use resource_tree::TreeFault;
 use sp_base::{NoMemory, Path, TextBuf, ValueFault};
 use std::alloc::{AllocError, AllocFailed};
+use std::fmt;
 
 /// Why an operation is refused.
 #[derive(Drop)]
@@ -17,6 +19,19 @@ pub enum ApplyFault {
     DestThere(Path),
     /// Out of memory.
     NoMemory,
+}
+
+impl fmt::Display for ApplyFault {
+    ghost output = { λ fault. Some (apply_fault_text fault) };
+
+    fn fmt<W: fmt::Write>(&self, f: &mut fmt::Formatter<W>) -> fmt::Result {
+        match self {
+            ApplyFault::Tree(fault) => write!(f, "{fault}"),
+            ApplyFault::Value(name, fault) => write!(f, "{}: {fault}", name.text()),
+            ApplyFault::DestThere(path) => write!(f, "DestThere at {}", path.as_text()),
+            ApplyFault::NoMemory => f.write_str("Out of memory"),
+        }
+    }
 }
 
 impl From<NoMemory> for ApplyFault {

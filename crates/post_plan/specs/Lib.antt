@@ -7,3 +7,4 @@ pub mod Entries
 pub mod SpotPlaces
 pub mod Plan
 pub mod OperationPaths
+pub mod FaultTexts

@@ -9,3 +9,4 @@ pub mod Walks
 pub mod Positions
 pub mod Linkings
 pub mod Reading
+pub mod FaultTexts

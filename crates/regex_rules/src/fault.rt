@@ -1,9 +1,11 @@
 //! Why a text is no pattern.
-ghost use Rattle.std.specs.Prelude.{◌≡◌};
+ghost use Rattle.std.specs.Prelude.{◌≡◌, Some};
+ghost use Rattle.regex_rules.specs.FaultTexts.{pattern_fault_text};
 ghost use Rattle.regex_rules.specs.declared.fault.PatternFault.TheVariants.{NoMemory as no_memory};
 
 use sp_base::NoMemory;
 use std::alloc::{AllocError, AllocFailed};
+use std::fmt;
 
 /// Why a text is no pattern. Places are bytes, counted from 0.
 #[derive(Clone, Copy, PartialEq, Eq, Debug, Drop)]
@@ -14,6 +16,18 @@ pub enum PatternFault {
     /// The bracket at this place would nest deeper than 32.
     TooDeep(usize),
     NoMemory,
+}
+
+impl fmt::Display for PatternFault {
+    ghost output = { λ fault. Some (pattern_fault_text fault) };
+
+    fn fmt<W: fmt::Write>(&self, f: &mut fmt::Formatter<W>) -> fmt::Result {
+        match self {
+            PatternFault::BadPattern(at) => write!(f, "BadPattern at {at}"),
+            PatternFault::TooDeep(at) => write!(f, "TooDeep at {at}"),
+            PatternFault::NoMemory => f.write_str("Out of memory"),
+        }
+    }
 }
 
 impl From<NoMemory> for PatternFault {

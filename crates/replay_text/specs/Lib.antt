@@ -6,3 +6,4 @@ pub mod Reading
 pub mod Transcript
 pub mod EventLines
 pub mod Quoting
+pub mod FaultTexts

@@ -9,3 +9,4 @@ pub mod Parts
 pub mod Rows
 pub mod Seen
 pub mod Shown
+pub mod FaultTexts

@@ -1,3 +1,4 @@
 pub mod Claims
 pub mod Scripts
 pub mod Telling
+pub mod FaultTexts

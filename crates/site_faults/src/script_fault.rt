@@ -1,5 +1,6 @@
 //! What is wrong with a text that is no template.
-ghost use Rattle.std.specs.Prelude.{◌≡◌, IfOk};
+ghost use Rattle.std.specs.Prelude.{◌≡◌, IfOk, Some};
+ghost use Rattle.site_faults.specs.FaultTexts.{script_fault_text};
 ghost use Rattle.htl_syntax.specs.Fault.{expression_of};
 ghost use Rattle.htl_text.specs.Spelling.{IsFirstOpening};
 ghost use Rattle.htl_text.specs.declared.fault.TextFault.TheVariants.{BadExpr};
@@ -9,6 +10,7 @@ use htl_syntax::{ExprFault, Expression};
 use htl_text::{Template, TextFault, the_pieces_are_the_text};
 use sp_base::{Mem, NoMemory};
 use std::alloc::Global;
+use std::fmt;
 
 /// What is wrong with the first expression of a text that can't be read. Places are counted in bytes from 0.
 #[derive(Clone, Copy, PartialEq, Eq, Drop)]
@@ -19,6 +21,18 @@ pub enum ScriptFault {
     Unexpected(usize),
     /// The bracket, `!` or `?` here would nest deeper than 32.
     TooDeep(usize),
+}
+
+impl fmt::Display for ScriptFault {
+    ghost output = { λ fault. Some (script_fault_text fault) };
+
+    fn fmt<W: fmt::Write>(&self, f: &mut fmt::Formatter<W>) -> fmt::Result {
+        match self {
+            ScriptFault::Unclosed(at) => write!(f, "Unclosed at {at}"),
+            ScriptFault::Unexpected(at) => write!(f, "Unexpected at {at}"),
+            ScriptFault::TooDeep(at) => write!(f, "TooDeep at {at}"),
+        }
+    }
 }
 
 // The text after the `${` at a place.

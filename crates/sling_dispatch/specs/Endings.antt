@@ -22,7 +22,8 @@ use Rattle.sling_dispatch.specs.Serving.{FailsToOpen, IsNotOpened, LacksContent,
 use Rattle.sling_dispatch.specs.Streams.{IsReadOut}
 use Rattle.sling_dispatch.specs.Summaries.{summary_text}
 use Rattle.sling_dispatch.specs.Farms.{farm_in, farm_text, is_out_of_memory}
-use Rattle.sling_dispatch.specs.Faults.{fault_text, refusal_text}
+use Rattle.content_json.specs.FaultTexts.{fault_text}
+use Rattle.sling_dispatch.specs.Faults.{refusal_text}
 use Rattle.any_config.specs.declared.farm.Farm.{Farm}
 use Rattle.sling_dispatch.specs.declared.farms.FarmRefusal.{FarmRefusal}
 use Rattle.sling_dispatch.specs.declared.form.ServeWords.{ServeWords}

@@ -1,10 +1,12 @@
 //! The farm of a scenario, or why there is none.
-ghost use Rattle.std.specs.Prelude.{◌≡◌, Ok, Err, IfOk, IfErr, false};
+ghost use Rattle.std.specs.Prelude.{◌≡◌, Ok, Err, IfOk, IfErr, Some, false};
 ghost use Rattle.sling_dispatch.specs.Farms as spec;
+ghost use Rattle.sling_dispatch.specs.Faults.{refusal_text};
 
 use any_config::{AnyFault, Farm, FarmFault, STANDARD_FARM, farm_of, read_any};
 use sp_base::ByteBuf;
 use std::alloc::Global;
+use std::fmt;
 
 /// Why a text gives no farm.
 #[derive(Drop)]
@@ -13,6 +15,17 @@ pub enum FarmRefusal {
     NoFile(AnyFault),
     /// The file has no farm that can be used.
     NoFarm(FarmFault),
+}
+
+impl fmt::Display for FarmRefusal {
+    ghost output = { λ refusal. Some (refusal_text refusal) };
+
+    fn fmt<W: fmt::Write>(&self, f: &mut fmt::Formatter<W>) -> fmt::Result {
+        match self {
+            FarmRefusal::NoFile(fault) => write!(f, "{fault}"),
+            FarmRefusal::NoFarm(fault) => write!(f, "{fault}"),
+        }
+    }
 }
 
 /// The text of a scenario's farm: the standard one where the scenario gives none.

@@ -13,3 +13,4 @@ pub mod Fields
 pub mod HeldBytes
 pub mod Requests
 pub mod RequestBlocks
+pub mod FaultTexts

@@ -3,6 +3,7 @@
 
 mod answer;
 mod bytes;
+mod fault_text;
 mod field;
 mod hint;
 mod items;

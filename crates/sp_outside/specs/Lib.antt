@@ -6,3 +6,4 @@ pub mod Files
 pub mod FileNames
 pub mod MemoryFiles
 pub mod DiskMemory
+pub mod FaultTexts

@@ -6,6 +6,7 @@
 
 mod disk;
 mod docroot;
+mod fault_text;
 mod file_name;
 mod folder_boot;
 mod folder_lock;

@@ -4,4 +4,6 @@
 #[cfg(test)]
 mod calls;
 #[cfg(test)]
+mod script_walk;
+#[cfg(test)]
 mod splits;

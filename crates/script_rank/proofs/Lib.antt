@@ -4,3 +4,5 @@ pub mod PlaceLemmas
 pub mod RankLemmas
 pub mod SearchLemmas
 pub mod ScriptPlaceLemmas
+pub mod ListedLemmas
+pub mod TextLemmas

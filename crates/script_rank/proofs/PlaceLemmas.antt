@@ -1,20 +1,25 @@
--- A text of a place, a slash and a name is read as the place with the name below it, and nothing is below a place that has no kids.
-use Rattle.std.proofs.Common.{◌≡◌, ◌≢◌, ◌<◌, ◌++◌, ◌==◌, ℕ, Bool, true, false, cond, not, ◌||◌, List, [], ◌∷◌, Option, Some, None, Ok, Err, length, refl, sym, ◌∙◌, ap, subst, arith, append_assoc, append-nil, length-append, codes}
+-- A text of a place, a slash and a name is read as the place with the name below it. No script is below a place that has no kids, or at or below which none
+-- is listed.
+use Rattle.std.proofs.Common.{◌≡◌, ◌≢◌, ◌<◌, ◌++◌, ◌==◌, ℕ, Bool, true, false, cond, not, ◌||◌, List, [], ◌∷◌, Option, Some, None, Result, Ok, Err, length, refl, sym, ◌∙◌, ap, subst, ⊎_elim, arith, append_assoc, append-nil, length-append, codes}
 use Rattle.std.specs.Prelude.{flat_map, is_some, IsSome, nat_eq, slice_index, if◌then◌else◌}
-use Rattle.std.specs.Cmp.Lexicographic.{pointwise}
+use Rattle.std.specs.Cmp.Lexicographic.{nat_list_eq_equiv, pointwise}
 use Rattle.std.specs.Option.{IfNone, MatchOption}
 use Rattle.std.specs.List.{AllByRecursion, list_all, list_any, onto_first}
-use Rattle.std.proofs.lemmas.Bool.{and_parts, true≢false}
+use Rattle.std.proofs.lemmas.Bool.{and_from, and_parts, cases_Bool, true≢false}
 use Rattle.std.proofs.lemmas.Bool.Decides.{nat_tests}
-use Rattle.sp_base.specs.Paths.{path_or_fault, child_of, fault_of, has_slash, is_dots, is_empty, is_long, is_path, path_of, pieces, seg_ok, text_of, unless_fault}
+use Rattle.sp_base.specs.Texts.{Segments}
+use Rattle.sp_base.specs.Paths.{path_or_fault, child_of, fault_of, has_slash, is_dots, is_empty, is_long, is_path, is_under, path_of, pieces, seg_ok, text_of, unless_fault}
 use Rattle.sp_base.specs.declared.path.PathFault.{PathFault}
 use Rattle.sp_base.specs.declared.path.PathFault.TheVariants.{EmptySegment}
-use Rattle.resource_tree.specs.Content.{Content, IsTree, kid, node_at}
+use Rattle.resource_tree.specs.Content.{Content, IsTree, kid, node_at, same_path}
 use Rattle.resource_tree.specs.declared.nodes.Node.{Node}
+use Rattle.resource_tree.proofs.PathLemmas.{path_from_same}
+use Rattle.resource_tree.proofs.Under.{under_root}
 use Rattle.type_chain.specs.ScriptPlaces.{has_kids}
+use Rattle.script_rank.specs.Index.{has_path}
 use Rattle.script_rank.specs.Ranking.{is_script}
 use Rattle.script_rank.specs.Search.{script_at, script_in}
-use Rattle.script_rank.specs.ScriptPlaceSearch.{script_below}
+use Rattle.script_rank.specs.ScriptPlaceSearch.{has_under, path_if, script_below}
 
 -- ---- segments without slashes
 
@@ -85,14 +90,21 @@ root_none tree name = ap (λ t. script_in tree (if t then Ok [] else Err EmptySe
 
 -- ---- the script at a place by a spelling that begins with a slash
 
-pub script_same : (tree : Content) (place : List (List ℕ)) (name : List ℕ) → LackSlashes place → script_below tree place ((47 ∷ name) ++ codes ".html") ≡ script_at tree place (47 ∷ name)
+in_tree : (tree : Content) (r : Result (List (List ℕ)) PathFault) → path_if (is_script tree) r ≡ script_in tree r
+in_tree tree (Ok path) = refl
+in_tree tree (Err e) = refl
+
+pub script_same : (tree : Content) (place : List (List ℕ)) (name : List ℕ) → LackSlashes place → script_below (is_script tree) place ((47 ∷ name) ++ codes ".html") ≡ script_at tree place (47 ∷ name)
 unfolding script_below script_at
 script_same tree [] name lack = sym (root_none tree (name ++ codes ".html"))
 script_same tree (seg ∷ segs) name lack =
-    ap (λ t. if t then None else script_in tree (child_of (seg ∷ segs) (name ++ codes ".html"))) (not_zero (length (seg ∷ segs)) (omega arith))
-    ∙ ap (script_in tree) (sym (reads_below seg segs (name ++ codes ".html") lack))
+    ap (λ t. if t then None else path_if (is_script tree) (child_of (seg ∷ segs) (name ++ codes ".html"))) (not_zero (length (seg ∷ segs)) (omega arith))
+    ∙ in_tree tree (child_of (seg ∷ segs) (name ++ codes ".html")) ∙ ap (script_in tree) (sym (reads_below seg segs (name ++ codes ".html") lack))
 
--- ---- nothing is below a place without kids
+-- ---- no script is below a place
+
+abbrev pub HasNoneBelow : Content → Segments → Type 0
+HasNoneBelow tree place = (name : List ℕ) (rest : Segments) → is_script tree (place ++ name ∷ rest) ≡ true → ⊥
 
 above : {at : List (List ℕ) → Option Node} → IsTree at → (path rest : List (List ℕ)) → IsSome (at (path ++ rest)) → IsSome (at path)
 above {at} good path [] there = subst (λ p. IsSome (at p)) (append-nil path) there
@@ -119,11 +131,37 @@ none_below {at} good place name rest none there =
 no_script : (tree : Content) (path : List (List ℕ)) → (IsSome (node_at tree path) → ⊥) → is_script tree path ≡ true → ⊥
 no_script tree path none script = none (and_parts (is_some (node_at tree path)) _ script).0
 
-none_at : (tree : Content) (fault : Option PathFault) (path : List (List ℕ)) → (IsSome (node_at tree path) → ⊥) → script_in tree (unless_fault fault path) ≡ None
+-- that has no kids
+pub none_without_kids : (tree : Content) (place : Segments) → IsTree (node_at tree) → has_kids (node_at tree place) ≡ false → HasNoneBelow tree place
+none_without_kids tree place good none name rest script = no_script tree (place ++ name ∷ rest) (none_below good place name rest none) script
+
+under_start : (place more : Segments) → is_under (place ++ more) place ≡ true
+under_start [] more = under_root more
+under_start (s ∷ place) more = and_from (pointwise nat_eq s s) (is_under (place ++ more) place) (nat_list_eq_equiv.refl s) (under_start place more)
+
+or_yes : (a b : Bool) → b ≡ true → (a || b) ≡ true
+or_yes true b e = refl
+or_yes false b e = e
+
+listed_under : (scripts : List Segments) (place more : Segments) → has_path scripts (place ++ more) ≡ true → has_under scripts place ≡ true
+listed_under [] place more e = e
+listed_under (path ∷ scripts) place more e = ⊎_elim
+    (λ (same : same_path (place ++ more) path ≡ true).
+    ap (λ b. b || has_under scripts place) (sym (ap (λ p. is_under p place) (path_from_same (place ++ more) path same)) ∙ under_start place more))
+    (λ (other : same_path (place ++ more) path ≡ false).
+    or_yes (is_under path place) (has_under scripts place) (listed_under scripts place more (sym (ap (λ b. b || has_path scripts (place ++ more)) other) ∙ e)))
+    (cases_Bool (same_path (place ++ more) path))
+
+-- at or below which none is listed
+pub none_unlisted : (tree : Content) (scripts : List Segments) (place : Segments) → ((path : Segments) → has_path scripts path ≡ is_script tree path) → has_under scripts place ≡ false → HasNoneBelow tree place
+none_unlisted tree scripts place lists none name rest script =
+    true≢false (sym (listed_under scripts place (name ∷ rest) (lists (place ++ name ∷ rest) ∙ script)) ∙ none)
+
+none_at : (tree : Content) (fault : Option PathFault) (path : List (List ℕ)) → (is_script tree path ≡ true → ⊥) → script_in tree (unless_fault fault path) ≡ None
 none_at tree (Some fault) path none = refl
 none_at tree None path none =
     elim (is_script tree path) as (λ t. is_script tree path ≡ t → cond t (Some path) None ≡ None) [
-      | true ↦ λ e. absurd (no_script tree path none e)
+      | true ↦ λ e. absurd (none e)
       | false ↦ λ e. refl
     ] refl
 
@@ -144,17 +182,16 @@ has_pieces (b ∷ text) =
       | false ↦ onto-pieces b (pieces text)
     ]
 
-none_at_pieces : (tree : Content) (place more : List (List ℕ)) → IsTree (node_at tree) → has_kids (node_at tree place) ≡ false → HasPieces more → script_in tree (path_or_fault (place ++ more)) ≡ None
-none_at_pieces tree place [] good none has = absurd has
-none_at_pieces tree place (name ∷ rest) good none has =
-    none_at tree (fault_of (place ++ name ∷ rest)) (place ++ name ∷ rest) (none_below good place name rest none)
+none_at_pieces : (tree : Content) (place more : List (List ℕ)) → HasNoneBelow tree place → HasPieces more → script_in tree (path_or_fault (place ++ more)) ≡ None
+none_at_pieces tree place [] none has = absurd has
+none_at_pieces tree place (name ∷ rest) none has = none_at tree (fault_of (place ++ name ∷ rest)) (place ++ name ∷ rest) (none name rest)
 
-pub script_none : (tree : Content) (place : List (List ℕ)) (name : List ℕ) → IsTree (node_at tree) → has_kids (node_at tree place) ≡ false → LackSlashes place → script_at tree place (47 ∷ name) ≡ None
+pub script_none : (tree : Content) (place : List (List ℕ)) (name : List ℕ) → HasNoneBelow tree place → LackSlashes place → script_at tree place (47 ∷ name) ≡ None
 unfolding script_at
-script_none tree [] name good none lack = root_none tree (name ++ codes ".html")
-script_none tree (seg ∷ segs) name good none lack =
+script_none tree [] name none lack = root_none tree (name ++ codes ".html")
+script_none tree (seg ∷ segs) name none lack =
     ap (script_in tree) (reads_below seg segs (name ++ codes ".html") lack)
-    ∙ none_at_pieces tree (seg ∷ segs) (pieces (name ++ codes ".html")) good none (has_pieces (name ++ codes ".html"))
+    ∙ none_at_pieces tree (seg ∷ segs) (pieces (name ++ codes ".html")) none (has_pieces (name ++ codes ".html"))
 
 -- ---- a text without a slash at its beginning
 

@@ -1,26 +1,28 @@
 -- The search at the script places alone gives what the search at each place gives.
-use Rattle.std.proofs.Common.{◌≡◌, ◌≤◌, ◌++◌, ◌==◌, ℕ, zero, suc, true, false, cond, List, [], ◌∷◌, Option, Some, None, Result, length, refl, sym, ◌∙◌, ap, subst, arith, codes, take}
+use Rattle.std.proofs.Common.{◌≡◌, ◌≤◌, ◌++◌, ◌==◌, ℕ, zero, suc, Bool, true, false, cond, List, [], ◌∷◌, Option, Some, None, Result, length, refl, sym, ◌∙◌, ap, subst, arith, codes, take}
 use Rattle.std.specs.Prelude.{flat_map, slice_get, IfOk}
 use Rattle.std.specs.List.{AllByRecursion, list_all}
 use Rattle.std.specs.Option.{option_or}
 use Rattle.std.proofs.lemmas.Bool.{and_parts}
 use Rattle.std.proofs.lemmas.Bool.Decides.{nat_tests}
+use Rattle.sp_base.specs.Texts.{Segments}
 use Rattle.sp_base.specs.Paths.{path_or_fault, fault_of, is_path, unless_fault}
 use Rattle.sp_base.specs.declared.path.PathFault.{PathFault}
-use Rattle.resource_tree.specs.Content.{Content, IsGood, IsTree, name_of, node_at}
+use Rattle.resource_tree.specs.Content.{Content, IsGood, name_of, node_at}
 use Rattle.type_chain.specs.Chain.{first_of}
-use Rattle.type_chain.specs.ScriptPlaces.{AreScriptPlacesOf, has_kids, script_place_at, script_places_of}
+use Rattle.type_chain.specs.ScriptPlaces.{AreScriptPlacesOf, has_kids, script_places_of}
 use Rattle.type_chain.specs.Types.{path_with, places}
 use Rattle.type_chain.specs.declared.script_places.ScriptPlace.{ScriptPlace}
 use Rattle.type_chain.specs.declared.type_name.TypeName.{TypeName}
 use Rattle.url_split.specs.declared.decompose.Parts.{Parts}
 use Rattle.script_rank.specs.declared.naming.Naming.{Naming}
 use Rattle.script_rank.specs.declared.naming.Naming.TheVariants.{SelectorsAndExtension, Selectors, LabelAndExtension, Extension, Label, Method}
-use Rattle.script_rank.specs.Ranking.{IsOffered, after_slashes, spellings}
+use Rattle.script_rank.specs.Index.{has_path}
+use Rattle.script_rank.specs.Ranking.{IsOffered, after_slashes, is_script, spellings}
 use Rattle.script_rank.specs.Search.{at_naming, at_place, at_type, namings, script_at, search_result}
-use Rattle.script_rank.specs.ScriptPlaceSearch.{at_script_place, at_script_places, script_named, script_place_search}
+use Rattle.script_rank.specs.ScriptPlaceSearch.{AreKeptPlacesOf, at_script_place, at_script_places, has_under, kept_places_of, place_if, script_named, script_place_search}
 use Rattle.script_rank.proofs.NamingLemmas.{sound}
-use Rattle.script_rank.proofs.PlaceLemmas.{LackSlashes, path_lacks, script_none, script_same}
+use Rattle.script_rank.proofs.PlaceLemmas.{HasNoneBelow, LackSlashes, none_unlisted, none_without_kids, path_lacks, script_none, script_same}
 
 -- ---- the first that there is
 
@@ -73,43 +75,47 @@ spelling_begins parts label Method j s h e = subst BeginsWithSlash (only _ s j e
 
 -- ---- at a place
 
-named_same : (tree : Content) (place : List (List ℕ)) (s : List ℕ) → LackSlashes place → BeginsWithSlash s → script_named tree place s ≡ script_at tree place s
+named_same : (tree : Content) (place : List (List ℕ)) (s : List ℕ) → LackSlashes place → BeginsWithSlash s → script_named (is_script tree) place s ≡ script_at tree place s
 named_same tree place s lack begins =
-    ap (script_named tree place) begins.1 ∙ script_same tree place begins.0 lack ∙ ap (script_at tree place) (sym begins.1)
+    ap (script_named (is_script tree) place) begins.1 ∙ script_same tree place begins.0 lack ∙ ap (script_at tree place) (sym begins.1)
 
-named_none : (tree : Content) (place : List (List ℕ)) (s : List ℕ) → IsTree (node_at tree) → has_kids (node_at tree place) ≡ false → LackSlashes place → BeginsWithSlash s → script_at tree place s ≡ None
-named_none tree place s good none lack begins = ap (script_at tree place) begins.1 ∙ script_none tree place begins.0 good none lack
+named_none : (tree : Content) (place : List (List ℕ)) (s : List ℕ) → HasNoneBelow tree place → LackSlashes place → BeginsWithSlash s → script_at tree place s ≡ None
+named_none tree place s none lack begins = ap (script_at tree place) begins.1 ∙ script_none tree place begins.0 none lack
 
-module _ (tree : Content) (parts : Parts) (naming : Naming) (good : IsTree (node_at tree)) (offered : IsOffered parts naming) where
+-- a test keeps each place below which there is a script
+abbrev pub KeepsScripts : Content → (Segments → Bool) → Type 0
+KeepsScripts tree keeps = (place : Segments) → keeps place ≡ false → HasNoneBelow tree place
+
+module _ (tree : Content) (keeps : Segments → Bool) (passes : KeepsScripts tree keeps) (parts : Parts) (naming : Naming) (offered : IsOffered parts naming) where
   script_place_same : (label : List ℕ) (place : List (List ℕ)) → LackSlashes place
-      → at_script_place tree parts naming (record { label = label; place = place }) ≡ at_place tree (spellings parts label naming) place
+      → at_script_place (is_script tree) parts naming (record { label = label; place = place }) ≡ at_place tree (spellings parts label naming) place
   unfolding at_script_place at_place
   script_place_same label place lack =
-      first_same (script_named tree place) (script_at tree place) (spellings parts label naming) (λ j s e. named_same tree place s lack (spelling_begins parts label naming j s offered e))
+      first_same (script_named (is_script tree) place) (script_at tree place) (spellings parts label naming) (λ j s e. named_same tree place s lack (spelling_begins parts label naming j s offered e))
 
-  place_none : (label : List ℕ) (place : List (List ℕ)) → LackSlashes place → has_kids (node_at tree place) ≡ false → at_place tree (spellings parts label naming) place ≡ None
+  place_none : (label : List ℕ) (place : List (List ℕ)) → LackSlashes place → keeps place ≡ false → at_place tree (spellings parts label naming) place ≡ None
   unfolding at_place
   place_none label place lack none =
-      first_none (script_at tree place) (spellings parts label naming) (λ j s e. named_none tree place s good none lack (spelling_begins parts label naming j s offered e))
+      first_none (script_at tree place) (spellings parts label naming) (λ j s e. named_none tree place s (passes place none) lack (spelling_begins parts label naming j s offered e))
 
   or_none : (o : Option (List (List ℕ))) → option_or o None ≡ o
   or_none None = refl
   or_none (Some x) = refl
 
-  place_same : (label : List ℕ) (place : List (List ℕ)) → LackSlashes place → first_of (at_script_place tree parts naming) (script_place_at tree label place) ≡ at_place tree (spellings parts label naming) place
+  place_same : (label : List ℕ) (place : List (List ℕ)) → LackSlashes place → first_of (at_script_place (is_script tree) parts naming) (place_if keeps label place) ≡ at_place tree (spellings parts label naming) place
   place_same label place lack =
-      elim (has_kids (node_at tree place)) as (λ t. has_kids (node_at tree place) ≡ t
-      → first_of (at_script_place tree parts naming) (cond t (record { label = label; place = place } ∷ []) []) ≡ at_place tree (spellings parts label naming) place) [
+      elim (keeps place) as (λ t. keeps place ≡ t
+      → first_of (at_script_place (is_script tree) parts naming) (cond t (record { label = label; place = place } ∷ []) []) ≡ at_place tree (spellings parts label naming) place) [
         | true ↦ λ e. or_none _ ∙ script_place_same label place lack
         | false ↦ λ e. sym (place_none label place lack e)
       ] refl
 
   places_same : (label : List ℕ) (list : List (List (List ℕ))) → AllByRecursion LackSlashes list
-      → first_of (at_script_place tree parts naming) (flat_map (script_place_at tree label) list) ≡ first_of (at_place tree (spellings parts label naming)) list
+      → first_of (at_script_place (is_script tree) parts naming) (flat_map (place_if keeps label) list) ≡ first_of (at_place tree (spellings parts label naming)) list
   places_same label [] lack = refl
   places_same label (place ∷ list) lack =
-      first_append (at_script_place tree parts naming) (script_place_at tree label place) (flat_map (script_place_at tree label) list)
-      ∙ ap (λ o. option_or o (first_of (at_script_place tree parts naming) (flat_map (script_place_at tree label) list))) (place_same label place lack.0)
+      first_append (at_script_place (is_script tree) parts naming) (place_if keeps label place) (flat_map (place_if keeps label) list)
+      ∙ ap (λ o. option_or o (first_of (at_script_place (is_script tree) parts naming) (flat_map (place_if keeps label) list))) (place_same label place lack.0)
       ∙ ap (option_or (at_place tree (spellings parts label naming) place)) (places_same label list lack.1)
 
   -- ---- at a type
@@ -133,43 +139,65 @@ module _ (tree : Content) (parts : Parts) (naming : Naming) (good : IsTree (node
         | false ↦ both_lack (path_with (path_or_fault apps)) (path_with (path_or_fault libs)) (unless_lacks (fault_of apps) apps (refl, lack)) (unless_lacks (fault_of libs) libs (refl, lack))
       ]
 
-  type_same : (type : TypeName) → is_path type.segs ≡ true → first_of (at_script_place tree parts naming) (script_places_of tree type) ≡ at_type tree parts naming type
-  unfolding script_places_of at_type
+  type_same : (type : TypeName) → is_path type.segs ≡ true → first_of (at_script_place (is_script tree) parts naming) (kept_places_of keeps type) ≡ at_type tree parts naming type
+  unfolding kept_places_of at_type
   type_same type path = places_same (name_of type.segs) (places type) (places_lack type path)
 
   types_same : (types : List TypeName) → list_all (λ type. is_path type.segs) types ≡ true
-      → first_of (at_script_place tree parts naming) (flat_map (script_places_of tree) types) ≡ first_of (at_type tree parts naming) types
+      → first_of (at_script_place (is_script tree) parts naming) (flat_map (kept_places_of keeps) types) ≡ first_of (at_type tree parts naming) types
   types_same [] paths = refl
   types_same (type ∷ types) paths =
       let both = and_parts (is_path type.segs) (list_all (λ t. is_path t.segs) types) paths in
-      first_append (at_script_place tree parts naming) (script_places_of tree type) (flat_map (script_places_of tree) types)
-      ∙ ap (λ o. option_or o (first_of (at_script_place tree parts naming) (flat_map (script_places_of tree) types))) (type_same type both.0)
+      first_append (at_script_place (is_script tree) parts naming) (kept_places_of keeps type) (flat_map (kept_places_of keeps) types)
+      ∙ ap (λ o. option_or o (first_of (at_script_place (is_script tree) parts naming) (flat_map (kept_places_of keeps) types))) (type_same type both.0)
       ∙ ap (option_or (at_type tree parts naming type)) (types_same types both.1)
 
-  script_places_same : (types : List TypeName) (script_places : List ScriptPlace) → AreScriptPlacesOf tree types script_places → at_script_places tree parts script_places naming ≡ at_naming tree types parts naming
+  script_places_same : (types : List TypeName) (script_places : List ScriptPlace) → AreKeptPlacesOf keeps types script_places → at_script_places (is_script tree) parts script_places naming ≡ at_naming tree types parts naming
   unfolding at_script_places at_naming
-  script_places_same types script_places h = ap (first_of (at_script_place tree parts naming)) h.0 ∙ types_same types h.1
+  script_places_same types script_places h = ap (first_of (at_script_place (is_script tree) parts naming)) h.0 ∙ types_same types h.1
 
-search_same : (tree : Content) (types : List TypeName) (script_places : List ScriptPlace) (parts : Parts) → IsTree (node_at tree) → AreScriptPlacesOf tree types script_places
-    → script_place_search tree script_places parts ≡ search_result tree types parts
+search_same : (tree : Content) (keeps : Segments → Bool) (types : List TypeName) (script_places : List ScriptPlace) (parts : Parts) → KeepsScripts tree keeps → AreKeptPlacesOf keeps types script_places
+    → script_place_search (is_script tree) script_places parts ≡ search_result tree types parts
 unfolding search_result
-search_same tree types script_places parts good h =
-    first_same (at_script_places tree parts script_places) (at_naming tree types parts) (namings parts) (λ j naming e. script_places_same tree parts naming good (sound parts j naming e).1 types script_places h)
+search_same tree keeps types script_places parts passes h =
+    first_same (at_script_places (is_script tree) parts script_places) (at_naming tree types parts) (namings parts)
+    (λ j naming e. script_places_same tree keeps passes parts naming (sound parts j naming e).1 types script_places h)
 
 same_answer : {E : Type 0} {P Q : Option (List (List ℕ))} (r : Result (Option (List (List ℕ))) E) → P ≡ Q → IfOk r (λ o. o ≡ P) → IfOk r (λ o. o ≡ Q)
 same_answer r e h = subst (λ answer. IfOk r (λ o. o ≡ answer)) e h
 
--- so an answer of the search at script places is one of the search at each place
+-- ---- an answer of the search at script places is one of the search at each place
+
+with_kids : (tree : Content) (types : List TypeName) → flat_map (script_places_of tree) types ≡ flat_map (kept_places_of (λ place. has_kids (node_at tree place))) types
+unfolding script_places_of kept_places_of
+with_kids tree types = refl
+
+-- in a tree
 pub answers_same : {E : Type 0} (tree : Content) (types : List TypeName) (script_places script_places' : List ScriptPlace) (parts : Parts) (r : Result (Option (List (List ℕ))) E) → IsGood tree → AreScriptPlacesOf tree types script_places
-    → script_places' ≡ script_places → IfOk r (λ o. o ≡ script_place_search tree script_places' parts) → IfOk r (λ o. o ≡ search_result tree types parts)
+    → script_places' ≡ script_places → IfOk r (λ o. o ≡ script_place_search (is_script tree) script_places' parts) → IfOk r (λ o. o ≡ search_result tree types parts)
 answers_same tree types script_places script_places' parts r good h same value =
-    same_answer r (ap (λ s. script_place_search tree s parts) same ∙ search_same tree types script_places parts good.shape h) value
+    let kept : AreKeptPlacesOf (λ place. has_kids (node_at tree place)) types script_places = (h.0 ∙ with_kids tree types, h.1) in
+    same_answer r
+    (ap (λ s. script_place_search (is_script tree) s parts) same
+    ∙ search_same tree (λ place. has_kids (node_at tree place)) types script_places parts (λ place none. none_without_kids tree place good.shape none) kept)
+    value
+
+-- with an index
+pub answers_listed : {E : Type 0} (tree : Content) (scripts : List Segments) (types : List TypeName) (script_places script_places' : List ScriptPlace) (parts : Parts) (r : Result (Option (List (List ℕ))) E)
+    → ((path : Segments) → has_path scripts path ≡ is_script tree path) → AreKeptPlacesOf (has_under scripts) types script_places
+    → script_places' ≡ script_places → IfOk r (λ o. o ≡ script_place_search (has_path scripts) script_places' parts) → IfOk r (λ o. o ≡ search_result tree types parts)
+answers_listed tree scripts types script_places script_places' parts r lists h same value =
+    let tells : has_path scripts ≡ is_script tree = λ i path. lists path i in
+    same_answer r
+    (ap (λ s. script_place_search (has_path scripts) s parts) same ∙ ap (λ t. script_place_search t script_places parts) tells
+    ∙ search_same tree (has_under scripts) types script_places parts (λ place none. none_unlisted tree scripts place lists none) h)
+    value
 
 -- without a script place there is no script
 none_from_zero : (n : ℕ) → (n == 0) ≡ true → n ≡ 0
 none_from_zero n e = grind (arith, nat_tests)
 
-pub no_script_place : (tree : Content) (script_places : List ScriptPlace) (parts : Parts) → (length script_places == 0) ≡ true → script_place_search tree script_places parts ≡ None
+pub no_script_place : (tells : Segments → Bool) (script_places : List ScriptPlace) (parts : Parts) → (length script_places == 0) ≡ true → script_place_search tells script_places parts ≡ None
 unfolding at_script_places
-no_script_place tree [] parts e = first_none (at_script_places tree parts []) (namings parts) (λ j naming is. refl)
-no_script_place tree (script_place ∷ script_places) parts e = absurd (omega (arith, none_from_zero (length (script_place ∷ script_places)) e))
+no_script_place tells [] parts e = first_none (at_script_places tells parts []) (namings parts) (λ j naming is. refl)
+no_script_place tells (script_place ∷ script_places) parts e = absurd (omega (arith, none_from_zero (length (script_place ∷ script_places)) e))

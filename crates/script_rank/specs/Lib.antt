@@ -1,3 +1,5 @@
 pub mod Ranking
 pub mod Search
 pub mod ScriptPlaceSearch
+pub mod Index
+pub mod Noting

@@ -1,29 +1,29 @@
 //! Scripts, and their texts.
 ghost use Rattle.std.specs.Prelude.{◌≡◌, ◌==◌, true, false, drop, IfOk, IfSome, IfNone, option_copied, slice_index};
 ghost use Rattle.sp_base.specs.Paths.{child_of};
-ghost use Rattle.script_rank.specs.Ranking.{is_script, script_text};
-ghost use Rattle.script_rank.specs.Search.{script_in};
-ghost use Rattle.script_rank.specs.ScriptPlaceSearch.{script_below};
+ghost use Rattle.script_rank.specs.Ranking.{script_text};
+ghost use Rattle.script_rank.specs.ScriptPlaceSearch.{path_if, script_below};
 
+use crate::lookup::Scripts;
 use resource_tree::Tree;
 use sp_base::{Mem, NoMemory, Path, PathFault, TextBuf};
 use std::alloc::Global;
 
 /// The script below a place by a text of a slash and a name. No script lies below the root itself.
 #[tactic(auto, unfolding(crate::specs::ScriptPlaceSearch::script_below))]
-pub(crate) fn script_below(
+pub(crate) fn script_below<S: Scripts>(
     alloc: Global,
-    tree: &Tree,
+    scripts: &S,
     place: &Path,
     text: &str,
 ) -> Mem<Option<Path>>
-    ensures { IfOk result (λ o. o ≡ script_below tree.now place.now text.now) }
+    ensures { IfOk result (λ o. o ≡ script_below (S.tells scripts.now) place.now text.now) }
 {
     if place.depth() == 0 {
         return Ok(None);
     }
     match after_slash(text) {
-        Some(name) => script_in(alloc, tree, place, name),
+        Some(name) => script_in(alloc, scripts, place, name),
         None => Ok(None),
     }
 }
@@ -36,29 +36,19 @@ fn after_slash(text: &str) -> Option<&str>
 }
 
 // The script of this name below a place.
-fn script_in(alloc: Global, tree: &Tree, place: &Path, name: &str) -> Mem<Option<Path>>
-    ensures { IfOk result (λ o. o ≡ script_in tree.now (child_of place.now name.now)) }
+fn script_in<S: Scripts>(alloc: Global, scripts: &S, place: &Path, name: &str) -> Mem<Option<Path>>
+    ensures { IfOk result (λ o. o ≡ path_if (S.tells scripts.now) (child_of place.now name.now)) }
 {
     let path = match place.child(alloc, name) {
         Ok(path) => path,
         Err(PathFault::NoMemory) => return Err(NoMemory),
         Err(_) => return Ok(None),
     };
-    if is_script(alloc, tree, &path)? {
+    if scripts.has(alloc, &path)? {
         Ok(Some(path))
     } else {
         Ok(None)
     }
-}
-
-// Whether a node is there that has a script's text.
-fn is_script(alloc: Global, tree: &Tree, path: &Path) -> Mem<bool>
-    ensures { IfOk result (λ b. b ≡ is_script tree.now path.now) }
-{
-    if tree.node(path).is_none() {
-        return Ok(false);
-    }
-    Ok(script_text(alloc, tree, path)?.is_some())
 }
 
 /// The text of a script: the text `jcr:data` of its kid `jcr:content`.

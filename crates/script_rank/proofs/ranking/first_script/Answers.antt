@@ -8,7 +8,7 @@ returns c =
     let types = c.args.chain.now in
     let parts = c.args.parts.now in
     let found = c.script_place_search.result in
-    let value = answers_same tree types _ _ parts found c.script_place_search.ensures.good c.in_ok-script_places.ensures c.as_slice.ensures c.script_place_search.ensures.value in
+    let value = answers_same tree types _ _ parts found c.len.ensures.good c.in_ok-script_places.ensures c.as_slice.ensures c.script_place_search.ensures in
     record {
       some = answers_first tree types parts found value;
       none = answers_none tree types parts found value;

@@ -12,7 +12,7 @@ returns c =
     let parts = c.args.parts.now in
     let found = c.script_place_search.result in
     let script_places = subst (λ ts. AreScriptPlacesOf tree ts c.in_ok-chain.chain.script_places) c.in_ok-chain.ensures.types c.in_ok-chain.ensures.script_places in
-    let value = answers_same tree types _ _ parts found c.script_place_search.ensures.good script_places c.as_slice.ensures c.script_place_search.ensures.value in
+    let value = answers_same tree types _ _ parts found c.len.ensures.good script_places c.as_slice.ensures c.script_place_search.ensures in
     record {
       some = answers_first tree types parts found value;
       none = answers_none tree types parts found value;

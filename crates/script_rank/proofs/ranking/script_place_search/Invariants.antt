@@ -5,4 +5,4 @@ use Rattle.script_rank.proofs.ranking.script_place_search.Given as goal
 
 -- no naming before has a script
 abbrev pub invariant-loop-naming : goal.invariant-loop-naming
-invariant-loop-naming l = first_of (at_script_places l.tree l.parts l.script_places) l.naming-items ≡ first_of (at_script_places l.tree l.parts l.script_places) (drop l.naming-index l.naming-items)
+invariant-loop-naming g l = first_of (at_script_places (g.S.Scripts.tells l.scripts) l.parts l.script_places) l.naming-items ≡ first_of (at_script_places (g.S.Scripts.tells l.scripts) l.parts l.script_places) (drop l.naming-index l.naming-items)

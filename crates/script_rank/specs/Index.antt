@@ -1,0 +1,38 @@
+-- The scripts of a tree as a list, and what a patch of the tree changes of it.
+use Rattle.std.specs.Prelude.{◌≡◌, ◌≤◌, ◌&&◌, ◌||◌, ℕ, Bool, not, List, length}
+use Rattle.std.specs.List.{list_any}
+use Rattle.sp_base.specs.Texts.{Segments}
+use Rattle.resource_tree.specs.Content.{Content, IsGood, node_at, same_path}
+use Rattle.resource_tree.specs.Patches.{PatchEntries, patching_at}
+use Rattle.script_rank.specs.Ranking.{is_script}
+
+-- whether a path is among some
+abbrev pub has_path : List Segments → Segments → Bool
+has_path paths path = list_any (same_path path) paths
+
+-- the paths of scripts, and for how many more there is room
+pub record Index : Type 0 where
+  pub scripts : List Segments
+  pub room : ℕ
+
+-- The index lists the scripts of the tree, and nothing else.
+pub record IsIndexOf (tree : Content) (index : Index) : Type 0 where
+  pub scripts : (path : Segments) → has_path index.scripts path ≡ is_script tree path
+
+-- the paths that become those of scripts, and those of the scripts that are gone
+pub record Change : Type 0 where
+  pub added : List Segments
+  pub gone : List Segments
+
+-- whether there is a script at a path after a change
+abbrev pub is_script_after : Change → Segments → Bool → Bool
+is_script_after change path before = has_path change.added path || (before && not (has_path change.gone path))
+
+-- The change is the one that a patch of a tree makes: it leads from the scripts of the tree to those of each tree that has the patch over it.
+pub record IsChangeOf (tree : Content) (patch : PatchEntries) (change : Change) : Type 0 where
+  pub scripts : (after : Content) → IsGood after → ((path : Segments) → node_at after path ≡ patching_at tree patch path)
+      → (path : Segments) → is_script after path ≡ is_script_after change path (is_script tree path)
+
+-- The index has room for the change.
+abbrev pub HasRoom : Index → Change → Type 0
+HasRoom index change = length change.added ≤ index.room

@@ -1,0 +1,115 @@
+// The change of an index by a patch of the tree.
+ghost use Rattle.std.specs.Prelude.{◌≡◌, ◌≤◌, ◌&&◌, ◌||◌, ℕ, List, not, IfOk, OnOk, length};
+ghost use Rattle.resource_tree.specs.Content.{Content, IsGood, node_at, same_path};
+ghost use Rattle.resource_tree.specs.Patches.{PatchEntries, patching_at};
+ghost use Rattle.script_rank.specs.Index.{HasRoom, IsChangeOf, IsIndexOf, has_path};
+ghost use Rattle.script_rank.specs.Noting.{NotesEntry, has_text_there, leaves_text};
+
+use crate::ScriptIndex;
+use crate::texts::{has_text_there, is_text_path, leaves_text, push_script};
+use resource_tree::{Patch, PatchNode, Tree};
+use sp_base::{Mem, Path};
+use std::alloc::Global;
+use std::marker::Model;
+
+/// What a patch changes in an index: the paths that become those of scripts, and those of the scripts that are gone.
+#[derive(Drop)]
+pub struct ScriptChange {
+    added: Vec<Path>,
+    gone: Vec<Path>,
+}
+
+impl Model for ScriptChange {
+    ghost use Rattle.script_rank.specs.Index.{Change};
+
+    ghost Value = { Change };
+
+    ghost view = { λ c. record { added = c.added.items; gone = c.gone.items } };
+}
+
+impl ScriptIndex {
+    /// What a patch of a tree changes in the tree's index, for which room is made here: all memory that the change takes. It looks at
+    /// the entries of the patch alone, and of these at the nodes that may hold the text of a script.
+    pub fn change_of(&mut self, alloc: Global, tree: &Tree, patch: &Patch) -> Mem<ScriptChange>
+        ensures change { IfOk result (IsChangeOf tree.now patch.now) }
+        ensures room { IfOk result (HasRoom self.new) }
+        ensures unchanged { self.new.scripts ≡ self.old.scripts }
+    {
+        let change = script_change(alloc, tree, patch)?;
+        self.make_room(change.added.len())?;
+        Ok(change)
+    }
+
+    /// Changes the index, with no memory: the index of a tree becomes that of each tree that has the patch over it.
+    pub fn take(&mut self, change: ScriptChange)
+        requires { HasRoom self.old change }
+        ensures { (tree after : Content) (patch : PatchEntries) → IsIndexOf tree self.old → IsChangeOf tree patch change → IsGood after → ((path : List (List ℕ)) → node_at after path ≡ patching_at tree patch path) → IsIndexOf after self.new }
+    {
+        let ScriptChange { added, gone } = change;
+        self.forget_all(&gone);
+        self.put_all(added);
+    }
+
+    fn forget_all(&mut self, gone: &[Path])
+        ensures scripts { (q : List (List ℕ)) → has_path self.new.scripts q ≡ (has_path self.old.scripts q && not (has_path gone.now q)) }
+        ensures room { self.old.room ≤ self.new.room }
+    {
+        for path in gone {
+            self.forget(path);
+        }
+    }
+
+    fn put_all(&mut self, added: Vec<Path>)
+        requires { length added.items ≤ self.old.room }
+        ensures { (q : List (List ℕ)) → has_path self.new.scripts q ≡ (has_path self.old.scripts q || has_path added.items q) }
+    {
+        let mut left = added;
+        while let Some(path) = left.pop() {
+            self.put_in_room(path);
+        }
+    }
+}
+
+fn script_change(alloc: Global, tree: &Tree, patch: &Patch) -> Mem<ScriptChange>
+    ensures { IfOk result (IsChangeOf tree.now patch.now) }
+{
+    // What holds of each tree leaves no text of a script without its node.
+    let _ = tree.len();
+    let mut change = ScriptChange {
+        added: Vec::new(alloc),
+        gone: Vec::new(alloc),
+    };
+    for place in 0..patch.len() {
+        let Some((path, row)) = patch.at(place) else {
+            continue;
+        };
+        note_entry(&mut change, alloc, tree, path, row)?;
+    }
+    Ok(change)
+}
+
+// Notes the script that an entry of a patch makes or takes away, by its text.
+fn note_entry(
+    change: &mut ScriptChange,
+    alloc: Global,
+    tree: &Tree,
+    path: &Path,
+    row: &PatchNode,
+) -> Mem<()>
+    ensures { OnOk result (NotesEntry path.now (has_text_there (node_at tree.now path.now)) (leaves_text row.now) change.old change.new) }
+{
+    if !is_text_path(path) {
+        return Ok(());
+    }
+    let before = has_text_there(tree.node(path));
+    let after = leaves_text(row);
+    push_script(&mut change.added, alloc, path, becomes(before, after))?;
+    push_script(&mut change.gone, alloc, path, becomes(after, before))
+}
+
+// Whether something holds after that didn't before.
+fn becomes(before: bool, after: bool) -> bool
+    ensures { result ≡ (after && not before) }
+{
+    after && !before
+}

@@ -3,6 +3,7 @@
 use Rattle.std.specs.Prelude.{◌≡◌, ◌+◌, ◌-◌, ℕ, List, [], drop, take, length, filter, slice_get, unwrap_or}
 use Rattle.std.specs.List.{slice_split, before_first}
 use Rattle.sp_base.specs.Bytes.{is_dot, is_slash, is_full, dotted_text}
+use Rattle.sp_base.specs.Texts.{Text}
 
 -- the text before its first dot
 abbrev pub stem : List ℕ → List ℕ
@@ -17,7 +18,7 @@ abbrev pub url_ending : List ℕ → List ℕ
 url_ending text = before_first is_slash (after_dot text)
 
 -- its pieces between dots
-abbrev pub url_pieces : List ℕ → List (List ℕ)
+abbrev pub url_pieces : List ℕ → List Text
 url_pieces text = slice_split is_dot (url_ending text)
 
 -- the last piece is the extension
@@ -26,7 +27,7 @@ extension text = unwrap_or (slice_get (url_pieces text) (length (url_pieces text
 
 -- a text of pieces with a dot before each; only private functions need this
 abbrev pub IsDotted : List ℕ → Type 0
-IsDotted text = (url_pieces : List (List ℕ)) × (text ≡ dotted_text url_pieces)
+IsDotted text = (url_pieces : List Text) × (text ≡ dotted_text url_pieces)
 
 -- the pieces before it that aren't empty are the selectors: a dot before each, but for the first
 abbrev pub selectors : List ℕ → List ℕ

@@ -165,12 +165,7 @@ fn path_at(alloc: Global, text: &str) -> Mem<Path> {
     Ok(Path::read_or_none(alloc, text)?.unwrap_or_else(|| Path::root(alloc)))
 }
 
-fn step(
-    alloc: Global,
-    tree: &mut Tree,
-    index: &mut ScriptIndex,
-    numbers: &mut Numbers,
-) -> Mem<()> {
+fn step(alloc: Global, tree: &mut Tree, index: &mut ScriptIndex, numbers: &mut Numbers) -> Mem<()> {
     let kind = numbers.below(20);
     let name = numbers.path();
     let path = path_at(alloc, name)?;

@@ -1,6 +1,7 @@
 -- Bytes of texts: which a byte is, what begins a text, the pieces between dots, and the first of texts.
 use Rattle.std.specs.Prelude.{◌<◌, ◌==◌, ◌&&◌, ℕ, Bool, false, not, nat_le, List, [], ◌∷◌, Option, Some, None, flat_map, length}
 use Rattle.std.specs.List.{AllByRecursion}
+use Rattle.sp_base.specs.Texts.{Text}
 
 -- bytes have 8 bits
 abbrev pub AreBytes : List ℕ → Type 0
@@ -40,10 +41,10 @@ abbrev pub is_full : List ℕ → Bool
 is_full piece = not (length piece == 0)
 
 -- pieces with a dot before each
-abbrev pub dotted_text : List (List ℕ) → List ℕ
+abbrev pub dotted_text : List Text → Text
 dotted_text pieces = flat_map (λ piece. 46 ∷ piece) pieces
 
 -- the first of texts
-abbrev pub first_text : List (List ℕ) → Option (List ℕ)
+abbrev pub first_text : List Text → Option Text
 first_text [] = None
 first_text (text ∷ texts) = Some text

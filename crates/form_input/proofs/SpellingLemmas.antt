@@ -1,5 +1,5 @@
 -- What a field with parameters is read as is what its grammar spells.
-use Rattle.std.proofs.Common.{◌≡◌, ◌<◌, ℕ, zero, suc, Bool, true, false, cond, not, ◌&&◌, ◌||◌, eqb, List, [], ◌∷◌, ◌++◌, Option, Some, None, take, drop, length, map, slice_index, get_or, refl, ap, sym, ◌∙◌, subst, arith, append_assoc}
+use Rattle.std.proofs.Common.{◌≡◌, ℕ, Bool, true, false, cond, not, ◌&&◌, ◌||◌, eqb, List, [], ◌∷◌, ◌++◌, Option, Some, None, take, drop, length, map, slice_index, get_or, refl, ap, sym, ◌∙◌, subst, arith, append_assoc}
 use Rattle.std.proofs.lemmas.Bool.{and_parts, or_parts, not-true, eqb-true}
 use Rattle.std.proofs.lemmas.Bool.Decides.{nat_tests}
 use Rattle.std.proofs.lemmas.List.{append-nil}
@@ -8,8 +8,8 @@ use Rattle.std.specs.List.{list_all, flat_map, find, filter_map}
 use Rattle.std.specs.Option.{option_map}
 use Rattle.std.specs.Str.{str_eq_ignore_ascii_case, bytes_eq}
 use Rattle.form_input.specs.declared.parameters.Quoting.{Quoting}
-use Rattle.form_input.specs.declared.parameters.Quoting.TheVariants.{Outside, Inside, Escaped}
-use Rattle.form_input.specs.Parameters.{is_space_or_tab, after_blanks, before_blanks, trimmed_text, quoting_step, separates, parameter_pieces_from, parameter_pieces, is_type, after_separator, after_name, with_byte, word_in_quotes, parameter_word, word_or, parameter_word_in, parameter}
+use Rattle.form_input.specs.declared.parameters.Quoting.TheVariants.{Outside, Inside}
+use Rattle.form_input.specs.Parameters.{is_space_or_tab, after_blanks, before_blanks, trimmed_text, quoting_step, separates, parameter_pieces_from, parameter_pieces, is_type, after_separator, after_name, word_in_quotes, parameter_word, word_or, parameter_word_in, parameter}
 use Rattle.form_input.specs.Spelling as spelled
 use Rattle.form_input.specs.Spelling.{is_bare_byte, is_name_byte, QuotedByte, byte_spelling, meant_byte, is_quoted_byte, ParameterValue, value_spelling, meant_word, is_parameter_value, FieldParameter, parameter_spelling, is_parameter, FieldPiece, piece_spelling, is_field_piece, pieces_spelling, IsFieldOf, word_named}
 use Rattle.form_input.proofs.ParameterLemmas.{with_prefix, with_prefix_none, piece_goes_on, piece_ends, piece_last}

@@ -1,6 +1,6 @@
 -- A header field with parameters as a grammar spells it (RFC 9110, sections 5.6.2 to 5.6.6): a type, and after each semicolon a parameter or
 -- none, with blanks around it. What stands in no quotes may have more bytes than those of a token, as `:`, `=` and `@`.
-use Rattle.std.specs.Prelude.{◌≡◌, ◌==◌, ◌&&◌, ◌||◌, ℕ, Bool, true, not, nat_lt, List, [], ◌∷◌, ◌++◌, Option, Some, None, codes, find, filter_map, flat_map, length, map, option_map}
+use Rattle.std.specs.Prelude.{◌≡◌, ◌==◌, ◌&&◌, ◌||◌, ℕ, Bool, true, not, List, [], ◌∷◌, ◌++◌, Option, Some, None, codes, find, filter_map, flat_map, map, option_map}
 use Rattle.std.specs.List.{list_all, list_any}
 use Rattle.std.specs.Char.{is_ascii_alphanumeric}
 use Rattle.std.specs.Str.{str_eq_ignore_ascii_case}

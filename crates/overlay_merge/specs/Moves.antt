@@ -1,5 +1,5 @@
 -- Where a kid stands that is moved before another.
-use Rattle.std.specs.Prelude.{◌≡◌, ◌∷◌, ◌++◌, Bool, List, not, filter, nat_eq}
+use Rattle.std.specs.Prelude.{◌≡◌, ◌∷◌, ◌++◌, List, not, filter, nat_eq}
 use Rattle.std.specs.Cmp.Lexicographic.{pointwise}
 use Rattle.sp_base.specs.Texts.{Text}
 

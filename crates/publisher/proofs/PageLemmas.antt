@@ -1,7 +1,6 @@
 -- Pages that are gathered one after another.
 use Rattle.std.proofs.lemmas.Bool.Decides.{nat_tests}
-use Rattle.std.proofs.Common.{◌≡◌, ◌⊎◌, nat_lt, nat_le, ◌≢◌, ◌≤◌, ◌<◌, ◌+◌, ◌||◌, inl, inr, ℕ, zero, suc, Bool, true, false, cond, List, [], ◌∷◌, ◌++◌, length, Result, Ok, Err, OnOk, IfErr, refl, ap, sym, subst, ◌∙◌, arith, append_assoc, length-append, append-nil}
-use Rattle.std.specs.List.{flat_map}
+use Rattle.std.proofs.Common.{◌≡◌, ◌⊎◌, nat_lt, nat_le, ◌≢◌, ◌≤◌, ◌<◌, ◌+◌, ◌||◌, inl, inr, ℕ, Bool, true, false, cond, List, [], ◌∷◌, ◌++◌, length, Result, Ok, Err, refl, ap, sym, subst, ◌∙◌, arith, append_assoc, length-append, append-nil}
 use Rattle.std.proofs.lemmas.List.Sums.{sum_by-append}
 use Rattle.sp_base.specs.Limits.{most_rendered_bytes}
 use Rattle.sp_base.specs.Texts.{Text}
@@ -9,7 +8,7 @@ use Rattle.htl_blocks.specs.Parts.{Part, Byte, Round, Script, Resource, inclusio
 use Rattle.htl_blocks.specs.Refused.{most_inclusions, most_rounds}
 use Rattle.publisher.specs.declared.page_fault.PageFault.{PageFault}
 use Rattle.publisher.specs.declared.page_fault.PageFault.TheVariants.{NoMemory}
-use Rattle.publisher.specs.Pages.{Page, blank, is_over, joined, part_page, parts_page, one_inclusion, rounds_page, text_page, too_deep}
+use Rattle.publisher.specs.Pages.{Page, blank, is_over, joined, part_page, parts_page, one_inclusion, rounds_page, text_page}
 use Rattle.publisher.specs.Gathering.{Gathered, IsPassed, PassLimits}
 
 pub page_same : (a b : Page) → a.text ≡ b.text → a.inclusions ≡ b.inclusions → a.rounds ≡ b.rounds → a.is_deep ≡ b.is_deep → a ≡ b

@@ -1,5 +1,5 @@
 -- One step of putting a page together.
-use Rattle.std.proofs.Common.{inl, ◌≡◌, ◌≢◌, ◌≤◌, ◌<◌, ◌+◌, ◌-◌, ℕ, zero, suc, Bool, true, false, List, [], ◌∷◌, ◌++◌, Option, Some, None, Result, Ok, Err, length, take, drop, get_or, refl, ap, sym, subst, ◌∙◌, arith, append-nil}
+use Rattle.std.proofs.Common.{inl, ◌≡◌, ◌≢◌, ◌≤◌, ◌<◌, ◌+◌, ◌-◌, ℕ, zero, suc, Bool, true, false, List, [], ◌∷◌, ◌++◌, Option, Some, None, Result, length, take, drop, get_or, refl, ap, sym, subst, ◌∙◌, arith, append-nil}
 use Rattle.std.specs.Prelude.{if◌then◌else◌, option_map}
 use Rattle.std.specs.List.{flat_map}
 use Rattle.std.proofs.lemmas.List.{take_all, take_more, take-append-drop}
@@ -16,7 +16,7 @@ use Rattle.htl_blocks.specs.Parts.{Part, Script, Resource as ResourcePart, round
 use Rattle.publisher.specs.declared.page_fault.PageFault.{PageFault}
 use Rattle.publisher.specs.declared.page_fault.PageFault.TheVariants.{NoMemory}
 use Rattle.publisher.specs.Gathering.{Gathered, IsPassed, PassLimits}
-use Rattle.publisher.specs.Pages.{Page, Place, blank, html_parts, included_resource, included_script, inclusion, joined, one_inclusion, parts_page, path_named, place_of, put_in, resource_by, rounds_page, shown_resource, too_deep, written_by_script, written_page}
+use Rattle.publisher.specs.Pages.{Page, Place, blank, html_parts, included_resource, included_script, inclusion, joined, one_inclusion, parts_page, path_named, put_in, resource_by, rounds_page, shown_resource, too_deep, written_by_script, written_page}
 use Rattle.publisher.proofs.PageLemmas.{after, joined_assoc, joined_blank, parts_append, parts_pass, passed_before, passed_more, resource_is, rounds_apart, script_is, stopped}
 
 -- ---- the blocks of a script

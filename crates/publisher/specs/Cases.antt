@@ -1,6 +1,6 @@
 -- What a request is answered, case by case, as docs/sling/RENDERING.md has them: each with all that makes it the first that applies. It is
 -- the same answer as that of `Rendering.antt` (law `an_answer_is_one_of_the_cases`), said by relations in place of searches.
-use Rattle.std.specs.Prelude.{◌≡◌, ◌<◌, ◌≤◌, ℕ, true, false, List, [], Some, None}
+use Rattle.std.specs.Prelude.{◌≡◌, ◌<◌, ◌≤◌, ℕ, true, false, List, Some, None}
 use Rattle.sp_base.specs.Texts.{Segments}
 use Rattle.sp_base.specs.Paths.{text_of}
 use Rattle.sp_base.specs.declared.answer.Answer.{Answer}

@@ -1,5 +1,5 @@
 -- A page while it is gathered. Only proofs and private functions need this.
-use Rattle.std.specs.Prelude.{◌≡◌, ◌≢◌, ◌≤◌, ◌<◌, ◌⊎◌, ℕ, true, List, Result, Ok, Err, length}
+use Rattle.std.specs.Prelude.{◌≡◌, ◌≢◌, ◌<◌, ◌⊎◌, true, List, Result, Ok, Err, length}
 use Rattle.sp_base.specs.Limits.{most_rendered_bytes}
 use Rattle.sp_base.specs.Texts.{Pairs}
 use Rattle.htl_expr.specs.Bindings.{Bindings}

@@ -1,5 +1,5 @@
 -- What the publisher answers: the first of these that applies.
-use Rattle.std.specs.Prelude.{◌==◌, ◌&&◌, ◌||◌, ℕ, Bool, nat_eq, nat_le, if◌then◌else◌, List, [], Option, Some, None, option_and_then, option_map, codes, length}
+use Rattle.std.specs.Prelude.{◌==◌, ◌&&◌, ◌||◌, ℕ, Bool, nat_eq, nat_le, if◌then◌else◌, List, Option, Some, None, option_and_then, option_map, codes, length}
 use Rattle.std.specs.Cmp.Lexicographic.{pointwise}
 use Rattle.sp_base.specs.Limits.{most_rendered_bytes}
 use Rattle.sp_base.specs.Paths.{text_of}

@@ -1,5 +1,5 @@
 -- Scaffolding: a resource that is seen without its kids, for private functions and for proofs alone. A reader of the theorem needs none of it.
-use Rattle.std.specs.Prelude.{◌≡◌, ◌==◌, ℕ, Bool, true, not, if◌then◌else◌, List, Option, Some, None}
+use Rattle.std.specs.Prelude.{◌≡◌, ◌==◌, Bool, true, not, if◌then◌else◌, Option, Some, None}
 use Rattle.sp_base.specs.declared.answer.Answer.{Answer}
 use Rattle.resource_tree.specs.Content.{Content}
 use Rattle.resource_tree.specs.Seen.{Resource}

@@ -1,5 +1,5 @@
 //! Laws of the rendering, on functions that do nothing.
-ghost use Rattle.std.specs.Prelude.{◌≡◌, ◌≢◌, ◌≤◌, ◌<◌, ◌||◌, [], ℕ, IsTrue, List, Some, true, length};
+ghost use Rattle.std.specs.Prelude.{◌≡◌, ◌≢◌, ◌≤◌, ◌<◌, ◌||◌, [], ℕ, IsTrue, List, true, length};
 ghost use Rattle.sp_base.specs.Limits.{most_rendered_bytes};
 ghost use Rattle.sp_base.specs.MediaTypes.{is_kind};
 ghost use Rattle.sp_base.specs.Paths.{text_of};

@@ -1,6 +1,6 @@
 // The text of a page while it is put together.
 
-ghost use Rattle.std.specs.Prelude.{◌≡◌, ◌≢◌, ◌≤◌, ◌<◌, ◌++◌, IfErr, OnOk, OnErr, false, length, string_bytes};
+ghost use Rattle.std.specs.Prelude.{◌≡◌, ◌≤◌, ◌<◌, false, length, string_bytes};
 ghost use Rattle.sp_base.specs.Limits.{most_rendered_bytes};
 ghost use Rattle.htl_blocks.specs.Refused.{most_inclusions, most_rounds};
 ghost use Rattle.publisher.specs.Gathering.{Gathered};

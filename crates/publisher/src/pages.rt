@@ -1,14 +1,13 @@
 // Pages: what a script writes, with what is put in.
 
-ghost use Rattle.std.specs.Prelude.{◌≡◌, ◌≢◌, [], IfOk, IfErr, true};
+ghost use Rattle.std.specs.Prelude.{◌≡◌, ◌≢◌, IfOk, IfErr};
 ghost use Rattle.htl_expr.specs.Variables.{vars_of};
 ghost use Rattle.htl_blocks.specs.Parts as part;
 ghost use Rattle.htl_blocks.specs.Pieces.{piece_parts};
-ghost use Rattle.htl_blocks.specs.Refused.{IsRefused};
 ghost use Rattle.htl_blocks.specs.Written.{blocks_parts};
 ghost use Rattle.publisher.specs.Gathering.{Gathered, PassLimits, bindings_in, inclusion_in, place_in, vars_in};
 ghost use Rattle.publisher.specs.Kept.{AreReadings};
-ghost use Rattle.publisher.specs.Pages.{inclusion, included_script, included_resource, path_named, parts_page, resource_by, shown_resource, written_by_script, written_page};
+ghost use Rattle.publisher.specs.Pages.{inclusion, path_named, parts_page, written_by_script, written_page};
 
 use crate::names::path_named;
 use crate::page_fault::PageFault;
@@ -20,7 +19,6 @@ use crate::templates::Templates;
 use htl_blocks::{Blocks, Piece, PieceList, RunFault};
 use htl_expr::{Scope, Variables};
 use overlay_merge::merged_alone;
-use sp_base::Path;
 use std::alloc::Global;
 
 // What the blocks of a script write, as pieces.

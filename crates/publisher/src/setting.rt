@@ -1,7 +1,7 @@
 // Where a script stands while a page is put together.
 
 ghost use Rattle.std.specs.Prelude.{◌≡◌};
-ghost use Rattle.publisher.specs.Gathering.{bindings_in, place_in};
+ghost use Rattle.publisher.specs.Gathering.{bindings_in};
 
 use htl_expr::{Scope, Variables};
 use resource_tree::Tree;

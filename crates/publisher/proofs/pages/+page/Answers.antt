@@ -1,4 +1,4 @@
-use Rattle.std.proofs.Common.{rules, ◌≡◌, ◌≢◌, ◌∙◌, ◌-◌, [], None, Some, List, sym, ap, subst, arith}
+use Rattle.std.proofs.Common.{rules, ◌≢◌, ◌∙◌, ◌-◌, None, Some, List, sym, ap, subst}
 use Rattle.htl_expr.specs.Bindings.{Bindings}
 use Rattle.htl_expr.specs.Variables.{lent_pairs, vars_of}
 use Rattle.htl_expr.proofs.VariableLemmas.{none_are, pairs_are}
@@ -8,9 +8,9 @@ use Rattle.htl_blocks.specs.Pieces.{piece_parts, within}
 use Rattle.htl_blocks.specs.Written.{blocks_parts}
 use Rattle.publisher.specs.Gathering.{Gathered, IsPassed, PassLimits, bindings_in, inclusion_in, place_in}
 use Rattle.publisher.specs.declared.page_fault.PageFault.TheVariants.{NoMemory}
-use Rattle.publisher.specs.Pages.{Page, inclusion, joined, parts_page, text_page, written_page}
+use Rattle.publisher.specs.Pages.{inclusion, joined, parts_page, text_page, written_page}
 use Rattle.publisher.proofs.PageLemmas.{parts_none, text_is}
-use Rattle.publisher.proofs.PageSteps.{blocks_written, by_step, deep_stops, each_done, each_more, each_stopped, nothing_more, pieces_stop, resource_step, resource_stopped, resource_written, rounds_stop, script_step, script_stopped, script_written, shown_step, written_for}
+use Rattle.publisher.proofs.PageSteps.{blocks_written, by_step, deep_stops, each_more, each_stopped, nothing_more, pieces_stop, resource_step, resource_stopped, resource_written, rounds_stop, script_step, script_stopped, script_written, shown_step, written_for}
 use Rattle.publisher.proofs.pages.+page.Goals as goal
 
 pub include_resource-returns-then-setting-eq0-clause-page : goal.include_resource-returns-then-setting-eq0-clause-page

@@ -1,7 +1,5 @@
-use Rattle.std.proofs.Common.{◌≡◌, Some, None, sym, ◌∙◌, ap}
-use Rattle.std.specs.Prelude.{option_map}
+use Rattle.std.proofs.Common.{sym, ◌∙◌, ap}
 use Rattle.script_rank.specs.Ranking.{script_text}
-use Rattle.publisher.specs.Readings.{reading_of}
 use Rattle.publisher.specs.SeenAlone.{seen_answer}
 use Rattle.publisher.proofs.SeenAloneLemmas.{answer-as, read-written, unread}
 use Rattle.publisher.proofs.representations.answer_by_script.Goals as goal

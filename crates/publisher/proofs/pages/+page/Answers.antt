@@ -153,6 +153,6 @@ write_pieces-returns-in_err-write_piece-clause-page t c =
 
 pub write_pieces-loop-piece-preserved : goal.write_pieces-loop-piece-preserved
 write_pieces-loop-piece-preserved t c = (
-      each_more (inclusion_in c.args.setting.now) (piece_parts c.args.list.now.scope) c.args.page.now c.loop-piece.page c.write_piece.new.page c.pieces-piece-items.result.now c.loop-piece.piece-index c.piece-item.result c.piece-item.result c.loop-piece-test.true c.piece-item.is c.loop-piece.invariant.0 c.in_ok-write_piece.ensures.page,
-      c.in_ok-write_piece.ensures.kept,
-    )
+  each_more (inclusion_in c.args.setting.now) (piece_parts c.args.list.now.scope) c.args.page.now c.loop-piece.page c.write_piece.new.page c.pieces-piece-items.result.now c.loop-piece.piece-index c.piece-item.result c.piece-item.result c.loop-piece-test.true c.piece-item.is c.loop-piece.invariant.0 c.in_ok-write_piece.ensures.page,
+  c.in_ok-write_piece.ensures.kept,
+)

@@ -9,7 +9,7 @@ use Rattle.htl_blocks.specs.Refused.{most_inclusions, most_rounds}
 use Rattle.publisher.specs.declared.page_fault.PageFault.{PageFault}
 use Rattle.publisher.specs.declared.page_fault.PageFault.TheVariants.{NoMemory}
 use Rattle.publisher.specs.declared.setting.Setting.{Setting}
-use Rattle.publisher.specs.Pages.{Page, Place, bindings_at, inclusion, joined}
+use Rattle.publisher.specs.Pages.{Page, Place, bindings_at, inclusion, joined, written_by_script, written_page}
 
 -- the place of a setting
 abbrev pub place_in : Setting → Place
@@ -26,6 +26,10 @@ bindings_in s = bindings_at (place_in s) (vars_in s)
 -- what stands in a setting for a part that puts something in
 abbrev pub inclusion_in : Setting → Part → Page
 inclusion_in s = inclusion s.tree.now s.levels (place_in s)
+
+-- what the script of a setting writes there, with what it puts in
+abbrev pub script_page : Setting → Page
+script_page s = written_page (inclusion s.tree.now s.levels) (written_by_script s.tree.now (place_in s) (vars_in s))
 
 -- a limit is passed
 abbrev pub IsPassed : Page → Type 0

@@ -5,9 +5,9 @@ ghost use Rattle.htl_expr.specs.Variables.{vars_of};
 ghost use Rattle.htl_blocks.specs.Parts as part;
 ghost use Rattle.htl_blocks.specs.Pieces.{piece_parts};
 ghost use Rattle.htl_blocks.specs.Written.{blocks_parts};
-ghost use Rattle.publisher.specs.Gathering.{Gathered, PassLimits, bindings_in, inclusion_in, place_in, vars_in};
+ghost use Rattle.publisher.specs.Gathering.{Gathered, PassLimits, bindings_in, inclusion_in, script_page};
 ghost use Rattle.publisher.specs.Kept.{AreReadings};
-ghost use Rattle.publisher.specs.Pages.{inclusion, path_named, parts_page, written_by_script, written_page};
+ghost use Rattle.publisher.specs.Pages.{parts_page};
 
 use crate::names::path_named;
 use crate::page_fault::PageFault;
@@ -183,7 +183,7 @@ fn write_script(
     setting: &Setting,
 ) -> Result<(), PageFault>
     requires kept { AreReadings setting.now.tree.now templates.old }
-    ensures page { Gathered result page.old page.new (written_page (inclusion setting.now.tree.now setting.now.levels) (written_by_script setting.now.tree.now (place_in setting.now) (vars_in setting.now))) }
+    ensures page { Gathered result page.old page.new (script_page setting.now) }
     ensures kept { AreReadings setting.now.tree.now templates.new }
 {
     let Some(blocks) = script_blocks(alloc, setting.tree, templates, setting.script)? else {

@@ -2,6 +2,8 @@
 #![tactic(auto)]
 
 #[cfg(test)]
+mod folder_disk;
+#[cfg(test)]
 mod mem_disk;
 #[cfg(test)]
 mod real_disk;

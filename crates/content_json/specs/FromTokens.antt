@@ -1,5 +1,5 @@
 -- What proofs and private functions need: the members of an object that is read token by token.
-use Rattle.std.specs.Prelude.{◌≡◌, ◌+◌, not, ◌&&◌, ◌||◌, ◌++◌, ℕ, suc, map, filter, length, List, true, false, Some, None, option_and_then, unwrap_or, [], if◌then◌else◌}
+use Rattle.std.specs.Prelude.{◌≡◌, ◌+◌, not, ◌&&◌, ◌||◌, ◌++◌, ℕ, suc, map, filter, length, List, ◌∷◌, Bool, true, false, Some, None, option_and_then, unwrap_or, [], if◌then◌else◌}
 use Rattle.std.specs.Cmp.Lexicographic.{slice_cmp}
 use Rattle.std.specs.Ordering.{nat_cmp}
 use Rattle.std.specs.Borrow.{Bor}
@@ -7,11 +7,11 @@ use Rattle.std.specs.BTreeSet.{contains_by}
 use Rattle.std.specs.List.{list_any}
 use Rattle.std.specs.Str.{bytes_eq}
 use Rattle.sp_base.specs.Texts.{Segments, Text}
-use Rattle.json.specs.Token.{Token}
+use Rattle.json.specs.Token.{Token, begin_object}
 use Rattle.json.specs.Json as json
 use Rattle.serde_json.specs.Data.{Data, string, array, object, Members, no_members, put}
 use Rattle.serde_json.specs.Find.{get_member}
-use Rattle.serde_json.specs.Read.{of_json, of_members, converted}
+use Rattle.serde_json.specs.Read.{of_json, of_members, converted, read}
 use Rattle.serde_json.specs.View.{items_of}
 use Rattle.sp_base.specs.declared.value.Value.{Value}
 use Rattle.content_json.specs.declared.open_object.OpenObject.{OpenObject}
@@ -19,10 +19,11 @@ use Rattle.content_json.specs.OpenProps.{held}
 use Rattle.resource_tree.specs.Content.{Content, node_at}
 use Rattle.content_json.specs.Names.{order_name, is_order, is_content_name, is_object, is_kid}
 use Rattle.content_json.specs.Lists.{data_value}
-use Rattle.content_json.specs.Faults.{fault_in}
+use Rattle.content_json.specs.ContentOf.{map_of}
+use Rattle.content_json.specs.Faults.{fault_in, names_kids}
 use Rattle.content_json.specs.Nodes.{nodes_in, nodes_below, is_deeper, is_deeper_below}
 use Rattle.content_json.specs.Members.{AreSorted, AllMembers}
-use Rattle.content_json.specs.Steps.{member_fault, member_nodes, with_nodes_at}
+use Rattle.content_json.specs.Steps.{is_sound, member_fault, member_nodes, with_nodes_at}
 
 -- a member has no fault, and no node of it stands more levels below
 pub record IsFit (levels : ℕ) (name : List ℕ) (d : Data) : Type 0 where
@@ -80,6 +81,10 @@ pub record AddsMember (levels : ℕ) (path : Segments) (name : List ℕ) (before
   pub gains : Gains before after name told
   pub nodes : (q : Segments) → node_at new q ≡ with_nodes_at old (member_nodes path name told) q
 
+-- and so with a kid whose opening brace is read already
+abbrev pub AddsKid : ℕ → Segments → List ℕ → OpenObject → OpenObject → Content → Content → List Token → List Token → Type 0
+AddsKid levels path name before after old new ts rest = AddsMember levels path name before after old new (begin_object ∷ ts) rest
+
 -- so it is with all members up to the closing brace
 pub record AddsMembers (levels : ℕ) (path : Segments) (after : OpenObject) (old new : Content) (ts rest : List Token) : Type 0 where
   pub found : Members
@@ -95,3 +100,15 @@ pub record AddsObject (levels : ℕ) (path : Segments) (old new : Content) (ts r
   pub faultless : fault_in (object found) ≡ None
   pub shallow : is_deeper_below levels found ≡ false
   pub nodes : (q : Segments) → node_at new q ≡ with_nodes_at old (nodes_in path (object found)) q
+
+-- the text is sound content, and these are its nodes
+abbrev pub IsSoundContent : List ℕ → Content → Type 0
+IsSoundContent text nodes = (ms : Members) × (read text ≡ Some (object ms)) × (is_sound ms ≡ true) × (nodes ≡ map_of (nodes_in [] (object ms)))
+
+-- each name among these is a kid's
+abbrev pub AreKids : Members → (List ℕ → Bool) → Type 0
+AreKids ms is_among = (name : List ℕ) → is_among name ≡ true → is_kid ms name ≡ true
+
+-- each text is the name of a kid, and none stands twice
+abbrev pub NamesKids : Members → List Text → Type 0
+NamesKids ms texts = names_kids ms [] (items_of (map string texts)) ≡ true

@@ -1,15 +1,10 @@
 // Reads content straight from the tokens of its JSON into nodes, where it has no fault and no kid is replaced.
-ghost use Rattle.std.specs.Prelude.{◌≡◌, ◌≤◌, ◌+◌, ◌∷◌, [], Some, None, true, false, length, IfOk, IfSome, OnOk};
-ghost use Rattle.serde_json.specs.Data.{Members, no_members, object};
-ghost use Rattle.serde_json.specs.Read.{read};
-ghost use Rattle.json.specs.Token.{begin_object};
+ghost use Rattle.std.specs.Prelude.{◌≡◌, ◌≤◌, ◌+◌, ◌∷◌, Some, None, true, false, length, IfOk, IfSome, OnOk};
+ghost use Rattle.serde_json.specs.Data.{no_members, object};
 ghost use Rattle.json.specs.Reads.{token_of};
 ghost use Rattle.sp_base.specs.Paths.{most_segments};
 ghost use Rattle.content_json.specs.Names.{is_content_name, order_name};
-ghost use Rattle.content_json.specs.ContentOf.{map_of};
-ghost use Rattle.content_json.specs.Nodes.{nodes_in};
-ghost use Rattle.content_json.specs.Steps.{is_sound};
-ghost use Rattle.content_json.specs.FromTokens.{HoldsMembers, AddsObject, AddsMembers, AddsMember, TakesIn};
+ghost use Rattle.content_json.specs.FromTokens.{HoldsMembers, IsSoundContent, AddsObject, AddsMembers, AddsMember, AddsKid, TakesIn};
 
 use crate::names::{is_content_name, is_order};
 use crate::open_object::OpenObject;
@@ -24,7 +19,7 @@ use std::hash::RandomState;
 /// The nodes of sound content. There may be none where a member takes the place of a kid of its name, where a fault is replaced by a
 /// later member of its name, and of content that isn't sound.
 pub(crate) fn nodes_of_text(alloc: Global, seeds: RandomState, text: &str) -> Mem<Option<NodeMap>>
-    ensures { IfOk result (λ found. IfSome found (λ nodes. (ms : Members) × (read text.now ≡ Some (object ms)) × (is_sound ms ≡ true) × (nodes ≡ map_of (nodes_in [] (object ms))))) }
+    ensures { IfOk result (λ found. IfSome found (IsSoundContent text.now)) }
 {
     let mut scratch = Scratch::new(alloc);
     let mut reader = Reader::new(text, &mut scratch)?;
@@ -148,7 +143,7 @@ fn add_kid<'a>(
     requires levels { length path.now + levels ≡ most_segments }
     requires plain { is_content_name name.now ≡ true }
     ensures shorter { OnOk result (length reader.new ≤ length reader.old) }
-    ensures added { IfOk result (λ done. done ≡ true → AddsMember levels path.now name.now parent.old parent.new nodes.old nodes.new (begin_object ∷ reader.old) reader.new) }
+    ensures added { IfOk result (λ done. done ≡ true → AddsKid levels path.now name.now parent.old parent.new nodes.old nodes.new reader.old reader.new) }
 {
     if levels == 0 || !parent.put_kid(name)? {
         return Ok(false);

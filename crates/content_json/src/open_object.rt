@@ -1,13 +1,10 @@
 // An object of content of which some members were read.
-ghost use Rattle.std.specs.Prelude.{◌≡◌, ◌++◌, [], ℕ, List, true, not, IfOk, IfSome, OnOk, map, filter};
+ghost use Rattle.std.specs.Prelude.{◌≡◌, ◌++◌, ℕ, List, true, not, IfOk, IfSome, OnOk, map, filter};
 ghost use Rattle.std.specs.BTreeSet.{contains_by, IsOrdered};
 ghost use Rattle.std.specs.Cmp.Lexicographic.{slice_cmp};
 ghost use Rattle.std.specs.Ordering.{nat_cmp};
-ghost use Rattle.serde_json.specs.Data.{Members, string};
-ghost use Rattle.serde_json.specs.View.{items_of};
-ghost use Rattle.content_json.specs.Names.{is_kid};
-ghost use Rattle.content_json.specs.Faults.{names_kids};
-ghost use Rattle.content_json.specs.FromTokens.{texts_in, with_others};
+ghost use Rattle.serde_json.specs.Data.{Members};
+ghost use Rattle.content_json.specs.FromTokens.{AreKids, NamesKids, texts_in, with_others};
 
 use crate::open_props::OpenProps;
 use resource_tree::Node;
@@ -105,7 +102,7 @@ fn kids_in_order<'a>(
 ) -> Mem<Option<TextList>>
     ensures ordered { IfOk result (λ found. IfSome found (λ _. IsOrdered (λ j k. slice_cmp nat_cmp j.now k.now) kids.now)) }
     ensures kids { IfOk result (λ found. IfSome found (λ names. names ≡ with_others (texts_in listed.now) (texts_in kids.now.keys))) }
-    ensures good { IfOk result (λ found. IfSome found (λ _. (ms : Members) → ((q : List ℕ) → contains_by (λ k. slice_cmp nat_cmp q k.now) kids.now ≡ true → is_kid ms q ≡ true) → names_kids ms [] (items_of (map string (texts_in listed.now))) ≡ true)) }
+    ensures good { IfOk result (λ found. IfSome found (λ _. (ms : Members) → AreKids ms (λ q. contains_by (λ k. slice_cmp nat_cmp q k.now) kids.now) → NamesKids ms (texts_in listed.now))) }
 {
     let mut first = BTreeSet::new(alloc);
     let mut names = TextList::new(alloc);
@@ -127,7 +124,7 @@ fn add_others<'a>(
     first: &BTreeSet<&'a str>,
 ) -> Mem<()>
     ensures ordered { IsOrdered (λ j k. slice_cmp nat_cmp j.now k.now) kids.now }
-    ensures names { OnOk result (names.new ≡ names.old ++ filter (λ name. not (contains_by (λ k. slice_cmp nat_cmp name k.now) first.now)) (texts_in kids.now.keys)) }
+    ensures names { OnOk result (names.new ≡ names.old ++ filter (λ n. not (contains_by (λ k. slice_cmp nat_cmp n k.now) first.now)) (texts_in kids.now.keys)) }
 {
     for name in kids {
         if !first.contains(*name) {

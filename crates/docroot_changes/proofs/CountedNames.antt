@@ -15,7 +15,7 @@ use Rattle.sp_base.specs.Texts.{Text}
 use Rattle.sp_base.specs.declared.answer.Answer.{Answer}
 use Rattle.sp_outside.specs.Calls.{Call}
 use Rattle.sp_outside.specs.Files.{Files, file_at, with_file, without_file}
-use Rattle.sp_outside.proofs.HeldFiles.{same_name}
+use Rattle.sp_outside.proofs.HeldNames.{same_name}
 use Rattle.cover_rules.specs.declared.page.PageKey.{PageKey}
 use Rattle.cover_rules.specs.declared.stamp.Stamp.{Stamp}
 use Rattle.docroot_format.specs.Names.{epoch_name}

@@ -15,7 +15,7 @@ use Rattle.std.proofs.lemmas.Map.Views.{list_any-from_Contains}
 use Rattle.sp_base.specs.Names.{by_name}
 use Rattle.sp_base.specs.Texts.{Text}
 use Rattle.sp_outside.specs.Files.{Files, file_at}
-use Rattle.sp_outside.proofs.HeldFiles.{equal, same_name}
+use Rattle.sp_outside.proofs.HeldNames.{equal, same_name}
 use Rattle.sp_outside.proofs.Listing.{rises}
 use Rattle.docroot_changes.specs.Changes.{count_names}
 

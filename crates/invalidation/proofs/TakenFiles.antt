@@ -13,7 +13,7 @@ use Rattle.sp_base.specs.Texts.{Text}
 use Rattle.sp_outside.specs.Files.{Files, IsOldOrNew, file_at, told_without, without_file}
 use Rattle.sp_outside.specs.declared.disk.DiskFault.{DiskFault}
 use Rattle.docroot_format.specs.Names.{is_page_file}
-use Rattle.sp_outside.proofs.HeldFiles.{equal, same_name}
+use Rattle.sp_outside.proofs.HeldNames.{equal, same_name}
 use Rattle.docroot_changes.specs.Changes.{Told}
 use Rattle.docroot_changes.proofs.ToldFiles.{told_made}
 use Rattle.docroot_changes.proofs.CountedNames.{more_names, no_file, same_files}

@@ -12,7 +12,7 @@ use Rattle.sp_base.specs.Names.{by_name}
 use Rattle.sp_base.specs.Paths.{mangled_segs, parent_of}
 use Rattle.sp_base.specs.Texts.{Segments, Text}
 use Rattle.sp_outside.specs.Files.{Files, file_at, with_file}
-use Rattle.sp_outside.proofs.HeldFiles.{equal, same_name}
+use Rattle.sp_outside.proofs.HeldNames.{equal, same_name}
 use Rattle.cover_rules.specs.Coverage.{handle_of, lineage, touched_of}
 use Rattle.cover_rules.specs.Pages.{is_folder_segment}
 use Rattle.cover_rules.specs.declared.invalidation.Invalidation.{Invalidation}

@@ -28,7 +28,7 @@ pub struct MemInputs {
 impl Model for MemInputs {
     ghost use Rattle.std.specs.Coded.{codes};
     ghost use Rattle.sp_outside.specs.Files.{files_code};
-    ghost use Rattle.sp_outside.specs.MemoryFiles.{files_of};
+    ghost use Rattle.sp_outside.specs.NameEntries.{kept_by_name};
     ghost use Rattle.outside_world.specs.InputMemory.{InputsState};
 
     ghost Value = { InputsState };
@@ -36,7 +36,7 @@ impl Model for MemInputs {
     ghost coded = { Prim.hlevel (codes, files_code) };
 
     ghost view = { λ i. record {
-      files = files_of i.files.entries;
+      files = kept_by_name i.files.entries;
       fails = i.fails;
       calls = i.calls;
       failed = i.failed;

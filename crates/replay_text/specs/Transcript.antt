@@ -67,6 +67,10 @@ scope_word false = codes "all"
 abbrev pub invalidation_text : Invalidation → List ℕ
 invalidation_text inv = action_text inv.action ++ codes " " ++ quotation (text_of (mangled_segs inv.handle)) ++ codes " " ++ scope_word inv.only
 
+-- the line of bytes that are handed to a connection
+abbrev pub sent_line : ℕ → List ℕ → List ℕ
+sent_line connection bytes = codes "sent " ++ decimal connection ++ codes " " ++ quotation bytes
+
 -- The line of a note, without its newline: flights, flushes and connections stand there by their numbers. A slice that left more to do
 -- has no line.
 abbrev pub note_line : Note → List ℕ
@@ -83,7 +87,7 @@ note_line (Kept n key) = codes "kept " ++ decimal n ++ codes " " ++ key_text (So
 note_line (Unkept n) = codes "unkept " ++ decimal n
 note_line (Passed n) = codes "passed " ++ decimal n
 note_line (Lost n) = codes "lost " ++ decimal n
-note_line (Sent c bytes) = codes "sent " ++ decimal c ++ codes " " ++ quotation bytes
+note_line (Sent c bytes) = sent_line c bytes
 note_line (Shut c) = codes "shut " ++ decimal c
 note_line (Refused c) = codes "refused " ++ decimal c
 note_line Idle = codes "none"

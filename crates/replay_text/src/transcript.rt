@@ -2,7 +2,7 @@
 ghost use Rattle.std.specs.Prelude.{◌≡◌, ◌++◌, [], ◌<◌, Some, IfOk, OnOk, codes};
 ghost use Rattle.std.specs.Fmt.{decimal};
 ghost use Rattle.sp_base.specs.Paths.{mangled_segs, text_of};
-ghost use Rattle.replay_text.specs.Transcript.{hex, quotation, quotation_or_dash, mark_text, answer_text, key_text, action_text, scope_word, invalidation_text, note_line, note_text, event_text};
+ghost use Rattle.replay_text.specs.Transcript.{hex, quotation, quotation_or_dash, mark_text, answer_text, key_text, action_text, scope_word, invalidation_text, note_line, sent_line, note_text, event_text};
 
 use crate::handles::mangled_text;
 use crate::quoting::{push_quoted, push_quoted_parts};
@@ -201,7 +201,7 @@ fn push_sent(
     connection: ConnectionId,
     bytes: SentParts<'_>,
 ) -> Mem<()>
-    ensures { OnOk result (out.new.items ≡ out.old.items ++ (codes "sent " ++ decimal connection ++ codes " " ++ quotation (bytes.entry.head.now ++ bytes.entry.body.now))) }
+    ensures { OnOk result (out.new.items ≡ out.old.items ++ sent_line connection (bytes.entry.head.now ++ bytes.entry.body.now)) }
 {
     push_connection(alloc, out, b"sent ", connection)?;
     push(out, b" ")?;

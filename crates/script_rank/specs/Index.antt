@@ -28,9 +28,13 @@ pub record Change : Type 0 where
 abbrev pub is_script_after : Change → Segments → Bool → Bool
 is_script_after change path before = has_path change.added path || (before && not (has_path change.gone path))
 
+-- each node of the second tree is that of the first with the patch over it
+abbrev pub HasPatchOver : Content → PatchEntries → Content → Type 0
+HasPatchOver tree patch after = (path : Segments) → node_at after path ≡ patching_at tree patch path
+
 -- The change is the one that a patch of a tree makes: it leads from the scripts of the tree to those of each tree that has the patch over it.
 pub record IsChangeOf (tree : Content) (patch : PatchEntries) (change : Change) : Type 0 where
-  pub scripts : (after : Content) → IsGood after → ((path : Segments) → node_at after path ≡ patching_at tree patch path)
+  pub scripts : (after : Content) → IsGood after → HasPatchOver tree patch after
       → (path : Segments) → is_script after path ≡ is_script_after change path (is_script tree path)
 
 -- The index has room for the change.

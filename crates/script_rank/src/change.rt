@@ -1,8 +1,8 @@
 // The change of an index by a patch of the tree.
 ghost use Rattle.std.specs.Prelude.{◌≡◌, ◌≤◌, ◌&&◌, ◌||◌, ℕ, List, not, IfOk, OnOk, length};
-ghost use Rattle.resource_tree.specs.Content.{Content, IsGood, node_at, same_path};
-ghost use Rattle.resource_tree.specs.Patches.{PatchEntries, patching_at};
-ghost use Rattle.script_rank.specs.Index.{HasRoom, IsChangeOf, IsIndexOf, has_path};
+ghost use Rattle.resource_tree.specs.Content.{Content, IsGood, node_at};
+ghost use Rattle.resource_tree.specs.Patches.{PatchEntries};
+ghost use Rattle.script_rank.specs.Index.{HasPatchOver, HasRoom, IsChangeOf, IsIndexOf, has_path};
 ghost use Rattle.script_rank.specs.Noting.{NotesEntry, has_text_there, leaves_text};
 
 use crate::ScriptIndex;
@@ -43,7 +43,7 @@ impl ScriptIndex {
     /// Changes the index, with no memory: the index of a tree becomes that of each tree that has the patch over it.
     pub fn take(&mut self, change: ScriptChange)
         requires { HasRoom self.old change }
-        ensures { (tree after : Content) (patch : PatchEntries) → IsIndexOf tree self.old → IsChangeOf tree patch change → IsGood after → ((path : List (List ℕ)) → node_at after path ≡ patching_at tree patch path) → IsIndexOf after self.new }
+        ensures { (tree after : Content) (patch : PatchEntries) → IsIndexOf tree self.old → IsChangeOf tree patch change → IsGood after → HasPatchOver tree patch after → IsIndexOf after self.new }
     {
         let ScriptChange { added, gone } = change;
         self.forget_all(&gone);

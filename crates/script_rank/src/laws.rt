@@ -26,6 +26,6 @@ pub fn one_script_is_first()
 
 /// The result of the search is the script that ranks first, and there is none exactly where there is no candidate.
 pub fn search_finds_the_first()
-    ensures first { (tree : Content) (chain : List TypeName) (parts : Parts) → IfSome (search_result tree chain parts) (λ path. IsFirstScript tree chain parts path) }
+    ensures first { (tree : Content) (chain : List TypeName) (parts : Parts) → IfSome (search_result tree chain parts) (IsFirstScript tree chain parts) }
     ensures none { (tree : Content) (chain : List TypeName) (parts : Parts) → IfNone (search_result tree chain parts) (HasNoCandidate tree chain parts) }
 {}

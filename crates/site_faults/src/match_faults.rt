@@ -1,11 +1,15 @@
 //! Properties `sling:match` by which nothing is mapped.
 
+ghost use Rattle.std.specs.Prelude.{Some};
+ghost use Rattle.site_faults.specs.FaultTexts.{match_fault_text};
+
 use crate::mappings::{is_mapping_path, leads};
 use crate::pattern_samples::begins_with_slash;
 use regex_rules::{Pattern, PatternFault};
 use resource_tree::{Node, Tree};
 use sp_base::{Items, Mem, NoMemory, Path, TextBuf};
 use std::alloc::Global;
+use std::fmt;
 
 /// The depth of the nodes at which patterns count: directly below `/etc/map/http`.
 const PATTERN_DEPTH: usize = 4;
@@ -25,6 +29,21 @@ pub enum MatchFault {
     NoTarget,
     /// It begins with a slash, where the host would stand.
     NoHost,
+}
+
+impl fmt::Display for MatchFault {
+    ghost output = { λ fault. Some (match_fault_text fault) };
+
+    fn fmt<W: fmt::Write>(&self, f: &mut fmt::Formatter<W>) -> fmt::Result {
+        match self {
+            MatchFault::Misplaced => f.write_str("Misplaced"),
+            MatchFault::NoText => f.write_str("NoText"),
+            MatchFault::NoPattern(_, at) => write!(f, "NoPattern at {at}"),
+            MatchFault::TooDeep(_, at) => write!(f, "TooDeep at {at}"),
+            MatchFault::NoTarget => f.write_str("NoTarget"),
+            MatchFault::NoHost => f.write_str("NoHost"),
+        }
+    }
 }
 
 /// A `sling:match` by which nothing is mapped.

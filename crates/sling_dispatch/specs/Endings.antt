@@ -10,7 +10,13 @@ use Rattle.content_json.specs.declared.fault.ContentFault.TheVariants.{NoMemory 
 use Rattle.cache_files.specs.declared.epoch.OpenFault.{OpenFault}
 use Rattle.cache_files.specs.declared.epoch.OpenFault.TheVariants as open_fault
 use Rattle.outside_world.specs.declared.inputs.InputFault.{InputFault}
-use Rattle.outside_world.specs.declared.inputs.InputFault.TheVariants as input_fault
+use Rattle.outside_world.specs.declared.world.WorldFault.TheVariants as world_fault
+use Rattle.sp_outside.specs.declared.source.SourceFault.TheVariants as source_fault
+use Rattle.replay_text.specs.declared.scenario.ScenarioFault.TheVariants as scenario_fault
+use Rattle.cache_files.specs.FaultTexts.{open_fault_text}
+use Rattle.outside_world.specs.FaultTexts.{input_fault_text, world_fault_text}
+use Rattle.sp_outside.specs.FaultTexts.{source_fault_text}
+use Rattle.replay_text.specs.FaultTexts.{scenario_fault_text}
 use Rattle.serve_loop.specs.declared.serving.ServeEnd.TheVariants as serve_end
 use Rattle.soak_scenarios.specs.Soaks.{generated_text}
 use Rattle.replay_text.specs.Languages.{IsRefusedWithin}
@@ -58,34 +64,21 @@ pub data Writing : Type 0 where
   Summary : (number : ℕ) → Scenario → List Event → Writing
   OfServing : ServeWriting → Writing
 
--- why no session begins
-abbrev pub opening_text : OpenFault → List ℕ
-opening_text open_fault.Foreign = codes "docroot foreign"
-opening_text open_fault.EpochEnd = codes "epoch at its end"
-opening_text open_fault.Disk = []
-opening_text open_fault.NoMemory = []
-
--- why an input wasn't read
-abbrev pub unread_text : InputFault → List ℕ → List ℕ
-unread_text input_fault.Failed name = codes "input failed: " ++ name
-unread_text input_fault.TooLong name = codes "input too long: " ++ name
-unread_text input_fault.NoMemory name = []
-
 -- the text of what is written of serving
 abbrev pub serving_output : ServeWriting → List ℕ
 serving_output (Served words) = codes "served " ++ decimal words.turns ++ 10 ∷ []
 serving_output CutOff = []
-serving_output WorldLine = codes "world failed" ++ 10 ∷ []
-serving_output DocrootLine = codes "docroot failed" ++ 10 ∷ []
-serving_output (OpeningLine fault) = opening_text fault ++ 10 ∷ []
-serving_output (InputLine fault name) = unread_text fault name ++ 10 ∷ []
+serving_output WorldLine = world_fault_text world_fault.Failed ++ 10 ∷ []
+serving_output DocrootLine = open_fault_text open_fault.Disk ++ 10 ∷ []
+serving_output (OpeningLine fault) = open_fault_text fault ++ 10 ∷ []
+serving_output (InputLine fault name) = input_fault_text fault ++ codes ": " ++ name ++ 10 ∷ []
 
 -- the text of what is written
 abbrev pub output_of : Writing → List ℕ
 output_of Nothing = []
 output_of UsageLine = codes "usage: replay | soak N | scenario N | serve CONTENT ANY TURNS fresh|warm" ++ 10 ∷ []
-output_of SourceLine = codes "source failed" ++ 10 ∷ []
-output_of (RefusalLine before) = codes "scenario refused at line " ++ decimal (before + 1) ++ 10 ∷ []
+output_of SourceLine = source_fault_text source_fault.Failed ++ 10 ∷ []
+output_of (RefusalLine before) = scenario_fault_text (scenario_fault.Line before) ++ 10 ∷ []
 output_of (ContentLine fault) = codes "content refused: " ++ fault_text fault ++ 10 ∷ []
 output_of (FarmLine refusal) = codes "farm refused: " ++ refusal_text refusal ++ 10 ∷ []
 output_of (Events s events) = told_of_events events

@@ -44,9 +44,6 @@ pub fn farm_line(alloc: Global, refusal: &FarmRefusal) -> Mem<Vec<u8>>
 pub fn unread_line(alloc: Global, fault: InputFault, name: &str) -> Mem<Vec<u8>>
     ensures { IfOk result (λ text. text.items ≡ output_of (OfServing (InputLine fault name.now))) }
 {
-    let text = match fault {
-        InputFault::NoMemory => format!(in alloc; "\n")?,
-        _ => format!(in alloc; "{fault}: {name}\n")?,
-    };
+    let text = format!(in alloc; "{fault}: {name}\n")?;
     Ok(text.into_bytes())
 }

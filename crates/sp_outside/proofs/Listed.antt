@@ -3,7 +3,7 @@ use Rattle.std.proofs.Common.{◌≡◌, ◌≢◌, ◌<◌, ◌&&◌, ◌||◌,
 use Rattle.std.specs.Prelude.{Contains, ◌↔◌}
 use Rattle.std.specs.Cmp.{eq_by_cmp_equiv}
 use Rattle.std.specs.Cmp.Lexicographic.{nat_list_cmp_total}
-use Rattle.std.specs.FinMap.{contains_key-keys, entries, entries_sorted, keys}
+use Rattle.std.specs.FinMap.{FinMap, contains_key, contains_key-keys, entries, entries_sorted, keys}
 use Rattle.std.specs.List.{AllByRecursion, filter, list_any}
 use Rattle.std.specs.List.Sorted.{IsStrictlySortedBy}
 use Rattle.std.specs.Option.{is_some}
@@ -16,33 +16,34 @@ use Rattle.std.proofs.lemmas.List.Kept.{IsStrictlySortedBy-filter}
 use Rattle.std.proofs.lemmas.Map.Views.{list_any-from_Contains}
 use Rattle.sp_base.specs.Names.{by_name}
 use Rattle.sp_outside.specs.FileNames.{HasReached, IsNameAfter}
-use Rattle.sp_outside.specs.Files.{Files, file_at, has_prefix, names_after}
-use Rattle.sp_outside.proofs.HeldFiles.{equal, same_name}
+use Rattle.sp_outside.specs.Files.{Files, file_at, has_prefix, names_after, names_from}
+use Rattle.sp_outside.specs.FolderFiles.{IsNamesOf}
+use Rattle.sp_outside.proofs.HeldNames.{equal, same_name}
 use Rattle.sp_outside.proofs.Listing.{rises, wanted}
 
 -- ---- elements
 
-here : (x : List ℕ) (xs : List (List ℕ)) → Contains (x ∷ xs) x
+pub here : (x : List ℕ) (xs : List (List ℕ)) → Contains (x ∷ xs) x
 here x xs = (0, omega arith, refl)
 
-there : (x y : List ℕ) (xs : List (List ℕ)) → Contains xs y → Contains (x ∷ xs) y
+pub there : (x y : List ℕ) (xs : List (List ℕ)) → Contains xs y → Contains (x ∷ xs) y
 there x y xs has = (suc has.0, omega (arith, has.1), has.2)
 
 at_place : (x y : List ℕ) (xs : List (List ℕ)) (k : ℕ) → k < length (x ∷ xs) → get_or (x ∷ xs) k y ≡ y → (x ≡ y) ⊎ Contains xs y
 at_place x y xs zero lt e = inl e
 at_place x y xs (suc k) lt e = inr (k, omega (arith, lt), e)
 
-first_or_rest : (x y : List ℕ) (xs : List (List ℕ)) → Contains (x ∷ xs) y → (x ≡ y) ⊎ Contains xs y
+pub first_or_rest : (x y : List ℕ) (xs : List (List ℕ)) → Contains (x ∷ xs) y → (x ≡ y) ⊎ Contains xs y
 first_or_rest x y xs has = at_place x y xs has.0 has.1 has.2
 
-kept : (test : List ℕ → Bool) (xs : List (List ℕ)) (x : List ℕ) → Contains xs x → test x ≡ true → Contains (filter test xs) x
-kept test [] x has passes = absurd (omega (arith, has.1))
-kept test (y ∷ xs) x has passes = elim (first_or_rest y x xs has) [
+kept_by : (test : List ℕ → Bool) (xs : List (List ℕ)) (x : List ℕ) → Contains xs x → test x ≡ true → Contains (filter test xs) x
+kept_by test [] x has passes = absurd (omega (arith, has.1))
+kept_by test (y ∷ xs) x has passes = elim (first_or_rest y x xs has) [
   | inl same ↦ subst (λ (l : List (List ℕ)). Contains l x) (sym (ap (λ b. cond b (y ∷ filter test xs) (filter test xs)) (ap test same ∙ passes)))
       (subst (λ z. Contains (z ∷ filter test xs) x) (sym same) (here x (filter test xs)))
   | inr more ↦ elim (test y) as (λ b. Contains (cond b (y ∷ filter test xs) (filter test xs)) x) [
-    | true ↦ there y x (filter test xs) (kept test xs x more passes)
-    | false ↦ kept test xs x more passes
+    | true ↦ there y x (filter test xs) (kept_by test xs x more passes)
+    | false ↦ kept_by test xs x more passes
   ]
 ]
 
@@ -80,25 +81,40 @@ less_is Less e = refl
 less_is Equal e = absurd (true≢false (sym e))
 less_is Greater e = absurd (true≢false (sym e))
 
-pub of_files : (files : Files) (prefix after name : List ℕ) → Contains (names_after files prefix after) name ↔ IsNameAfter files prefix after name
-of_files files prefix after name =
-    let names = names_after files prefix after in (
+pub of_names : {X : Type 0} (kept : FinMap by_name X) (prefix after name : List ℕ)
+    → Contains (names_from (keys kept) prefix after) name ↔ ((has_prefix prefix name ≡ true) × (by_name after name ≡ Less) × (contains_key kept name ≡ true))
+of_names kept prefix after name =
+    let names = names_from (keys kept) prefix after in (
       λ has.
-          let passes = All-contains (λ n. wanted prefix after n ≡ true) names name (filter_passes (wanted prefix after) (keys files)) has in
-          let known = All-contains (Contains (keys files)) names name (All-filter (wanted prefix after) (Contains (keys files)) (keys files) (All-contains_itself (keys files))) has in (
+          let passes = All-contains (λ n. wanted prefix after n ≡ true) names name (filter_passes (wanted prefix after) (keys kept)) has in
+          let known = All-contains (Contains (keys kept)) names name (All-filter (wanted prefix after) (Contains (keys kept)) (keys kept) (All-contains_itself (keys kept))) has in (
             first_true _ _ passes,
             less_is _ (second_true (has_prefix prefix name) _ passes),
-            some_there (file_at files name) (contains_key-keys files name ∙ list_any-from_Contains (eq_by_cmp_equiv nat_list_cmp_total) name (keys files) known),
+            contains_key-keys kept name ∙ list_any-from_Contains (eq_by_cmp_equiv nat_list_cmp_total) name (keys kept) known,
           ),
       λ is.
-          kept (wanted prefix after) (keys files) name
-          (among name (keys files) (sym (contains_key-keys files name) ∙ there_some (file_at files name) is.2))
+          kept_by (wanted prefix after) (keys kept) name
+          (among name (keys kept) (sym (contains_key-keys kept name) ∙ is.2))
           (ap (λ b. b && is_lt (by_name after name)) is.0 ∙ ap is_lt is.1),
     )
 
+pub of_files : (files : Files) (prefix after name : List ℕ) → Contains (names_after files prefix after) name ↔ IsNameAfter files prefix after name
+of_files files prefix after name =
+    let is = of_names files prefix after name in (
+      λ has. let named = is.0 has in (named.0, named.1, some_there (file_at files name) named.2),
+      λ named. is.1 (named.0, named.1, there_some (file_at files name) named.2),
+    )
+
+-- all names are exactly those of files
+pub all_names_of : (files : Files) (names : List (List ℕ)) → names ≡ keys files → IsNamesOf files names
+all_names_of files names is name = (
+  λ has. some_there (file_at files name) (contains_key-keys files name ∙ list_any-from_Contains (eq_by_cmp_equiv nat_list_cmp_total) name (keys files) (subst (λ (l : List (List ℕ)). Contains l name) is has)),
+  λ stands. subst (λ (l : List (List ℕ)). Contains l name) (sym is) (among name (keys files) (sym (contains_key-keys files name) ∙ there_some (file_at files name) stands)),
+)
+
 -- ---- names that rise
 
-above : (name : List ℕ) (names : List (List ℕ)) (other : List ℕ) → AllByRecursion (λ next. by_name name next ≡ Less) names → Contains names other → by_name name other ≡ Less
+pub above : (name : List ℕ) (names : List (List ℕ)) (other : List ℕ) → AllByRecursion (λ next. by_name name next ≡ Less) names → Contains names other → by_name name other ≡ Less
 above name [] other all has = absurd (omega (arith, has.1))
 above name (next ∷ names) other all has = elim (first_or_rest next other names has) [
   | inl same ↦ subst (λ n. by_name name n ≡ Less) same all.0

@@ -1,4 +1,4 @@
--- What a list of a disk in memory gives: names in their order, after one, with a prefix.
+-- What a list of the names of a set gives: names in their order, after one, with a prefix.
 use Rattle.std.proofs.Common.{◌≡◌, ◌≤◌, ◌<◌, ℕ, zero, suc, Bool, true, false, ◌&&◌, T, List, [], ◌∷◌, ◌++◌, map, take, length, get_or, cond, refl, sym, ◌∙◌, ap, subst, arith}
 use Rattle.std.specs.Prelude.{string_bytes, string_cmp, IsTrue, IsUtf8}
 use Rattle.std.specs.Borrow.{Bor}
@@ -15,7 +15,7 @@ use Rattle.std.specs.declared.ops.Bound.TheVariants.{Included, Excluded, Unbound
 use Rattle.std.specs.declared.string.String.{String}
 use Rattle.std.specs.declared.alloc.Global.{Global}
 use Rattle.std.specs.Cmp.Lexicographic.{nat_list_cmp_total}
-use Rattle.std.specs.FinMap.{keys, entries, entries_sorted, from_sorted, get-from_entries, get-from_sorted, entries-from_sorted, same_map}
+use Rattle.std.specs.FinMap.{FinMap, keys, entries, entries_sorted, from_sorted, get-from_entries, get-from_sorted, entries-from_sorted, same_map}
 use Rattle.std.specs.FinMap.Entries.{is_sorted, below_all}
 use Rattle.std.proofs.lemmas.Bool.{true≢false}
 use Rattle.std.proofs.lemmas.Str.{IsUtf8-string_bytes}
@@ -24,13 +24,13 @@ use Rattle.std.proofs.lemmas.List.{append-nil, length-append, map-append, take_a
 use Rattle.std.proofs.lemmas.List.Kept.{IsStrictlySortedBy-filter}
 use Rattle.std.proofs.lemmas.List.Elements.{filter-append, filter_passes, All-filter, All-take}
 use Rattle.sp_base.specs.Names.{by_name}
-use Rattle.sp_outside.specs.Files.{Files, IsName, IsListing, has_prefix, names_after}
-use Rattle.sp_outside.specs.MemoryFiles.{MemoryEntries, IsFirstPlace, entries_by_bytes, files_of}
-use Rattle.sp_outside.proofs.HeldFiles.{same_name}
+use Rattle.sp_outside.specs.Files.{IsName, IsListing, has_prefix, names_from}
+use Rattle.sp_outside.specs.NameEntries.{NameEntries, IsFirstPlace, entries_by_bytes, kept_by_name}
+use Rattle.sp_outside.proofs.HeldNames.{same_name}
 use Rattle.sp_outside.proofs.Prefixes.{after_both, rest_both, prefix_between, prefix_first}
 
 -- the names of entries, in their order
-abbrev pub names_of : MemoryEntries → List (List ℕ)
+abbrev pub names_of : {X : Type 0} → NameEntries X → List (List ℕ)
 names_of held = map (λ e. string_bytes e.0) held
 
 both : (a b : Bool) → T a → T b → T (a && b)
@@ -53,37 +53,37 @@ less Greater p = absurd p
 is_less : (o : Ordering) → o ≡ Less → T (is_lt o)
 is_less o e = subst (λ r. T (is_lt r)) (sym e) tt
 
-below : (key : String Global) (held : MemoryEntries) → AllByRecursion (λ other. string_cmp key other ≡ Less) (keys_of held)
+below : {X : Type 0} (key : String Global) (held : NameEntries X) → AllByRecursion (λ other. string_cmp key other ≡ Less) (keys_of held)
     → T (below_all by_name (string_bytes key) (entries_by_bytes held))
 below key [] h = tt
 below key (e ∷ held) h = both _ _ (is_less _ h.0) (below key held h.1)
 
-sorted_named : (held : MemoryEntries) → IsStrictlySortedBy string_cmp (keys_of held) → T (is_sorted by_name (entries_by_bytes held))
+sorted_named : {X : Type 0} (held : NameEntries X) → IsStrictlySortedBy string_cmp (keys_of held) → T (is_sorted by_name (entries_by_bytes held))
 unfolding IsStrictlySortedBy
 sorted_named [] h = tt
 sorted_named (e ∷ held) h = both _ _ (below e.0 held h.0) (sorted_named held h.1)
 
-entries_held : (held : MemoryEntries) → IsStrictlySortedBy string_cmp (keys_of held) → entries (files_of held) ≡ entries_by_bytes held
+entries_held : {X : Type 0} (held : NameEntries X) → IsStrictlySortedBy string_cmp (keys_of held) → entries (kept_by_name held) ≡ entries_by_bytes held
 entries_held held rising =
     let sorted = sorted_named held rising in
-    ap entries (same_map nat_list_cmp_total same_name (files_of held) (from_sorted (entries_by_bytes held)) (λ q.
+    ap entries (same_map nat_list_cmp_total same_name (kept_by_name held) (from_sorted (entries_by_bytes held)) (λ q.
     get-from_entries nat_list_cmp_total (entries_by_bytes held) q ∙ sym (get-from_sorted by_name (entries_by_bytes held) q sorted)))
     ∙ entries-from_sorted by_name (entries_by_bytes held) sorted
 
-named_names : (held : MemoryEntries) → map (λ e. e.0) (entries_by_bytes held) ≡ names_of held
+named_names : {X : Type 0} (held : NameEntries X) → map (λ e. e.0) (entries_by_bytes held) ≡ names_of held
 named_names [] = refl
 named_names (e ∷ held) = ap (λ rest. string_bytes e.0 ∷ rest) (named_names held)
 
-pub keys_held : (held : MemoryEntries) → IsStrictlySortedBy string_cmp (keys_of held) → keys (files_of held) ≡ names_of held
-keys_held held rising = ap (map (λ (e : List ℕ × List ℕ). e.0)) (entries_held held rising) ∙ named_names held
+pub keys_held : {X : Type 0} (held : NameEntries X) → IsStrictlySortedBy string_cmp (keys_of held) → keys (kept_by_name held) ≡ names_of held
+keys_held {X} held rising = ap (map (λ (e : List ℕ × X). e.0)) (entries_held held rising) ∙ named_names held
 
-pub sizes_held : (held : MemoryEntries) → All (λ key. IsName (string_bytes key)) (keys_of held) → All IsName (names_of held)
+pub sizes_held : {X : Type 0} (held : NameEntries X) → All (λ key. IsName (string_bytes key)) (keys_of held) → All IsName (names_of held)
 sizes_held [] h k d lt = absurd (omega (arith, lt))
 sizes_held (e ∷ held) h zero d lt = h zero e.0 (omega arith)
 sizes_held (e ∷ held) h (suc k) d lt = sizes_held held (λ j x l. h (suc j) x (omega (arith, l))) k d (omega (arith, lt))
 
 -- names are texts
-pub texts_held : (held : MemoryEntries) → All IsUtf8 (names_of held)
+pub texts_held : {X : Type 0} (held : NameEntries X) → All IsUtf8 (names_of held)
 texts_held [] k d lt = absurd (omega (arith, lt))
 texts_held (e ∷ held) zero d lt = IsUtf8-string_bytes e.0
 texts_held (e ∷ held) (suc k) d lt = texts_held held k d (omega (arith, lt))
@@ -96,7 +96,7 @@ second_true : (a b : Bool) → a && b ≡ true → b ≡ true
 second_true true b e = e
 second_true false b e = absurd (true≢false (sym e))
 
-abbrev in_range : Bound (String Global) → String Global × List ℕ → Bool
+abbrev in_range : {X : Type 0} → Bound (String Global) → String Global × X → Bool
 in_range start e = range_contains string_cmp start Unbounded e.0
 
 abbrev pub wanted : List ℕ → List ℕ → List ℕ → Bool
@@ -131,7 +131,7 @@ place_first prefix after (Excluded place) is key e =
     (sym (ap (λ p. is_lt (by_name p (string_bytes key))) is.0) ∙ first_true _ _ e)
 place_first prefix after Unbounded is key e = absurd is
 
-ranged : (prefix after : List ℕ) (start : Bound (String Global)) → IsFirstPlace prefix after start → (held : MemoryEntries)
+ranged : {X : Type 0} (prefix after : List ℕ) (start : Bound (String Global)) → IsFirstPlace prefix after start → (held : NameEntries X)
     → filter (wanted prefix after) (names_of held) ≡ filter (has_prefix prefix) (names_of (filter (in_range start) held))
 ranged prefix after start is [] = refl
 ranged prefix after start is (e ∷ held) =
@@ -154,30 +154,35 @@ ranged prefix after start is (e ∷ held) =
     ]
 
 -- the names wanted are those with the prefix among the names of the range
-pub after_held : (prefix after : List ℕ) (start : Bound (String Global)) (held range : MemoryEntries) → IsStrictlySortedBy string_cmp (keys_of held)
+pub after_held : {X : Type 0} (prefix after : List ℕ) (start : Bound (String Global)) (held range : NameEntries X) → IsStrictlySortedBy string_cmp (keys_of held)
     → IsFirstPlace prefix after start → range ≡ filter (in_range start) held
-    → names_after (files_of held) prefix after ≡ filter (has_prefix prefix) (names_of range)
+    → names_from (keys (kept_by_name held)) prefix after ≡ filter (has_prefix prefix) (names_of range)
 after_held prefix after start held range rising is ranges =
     ap (filter (wanted prefix after)) (keys_held held rising)
     ∙ ranged prefix after start is held ∙ ap (λ r. filter (has_prefix prefix) (names_of r)) (sym ranges)
 
 -- what a loop over a range has yielded
-abbrev pub Seen : Type 0
-Seen = List (Bor (String Global) × Bor (List ℕ))
+abbrev pub Seen : Type 0 → Type 0
+Seen X = List (Bor (String Global) × Bor X)
 
-abbrev pub name_in : Bor (String Global) × Bor (List ℕ) → List ℕ
+abbrev pub name_in : {X : Type 0} → Bor (String Global) × Bor X → List ℕ
 name_in item = string_bytes item.0.now
 
-seen : (items : Seen) → map name_in items ≡ names_of (map deref_pair items)
+pub seen : {X : Type 0} (items : Seen X) → map name_in items ≡ names_of (map deref_pair items)
 seen [] = refl
 seen (item ∷ items) = ap (λ rest. name_in item ∷ rest) (seen items)
+
+-- a loop over all entries takes one more name
+pub one_named : {X : Type 0} (items : Seen X) (item : Bor (String Global) × Bor X) (names : List (List ℕ)) → names ≡ map name_in items
+    → names ++ name_in item ∷ [] ≡ map name_in (items ++ item ∷ [])
+one_named items item names is = ap (λ ns. ns ++ name_in item ∷ []) is ∙ sym (map-append name_in items (item ∷ []))
 
 with_last : (b : Bool) (names : List (List ℕ)) (name : List ℕ) → names ++ cond b (name ∷ []) [] ≡ cond b (names ++ name ∷ []) names
 with_last true names name = refl
 with_last false names name = append-nil names
 
 -- a loop over the range takes one more name, where it has the prefix
-pub one_more : (prefix : List ℕ) (items : Seen) (item : Bor (String Global) × Bor (List ℕ)) (names : List (List ℕ))
+pub one_more : {X : Type 0} (prefix : List ℕ) (items : Seen X) (item : Bor (String Global) × Bor X) (names : List (List ℕ))
     → names ≡ filter (has_prefix prefix) (map name_in items)
     → filter (has_prefix prefix) (map name_in (items ++ item ∷ [])) ≡ cond (has_prefix prefix (name_in item)) (names ++ name_in item ∷ []) names
 one_more prefix items item names is =
@@ -187,26 +192,26 @@ one_more prefix items item names is =
     ∙ with_last (has_prefix prefix (name_in item)) names (name_in item)
 
 -- a loop that ends with as many names as were asked for
-pub enough : (prefix : List ℕ) (range rest : MemoryEntries) (items : Seen) (names : List (List ℕ)) (most : ℕ) → range ≡ map deref_pair items ++ rest
+pub enough : {X : Type 0} (prefix : List ℕ) (range rest : NameEntries X) (items : Seen X) (names : List (List ℕ)) (most : ℕ) → range ≡ map deref_pair items ++ rest
     → names ≡ filter (has_prefix prefix) (map name_in items) → length names ≤ most → most ≤ length names
     → names ≡ take most (filter (has_prefix prefix) (names_of range))
-enough prefix range rest items names most parts is few many =
-    sym (ap (λ (r : MemoryEntries). take most (filter (has_prefix prefix) (names_of r))) parts
-    ∙ ap (λ ns. take most (filter (has_prefix prefix) ns)) (map-append (λ (e : String Global × List ℕ). string_bytes e.0) (map deref_pair items) rest)
+enough {X} prefix range rest items names most parts is few many =
+    sym (ap (λ (r : NameEntries X). take most (filter (has_prefix prefix) (names_of r))) parts
+    ∙ ap (λ ns. take most (filter (has_prefix prefix) ns)) (map-append (λ (e : String Global × X). string_bytes e.0) (map deref_pair items) rest)
     ∙ ap (take most) (filter-append (has_prefix prefix) (names_of (map deref_pair items)) (names_of rest))
     ∙ ap (λ ns. take most (ns ++ filter (has_prefix prefix) (names_of rest))) (sym (is ∙ ap (filter (has_prefix prefix)) (seen items)))
     ∙ take_at names (filter (has_prefix prefix) (names_of rest)) most (omega (arith, few, many)))
 
 -- a loop that ends with the range
-pub all_names : (prefix : List ℕ) (range : MemoryEntries) (items : Seen) (names : List (List ℕ)) (most : ℕ) → map deref_pair items ≡ range
+pub all_names : {X : Type 0} (prefix : List ℕ) (range : NameEntries X) (items : Seen X) (names : List (List ℕ)) (most : ℕ) → map deref_pair items ≡ range
     → names ≡ filter (has_prefix prefix) (map name_in items) → length names ≤ most
     → names ≡ take most (filter (has_prefix prefix) (names_of range))
-all_names prefix range items names most parts is few =
+all_names {X} prefix range items names most parts is few =
     let whole : names ≡ filter (has_prefix prefix) (names_of range) = is ∙ ap (filter (has_prefix prefix)) (seen items ∙ ap names_of parts) in
     whole ∙ sym (take_all most (filter (has_prefix prefix) (names_of range)) (subst (λ (ns : List (List ℕ)). length ns ≤ most) whole few))
 
 -- the keys of a range rise
-range_keys : (start : Bound (String Global)) (held : MemoryEntries) → keys_of (filter (in_range start) held) ≡ filter (range_contains string_cmp start Unbounded) (keys_of held)
+range_keys : {X : Type 0} (start : Bound (String Global)) (held : NameEntries X) → keys_of (filter (in_range start) held) ≡ filter (range_contains string_cmp start Unbounded) (keys_of held)
 range_keys start [] = refl
 range_keys start (e ∷ held) =
     elim (range_contains string_cmp start Unbounded e.0) as (λ b. keys_of (cond b (e ∷ filter (in_range start) held) (filter (in_range start) held))
@@ -215,7 +220,7 @@ range_keys start (e ∷ held) =
       | false ↦ range_keys start held
     ]
 
-rest_above : (seen : MemoryEntries) (item : String Global × List ℕ) (rest : MemoryEntries) → IsStrictlySortedBy string_cmp (keys_of (seen ++ item ∷ rest))
+rest_above : {X : Type 0} (seen : NameEntries X) (item : String Global × X) (rest : NameEntries X) → IsStrictlySortedBy string_cmp (keys_of (seen ++ item ∷ rest))
     → AllByRecursion (λ other. string_cmp item.0 other ≡ Less) (keys_of rest)
 unfolding IsStrictlySortedBy
 rest_above [] item rest h = h.0
@@ -226,7 +231,7 @@ not_true true none = absurd (none refl)
 not_true false none = refl
 
 -- after a name that isn't before the prefix and doesn't begin with it no name does
-none_after : (prefix : List ℕ) (item : String Global × List ℕ) (rest : MemoryEntries) → is_le (by_name prefix (string_bytes item.0)) ≡ true
+none_after : {X : Type 0} (prefix : List ℕ) (item : String Global × X) (rest : NameEntries X) → is_le (by_name prefix (string_bytes item.0)) ≡ true
     → has_prefix prefix (string_bytes item.0) ≡ false → AllByRecursion (λ other. string_cmp item.0 other ≡ Less) (keys_of rest)
     → filter (has_prefix prefix) (names_of rest) ≡ []
 none_after prefix item [] le lacks above = refl
@@ -236,24 +241,24 @@ none_after prefix item (e ∷ rest) le lacks above =
     ap (λ b. cond b (string_bytes e.0 ∷ filter (has_prefix prefix) (names_of rest)) (filter (has_prefix prefix) (names_of rest))) none
     ∙ none_after prefix item rest le lacks above.1
 
-in_seen : (start : Bound (String Global)) (held seen : MemoryEntries) (item : String Global × List ℕ) (rest : MemoryEntries)
+in_seen : {X : Type 0} (start : Bound (String Global)) (held seen : NameEntries X) (item : String Global × X) (rest : NameEntries X)
     → filter (in_range start) held ≡ seen ++ item ∷ rest → in_range start item ≡ true
-in_seen start held seen item rest parts =
+in_seen {X} start held seen item rest parts =
     let passes = filter_passes (in_range start) held (length seen) item
-    (subst (λ (r : MemoryEntries). length seen < length r) (sym parts) (omega (arith, length-append seen (item ∷ rest)))) in
-    sym (ap (in_range start) (ap (λ (r : MemoryEntries). get_or r (length seen) item) parts ∙ get_or-append_seam seen item rest item)) ∙ passes
+    (subst (λ (r : NameEntries X). length seen < length r) (sym parts) (omega (arith, length-append seen (item ∷ rest)))) in
+    sym (ap (in_range start) (ap (λ (r : NameEntries X). get_or r (length seen) item) parts ∙ get_or-append_seam seen item rest item)) ∙ passes
 
 -- a loop that ends at a name that doesn't begin with the prefix
-pub lacking : (prefix after : List ℕ) (start : Bound (String Global)) (held range : MemoryEntries) (items : Seen) (item : String Global × List ℕ) (rest : MemoryEntries) (names : List (List ℕ)) (most : ℕ)
+pub lacking : {X : Type 0} (prefix after : List ℕ) (start : Bound (String Global)) (held range : NameEntries X) (items : Seen X) (item : String Global × X) (rest : NameEntries X) (names : List (List ℕ)) (most : ℕ)
     → IsStrictlySortedBy string_cmp (keys_of held) → IsFirstPlace prefix after start → range ≡ filter (in_range start) held
     → range ≡ map deref_pair items ++ item ∷ rest → has_prefix prefix (string_bytes item.0) ≡ false
     → names ≡ filter (has_prefix prefix) (map name_in items) → length names ≤ most
     → names ≡ take most (filter (has_prefix prefix) (names_of range))
-lacking prefix after start held range items item rest names most rising place ranges parts lacks is few =
+lacking {X} prefix after start held range items item rest names most rising place ranges parts lacks is few =
     let seen_items = map deref_pair items in
     let cut : filter (in_range start) held ≡ seen_items ++ item ∷ rest = sym ranges ∙ parts in
     let sorted : IsStrictlySortedBy string_cmp (keys_of (seen_items ++ item ∷ rest)) =
-    subst (λ (r : MemoryEntries). IsStrictlySortedBy string_cmp (keys_of r)) cut
+    subst (λ (r : NameEntries X). IsStrictlySortedBy string_cmp (keys_of r)) cut
     (subst (IsStrictlySortedBy string_cmp) (sym (range_keys start held)) (IsStrictlySortedBy-filter string_cmp (range_contains string_cmp start Unbounded) (keys_of held) rising)) in
     let le = place_first prefix after start place item.0 (in_seen start held seen_items item rest cut) in
     let none : filter (has_prefix prefix) (names_of (item ∷ rest)) ≡ [] =
@@ -261,7 +266,7 @@ lacking prefix after start held range items item rest names most rising place ra
     ∙ none_after prefix item rest le lacks (rest_above seen_items item rest sorted) in
     let whole : names ≡ filter (has_prefix prefix) (names_of range) =
     is ∙ ap (filter (has_prefix prefix)) (seen items) ∙ sym (ap (filter (has_prefix prefix)) (ap names_of parts
-    ∙ map-append (λ (e : String Global × List ℕ). string_bytes e.0) seen_items (item ∷ rest))
+    ∙ map-append (λ (e : String Global × X). string_bytes e.0) seen_items (item ∷ rest))
     ∙ filter-append (has_prefix prefix) (names_of seen_items) (names_of (item ∷ rest))
     ∙ ap (λ ns. filter (has_prefix prefix) (names_of seen_items) ++ ns) none
     ∙ append-nil (filter (has_prefix prefix) (names_of seen_items))) in
@@ -278,11 +283,11 @@ recursion : {X : Type 0} (P : X → Type 0) (xs : List X) → All P xs → AllBy
 recursion P [] h = tt
 recursion P (x ∷ xs) h = (h zero x (omega arith), recursion P xs (λ k d lt. h (suc k) d (omega (arith, lt))))
 
-all_above : (name : List ℕ) (es : List (List ℕ × List ℕ)) → T (below_all by_name name es) → AllByRecursion (λ other. by_name name other ≡ Less) (map (λ e. e.0) es)
+all_above : {X : Type 0} (name : List ℕ) (es : List (List ℕ × X)) → T (below_all by_name name es) → AllByRecursion (λ other. by_name name other ≡ Less) (map (λ e. e.0) es)
 all_above name [] h = tt
 all_above name (e ∷ es) h = (less _ (first _ _ h), all_above name es (second _ _ h))
 
-pub rises : (es : List (List ℕ × List ℕ)) → T (is_sorted by_name es) → IsStrictlySortedBy by_name (map (λ e. e.0) es)
+pub rises : {X : Type 0} (es : List (List ℕ × X)) → T (is_sorted by_name es) → IsStrictlySortedBy by_name (map (λ e. e.0) es)
 unfolding IsStrictlySortedBy
 rises [] h = tt
 rises (e ∷ es) h = (all_above e.0 es (first _ _ h), rises es (second _ _ h))
@@ -302,17 +307,17 @@ begins : (after : List ℕ) (names : List (List ℕ)) → AllByRecursion (λ oth
 unfolding IsStrictlySortedBy
 begins after names above rest = (above, rest)
 
-pub listing : (files : Files) (prefix after : List ℕ) (most : ℕ) → All IsName (keys files) → All IsUtf8 (keys files)
-    → IsListing prefix after most (take most (names_after files prefix after))
-listing files prefix after most sizes texts =
-    let names = names_after files prefix after in
-    let passes = filter_passes (wanted prefix after) (keys files) in
+pub listing : {X : Type 0} (kept : FinMap by_name X) (prefix after : List ℕ) (most : ℕ) → All IsName (keys kept) → All IsUtf8 (keys kept)
+    → IsListing prefix after most (take most (names_from (keys kept) prefix after))
+listing kept prefix after most sizes texts =
+    let names = names_from (keys kept) prefix after in
+    let passes = filter_passes (wanted prefix after) (keys kept) in
     record {
       rising = begins after (take most names)
           (recursion _ (take most names) (All-take (λ name. by_name after name ≡ Less) most names (λ k d lt. less_is _ (second_true _ _ (passes k d lt)))))
-          (take_rises most names (IsStrictlySortedBy-filter by_name (wanted prefix after) (keys files) (rises (entries files) (entries_sorted files))));
+          (take_rises most names (IsStrictlySortedBy-filter by_name (wanted prefix after) (keys kept) (rises (entries kept) (entries_sorted kept))));
       prefixed = All-take (λ name. IsTrue (has_prefix prefix name)) most names (λ k d lt. first_true _ _ (passes k d lt));
-      sizes = All-take IsName most names (All-filter (wanted prefix after) IsName (keys files) sizes);
-      texts = All-take IsUtf8 most names (All-filter (wanted prefix after) IsUtf8 (keys files) texts);
+      sizes = All-take IsName most names (All-filter (wanted prefix after) IsName (keys kept) sizes);
+      texts = All-take IsUtf8 most names (All-filter (wanted prefix after) IsUtf8 (keys kept) texts);
       few = omega (arith, length-take most names);
     }

@@ -9,7 +9,7 @@ use Rattle.std.proofs.lemmas.Bool.{true≢false}
 use Rattle.std.proofs.lemmas.Bool.Decides.{nat_tests}
 use Rattle.sp_base.specs.Names.{by_name}
 use Rattle.sp_outside.specs.Files.{has_prefix}
-use Rattle.sp_outside.proofs.HeldFiles.{same_name}
+use Rattle.sp_outside.proofs.HeldNames.{same_name}
 
 first : (a b : Bool) → a && b ≡ true → a ≡ true
 first true b e = refl

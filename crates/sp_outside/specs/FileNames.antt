@@ -27,9 +27,25 @@ has_segments name = list_all is_inner (pieces name)
 abbrev pub has_nul : Text → Bool
 has_nul name = list_any (λ b. b == 0) name
 
--- A name that may have a file: it leads nowhere out of the folder, has no NUL, and isn't that of a file beside another.
+-- A name that leads to a place below the folder: nowhere out of it, and it has no NUL.
+abbrev pub is_below : Text → Bool
+is_below name = not (has_nul name) && has_segments name
+
+-- A name that may have a file of the disk: it leads to a place below the folder, and isn't that of a file beside another.
 abbrev pub is_inside : Text → Bool
-is_inside name = not (is_beside name) && (not (has_nul name) && has_segments name)
+is_inside name = not (is_beside name) && is_below name
+
+-- what the names of the files end in that a folder keeps for itself; since no name of a file of the disk ends as one beside another does, none beside one ends so
+abbrev pub own_ending : Text
+own_ending = codes "%t%t"
+
+-- the name is that of a file which the folder keeps for itself
+abbrev pub is_own : Text → Bool
+is_own name = ends_with nat_eq name own_ending
+
+-- the name is that of a file beside one of the disk, which a process left that was killed
+abbrev pub is_left : Text → Bool
+is_left name = is_beside name && (not (is_own name) && is_below name)
 
 -- a file has this name, which begins with the prefix and is after the other
 abbrev pub IsNameAfter : Files → Text → Text → Text → Type 0

@@ -54,9 +54,13 @@ IsOldOrNew old wanted new fault = (new ≡ old) ⊎ ((fault ≡ Failed) × (new 
 abbrev pub has_prefix : List ℕ → List ℕ → Bool
 has_prefix prefix name = starts_with nat_eq name prefix
 
--- the names that begin with a prefix and are after a name, in their order
+-- those of some names that begin with a prefix and are after a name
+abbrev pub names_from : List Text → List ℕ → List ℕ → List Text
+names_from names prefix after = filter (λ name. has_prefix prefix name && is_lt (by_name after name)) names
+
+-- the names of files that begin with a prefix and are after a name, in their order
 abbrev pub names_after : Files → List ℕ → List ℕ → List Text
-names_after files prefix after = filter (λ name. has_prefix prefix name && is_lt (by_name after name)) (keys files)
+names_after files prefix after = names_from (keys files) prefix after
 
 -- What a list of names after another is, on every disk: they are texts in UTF-8, and rise from that name on.
 pub record IsListing (prefix after : List ℕ) (most : ℕ) (names : List Text) : Type 0 where

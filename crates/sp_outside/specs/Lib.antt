@@ -4,6 +4,8 @@ pub mod Causes
 pub mod Memory
 pub mod Files
 pub mod FileNames
-pub mod MemoryFiles
+pub mod FolderFiles
+pub mod NameEntries
+pub mod NameIndex
 pub mod DiskMemory
 pub mod FaultTexts

@@ -33,6 +33,24 @@ impl From<AllocError> for DiskFault {
     }
 }
 
+/// Counts an answer that is a fault.
+pub(crate) fn counted<T: Drop>(
+    failed: &mut u64,
+    answer: Result<T, DiskFault>,
+) -> Result<T, DiskFault>
+    ensures same { result ≡ answer }
+    ensures cause { HasDiskCause failed.old failed.new result }
+{
+    match answer {
+        Ok(value) => Ok(value),
+        Err(DiskFault::Failed) => {
+            *failed = failed.saturating_add(1);
+            Err(DiskFault::Failed)
+        }
+        Err(DiskFault::NoMemory) => Err(DiskFault::NoMemory),
+    }
+}
+
 /// Files by their names. After a `put` or `remove` that fails the files are those from before, or those with this one
 /// change whole.
 pub trait Disk {

@@ -1,6 +1,9 @@
 //! Which names may have a file below a folder.
-ghost use Rattle.std.specs.Prelude.{◌≡◌};
+ghost use Rattle.std.specs.Prelude.{◌≡◌, IsTrue};
 ghost use Rattle.sp_outside.specs.FileNames as spec;
+ghost use Rattle.sp_outside.specs.Files.{IsName};
+
+use crate::LONGEST_FILE_NAME;
 
 /// The ending of a file that is written beside another, which it then replaces.
 pub(crate) const BESIDE: &str = "%t";
@@ -8,15 +11,15 @@ pub(crate) const BESIDE: &str = "%t";
 /// The ending of the files that a folder keeps for itself. Since no name of a file ends as those beside do, no file beside another ends so.
 const OWN: &str = "%t%t";
 
-/// Whether a name is that of a file beside another.
-pub(crate) fn is_beside(name: &str) -> bool
+fn is_beside(name: &str) -> bool
     ensures { result ≡ spec.is_beside name.now }
 {
     name.ends_with(BESIDE)
 }
 
-/// Whether a name is that of a file which the folder keeps for itself.
-pub(crate) fn is_own(name: &str) -> bool {
+fn is_own(name: &str) -> bool
+    ensures { result ≡ spec.is_own name.now }
+{
     name.ends_with(OWN)
 }
 
@@ -39,9 +42,30 @@ fn has_nul(name: &str) -> bool
     name.as_bytes().iter().any(|b| *b == 0)
 }
 
-/// Whether a name may have a file: it leads nowhere out of the folder, has no NUL, and isn't that of a file beside another.
+/// Whether a name leads to a place below the folder: nowhere out of it, and it has no NUL.
+fn is_below(name: &str) -> bool
+    ensures { result ≡ spec.is_below name.now }
+{
+    !has_nul(name) && has_segments(name)
+}
+
+/// Whether a name may have a file of the disk: it leads to a place below the folder, and isn't that of a file beside another.
 pub(crate) fn is_inside(name: &str) -> bool
     ensures { result ≡ spec.is_inside name.now }
 {
-    !is_beside(name) && (!has_nul(name) && has_segments(name))
+    !is_beside(name) && is_below(name)
+}
+
+/// Whether a name is that of a file beside one of the disk, which a process left that was killed.
+pub(crate) fn is_left(name: &str) -> bool
+    ensures { result ≡ spec.is_left name.now }
+{
+    is_beside(name) && (!is_own(name) && is_below(name))
+}
+
+/// Whether a name is as long as that of a file may be.
+pub(crate) fn is_name(name: &str) -> bool
+    ensures { IsTrue result → IsName name.now }
+{
+    !name.is_empty() && name.len() <= LONGEST_FILE_NAME
 }

@@ -1,129 +1,94 @@
 //! The walk over a folder and all folders below it.
-use crate::file_name::{is_beside, is_own};
-use crate::name_index::{NameIndex, Standing};
-use crate::{DiskFault, LONGEST_FILE_NAME};
-use sp_base::Mem;
+use crate::DiskFault;
+use crate::file_name::is_name;
+use crate::names::Names;
+use sp_base::{Mem, NameList, TextBuf};
 use std::alloc::Global;
 use std::fs::{self, DirEntry, Files, ReadDir};
 use std::io::{self, ErrorKind};
 
-/// Whether a path is that of a file, and of no link.
-pub(crate) fn is_file<R: Files>(rt: &R, path: &str) -> Result<bool, DiskFault> {
-    match fs::symlink_metadata(rt, path) {
-        Ok(found) => Ok(found.is_file()),
-        Err(fault) if fault.kind() == ErrorKind::NotFound => Ok(false),
-        Err(fault) => Err(DiskFault::from(fault)),
-    }
+// What a walk has found, and where it is still to go.
+#[derive(Drop)]
+struct FolderWalk<'a> {
+    alloc: Global,
+    // How many bytes of a path stand before the name.
+    before: usize,
+    names: NameList,
+    folders: &'a mut Names<()>,
+    ahead: Vec<String>,
 }
 
-/// The names of all files below a folder. A link is no file and no folder here, and a name that isn't UTF-8 is passed over. So is a folder
-/// below it that may not be read, as the `lost+found` of a file system.
+/// The names of all files below a folder; the folders below it are noted. A link is no file and no folder here, and a name that isn't
+/// UTF-8 is passed over. So is a folder below it that may not be read, as the `lost+found` of a file system.
 ///
-/// Files beside others are taken away, where that may be done: nobody writes the folder now, so that a process left them that was killed.
-pub(crate) fn names_below<R: Files + AllocGlobal + Clone + Drop>(
+/// `readdir` gives each entry of a folder that is neither made nor removed meanwhile, and nothing is changed until the walk has ended.
+pub(crate) fn walk<R: Files + AllocGlobal + Clone + Drop>(
     rt: &R,
+    alloc: Global,
     folder: &str,
-) -> Result<NameIndex, DiskFault> {
-    let alloc = rt.alloc();
-    let mut names = NameIndex::new(alloc);
-    let prefix = prefix_bytes(folder);
-    let mut folders = Vec::new(alloc);
-    let entries = fs::read_dir(rt, folder)?;
-    take_entries(rt, entries, prefix, &mut folders, &mut names)?;
+    folders: &mut Names<()>,
+) -> Result<NameList, DiskFault> {
+    let slash = usize::from(!folder.ends_with('/'));
+    let mut walk = FolderWalk {
+        alloc,
+        before: folder.len().saturating_add(slash),
+        names: NameList::new(alloc),
+        folders,
+        ahead: Vec::new(alloc),
+    };
+    walk.go_into(folder)?;
     for _ in 0..u64::MAX {
-        let Some(next) = folders.pop() else {
-            return Ok(names);
+        let Some(next) = walk.ahead.pop() else {
+            return Ok(walk.names);
         };
-        take_folder(rt, next.as_str(), prefix, &mut folders, &mut names)?;
+        match fs::read_dir(rt, next.as_str()) {
+            Ok(entries) => walk.take_entries(entries)?,
+            Err(fault) if may_not(&fault) && next.len() > folder.len() => {}
+            Err(fault) => return Err(DiskFault::from(fault)),
+        }
     }
     Err(DiskFault::Failed)
 }
 
-// Notes what is in a folder, where it may be read.
-fn take_folder<R: Files + AllocGlobal + Clone + Drop>(
-    rt: &R,
-    folder: &str,
-    prefix: usize,
-    folders: &mut Vec<String>,
-    names: &mut NameIndex,
-) -> Result<(), DiskFault> {
-    match fs::read_dir(rt, folder) {
-        Ok(entries) => take_entries(rt, entries, prefix, folders, names),
-        Err(fault) if fault.kind() == ErrorKind::PermissionDenied => Ok(()),
-        Err(fault) => Err(DiskFault::from(fault)),
+fn may_not(fault: &io::Error) -> bool {
+    fault.kind() == ErrorKind::PermissionDenied
+}
+
+impl FolderWalk<'_> {
+    fn go_into(&mut self, path: &str) -> Mem<()> {
+        self.ahead.push(String::from_str(self.alloc, path)?)?;
+        Ok(())
     }
-}
 
-fn take_entries<R: Files + AllocGlobal + Clone + Drop>(
-    rt: &R,
-    entries: ReadDir<R>,
-    prefix: usize,
-    folders: &mut Vec<String>,
-    names: &mut NameIndex,
-) -> Result<(), DiskFault> {
-    for entry in entries {
-        take_entry(rt, entry, prefix, folders, names)?;
-    }
-    Ok(())
-}
-
-// How many bytes of a path below a folder stand before the name.
-fn prefix_bytes(folder: &str) -> usize {
-    if folder.ends_with('/') {
-        folder.len()
-    } else {
-        folder.len().saturating_add(1)
-    }
-}
-
-fn push_path(alloc: Global, paths: &mut Vec<String>, path: &str) -> Mem<()> {
-    paths.push(String::from_str(alloc, path)?)?;
-    Ok(())
-}
-
-fn take_entry<R: Files + AllocGlobal + Clone + Drop>(
-    rt: &R,
-    entry: io::Result<DirEntry<R>>,
-    prefix: usize,
-    folders: &mut Vec<String>,
-    names: &mut NameIndex,
-) -> Result<(), DiskFault> {
-    let entry = match entry {
-        Ok(entry) => entry,
-        Err(fault) if fault.kind() == ErrorKind::InvalidFilename => return Ok(()),
-        Err(fault) => return Err(DiskFault::from(fault)),
-    };
-    let found = match entry.file_type() {
-        Ok(found) => found,
-        // The folder may be read, and nothing in it.
-        Err(fault) if fault.kind() == ErrorKind::PermissionDenied => return Ok(()),
-        Err(fault) => return Err(DiskFault::from(fault)),
-    };
-    let path = entry.path().as_str();
-    if found.is_dir() {
-        push_path(rt.alloc(), folders, path)?;
-    } else if found.is_file() {
-        take_file(rt, path, prefix, names)?;
-    }
-    Ok(())
-}
-
-fn take_file<R: Files + AllocGlobal>(
-    rt: &R,
-    path: &str,
-    prefix: usize,
-    names: &mut NameIndex,
-) -> Result<(), DiskFault> {
-    if is_beside(path) {
-        if !is_own(path) {
-            // One that can't be removed is no file of the docroot either; it stands in the way of its file.
-            let _ = fs::remove_file(rt, path);
+    fn take_entries<R: Files + AllocGlobal + Clone + Drop>(
+        &mut self,
+        entries: ReadDir<R>,
+    ) -> Result<(), DiskFault> {
+        for entry in entries {
+            match entry {
+                Ok(entry) => self.take_entry(&entry)?,
+                Err(fault) if fault.kind() == ErrorKind::InvalidFilename => {}
+                Err(fault) => return Err(DiskFault::from(fault)),
+            }
         }
-        return Ok(());
+        Ok(())
     }
-    let name = path.get(prefix..).unwrap_or("");
-    if name.len() > LONGEST_FILE_NAME {
-        return Err(DiskFault::Failed);
+
+    fn take_entry<R: Files>(&mut self, entry: &DirEntry<R>) -> Result<(), DiskFault> {
+        let path = entry.path().as_str();
+        let name = path.get(self.before..).unwrap_or("");
+        match entry.file_type() {
+            Ok(found) if found.is_dir() => {
+                self.go_into(path)?;
+                if is_name(name) {
+                    self.folders.insert(name, ())?;
+                }
+            }
+            Ok(found) if found.is_file() => self.names.push(TextBuf::of(self.alloc, name)?)?,
+            // The folder may be read, and nothing in it.
+            Err(fault) if !may_not(&fault) => return Err(DiskFault::from(fault)),
+            _ => {}
+        }
+        Ok(())
     }
-    Ok(names.add(rt.alloc(), name, Standing::Held)?)
 }

@@ -1,20 +1,17 @@
 //! A disk in memory, which tells its files, and of which a chosen call fails, or every call from one on.
 ghost use Rattle.std.specs.Prelude.{◌≡◌, IfOk, IfErr, OnOk, is_ok, OnErr, Some, None, take};
 ghost use Rattle.std.specs.FinMap.{empty};
-ghost use Rattle.std.specs.Ordering.{is_lt};
-ghost use Rattle.sp_base.specs.Names.{by_name};
 ghost use Rattle.sp_outside.specs.Files.{IsName, IsListing, IsOldOrNew, file_at, with_file, without_file, names_after};
+ghost use Rattle.sp_outside.specs.FolderFiles.{IsNamesOf};
 ghost use Rattle.sp_outside.specs.DiskMemory.{IsPlanned, IsPlannedPut, next_fails, plan_after, plan_gone, read_after, write_after};
-ghost use Rattle.sp_outside.specs.Calls.{Get, Put, Remove, Names, told_call};
+ghost use Rattle.sp_outside.specs.Calls.{Get, Put, Remove, Names as names_call, told_call};
 ghost use Rattle.sp_outside.specs.Causes.{HasDiskCause, Rose, next};
-ghost use Rattle.sp_outside.specs.MemoryFiles.{IsFirstPlace};
 
+use crate::names::Names;
 use crate::{Disk, DiskFault};
-use sp_base::{ByteBuf, Mem, NameList, TextBuf};
+use sp_base::{ByteBuf, Mem, NameList};
 use std::alloc::Global;
-use std::collections::BTreeMap;
 use std::marker::Model;
-use std::ops::Bound;
 
 /// What a call that fails leaves of its change.
 #[derive(Clone, Copy, Drop)]
@@ -41,7 +38,7 @@ pub enum Plan {
 #[derive(Drop)]
 pub struct MemDisk {
     alloc: Global,
-    files: BTreeMap<String, ByteBuf>,
+    files: Names<ByteBuf>,
     plan: Plan,
     calls: u64,
     failed: u64,
@@ -51,20 +48,17 @@ impl Model for MemDisk {
     ghost use Rattle.std.specs.Coded.{codes};
     ghost use Rattle.sp_outside.specs.DiskMemory.{DiskState};
     ghost use Rattle.sp_outside.specs.Files.{files_code};
-    ghost use Rattle.sp_outside.specs.MemoryFiles.{files_of, HasNames};
 
     ghost Value = { DiskState };
 
     ghost coded = { Prim.hlevel (codes, files_code) };
 
     ghost view = { λ d. record {
-      files = files_of d.files.entries;
+      files = d.files;
       plan = d.plan;
       calls = d.calls;
       failed = d.failed;
     } };
-
-    ghost invariant = { λ d. HasNames d.files.entries };
 }
 
 impl MemDisk {
@@ -74,7 +68,7 @@ impl MemDisk {
     {
         MemDisk {
             alloc,
-            files: BTreeMap::new(alloc),
+            files: Names::new(alloc),
             plan: Plan::Never,
             calls: 0,
             failed: 0,
@@ -112,26 +106,9 @@ impl MemDisk {
     }
 }
 
-fn is_before(name: &str, other: &str) -> bool
-    ensures { result ≡ is_lt (by_name name.now other.now) }
-{
-    name < other
-}
-
-// Where the names begin that are after a name and may begin with a prefix.
-fn first_place(alloc: Global, prefix: &str, after: &str) -> Mem<Bound<String>>
-    ensures { IfOk result (IsFirstPlace prefix.now after.now) }
-{
-    if is_before(after, prefix) {
-        Ok(Bound::Included(String::from_str(alloc, prefix)?))
-    } else {
-        Ok(Bound::Excluded(String::from_str(alloc, after)?))
-    }
-}
-
 impl MemDisk {
     // Counts a call, and answers how it fails, if it does.
-    fn begin(&mut self) -> Option<Way>
+    pub(crate) fn begin(&mut self) -> Option<Way>
         ensures way { result ≡ next_fails self.old.plan }
         ensures after { self.new ≡ record self.old { plan = plan_after self.old.plan; calls = next self.old.calls } }
     {
@@ -148,7 +125,7 @@ impl MemDisk {
         way
     }
 
-    fn fault(&mut self) -> DiskFault
+    pub(crate) fn fault(&mut self) -> DiskFault
         ensures fault { result ≡ DiskFault.Failed }
         ensures after { self.new ≡ record self.old { failed = next self.old.failed } }
         ensures rose { Rose self.old.failed self.new.failed }
@@ -166,19 +143,11 @@ impl MemDisk {
         }
     }
 
-    fn names(&self, alloc: Global, prefix: &str, after: &str, most: usize) -> Mem<NameList>
-        ensures names { IfOk result (IsListing prefix.now after.now most) }
-        ensures value { IfOk result (λ names. names ≡ take most (names_after self.now.files prefix.now after.now)) }
+    /// The names of all files.
+    pub(crate) fn all_names(&self, alloc: Global) -> Mem<NameList>
+        ensures { IfOk result (IsNamesOf self.now.files) }
     {
-        let mut names = NameList::new(alloc);
-        let start = first_place(alloc, prefix, after)?;
-        for (name, _) in self.files.range((start, Bound::Unbounded)) {
-            if names.len() >= most || !name.starts_with(prefix) {
-                break;
-            }
-            names.push(TextBuf::of(alloc, name.as_str())?)?;
-        }
-        Ok(names)
+        self.files.all(alloc)
     }
 
     // The change that `put` makes.
@@ -187,17 +156,14 @@ impl MemDisk {
         ensures ok { OnOk result (self.new ≡ record self.old { files = with_file self.old.files name.now bytes.now }) }
         ensures err { OnErr result (self.new ≡ self.old) }
     {
-        let name = String::from_str(self.alloc, name)?;
-        let bytes = ByteBuf::of(self.alloc, bytes)?;
-        self.files.insert(name, bytes)?;
-        Ok(())
+        self.files.insert(name, ByteBuf::of(self.alloc, bytes)?)
     }
 
     // The change that `remove` makes.
     fn erase(&mut self, name: &str)
         ensures { self.new ≡ record self.old { files = without_file self.old.files name.now } }
     {
-        let _ = self.files.remove(name);
+        self.files.remove(name);
     }
 }
 
@@ -285,11 +251,11 @@ impl Disk for MemDisk {
         ensures value { IfOk result (λ names. names ≡ take most (names_after self.old.files prefix.now after.now)) }
         ensures same { Some self.new.files ≡ Some self.old.files }
         ensures cause { HasDiskCause self.old.failed self.new.failed result }
-        ensures made { None ≡ told_call None (Names prefix.now after.now most (is_ok result)) }
+        ensures made { None ≡ told_call None (names_call prefix.now after.now most (is_ok result)) }
     {
         if self.begin().is_some() {
             return Err(self.fault());
         }
-        Ok(self.names(alloc, prefix, after, most)?)
+        Ok(self.files.list(alloc, prefix, after, most)?)
     }
 }

@@ -5,7 +5,7 @@ use Rattle.std.specs.Cmp.Lexicographic.{nat_list_cmp_total}
 use Rattle.std.specs.Ordering.{eq_by_cmp}
 use Rattle.sp_base.specs.Names.{by_name}
 use Rattle.sp_outside.specs.Files.{file_at}
-use Rattle.sp_outside.proofs.HeldFiles.{equal, same_name}
+use Rattle.sp_outside.proofs.HeldNames.{equal, same_name}
 use Rattle.sp_outside.proofs.laws.files_have_names.Goals as goal
 
 one : (name : List ℕ) → eq_by_cmp by_name name name ≡ true

@@ -1,6 +1,6 @@
 use Rattle.std.proofs.Common.{Some, ◌∙◌, ap}
 use Rattle.sp_outside.specs.Files.{file_at}
-use Rattle.sp_outside.proofs.HeldFiles.{held_at}
+use Rattle.sp_outside.proofs.HeldNames.{held_at}
 use Rattle.outside_world.specs.InputMemory.{InputsState}
 use Rattle.outside_world.proofs.mem_inputs.MemInputs.lent.Goals as goal
 

@@ -4,7 +4,7 @@ use Rattle.std.specs.List.{list_all}
 use Rattle.std.proofs.lemmas.Bool.Decides.{nat_tests}
 use Rattle.std.proofs.lemmas.List.{append-nil}
 use Rattle.form_input.specs.declared.fault.FormFault.{FormFault}
-use Rattle.form_input.specs.declared.fault.FormFault.TheVariants.{BadPart, TooMany}
+use Rattle.form_input.specs.declared.fault.FormFault.TheVariants.{TooMany}
 use Rattle.form_input.specs.declared.boundary.LineKind.{LineKind}
 use Rattle.form_input.specs.declared.boundary.LineKind.TheVariants.{Opening, Closing, Plain}
 use Rattle.form_input.specs.Multipart.{Section, Sections, line_kind, is_plain_line, is_closing_line, sections, pair_of, before_all, with_part, pairs_of, dash_boundary, multipart_of}

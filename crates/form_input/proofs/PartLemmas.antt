@@ -1,12 +1,12 @@
 -- A part's head and body, line by line.
-use Rattle.std.proofs.Common.{◌≡◌, ℕ, Bool, true, false, cond, eqb, List, [], ◌∷◌, Option, Some, None, length, refl, ap, sym, ◌∙◌, subst}
+use Rattle.std.proofs.Common.{◌≡◌, ℕ, Bool, true, false, cond, eqb, List, [], ◌∷◌, Option, Some, None, length, refl, ap, sym, ◌∙◌}
 use Rattle.std.specs.Str.{IsUtf8, is_utf8}
 use Rattle.std.proofs.lemmas.Str.{IsUtf8-from_is_utf8, is_utf8-from_IsUtf8}
 use Rattle.form_input.specs.Lines.{lines, lines_text, lines_left}
 use Rattle.form_input.specs.Multipart.{first_some, disposition_in, value_in, text_of_some, if_utf8}
 use Rattle.form_input.specs.Parameters.{after_name}
 use Rattle.std.specs.Prelude.{codes}
-use Rattle.form_input.proofs.LineLemmas.{HasFirst, has_first, joined_lines}
+use Rattle.form_input.proofs.LineLemmas.{has_first, joined_lines}
 
 text_of_first : (t first : List ℕ) (more : List (List ℕ)) → lines t ≡ first ∷ more → text_of_some (lines t) ≡ Some (lines_text (lines t))
 text_of_first t first more e = rw e refl

@@ -1,5 +1,5 @@
 -- The pairs of an urlencoded form, one after another.
-use Rattle.std.proofs.Common.{◌≡◌, ◌≤◌, ◌+◌, ℕ, List, [], ◌∷◌, ◌++◌, map, length}
+use Rattle.std.proofs.Common.{◌≡◌, ◌≤◌, ◌+◌, ℕ, List, ◌++◌, map, length}
 use Rattle.form_urlencoded.specs.Form.{raw_pairs}
 use Rattle.form_input.specs.Forms.{decoded_pair}
 

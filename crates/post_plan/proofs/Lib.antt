@@ -1,4 +1,5 @@
 pub mod NameLemmas
+pub mod MadeLemmas
 pub mod AtLemmas
 pub mod PieceLemmas
 pub mod NodeLemmas
@@ -6,5 +7,7 @@ pub mod SetLemmas
 pub mod SpotPlaceLemmas
 pub mod NumberLemmas
 pub mod RelativeLemmas
+pub mod DotLemmas
+pub mod DotsAlone
 pub mod SlashLemmas
 pub mod NamedPaths

@@ -2,7 +2,9 @@ pub mod Parameters
 pub mod Hints
 pub mod RelativePaths
 pub mod Spots
+pub mod DotSegments
 pub mod NewNames
+pub mod MadeNames
 pub mod Entries
 pub mod SpotPlaces
 pub mod Plan

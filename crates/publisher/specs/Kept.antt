@@ -1,11 +1,13 @@
--- What a publisher keeps beside its tree: the readings of scripts, and the index of mappings. What is answered needs none of it: only private types and functions and proofs cite this.
+-- What a publisher keeps beside its tree: the readings of scripts, and the indexes of mappings and of scripts. What is answered needs none of it: only private types and functions and proofs cite this.
 use Rattle.std.specs.Prelude.{◌≡◌, Bool, List, Option, Some, None, IfSome, codes, option_map}
 use Rattle.std.specs.Map.{lookup}
 use Rattle.sp_base.specs.Texts.{Segments}
 use Rattle.resource_tree.specs.Content.{Content, kid, same_path}
 use Rattle.resource_tree.specs.Patches.{PatchEntries, entry_at}
 use Rattle.script_rank.specs.Ranking.{script_text}
-use Rattle.url_maps.specs.Claims.{Index, IsIndexOf}
+use Rattle.script_rank.specs.Index as script_index
+use Rattle.url_maps.specs.Claims as map_index
+use Rattle.publisher.specs.declared.kept_index.Indexes.{Indexes}
 use Rattle.publisher.specs.declared.templates.Reading.{Reading}
 use Rattle.publisher.specs.Readings.{reading_of}
 
@@ -34,11 +36,16 @@ text_path path = kid path (codes "jcr:content")
 abbrev pub AreUnpatched : PatchEntries → KeptReadings → Type 0
 AreUnpatched patch kept = (path : Segments) (reading : Reading) → reading_at kept path ≡ Some reading → entry_at patch (text_path path) ≡ None
 
--- an index that is kept is the tree's
-abbrev pub IsIndexFor : Content → Option Index → Type 0
-IsIndexFor tree index = IfSome index (IsIndexOf tree)
+-- each of the indexes is the tree's
+pub record AreIndexesOf (tree : Content) (indexes : Indexes) : Type 0 where
+  pub mappings : map_index.IsIndexOf tree indexes.mappings
+  pub scripts : script_index.IsIndexOf tree indexes.scripts
 
--- a tree, and whether the index of its mappings is there
+-- indexes that are kept are the tree's
+abbrev pub AreIndexesFor : Content → Option Indexes → Type 0
+AreIndexesFor tree indexes = IfSome indexes (AreIndexesOf tree)
+
+-- a tree, and whether its indexes are there
 pub record IndexedTree : Type 0 where
   pub tree : Content
   pub is_indexed : Bool

@@ -2,36 +2,37 @@
 ghost use Rattle.std.specs.Prelude.{◌≡◌, ℕ, List, Some, false, OnOk, OnErr};
 ghost use Rattle.resource_tree.specs.Content.{IsGood, same_path};
 ghost use Rattle.resource_tree.specs.Patches.{patching};
-ghost use Rattle.url_maps.specs.Claims.{IsIndexOf};
 ghost use Rattle.publisher.specs.declared.templates.Reading.{Reading};
-ghost use Rattle.publisher.specs.Kept.{AreAmong, AreReadings, AreUnpatched, reading_at, text_path};
+ghost use Rattle.publisher.specs.Kept.{AreAmong, AreIndexesOf, AreReadings, AreUnpatched, reading_at, text_path};
 
+use crate::kept_index::Indexes;
 use crate::templates::Templates;
 use resource_tree::{Patch, Tree};
 use sp_base::{Mem, Path};
 use std::alloc::Global;
-use url_maps::MapIndex;
 
 /// Puts a patch over a tree. All memory is taken before the tree changes.
 pub(crate) fn put_over(
     alloc: Global,
     tree: &mut Tree,
     templates: &mut Templates,
-    index: &mut MapIndex,
+    indexes: &mut Indexes,
     patch: Patch,
 ) -> Mem<()>
     requires good { IsGood (patching tree.old patch) }
-    requires index { IsIndexOf tree.old index.old }
+    requires indexes { AreIndexesOf tree.old indexes.old }
     requires kept { AreReadings tree.old templates.old }
     ensures ok { OnOk result (tree.new ≡ patching tree.old patch) }
     ensures unchanged { OnErr result (tree.new ≡ tree.old) }
-    ensures index { IsIndexOf tree.new index.new }
+    ensures indexes { AreIndexesOf tree.new indexes.new }
     ensures kept { AreReadings tree.new templates.new }
 {
-    let change = index.change_of(alloc, tree, &patch)?;
+    let mappings = indexes.mappings.change_of(alloc, tree, &patch)?;
+    let scripts = indexes.scripts.change_of(alloc, tree, &patch)?;
     forget_patched(alloc, templates, &patch)?;
     tree.apply(patch)?;
-    index.take(change);
+    indexes.mappings.take(mappings);
+    indexes.scripts.take(scripts);
     Ok(())
 }
 

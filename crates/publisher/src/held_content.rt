@@ -4,7 +4,7 @@ ghost use Rattle.sp_base.specs.Limits.{most_rendered_bytes};
 ghost use Rattle.publisher.specs.Rendering.{seen_resources, mapped_answer, mapping, text_answer, resource_answer, answer_to_request, content_after_request, is_post, is_read};
 
 use crate::errors::redirect;
-use crate::kept_index::mapped;
+use crate::kept_index::{Indexes, first_script, mapped};
 use crate::methods::{is_post, is_read};
 use crate::parts::parts_of;
 use crate::representations::resource_answer;
@@ -16,28 +16,28 @@ use sp_base::{Answer, Ask, Mem};
 use std::alloc::Global;
 use std::hash::RandomState;
 use std::marker::Model;
-use url_maps::{MapAnswer, MapIndex};
+use url_maps::MapAnswer;
 use url_split::Parts;
 
-/// A content tree, with the readings of its scripts and the index of its mappings. Contracts see the tree, and whether the index is
-/// there: an answer makes it, and from then on it stays.
+/// A content tree, with the readings of its scripts and its indexes. Contracts see the tree, and whether the indexes are there: an answer
+/// makes them, and from then on they stay.
 #[derive(Drop)]
 pub(crate) struct HeldContent {
     pub(crate) tree: Tree,
     pub(crate) templates: Templates,
-    /// The index of the tree's aliases and vanity paths, made at the first answer.
-    pub(crate) index: Option<MapIndex>,
+    /// The indexes of the tree, made at the first answer.
+    pub(crate) indexes: Option<Indexes>,
 }
 
 impl Model for HeldContent {
     ghost use Rattle.std.specs.Prelude.{is_some};
-    ghost use Rattle.publisher.specs.Kept.{AreReadings, IndexedTree, IsIndexFor};
+    ghost use Rattle.publisher.specs.Kept.{AreIndexesFor, AreReadings, IndexedTree};
 
     ghost Value = { IndexedTree };
 
-    ghost view = { λ s. record { tree = s.tree; is_indexed = is_some s.index } };
+    ghost view = { λ s. record { tree = s.tree; is_indexed = is_some s.indexes } };
 
-    ghost invariant = { λ s. AreReadings s.tree s.templates × IsIndexFor s.tree s.index };
+    ghost invariant = { λ s. AreReadings s.tree s.templates × AreIndexesFor s.tree s.indexes };
 }
 
 impl HeldContent {
@@ -47,7 +47,7 @@ impl HeldContent {
         HeldContent {
             tree,
             templates: Templates::new(alloc, seeds),
-            index: None,
+            indexes: None,
         }
     }
 
@@ -98,7 +98,7 @@ impl HeldContent {
         ensures made { OnOk result (IsTrue self.new.is_indexed) }
         ensures kept { IsTrue self.old.is_indexed → IsTrue self.new.is_indexed }
     {
-        mapped(alloc, &self.tree, &mut self.index, ask)
+        mapped(alloc, &self.tree, &mut self.indexes, ask)
     }
 
     // The answer to a text within the content.
@@ -118,7 +118,10 @@ impl HeldContent {
         ensures unchanged { self.new ≡ self.old }
     {
         match merged_alone(alloc, &self.tree, &parts.path)? {
-            Some(res) => resource_answer(alloc, &self.tree, &mut self.templates, parts, &res),
+            Some(res) => {
+                let script = first_script(alloc, &self.tree, &self.indexes, res.props(), parts)?;
+                resource_answer(alloc, &self.tree, &mut self.templates, parts, &res, script)
+            }
             None => error_answer(alloc, 404),
         }
     }

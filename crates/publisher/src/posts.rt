@@ -64,7 +64,7 @@ impl HeldContent {
         Ok(answer)
     }
 
-    // Puts a patch over the tree, and keeps what of the readings and the index is still right.
+    // Puts a patch over the tree, and keeps what of the readings and the indexes is still right.
     fn put(&mut self, alloc: Global, patch: Patch) -> Mem<()>
         requires { IsGood (patching self.old.tree patch) }
         ensures ok { OnOk result (self.new.tree ≡ patching self.old.tree patch) }
@@ -75,7 +75,7 @@ impl HeldContent {
             alloc,
             &mut self.tree,
             &mut self.templates,
-            &mut self.index,
+            &mut self.indexes,
             patch,
         )
     }

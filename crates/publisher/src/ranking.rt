@@ -1,4 +1,4 @@
-// Which script renders a resource.
+// Which script renders a resource that is put in.
 
 ghost use Rattle.std.specs.Prelude.{◌≡◌, IfOk};
 ghost use Rattle.type_chain.specs.Chain.{chain_of};
@@ -7,21 +7,9 @@ ghost use Rattle.publisher.specs.Pages.{html_parts};
 
 use resource_tree::{Res, Tree};
 use script_rank::script_of;
-use sp_base::{Mem, Path, PropList, TextBuf, TextList};
+use sp_base::{Mem, Path, TextBuf, TextList};
 use std::alloc::Global;
 use url_split::Parts;
-
-/// The script that ranks first for a resource with these properties.
-pub(crate) fn first_script(
-    alloc: Global,
-    tree: &Tree,
-    props: &PropList,
-    parts: &Parts,
-) -> Mem<Option<Path>>
-    ensures { IfOk result (λ o. o ≡ first_script tree.now (chain_of tree.now props.now) parts.now) }
-{
-    script_of(alloc, tree, props, parts)
-}
 
 fn html_parts(alloc: Global, path: &Path) -> Mem<Parts>
     ensures { IfOk result (λ parts. parts ≡ html_parts path.now) }
@@ -39,5 +27,5 @@ pub(crate) fn html_script(alloc: Global, tree: &Tree, res: &Res) -> Mem<Option<P
     ensures { IfOk result (λ o. o ≡ first_script tree.now (chain_of tree.now res.now.props) (html_parts res.now.path)) }
 {
     let parts = html_parts(alloc, res.path())?;
-    first_script(alloc, tree, res.props(), &parts)
+    script_of(alloc, tree, res.props(), &parts)
 }

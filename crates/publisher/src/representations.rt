@@ -2,6 +2,8 @@
 ghost use Rattle.std.specs.Prelude.{◌≡◌, None, Some, IfOk};
 ghost use Rattle.get_servlet.specs.Streams.{stream_of};
 ghost use Rattle.publisher.specs.Depths.{depth_of};
+ghost use Rattle.type_chain.specs.Chain.{chain_of};
+ghost use Rattle.script_rank.specs.Search.{search_result as first_script};
 ghost use Rattle.publisher.specs.Kept.{AreReadings};
 ghost use Rattle.publisher.specs.Rendering.{representation_of, json_representation, json_to_depth, file_representation, is_bare, default_answer, resource_answer, script_at, seen_resources};
 ghost use Rattle.publisher.specs.SeenAlone.{IsSeenAlone, answer_seen, seen_answer, shows_no_kid};
@@ -10,7 +12,6 @@ use crate::choices::choices_text;
 use crate::depths::depth_of;
 use crate::errors::answer_of;
 use crate::methods::mark_of;
-use crate::ranking::first_script;
 use crate::scripts::script_representation;
 use crate::templates::{Templates, reading_at};
 use error_answers::error_answer;
@@ -156,8 +157,8 @@ fn answer_by_script(
     }
 }
 
-/// The answer of the resource that the parts of a URL name, as it is seen without its kids: what its first script writes, which asks
-/// for its properties alone, or what the default GET servlet answers.
+/// The answer of the resource that the parts of a URL name, as it is seen without its kids: what the script that ranks first for it
+/// writes, which asks for its properties alone, or what the default GET servlet answers.
 #[tactic(auto, unfolding(crate::specs::Rendering::script_for))]
 pub(crate) fn resource_answer(
     alloc: Global,
@@ -165,13 +166,15 @@ pub(crate) fn resource_answer(
     templates: &mut Templates,
     parts: &Parts,
     res: &Res,
+    script: Option<Path>,
 ) -> Mem<Answer>
     requires kept { AreReadings tree.now templates.old }
+    requires script { script ≡ first_script tree.now (chain_of tree.now res.now.props) parts.now }
     requires seen { IsSeenAlone tree.now parts.now res.now }
     ensures answer { IfOk result (λ a. a ≡ resource_answer tree.now parts.now (seen_resources tree.now parts.now.path)) }
     ensures kept { AreReadings tree.now templates.new }
 {
-    match first_script(alloc, tree, res.props(), parts)? {
+    match script {
         Some(script) => answer_by_script(alloc, tree, templates, parts, res, script),
         None => default_answer_there(alloc, tree, parts, res),
     }

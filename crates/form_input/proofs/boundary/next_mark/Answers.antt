@@ -1,6 +1,5 @@
-use Rattle.std.proofs.Common.{◌≡◌, ◌++◌, ◌∷◌, sym, ap, ◌∙◌, option_copied, Option, List, ℕ, arith, length, Some}
-use Rattle.form_input.specs.Lines.{lines, lines_left}
-use Rattle.form_input.specs.Multipart.{is_plain_line, is_closing_line}
+use Rattle.std.proofs.Common.{◌≡◌, ◌++◌, ◌∷◌, sym, ap, ◌∙◌, option_copied, List, ℕ}
+use Rattle.form_input.specs.Lines.{lines_left}
 use Rattle.form_input.proofs.BoundaryLemmas.{passed_nothing, passed_line, reached, none_left, copied}
 use Rattle.form_input.proofs.boundary.next_mark.Goals as goal
 

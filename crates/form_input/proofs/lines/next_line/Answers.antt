@@ -1,7 +1,6 @@
-use Rattle.std.proofs.Common.{◌≡◌, ◌<◌, ◌+◌, arith, length, ap, sym, ◌∙◌, ◌∷◌, ◌++◌, List, ℕ}
+use Rattle.std.proofs.Common.{◌+◌, arith, length, List, ℕ}
 use Rattle.std.proofs.lemmas.List.{take_rest}
-use Rattle.memchr.specs.Find.{OccursAt, FindsNeedle, NoneBefore}
-use Rattle.form_input.specs.Lines.{lines}
+use Rattle.memchr.specs.Find.{OccursAt, NoneBefore}
 use Rattle.form_input.proofs.LineLemmas.{line_end, lines_alone, Cut, cut_at}
 use Rattle.form_input.proofs.lines.next_line.Goals as goal
 

@@ -1,4 +1,4 @@
-use Rattle.std.proofs.Common.{◌≡◌, arith, sym, ap, ◌∙◌, option_copied, length, false, true}
+use Rattle.std.proofs.Common.{◌≡◌, arith, sym, ap, ◌∙◌, option_copied, false, true}
 use Rattle.form_input.proofs.FormLemmas.{no_end, nothing_left, read_on, bad_part, too_many, pushed, all_read, shut, closed}
 use Rattle.form_input.proofs.multipart.read_parts.Goals as goal
 

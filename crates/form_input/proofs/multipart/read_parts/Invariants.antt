@@ -1,6 +1,4 @@
-use Rattle.std.proofs.Common.{◌≡◌, ◌≤◌, length, IfSome, option_copied}
-use Rattle.form_input.specs.Multipart.{pairs_of}
-use Rattle.form_input.specs.Boundaries.{from_mark}
+use Rattle.std.proofs.Common.{option_copied}
 use Rattle.form_input.proofs.FormLemmas.{IsReadTo, left}
 use Rattle.form_input.proofs.multipart.read_parts.Given as goal
 

@@ -1,4 +1,4 @@
-use Rattle.std.proofs.Common.{sym, ◌∙◌, arith}
+use Rattle.std.proofs.Common.{sym}
 use Rattle.form_input.proofs.ParameterLemmas.{ends_in_word, ends_in_blank}
 use Rattle.form_input.proofs.parameters.before_blanks.Goals as goal
 

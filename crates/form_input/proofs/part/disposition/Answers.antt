@@ -1,4 +1,4 @@
-use Rattle.std.proofs.Common.{◌≡◌, sym, ap, ◌∙◌, option_copied, Option, List, ℕ, Some, None}
+use Rattle.std.proofs.Common.{sym, ap, ◌∙◌, option_copied, Option, List, ℕ}
 use Rattle.form_input.specs.Lines.{lines_left}
 use Rattle.form_input.specs.Multipart.{disposition_in}
 use Rattle.form_input.proofs.PartLemmas.{disposition_step, disposition_found, disposition_ends, disposition_none}

@@ -1,4 +1,4 @@
-use Rattle.std.proofs.Common.{sym, ◌∙◌}
+use Rattle.std.proofs.Common.{◌∙◌}
 use Rattle.form_input.proofs.PartLemmas.{utf8_some, utf8_none}
 use Rattle.form_input.proofs.part.utf8.Goals as goal
 

@@ -1,4 +1,4 @@
-use Rattle.std.proofs.Common.{◌≡◌, sym, ap, ◌∙◌, option_copied, Option, List, ℕ}
+use Rattle.std.proofs.Common.{sym, ap, ◌∙◌, option_copied, Option, List, ℕ}
 use Rattle.form_input.specs.Lines.{lines_left}
 use Rattle.form_input.specs.Multipart.{value_in}
 use Rattle.form_input.proofs.PartLemmas.{value_step, value_found, value_none}

@@ -1,3 +1,6 @@
+use Rattle.std.proofs.Common.{◌≡◌, sym, subst, ap, ◌∙◌}
+use Rattle.resource_tree.specs.Content.{Content, IsGood}
+use Rattle.script_rank.specs.Index.{Index, IsIndexOf, has_path}
 use Rattle.publisher.proofs.ForgetLemmas.{still_readings}
 use Rattle.publisher.proofs.changes.put_over.Goals as goal
 
@@ -6,6 +9,14 @@ returns-clause-kept c =
     still_readings c.args.tree.now c.apply.new.self c.args.patch c.args.templates.now c.forget_patched.new.templates c.requires.kept
     c.in_ok-forget_patched.ensures.fewer c.in_ok-forget_patched.ensures.unpatched c.in_ok-apply.ensures.look_ups
 
-pub returns-clause-index : goal.returns-clause-index
-returns-clause-index c =
-    c.take.ensures c.args.tree.now c.apply.new.self c.args.patch c.change_of.ensures.index c.in_ok-change.ensures.change c.in_ok-apply.ensures.look_ups
+-- an index with other room is one of the same tree
+same_index : (tree : Content) (old new : Index) → new.scripts ≡ old.scripts → IsIndexOf tree old → IsIndexOf tree new
+same_index tree old new same is = record { scripts = λ path. ap (λ paths. has_path paths path) same ∙ is.scripts path }
+
+pub returns-clause-indexes : goal.returns-clause-indexes
+returns-clause-indexes c = record {
+  mappings = c.take.ensures c.args.tree.now c.apply.new.self c.args.patch c.change_of.ensures.index c.in_ok-mappings.ensures.change c.in_ok-apply.ensures.look_ups;
+  scripts =
+      let before = same_index c.args.tree.now c.args.indexes.now.scripts c.change_of-2.new.self c.change_of-2.ensures.unchanged c.requires.indexes.scripts in
+      c.take-2.ensures c.args.tree.now c.apply.new.self c.args.patch before c.in_ok-scripts.ensures.change (subst IsGood (sym c.in_ok-apply.ensures.ok) c.requires.good) c.in_ok-apply.ensures.look_ups;
+}

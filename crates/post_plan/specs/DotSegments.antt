@@ -1,0 +1,42 @@
+-- The removal of dot segments from the text of a path (RFC 3986, section 5.2.4), as a relation on the input, the output so far and what comes
+-- out in the end.
+use Rattle.std.specs.Prelude.{◌≡◌, ◌==◌, ◌⊎◌, ℕ, Bool, true, false, List, [], ◌∷◌, ◌++◌, codes, flat_map}
+use Rattle.sp_base.specs.Texts.{Segments}
+use Rattle.sp_base.specs.Paths.{has_slash, is_dots}
+
+-- a slash before each segment
+abbrev pub slashed : Segments → List ℕ
+slashed segs = flat_map (λ seg. 47 ∷ seg) segs
+
+-- nothing follows, or a slash
+abbrev pub ends_segment : List ℕ → Bool
+ends_segment [] = true
+ends_segment (b ∷ rest) = b == 47
+
+-- the first segment of the input, with the slash before it, and the rest
+pub record HasFirstSegment (input segment rest : List ℕ) : Type 0 where
+  pub spells : input ≡ 47 ∷ (segment ++ rest)
+  pub whole : has_slash segment ≡ false
+  pub ends : ends_segment rest ≡ true
+
+-- the rest of the input after a dot segment: a slash where none follows
+abbrev pub or_slash : List ℕ → List ℕ
+or_slash [] = 47 ∷ []
+or_slash (b ∷ rest) = b ∷ rest
+
+-- the output ends in a segment, with the slash before it
+pub record EndsInSegment (output kept : List ℕ) : Type 0 where
+  pub last : List ℕ
+  pub spells : output ≡ kept ++ 47 ∷ last
+  pub whole : has_slash last ≡ false
+
+-- the output without its last segment, if it has any
+abbrev pub IsWithoutLast : List ℕ → List ℕ → Type 0
+IsWithoutLast output kept = EndsInSegment output kept ⊎ ((output ≡ []) × (kept ≡ []))
+
+-- `/.` is taken away up to the next slash, `/..` too, with the last segment of the output, and any other segment moves to the output
+pub data RemovesDots : List ℕ → List ℕ → List ℕ → Type 0 where
+  Ends : {input output result : List ℕ} → input ≡ [] → result ≡ output → RemovesDots input output result
+  Stays : {input output result : List ℕ} (rest : List ℕ) → HasFirstSegment input (codes ".") rest → RemovesDots (or_slash rest) output result → RemovesDots input output result
+  Climbs : {input output result : List ℕ} (rest kept : List ℕ) → HasFirstSegment input (codes "..") rest → IsWithoutLast output kept → RemovesDots (or_slash rest) kept result → RemovesDots input output result
+  Moves : {input output result : List ℕ} (segment rest : List ℕ) → HasFirstSegment input segment rest → is_dots segment ≡ false → RemovesDots rest (output ++ 47 ∷ segment) result → RemovesDots input output result

@@ -1,0 +1,6 @@
+pub mod MemberLemmas
+pub mod EntryLemmas
+pub mod HostLemmas
+pub mod FarmLemmas
+pub mod PassedLemmas
+pub mod TouchedLemmas

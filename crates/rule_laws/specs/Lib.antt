@@ -1,0 +1,3 @@
+pub mod FarmTable
+pub mod Passed
+pub mod Touched

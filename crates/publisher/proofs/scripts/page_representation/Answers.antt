@@ -14,7 +14,7 @@ returns-in-Ok-clause-answer c =
     let is = page_is c.args.tree.now res c.args.script.now c.path.result.now c.props.result.now _ c.args.blocks.now _ refl c.path.ensures c.props.ensures none_are in
     answer-as c.representation_of.result _ _
     (ap (λ m. representation_of html_kind m c.into_text.result) c.mark_of.ensures
-    ∙ within_limits (mark_of res) c.new.result c.write_blocks.new.page page c.into_text.result c.new.ensures (c.in-Ok.ensures.page ∙ ap (joined c.new.result) is)
+    ∙ within_limits (mark_of res) c.new-page.result c.write_blocks.new.page page c.into_text.result c.new-page.ensures (c.in-Ok.ensures.page ∙ ap (joined c.new-page.result) is)
     c.into_text.ensures.text c.into_text.ensures.inclusions c.into_text.ensures.rounds c.into_text.ensures.depth)
     c.representation_of.ensures
 
@@ -24,5 +24,5 @@ returns-in-Err-Over-clause-answer c =
     let page = page_of c.args.tree.now (place_of c.args.script.now res) c.args.blocks.now in
     let is = page_is c.args.tree.now res c.args.script.now c.path.result.now c.props.result.now _ c.args.blocks.now _ refl c.path.ensures c.props.ensures none_are in
     answer-as c.error_answer.result _ _
-    (over_limits (mark_of res) c.new.result page c.new.ensures (subst (λ (p : Page). IsPassed (joined c.new.result p)) is (c.in-Err-Over.ensures.page (λ same. cc))))
+    (over_limits (mark_of res) c.new-page.result page c.new-page.ensures (subst (λ (p : Page). IsPassed (joined c.new-page.result p)) is (c.in-Err-Over.ensures.page (λ same. cc))))
     c.error_answer.ensures

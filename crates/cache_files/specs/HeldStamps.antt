@@ -53,7 +53,3 @@ pub record IsSessionTouch (files : Files) (folder : Segments) (stamp : Stamp) : 
 abbrev pub FailedPutsKeepOrder : Type 0
 FailedPutsKeepOrder = (files new : Files) (key : PageKey) (stamp : Stamp) (answer : Answer) → IsSessionPut files key stamp answer → LeftByPut files new key stamp answer
     → KeepsOrder files new
-
--- the number is above that of the stamp, where the files hold it
-abbrev pub IsAboveHeld : Files → ℕ → Stamp → Type 0
-IsAboveHeld files epoch stamp = HoldsStamp files stamp → stamp.epoch < epoch

@@ -1,5 +1,5 @@
 //! The number of a session is above each stamp of an earlier one: laws, on functions that do nothing.
-ghost use Rattle.std.specs.Prelude.{◌≡◌, ◌≢◌, ◌⊎◌, ℕ, Some, Ok};
+ghost use Rattle.std.specs.Prelude.{◌≡◌, ◌≢◌, ◌⊎◌, ◌<◌, ℕ, Some, Ok};
 ghost use Rattle.std.specs.FinMap.{empty};
 ghost use Rattle.sp_base.specs.Texts.{Segments, Text};
 ghost use Rattle.sp_outside.specs.Files.{Files, with_file, without_file};
@@ -13,7 +13,7 @@ ghost use Rattle.cache_files.specs.Epochs.{IsOpened, LeftByOpening, epoch_held, 
 ghost use Rattle.cache_files.specs.declared.epoch.OpenFault.{OpenFault};
 ghost use Rattle.cache_files.specs.declared.epoch.OpenFault.TheVariants.{Disk as open_disk};
 ghost use Rattle.cache_files.specs.declared.page.Page.{Page};
-ghost use Rattle.cache_files.specs.HeldStamps.{HasNoLaterStamp, IsPageStamp, IsSessionPut, IsSessionTouch, KeepsOrder, FailedPutsKeepOrder, IsAboveHeld};
+ghost use Rattle.cache_files.specs.HeldStamps.{HasNoLaterStamp, HoldsStamp, IsPageStamp, IsSessionPut, IsSessionTouch, KeepsOrder, FailedPutsKeepOrder};
 ghost use Rattle.cache_files.specs.Pages.{files_with_page, files_without_page, page_at};
 
 use docroot_format::{names_are_apart, texts_are_read_back, what_reads_is_its_text};
@@ -22,7 +22,7 @@ use sp_outside::files_have_names;
 /// A session that is opened has a number above each stamp in the files, and these then hold no stamp later than that, if they held none
 /// later than their own number before (`HasNoLaterStamp`). An opening that failed leaves none either.
 pub fn a_session_is_after_every_stamp()
-    ensures above { (files : Files) (epoch : ℕ) (stamp : Stamp) → HasNoLaterStamp files → next_epoch files ≡ Ok epoch → IsAboveHeld files epoch stamp }
+    ensures above { (files : Files) (next : ℕ) (stamp : Stamp) → HasNoLaterStamp files → next_epoch files ≡ Ok next → HoldsStamp files stamp → stamp.epoch < next }
     ensures opened { (files : Files) (epoch : ℕ) → next_epoch files ≡ Ok epoch → KeepsOrder files (files_with_epoch files epoch) }
     ensures failed { (files new : Files) (fault : OpenFault) → LeftByOpening files new fault → KeepsOrder files new }
 {

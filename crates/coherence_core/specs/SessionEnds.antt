@@ -18,8 +18,8 @@ abbrev pub IsHeldClosed : Files → Core → List LogEntry → Type 0
 IsHeldClosed files core log = HoldsClosed core.farm files (closing_entries core ++ log)
 
 -- with nothing in the air, they hold it once the unfinished flushes are cut off
-abbrev pub IsHeldLanded : Files → Core → List LogEntry → Type 0
-IsHeldLanded files core log = core.flights ≡ [] → HoldsClosed core.farm files (failed_entries (flushes_of core) ++ log)
+abbrev pub IsHeldIfLanded : Files → Core → List LogEntry → Type 0
+IsHeldIfLanded files core log = core.flights ≡ [] → HoldsClosed core.farm files (failed_entries (flushes_of core) ++ log)
 
 -- a restart allows what the core leaves to be closed
 abbrev pub RestartsAllowClosing : Type 0

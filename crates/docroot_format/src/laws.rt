@@ -8,7 +8,7 @@ ghost use Rattle.sp_base.specs.Paths.{is_path, mangled_segs};
 ghost use Rattle.sp_outside.specs.FileNames.{beside_ending};
 ghost use Rattle.docroot_format.specs.Names.{body_name, epoch_name, have_names, head_name, is_docroot_name, is_page_file, is_place, is_stat_file, stat_name, IsFolder, HaveBytes, IsTouchedBy};
 ghost use Rattle.sp_base.specs.Texts.{Segments, Text};
-ghost use Rattle.docroot_format.specs.Readings.{HeadLine, epoch_of, head_of, stat_of, IsHeadReadBack};
+ghost use Rattle.docroot_format.specs.Readings.{HeadLine, epoch_of, head_of, stat_of, IsHeadReadBackIfKind};
 ghost use Rattle.docroot_format.specs.Deletions.{IsDeletedByName};
 ghost use Rattle.docroot_format.specs.Texts.{epoch_text, head_text, stat_text};
 
@@ -47,7 +47,7 @@ pub fn folders_of_stamps_are_paths()
 
 /// The texts that are written read as what they were written of.
 pub fn texts_are_read_back()
-    ensures head { (epoch count size : ℕ) (kind : Text) → epoch < 2 ^ 64 → count < 2 ^ 64 → size < 2 ^ 64 → IsHeadReadBack epoch count size kind }
+    ensures head { (epoch count size : ℕ) (kind : Text) → epoch < 2 ^ 64 → count < 2 ^ 64 → size < 2 ^ 64 → IsHeadReadBackIfKind epoch count size kind }
     ensures stat { (epoch count : ℕ) → epoch < 2 ^ 64 → count < 2 ^ 64 → stat_of (stat_text epoch count) ≡ Some (epoch, count) }
     ensures epoch { (epoch : ℕ) → 0 < epoch → epoch < 2 ^ 64 → epoch_of (epoch_text epoch) ≡ Some epoch }
 {}

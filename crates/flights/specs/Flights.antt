@@ -73,5 +73,5 @@ abbrev pub RisesAfter : ℕ → ℕ → ℕ → Invalidation → List Flight →
 RisesAfter least most level inv flights = AreRising least flights most → AreRising least (map (after_invalidation level inv) flights) most
 
 -- where this number stands at this place it alone goes from there as its flight does
-abbrev pub LeavesPlace : ℕ → ℕ → List Flight → Type 0
-LeavesPlace number place flights = slice_get (numbers_of flights) place ≡ Some number → numbers_of (without number flights) ≡ remove (numbers_of flights) place
+abbrev pub LeavesPlaceIfThere : ℕ → ℕ → List Flight → Type 0
+LeavesPlaceIfThere number place flights = slice_get (numbers_of flights) place ≡ Some number → numbers_of (without number flights) ≡ remove (numbers_of flights) place

@@ -12,11 +12,11 @@ ghost use Rattle.htl_blocks.specs.declared.block.Block.{Block};
 ghost use Rattle.htl_blocks.specs.declared.block.Block.TheVariants.{Text, Element};
 ghost use Rattle.htl_blocks.specs.Parts.{Round, Script, Resource, text_parts};
 ghost use Rattle.htl_blocks.specs.Written.{block_parts, blocks_parts, statement_name, statement_value, with_variable};
-ghost use Rattle.htl_blocks.specs.WrittenLaws.{StandsInTags, IsLeftOutUntrue, StandsUnwrapped, HidesStatements};
+ghost use Rattle.htl_blocks.specs.WrittenLaws.{StandsInTags, IsLeftOutIfUntrue, IsItsContentIfUnwrapped, IsWrittenWholeIfInTags};
 
 /// An element whose test is false is left out.
 pub fn a_false_test_leaves_the_element_out()
-    ensures { (scope : Bindings) (tag : Tag) (content : List Block) (end_tag : List ℕ) → IsLeftOutUntrue scope tag content end_tag }
+    ensures { (scope : Bindings) (tag : Tag) (content : List Block) (end_tag : List ℕ) → IsLeftOutIfUntrue scope tag content end_tag }
 {}
 
 /// The content of an element stands between its tags once for each item of its list, in their order, with the item as the variable. The
@@ -50,12 +50,12 @@ pub fn a_body_stands_in_place_of_the_content()
 
 /// Unwrapping leaves the tags out and keeps the content.
 pub fn unwrapping_keeps_the_content()
-    ensures { (scope : Bindings) (tag : Tag) (content : List Block) (end_tag : List ℕ) → StandsUnwrapped scope tag content end_tag }
+    ensures { (scope : Bindings) (tag : Tag) (content : List Block) (end_tag : List ℕ) → IsItsContentIfUnwrapped scope tag content end_tag }
 {}
 
 /// Of a tag stands what its template writes, which is its text without the statements: they themselves don't show.
 pub fn statements_dont_show()
-    ensures { (scope : Bindings) (tag : Tag) (content : List Block) (end_tag : List ℕ) → HidesStatements scope tag content end_tag }
+    ensures { (scope : Bindings) (tag : Tag) (content : List Block) (end_tag : List ℕ) → IsWrittenWholeIfInTags scope tag content end_tag }
 {}
 
 /// A template writes its own text.

@@ -3,7 +3,7 @@ ghost use Rattle.std.specs.Prelude.{◌≡◌, ◌++◌, ℕ, List};
 ghost use Rattle.http_front.specs.declared.fault.InFault.TheVariants.{BadHead};
 ghost use Rattle.http_front.specs.declared.turn.Turn.{Turn};
 ghost use Rattle.http_front.specs.FieldValues.{ValuesStayInTheirLines};
-ghost use Rattle.http_front.specs.OpenEnds.{BeginsWithTurns, EndsInSpoiltTarget, LeavesEndOpen, SpoiltTargetsEndSo, EndsAlike, MayWait, MayBeLong};
+ghost use Rattle.http_front.specs.OpenEnds.{BeginsWithTurns, EndsInSpoiltTarget, LeavesEndOpen, SpoiltTargetsEndSo, EndsAlikeOrOpenIfSpelt, MayWaitIfShort, MayBreakIfLong};
 ghost use Rattle.http_front.specs.Turns.{Breaks, End, SpellsTurns};
 
 /// The turns of the beginning of a stream are the beginning of its turns, however the stream goes on.
@@ -16,10 +16,10 @@ pub fn the_turns_of_a_beginning()
 /// target that isn't UTF-8 and can't become it. There it has a bad head (`bad`), and where fewer than 16,384 bytes come after the turns
 /// it waits (`waits`), where as many or more do it has a long head (`long`): these are all its ends (`only`).
 pub fn the_end_of_a_stream()
-    ensures one { (stream : List ℕ) (turns : List Turn) (end last : End) → SpellsTurns stream turns end → EndsAlike stream turns end last }
+    ensures one { (stream : List ℕ) (turns : List Turn) (end last : End) → SpellsTurns stream turns end → EndsAlikeOrOpenIfSpelt stream turns end last }
     ensures bad { (stream : List ℕ) (turns : List Turn) → LeavesEndOpen stream turns → SpellsTurns stream turns (Breaks BadHead) }
-    ensures waits { (stream last : List ℕ) (turns : List Turn) → BeginsWithTurns stream turns last → EndsInSpoiltTarget last → MayWait stream turns last }
-    ensures long { (stream last : List ℕ) (turns : List Turn) → BeginsWithTurns stream turns last → EndsInSpoiltTarget last → MayBeLong stream turns last }
+    ensures waits { (stream last : List ℕ) (turns : List Turn) → BeginsWithTurns stream turns last → EndsInSpoiltTarget last → MayWaitIfShort stream turns last }
+    ensures long { (stream last : List ℕ) (turns : List Turn) → BeginsWithTurns stream turns last → EndsInSpoiltTarget last → MayBreakIfLong stream turns last }
     ensures only { SpoiltTargetsEndSo }
 {}
 

@@ -157,8 +157,8 @@ abbrev pub IsUnderParentOf : Segments → Segments → Type 0
 IsUnderParentOf path read = is_under path (parent_of read) ≡ true
 
 -- where that has no more segments than so many, they are no more bytes than those of as many first segments
-abbrev pub FitsWithin : Segments → ℕ → Segments → ℕ → Type 0
-FitsWithin path n read most = length read ≤ most → n ≤ length (text_of (take most path))
+abbrev pub FitsIfShort : Segments → ℕ → Segments → ℕ → Type 0
+FitsIfShort path n read most = length read ≤ most → n ≤ length (text_of (take most path))
 
 -- a slash follows the first `n` segments
 abbrev pub HasSlashAfter : Segments → ℕ → Type 0

@@ -21,7 +21,7 @@ ghost use Rattle.coherence_core.specs.Sessions.{closing_entries};
 ghost use Rattle.coherence_core.specs.StampTies.{IsStampOfSession, drawn_stamps, stamp_after};
 ghost use Rattle.coherence_core.specs.declared.core_state.Core.{Core};
 ghost use Rattle.coherence_core.specs.StatFilesKept.{PutsKeepStatFiles, FailedPutsKeepStatFiles, FailedOpeningsKeepStatFiles};
-ghost use Rattle.coherence_core.specs.SessionEnds.{IsHeldClosed, IsHeldIfLanded, RestartsAllowClosing, AllowsClosing, HoldsOnceClosed, StandsForSession, FilesGoAfterOpening, SessionsGoOn};
+ghost use Rattle.coherence_core.specs.SessionEnds.{IsHeldClosed, IsHeldIfLanded, RestartsAllowClosing, AllowsClosing, HoldsOnceClosed, StandsForSession, CoresStayOpenedAsFilesGo, SessionsGoOn};
 ghost use Rattle.coherence_core.specs.StampLaws.{FreshPagesHaveFlightStamps, MayHitIfOfStamp, FoldersHaveTouchStamps, HeadsAreBeforeNext, FoldersAreBeforeNext, FlightsAreBeforeNext, FlushesAreBeforeNext, DrawnAreBeforeNext, AreDrawnRising, WasDrawnInSession};
 
 use cache_files::{
@@ -122,7 +122,7 @@ pub fn each_draw_is_after_those_before_it()
 /// It stays one that was just opened as files go, but for that of the number.
 pub fn a_session_begins_without_pages()
     ensures stands { (found : ℕ) (files : Files) (core : Core) → IsCoreOpened found files core → IsCleared files → StandsForSession found files core }
-    ensures kept { FilesGoAfterOpening }
+    ensures kept { CoresStayOpenedAsFilesGo }
 {
     names_tell_their_files();
     no_notes_agree_with_any_files();

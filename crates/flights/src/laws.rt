@@ -2,7 +2,7 @@
 ghost use Rattle.std.specs.Prelude.{◌≡◌, ◌≢◌, ◌<◌, ◌++◌, ◌∷◌, [], ℕ, List, IsSome, Some, None, map, slice_get};
 ghost use Rattle.cover_rules.specs.declared.invalidation.Invalidation.{Invalidation};
 ghost use Rattle.flights.specs.declared.flight.Flight.{Flight};
-ghost use Rattle.flights.specs.Flights.{AreRising, after_invalidation, flight_at, numbers_of, without, HasItsNumber, KeepsFlight, VoidsAlone, RisesWith, RisesAfter, LeavesPlaceIfThere};
+ghost use Rattle.flights.specs.Flights.{AreRising, after_invalidation, flight_at, numbers_of, without, HasItsNumber, KeepsFlight, IsFoundAsLeftBy, RisesWith, RisesAfter, LeavesPlaceIfThere};
 ghost use Rattle.flights.specs.Landings.{UncoveredFlightsLandClear, CoveredFlightsLandVoided, UnkeyedFlightsLandUnkeyed};
 
 /// A flight that is asked under a number that no other has is there under it (`asked`), and stays so while others are asked
@@ -12,7 +12,7 @@ pub fn a_flight_is_there_until_its_ticket_is_spent()
     ensures asked { (flight : Flight) (flights : List Flight) → flight_at flight.number flights ≡ None → HasItsNumber flight (flights ++ flight ∷ []) }
     ensures others_asked { (number : ℕ) (other : Flight) (flights : List Flight) → number ≢ other.number → KeepsFlight number flights (flights ++ other ∷ []) }
     ensures others_spent { (number other : ℕ) (flights : List Flight) → number ≢ other → flight_at number (without other flights) ≡ flight_at number flights }
-    ensures voided { (number level : ℕ) (inv : Invalidation) (flights : List Flight) → VoidsAlone number level inv flights }
+    ensures voided { (number level : ℕ) (inv : Invalidation) (flights : List Flight) → IsFoundAsLeftBy number level inv flights }
     ensures spent { (least number most : ℕ) (flights : List Flight) → AreRising least flights most → flight_at number (without number flights) ≡ None }
 {}
 

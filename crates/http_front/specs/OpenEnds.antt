@@ -47,3 +47,7 @@ MayBreakIfLong stream turns last = longest_head ≤ length last → SpellsTurns 
 abbrev pub SpoiltTargetsEndSo : Type 0
 SpoiltTargetsEndSo = (stream last : List ℕ) (turns : List Turn) (end : End) → BeginsWithTurns stream turns last → EndsInSpoiltTarget last → SpellsTurns stream turns end
     → (end ≡ Breaks BadHead) ⊎ (((end ≡ Waits) × (length last < longest_head)) ⊎ ((end ≡ Breaks LongHead) × (longest_head ≤ length last)))
+
+-- these turns begin all of them
+abbrev pub AreFirstOf : List Turn → List Turn → Type 0
+AreFirstOf turns all = (later : List Turn) × (all ≡ turns ++ later)

@@ -1,15 +1,15 @@
 //! Laws of the definitions: functions that do nothing.
-ghost use Rattle.std.specs.Prelude.{◌≡◌, ◌++◌, ℕ, List};
+ghost use Rattle.std.specs.Prelude.{◌++◌, ℕ, List};
 ghost use Rattle.http_front.specs.declared.fault.InFault.TheVariants.{BadHead};
 ghost use Rattle.http_front.specs.declared.turn.Turn.{Turn};
 ghost use Rattle.http_front.specs.FieldValues.{ValuesStayInTheirLines};
-ghost use Rattle.http_front.specs.OpenEnds.{BeginsWithTurns, EndsInSpoiltTarget, LeavesEndOpen, SpoiltTargetsEndSo, EndsAlikeOrOpenIfSpelt, MayWaitIfShort, MayBreakIfLong};
+ghost use Rattle.http_front.specs.OpenEnds.{BeginsWithTurns, EndsInSpoiltTarget, LeavesEndOpen, SpoiltTargetsEndSo, EndsAlikeOrOpenIfSpelt, MayWaitIfShort, MayBreakIfLong, AreFirstOf};
 ghost use Rattle.http_front.specs.Turns.{Breaks, End, SpellsTurns};
+ghost use Rattle.sp_base.specs.Texts.{Text};
 
 /// The turns of the beginning of a stream are the beginning of its turns, however the stream goes on.
 pub fn the_turns_of_a_beginning()
-    ensures { (stream more : List ℕ) (turns all : List Turn) (end last : End) → SpellsTurns stream turns end → SpellsTurns (stream ++ more) all last
-        → (later : List Turn) × (all ≡ turns ++ later) }
+    ensures { (stream more : Text) (turns all : List Turn) (a b : End) → SpellsTurns stream turns a → SpellsTurns (stream ++ more) all b → AreFirstOf turns all }
 {}
 
 /// A stream with these turns ends in one way (`one`), but where what comes after them, or the first 16,384 bytes of it, ends within a

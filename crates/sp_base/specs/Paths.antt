@@ -149,8 +149,8 @@ abbrev pub mangled_of : Segments → Result Segments PathFault
 mangled_of segs = path_or_fault (mangled_segs segs)
 
 -- the first `n` bytes of the path's text read as this path
-abbrev pub HasPrefix : Segments → ℕ → Segments → Type 0
-HasPrefix path n read = path_of (take n (text_of path)) ≡ Ok read
+abbrev pub IsReadUpTo : Segments → ℕ → Segments → Type 0
+IsReadUpTo path n read = path_of (take n (text_of path)) ≡ Ok read
 
 -- the path is under the parent of that one
 abbrev pub IsUnderParentOf : Segments → Segments → Type 0

@@ -1,5 +1,5 @@
 -- What a tree maps a text to, as one answer. It is the answer of the relation in Turns.antt: a law of the crate says so.
-use Rattle.std.specs.Prelude.{◌+◌, ◌-◌, ℕ, zero, suc, Bool, not, is_none, if◌then◌else◌, List, [], ◌∷◌, Option, Some, None, Result, Ok, Err, drop, filter, find, length, option_and_then, option_map, take, ◌≡◌, true}
+use Rattle.std.specs.Prelude.{◌+◌, ◌-◌, ℕ, zero, suc, Bool, not, is_none, if◌then◌else◌, List, [], ◌∷◌, Option, Some, None, Result, Ok, Err, drop, filter, find, length, option_and_then, option_map, take, ◌≡◌}
 use Rattle.std.specs.List.{list_all, range_with_len}
 use Rattle.std.specs.Map.{keys_of}
 use Rattle.std.specs.Option.{option_or}

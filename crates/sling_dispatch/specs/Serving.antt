@@ -23,7 +23,7 @@ use Rattle.run_events.specs.States.{Start, start_of}
 use Rattle.serve_loop.specs.Served.{HasEndCause, IsServed}
 use Rattle.serve_loop.specs.declared.serving.ServeEnd.{ServeEnd}
 use Rattle.sling_dispatch.specs.Farms.{farm_in, is_out_of_memory}
-use Rattle.sling_dispatch.specs.Forms.{AsksFor, AsksNumber}
+use Rattle.sling_dispatch.specs.Forms.{AsksFor}
 use Rattle.sling_dispatch.specs.Reports.{HasFailed, HasNotFailed, IsDiskUntouched, IsUntouched, IsWorldUntouched, RunCall, StreamReport}
 use Rattle.sling_dispatch.specs.Runs.{sling_publisher}
 use Rattle.sling_dispatch.specs.declared.farms.FarmRefusal.{FarmRefusal}
@@ -31,11 +31,6 @@ use Rattle.sling_dispatch.specs.declared.form.Beginning.{Beginning}
 use Rattle.sling_dispatch.specs.declared.form.Beginning.TheVariants.{Fresh, Warm}
 use Rattle.sling_dispatch.specs.declared.form.Form.TheVariants.{Serve}
 use Rattle.sling_dispatch.specs.declared.form.ServeWords.{ServeWords}
-use Rattle.sling_dispatch.specs.declared.ending.Ending.{Ending}
-use Rattle.sling_dispatch.specs.Endings.{Means, IsDue, IsReplay, HasContent, HasFarm}
-use Rattle.sling_dispatch.specs.declared.ending.Ending.TheVariants.{Done, NoMemory, SinkFailed}
-use Rattle.replay_text.specs.declared.scenario.Scenario.{Scenario}
-use Rattle.replay_text.specs.Scenario.{ReadsScenario}
 
 -- ---- inputs
 
@@ -175,22 +170,3 @@ pub record IsServable (c : RunCall) (words : ServeWords) : Type 0 where
   pub disk_kept : IsWorldUntouched c.world → c.disk.faults_new ≡ c.disk.faults_old
   pub world_bounded : c.world.next_old < greatest_u64
   pub world_kept : c.world.next_new ≡ c.world.next_old
-
--- ---- where nothing outside is in the way, the run is done, unless it ran out of memory
-
--- a replay of a scenario whose content and farm have a reading
-abbrev pub UnhinderedReplaysAreDone : Type 0
-UnhinderedReplaysAreDone = (c : RunCall) (sink : StreamReport (List ℕ)) (bytes : List ℕ) (s : Scenario) (ending : Ending) → Means (IsDue c) ending sink
-    → IsReplay c.words → c.source.old ≡ Some bytes → ReadsScenario bytes s → HasContent s → HasFarm s
-    → c.source.faults_old < greatest_u64 → HasNotFailed c.source → sink.faults_old < greatest_u64 → HasNotFailed sink
-    → (ending ≡ Done) ⊎ (ending ≡ NoMemory)
-
--- serving over inputs, a document root and a world that let it
-abbrev pub UnhinderedServingIsDone : Type 0
-UnhinderedServingIsDone = (c : RunCall) (sink : StreamReport (List ℕ)) (words : ServeWords) (ending : Ending) → Means (IsDue c) ending sink → IsServable c words
-    → sink.faults_old < greatest_u64 → HasNotFailed sink → (ending ≡ Done) ⊎ (ending ≡ NoMemory)
-
--- `scenario` and `soak`, but for a sink that failed
-abbrev pub NumberedRunsAreDoneUnlessTheSinkFailed : Type 0
-NumberedRunsAreDoneUnlessTheSinkFailed = (c : RunCall) (sink : StreamReport (List ℕ)) (ending : Ending) → Means (IsDue c) ending sink → AsksNumber c.words
-    → (ending ≡ Done) ⊎ ((ending ≡ NoMemory) ⊎ ((ending ≡ SinkFailed) × HasFailed sink))

@@ -8,9 +8,8 @@ ghost use Rattle.url_split.specs.declared.decompose.Parts as split;
 ghost use Rattle.url_split.specs.Split.{IsSplit};
 ghost use Rattle.dispatch_rules.specs.UrlParts.{stem};
 ghost use Rattle.sling_dispatch.specs.SessionLaws.{SessionHitsAreFresh, SessionLogsAreLegal, SessionRepliesInFlightAreNotStored, SessionsServeKeptPages, TranscriptsTellSessions};
-ghost use Rattle.sling_dispatch.specs.ServedLaws.{ServedHitsAreFresh, ServedLogsAreLegal, ServedRepliesInFlightAreNotStored, ServedSessionsGoOn, ServedSessionsLeaveLegalLogs, ServedSessionsServeKeptPages, SessionsAreServed};
+ghost use Rattle.sling_dispatch.specs.ServedLaws.{ServedHitsAreFresh, ServedLogsAreLegal, ServedRepliesInFlightAreNotStored, ServedSessionsGoOn, ServedSessionsLeaveLegalLogs, ServedSessionsServeKeptPages, SessionsAreServed, UnhinderedReplaysAreDone, UnhinderedServingIsDone, NumberedRunsAreDoneUnlessTheSinkFailed};
 ghost use Rattle.sling_dispatch.specs.SessionsWithMemory.{SessionsWithMemoryAreOne, UncachedTextsAreOne, UncachedScenariosAreOne};
-ghost use Rattle.sling_dispatch.specs.Serving.{UnhinderedReplaysAreDone, UnhinderedServingIsDone, NumberedRunsAreDoneUnlessTheSinkFailed};
 ghost use Rattle.sling_dispatch.specs.FilterParts.{SeesParts};
 ghost use Rattle.sling_dispatch.specs.Runs.{AreAnsweredAlikeIfOnePath};
 

@@ -1,5 +1,5 @@
 // The change of an index by a patch of the tree.
-ghost use Rattle.std.specs.Prelude.{◌≡◌, ◌≤◌, ◌&&◌, ◌||◌, ℕ, List, not, IfOk, OnOk, length};
+ghost use Rattle.std.specs.Prelude.{◌≡◌, ◌==◌, ◌≤◌, ◌&&◌, ◌||◌, ℕ, List, not, IfOk, OnOk, length};
 ghost use Rattle.resource_tree.specs.Content.{Content, IsGood, node_at};
 ghost use Rattle.resource_tree.specs.Patches.{PatchEntries};
 ghost use Rattle.script_rank.specs.Index.{HasPatchOver, HasRoom, IsChangeOf, IsIndexOf, has_path};
@@ -25,6 +25,15 @@ impl Model for ScriptChange {
     ghost Value = { Change };
 
     ghost view = { λ c. record { added = c.added.items; gone = c.gone.items } };
+}
+
+impl ScriptChange {
+    /// Whether the scripts stay as they are: none becomes one, and none is gone.
+    pub fn is_none(&self) -> bool
+        ensures { result ≡ (length self.now.added == 0 && length self.now.gone == 0) }
+    {
+        self.added.is_empty() && self.gone.is_empty()
+    }
 }
 
 impl ScriptIndex {

@@ -1,6 +1,7 @@
 use Rattle.std.proofs.Common.{◌≡◌, sym, subst, ap, ◌∙◌}
 use Rattle.resource_tree.specs.Content.{Content, IsGood}
 use Rattle.script_rank.specs.Index.{Index, IsIndexOf, has_path}
+use Rattle.publisher.specs.Kept.{AreAmong, AreReadings, KeptReadings}
 use Rattle.publisher.proofs.ForgetLemmas.{still_readings}
 use Rattle.publisher.proofs.changes.put_over.Goals as goal
 
@@ -20,3 +21,16 @@ returns-clause-indexes c = record {
       let before = same_index c.args.tree.now c.args.indexes.now.scripts c.change_of-2.new.self c.change_of-2.ensures.unchanged c.requires.indexes.scripts in
       c.take-2.ensures c.args.tree.now c.apply.new.self c.args.patch before c.in_ok-scripts.ensures.change (subst IsGood (sym c.in_ok-apply.ensures.ok) c.requires.good) c.in_ok-apply.ensures.look_ups;
 }
+
+-- of readings that are right each that is left is right
+left_readings : (tree : Content) (old new : KeptReadings) → AreReadings tree old → AreAmong old new → AreReadings tree new
+left_readings tree old new are among = λ path reading is. are path reading (among path reading is)
+
+pub returns-in_err-forget_patched-clause-kept : goal.returns-in_err-forget_patched-clause-kept
+returns-in_err-forget_patched-clause-kept c =
+    left_readings c.args.tree.now c.args.templates.now c.forget_patched.new.templates c.requires.kept c.forget_patched.ensures.fewer
+
+pub returns-in_err-apply-clause-kept : goal.returns-in_err-apply-clause-kept
+returns-in_err-apply-clause-kept c =
+    subst (λ tree. AreReadings tree c.forget_patched.new.templates) (sym c.in_err-apply.ensures.unchanged)
+    (left_readings c.args.tree.now c.args.templates.now c.forget_patched.new.templates c.requires.kept c.forget_patched.ensures.fewer)

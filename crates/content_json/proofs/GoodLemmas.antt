@@ -186,7 +186,7 @@ kids_are name ms s good =
 
 -- ---- the properties of an object
 
-props_are : (name : List ℕ) (ms : Members) → AreSorted ms → prop_at (node_of_members ms) name ≡ read_value name (get_member name ms)
+pub props_are : (name : List ℕ) (ms : Members) → AreSorted ms → prop_at (node_of_members ms) name ≡ read_value name (get_member name ms)
 props_are name ms s = find_added ms [] name s ∙ option_or-none (read_value name (get_member name ms))
 
 apart_at : (b : Bool) (o : Option Data) → (not b && option_map_or is_object o false) ≡ true → (if b then None else option_and_then data_value o) ≡ None
@@ -207,7 +207,7 @@ named_at name ms sound false (Some x) other at h = (sound_step name (object ms) 
 -- ---- the whole
 
 -- an object stands where a node does
-object_there : (o : Option Data) (node : Node) → option_and_then node_of_value o ≡ Some node → (ms : Members) × (o ≡ Some (object ms)) × (node ≡ node_of_members ms)
+pub object_there : (o : Option Data) (node : Node) → option_and_then node_of_value o ≡ Some node → (ms : Members) × (o ≡ Some (object ms)) × (node ≡ node_of_members ms)
 object_there None node h = absurd (none_found node h)
 object_there (Some null) node h = absurd (none_found node h)
 object_there (Some (boolean b)) node h = absurd (none_found node h)

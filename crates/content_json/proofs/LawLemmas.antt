@@ -89,6 +89,10 @@ node_at_path bytes tree top path h is =
     let found = tree_in (json_of bytes) tree top (in_order_read bytes) h is in
     ap (λ t. node_at t path) found.0 ∙ map_at (nodes_in [] top) path ∙ node_at_way [] path top found.1
 
+-- what reads to a tree is in order
+pub in_order_top : (bytes : List ℕ) (tree : Content) (top : Data) → content bytes ≡ Ok tree → json_of bytes ≡ Some top → IsInOrder top
+in_order_top bytes tree top h is = (tree_in (json_of bytes) tree top (in_order_read bytes) h is).1
+
 -- ---- the size
 
 pub size_by_paths : (bytes : List ℕ) (ms : Members) → json_of bytes ≡ Some (object ms) → fault_in (object ms) ≡ None

@@ -33,3 +33,4 @@ pub mod ListedLemmas
 pub mod OpenNodeLemmas
 pub mod ReadLemmas
 pub mod FromTokensLemmas
+pub mod StandLemmas

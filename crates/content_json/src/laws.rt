@@ -3,11 +3,13 @@ ghost use Rattle.std.specs.Prelude.{◌≡◌, ◌++◌, ℕ, List, [], Some, No
 ghost use Rattle.std.specs.List.Sorted.{IsStrictlySortedBy};
 ghost use Rattle.serde_json.specs.Data.{Data, Members, object};
 ghost use Rattle.sp_base.specs.Names.{by_name};
-ghost use Rattle.resource_tree.specs.Content.{Content, IsGood, node_at};
+ghost use Rattle.resource_tree.specs.Content.{Content, IsGood, kid, node_at, prop_at};
+ghost use Rattle.resource_tree.specs.declared.nodes.Node.{Node};
 ghost use Rattle.content_json.specs.declared.fault.ContentFault.{ContentFault};
 ghost use Rattle.content_json.specs.declared.fault.Found.{Found};
 ghost use Rattle.content_json.specs.ContentOf.{json_of, map_of, exceeds_limits, content};
 ghost use Rattle.content_json.specs.Faults.{own_cause, fault_in};
+ghost use Rattle.content_json.specs.Lists.{data_value};
 ghost use Rattle.content_json.specs.Nodes.{nodes_in, order_names, kids_of};
 ghost use Rattle.content_json.specs.Ways.{way_end, node_of_value, IsPlaced};
 
@@ -20,6 +22,13 @@ pub fn content_is_a_tree()
 pub fn members_lead_to_nodes()
     ensures { (bytes : List ℕ) (tree : Content) (top : Data) (path : List (List ℕ)) → content bytes ≡ Ok tree → json_of bytes ≡ Some top
         → node_at tree path ≡ option_and_then node_of_value (way_end path top) }
+{}
+
+/// A member's value stands under its name: the property of a name at a path is the value that the path's members and that name lead to, as
+/// one of a property; there is none where they lead to no value, to an object or `null`, or the name is `:order`.
+pub fn a_members_value_stands_under_its_name()
+    ensures { (bytes : List ℕ) (tree : Content) (top : Data) (path : List (List ℕ)) (node : Node) (name : List ℕ) → content bytes ≡ Ok tree
+        → json_of bytes ≡ Some top → node_at tree path ≡ Some node → prop_at node name ≡ option_and_then data_value (way_end (kid path name) top) }
 {}
 
 /// Of an object without a fault the paths of the tree alone decide whether it is too big.

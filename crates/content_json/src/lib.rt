@@ -19,8 +19,9 @@ mod write;
 
 pub use fault::ContentFault;
 pub use laws::{
-    a_fault_is_at_its_place, content_is_a_tree, members_lead_to_nodes, no_fault_without_a_cause,
-    other_kids_in_byte_order, paths_decide_the_size,
+    a_fault_is_at_its_place, a_members_value_stands_under_its_name, content_is_a_tree,
+    members_lead_to_nodes, no_fault_without_a_cause, other_kids_in_byte_order,
+    paths_decide_the_size,
 };
 pub use read::read_tree;
 pub use write::write_tree;

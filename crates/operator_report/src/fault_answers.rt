@@ -43,9 +43,9 @@ pub fn cause_of(status: &str, answer: &[u8], to: AnswerTo) -> &'static str {
 fn cause_of_500(to: AnswerTo) -> &'static str {
     match to {
         AnswerTo::Flush => "the disk failed",
-        AnswerTo::Page => "a script that is no template, or an answer of more than 4 MiB",
+        AnswerTo::Page => "a script without a reading, or a page over its limits",
         AnswerTo::Unknown => {
-            "a script that is no template, an answer of more than 4 MiB, or the disk at a flush"
+            "a script without a reading, a page over its limits, or the disk at a flush"
         }
     }
 }

@@ -9,7 +9,7 @@ use Rattle.type_chain.specs.Chain.{own_super, super_at}
 use Rattle.type_chain.specs.Types.{place_of}
 use Rattle.url_split.specs.Split.{at_greatest}
 use Rattle.overlay_merge.specs.declared.layers.Layer.{Layer}
-use Rattle.overlay_merge.specs.Layers.{base_at, base_of, descent, has_layer, layer_below, layer_by, make_layer, path_at, overlay_layer, overlay_layers, override_layer}
+use Rattle.overlay_merge.specs.Layers.{base_at, base_of, descent, has_layer, layer_below, layer_by, make_layer, path_at, override_layer}
 use Rattle.overlay_merge.proofs.PathLemmas.{none_from}
 
 -- ---- overlays

@@ -16,3 +16,5 @@ pub mod MoveLemmas
 pub mod SlotLemmas
 pub mod SlotsKept
 pub mod OrderLemmas
+pub mod StepLemmas
+pub mod StandLemmas

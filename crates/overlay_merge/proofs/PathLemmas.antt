@@ -1,5 +1,5 @@
 -- Paths by their first segments.
-use Rattle.std.proofs.Common.{◌≡◌, ◌+◌, ◌-◌, ◌<◌, ◌≤◌, ℕ, true, false, cond, List, [], ◌∷◌, ◌++◌, drop, take, length, zero, suc, add-zero, refl, sym, ◌∙◌, ap, arith, ⊎_elim, Option, Some, None}
+use Rattle.std.proofs.Common.{◌≡◌, ◌+◌, ◌-◌, ◌<◌, ◌≤◌, ℕ, true, cond, List, [], ◌∷◌, ◌++◌, drop, take, length, zero, suc, add-zero, refl, sym, ◌∙◌, ap, arith, ⊎_elim, Option, Some, None}
 use Rattle.std.specs.Prelude.{is_some, slice_index_or}
 use Rattle.std.specs.List.{list_all}
 use Rattle.std.proofs.lemmas.Bool.{and_parts, and_from, false≢true, true≢false, leb-true, le-leb, cases_lt}

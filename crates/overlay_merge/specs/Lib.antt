@@ -8,3 +8,5 @@ pub mod Kids
 pub mod Merged
 pub mod Walk
 pub mod Slots
+pub mod Steps
+pub mod Moves

@@ -1,5 +1,7 @@
 //! What is merged in the subject's words: laws of the definitions, on functions that do nothing.
-ghost use Rattle.std.specs.Prelude.{◌≡◌, ◌∷◌, [], All, List, true, false};
+ghost use Rattle.std.specs.Cmp.Lexicographic.{pointwise};
+ghost use Rattle.std.specs.List.{IsDistinct};
+ghost use Rattle.std.specs.Prelude.{◌≡◌, ◌∷◌, [], All, List, Some, nat_eq, reverse, true, false};
 ghost use Rattle.sp_base.specs.Texts.{Segments, Text};
 ghost use Rattle.std.specs.List.Sorted.{IsPermutation};
 ghost use Rattle.resource_tree.specs.Content.{Content, IsGood, kid};
@@ -9,6 +11,10 @@ ghost use Rattle.overlay_merge.specs.Roots.{is_merged_path, is_parent_of_roots};
 ghost use Rattle.overlay_merge.specs.Hiding.{layer_is_cut, merged_from, IsLeftOut};
 ghost use Rattle.overlay_merge.specs.Cut.{HidesNothing, IsOfLayer, LayerIsCut, NoLayerIsCut};
 ghost use Rattle.overlay_merge.specs.Kids.{all_kids, layers_kids, kids_there, HaveKid, GivesKid, IsKidMerged};
+ghost use Rattle.overlay_merge.specs.Kids.{has_text, names_after_move};
+ghost use Rattle.overlay_merge.specs.Layers.{layer_below, override_layers};
+ghost use Rattle.overlay_merge.specs.Moves.{StandsBefore, without_name};
+ghost use Rattle.overlay_merge.specs.Steps.{AreLayerSteps, IsBelow};
 ghost use Rattle.overlay_merge.specs.Merged.{has_resource, merged_resource, OnlyLayersAreShown, OnlyLayersKeepTheirKids, PropertiesAreOfLayers, KidsAreOfLayers, ListsKid};
 
 /// Elsewhere than under the two roots the node is seen as it is, but that their parent doesn't list them.
@@ -55,4 +61,24 @@ pub fn each_kid_is_there()
     ensures of_a_layer { (tree : Content) (path : Segments) (layers : List Resource) (name : Text) → GivesKid tree path layers name → HaveKid layers name }
     ensures there { (tree : Content) (path : Segments) (layers : List Resource) (name : Text) → GivesKid tree path layers name → IsKidMerged tree path name }
     ensures seen { (tree : Content) (path : Segments) (name : Text) → IsGood tree → ListsKid tree path name → has_resource tree (kid path name) ≡ true }
+{}
+
+/// The layers of an override are determined by their steps: from the highest down they are those, and those alone, of which the first is the
+/// path itself, and each is followed by the layer below it, up to a path that came before or the bound (`steps`, `alone`). The layer below a
+/// path is where the deepest node on it that names a super type leads, with what follows that node (`found`, `only`).
+pub fn the_layers_of_an_override_are_determined()
+    ensures steps { (tree : Content) (seg : Text) (segs : Segments) → AreLayerSteps tree (seg ∷ segs) (reverse (override_layers tree (seg ∷ segs))) }
+    ensures alone { (tree : Content) (seg : Text) (segs : Segments) (layers : List Layer) → AreLayerSteps tree (seg ∷ segs) layers
+        → override_layers tree (seg ∷ segs) ≡ reverse layers }
+    ensures found { (tree : Content) (path : Segments) (layer : Layer) → layer_below tree path ≡ Some layer → IsBelow tree path layer }
+    ensures only { (tree : Content) (path : Segments) (layer : Layer) → IsBelow tree path layer → layer_below tree path ≡ Some layer }
+{}
+
+/// A kid that is moved stands directly before the one that it names, and the others keep their order, where both are there and no name is
+/// there twice.
+pub fn a_moved_kid_stands_before_the_one_it_names()
+    ensures directly { (name other : Text) (names : List Text) → IsDistinct (pointwise nat_eq) names → pointwise nat_eq name other ≡ false
+        → has_text names name ≡ true → has_text names other ≡ true → StandsBefore (names_after_move name (Some other) names) name other }
+    ensures others { (name other : Text) (names : List Text) → IsDistinct (pointwise nat_eq) names → pointwise nat_eq name other ≡ false
+        → has_text names name ≡ true → has_text names other ≡ true → without_name name (names_after_move name (Some other) names) ≡ without_name name names }
 {}

@@ -1,6 +1,6 @@
 -- The answer to a request is the one of the cases that applies.
-use Rattle.std.proofs.Common.{◌≡◌, ◌≤◌, ◌<◌, ◌&&◌, ◌||◌, ℕ, Bool, true, false, cond, List, [], Option, Some, None, Result, Ok, Err, IfSome, IfNone, length, nat_le, refl, sym, ◌∙◌, ap, arith}
-use Rattle.std.specs.Prelude.{◌↔◌, is_some, option_and_then, if◌then◌else◌}
+use Rattle.std.proofs.Common.{◌≡◌, ◌≤◌, ◌<◌, ◌&&◌, ◌||◌, ℕ, Bool, true, false, cond, List, Option, Some, None, Result, Ok, Err, IfSome, IfNone, length, nat_le, refl, sym, ◌∙◌, ap, arith}
+use Rattle.std.specs.Prelude.{◌↔◌, is_some, option_and_then, option_map, if◌then◌else◌}
 use Rattle.std.proofs.lemmas.Bool.Decides.{nat_tests}
 use Rattle.sp_base.specs.Limits.{most_rendered_bytes}
 use Rattle.sp_base.specs.Paths.{text_of}
@@ -17,10 +17,10 @@ use Rattle.url_split.specs.Split.{IsLost, IsSplit, split_of}
 use Rattle.type_chain.specs.Chain.{chain_of}
 use Rattle.script_rank.specs.Ranking.{HasNoCandidate, IsFirstScript, is_script, script_text}
 use Rattle.script_rank.specs.Search.{search_result}
-use Rattle.htl_text.specs.declared.fault.TextFault.{TextFault}
-use Rattle.htl_text.specs.declared.piece.TemplatePiece.{TemplatePiece}
-use Rattle.htl_text.specs.Spelling.{SpellsTemplate}
-use Rattle.htl_text.specs.Template.{template_of, template_output as written_by}
+use Rattle.htl_blocks.specs.declared.block.Block.{Block}
+use Rattle.htl_blocks.specs.declared.fault.BlockFault.{BlockFault}
+use Rattle.htl_blocks.specs.Reading.{blocks_of, most_nested_blocks}
+use Rattle.htl_blocks.specs.Spelling.{SpellsBlocks}
 use Rattle.get_servlet.specs.Answers.{IsOver, json_answer, levels_of, text_within}
 use Rattle.get_servlet.specs.Rendering.{greatest_fitting, json_text, most_resources, shown_count}
 use Rattle.get_servlet.specs.Streams.{stream_of}
@@ -32,7 +32,7 @@ use Rattle.publisher.specs.Cases.{IsAnswer, ReadsByDefault, ReadsByScript, Reads
 use Rattle.publisher.specs.Depths.{depth_of}
 use Rattle.publisher.specs.Errors.{answer_with_body}
 use Rattle.publisher.specs.Readings.{reading_in}
-use Rattle.publisher.specs.Rendering.{answer_by, answer_to_request, default_answer, file_representation, is_bare, is_json, is_post, is_read, json_kind, json_representation, json_to_depth, mapped_answer, mapping, mark_of, posted_answer, representation_of, resource_answer, script_for, script_representation, seen_resources, split_answer}
+use Rattle.publisher.specs.Rendering.{answer_by, answer_to_request, default_answer, file_representation, is_bare, is_json, is_post, is_read, json_kind, json_representation, json_to_depth, mapped_answer, mapping, mark_of, posted_answer, representation_of, resource_answer, script_at, script_for, script_representation, seen_resources, split_answer, with_text}
 use Rattle.publisher.proofs.PostLemmas.{post_is}
 use Rattle.publisher.proofs.RenderingLemmas.{read_is}
 use Rattle.publisher.proofs.ScriptLaw.{found_first}
@@ -47,8 +47,8 @@ pub record Searches (tree : Content) (ask : Ask) : Type 0 where
   pub first : (res : Resource) (parts : Parts) → IfSome (search_result tree (chain_of tree res.props) parts) (IsFirstScript tree (chain_of tree res.props) parts)
   pub none : (res : Resource) (parts : Parts) → IfNone (search_result tree (chain_of tree res.props) parts) (HasNoCandidate tree (chain_of tree res.props) parts)
   pub one : (res : Resource) (parts : Parts) (p q : List (List ℕ)) → IsFirstScript tree (chain_of tree res.props) parts p → IsFirstScript tree (chain_of tree res.props) parts q → p ≡ q
-  pub spelled : (text : List ℕ) (pieces : List TemplatePiece) → template_of text ≡ Ok pieces → SpellsTemplate text pieces []
-  pub spelled_only : (text : List ℕ) (pieces : List TemplatePiece) → SpellsTemplate text pieces [] → template_of text ≡ Ok pieces
+  pub spelled : (text : List ℕ) (blocks : List Block) → blocks_of text ≡ Ok blocks → SpellsBlocks most_nested_blocks text blocks
+  pub spelled_only : (text : List ℕ) (blocks : List Block) → SpellsBlocks most_nested_blocks text blocks → blocks_of text ≡ Ok blocks
   pub over : (res : Resource) (depth most : ℕ) → (json_answer (seen_resources tree) res depth most_rendered_bytes ≡ Over most) ↔ IsOver (seen_resources tree) res depth most
 
 -- ---- the answer is a case
@@ -102,20 +102,20 @@ default-case : (tree : Content) (ask : Ask) → Searches tree ask → (parts : P
 default-case tree ask s parts res reads true is = depth-case tree ask s parts res reads is (depth_of parts.selectors) refl
 default-case tree ask s parts res reads false is = bare-case tree ask parts res reads is (is_bare parts) refl
 
-template-case : (tree : Content) (ask : Ask) → Searches tree ask → (res : Resource) (text : List ℕ) → ReadsByScript tree ask res text
-    → (read : Result (List TemplatePiece) TextFault) → template_of text ≡ read → IsAnswer tree ask (script_representation res (reading_in read))
-template-case tree ask s res text reads (Ok pieces) is = by_script res text pieces reads (s.spelled text pieces is) refl
-template-case tree ask s res text reads (Err fault) is = refused_script res text reads (λ pieces spells. let read = s.spelled_only text pieces spells in cc) refl
+page-case : (tree : Content) (ask : Ask) → Searches tree ask → (res : Resource) (text : List ℕ) (reads : ReadsByScript tree ask res text)
+    → (read : Result (List Block) BlockFault) → blocks_of text ≡ read → IsAnswer tree ask (script_representation tree res reads.script (reading_in read))
+page-case tree ask s res text reads (Ok blocks) is = by_script res text blocks reads (s.spelled text blocks is) refl
+page-case tree ask s res text reads (Err fault) is = refused_script res text reads (λ blocks spells. let read = s.spelled_only text blocks spells in cc) refl
 
 text-case : (tree : Content) (ask : Ask) → Searches tree ask → (parts : Parts) (res : Resource) → ReadsResource tree ask parts res → (script : List (List ℕ)) → IsFirstScript tree (chain_of tree res.props) parts script
-    → (text : Option (List ℕ)) → script_text tree script ≡ text → IsAnswer tree ask (answer_by text (seen_resources tree) parts res)
+    → (text : Option (List ℕ)) → script_text tree script ≡ text → IsAnswer tree ask (answer_by (option_map (with_text script) text) tree parts res)
 text-case tree ask s parts res reads script first None none = absurd (no-text (is_some (node_at tree script)) (script_text tree script) none first.candidate.script)
 text-case tree ask s parts res reads script first (Some text) some =
-    template-case tree ask s res text (record { parts = parts; resource = reads; script = script; first = first; text_is = some }) (template_of text) refl
+    page-case tree ask s res text (record { parts = parts; resource = reads; script = script; first = first; text_is = some }) (blocks_of text) refl
 
 script-case : (tree : Content) (ask : Ask) → Searches tree ask → (parts : Parts) (res : Resource) → ReadsResource tree ask parts res → (found : Option (List (List ℕ)))
     → IfSome found (IsFirstScript tree (chain_of tree res.props) parts) → IfNone found (HasNoCandidate tree (chain_of tree res.props) parts)
-    → IsAnswer tree ask (answer_by (option_and_then (script_text tree) found) (seen_resources tree) parts res)
+    → IsAnswer tree ask (answer_by (option_and_then (script_at tree) found) tree parts res)
 script-case tree ask s parts res reads (Some script) first none = text-case tree ask s parts res reads script first (script_text tree script) refl
 script-case tree ask s parts res reads None first none = default-case tree ask s parts res (record { resource = reads; none = none }) (is_json parts.extension) refl
 
@@ -169,18 +169,19 @@ lost-is tree text None is split nowhere = refl
 lost-is tree text (Some parts) is split nowhere = absurd (nowhere split.at parts.path split.leads)
 
 resource-is : (tree : Content) (ask : Ask) → Searches tree ask → (parts : Parts) (res : Resource) → ReadsResource tree ask parts res
-    → answer_to_request tree ask ≡ answer_by (option_and_then (script_text tree) (search_result tree (chain_of tree res.props) parts)) (seen_resources tree) parts res
+    → answer_to_request tree ask ≡ answer_by (option_and_then (script_at tree) (search_result tree (chain_of tree res.props) parts)) tree parts res
 unfolding script_for
 resource-is tree ask s parts res reads =
     text-is tree ask s reads.text reads.reads ∙ ap (split_answer tree) (s.split_only reads.text parts reads.split) ∙ ap (resource_answer tree parts) reads.seen
 
-script-is : (tree : Content) (ask : Ask) → Searches tree ask → (res : Resource) (text : List ℕ) → ReadsByScript tree ask res text → answer_to_request tree ask ≡ script_representation res (reading_in (template_of text))
+script-is : (tree : Content) (ask : Ask) → Searches tree ask → (res : Resource) (text : List ℕ) (reads : ReadsByScript tree ask res text)
+    → answer_to_request tree ask ≡ script_representation tree res reads.script (reading_in (blocks_of text))
 script-is tree ask s res text reads =
     let parts = reads.parts in
     let found = found_first tree (chain_of tree res.props) parts reads.script (search_result tree (chain_of tree res.props) parts) (s.one res parts) (s.first res parts) (s.none res parts) reads.first in
     resource-is tree ask s parts res reads.resource
-    ∙ ap (λ o. answer_by (option_and_then (script_text tree) o) (seen_resources tree) parts res) found
-    ∙ ap (λ o. answer_by o (seen_resources tree) parts res) reads.text_is
+    ∙ ap (λ o. answer_by (option_and_then (script_at tree) o) tree parts res) found
+    ∙ ap (λ o. answer_by (option_map (with_text reads.script) o) tree parts res) reads.text_is
 
 none-found : (tree : Content) (res : Resource) (parts : Parts) (found : Option (List (List ℕ))) → IfSome found (IsFirstScript tree (chain_of tree res.props) parts) → HasNoCandidate tree (chain_of tree res.props) parts → found ≡ None
 none-found tree res parts None first none = refl
@@ -189,7 +190,7 @@ none-found tree res parts (Some script) first none = absurd (none script first.k
 default-is : (tree : Content) (ask : Ask) → Searches tree ask → (parts : Parts) (res : Resource) → ReadsByDefault tree ask parts res → answer_to_request tree ask ≡ default_answer (seen_resources tree) parts res
 default-is tree ask s parts res reads =
     resource-is tree ask s parts res reads.resource
-    ∙ ap (λ o. answer_by (option_and_then (script_text tree) o) (seen_resources tree) parts res) (none-found tree res parts (search_result tree (chain_of tree res.props) parts) (s.first res parts) reads.none)
+    ∙ ap (λ o. answer_by (option_and_then (script_at tree) o) tree parts res) (none-found tree res parts (search_result tree (chain_of tree res.props) parts) (s.first res parts) reads.none)
 
 json-asked : (tree : Content) (parts : Parts) (res : Resource) → is_json parts.extension ≡ true → default_answer (seen_resources tree) parts res ≡ json_to_depth (seen_resources tree) res (depth_of parts.selectors)
 json-asked tree parts res is = ap (λ b. if b then json_to_depth (seen_resources tree) res (depth_of parts.selectors) else (if is_bare parts then file_representation res (stream_of (seen_resources tree) res) else error_answer 404)) is
@@ -218,12 +219,13 @@ case_is tree ask s answer (read_away status target read away is) = is ∙ sym (r
 case_is tree ask s answer (posted_away status target post away is) = is ∙ sym (post_is tree ask post ∙ ap (posted_answer tree ask) (sym (s.mapped_only (Away status target) away)))
 case_is tree ask s answer (posted text post inside is) = is ∙ sym (post_is tree ask post ∙ ap (posted_answer tree ask) (sym (s.mapped_only (Inside text) inside)))
 case_is tree ask s answer (lost text reads nowhere is) = is ∙ sym (text-is tree ask s text reads ∙ lost-is tree text (split_of (has_resource tree) text) refl (s.split text) nowhere)
-case_is tree ask s answer (refused_script res text reads none is) = is ∙ sym (script-is tree ask s res text reads ∙ by_template (template_of text) refl)
+case_is tree ask s answer (refused_script res text reads none is) = is ∙ sym (script-is tree ask s res text reads ∙ by_reading (blocks_of text) refl)
   where
-    by_template : (read : Result (List TemplatePiece) TextFault) → template_of text ≡ read → script_representation res (reading_in read) ≡ error_answer 500
-    by_template (Ok pieces) e = absurd (none pieces (s.spelled text pieces e))
-    by_template (Err fault) e = refl
-case_is tree ask s answer (by_script res text pieces reads spells is) = is ∙ sym (script-is tree ask s res text reads ∙ ap (λ r. script_representation res (reading_in r)) (s.spelled_only text pieces spells))
+    by_reading : (read : Result (List Block) BlockFault) → blocks_of text ≡ read → script_representation tree res reads.script (reading_in read) ≡ error_answer 500
+    by_reading (Ok blocks) e = absurd (none blocks (s.spelled text blocks e))
+    by_reading (Err fault) e = refl
+case_is tree ask s answer (by_script res text blocks reads spells is) =
+    is ∙ sym (script-is tree ask s res text reads ∙ ap (λ r. script_representation tree res reads.script (reading_in r)) (s.spelled_only text blocks spells))
 case_is tree ask s answer (no_depth parts res reads asks none is) =
     is ∙ sym (default-is tree ask s parts res reads ∙ json-asked tree parts res asks ∙ ap (json_to_depth (seen_resources tree) res) none)
 case_is tree ask s answer (too_many res depth most reads over is) = is ∙ sym (json-is tree ask s res depth reads ∙ ap (json_representation res) ((s.over res (levels_of depth) most).1 over))

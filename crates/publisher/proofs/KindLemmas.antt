@@ -2,6 +2,7 @@
 use Rattle.std.proofs.Common.{◌≡◌, ℕ, Bool, true, false, cond, List, Option, Some, None, Ok, Err, IsTrue, length, nat_le, refl}
 use Rattle.sp_base.specs.MediaTypes.{is_kind}
 use Rattle.sp_base.specs.Paths.{text_of}
+use Rattle.sp_base.specs.Texts.{Segments}
 use Rattle.sp_base.specs.declared.answer.Answer.{Answer}
 use Rattle.sp_base.specs.declared.answer.Ask.{Ask}
 use Rattle.sp_base.specs.declared.answer.Mark.{Mark}
@@ -12,7 +13,6 @@ use Rattle.url_maps.specs.declared.answer.MapAnswer.{MapAnswer}
 use Rattle.url_maps.specs.declared.answer.MapAnswer.TheVariants.{Inside, Away}
 use Rattle.url_split.specs.declared.decompose.Parts.{Parts}
 use Rattle.url_split.specs.Split.{split_of}
-use Rattle.htl_text.specs.Template.{template_output as written_by}
 use Rattle.get_servlet.specs.declared.answer.Depth.{Depth}
 use Rattle.get_servlet.specs.declared.answer.JsonAnswer.{JsonAnswer}
 use Rattle.get_servlet.specs.declared.answer.JsonAnswer.TheVariants.{Whole, Over, TooLong}
@@ -22,6 +22,7 @@ use Rattle.get_servlet.specs.Streams.{stream_of}
 use Rattle.publisher.specs.declared.templates.Reading.{Reading}
 use Rattle.publisher.specs.declared.templates.Reading.TheVariants.{Parsed, Refused}
 use Rattle.publisher.specs.Readings.{reading_of}
+use Rattle.publisher.specs.Pages.{is_over, page_of, place_of}
 use Rattle.error_answers.specs.Errors.{error_answer}
 use Rattle.publisher.specs.Errors.{answer_with_body}
 use Rattle.publisher.specs.Depths.{depth_of}
@@ -29,7 +30,7 @@ use Rattle.overlay_merge.specs.Merged.{has_resource}
 use Rattle.post_apply.specs.Posting.{PostEffect}
 use Rattle.publisher.specs.declared.refusal.Refusal.{Refusal}
 use Rattle.publisher.specs.declared.refusal.Refusal.TheVariants.{Status, NoMemory}
-use Rattle.publisher.specs.Rendering.{seen_resources, is_read, mark_of, representation_of, json_kind, html_kind, json_representation, json_to_depth, file_representation, is_json, is_bare, default_answer, script_for, scope_of, script_representation, answer_by, resource_answer, split_answer, mapping, mapped_answer, is_post, posted_answer, answer_to_request}
+use Rattle.publisher.specs.Rendering.{ScriptAt, seen_resources, is_read, mark_of, representation_of, json_kind, html_kind, json_representation, json_to_depth, file_representation, is_json, is_bare, default_answer, script_for, script_representation, answer_by, resource_answer, split_answer, mapping, mapped_answer, is_post, posted_answer, answer_to_request}
 use Rattle.publisher.specs.Posting.{PostOutcome, posting, posting_answer, refusal_answer}
 
 abbrev pub HasKind : Answer → Type 0
@@ -68,17 +69,18 @@ default_is streams seen parts res =
     either (is_json parts.extension) _ _ (depth_is seen res (depth_of parts.selectors))
     (either (is_bare parts) _ _ (file_is seen res (stream_of seen res) streams refl) (error_kind 404))
 
-script_is : (res : Resource) (reading : Reading) → HasKind (script_representation res reading)
-script_is res (Parsed pieces) = representation_kind html_kind (mark_of res) (written_by (scope_of res) pieces) refl
-script_is res Refused = error_kind 500
+script_is : (tree : Content) (res : Resource) (script : Segments) (reading : Reading) → HasKind (script_representation tree res script reading)
+script_is tree res script (Parsed blocks) =
+    either (is_over (page_of tree (place_of script res) blocks)) _ _ (error_kind 500) (representation_kind html_kind (mark_of res) (page_of tree (place_of script res) blocks).text refl)
+script_is tree res script Refused = error_kind 500
 
-by_is : StreamsHaveKinds → (text : Option (List ℕ)) (seen : Seen) (parts : Parts) (res : Resource) → HasKind (answer_by text seen parts res)
-by_is streams (Some text) seen parts res = script_is res (reading_of text)
-by_is streams None seen parts res = default_is streams seen parts res
+by_is : StreamsHaveKinds → (script : Option ScriptAt) (tree : Content) (parts : Parts) (res : Resource) → HasKind (answer_by script tree parts res)
+by_is streams (Some script) tree parts res = script_is tree res script.path (reading_of script.text)
+by_is streams None tree parts res = default_is streams (seen_resources tree) parts res
 
 resource_is : StreamsHaveKinds → (tree : Content) (parts : Parts) (res : Option Resource) → HasKind (resource_answer tree parts res)
 resource_is streams tree parts None = error_kind 404
-resource_is streams tree parts (Some res) = by_is streams (script_for tree parts res) (seen_resources tree) parts res
+resource_is streams tree parts (Some res) = by_is streams (script_for tree parts res) tree parts res
 
 split_is : StreamsHaveKinds → (tree : Content) (parts : Option Parts) → HasKind (split_answer tree parts)
 split_is streams tree None = error_kind 404

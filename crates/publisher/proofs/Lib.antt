@@ -1,5 +1,8 @@
 pub mod DepthLemmas
 pub mod ChoiceLemmas
+pub mod PageLemmas
+pub mod PageSteps
+pub mod PageAnswers
 pub mod RenderingLemmas
 pub mod ScriptLaw
 pub mod KeptLemmas

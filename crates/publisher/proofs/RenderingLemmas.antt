@@ -3,6 +3,7 @@ use Rattle.std.proofs.Common.{◌≡◌, ◌≢◌, ◌≤◌, ℕ, Bool, true, 
 use Rattle.std.proofs.lemmas.Bool.Decides.{nat_tests}
 use Rattle.sp_base.specs.Limits.{most_rendered_bytes}
 use Rattle.sp_base.specs.Paths.{text_of}
+use Rattle.sp_base.specs.Texts.{Segments}
 use Rattle.sp_base.specs.declared.answer.Answer.{Answer}
 use Rattle.sp_base.specs.declared.answer.Ask.{Ask}
 use Rattle.sp_base.specs.declared.answer.Mark.{Mark}
@@ -13,7 +14,6 @@ use Rattle.url_maps.specs.declared.answer.MapAnswer.{MapAnswer}
 use Rattle.url_maps.specs.declared.answer.MapAnswer.TheVariants.{Inside, Away}
 use Rattle.url_split.specs.declared.decompose.Parts.{Parts}
 use Rattle.url_split.specs.Split.{split_of}
-use Rattle.htl_text.specs.Template.{template_output as written_by}
 use Rattle.get_servlet.specs.declared.answer.Depth.{Depth}
 use Rattle.get_servlet.specs.declared.answer.JsonAnswer.{JsonAnswer}
 use Rattle.get_servlet.specs.declared.answer.JsonAnswer.TheVariants.{Whole, Over, TooLong}
@@ -23,11 +23,12 @@ use Rattle.get_servlet.specs.Streams.{stream_of}
 use Rattle.publisher.specs.declared.templates.Reading.{Reading}
 use Rattle.publisher.specs.declared.templates.Reading.TheVariants.{Parsed, Refused}
 use Rattle.publisher.specs.Readings.{reading_of}
+use Rattle.publisher.specs.Pages.{is_over, page_of, place_of}
 use Rattle.error_answers.specs.Errors.{error_answer}
 use Rattle.publisher.specs.Errors.{answer_with_body}
 use Rattle.publisher.specs.Depths.{depth_of}
 use Rattle.overlay_merge.specs.Merged.{has_resource}
-use Rattle.publisher.specs.Rendering.{seen_resources, is_read, mark_of, representation_of, json_representation, json_to_depth, file_representation, is_json, is_bare, default_answer, script_for, scope_of, script_representation, answer_by, resource_answer, split_answer, text_answer, mapping, mapped_answer, is_post, posted_answer, answer_to_request}
+use Rattle.publisher.specs.Rendering.{ScriptAt, seen_resources, is_read, mark_of, representation_of, json_representation, json_to_depth, file_representation, is_json, is_bare, default_answer, script_for, script_representation, answer_by, resource_answer, split_answer, text_answer, mapping, mapped_answer, is_post, posted_answer, answer_to_request}
 
 -- ---- a representation isn't too long
 
@@ -70,17 +71,20 @@ default_fits seen_resources parts res =
     either (is_json parts.extension) _ _ (depth_fits seen_resources res (depth_of parts.selectors))
     (either (is_bare parts) _ _ (file_fits res (stream_of seen_resources res)) missing_fits)
 
-script_fits : (res : Resource) (reading : Reading) → Fits (script_representation res reading)
-script_fits res (Parsed pieces) = page_fits _ (mark_of res) (written_by (scope_of res) pieces)
-script_fits res Refused = error_fits 500 (λ h. absurd (omega (arith, h)))
+refused_fits : Fits (error_answer 500)
+refused_fits = error_fits 500 (λ h. absurd (omega (arith, h)))
 
-by_fits : (text : Option (List ℕ)) (seen_resources : Seen) (parts : Parts) (res : Resource) → Fits (answer_by text seen_resources parts res)
-by_fits (Some text) seen_resources parts res = script_fits res (reading_of text)
-by_fits None seen_resources parts res = default_fits seen_resources parts res
+script_fits : (tree : Content) (res : Resource) (script : Segments) (reading : Reading) → Fits (script_representation tree res script reading)
+script_fits tree res script (Parsed blocks) = either (is_over (page_of tree (place_of script res) blocks)) _ _ refused_fits (page_fits _ (mark_of res) (page_of tree (place_of script res) blocks).text)
+script_fits tree res script Refused = refused_fits
+
+by_fits : (script : Option ScriptAt) (tree : Content) (parts : Parts) (res : Resource) → Fits (answer_by script tree parts res)
+by_fits (Some script) tree parts res = script_fits tree res script.path (reading_of script.text)
+by_fits None tree parts res = default_fits (seen_resources tree) parts res
 
 resource_fits : (tree : Content) (parts : Parts) (res : Option Resource) → Fits (resource_answer tree parts res)
 resource_fits tree parts None = missing_fits
-resource_fits tree parts (Some res) = by_fits (script_for tree parts res) (seen_resources tree) parts res
+resource_fits tree parts (Some res) = by_fits (script_for tree parts res) tree parts res
 
 found_fits : (tree : Content) (parts : Option Parts) → Fits (split_answer tree parts)
 found_fits tree None = missing_fits

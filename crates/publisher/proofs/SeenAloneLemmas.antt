@@ -5,9 +5,9 @@ use Rattle.std.specs.List.{list_any}
 use Rattle.std.specs.Cmp.Lexicographic.{nat_list_eq_equiv, pointwise}
 use Rattle.std.proofs.lemmas.Bool.{false≢true}
 use Rattle.sp_base.specs.Limits.{most_rendered_bytes}
+use Rattle.sp_base.specs.Texts.{Segments}
 use Rattle.sp_base.specs.declared.value.Value.{Value}
 use Rattle.type_chain.specs.Chain.{chain_of}
-use Rattle.script_rank.specs.Ranking.{script_text}
 use Rattle.script_rank.specs.Search.{search_result as first_script}
 use Rattle.sp_base.specs.declared.answer.Answer.{Answer}
 use Rattle.resource_tree.specs.Content.{Content}
@@ -27,7 +27,7 @@ use Rattle.get_servlet.specs.Answers.{json_answer, levels_of}
 use Rattle.get_servlet.specs.Rendering.{json_text, kid_of_name, resource_json}
 use Rattle.get_servlet.specs.Streams.{kid_stream, stream_of}
 use Rattle.publisher.specs.Depths.{depth_of}
-use Rattle.publisher.specs.Rendering.{answer_by, default_answer, file_representation, is_bare, is_json, json_representation, json_to_depth, resource_answer, script_for, script_representation, seen_resources}
+use Rattle.publisher.specs.Rendering.{ScriptAt, answer_by, default_answer, file_representation, is_bare, is_json, json_representation, json_to_depth, resource_answer, script_at, script_for, script_representation, seen_resources, with_text}
 use Rattle.publisher.specs.SeenAlone.{IsSeenAlone, answer_seen, is_of_no_level, seen_answer, shows_no_kid}
 
 -- the whole resource, of which the other is all but the kids
@@ -59,21 +59,21 @@ unfolding merged_alone
 alone-unmerged tree path res outside is = sym (ap (λ b. if b then option_map without_kids (merged_resource tree path) else merged_resource tree path) outside) ∙ is
 
 -- a script asks for nothing but properties and the path
-same-written : (whole : Resource) (kids : List (List ℕ)) (reading : Reading) → script_representation (record whole { kids = kids }) reading ≡ script_representation whole reading
-same-written whole kids (Parsed pieces) = refl
-same-written whole kids Refused = refl
+same-written : (tree : Content) (whole : Resource) (kids : List (List ℕ)) (script : Segments) (reading : Reading) → script_representation tree (record whole { kids = kids }) script reading ≡ script_representation tree whole script reading
+same-written tree whole kids script (Parsed blocks) = refl
+same-written tree whole kids script Refused = refl
 
-pub written-whole : (tree : Content) (parts : Parts) (res : Resource) (text : List ℕ) (reading : Reading) → IsSeenAlone tree parts res → reading ≡ reading_of text → script_representation res reading ≡ seen_answer (Some text) tree parts
-written-whole tree parts res text reading alone read =
+written-whole : (tree : Content) (parts : Parts) (res : Resource) (script : ScriptAt) → IsSeenAlone tree parts res → script_representation tree res script.path (reading_of script.text) ≡ seen_answer (Some script) tree parts
+written-whole tree parts res script alone =
     let at = alone-whole tree parts.path res alone in
-    ap (λ r. script_representation r reading) at.same ∙ same-written at.whole res.kids reading ∙ ap (script_representation at.whole) read ∙ sym (ap (answer_seen (Some text) tree parts) at.seen_is)
+    ap (λ r. script_representation tree r script.path (reading_of script.text)) at.same ∙ same-written tree at.whole res.kids script.path (reading_of script.text) ∙ sym (ap (answer_seen (Some script) tree parts) at.seen_is)
 
-pub script-whole : (tree : Content) (parts : Parts) (res : Resource) → IsSeenAlone tree parts res → (script : Option (List ℕ)) → script_for tree parts res ≡ script → resource_answer tree parts (seen_resources tree parts.path) ≡ seen_answer script tree parts
+pub script-whole : (tree : Content) (parts : Parts) (res : Resource) → IsSeenAlone tree parts res → (script : Option ScriptAt) → script_for tree parts res ≡ script → resource_answer tree parts (seen_resources tree parts.path) ≡ seen_answer script tree parts
 unfolding script_for
 script-whole tree parts res alone script is =
     let at = alone-whole tree parts.path res alone in
     let for_whole : script_for tree parts at.whole ≡ script = sym (ap (script_for tree parts) at.same) ∙ is in
-    ap (resource_answer tree parts) at.seen_is ∙ ap (λ s. answer_by s (seen_resources tree) parts at.whole) for_whole ∙ sym (ap (answer_seen script tree parts) at.seen_is)
+    ap (resource_answer tree parts) at.seen_is ∙ ap (λ s. answer_by s tree parts at.whole) for_whole ∙ sym (ap (answer_seen script tree parts) at.seen_is)
 
 none-of : (is : Option Resource) → option_map without_kids is ≡ None → is ≡ None
 none-of None e = refl
@@ -91,21 +91,28 @@ alone-none tree path is = by_root (is_merged_path path) is
 reading-same : (a b : Reading) → Some a ≡ Some b → a ≡ b
 reading-same a b e = cc
 
--- by a reading that is kept
-pub kept-written : (tree : Content) (parts : Parts) (res : Resource) (script : Option (List ℕ)) (reading : Reading) → IsSeenAlone tree parts res → option_map reading_of script ≡ Some reading → script_representation res reading ≡ seen_answer script tree parts
-kept-written tree parts res None reading alone is = absurd (let no : ⊥ = cc in no)
-kept-written tree parts res (Some text) reading alone is = written-whole tree parts res text reading alone (sym (reading-same (reading_of text) reading is))
+-- by the reading of the script
+pub read-written : (tree : Content) (parts : Parts) (res : Resource) (script : Segments) (text : Option (List ℕ)) (reading : Reading) → IsSeenAlone tree parts res → Some reading ≡ option_map reading_of text
+    → script_representation tree res script reading ≡ seen_answer (option_map (with_text script) text) tree parts
+read-written tree parts res script None reading alone is = absurd (let no : ⊥ = cc in no)
+read-written tree parts res script (Some text) reading alone is =
+    ap (script_representation tree res script) (reading-same reading (reading_of text) is) ∙ written-whole tree parts res (with_text script text) alone
+
+-- where there is no reading there is no script
+pub unread : (script : Segments) (text : Option (List ℕ)) → None ≡ option_map reading_of text → option_map (with_text script) text ≡ None
+unread script None is = refl
+unread script (Some text) is = absurd (let no : ⊥ = cc in no)
 
 -- the script that was searched for by the properties is the resource's
 pub found-script : (tree : Content) (parts : Parts) (res : Resource) (props : List (List ℕ × Value)) (found : Option (List (List ℕ))) (script : List (List ℕ)) → props ≡ res.props → found ≡ first_script tree (chain_of tree props) parts → found ≡ Some script
-    → script_for tree parts res ≡ script_text tree script
+    → script_for tree parts res ≡ script_at tree script
 unfolding script_for
-found-script tree parts res props found script same value is = ap (option_and_then (script_text tree)) (ap (λ p. first_script tree (chain_of tree p) parts) (sym same) ∙ sym value ∙ is)
+found-script tree parts res props found script same value is = ap (option_and_then (script_at tree)) (ap (λ p. first_script tree (chain_of tree p) parts) (sym same) ∙ sym value ∙ is)
 
 pub found-none : (tree : Content) (parts : Parts) (res : Resource) (props : List (List ℕ × Value)) (found : Option (List (List ℕ))) → props ≡ res.props → found ≡ first_script tree (chain_of tree props) parts → found ≡ None
     → script_for tree parts res ≡ None
 unfolding script_for
-found-none tree parts res props found same value is = ap (option_and_then (script_text tree)) (ap (λ p. first_script tree (chain_of tree p) parts) (sym same) ∙ sym value ∙ is)
+found-none tree parts res props found same value is = ap (option_and_then (script_at tree)) (ap (λ p. first_script tree (chain_of tree p) parts) (sym same) ∙ sym value ∙ is)
 
 -- an answer that is one is the other
 pub answer-as : {E : Type 0} (r : Result Answer E) (a b : Answer) → a ≡ b → IfOk r (λ x. x ≡ a) → IfOk r (λ x. x ≡ b)

@@ -2,6 +2,7 @@
 use Rattle.std.proofs.Common.{◌≡◌, ◌≢◌, ◌<◌, ◌≤◌, ℕ, Bool, true, false, cond, List, Option, Some, None, Result, Ok, Err, IfOk, length, nat_le, refl, sym, ◌∙◌, ap, subst, arith}
 use Rattle.std.specs.Prelude.{if◌then◌else◌}
 use Rattle.sp_base.specs.Paths.{text_of}
+use Rattle.sp_base.specs.Texts.{Segments}
 use Rattle.sp_base.specs.declared.answer.Answer.{Answer}
 use Rattle.sp_base.specs.declared.answer.Ask.{Ask}
 use Rattle.sp_base.specs.declared.answer.Mark.{Mark}
@@ -15,7 +16,6 @@ use Rattle.url_maps.specs.declared.answer.MapAnswer.{MapAnswer}
 use Rattle.url_maps.specs.declared.answer.MapAnswer.TheVariants.{Inside, Away}
 use Rattle.url_split.specs.declared.decompose.Parts.{Parts}
 use Rattle.url_split.specs.Split.{split_of}
-use Rattle.htl_text.specs.Template.{template_output as written_by}
 use Rattle.get_servlet.specs.declared.answer.Depth.{Depth}
 use Rattle.get_servlet.specs.declared.answer.JsonAnswer.{JsonAnswer}
 use Rattle.get_servlet.specs.declared.answer.JsonAnswer.TheVariants.{Whole, Over, TooLong}
@@ -25,11 +25,12 @@ use Rattle.get_servlet.specs.Streams.{stream_of}
 use Rattle.publisher.specs.declared.templates.Reading.{Reading}
 use Rattle.publisher.specs.declared.templates.Reading.TheVariants.{Parsed, Refused}
 use Rattle.publisher.specs.Readings.{reading_of}
+use Rattle.publisher.specs.Pages.{is_over, page_of, place_of}
 use Rattle.error_answers.specs.Errors.{error_answer}
 use Rattle.publisher.specs.Errors.{answer_with_body}
 use Rattle.publisher.specs.Depths.{depth_of}
 use Rattle.overlay_merge.specs.Merged.{has_resource}
-use Rattle.publisher.specs.Rendering.{seen_resources, is_read, mark_of, representation_of, json_representation, json_to_depth, file_representation, is_json, is_bare, default_answer, script_for, scope_of, script_representation, answer_by, resource_answer, split_answer, mapping, mapped_answer, is_post, posted_answer, answer_to_request}
+use Rattle.publisher.specs.Rendering.{ScriptAt, seen_resources, is_read, mark_of, representation_of, json_representation, json_to_depth, file_representation, is_json, is_bare, default_answer, script_for, script_representation, answer_by, resource_answer, split_answer, mapping, mapped_answer, is_post, posted_answer, answer_to_request}
 use Rattle.resource_tree.specs.declared.faults.TreeFault.{TreeFault}
 use Rattle.resource_tree.specs.declared.faults.TreeFault.TheVariants.{NoSuch, RootFixed, IntoItself, Exists, Taken, NoSibling, TooDeep, FullTree, NoMemory as NoMemoryOfTree}
 use Rattle.form_input.specs.Forms.{form_of}
@@ -83,17 +84,18 @@ default_short seen_resources parts res =
     either (is_json parts.extension) _ _ (depth_short seen_resources res (depth_of parts.selectors))
     (either (is_bare parts) _ _ (file_short res (stream_of seen_resources res)) missing_short)
 
-script_short : (res : Resource) (reading : Reading) → Short (script_representation res reading)
-script_short res (Parsed pieces) = representation_short _ (mark_of res) (written_by (scope_of res) pieces)
-script_short res Refused = error_short 500 (omega arith)
+script_short : (tree : Content) (res : Resource) (script : Segments) (reading : Reading) → Short (script_representation tree res script reading)
+script_short tree res script (Parsed blocks) =
+    either (is_over (page_of tree (place_of script res) blocks)) _ _ (error_short 500 (omega arith)) (representation_short _ (mark_of res) (page_of tree (place_of script res) blocks).text)
+script_short tree res script Refused = error_short 500 (omega arith)
 
-by_short : (text : Option (List ℕ)) (seen_resources : Seen) (parts : Parts) (res : Resource) → Short (answer_by text seen_resources parts res)
-by_short (Some text) seen_resources parts res = script_short res (reading_of text)
-by_short None seen_resources parts res = default_short seen_resources parts res
+by_short : (script : Option ScriptAt) (tree : Content) (parts : Parts) (res : Resource) → Short (answer_by script tree parts res)
+by_short (Some script) tree parts res = script_short tree res script.path (reading_of script.text)
+by_short None tree parts res = default_short (seen_resources tree) parts res
 
 resource_short : (tree : Content) (parts : Parts) (res : Option Resource) → Short (resource_answer tree parts res)
 resource_short tree parts None = missing_short
-resource_short tree parts (Some res) = by_short (script_for tree parts res) (seen_resources tree) parts res
+resource_short tree parts (Some res) = by_short (script_for tree parts res) tree parts res
 
 split_short : (tree : Content) (parts : Option Parts) → Short (split_answer tree parts)
 split_short tree None = missing_short

@@ -1,6 +1,6 @@
 -- What a request is answered, case by case, as docs/sling/RENDERING.md has them: each with all that makes it the first that applies. It is
 -- the same answer as that of `Rendering.antt` (law `an_answer_is_one_of_the_cases`), said by relations in place of searches.
-use Rattle.std.specs.Prelude.{◌≡◌, ◌<◌, ◌≤◌, ℕ, true, false, List, [], Some, None}
+use Rattle.std.specs.Prelude.{◌≡◌, ◌<◌, ◌≤◌, ℕ, true, false, List, Some, None}
 use Rattle.sp_base.specs.Texts.{Segments}
 use Rattle.sp_base.specs.Paths.{text_of}
 use Rattle.sp_base.specs.declared.answer.Answer.{Answer}
@@ -15,9 +15,9 @@ use Rattle.url_split.specs.declared.decompose.Parts.{Parts}
 use Rattle.url_split.specs.Split.{IsLost, IsSplit}
 use Rattle.type_chain.specs.Chain.{chain_of}
 use Rattle.script_rank.specs.Ranking.{HasNoCandidate, IsFirstScript, script_text}
-use Rattle.htl_text.specs.declared.piece.TemplatePiece.{TemplatePiece}
-use Rattle.htl_text.specs.Spelling.{SpellsTemplate}
-use Rattle.htl_text.specs.Template.{template_output as written_by}
+use Rattle.htl_blocks.specs.declared.block.Block.{Block}
+use Rattle.htl_blocks.specs.Reading.{most_nested_blocks}
+use Rattle.htl_blocks.specs.Spelling.{SpellsBlocks}
 use Rattle.get_servlet.specs.Answers.{IsOver, levels_of}
 use Rattle.get_servlet.specs.Rendering.{json_text, most_resources, shown_count}
 use Rattle.get_servlet.specs.Streams.{stream_of}
@@ -27,8 +27,9 @@ use Rattle.error_answers.specs.Errors.{error_answer}
 use Rattle.publisher.specs.Choices.{choices_text}
 use Rattle.publisher.specs.Depths.{depth_of}
 use Rattle.publisher.specs.Errors.{answer_with_body, redirect}
+use Rattle.publisher.specs.Pages.{page_of, place_of}
 use Rattle.publisher.specs.Posting.{posting, posting_answer}
-use Rattle.publisher.specs.Rendering.{html_kind, is_bare, is_json, is_post, is_read, json_kind, mark_of, representation_of, scope_of, seen_resources}
+use Rattle.publisher.specs.Rendering.{is_bare, is_json, is_post, is_read, json_kind, mark_of, page_answer, representation_of, seen_resources}
 
 -- a GET or a HEAD whose path's text is mapped to this one, within the content
 pub record ReadsText (tree : Content) (ask : Ask) (text : List ℕ) : Type 0 where
@@ -69,9 +70,9 @@ pub data IsAnswer (tree : Content) (ask : Ask) (answer : Answer) : Type 0 where
   posted_away : (status : ℕ) (target : List ℕ) → is_post ask.method ≡ true → IsMapped tree ask.host ask.port (text_of ask.path) (Away status target) → answer ≡ redirect status target → IsAnswer tree ask answer
   posted : (text : List ℕ) → is_post ask.method ≡ true → IsMapped tree ask.host ask.port (text_of ask.path) (Inside text) → answer ≡ posting_answer (posting tree ask text) → IsAnswer tree ask answer
   lost : (text : List ℕ) → ReadsText tree ask text → IsLost (has_resource tree) text → answer ≡ error_answer 404 → IsAnswer tree ask answer
-  refused_script : (res : Resource) (text : List ℕ) → ReadsByScript tree ask res text → ((pieces : List TemplatePiece) → SpellsTemplate text pieces [] → ⊥) → answer ≡ error_answer 500 → IsAnswer tree ask answer
-  by_script : (res : Resource) (text : List ℕ) (pieces : List TemplatePiece) → ReadsByScript tree ask res text → SpellsTemplate text pieces []
-      → answer ≡ representation_of html_kind (mark_of res) (written_by (scope_of res) pieces) → IsAnswer tree ask answer
+  refused_script : (res : Resource) (text : List ℕ) → ReadsByScript tree ask res text → ((blocks : List Block) → SpellsBlocks most_nested_blocks text blocks → ⊥) → answer ≡ error_answer 500 → IsAnswer tree ask answer
+  by_script : (res : Resource) (text : List ℕ) (blocks : List Block) (reads : ReadsByScript tree ask res text) → SpellsBlocks most_nested_blocks text blocks
+      → answer ≡ page_answer (mark_of res) (page_of tree (place_of reads.script res) blocks) → IsAnswer tree ask answer
   no_depth : (parts : Parts) (res : Resource) → ReadsByDefault tree ask parts res → is_json parts.extension ≡ true → depth_of parts.selectors ≡ None → answer ≡ error_answer 400 → IsAnswer tree ask answer
   too_many : (res : Resource) (depth : Depth) (most : ℕ) → ReadsJson tree ask res depth → IsOver (seen_resources tree) res (levels_of depth) most
       → answer ≡ answer_with_body 300 json_kind Plain (choices_text res.path most) → IsAnswer tree ask answer

@@ -2,6 +2,8 @@ pub mod Errors
 pub mod Depths
 pub mod Choices
 pub mod Readings
+pub mod Pages
+pub mod Gathering
 pub mod Refusals
 pub mod Posting
 pub mod Rendering

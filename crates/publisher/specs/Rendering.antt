@@ -1,14 +1,15 @@
 -- What the publisher answers: the first of these that applies.
-use Rattle.std.specs.Prelude.{◌==◌, ◌&&◌, ◌||◌, ℕ, Bool, nat_eq, nat_le, if◌then◌else◌, List, [], Option, Some, None, option_and_then, codes, length}
+use Rattle.std.specs.Prelude.{◌==◌, ◌&&◌, ◌||◌, ℕ, Bool, nat_eq, nat_le, if◌then◌else◌, List, Option, Some, None, option_and_then, option_map, codes, length}
 use Rattle.std.specs.Cmp.Lexicographic.{pointwise}
 use Rattle.sp_base.specs.Limits.{most_rendered_bytes}
 use Rattle.sp_base.specs.Paths.{text_of}
 use Rattle.sp_base.specs.Properties.{text_in}
+use Rattle.sp_base.specs.Texts.{Segments, Text}
 use Rattle.sp_base.specs.declared.answer.Answer.{Answer}
 use Rattle.sp_base.specs.declared.answer.Ask.{Ask}
 use Rattle.sp_base.specs.declared.answer.Mark.{Mark}
 use Rattle.sp_base.specs.declared.answer.Mark.TheVariants.{Plain, NoCache, NoStore, MustRevalidate}
-use Rattle.resource_tree.specs.Content.{Content, name_of}
+use Rattle.resource_tree.specs.Content.{Content}
 use Rattle.resource_tree.specs.Seen.{Resource, Seen}
 use Rattle.overlay_merge.specs.Merged.{merged_resource, has_resource}
 use Rattle.url_maps.specs.Answers.{map_answer}
@@ -16,11 +17,9 @@ use Rattle.url_maps.specs.declared.answer.MapAnswer.{MapAnswer}
 use Rattle.url_maps.specs.declared.answer.MapAnswer.TheVariants.{Inside, Away}
 use Rattle.url_split.specs.declared.decompose.Parts.{Parts}
 use Rattle.url_split.specs.Split.{split_of}
-use Rattle.type_chain.specs.Chain.{chain_of, type_text}
+use Rattle.type_chain.specs.Chain.{chain_of}
 use Rattle.script_rank.specs.Ranking.{script_text}
 use Rattle.script_rank.specs.Search.{search_result as first_script}
-use Rattle.htl_expr.specs.declared.scope.Scope.{Scope}
-use Rattle.htl_text.specs.Template.{template_output as written_by}
 use Rattle.get_servlet.specs.declared.answer.Depth.{Depth}
 use Rattle.get_servlet.specs.declared.answer.JsonAnswer.{JsonAnswer}
 use Rattle.get_servlet.specs.declared.answer.JsonAnswer.TheVariants.{Whole, Over, TooLong}
@@ -30,6 +29,7 @@ use Rattle.get_servlet.specs.Streams.{stream_of}
 use Rattle.publisher.specs.declared.templates.Reading.{Reading}
 use Rattle.publisher.specs.declared.templates.Reading.TheVariants.{Parsed, Refused}
 use Rattle.publisher.specs.Readings.{reading_of}
+use Rattle.publisher.specs.Pages.{Page, is_over, page_of, place_of}
 use Rattle.error_answers.specs.Errors.{error_answer}
 use Rattle.publisher.specs.Errors.{answer_with_body, redirect}
 use Rattle.publisher.specs.Depths.{depth_of}
@@ -92,36 +92,49 @@ abbrev pub default_answer : Seen → Parts → Resource → Answer
 default_answer seen_resources parts res = if is_json parts.extension then json_to_depth seen_resources res (depth_of parts.selectors)
     else (if is_bare parts then file_representation res (stream_of seen_resources res) else error_answer 404)
 
--- the text of the script that ranks first for a resource, if there is one
-unfoldable pub script_for : Content → Parts → Resource → Option (List ℕ)
-script_for tree parts res = option_and_then (script_text tree) (first_script tree (chain_of tree res.props) parts)
+-- a script: its path and its text
+pub record ScriptAt : Type 0 where
+  pub path : Segments
+  pub text : Text
+
+-- a path with a text
+abbrev pub with_text : Segments → Text → ScriptAt
+with_text path text = record { path = path; text = text }
+
+-- the script at a path, if one is there
+abbrev pub script_at : Content → Segments → Option ScriptAt
+script_at tree path = option_map (with_text path) (script_text tree path)
+
+-- the script that ranks first for a resource, if there is one
+unfoldable pub script_for : Content → Parts → Resource → Option ScriptAt
+script_for tree parts res = option_and_then (script_at tree) (first_script tree (chain_of tree res.props) parts)
 
 -- the media type of a script's output
 abbrev pub html_kind : List ℕ
 html_kind = codes "text/html;charset=utf-8"
 
--- what the expressions of a script are evaluated for: a resource's properties, its path, its name and its type, without variables
-abbrev pub scope_of : Resource → Scope
-scope_of res = record { props = res.props; path = text_of res.path; name = name_of res.path; kind = type_text res.props; vars = [] }
+-- a page within its limits; one that is over them is an error, as one is whose text is too long
+abbrev pub page_answer : Mark → Page → Answer
+page_answer mark page = if is_over page then error_answer 500 else representation_of html_kind mark page.text
 
--- what a script's template writes for a resource; a text that is no template is an error
-abbrev pub script_representation : Resource → Reading → Answer
-script_representation res (Parsed pieces) = representation_of html_kind (mark_of res) (written_by (scope_of res) pieces)
-script_representation res Refused = error_answer 500
-
--- the answer of a resource: what the script's template writes, or without a script the answer of the default GET servlet
-abbrev pub answer_by : Option (List ℕ) → Seen → Parts → Resource → Answer
-answer_by (Some text) seen_resources parts res = script_representation res (reading_of text)
-answer_by None seen_resources parts res = default_answer seen_resources parts res
+-- the page that the script at a path writes for a resource; a text that has no reading is an error
+abbrev pub script_representation : Content → Resource → Segments → Reading → Answer
+script_representation tree res script (Parsed blocks) = page_answer (mark_of res) (page_of tree (place_of script res) blocks)
+script_representation tree res script Refused = error_answer 500
 
 -- what is seen at a path: the merged resource. Types and scripts are looked up among the tree's own nodes.
 abbrev pub seen_resources : Content → Seen
 seen_resources tree = merged_resource tree
 
+-- the answer of a resource: what the script writes, or without a script the answer of the default GET servlet
+abbrev pub answer_by : Option ScriptAt → Content → Parts → Resource → Answer
+answer_by (Some script) tree parts res = script_representation tree res script.path (reading_of script.text)
+answer_by None tree parts res = default_answer (seen_resources tree) parts res
+
 -- the answer of what is seen at a path, by the script that ranks first for it
 abbrev pub resource_answer : Content → Parts → Option Resource → Answer
 resource_answer tree parts None = error_answer 404
-resource_answer tree parts (Some res) = answer_by (script_for tree parts res) (seen_resources tree) parts res
+resource_answer tree parts (Some res) = answer_by (script_for tree parts res) tree parts res
 
 -- the answer to a path that was taken apart, if it names a resource
 abbrev pub split_answer : Content → Option Parts → Answer

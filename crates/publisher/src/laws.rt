@@ -1,30 +1,34 @@
 //! Laws of the rendering, on functions that do nothing.
-ghost use Rattle.std.specs.Prelude.{◌≡◌, ◌≢◌, ◌≤◌, ◌<◌, ◌||◌, [], ℕ, IsTrue, List, Some, true, length};
+ghost use Rattle.std.specs.Prelude.{◌≡◌, ◌≢◌, ◌≤◌, ◌<◌, ◌||◌, [], ℕ, IsTrue, List, true, length};
 ghost use Rattle.sp_base.specs.Limits.{most_rendered_bytes};
 ghost use Rattle.sp_base.specs.MediaTypes.{is_kind};
 ghost use Rattle.sp_base.specs.Paths.{text_of};
 ghost use Rattle.sp_base.specs.declared.answer.Answer.{Answer};
 ghost use Rattle.sp_base.specs.declared.answer.Ask.{Ask};
 ghost use Rattle.resource_tree.specs.Content.{Content, IsGood};
-ghost use Rattle.overlay_merge.specs.Merged.{has_resource};
 ghost use Rattle.resource_tree.specs.Seen.{Resource};
 ghost use Rattle.url_maps.specs.Turns.{IsMapped};
-ghost use Rattle.url_maps.specs.declared.answer.MapAnswer.TheVariants.{Inside, Away};
-ghost use Rattle.url_split.specs.declared.decompose.Parts.{Parts};
-ghost use Rattle.url_split.specs.Split.{IsSplit};
-ghost use Rattle.type_chain.specs.Chain.{chain_of};
-ghost use Rattle.script_rank.specs.Ranking.{IsFirstScript, script_text};
+ghost use Rattle.url_maps.specs.declared.answer.MapAnswer.TheVariants.{Away};
 ghost use Rattle.htl_text.specs.declared.piece.TemplatePiece.{TemplatePiece};
 ghost use Rattle.htl_text.specs.Spelling.{SpellsTemplate};
-ghost use Rattle.htl_text.specs.Template.{template_output as written_by};
+ghost use Rattle.htl_text.specs.Template.{template_output};
+ghost use Rattle.htl_blocks.specs.declared.block.Block.{Block};
+ghost use Rattle.htl_blocks.specs.Laws.{HasNoBlock};
+ghost use Rattle.htl_blocks.specs.Markup.{parts as markup_parts};
+ghost use Rattle.htl_blocks.specs.Reading.{most_nested_blocks};
+ghost use Rattle.htl_blocks.specs.Spelling.{SpellsBlocks};
 ghost use Rattle.error_answers.specs.Errors.{error_answer};
-ghost use Rattle.publisher.specs.Cases.{IsAnswer};
+ghost use Rattle.publisher.specs.Cases.{IsAnswer, ReadsByScript};
 ghost use Rattle.publisher.specs.Errors.{redirect};
+ghost use Rattle.publisher.specs.Pages.{bindings_at, page_of, place_of};
 ghost use Rattle.publisher.specs.PostLaws.{PostsAreRefusedForCauses, RequestsKeepContentGood};
-ghost use Rattle.publisher.specs.Rendering.{content_after_request, is_post, is_read, answer_to_request, scope_of, seen_resources};
+ghost use Rattle.publisher.specs.Rendering.{content_after_request, is_post, is_read, answer_to_request};
 
 use form_input::forms_are_refused_for_causes;
 use get_servlet::{over_is_the_greatest_depth, streams_have_media_types};
+use htl_blocks::{
+    a_text_without_blocks_is_a_template, a_text_writes_its_template, the_blocks_are_the_text,
+};
 use htl_text::the_pieces_are_the_text;
 use post_apply::{operations_keep_content_good, refusals_have_causes};
 use post_plan::operations_name_paths;
@@ -100,20 +104,27 @@ pub fn what_leads_away_is_a_redirect()
     the_answer_is_mapped();
 }
 
-/// A page that a script gives is what the pieces write that its text spells, for the resource: the resource is the one that the text is
-/// taken apart into to which the path's text is mapped, and the script the one that ranks first for its types.
-pub fn a_script_writes_its_pieces()
-    ensures { (tree : Content) (ask : Ask) (mapped : List ℕ) (parts : Parts) (res : Resource) (script : List (List ℕ)) (text : List ℕ) (pieces : List TemplatePiece)
-        → IsGood tree → is_read ask.method ≡ true → IsMapped tree ask.host ask.port (text_of ask.path) (Inside mapped)
-        → IsSplit (has_resource tree) mapped parts → seen_resources tree parts.path ≡ Some res
-        → IsFirstScript tree (chain_of tree res.props) parts script → script_text tree script ≡ Some text → SpellsTemplate text pieces []
-        → (answer_to_request tree ask).status ≡ 200 → (answer_to_request tree ask).body ≡ written_by (scope_of res) pieces }
+/// A page that a script gives is what the blocks write that its text spells, for the resource, with what is put in: the resource is the one
+/// that the text is taken apart into to which the path's text is mapped, and the script the one that ranks first for its types.
+pub fn a_script_writes_its_page()
+    ensures { (tree : Content) (ask : Ask) (res : Resource) (text : List ℕ) (blocks : List Block) (reads : ReadsByScript tree ask res text)
+        → IsGood tree → SpellsBlocks most_nested_blocks text blocks
+        → (answer_to_request tree ask).status ≡ 200 → (answer_to_request tree ask).body ≡ (page_of tree (place_of reads.script res) blocks).text }
 {
-    the_answer_is_mapped();
-    the_split_is_the_longest();
-    search_finds_the_first();
-    one_script_is_first();
+    an_answer_is_one_of_the_cases();
+}
+
+/// The page of a script without a block tag is what the pieces write that its text spells, for the resource and without variables.
+pub fn a_script_without_blocks_writes_its_pieces()
+    ensures { (tree : Content) (ask : Ask) (res : Resource) (text : List ℕ) (pieces : List TemplatePiece) (reads : ReadsByScript tree ask res text)
+        → IsGood tree → 0 < length text → HasNoBlock (markup_parts text) → SpellsTemplate text pieces []
+        → (answer_to_request tree ask).status ≡ 200 → (answer_to_request tree ask).body ≡ template_output (bindings_at (place_of reads.script res) []) pieces }
+{
+    an_answer_is_one_of_the_cases();
     the_pieces_are_the_text();
+    the_blocks_are_the_text();
+    a_text_without_blocks_is_a_template();
+    a_text_writes_its_template();
 }
 
 /// The answer to a request is the one of the cases of `specs/Cases.antt` that applies, and none of the others applies with another answer:
@@ -126,6 +137,6 @@ pub fn an_answer_is_one_of_the_cases()
     the_split_is_the_longest();
     search_finds_the_first();
     one_script_is_first();
-    the_pieces_are_the_text();
+    the_blocks_are_the_text();
     over_is_the_greatest_depth();
 }

@@ -3,10 +3,9 @@ ghost use Rattle.std.specs.Prelude.{◌≡◌, None, Some, IfOk};
 ghost use Rattle.get_servlet.specs.Streams.{stream_of};
 ghost use Rattle.publisher.specs.Depths.{depth_of};
 ghost use Rattle.type_chain.specs.Chain.{chain_of};
-ghost use Rattle.script_rank.specs.Ranking.{script_text};
 ghost use Rattle.script_rank.specs.Search.{search_result as first_script};
 ghost use Rattle.publisher.specs.Kept.{AreReadings};
-ghost use Rattle.publisher.specs.Rendering.{representation_of, json_representation, json_to_depth, file_representation, is_bare, default_answer, resource_answer, seen_resources};
+ghost use Rattle.publisher.specs.Rendering.{representation_of, json_representation, json_to_depth, file_representation, is_bare, default_answer, resource_answer, script_at, seen_resources};
 ghost use Rattle.publisher.specs.SeenAlone.{IsSeenAlone, answer_seen, seen_answer, shows_no_kid};
 
 use crate::choices::choices_text;
@@ -14,12 +13,11 @@ use crate::depths::depth_of;
 use crate::errors::answer_of;
 use crate::methods::mark_of;
 use crate::scripts::script_representation;
-use crate::templates::{Templates, read};
+use crate::templates::{Templates, reading_at};
 use error_answers::error_answer;
 use get_servlet::{Depth, JsonAnswer, Stream, json_of, stream_of};
 use overlay_merge::{MergedView, is_merged_path, merged, merged_with_kid};
 use resource_tree::{Look, Res, Tree};
-use script_rank::script_text;
 use sp_base::{Answer, ByteBuf, MOST_RENDERED_BYTES, Mark, Mem, Path, TextBuf};
 use std::alloc::Global;
 use url_split::Parts;
@@ -139,8 +137,7 @@ fn default_answer_there(alloc: Global, tree: &Tree, parts: &Parts, res: &Res) ->
     }
 }
 
-// The answer of a resource by the script at a path, or of the default GET servlet where there is no script's text. A script is
-// read once, and its reading kept.
+// The answer of a resource by the script at a path, or of the default GET servlet where there is no script's text.
 fn answer_by_script(
     alloc: Global,
     tree: &Tree,
@@ -151,19 +148,13 @@ fn answer_by_script(
 ) -> Mem<Answer>
     requires kept { AreReadings tree.now templates.old }
     requires seen { IsSeenAlone tree.now parts.now res.now }
-    ensures answer { IfOk result (λ a. a ≡ seen_answer (script_text tree.now script) tree.now parts.now) }
+    ensures answer { IfOk result (λ a. a ≡ seen_answer (script_at tree.now script) tree.now parts.now) }
     ensures kept { AreReadings tree.now templates.new }
 {
-    if let Some(reading) = templates.get(&script) {
-        return script_representation(alloc, reading, res);
+    match reading_at(alloc, tree, templates, &script)? {
+        Some(reading) => script_representation(alloc, tree, templates, &script, &reading, res),
+        None => default_answer_there(alloc, tree, parts, res),
     }
-    let Some(text) = script_text(alloc, tree, &script)? else {
-        return default_answer_there(alloc, tree, parts, res);
-    };
-    let reading = read(alloc, text.text())?;
-    let answer = script_representation(alloc, &reading, res)?;
-    templates.keep(script, reading);
-    Ok(answer)
 }
 
 /// The answer of the resource that the parts of a URL name, as it is seen without its kids: what the script that ranks first for it

@@ -1,58 +1,74 @@
 // Rendering by a script.
 ghost use Rattle.std.specs.Prelude.{◌≡◌, IfOk};
-ghost use Rattle.htl_text.specs.Template.{template_output as written_by};
-ghost use Rattle.publisher.specs.Rendering.{html_kind, mark_of, representation_of, scope_of, script_representation};
+ghost use Rattle.publisher.specs.Kept.{AreReadings};
+ghost use Rattle.publisher.specs.Pages.{page_of, place_of};
+ghost use Rattle.publisher.specs.Rendering.{mark_of, page_answer, script_representation};
 
 use crate::methods::mark_of;
+use crate::page_fault::PageFault;
+use crate::page_text::PageText;
+use crate::pages::write_blocks;
 use crate::representations::representation_of;
-use crate::templates::Reading;
+use crate::setting::Setting;
+use crate::templates::{Reading, Templates};
 use error_answers::error_answer;
-use htl_expr::{Scope, Variables};
-use htl_text::{RenderFault, Template};
-use resource_tree::Res;
-use sp_base::{Answer, Mark, Mem, NoMemory};
+use htl_blocks::Blocks;
+use htl_expr::Variables;
+use resource_tree::{Res, Tree};
+use sp_base::{Answer, Mem, NoMemory, Path};
 use std::alloc::Global;
-use type_chain::type_text;
 
 const HTML_KIND: &str = "text/html;charset=utf-8";
 
-// What a template writes, as a representation; an error where that is too long.
-fn written_representation(
+/// How many scripts and resources may stand one in another, in the script of the page itself.
+const MOST_LEVELS: usize = 16;
+
+// The page that a script's blocks write for a resource.
+fn page_representation(
     alloc: Global,
-    template: &Template,
-    scope: &Scope,
-    mark: Mark,
+    tree: &Tree,
+    templates: &mut Templates,
+    script: &Path,
+    blocks: &Blocks,
+    res: &Res,
 ) -> Mem<Answer>
-    ensures { IfOk result (λ a. a ≡ representation_of html_kind mark (written_by scope.now template.now)) }
+    requires kept { AreReadings tree.now templates.old }
+    ensures answer { IfOk result (λ a. a ≡ page_answer (mark_of res.now) (page_of tree.now (place_of script.now res.now) blocks.now)) }
+    ensures kept { AreReadings tree.now templates.new }
 {
-    match template.render(alloc, scope) {
-        Ok(body) => representation_of(alloc, HTML_KIND, mark, body),
-        Err(RenderFault::TooLong) => error_answer(alloc, 500),
-        Err(RenderFault::NoMemory) => Err(NoMemory),
+    let setting = Setting {
+        tree,
+        script,
+        path: res.path(),
+        props: res.props(),
+        vars: &Variables::None,
+        levels: MOST_LEVELS,
+    };
+    let mut page = PageText::new(alloc);
+    match write_blocks(&mut page, alloc, templates, &setting, blocks) {
+        Ok(()) => representation_of(alloc, HTML_KIND, mark_of(res), page.into_text()),
+        Err(PageFault::Over) => error_answer(alloc, 500),
+        Err(PageFault::NoMemory) => Err(NoMemory),
     }
 }
 
-// What a template writes for a resource.
-fn template_representation(alloc: Global, template: &Template, res: &Res) -> Mem<Answer>
-    ensures { IfOk result (λ a. a ≡ representation_of html_kind (mark_of res.now) (written_by (scope_of res.now) template.now)) }
-{
-    let vars = Variables::None;
-    let scope = Scope {
-        props: res.props(),
-        path: res.path().as_text(),
-        name: res.path().name(),
-        kind: type_text(res.props()),
-        vars: &vars,
-    };
-    written_representation(alloc, template, &scope, mark_of(res))
-}
-
-/// What a script's template writes for a resource; an error where the script is no template.
-pub(crate) fn script_representation(alloc: Global, reading: &Reading, res: &Res) -> Mem<Answer>
-    ensures { IfOk result (λ a. a ≡ script_representation res.now reading.now) }
+/// What a script writes for a resource; an error where the script's text has no reading.
+pub(crate) fn script_representation(
+    alloc: Global,
+    tree: &Tree,
+    templates: &mut Templates,
+    script: &Path,
+    reading: &Reading,
+    res: &Res,
+) -> Mem<Answer>
+    requires kept { AreReadings tree.now templates.old }
+    ensures answer { IfOk result (λ a. a ≡ script_representation tree.now res.now script.now reading.now) }
+    ensures kept { AreReadings tree.now templates.new }
 {
     match reading {
-        Reading::Parsed(template) => template_representation(alloc, template, res),
+        Reading::Parsed(blocks) => {
+            page_representation(alloc, tree, templates, script, blocks.get(), res)
+        }
         Reading::Refused => error_answer(alloc, 500),
     }
 }

@@ -1,4 +1,4 @@
-//! Tests of calls of `htl_expr`, `htl_text` and `htl_blocks`, which are proved apart from these crates.
+//! Tests of calls of `htl_expr`, `htl_text`, `htl_blocks` and `publisher`, which are proved apart from these crates.
 #![tactic(auto)]
 
 #[cfg(test)]
@@ -9,5 +9,9 @@ mod blocks;
 mod expressions;
 #[cfg(test)]
 mod faults;
+#[cfg(test)]
+mod page_limits;
+#[cfg(test)]
+mod pages;
 #[cfg(test)]
 mod variables;

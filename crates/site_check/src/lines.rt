@@ -40,26 +40,23 @@ pub fn push_script_fault(
     push(out, b"fault: ")?;
     push_shown(out, path.as_text().as_bytes())?;
     push(out, b":")?;
+    let (at, what) = told_of(fault);
+    push_placed(alloc, out, text, at, what.as_bytes())
+}
+
+// The place of a script's fault, and what is said of it.
+fn told_of(fault: ScriptFault) -> (usize, &'static str) {
     match fault {
-        ScriptFault::Unclosed(at) => push_placed(
-            alloc,
-            out,
-            text,
+        ScriptFault::Unclosed(at) => (at, "no } closes this expression"),
+        ScriptFault::Unexpected(at) => (at, "no expression goes on with this"),
+        ScriptFault::TooDeep(at) => (at, "an expression nests deeper than 32 levels"),
+        ScriptFault::OpenTag(at) => (at, "this block tag has no > or no end tag"),
+        ScriptFault::BadBlock(at) => (
             at,
-            b"no } closes this expression",
+            "a data-sly- attribute of this tag is none, stands twice, or has no value that can be read",
         ),
-        ScriptFault::Unexpected(at) => {
-            push_placed(alloc, out, text, at, b"no expression goes on with this")
-        }
-        ScriptFault::TooDeep(at) => {
-            push_placed(
-                alloc,
-                out,
-                text,
-                at,
-                b"an expression nests deeper than 32 levels",
-            )
-        }
+        ScriptFault::DeepBlock(at) => (at, "a block tag in 32 others"),
+        ScriptFault::BadTag(at) => (at, "an expression of this tag can't be read"),
     }
 }
 

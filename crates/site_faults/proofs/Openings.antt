@@ -1,22 +1,39 @@
--- Where the expression of a fault opens.
-use Rattle.std.proofs.Common.{◌≡◌, ◌<◌, ◌+◌, ℕ, List, ◌∷◌, length, get_or, ◌∙◌, ap, subst, arith, length-append, get_or-append-add}
+-- Where an expression opens.
+use Rattle.std.proofs.Common.{◌≡◌, ◌<◌, ◌+◌, ◌-◌, ◌&&◌, ℕ, Bool, true, false, List, [], ◌∷◌, length, nat_eq, nat_le, get_or, drop, refl, sym, ◌∙◌, subst, arith}
+use Rattle.std.specs.Prelude.{codes}
+use Rattle.std.specs.List.{starts_with}
 use Rattle.std.specs.Str.{IsCharBoundary, IsUtf8}
+use Rattle.std.proofs.lemmas.Bool.{false≢true}
+use Rattle.std.proofs.lemmas.Bool.Decides.{nat_tests}
+use Rattle.std.proofs.lemmas.List.{get_or-drop, length-drop}
 use Rattle.std.proofs.lemmas.Str.{IsCharBoundary-after_ascii}
-use Rattle.htl_text.specs.Spelling.{IsFirstOpening}
-use Rattle.htl_text.specs.declared.fault.TextFault.TheVariants.{BadExpr}
+use Rattle.site_faults.specs.Scripts.{opens_at}
 
--- how long the text is
-text_length : (t : List ℕ) (place : ℕ) (is : IsFirstOpening (BadExpr place) t) → length t ≡ place + 2 + length is.after_opening
-text_length t place is =
-    let long : length t ≡ length is.prefix + length (36 ∷ 123 ∷ is.after_opening) = ap length is.parts ∙ length-append is.prefix (36 ∷ 123 ∷ is.after_opening) in
-    let at : place ≡ length is.prefix = is.faulty.0 in
-    omega (arith, long, at)
+second : (a b : Bool) → (a && b) ≡ true → b ≡ true
+second true b e = e
+second false b e = absurd (false≢true e)
+
+-- a text that begins with an opening has a brace behind its first byte
+brace_after : (s : List ℕ) → starts_with nat_eq s (codes "${") ≡ true → (1 < length s) × (get_or s 1 0 ≡ 123)
+brace_after [] e = absurd (false≢true e)
+brace_after (a ∷ []) e = absurd (short (nat_eq 36 a) e)
+  where
+    short : (b : Bool) → (b && false) ≡ true → ⊥
+    short true e = false≢true e
+    short false e = false≢true e
+brace_after (a ∷ b ∷ s) e = (omega arith, is_brace (nat_eq 36 a) (nat_eq 123 b) refl e)
+  where
+    is_brace : (x y : Bool) → nat_eq 123 b ≡ y → (x && (y && true)) ≡ true → b ≡ 123
+    is_brace true true same e = grind (arith, nat_tests)
+    is_brace true false same e = absurd (false≢true e)
+    is_brace false y same e = absurd (false≢true e)
 
 -- a text can be cut after the `${`
-pub opening_boundary : (t : List ℕ) (place : ℕ) → IsUtf8 t → IsFirstOpening (BadExpr place) t → IsCharBoundary t (place + 2)
-opening_boundary t place utf8 is =
-    let at : place ≡ length is.prefix = is.faulty.0 in
-    let long = text_length t place is in
-    let brace : get_or t (length is.prefix + 1) 0 ≡ 123 = ap (λ l. get_or l (length is.prefix + 1) 0) is.parts ∙ get_or-append-add is.prefix (36 ∷ 123 ∷ is.after_opening) 1 0 in
-    let here : IsCharBoundary t (length is.prefix + 1 + 1) = IsCharBoundary-after_ascii t (length is.prefix + 1) utf8 (omega (arith, long, at)) (omega (arith, brace)) in
-    subst (IsCharBoundary t) (omega (arith, at)) here
+pub opening_boundary : (t : List ℕ) (place : ℕ) → IsUtf8 t → opens_at t place ≡ true → IsCharBoundary t (place + 2)
+opening_boundary t place utf8 opens =
+    let is = brace_after (drop place t) (second (nat_le place (length t)) (starts_with nat_eq (drop place t) (codes "${")) opens) in
+    let left : length (drop place t) ≡ length t - place = length-drop place t in
+    let brace : get_or t (place + 1) 0 ≡ 123 = sym (get_or-drop place t 1 0) ∙ is.1 in
+    let within = is.0 in
+    let here : IsCharBoundary t (place + 1 + 1) = IsCharBoundary-after_ascii t (place + 1) utf8 (omega (arith, within, left)) (omega (arith, brace)) in
+    subst (IsCharBoundary t) (omega arith) here

@@ -11,6 +11,10 @@ abbrev pub script_fault_text : ScriptFault → List ℕ
 script_fault_text (script.Unclosed at) = codes "Unclosed at " ++ decimal at
 script_fault_text (script.Unexpected at) = codes "Unexpected at " ++ decimal at
 script_fault_text (script.TooDeep at) = codes "TooDeep at " ++ decimal at
+script_fault_text (script.OpenTag at) = codes "OpenTag at " ++ decimal at
+script_fault_text (script.BadBlock at) = codes "BadBlock at " ++ decimal at
+script_fault_text (script.DeepBlock at) = codes "DeepBlock at " ++ decimal at
+script_fault_text (script.BadTag at) = codes "BadTag at " ++ decimal at
 
 -- by its name, and with its place in the text
 abbrev pub match_fault_text : MatchFault → List ℕ

@@ -1,7 +1,8 @@
--- The scripts of a content whose texts are no templates (HTL specification 1.4, "Expression Language"), each with the first byte that is wrong.
-use Rattle.std.specs.Prelude.{◌≡◌, ◌+◌, ◌&&◌, ◌||◌, ℕ, Bool, false, if◌then◌else◌, nat_eq, List, Option, Some, None, option_and_then, Result, Ok, Err, codes, drop, slice_get}
+-- The scripts of a content whose texts have no reading (HTL specification 1.4, "Expression Language" and "Block Statements"), each with what is wrong
+-- first in it.
+use Rattle.std.specs.Prelude.{◌≡◌, ◌+◌, ◌&&◌, ◌||◌, ℕ, Bool, false, if◌then◌else◌, nat_eq, nat_le, List, Option, Some, None, option_and_then, Result, Ok, Err, codes, drop, length, slice_get}
 use Rattle.std.specs.Cmp.Lexicographic.{pointwise}
-use Rattle.std.specs.List.{ends_with}
+use Rattle.std.specs.List.{ends_with, starts_with}
 use Rattle.std.specs.List.Sorted.{IsStrictlySortedBy}
 use Rattle.std.specs.Map.{lookup, keys_of}
 use Rattle.sp_base.specs.Texts.{Segments}
@@ -12,12 +13,14 @@ use Rattle.htl_syntax.specs.Fault.{expression_of}
 use Rattle.htl_syntax.specs.declared.expression.Expression.{Expression}
 use Rattle.htl_syntax.specs.declared.expression.ExprFault.{ExprFault}
 use Rattle.htl_syntax.specs.declared.expression.ExprFault.TheVariants as expression
-use Rattle.htl_text.specs.Template.{template_of}
 use Rattle.htl_text.specs.declared.fault.TextFault.{TextFault}
 use Rattle.htl_text.specs.declared.fault.TextFault.TheVariants as text
-use Rattle.htl_text.specs.declared.piece.TemplatePiece.{TemplatePiece}
+use Rattle.htl_blocks.specs.declared.block.Block.{Block}
+use Rattle.htl_blocks.specs.declared.fault.BlockFault.{BlockFault}
+use Rattle.htl_blocks.specs.declared.fault.BlockFault.TheVariants as block
+use Rattle.htl_blocks.specs.Reading.{blocks_of}
 use Rattle.site_faults.specs.declared.script_fault.ScriptFault.{ScriptFault}
-use Rattle.site_faults.specs.declared.script_fault.ScriptFault.TheVariants.{Unclosed, Unexpected, TooDeep}
+use Rattle.site_faults.specs.declared.script_fault.ScriptFault.TheVariants.{Unclosed, Unexpected, TooDeep, OpenTag, BadBlock, DeepBlock, BadTag}
 
 -- ---- the fault of a text
 
@@ -32,16 +35,36 @@ expression_fault place (Err (expression.TooDeep at)) = TooDeep (place + 2 + at)
 expression_fault place (Err expression.NoMemory) = Unexpected place
 expression_fault place (Ok e) = Unexpected place
 
--- what is wrong with a text of which this was read
-abbrev pub fault_of_reading : List ℕ → Result (List TemplatePiece) TextFault → Option ScriptFault
-fault_of_reading t (Ok pieces) = None
-fault_of_reading t (Err (text.Unclosed place)) = Some (Unclosed place)
-fault_of_reading t (Err (text.BadExpr place)) = Some (expression_fault place (expression_of (after_opening t place)))
-fault_of_reading t (Err text.NoMemory) = None
+-- an expression opens at a place
+abbrev pub opens_at : List ℕ → ℕ → Bool
+opens_at t place = nat_le place (length t) && starts_with nat_eq (drop place t) (codes "${")
 
--- what is wrong with a text, where it is no template
+-- what is wrong where an expression that opens at a place isn't closed, or else one of the tag there
+abbrev pub unclosed_fault : List ℕ → ℕ → ScriptFault
+unclosed_fault t place = if opens_at t place then Unclosed place else BadTag place
+
+-- what is wrong with the expression that opens at a place, or else with one of the tag there
+abbrev pub read_fault : List ℕ → ℕ → ScriptFault
+read_fault t place = if opens_at t place then expression_fault place (expression_of (after_opening t place)) else BadTag place
+
+-- what is wrong with a script of which this is told of a template: at the expression, or at the tag in which it stands
+abbrev pub fault_of_template : List ℕ → TextFault → Option ScriptFault
+fault_of_template t (text.Unclosed place) = Some (unclosed_fault t place)
+fault_of_template t (text.BadExpr place) = Some (read_fault t place)
+fault_of_template t text.NoMemory = None
+
+-- what is wrong with a script as which this was read
+abbrev pub fault_of_reading : List ℕ → Result (List Block) BlockFault → Option ScriptFault
+fault_of_reading t (Ok blocks) = None
+fault_of_reading t (Err (block.OpenTag place)) = Some (OpenTag place)
+fault_of_reading t (Err (block.BadBlock place)) = Some (BadBlock place)
+fault_of_reading t (Err (block.TooDeep place)) = Some (DeepBlock place)
+fault_of_reading t (Err (block.Text fault)) = fault_of_template t fault
+fault_of_reading t (Err block.NoMemory) = None
+
+-- what is wrong first with a script's text, where it has no reading
 abbrev pub fault_of_text : List ℕ → Option ScriptFault
-fault_of_text t = fault_of_reading t (template_of t)
+fault_of_text t = fault_of_reading t (blocks_of t)
 
 -- ---- the faults of a content
 
@@ -54,11 +77,11 @@ is_search_top (Some top) = pointwise nat_eq top (codes "apps") || pointwise nat_
 abbrev pub is_script_path : Segments → Bool
 is_script_path path = is_search_top (slice_get path 0) && ends_with nat_eq (name_of path) (codes ".html")
 
--- what is wrong with the script at a path, where one is there whose text is no template
+-- what is wrong with the script at a path, where one is there whose text has no reading
 abbrev pub script_fault_at : Content → Segments → Option ScriptFault
 script_fault_at tree path = if is_script_path path && is_script tree path then option_and_then fault_of_text (script_text tree path) else None
 
--- Each script whose text is no template is told with what is wrong, and nothing else is, in the order of the paths.
+-- Each script whose text has no reading is told with what is wrong, and nothing else is, in the order of the paths.
 pub record AreScriptFaults (tree : Content) (told : List (Segments × ScriptFault)) : Type 0 where
   pub ordered : IsStrictlySortedBy by_path (keys_of told)
   pub each : (path : Segments) → lookup (same_path path) told ≡ script_fault_at tree path

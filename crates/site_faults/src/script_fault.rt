@@ -1,18 +1,17 @@
-//! What is wrong with a text that is no template.
-ghost use Rattle.std.specs.Prelude.{◌≡◌, IfOk, Some};
+//! What is wrong with a script's text that has no reading.
+ghost use Rattle.std.specs.Prelude.{◌≡◌, IfOk, Some, true};
 ghost use Rattle.site_faults.specs.FaultTexts.{script_fault_text};
 ghost use Rattle.htl_syntax.specs.Fault.{expression_of};
-ghost use Rattle.htl_text.specs.Spelling.{IsFirstOpening};
-ghost use Rattle.htl_text.specs.declared.fault.TextFault.TheVariants.{BadExpr};
 ghost use Rattle.site_faults.specs.Scripts as spec;
 
+use htl_blocks::{BlockFault, Blocks};
 use htl_syntax::{ExprFault, Expression};
-use htl_text::{Template, TextFault, the_pieces_are_the_text};
+use htl_text::TextFault;
 use sp_base::{Mem, NoMemory};
 use std::alloc::Global;
 use std::fmt;
 
-/// What is wrong with the first expression of a text that can't be read. Places are counted in bytes from 0.
+/// What is wrong first in a text that can't be read as a script. Places are counted in bytes from 0; that of a tag is the place of its `<`.
 #[derive(Clone, Copy, PartialEq, Eq, Drop)]
 pub enum ScriptFault {
     /// No `}` outside quotes closes the expression whose `$` is here.
@@ -21,6 +20,14 @@ pub enum ScriptFault {
     Unexpected(usize),
     /// The bracket, `!` or `?` here would nest deeper than 32.
     TooDeep(usize),
+    /// The block tag here has no `>`, or no end tag.
+    OpenTag(usize),
+    /// A `data-sly-` attribute of the tag here is none, stands twice, or has a value without a reading.
+    BadBlock(usize),
+    /// The block tag here stands in 32 others.
+    DeepBlock(usize),
+    /// What is left of the block tag here has an expression that can't be read.
+    BadTag(usize),
 }
 
 impl fmt::Display for ScriptFault {
@@ -31,13 +38,25 @@ impl fmt::Display for ScriptFault {
             ScriptFault::Unclosed(at) => write!(f, "Unclosed at {at}"),
             ScriptFault::Unexpected(at) => write!(f, "Unexpected at {at}"),
             ScriptFault::TooDeep(at) => write!(f, "TooDeep at {at}"),
+            ScriptFault::OpenTag(at) => write!(f, "OpenTag at {at}"),
+            ScriptFault::BadBlock(at) => write!(f, "BadBlock at {at}"),
+            ScriptFault::DeepBlock(at) => write!(f, "DeepBlock at {at}"),
+            ScriptFault::BadTag(at) => write!(f, "BadTag at {at}"),
         }
     }
 }
 
+// Whether an expression opens at a place.
+fn opens_at(text: &str, place: usize) -> bool
+    ensures { result ≡ spec.opens_at text.now place }
+{
+    let bytes = text.as_bytes();
+    place <= bytes.len() && bytes.split_at(place).1.starts_with(b"${")
+}
+
 // The text after the `${` at a place.
 fn after_opening(text: &str, place: usize) -> &str
-    requires { IsFirstOpening (BadExpr place) text.now }
+    requires { spec.opens_at text.now place ≡ true }
     ensures { result.now ≡ spec.after_opening text.now place }
 {
     text.split_at(place + 2).1
@@ -45,7 +64,7 @@ fn after_opening(text: &str, place: usize) -> &str
 
 // What is wrong with the expression that opens at a place.
 fn expression_fault(alloc: Global, text: &str, place: usize) -> Mem<ScriptFault>
-    requires { IsFirstOpening (BadExpr place) text.now }
+    requires { spec.opens_at text.now place ≡ true }
     ensures { IfOk result (λ fault. fault ≡ spec.expression_fault place (expression_of (spec.after_opening text.now place))) }
 {
     match Expression::read(alloc, after_opening(text, place)) {
@@ -56,15 +75,49 @@ fn expression_fault(alloc: Global, text: &str, place: usize) -> Mem<ScriptFault>
     }
 }
 
-/// What is wrong with a text, where it is no template.
+// What is wrong where something opens at a place that nothing closes: an expression, or else one of the tag there.
+fn unclosed_fault(text: &str, place: usize) -> ScriptFault
+    ensures { result ≡ spec.unclosed_fault text.now place }
+{
+    if opens_at(text, place) {
+        ScriptFault::Unclosed(place)
+    } else {
+        ScriptFault::BadTag(place)
+    }
+}
+
+// What is wrong with the expression that opens at a place, or else with one of the tag there.
+fn read_fault(alloc: Global, text: &str, place: usize) -> Mem<ScriptFault>
+    ensures { IfOk result (λ fault. fault ≡ spec.read_fault text.now place) }
+{
+    if opens_at(text, place) {
+        expression_fault(alloc, text, place)
+    } else {
+        Ok(ScriptFault::BadTag(place))
+    }
+}
+
+// What is wrong with the script of which this was told of a template.
+fn template_fault(alloc: Global, text: &str, fault: TextFault) -> Mem<Option<ScriptFault>>
+    ensures { IfOk result (λ told. told ≡ spec.fault_of_template text.now fault) }
+{
+    match fault {
+        TextFault::Unclosed(place) => Ok(Some(unclosed_fault(text, place))),
+        TextFault::BadExpr(place) => Ok(Some(read_fault(alloc, text, place)?)),
+        TextFault::NoMemory => Err(NoMemory),
+    }
+}
+
+/// What is wrong first with a script's text, where it has no reading.
 pub fn text_fault(alloc: Global, text: &str) -> Mem<Option<ScriptFault>>
     ensures { IfOk result (λ fault. fault ≡ spec.fault_of_text text.now) }
 {
-    the_pieces_are_the_text();
-    match Template::read(alloc, text) {
+    match Blocks::read(alloc, text) {
         Ok(_) => Ok(None),
-        Err(TextFault::Unclosed(place)) => Ok(Some(ScriptFault::Unclosed(place))),
-        Err(TextFault::BadExpr(place)) => Ok(Some(expression_fault(alloc, text, place)?)),
-        Err(TextFault::NoMemory) => Err(NoMemory),
+        Err(BlockFault::OpenTag(place)) => Ok(Some(ScriptFault::OpenTag(place))),
+        Err(BlockFault::BadBlock(place)) => Ok(Some(ScriptFault::BadBlock(place))),
+        Err(BlockFault::TooDeep(place)) => Ok(Some(ScriptFault::DeepBlock(place))),
+        Err(BlockFault::Text(fault)) => template_fault(alloc, text, fault),
+        Err(BlockFault::NoMemory) => Err(NoMemory),
     }
 }

@@ -1,4 +1,4 @@
-//! The scripts of a content whose texts are no templates.
+//! The scripts of a content whose texts have no reading.
 ghost use Rattle.std.specs.Prelude.{◌≡◌, IfOk, OnOk, option_copied};
 ghost use Rattle.site_faults.specs.Scripts as spec;
 ghost use Rattle.site_faults.specs.Scripts.{AreScriptFaults};
@@ -31,7 +31,7 @@ fn is_search_top(top: Option<&str>) -> bool
     }
 }
 
-// What is wrong with the script at a path, where one is there whose text is no template.
+// What is wrong with the script at a path, where one is there whose text has no reading.
 fn script_fault(alloc: Global, tree: &Tree, path: &Path) -> Mem<Option<ScriptFault>>
     ensures { IfOk result (λ fault. fault ≡ spec.script_fault_at tree.now path.now) }
 {
@@ -44,7 +44,7 @@ fn script_fault(alloc: Global, tree: &Tree, path: &Path) -> Mem<Option<ScriptFau
     }
 }
 
-// Tells the script at a path, where its text is no template.
+// Tells the script at a path, where its text has no reading.
 fn tell_script(told: &mut ScriptFaults, alloc: Global, tree: &Tree, path: &Path) -> Mem<()>
     ensures { OnOk result (Tells tree.now path.now told.old.entries told.new.entries) }
 {
@@ -54,7 +54,7 @@ fn tell_script(told: &mut ScriptFaults, alloc: Global, tree: &Tree, path: &Path)
     Ok(())
 }
 
-/// Each script whose text is no template, with what is wrong with it, in the order of the paths.
+/// Each script whose text has no reading, with what is wrong with it, in the order of the paths.
 pub fn script_faults(alloc: Global, tree: &Tree) -> Mem<ScriptFaults>
     ensures { IfOk result (λ told. AreScriptFaults tree.now told.entries) }
 {

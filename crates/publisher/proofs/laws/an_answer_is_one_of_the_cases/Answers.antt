@@ -19,8 +19,8 @@ returns c =
       first = λ res parts. c.search_finds_the_first.ensures.first tree (chain_of tree res.props) parts;
       none = λ res parts. c.search_finds_the_first.ensures.none tree (chain_of tree res.props) parts;
       one = λ res parts. c.one_script_is_first.ensures tree (chain_of tree res.props) parts;
-      spelled = c.the_pieces_are_the_text.ensures.found;
-      spelled_only = c.the_pieces_are_the_text.ensures.only;
+      spelled = c.the_blocks_are_the_text.ensures.found;
+      spelled_only = c.the_blocks_are_the_text.ensures.only;
       over = λ res depth most. c.over_is_the_greatest_depth.ensures (seen_resources tree) res depth most_rendered_bytes most;
     } in
     record {

@@ -1,0 +1,169 @@
+-- A page: what a script writes for a resource, with what the scripts and resources write that are put in, one in another
+-- (HTML Template Language specification 1.4, "Block Statements", include and resource).
+use Rattle.std.specs.Prelude.{ℕ, zero, suc, ◌+◌, Bool, true, false, nat_lt, nat_eq, ◌||◌, if◌then◌else◌, List, [], ◌∷◌, ◌++◌, codes, Option, Some, None, option_and_then}
+use Rattle.std.specs.List.{ends_with}
+use Rattle.std.specs.Result.{result_ok}
+use Rattle.sp_base.specs.Bytes.{begins_with_byte}
+use Rattle.sp_base.specs.Paths.{child_of, name_of, parent_of, path_of, text_of}
+use Rattle.sp_base.specs.Texts.{Pairs, Properties, Segments, Text}
+use Rattle.resource_tree.specs.Content.{Content}
+use Rattle.resource_tree.specs.Seen.{Resource}
+use Rattle.overlay_merge.specs.Merged.{merged_resource}
+use Rattle.url_split.specs.declared.decompose.Parts.{Parts}
+use Rattle.type_chain.specs.Chain.{chain_of, type_text}
+use Rattle.script_rank.specs.Ranking.{script_text}
+use Rattle.script_rank.specs.Search.{search_result as first_script}
+use Rattle.htl_expr.specs.Bindings.{Bindings}
+use Rattle.htl_blocks.specs.declared.block.Block.{Block}
+use Rattle.htl_blocks.specs.Parts.{Part, Byte, Round, Script, Resource as ResourcePart}
+use Rattle.htl_blocks.specs.Reading.{blocks_of}
+use Rattle.htl_blocks.specs.Refused.{most_inclusions, most_rounds}
+use Rattle.htl_blocks.specs.Written.{blocks_parts}
+
+-- ---- where scripts stand
+
+-- where a script stands: its path, and the path and the properties of the resource that it is for
+pub record Place : Type 0 where
+  pub script : Segments
+  pub path : Segments
+  pub props : Properties
+
+-- a script for a resource
+abbrev pub place_of : Segments → Resource → Place
+place_of script res = record { script = script; path = res.path; props = res.props }
+
+-- what the expressions of a place see, with variables
+abbrev pub bindings_at : Place → Pairs → Bindings
+bindings_at place vars = record { props = place.props; path = text_of place.path; name = name_of place.path; kind = type_text place.props; vars = vars }
+
+-- a place, and what a script writes there
+pub record Written : Type 0 where
+  pub place : Place
+  pub parts : List Part
+
+-- the same of blocks that may not be there
+abbrev pub written_at : Place → Pairs → Option (List Block) → Option Written
+written_at place vars None = None
+written_at place vars (Some blocks) = Some (record { place = place; parts = blocks_parts (bindings_at place vars) blocks })
+
+-- the name is one of a script
+abbrev pub is_script_name : Text → Bool
+is_script_name name = ends_with nat_eq name (codes ".html")
+
+-- the blocks of a text that has a reading
+abbrev pub readable_blocks : Text → Option (List Block)
+readable_blocks text = result_ok (blocks_of text)
+
+-- the blocks of the script at a path, if one is there and has a reading
+unfoldable pub script_blocks : Content → Segments → Option (List Block)
+script_blocks tree path = if is_script_name (name_of path) then option_and_then readable_blocks (script_text tree path) else None
+
+-- what the script of a place writes there with variables, if it is there and has a reading
+abbrev pub written_by_script : Content → Place → Pairs → Option Written
+written_by_script tree place vars = written_at place vars (script_blocks tree place.script)
+
+-- ---- what is put in
+
+-- the path that a name stands for: the one that it spells, where it begins with a slash, or else the one below a folder
+unfoldable pub path_named : Segments → Text → Option Segments
+path_named folder name = result_ok (if begins_with_byte 47 name then path_of name else child_of folder name)
+
+-- a script on the resource of a place, with variables
+abbrev pub included_script : Content → Place → Pairs → Option Segments → Option Written
+included_script tree place vars None = None
+included_script tree place vars (Some script) = written_by_script tree (record place { script = script }) vars
+
+-- a URL that asks for the resource at a path with the extension html
+abbrev pub html_parts : Segments → Parts
+html_parts path = record { path = path; selectors = []; extension = codes "html"; suffix = [] }
+
+-- a resource by a script, without variables
+abbrev pub resource_by : Content → Resource → Option Segments → Option Written
+resource_by tree res None = None
+resource_by tree res (Some script) = written_by_script tree (place_of script res) []
+
+-- what is seen at a path, by the script that ranks first for it with the extension html
+abbrev pub shown_resource : Content → Option Resource → Option Written
+shown_resource tree None = None
+shown_resource tree (Some res) = resource_by tree res (first_script tree (chain_of tree res.props) (html_parts res.path))
+
+-- the resource at a path
+abbrev pub included_resource : Content → Option Segments → Option Written
+included_resource tree None = None
+included_resource tree (Some path) = shown_resource tree (merged_resource tree path)
+
+-- What a part puts in at a place, if there is something to put in. A script's name is one below the folder of the script that names it, a
+-- resource's one below the resource.
+abbrev pub put_in : Content → Place → Part → Option Written
+put_in tree place (Byte c) = None
+put_in tree place Round = None
+put_in tree place (Script name vars) = included_script tree place vars (path_named (parent_of place.script) name)
+put_in tree place (ResourcePart name) = included_resource tree (path_named place.path name)
+
+-- ---- what a page gathers
+
+-- its text; how many scripts and resources were to be put in; how often the contents of lists stood; and whether something was to be put
+-- in where nothing may be any more
+pub record Page : Type 0 where
+  pub text : Text
+  pub inclusions : ℕ
+  pub rounds : ℕ
+  pub is_deep : Bool
+
+-- nothing
+abbrev pub blank : Page
+blank = record { text = []; inclusions = 0; rounds = 0; is_deep = false }
+
+-- a text
+abbrev pub text_page : Text → Page
+text_page text = record { text = text; inclusions = 0; rounds = 0; is_deep = false }
+
+-- contents of lists, by themselves
+abbrev pub rounds_page : ℕ → Page
+rounds_page rounds = record { text = []; inclusions = 0; rounds = rounds; is_deep = false }
+
+-- something that is to be put in, by itself
+abbrev pub one_inclusion : Page
+one_inclusion = record { text = []; inclusions = 1; rounds = 0; is_deep = false }
+
+-- what is to be put in where nothing may be any more
+abbrev pub too_deep : Page
+too_deep = record { text = []; inclusions = 0; rounds = 0; is_deep = true }
+
+-- one after the other
+abbrev pub joined : Page → Page → Page
+joined a b = record { text = a.text ++ b.text; inclusions = a.inclusions + b.inclusions; rounds = a.rounds + b.rounds; is_deep = a.is_deep || b.is_deep }
+
+-- what a part gives, where this is given for what it puts in
+abbrev pub part_page : (Part → Page) → Part → Page
+part_page inclusion (Byte c) = text_page (c ∷ [])
+part_page inclusion Round = rounds_page 1
+part_page inclusion (Script name vars) = joined one_inclusion (inclusion (Script name vars))
+part_page inclusion (ResourcePart name) = joined one_inclusion (inclusion (ResourcePart name))
+
+-- what parts give, one after another
+unfoldable pub parts_page : (Part → Page) → List Part → Page
+parts_page inclusion [] = blank
+parts_page inclusion (p ∷ ps) = joined (part_page inclusion p) (parts_page inclusion ps)
+
+-- what is put in, whose own parts stand at its own place; where there is nothing to put in, nothing stands
+abbrev pub written_page : (Place → Part → Page) → Option Written → Page
+written_page inner None = blank
+written_page inner (Some written) = parts_page (inner written.place) written.parts
+
+-- what stands for a part that puts something in, where so many scripts and resources may still stand one in another
+unfoldable pub inclusion : Content → ℕ → Place → Part → Page
+inclusion tree zero place p = too_deep
+inclusion tree (suc levels) place p = written_page (inclusion tree levels) (put_in tree place p)
+
+-- how many scripts and resources may stand one in another, in the script of the page itself
+abbrev pub most_levels : ℕ
+most_levels = 16
+
+-- the page of a script at a place, which has these blocks and sees no variables
+abbrev pub page_of : Content → Place → List Block → Page
+page_of tree place blocks = parts_page (inclusion tree most_levels place) (blocks_parts (bindings_at place []) blocks)
+
+-- something was to be put in too deep, too much was put in, or the contents of lists stood too often
+abbrev pub is_over : Page → Bool
+is_over page = page.is_deep || (nat_lt most_inclusions page.inclusions || nat_lt most_rounds page.rounds)

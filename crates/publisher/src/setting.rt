@@ -1,0 +1,34 @@
+// Where a script stands while a page is put together.
+
+ghost use Rattle.std.specs.Prelude.{◌≡◌};
+ghost use Rattle.publisher.specs.Gathering.{bindings_in};
+
+use htl_expr::{Scope, Variables};
+use resource_tree::Tree;
+use sp_base::{Path, PropList};
+use type_chain::type_text;
+
+/// What a script is written in: the tree, the script's path, the path and the properties of the resource, the variables, and how many
+/// scripts and resources may still stand one in another.
+#[derive(Clone, Copy, Drop)]
+pub(crate) struct Setting<'p> {
+    pub(crate) tree: &'p Tree,
+    pub(crate) script: &'p Path,
+    pub(crate) path: &'p Path,
+    pub(crate) props: &'p PropList,
+    pub(crate) vars: &'p Variables<'p>,
+    pub(crate) levels: usize,
+}
+
+/// What the expressions of the script see.
+pub(crate) fn scope_in<'p>(setting: &Setting<'p>) -> Scope<'p>
+    ensures { result ≡ bindings_in setting.now }
+{
+    Scope {
+        props: setting.props,
+        path: setting.path.as_text(),
+        name: setting.path.name(),
+        kind: type_text(setting.props),
+        vars: setting.vars,
+    }
+}

@@ -76,12 +76,12 @@ LeftByDrop old new key = (asked : Option (List Call)) × ((made : Option (List C
 -- ---- whatever is put, and however a put fails
 
 -- this is so of all files, and of each answer that is put with a stamp under a key
-abbrev pub WhateverIsPut : (Files → PageKey → Stamp → Answer → Type 0) → Type 0
-WhateverIsPut IsSo = (files : Files) (key : PageKey) (stamp : Stamp) (answer : Answer) → IsSo files key stamp answer
+abbrev pub OfEachPut : (Files → PageKey → Stamp → Answer → Type 0) → Type 0
+OfEachPut IsSo = (files : Files) (key : PageKey) (stamp : Stamp) (answer : Answer) → IsSo files key stamp answer
 
 -- this is so of the files before and after
-abbrev pub HoweverItIsPut : (Files → Files → PageKey → Stamp → Answer → Type 0) → Type 0
-HoweverItIsPut IsSo = (files new : Files) (key : PageKey) (stamp : Stamp) (answer : Answer) → IsSo files new key stamp answer
+abbrev pub OfEachChangeByPut : (Files → Files → PageKey → Stamp → Answer → Type 0) → Type 0
+OfEachChangeByPut IsSo = (files new : Files) (key : PageKey) (stamp : Stamp) (answer : Answer) → IsSo files new key stamp answer
 
 -- bytes that are written as the stamp of a folder change no page
 abbrev pub StampKeepsPages : Files → Segments → Text → Type 0

@@ -1,16 +1,17 @@
 -- The stamps that the files of the docroot hold, beside the number of the session.
-use Rattle.std.specs.Prelude.{◌≡◌, ◌⊎◌, ◌≤◌, ◌<◌, ◌^◌, IsTrue, Some, option_and_then, ℕ}
+use Rattle.std.specs.Prelude.{◌≡◌, ◌⊎◌, ◌≤◌, ◌<◌, ◌^◌, IsTrue, Some, option_and_then}
 use Rattle.std.specs.List.{AllByRecursion}
 use Rattle.sp_base.specs.Bytes.{AreBytes}
 use Rattle.sp_base.specs.Paths.{is_path}
 use Rattle.sp_base.specs.Texts.{Segments}
 use Rattle.sp_base.specs.declared.answer.Answer.{Answer}
-use Rattle.sp_outside.specs.Files.{Files, file_at}
+use Rattle.sp_outside.specs.Files.{Files, file_at, with_file}
 use Rattle.cover_rules.specs.Pages.{IsPageKey}
 use Rattle.cover_rules.specs.declared.page.PageKey.{PageKey}
 use Rattle.cover_rules.specs.declared.stamp.Stamp.{Stamp}
 use Rattle.docroot_format.specs.Names.{stat_name}
 use Rattle.docroot_format.specs.Readings.{stat_of}
+use Rattle.docroot_format.specs.Texts.{stat_text}
 use Rattle.cache_files.specs.declared.head_note.HeadNote.{HeadNote}
 use Rattle.cache_files.specs.Epochs.{epoch_held}
 use Rattle.cache_files.specs.Pages.{IsPagePut, head_at}
@@ -54,6 +55,6 @@ abbrev pub FailedPutsKeepOrder : Type 0
 FailedPutsKeepOrder = (files new : Files) (key : PageKey) (stamp : Stamp) (answer : Answer) → IsSessionPut files key stamp answer → LeftByPut files new key stamp answer
     → KeepsOrder files new
 
--- the number is above that of the stamp, where the files hold it
-abbrev pub IsAboveHeld : Files → ℕ → Stamp → Type 0
-IsAboveHeld files epoch stamp = HoldsStamp files stamp → stamp.epoch < epoch
+-- with the stamp of a folder written over them, the files hold no stamp later than the session, where they held none
+abbrev pub KeepsOrderWithStamp : Files → Segments → Stamp → Type 0
+KeepsOrderWithStamp files folder stamp = KeepsOrder files (with_file files (stat_name folder) (stat_text stamp.epoch stamp.count))

@@ -10,7 +10,7 @@ ghost use Rattle.docroot_format.specs.Texts.{epoch_text};
 ghost use Rattle.cover_rules.specs.Pages.{IsPageKey};
 ghost use Rattle.cover_rules.specs.declared.page.PageKey.{PageKey};
 ghost use Rattle.cover_rules.specs.declared.stamp.Stamp.{Stamp};
-ghost use Rattle.cache_files.specs.Changes.{HasNoPage, HasPage, IsOldNoneOrNew, IsOldOrNone, KeepsFiles, KeepsOtherPages, KeepsPages, KeepsStamps, LeftByDrop, LeftByDryPut, LeftByPut, StampKeepsPages, StampKeepsEpoch, files_amid_put, HasOldPageOrNone, HasOldHeadOrNone, KeepsPageBeside, HoweverItIsPut, WhateverIsPut};
+ghost use Rattle.cache_files.specs.Changes.{HasNoPage, HasPage, IsOldNoneOrNew, IsOldOrNone, KeepsFiles, KeepsOtherPages, KeepsPages, KeepsStamps, LeftByDrop, LeftByDryPut, LeftByPut, StampKeepsPages, StampKeepsEpoch, files_amid_put, HasOldPageOrNone, HasOldHeadOrNone, KeepsPageBeside, OfEachChangeByPut, OfEachPut};
 ghost use Rattle.cache_files.specs.Epochs.{epoch_held, greatest_epoch, next_epoch};
 ghost use Rattle.cache_files.specs.Pages.{IsPagePut, files_with_page, files_without_page, head_at, known_at, page_at, page_body_name, page_head_name};
 
@@ -19,7 +19,7 @@ use sp_outside::files_have_names;
 
 /// A page that was put is the page of its key, with an empty location, and its head says so.
 pub fn a_page_is_read_back()
-    ensures { WhateverIsPut (λ files key stamp answer. IsPagePut stamp answer → HasPage (files_with_page files key stamp answer) key stamp answer) }
+    ensures { OfEachPut (λ files key stamp answer. IsPagePut stamp answer → HasPage (files_with_page files key stamp answer) key stamp answer) }
 {
     files_have_names();
     texts_are_read_back();
@@ -33,7 +33,7 @@ pub fn a_page_is_its_head_and_its_body()
 /// A page is there as it was while another is put, and while another is dropped, and one that was dropped isn't there. The same is true
 /// of the heads of pages.
 pub fn pages_have_files_of_their_own()
-    ensures put { WhateverIsPut (λ files key stamp answer. IsPageKey key → KeepsOtherPages files (files_with_page files key stamp answer) key) }
+    ensures put { OfEachPut (λ files key stamp answer. IsPageKey key → KeepsOtherPages files (files_with_page files key stamp answer) key) }
     ensures dropped { (files : Files) (key : PageKey) → HasNoPage (files_without_page files key) key }
     ensures beside { (files : Files) (key : PageKey) → IsPageKey key → KeepsOtherPages files (files_without_page files key) key }
 {
@@ -45,7 +45,7 @@ pub fn pages_have_files_of_their_own()
 /// Bytes that are written as a folder's stamp or as the number change no page, and such a stamp not the number. Neither does a removal
 /// of another file than that of the number.
 pub fn pages_stand_apart()
-    ensures put { WhateverIsPut (λ files key stamp answer. IsPageKey key → KeepsStamps files (files_with_page files key stamp answer)) }
+    ensures put { OfEachPut (λ files key stamp answer. IsPageKey key → KeepsStamps files (files_with_page files key stamp answer)) }
     ensures dropped { (files : Files) (key : PageKey) → IsPageKey key → KeepsStamps files (files_without_page files key) }
     ensures touched { (files : Files) (folder : Segments) (bytes : Text) → AllByRecursion AreBytes folder → StampKeepsPages files folder bytes }
     ensures numbered { (files : Files) (bytes : Text) → KeepsPages files (with_file files epoch_name bytes) }
@@ -82,10 +82,10 @@ pub fn a_removal_leaves_pages_or_none()
 /// A put that failed leaves the old page, no page, or the new one, and each other page, each stamp, the number of the session and each
 /// other file as it was.
 pub fn a_failed_put_leaves_whole_pages()
-    ensures page { HoweverItIsPut (λ files new key stamp answer. LeftByPut files new key stamp answer → IsOldNoneOrNew files new key stamp answer) }
-    ensures others { HoweverItIsPut (λ files new key stamp answer. IsPageKey key → LeftByPut files new key stamp answer → KeepsOtherPages files new key) }
-    ensures stamps { HoweverItIsPut (λ files new key stamp answer. IsPageKey key → LeftByPut files new key stamp answer → KeepsStamps files new) }
-    ensures files { HoweverItIsPut (λ files new key stamp answer. LeftByPut files new key stamp answer → KeepsFiles files new key) }
+    ensures page { OfEachChangeByPut (λ files new key stamp answer. LeftByPut files new key stamp answer → IsOldNoneOrNew files new key stamp answer) }
+    ensures others { OfEachChangeByPut (λ files new key stamp answer. IsPageKey key → LeftByPut files new key stamp answer → KeepsOtherPages files new key) }
+    ensures stamps { OfEachChangeByPut (λ files new key stamp answer. IsPageKey key → LeftByPut files new key stamp answer → KeepsStamps files new) }
+    ensures files { OfEachChangeByPut (λ files new key stamp answer. LeftByPut files new key stamp answer → KeepsFiles files new key) }
 {
     files_have_names();
     names_are_apart();

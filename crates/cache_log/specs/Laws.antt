@@ -16,8 +16,8 @@ abbrev pub StaysLegal : Farm → CallConditions → List LogEntry → List LogEn
 StaysLegal farm under entries log = AllAllowed farm under entries log → IsLegal farm log → IsLegal farm (entries ++ log)
 
 -- an entry at a place of a legal log was allowed by the log before it, which is legal too
-abbrev pub WasAllowed : Farm → List LogEntry → LogEntry → List LogEntry → Type 0
-WasAllowed farm since entry before = IsLegal farm (since ++ entry ∷ before) → ((under : CallConditions) × Allowed farm under entry before) × IsLegal farm before
+abbrev pub WasAllowedIfLegal : Farm → List LogEntry → LogEntry → List LogEntry → Type 0
+WasAllowedIfLegal farm since entry before = IsLegal farm (since ++ entry ∷ before) → ((under : CallConditions) × Allowed farm under entry before) × IsLegal farm before
 
 -- A session begins; a flight is asked for the page, and its answer is kept; the page is a hit; a second flight is asked; a flush begins, and a
 -- slice leaves more to do; a restart loses the flight, fails the flush and comes up; and a second session begins.
@@ -25,8 +25,8 @@ abbrev pub two_sessions : PageKey → Answer → Invalidation → List LogEntry
 two_sessions key answer inv = Session 3 ∷ Up 2 ∷ Ended 1 Failed ∷ Lost 2 ∷ Sliced 1 ∷ Begun 1 inv ∷ Asked 2 None ∷ Hit key ∷ Landed 1 (Some key) answer Kept ∷ Asked 1 (Some key) ∷ Session 1 ∷ []
 
 -- a hit at a place of a legal log was permitted there, with some answer
-abbrev pub WasPermitted : Farm → List LogEntry → PageKey → List LogEntry → Type 0
-WasPermitted farm since key before = IsLegal farm (since ++ Hit key ∷ before) → (answer : Answer) × IsPermittedHit farm before key answer
+abbrev pub WasPermittedIfLegal : Farm → List LogEntry → PageKey → List LogEntry → Type 0
+WasPermittedIfLegal farm since key before = IsLegal farm (since ++ Hit key ∷ before) → (answer : Answer) × IsPermittedHit farm before key answer
 
 -- of each landing of a legal log that is kept the answer is storable, and the flight was clear at its place
 abbrev pub KeptLandingsWereClear : Type 0
@@ -64,10 +64,6 @@ PermittedHitsWereAskedSince = (farm : Farm) (log : List LogEntry) (key : PageKey
     (since : List LogEntry) (flush : FlushId) (inv : Invalidation) (before : List LogEntry)
     → log ≡ since ++ Ended flush Done ∷ before → IsUnfinishedFlush before flush inv → Covers farm inv key
     → (more : List LogEntry) × (since ≡ since_asking hit.landing ++ Asked hit.landing.flight (Some key) ∷ more)
-
--- where a hit with one answer is owed, none is permitted with another
-abbrev pub IsTheOneAnswer : Farm → List LogEntry → PageKey → Answer → Answer → Type 0
-IsTheOneAnswer farm log key answer other = MustHit farm log key answer → MayHit farm log key other → other ≡ answer
 
 -- no unfinished flush covers the page of a hit that is owed
 abbrev pub OwedHitsAreUncovered : Type 0

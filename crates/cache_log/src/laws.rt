@@ -10,7 +10,7 @@ ghost use Rattle.cache_log.specs.Entries.{LogEntry, downs_since, is_up, last_epo
 ghost use Rattle.cache_log.specs.Hits.{HasDone, InAir, IsClear, MayHit, MustHit, NoneDoneSince, Unfinished};
 ghost use Rattle.cache_log.specs.Flown.{HasEpoch, IsClearFlight, IsDoneFlush, IsFlying, IsOwedHit, IsUnfinishedFlush};
 ghost use Rattle.cache_log.specs.Rules.{CallConditions, IsAboveAll, IsIdle, IsLegal};
-ghost use Rattle.cache_log.specs.Laws.{StaysLegal, WasAllowed, two_sessions, WasPermitted, KeptLandingsWereClear, FlushesHaveOneInvalidation, FlightsHaveTheirNumbers, FlushesHaveTheirNumbers, ClearFlightsAreUncovered, PermitsOfLandings, PermittedHitsWereAskedSince, IsTheOneAnswer, OwedHitsAreUncovered, KeptLandingsAreOwed};
+ghost use Rattle.cache_log.specs.Laws.{StaysLegal, WasAllowedIfLegal, two_sessions, WasPermittedIfLegal, KeptLandingsWereClear, FlushesHaveOneInvalidation, FlightsHaveTheirNumbers, FlushesHaveTheirNumbers, ClearFlightsAreUncovered, PermitsOfLandings, PermittedHitsWereAskedSince, OwedHitsAreUncovered, KeptLandingsAreOwed};
 
 /// A flush is unfinished exactly where it began at a place of the log and has not ended since, and one ended done exactly where it did so at
 /// a place of the log and was unfinished before. A flight is in the air exactly where it was asked at a place of the log, the last one with
@@ -25,7 +25,7 @@ pub fn flights_and_flushes_are_at_places()
 /// is legal too.
 pub fn a_legal_log_grows_by_what_is_allowed()
     ensures call { (farm : Farm) (under : CallConditions) (entries log : List LogEntry) → StaysLegal farm under entries log }
-    ensures place { (farm : Farm) (since : List LogEntry) (entry : LogEntry) (before : List LogEntry) → WasAllowed farm since entry before }
+    ensures place { (farm : Farm) (since : List LogEntry) (entry : LogEntry) (before : List LogEntry) → WasAllowedIfLegal farm since entry before }
 {}
 
 /// Such a log is legal, whatever page it is about, whatever its answer that may be stored, and whatever is flushed: a session begins; a flight
@@ -38,7 +38,7 @@ pub fn a_log_of_two_sessions_is_legal()
 /// At no place of a legal log is there a hit that isn't permitted there, nor a landing that is kept although its flight isn't clear there or
 /// its answer isn't storable.
 pub fn hits_and_landings_of_a_legal_log()
-    ensures hit { (farm : Farm) (since : List LogEntry) (key : PageKey) (before : List LogEntry) → WasPermitted farm since key before }
+    ensures hit { (farm : Farm) (since : List LogEntry) (key : PageKey) (before : List LogEntry) → WasPermittedIfLegal farm since key before }
     ensures kept { KeptLandingsWereClear }
 {}
 
@@ -99,7 +99,7 @@ pub fn owed_hits_are_of_landings()
 /// What is owed is permitted, and is then the one permitted answer; and no unfinished flush covers its page.
 pub fn what_is_owed_is_permitted()
     ensures permitted { (farm : Farm) (log : List LogEntry) (key : PageKey) (answer : Answer) → MustHit farm log key answer → MayHit farm log key answer }
-    ensures one { (farm : Farm) (log : List LogEntry) (key : PageKey) (answer other : Answer) → IsTheOneAnswer farm log key answer other }
+    ensures one { (farm : Farm) (log : List LogEntry) (key : PageKey) (owed got : Answer) → MustHit farm log key owed → MayHit farm log key got → got ≡ owed }
     ensures uncovered { OwedHitsAreUncovered }
 {}
 

@@ -164,5 +164,5 @@ abbrev pub RequestedAs : Option Files → Core → Core → Request → Text →
 RequestedAs told old new req peer requested = IsDryRequest old new requested ⊎ (IsDownRequest old new requested ⊎ (IsFlushRequest old new req peer requested ⊎ (IsDeniedRequest old new req requested ⊎ (IsUnkeyedRequest old new req requested ⊎ IsKeyedRequest told old new req requested))))
 
 -- in each session and for each log that a core and a disk stand for, what is got has its cause in the log
-abbrev pub GetsAs : Option Files → Core → Request → Text → Requested → Type 0
-GetsAs told core req peer requested = (found : ℕ) (log : List LogEntry) → CoreStandsFor found told core log → GotAs core log req peer requested.disk_failed requested.got
+abbrev pub HasCauseInEachLog : Option Files → Core → Request → Text → Requested → Type 0
+HasCauseInEachLog told core req peer requested = (found : ℕ) (log : List LogEntry) → CoreStandsFor found told core log → GotAs core log req peer requested.disk_failed requested.got

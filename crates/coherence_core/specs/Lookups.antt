@@ -87,5 +87,5 @@ abbrev pub GivesServed : Look → Option Answer → Files → Type 0
 GivesServed look found files = served look.auto (stat_asked look files) (page_at files look.key.now) ≡ found
 
 -- whether its .stat file among these files outdates a page with this stamp
-abbrev pub TellsStale : Look → Stamp → Bool → Files → Type 0
-TellsStale look page is files = (look.auto && outdates_page (stat_asked look files) page) ≡ is
+abbrev pub TellsOutdated : Look → Stamp → Bool → Files → Type 0
+TellsOutdated look page is files = (look.auto && outdates_page (stat_asked look files) page) ≡ is

@@ -18,8 +18,8 @@ abbrev pub IsHeldClosed : Files → Core → List LogEntry → Type 0
 IsHeldClosed files core log = HoldsClosed core.farm files (closing_entries core ++ log)
 
 -- with nothing in the air, they hold it once the unfinished flushes are cut off
-abbrev pub IsHeldLanded : Files → Core → List LogEntry → Type 0
-IsHeldLanded files core log = core.flights ≡ [] → HoldsClosed core.farm files (failed_entries (flushes_of core) ++ log)
+abbrev pub IsHeldIfLanded : Files → Core → List LogEntry → Type 0
+IsHeldIfLanded files core log = core.flights ≡ [] → HoldsClosed core.farm files (failed_entries (flushes_of core) ++ log)
 
 -- a restart allows what the core leaves to be closed
 abbrev pub RestartsAllowClosing : Type 0
@@ -39,8 +39,8 @@ abbrev pub StandsForSession : ℕ → Files → Core → Type 0
 StandsForSession found files core = StandsOver found files core (Session core.epoch ∷ [])
 
 -- a core stays one that was just opened as files go, but for that of the number
-abbrev pub FilesGoAfterOpening : Type 0
-FilesGoAfterOpening = (found : ℕ) (files after : Files) (core : Core) → IsCoreOpened found files core → file_at after epoch_name ≡ file_at files epoch_name
+abbrev pub CoresStayOpenedAsFilesGo : Type 0
+CoresStayOpenedAsFilesGo = (found : ℕ) (files after : Files) (core : Core) → IsCoreOpened found files core → file_at after epoch_name ≡ file_at files epoch_name
     → files_counted after ≤ files_counted files → IsCoreOpened found after core
 
 -- a session goes on from a legal log that the files hold, closed, with the number after the one that they hold

@@ -31,8 +31,8 @@ FreshPagesHaveFlightStamps = (found : ℕ) (files : Files) (core : Core) (log : 
     → first_epoch log ≤ page.stamp.epoch → MayHitOfStamp core.farm log key page.answer page.stamp
 
 -- by the landing of that flight a hit on the page is permitted
-abbrev pub StampPermits : Farm → List LogEntry → PageKey → Answer → Stamp → Type 0
-StampPermits farm log key answer stamp = MayHitOfStamp farm log key answer stamp → MayHit farm log key answer
+abbrev pub MayHitIfOfStamp : Farm → List LogEntry → PageKey → Answer → Stamp → Type 0
+MayHitIfOfStamp farm log key answer stamp = MayHitOfStamp farm log key answer stamp → MayHit farm log key answer
 
 -- a .stat file with a stamp of the session has that of a flush that touches its folder
 abbrev pub FoldersHaveTouchStamps : Type 0

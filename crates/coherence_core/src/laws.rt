@@ -21,8 +21,8 @@ ghost use Rattle.coherence_core.specs.Sessions.{closing_entries};
 ghost use Rattle.coherence_core.specs.StampTies.{IsStampOfSession, drawn_stamps, stamp_after};
 ghost use Rattle.coherence_core.specs.declared.core_state.Core.{Core};
 ghost use Rattle.coherence_core.specs.StatFilesKept.{PutsKeepStatFiles, FailedPutsKeepStatFiles, FailedOpeningsKeepStatFiles};
-ghost use Rattle.coherence_core.specs.SessionEnds.{IsHeldClosed, IsHeldLanded, RestartsAllowClosing, AllowsClosing, HoldsOnceClosed, StandsForSession, FilesGoAfterOpening, SessionsGoOn};
-ghost use Rattle.coherence_core.specs.StampLaws.{FreshPagesHaveFlightStamps, StampPermits, FoldersHaveTouchStamps, HeadsAreBeforeNext, FoldersAreBeforeNext, FlightsAreBeforeNext, FlushesAreBeforeNext, DrawnAreBeforeNext, AreDrawnRising, WasDrawnInSession};
+ghost use Rattle.coherence_core.specs.SessionEnds.{IsHeldClosed, IsHeldIfLanded, RestartsAllowClosing, AllowsClosing, HoldsOnceClosed, StandsForSession, CoresStayOpenedAsFilesGo, SessionsGoOn};
+ghost use Rattle.coherence_core.specs.StampLaws.{FreshPagesHaveFlightStamps, MayHitIfOfStamp, FoldersHaveTouchStamps, HeadsAreBeforeNext, FoldersAreBeforeNext, FlightsAreBeforeNext, FlushesAreBeforeNext, DrawnAreBeforeNext, AreDrawnRising, WasDrawnInSession};
 
 use cache_files::{
     a_failed_opening_leaves_the_old_number_or_the_next, a_failed_put_leaves_whole_pages,
@@ -67,7 +67,7 @@ pub fn the_files_hold_what_stands()
 /// and then each unfinished flush is cut off. A restart allows this. With nothing in the air the flushes alone are cut off.
 pub fn a_session_may_end_at_any_time()
     ensures closed { (found : ℕ) (files : Files) (core : Core) (log : List LogEntry) → StandsOver found files core log → IsHeldClosed files core log }
-    ensures landed { (found : ℕ) (files : Files) (core : Core) (log : List LogEntry) → StandsOver found files core log → IsHeldLanded files core log }
+    ensures landed { (found : ℕ) (files : Files) (core : Core) (log : List LogEntry) → StandsOver found files core log → IsHeldIfLanded files core log }
     ensures allowed { RestartsAllowClosing }
 {
     coverage_by_three_facts();
@@ -92,7 +92,7 @@ pub fn a_log_is_closed_in_one_way()
 /// (`folder`). What has a stamp of an epoch below the session's first was there before.
 pub fn stamps_are_of_flights_and_flushes()
     ensures page { FreshPagesHaveFlightStamps }
-    ensures hit { (farm : Farm) (log : List LogEntry) (key : PageKey) (answer : Answer) (stamp : Stamp) → StampPermits farm log key answer stamp }
+    ensures hit { (farm : Farm) (log : List LogEntry) (key : PageKey) (answer : Answer) (stamp : Stamp) → MayHitIfOfStamp farm log key answer stamp }
     ensures folder { FoldersHaveTouchStamps }
 {}
 
@@ -122,7 +122,7 @@ pub fn each_draw_is_after_those_before_it()
 /// It stays one that was just opened as files go, but for that of the number.
 pub fn a_session_begins_without_pages()
     ensures stands { (found : ℕ) (files : Files) (core : Core) → IsCoreOpened found files core → IsCleared files → StandsForSession found files core }
-    ensures kept { FilesGoAfterOpening }
+    ensures kept { CoresStayOpenedAsFilesGo }
 {
     names_tell_their_files();
     no_notes_agree_with_any_files();

@@ -13,7 +13,7 @@ ghost use Rattle.sp_base.specs.Texts.{Segments};
 ghost use Rattle.stat_files.specs.Outdated as outdated;
 ghost use Rattle.stat_files.specs.Stamps.{stamp_at};
 ghost use Rattle.coherence_core.specs.LookCalls.{AreRead, folder_file, head_file, stat_file};
-ghost use Rattle.coherence_core.specs.Lookups.{IfAgreed, IsLook, NotesPage, ReadsFiles, stat_asked, TellsStale};
+ghost use Rattle.coherence_core.specs.Lookups.{IfAgreed, IsLook, NotesPage, ReadsFiles, stat_asked, TellsOutdated};
 
 use crate::laws::coverage_by_three_facts;
 use crate::look::{Look, may_be_noted};
@@ -106,7 +106,7 @@ pub(crate) fn is_stale<D: Disk>(
     page: Stamp,
 ) -> Result<bool, FileFault>
     requires { IsLook look.now }
-    ensures value { IfOk result (λ is. IfAgreed (D.files disk.old) pages.old (TellsStale look.now page is)) }
+    ensures value { IfOk result (λ is. IfAgreed (D.files disk.old) pages.old (TellsOutdated look.now page is)) }
     ensures notes { NotesPage look.now (D.files disk.old) pages.old pages.new }
     ensures reads { ReadsFiles (D.files disk.old) (D.files disk.new) (D.faults disk.old) (D.faults disk.new) (D.calls disk.old) (D.calls disk.new) result }
     ensures asks { AreRead (D.calls disk.old) (D.calls disk.new) (stat_file pages.old look.now.farm.now look.now.key.now) result }

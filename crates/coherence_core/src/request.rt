@@ -4,7 +4,7 @@ ghost use Rattle.cover_rules.specs.Pages.{IsPageKey};
 ghost use Rattle.dispatch_rules.specs.Caching.{is_auto};
 ghost use Rattle.docroot_changes.specs.DocrootCalls.{MakesDocrootCalls};
 ghost use Rattle.flights.specs.Flights.{numbers_of};
-ghost use Rattle.coherence_core.specs.Asking.{IsLookedUp, KeyedAs, RequestedAs, GetsAs};
+ghost use Rattle.coherence_core.specs.Asking.{IsLookedUp, KeyedAs, RequestedAs, HasCauseInEachLog};
 ghost use Rattle.coherence_core.specs.Cores.{ExtendsCore, FlightsRise, KeepsFarm, flight_labels, flush_numbers};
 ghost use Rattle.coherence_core.specs.LookCalls.{AsksDisk, ReadsPage, page_asked};
 ghost use Rattle.coherence_core.specs.Lookups.{ReadsFiles};
@@ -38,7 +38,7 @@ impl Core {
         peer: &str,
     ) -> Requested
         ensures log { ExtendsCore (D.files disk.old) self.old (D.files disk.new) self.new (requested_under result) (got_entries result.got) }
-        ensures cause { GetsAs (D.files disk.old) self.old req.now peer.now result }
+        ensures cause { HasCauseInEachLog (D.files disk.old) self.old req.now peer.now result }
         ensures came { RequestedAs (D.files disk.old) self.old self.new req.now peer.now result }
         ensures files { D.files disk.new ≡ D.files disk.old }
         ensures disk_failed { IsDiskFailure (D.faults disk.old) (D.faults disk.new) result.disk_failed }

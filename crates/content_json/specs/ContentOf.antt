@@ -3,7 +3,7 @@ use Rattle.std.specs.Prelude.{ℕ, suc, List, [], ◌∷◌, length, Bool, ◌||
 use Rattle.std.specs.FinMap.Entries.{put}
 use Rattle.std.specs.List.{list_any}
 use Rattle.std.specs.Str.{is_utf8}
-use Rattle.sp_base.specs.Texts.{Segments}
+use Rattle.sp_base.specs.Texts.{Segments, Text}
 use Rattle.serde_json.specs.Data.{Data, null, boolean, number, string, array, object, Members}
 use Rattle.serde_json.specs.Read.{read}
 use Rattle.sp_base.specs.Paths.{most_segments}
@@ -58,3 +58,8 @@ content_in (Some (object ms)) = unless_found (fault_in (object ms)) ms
 -- the content of bytes
 abbrev pub content : List ℕ → Result Content ContentFault
 content bytes = content_in (json_of bytes)
+
+-- the bytes hold the nodes of the members, unless these are too many or too deep
+abbrev pub IsContentUnlessTooBig : Text → Members → Type 0
+IsContentUnlessTooBig bytes members =
+    content bytes ≡ (if exceeds_limits (map_of (nodes_in [] (object members))) then Err TooBig else Ok (map_of (nodes_in [] (object members))))

@@ -3,7 +3,7 @@ use Rattle.std.specs.Prelude.{◌≡◌, ◌+◌, not, ◌&&◌, ◌||◌, ◌++
 use Rattle.std.specs.Cmp.Lexicographic.{slice_cmp}
 use Rattle.std.specs.Ordering.{nat_cmp}
 use Rattle.std.specs.Borrow.{Bor}
-use Rattle.std.specs.BTreeSet.{contains_by}
+use Rattle.std.specs.BTreeSet.{contains_by, BTreeSet}
 use Rattle.std.specs.List.{list_any}
 use Rattle.std.specs.Str.{bytes_eq}
 use Rattle.sp_base.specs.Texts.{Segments, Text}
@@ -11,7 +11,7 @@ use Rattle.json.specs.Token.{Token, begin_object}
 use Rattle.json.specs.Json as json
 use Rattle.serde_json.specs.Data.{Data, string, array, object, Members, no_members, put}
 use Rattle.serde_json.specs.Find.{get_member}
-use Rattle.serde_json.specs.Read.{of_json, of_members, converted, read}
+use Rattle.serde_json.specs.Read.{of_json, of_members, converted, read, of_items}
 use Rattle.serde_json.specs.View.{items_of}
 use Rattle.sp_base.specs.declared.value.Value.{Value}
 use Rattle.content_json.specs.declared.open_object.OpenObject.{OpenObject}
@@ -112,3 +112,11 @@ AreKids ms is_among = (name : List ℕ) → is_among name ≡ true → is_kid ms
 -- each text is the name of a kid, and none stands twice
 abbrev pub NamesKids : Members → List Text → Type 0
 NamesKids ms texts = names_kids ms [] (items_of (map string texts)) ≡ true
+
+-- the texts that are listed name kids, where the names that are held are those of the kids
+abbrev pub NamesKidsIfHeld : BTreeSet (Bor (List ℕ)) → List (Bor (List ℕ)) → Type 0
+NamesKidsIfHeld kids listed = (ms : Members) → AreKids ms (λ q. contains_by (λ k. slice_cmp nat_cmp q k.now) kids) → NamesKids ms (texts_in listed)
+
+-- the tokens are those of an array of these texts after its opening bracket, however deep it may nest, and then others
+abbrev pub ReadsTexts : List Token → List Token → List (Bor (List ℕ)) → Type 0
+ReadsTexts ts rest texts = (depth : ℕ) → converted of_items (json.items (json.value depth) (length ts) ts) ≡ Some (items_of (map string (texts_in texts)), rest)

@@ -4,11 +4,10 @@ use Rattle.std.specs.List.{list_any, filter_map}
 use Rattle.std.specs.Option.{option_map_or}
 use Rattle.std.specs.Str.{bytes_eq}
 use Rattle.std.specs.FinMap.Entries.{put}
-use Rattle.sp_base.specs.Texts.{Segments, Text}
+use Rattle.sp_base.specs.Texts.{Segments, Text, Properties}
 use Rattle.serde_json.specs.Data.{Data, null, boolean, number, string, array, object, Items, no_items, Members, no_members, member}
 use Rattle.serde_json.specs.Find.{as_str, as_array, get_member}
 use Rattle.sp_base.specs.Names.{by_name}
-use Rattle.sp_base.specs.declared.value.Value.{Value}
 use Rattle.resource_tree.specs.declared.nodes.Node.{Node}
 use Rattle.resource_tree.specs.Content.{Content, kid}
 use Rattle.content_json.specs.Names.{order_name, is_order, kid_names}
@@ -27,11 +26,11 @@ abbrev pub kids_of : Members → List Text
 kids_of ms = order_names ms ++ filter (λ name. not (list_any (bytes_eq name) (order_names ms))) (kid_names ms)
 
 -- the properties, and a member's value under its name
-abbrev pub with_member : List ℕ → Data → List (List ℕ × Value) → List (List ℕ × Value)
+abbrev pub with_member : List ℕ → Data → Properties → Properties
 with_member name d props = if is_order name then props else option_map_or (λ value. put by_name name value props) (data_value d) props
 
 -- the properties, and each member's value under its name
-abbrev pub add_props : List (List ℕ × Value) → Members → List (List ℕ × Value)
+abbrev pub add_props : Properties → Members → Properties
 add_props props no_members = props
 add_props props (member name d ms) = add_props (with_member name d props) ms
 

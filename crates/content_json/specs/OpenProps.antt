@@ -8,6 +8,7 @@ use Rattle.std.specs.Option.{option_or}
 use Rattle.std.specs.Ordering.{nat_cmp}
 use Rattle.sp_base.specs.Names.{by_name}
 use Rattle.sp_base.specs.declared.value.Value.{Value}
+use Rattle.sp_base.specs.Texts.{Properties}
 use Rattle.content_json.specs.declared.open_props.OpenProps.{OpenProps}
 
 -- what came late under a name: a value, or that there is none any more. Else the value that stands there
@@ -19,5 +20,5 @@ abbrev pub held : OpenProps → List ℕ → Option Value
 held props q = late_or props.late (find by_name q props.list) q
 
 -- the value under a name once the properties that are left are put over others
-abbrev pub at_last : List (List ℕ × Value) → List (List ℕ × Value) → List ℕ → Option Value
+abbrev pub at_last : Properties → Properties → List ℕ → Option Value
 at_last props left q = option_or (find by_name q left) (find by_name q props)

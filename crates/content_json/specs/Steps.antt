@@ -1,17 +1,21 @@
 -- What proofs and private functions need: the steps of reading and of writing.
 use Rattle.std.specs.Prelude.{◌≡◌, ◌-◌, ◌&&◌, ◌||◌, not, nat_lt, is_some, ℕ, List, [], ◌∷◌, Bool, true, false, T, Option, Some, None, option_map, if◌then◌else◌, flat_map, length}
 use Rattle.std.specs.FinMap.Entries.{is_sorted}
-use Rattle.std.specs.List.{list_all, list_any}
+use Rattle.std.specs.List.{list_all, list_any, filter_map}
 use Rattle.std.specs.Option.{option_or}
 use Rattle.std.specs.Str.{bytes_eq}
-use Rattle.sp_base.specs.Texts.{Segments, Text}
+use Rattle.std.specs.BTreeSet.{contains_by, BTreeSet}
+use Rattle.std.specs.Cmp.Lexicographic.{slice_cmp}
+use Rattle.std.specs.Ordering.{nat_cmp}
+use Rattle.std.specs.Borrow.{Bor}
+use Rattle.sp_base.specs.Texts.{Segments, Text, Properties}
 use Rattle.json.specs.Json as json
 use Rattle.json.specs.Token.{Token}
 use Rattle.json.specs.Tree.{json_tokens}
-use Rattle.serde_json.specs.Data.{Data, Members, object}
+use Rattle.serde_json.specs.Data.{Data, Members, object, Items}
+use Rattle.serde_json.specs.Find.{as_str}
 use Rattle.sp_base.specs.Paths.{most_segments}
 use Rattle.sp_base.specs.Names.{by_name}
-use Rattle.sp_base.specs.declared.value.Value.{Value}
 use Rattle.resource_tree.specs.declared.nodes.Node.{Node}
 use Rattle.resource_tree.specs.Content.{Content, node_at, kid}
 use Rattle.property_json.specs.PropertyJson.{items_of, has_longs}
@@ -21,6 +25,7 @@ use Rattle.content_json.specs.Faults.{in_member, fault_in}
 use Rattle.content_json.specs.ContentOf.{is_too_big}
 use Rattle.content_json.specs.Nodes.{nodes_in, count_in, count_below, is_deeper, is_deeper_below}
 use Rattle.content_json.specs.Written.{node_json}
+use Rattle.content_json.specs.Lists.{item_list}
 
 -- the second path is the first or is below it
 abbrev pub is_at_or_below : Segments → Segments → Bool
@@ -70,7 +75,7 @@ abbrev pub kid_tokens : Content → Segments → List Text → List Token
 kid_tokens tree path names = flat_map (λ name. Token.key name ∷ json_tokens (whole_at tree (kid path name))) names
 
 -- properties in the order of their names, whose numbers are of 64 bits
-pub record AreProps (props : List (List ℕ × Value)) : Type 0 where
+pub record AreProps (props : Properties) : Type 0 where
   pub sorted : T (is_sorted by_name props)
   pub longs : list_all (λ p. has_longs p.1) props ≡ true
 
@@ -81,3 +86,7 @@ AreBelow tree path = (q : Segments) (node : Node) → is_at_or_below path q ≡ 
 -- and at or below one of these kids
 abbrev pub AreBelowKids : Content → Segments → List Text → Type 0
 AreBelowKids tree path names = (name : List ℕ) → list_any (bytes_eq name) names ≡ true → AreBelow tree (kid path name)
+
+-- a set holds the texts among the items
+abbrev pub HoldsTexts : Items → BTreeSet (Bor (List ℕ)) → Type 0
+HoldsTexts items set = (q : List ℕ) → contains_by (λ k. slice_cmp nat_cmp q k.now) set ≡ list_any (bytes_eq q) (filter_map as_str (item_list items))

@@ -2,7 +2,7 @@
 use Rattle.std.specs.Prelude.{ℕ, zero, suc, ◌==◌, ◌&&◌, Bool, true, not, slice_index, List, [], ◌∷◌, length}
 use Rattle.std.specs.List.{list_all}
 use Rattle.std.specs.Option.{option_map_or}
-use Rattle.sp_base.specs.Texts.{Segments}
+use Rattle.sp_base.specs.Texts.{Segments, Properties}
 use Rattle.sp_base.specs.Texts as texts
 use Rattle.json.specs.Json.{Json, string, array, object, Members, no_members, member}
 use Rattle.json.specs.Tree.{json_tokens}
@@ -17,7 +17,7 @@ use Rattle.property_json.specs.PropertyJson.{items_of, members_before}
 use Rattle.content_json.specs.Names.{order_name}
 
 -- the properties of the node at a path
-abbrev pub props_at : Content → Segments → List (List ℕ × Value)
+abbrev pub props_at : Content → Segments → Properties
 props_at tree path = option_map_or (λ node. node.props) (node_at tree path) []
 
 -- the member `:order` before further members: all kids in their order, where there are some

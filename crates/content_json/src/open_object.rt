@@ -4,7 +4,7 @@ ghost use Rattle.std.specs.BTreeSet.{contains_by, IsOrdered};
 ghost use Rattle.std.specs.Cmp.Lexicographic.{slice_cmp};
 ghost use Rattle.std.specs.Ordering.{nat_cmp};
 ghost use Rattle.serde_json.specs.Data.{Members};
-ghost use Rattle.content_json.specs.FromTokens.{AreKids, NamesKids, texts_in, with_others};
+ghost use Rattle.content_json.specs.FromTokens.{texts_in, with_others, NamesKidsIfHeld};
 
 use crate::open_props::OpenProps;
 use resource_tree::Node;
@@ -102,7 +102,7 @@ fn kids_in_order<'a>(
 ) -> Mem<Option<TextList>>
     ensures ordered { IfOk result (λ found. IfSome found (λ _. IsOrdered (λ j k. slice_cmp nat_cmp j.now k.now) kids.now)) }
     ensures kids { IfOk result (λ found. IfSome found (λ names. names ≡ with_others (texts_in listed.now) (texts_in kids.now.keys))) }
-    ensures good { IfOk result (λ found. IfSome found (λ _. (ms : Members) → AreKids ms (λ q. contains_by (λ k. slice_cmp nat_cmp q k.now) kids.now) → NamesKids ms (texts_in listed.now))) }
+    ensures good { IfOk result (λ found. IfSome found (λ _. NamesKidsIfHeld kids.now listed.now)) }
 {
     let mut first = BTreeSet::new(alloc);
     let mut names = TextList::new(alloc);

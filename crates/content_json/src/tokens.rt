@@ -1,15 +1,14 @@
 // The values of properties, read from the tokens of JSON.
-ghost use Rattle.std.specs.Prelude.{◌≡◌, ◌==◌, ◌<◌, ◌≤◌, ◌∷◌, ℕ, Some, true, false, map, length, slice_index, IsTrue, IfOk, IfSome, OnOk};
+ghost use Rattle.std.specs.Prelude.{◌≡◌, ◌==◌, ◌<◌, ◌≤◌, ◌∷◌, Some, true, false, length, slice_index, IsTrue, IfOk, IfSome, OnOk};
 ghost use Rattle.json.specs.Json as json;
 ghost use Rattle.json.specs.Reads.{token_of};
 ghost use Rattle.json.specs.Token as token;
 ghost use Rattle.json.specs.Token.{begin_array};
 ghost use Rattle.serde_json.specs.Data.{string};
 ghost use Rattle.serde_json.specs.Find.{of_integer};
-ghost use Rattle.serde_json.specs.Read.{of_items, converted, number_from, number_of};
-ghost use Rattle.serde_json.specs.View.{items_of};
+ghost use Rattle.serde_json.specs.Read.{number_from, number_of};
 ghost use Rattle.property_json.specs.PropertyJson.{fits_i64};
-ghost use Rattle.content_json.specs.FromTokens.{BeginWith, texts_in};
+ghost use Rattle.content_json.specs.FromTokens.{BeginWith, ReadsTexts};
 
 use fast_float::Numeral;
 use json::{Reader, Token};
@@ -154,8 +153,7 @@ fn truths(alloc: Global, reader: &mut Reader<'_>, first: bool) -> Mem<Option<Val
 /// The texts that an array lists, after its opening bracket. There are none where it lists something else.
 pub(crate) fn listed_texts<'a>(alloc: Global, reader: &mut Reader<'a>) -> Mem<Option<Vec<&'a str>>>
     ensures shorter { OnOk result (length reader.new ≤ length reader.old) }
-    ensures read { IfOk result (λ texts. IfSome texts (λ found. (depth : ℕ) → converted of_items (json.items (json.value depth) (length reader.old) reader.old)
-        ≡ Some (items_of (map string (texts_in found.items)), reader.new))) }
+    ensures read { IfOk result (λ texts. IfSome texts (λ found. ReadsTexts reader.old reader.new found.items)) }
 {
     let mut found = Vec::new(alloc);
     'items: while !reader.take_end_array() {

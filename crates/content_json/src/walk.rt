@@ -1,20 +1,18 @@
 // Takes an object apart into the nodes that it stands for.
-ghost use Rattle.std.specs.Prelude.{◌≡◌, ◌<◌, ◌-◌, ◌||◌, ◌&&◌, not, ℕ, List, [], None, IfOk, IsTrue, OnOk, false, true, length, if◌then◌else◌};
-ghost use Rattle.std.specs.List.{filter_map, list_any};
+ghost use Rattle.std.specs.Prelude.{◌≡◌, ◌<◌, ◌-◌, ◌||◌, ◌&&◌, not, [], None, IfOk, IsTrue, OnOk, false, true, length, if◌then◌else◌};
 ghost use Rattle.std.specs.BTreeSet.{contains_by};
 ghost use Rattle.std.specs.Ordering.{nat_cmp};
 ghost use Rattle.std.specs.Cmp.Lexicographic.{slice_cmp};
-ghost use Rattle.std.specs.Str.{bytes_eq};
 ghost use Rattle.serde_json.specs.Data.{object};
 ghost use Rattle.serde_json.specs.Find.{as_str};
 ghost use Rattle.serde_json.specs.View.{view, items_view, members_view};
 ghost use Rattle.resource_tree.specs.Content.{node_at, kid};
 ghost use Rattle.sp_base.specs.Paths.{most_segments, seg_ok};
+ghost use Rattle.sp_base.specs.Texts.{Segments};
 ghost use Rattle.content_json.specs.Names.{has_bad_name, is_content_name, is_order, is_kid_member};
-ghost use Rattle.content_json.specs.Lists.{item_list};
 ghost use Rattle.content_json.specs.Faults.{fault_in, fault_below};
 ghost use Rattle.content_json.specs.Nodes.{order_items, kids_of, with_member, add_props, nodes_in, nodes_below, is_deeper, is_deeper_below};
-ghost use Rattle.content_json.specs.Steps.{member_fault, member_nodes, with_nodes_at};
+ghost use Rattle.content_json.specs.Steps.{member_fault, member_nodes, with_nodes_at, HoldsTexts};
 
 use crate::names::{ORDER, is_order};
 use crate::values::{copied_texts, value_of};
@@ -39,8 +37,7 @@ fn order_items(members: &Map<String, Value>) -> &[Value]
 
 // The texts among the items.
 fn text_set(alloc: Global, items: &[Value]) -> Mem<BTreeSet<&str>>
-    ensures { IfOk result (λ set. (q : List ℕ) → contains_by (λ k. slice_cmp nat_cmp q k.now) set
-        ≡ list_any (bytes_eq q) (filter_map as_str (item_list (items_view items.now)))) }
+    ensures { IfOk result (HoldsTexts (items_view items.now)) }
 {
     let mut set = BTreeSet::new(alloc);
     for item in items {
@@ -96,7 +93,7 @@ pub(crate) fn add_nodes(
 ) -> Mem<()>
     requires faultless { fault_in (object (members_view members.entries)) ≡ None }
     requires shallow { is_deeper_below (most_segments - length path) (members_view members.entries) ≡ false }
-    ensures { OnOk result ((q : List (List ℕ)) → node_at nodes.new q
+    ensures { OnOk result ((q : Segments) → node_at nodes.new q
         ≡ with_nodes_at nodes.old (nodes_in path (object (members_view members.entries))) q) }
 {
     let kids = kids_of(alloc, &members)?;
@@ -116,7 +113,7 @@ fn add_members(
     requires faultless { fault_below (members_view members.entries) ≡ None }
     requires shallow { is_deeper_below (most_segments - length path.now) (members_view members.entries) ≡ false }
     ensures props { IfOk result (λ props. props ≡ add_props [] (members_view members.entries)) }
-    ensures nodes { OnOk result ((q : List (List ℕ)) → node_at nodes.new q
+    ensures nodes { OnOk result ((q : Segments) → node_at nodes.new q
         ≡ with_nodes_at nodes.old (nodes_below path.now (members_view members.entries)) q) }
 {
     let mut props = PropList::new(alloc);
@@ -140,7 +137,7 @@ fn add_member(
     requires faultless { member_fault name (view value) ≡ None }
     requires shallow { (if is_order name then false else is_deeper (most_segments - length path.now) (view value)) ≡ false }
     ensures props { OnOk result (props.new ≡ with_member name (view value) props.old) }
-    ensures nodes { OnOk result ((q : List (List ℕ)) → node_at nodes.new q
+    ensures nodes { OnOk result ((q : Segments) → node_at nodes.new q
         ≡ with_nodes_at nodes.old (member_nodes path.now name (view value)) q) }
 {
     if is_order(name.text()) {

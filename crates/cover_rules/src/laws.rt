@@ -1,5 +1,5 @@
 //! What follows from the definitions of keys and coverage: laws, on functions that do nothing.
-ghost use Rattle.std.specs.Prelude.{◌≡◌, ◌↔◌, ℕ, Bool, List, IsTrue, true, Some};
+ghost use Rattle.std.specs.Prelude.{◌≡◌, ◌↔◌, ℕ, Bool, IsTrue, true, Some};
 ghost use Rattle.std.specs.List.{AllByRecursion};
 ghost use Rattle.sp_base.specs.Bytes.{AreBytes};
 ghost use Rattle.sp_base.specs.Texts.{Segments};
@@ -13,10 +13,10 @@ use sp_base::{mangling_and_unmangling, segments_and_their_spelling};
 
 /// A page has one key, however the path of a request is spelled: its path is the mangled one, and it is the key of that.
 pub fn a_page_has_one_key()
-    ensures unmangled { (path : List (List ℕ)) → page_key_of (unmangled_segs path) ≡ page_key_of path }
-    ensures mangled { (path : List (List ℕ)) → page_key_of (mangled_segs path) ≡ page_key_of path }
-    ensures path { (path : List (List ℕ)) (key : PageKey) → IsTrue (is_path path) → page_key_of path ≡ Some key → page_path key ≡ mangled_segs path }
-    ensures own { (path : List (List ℕ)) (key : PageKey) → IsTrue (is_path path) → page_key_of path ≡ Some key → page_key_of (page_path key) ≡ Some key }
+    ensures unmangled { (path : Segments) → page_key_of (unmangled_segs path) ≡ page_key_of path }
+    ensures mangled { (path : Segments) → page_key_of (mangled_segs path) ≡ page_key_of path }
+    ensures path { (path : Segments) (key : PageKey) → IsTrue (is_path path) → page_key_of path ≡ Some key → page_path key ≡ mangled_segs path }
+    ensures own { (path : Segments) (key : PageKey) → IsTrue (is_path path) → page_key_of path ≡ Some key → page_key_of (page_path key) ≡ Some key }
 {
     mangling_and_unmangling();
     segments_and_their_spelling();

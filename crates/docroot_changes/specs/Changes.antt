@@ -1,5 +1,5 @@
 -- What a call on the files of the docroot makes of the pages, the stamps of folders and the number of the session that they hold.
-use Rattle.std.specs.Prelude.{◌≡◌, ◌≢◌, ◌⊎◌, ◌≤◌, ◌<◌, ◌+◌, ℕ, Bool, IsTrue, Option, Some, None, length, OnOk, Result, IfErr, List, ◌^◌, ⊤}
+use Rattle.std.specs.Prelude.{◌≡◌, ◌≢◌, ◌⊎◌, ◌≤◌, ◌<◌, ◌+◌, ℕ, Bool, IsTrue, Option, Some, None, length, OnOk, Result, IfErr, List, ◌^◌, ⊤, IfOk, IfSome, Ok}
 use Rattle.std.specs.FinMap.{keys}
 use Rattle.std.specs.List.{AllByRecursion, filter}
 use Rattle.sp_base.specs.Bytes.{AreBytes}
@@ -16,11 +16,11 @@ use Rattle.docroot_format.specs.declared.fault.FileFault.{FileFault}
 use Rattle.docroot_format.specs.declared.fault.FileFault.TheVariants.{Disk}
 use Rattle.docroot_format.specs.Faults.{IsLeftByFault}
 use Rattle.cache_files.specs.Changes.{HasNoPage, HasPage, HasSamePage, KeepsOtherPages, KeepsPages}
-use Rattle.cache_files.specs.Epochs.{after_epoch, epoch_held, next_epoch}
+use Rattle.cache_files.specs.Epochs.{after_epoch, epoch_held, next_epoch, told_with_epoch, IsOpenLeft}
 use Rattle.cache_files.specs.HeldStamps.{KeepsOrder}
 use Rattle.cache_files.specs.declared.epoch.OpenFault.{OpenFault}
 use Rattle.cache_files.specs.declared.epoch.OpenFault.TheVariants.{Disk as open_disk}
-use Rattle.cache_files.specs.Pages.{IsPagePut, told_with_page, IsPutLeft}
+use Rattle.cache_files.specs.Pages.{IsPagePut, told_with_page, IsPutLeft, told_without_page, IsDropLeft}
 use Rattle.stat_files.specs.Stamps.{stamp_at, told_with_stamp}
 
 -- This holds of the files before and after a call, where the disk tells them: it tells them after the call exactly where it told them before.
@@ -153,8 +153,8 @@ PutsSetThePage = (result : Result ⊤ FileFault) (before after : Option Files) (
     → OnOk result (after ≡ told_with_page before key stamp answer) → OnOk result (Told (PageSet key stamp answer) before after)
 
 -- one that failed leaves the old page, none, or, where the disk failed, the new one
-abbrev pub StoppedPutsMaySetThePage : Type 0
-StoppedPutsMaySetThePage = (result : Result ⊤ FileFault) (asked made : Option (List Call)) (before after : Option Files) (key : PageKey) (stamp : Stamp) (answer : Answer)
+abbrev pub FailedPutsMaySetThePage : Type 0
+FailedPutsMaySetThePage = (result : Result ⊤ FileFault) (asked made : Option (List Call)) (before after : Option Files) (key : PageKey) (stamp : Stamp) (answer : Answer)
     → IsPageKey key → IsPagePut stamp answer → IfErr result (IsPutLeft asked made before after key stamp answer)
     → IfErr result (λ fault. Told (MayPut key stamp answer fault) before after)
 
@@ -164,7 +164,27 @@ TouchesSetTheStamp = (result : Result ⊤ FileFault) (before after : Option File
     → stamp.count < 2 ^ 64 → OnOk result (after ≡ told_with_stamp before folder stamp) → OnOk result (Told (StampSet folder stamp) before after)
 
 -- one that failed leaves the old stamp or, where the disk failed, the new one
-abbrev pub StoppedTouchesMaySetTheStamp : Type 0
-StoppedTouchesMaySetTheStamp = (result : Result ⊤ FileFault) (before after : Option Files) (folder : Segments) (stamp : Stamp) → IsStampFolder folder → stamp.epoch < 2 ^ 64
+abbrev pub FailedTouchesMaySetTheStamp : Type 0
+FailedTouchesMaySetTheStamp = (result : Result ⊤ FileFault) (before after : Option Files) (folder : Segments) (stamp : Stamp) → IsStampFolder folder → stamp.epoch < 2 ^ 64
     → stamp.count < 2 ^ 64 → IfErr result (IsLeftByFault before (told_with_stamp before folder stamp) after)
     → IfErr result (λ fault. Told (MayTouch folder stamp fault) before after)
+
+-- a drop that is done leaves no page of its key
+abbrev pub DropsLeaveNoPage : Type 0
+DropsLeaveNoPage = (result : Result ⊤ FileFault) (before after : Option Files) (key : PageKey) → IsPageKey key
+    → OnOk result (after ≡ told_without_page before key) → OnOk result (Told (PageGone key) before after)
+
+-- one that failed leaves the old page or, where the disk failed, none
+abbrev pub FailedDropsMayLeaveNoPage : Type 0
+FailedDropsMayLeaveNoPage = (result : Result ⊤ FileFault) (asked made : Option (List Call)) (before after : Option Files) (key : PageKey) → IsPageKey key
+    → IfErr result (IsDropLeft asked made before after key) → IfErr result (λ fault. Told (MayDrop key fault) before after)
+
+-- an opening that is done sets the number of the session
+abbrev pub OpeningsSetTheNumber : Type 0
+OpeningsSetTheNumber = (result : Result ℕ OpenFault) (before after : Option Files) → IfOk result (λ epoch. IfSome before (λ files. next_epoch files ≡ Ok epoch))
+    → IfOk result (λ epoch. after ≡ told_with_epoch before epoch) → IfOk result (λ epoch. Told (NumberSet epoch) before after)
+
+-- one that failed leaves the old number or, where the disk failed, the next
+abbrev pub FailedOpeningsMaySetTheNumber : Type 0
+FailedOpeningsMaySetTheNumber = (result : Result ℕ OpenFault) (asked made : Option (List Call)) (before after : Option Files)
+    → IfErr result (IsOpenLeft asked made before after) → IfErr result (λ fault. Told (MayOpen fault) before after)

@@ -1,10 +1,10 @@
 -- Which calls of a disk the cache makes. Each is of one of its files, and none leads out of the document root.
-use Rattle.std.specs.Prelude.{◌≡◌, ◌⊎◌, [], Bool, Contains, IsTrue, List, Option, ◌++◌, IfErr, OnOk, Result, ⊤}
+use Rattle.std.specs.Prelude.{◌≡◌, ◌⊎◌, [], Bool, Contains, IsTrue, List, Option, ◌++◌, IfErr, OnOk, Result, ⊤, ◌∷◌, IfOk, true, ℕ}
 use Rattle.std.specs.List.{AllByRecursion, list_all}
 use Rattle.sp_base.specs.Paths.{is_path, parent_of, pieces}
-use Rattle.sp_base.specs.Texts.{Text}
+use Rattle.sp_base.specs.Texts.{Text, Segments}
 use Rattle.sp_base.specs.declared.answer.Answer.{Answer}
-use Rattle.sp_outside.specs.Calls.{Call, Get, Put, Remove, Names, told_calls}
+use Rattle.sp_outside.specs.Calls.{Call, Get, Put, Remove, Names, told_calls, MadeFirst, told_call}
 use Rattle.sp_outside.specs.FileNames.{is_inner}
 use Rattle.sp_outside.specs.Files.{Files}
 use Rattle.cover_rules.specs.declared.invalidation.Invalidation.{Invalidation}
@@ -12,9 +12,14 @@ use Rattle.cover_rules.specs.Pages.{IsPageKey}
 use Rattle.cover_rules.specs.declared.page.PageKey.{PageKey}
 use Rattle.cover_rules.specs.declared.stamp.Stamp.{Stamp}
 use Rattle.docroot_format.specs.Deletions.{deleted_prefixes}
-use Rattle.docroot_format.specs.Names.{epoch_name, is_docroot_name, is_page_file, is_stat_file}
+use Rattle.docroot_format.specs.Names.{epoch_name, is_docroot_name, is_page_file, is_stat_file, stat_name}
 use Rattle.docroot_format.specs.declared.fault.FileFault.{FileFault}
-use Rattle.cache_files.specs.Pages.{IsPutLeft, put_calls}
+use Rattle.docroot_format.specs.Faults.{IsOneCall}
+use Rattle.cache_files.specs.Pages.{IsPutLeft, put_calls, drop_calls, IsDropLeft, page_head_name, page_body_name, IsCallLeft}
+use Rattle.cache_files.specs.declared.head_note.HeadNote.{HeadNote}
+use Rattle.cache_files.specs.declared.page.Page.{Page}
+use Rattle.cache_files.specs.declared.epoch.OpenFault.{OpenFault}
+use Rattle.cache_files.specs.Epochs.{open_calls, IsOpenLeft}
 
 -- the name is that of the session's number, of a page's file or of a folder's stamp
 abbrev pub IsCacheFile : Text → Type 0
@@ -53,3 +58,37 @@ abbrev pub PutsTakeDocrootCalls : Type 0
 PutsTakeDocrootCalls = (result : Result ⊤ FileFault) (asked made : Option (List Call)) (before after : Option Files) (key : PageKey) (stamp : Stamp) (answer : Answer)
     → IsPageKey key → OnOk result (made ≡ told_calls asked (put_calls key stamp answer))
     → IfErr result (IsPutLeft asked made before after key stamp answer) → MakesDocrootCalls asked made
+
+-- a drop of a page does so too
+abbrev pub DropsTakeDocrootCalls : Type 0
+DropsTakeDocrootCalls = (result : Result ⊤ FileFault) (asked made : Option (List Call)) (before after : Option Files) (key : PageKey) → IsPageKey key
+    → OnOk result (made ≡ told_calls asked (drop_calls key)) → IfErr result (IsDropLeft asked made before after key) → MakesDocrootCalls asked made
+
+-- some of the calls were made that read a page, its head first
+abbrev pub ReadsPageFirst : Option (List Call) → Option (List Call) → PageKey → Type 0
+ReadsPageFirst asked made key = MadeFirst asked made (Get (page_head_name key) ∷ Get (page_body_name key) ∷ [])
+
+-- a reading of a page's head makes only such calls, whatever it answers
+abbrev pub HeadReadingsTakeDocrootCalls : Type 0
+HeadReadingsTakeDocrootCalls = (result : Result (Option HeadNote) FileFault) (asked made : Option (List Call)) (key : PageKey) → IsPageKey key
+    → IfOk result (λ _. made ≡ told_call asked (Get (page_head_name key) true)) → IfErr result (IsCallLeft asked made (Get (page_head_name key))) → MakesDocrootCalls asked made
+
+-- and so does one of the body of a page whose head is known
+abbrev pub BodyReadingsTakeDocrootCalls : Type 0
+BodyReadingsTakeDocrootCalls = (result : Result (Option Page) FileFault) (asked made : Option (List Call)) (key : PageKey) → IsPageKey key
+    → IfOk result (λ _. made ≡ told_call asked (Get (page_body_name key) true)) → IfErr result (IsCallLeft asked made (Get (page_body_name key))) → MakesDocrootCalls asked made
+
+-- a touch of a folder makes only such calls, whatever it answers
+abbrev pub TouchesTakeDocrootCalls : Type 0
+TouchesTakeDocrootCalls = (result : Result ⊤ FileFault) (asked made : Option (List Call)) (folder : Segments) (bytes : Text) → IsTrue (is_path folder)
+    → IsOneCall asked made (Put (stat_name folder) bytes) result → MakesDocrootCalls asked made
+
+-- and so does a reading of its stamp
+abbrev pub StampReadingsTakeDocrootCalls : Type 0
+StampReadingsTakeDocrootCalls = (result : Result (Option Stamp) FileFault) (asked made : Option (List Call)) (folder : Segments) → IsTrue (is_path folder)
+    → IsOneCall asked made (Get (stat_name folder)) result → MakesDocrootCalls asked made
+
+-- an opening makes only such calls, whatever it answers
+abbrev pub OpeningsTakeDocrootCalls : Type 0
+OpeningsTakeDocrootCalls = (result : Result ℕ OpenFault) (asked made : Option (List Call)) (before after : Option Files)
+    → IfOk result (λ epoch. made ≡ told_calls asked (open_calls epoch)) → IfErr result (IsOpenLeft asked made before after) → MakesDocrootCalls asked made

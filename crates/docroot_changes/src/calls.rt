@@ -1,22 +1,11 @@
 //! Which calls of the disk are made for the files of the cache: laws, on functions that do nothing.
-ghost use Rattle.std.specs.Prelude.{◌≡◌, ◌∷◌, [], ℕ, ⊤, true, Bool, List, Option, Result, Some, IfErr, IfOk, IsTrue, OnOk};
-ghost use Rattle.sp_base.specs.Paths.{is_path};
-ghost use Rattle.sp_base.specs.Texts.{Segments, Text};
-ghost use Rattle.sp_outside.specs.Calls.{Call, Get, MadeFirst, Names, Put, Remove, told_call, told_calls};
+ghost use Rattle.std.specs.Prelude.{ℕ, Bool, List, Option, Some, IsTrue};
+ghost use Rattle.sp_base.specs.Texts.{Text};
+ghost use Rattle.sp_outside.specs.Calls.{Call, Get, Names, Put, Remove, told_call};
 ghost use Rattle.sp_outside.specs.FileNames.{has_segments, is_inside};
-ghost use Rattle.sp_outside.specs.Files.{Files};
 ghost use Rattle.cover_rules.specs.Pages.{IsPageKey};
 ghost use Rattle.cover_rules.specs.declared.page.PageKey.{PageKey};
-ghost use Rattle.cover_rules.specs.declared.stamp.Stamp.{Stamp};
-ghost use Rattle.docroot_format.specs.Faults.{IsOneCall};
-ghost use Rattle.docroot_format.specs.Names.{stat_name};
-ghost use Rattle.docroot_format.specs.declared.fault.FileFault.{FileFault};
-ghost use Rattle.cache_files.specs.Epochs.{IsOpenLeft, open_calls};
-ghost use Rattle.cache_files.specs.Pages.{IsCallLeft, IsDropLeft, drop_calls, page_body_name, page_head_name};
-ghost use Rattle.cache_files.specs.declared.epoch.OpenFault.{OpenFault};
-ghost use Rattle.cache_files.specs.declared.head_note.HeadNote.{HeadNote};
-ghost use Rattle.cache_files.specs.declared.page.Page.{Page};
-ghost use Rattle.docroot_changes.specs.DocrootCalls.{IsDocrootCall, MakesDocrootCalls, leads_in, CallsAddUp, FollowsByDocrootCalls, PutsTakeDocrootCalls};
+ghost use Rattle.docroot_changes.specs.DocrootCalls.{IsDocrootCall, MakesDocrootCalls, leads_in, CallsAddUp, FollowsByDocrootCalls, PutsTakeDocrootCalls, DropsTakeDocrootCalls, ReadsPageFirst, HeadReadingsTakeDocrootCalls, BodyReadingsTakeDocrootCalls, TouchesTakeDocrootCalls, StampReadingsTakeDocrootCalls, OpeningsTakeDocrootCalls};
 
 use docroot_format::{names_lie_in_the_docroot, names_tell_their_files};
 
@@ -41,14 +30,10 @@ pub fn docroot_calls_lead_nowhere_out()
 /// and so do the three calls that read one (`get_page`: `asked`; `get_head`, `get_known`: `made`, `left`).
 pub fn pages_take_docroot_calls()
     ensures put { PutsTakeDocrootCalls }
-    ensures dropped { (result : Result ⊤ FileFault) (asked made : Option (List Call)) (before after : Option Files) (key : PageKey) → IsPageKey key
-        → OnOk result (made ≡ told_calls asked (drop_calls key)) → IfErr result (IsDropLeft asked made before after key) → MakesDocrootCalls asked made }
-    ensures got { (asked made : Option (List Call)) (key : PageKey) → IsPageKey key
-        → MadeFirst asked made (Get (page_head_name key) ∷ Get (page_body_name key) ∷ []) → MakesDocrootCalls asked made }
-    ensures head { (result : Result (Option HeadNote) FileFault) (asked made : Option (List Call)) (key : PageKey) → IsPageKey key
-        → IfOk result (λ _. made ≡ told_call asked (Get (page_head_name key) true)) → IfErr result (IsCallLeft asked made (Get (page_head_name key))) → MakesDocrootCalls asked made }
-    ensures known { (result : Result (Option Page) FileFault) (asked made : Option (List Call)) (key : PageKey) → IsPageKey key
-        → IfOk result (λ _. made ≡ told_call asked (Get (page_body_name key) true)) → IfErr result (IsCallLeft asked made (Get (page_body_name key))) → MakesDocrootCalls asked made }
+    ensures dropped { DropsTakeDocrootCalls }
+    ensures got { (asked made : Option (List Call)) (key : PageKey) → IsPageKey key → ReadsPageFirst asked made key → MakesDocrootCalls asked made }
+    ensures head { HeadReadingsTakeDocrootCalls }
+    ensures known { BodyReadingsTakeDocrootCalls }
 {
     names_lie_in_the_docroot();
     names_tell_their_files();
@@ -57,10 +42,8 @@ pub fn pages_take_docroot_calls()
 /// A touch of a folder, and a reading of its stamp, make only calls that the cache may make, whatever they answer (`touch` and `stamp_of`:
 /// `made`).
 pub fn stamps_take_docroot_calls()
-    ensures touched { (result : Result ⊤ FileFault) (asked made : Option (List Call)) (folder : Segments) (bytes : Text) → IsTrue (is_path folder)
-        → IsOneCall asked made (Put (stat_name folder) bytes) result → MakesDocrootCalls asked made }
-    ensures read { (result : Result (Option Stamp) FileFault) (asked made : Option (List Call)) (folder : Segments) → IsTrue (is_path folder)
-        → IsOneCall asked made (Get (stat_name folder)) result → MakesDocrootCalls asked made }
+    ensures touched { TouchesTakeDocrootCalls }
+    ensures read { StampReadingsTakeDocrootCalls }
 {
     names_lie_in_the_docroot();
     names_tell_their_files();
@@ -68,8 +51,7 @@ pub fn stamps_take_docroot_calls()
 
 /// An opening makes only calls that the cache may make, whatever it answers (`open_epoch`: `made`, `left`).
 pub fn an_opening_takes_docroot_calls()
-    ensures { (result : Result ℕ OpenFault) (asked made : Option (List Call)) (before after : Option Files)
-        → IfOk result (λ epoch. made ≡ told_calls asked (open_calls epoch)) → IfErr result (IsOpenLeft asked made before after) → MakesDocrootCalls asked made }
+    ensures { OpeningsTakeDocrootCalls }
 {
     names_lie_in_the_docroot();
     names_tell_their_files();

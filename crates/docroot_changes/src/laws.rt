@@ -1,14 +1,5 @@
 //! What each call on the files makes of the pages, the stamps and the number of the session: laws, on functions that do nothing.
-ghost use Rattle.std.specs.Prelude.{◌≡◌, ℕ, ⊤, List, Option, Result, Ok, IfSome, IfOk, IfErr, OnOk};
-ghost use Rattle.sp_outside.specs.Calls.{Call};
-ghost use Rattle.sp_outside.specs.Files.{Files};
-ghost use Rattle.cover_rules.specs.Pages.{IsPageKey};
-ghost use Rattle.cover_rules.specs.declared.page.PageKey.{PageKey};
-ghost use Rattle.docroot_format.specs.declared.fault.FileFault.{FileFault};
-ghost use Rattle.cache_files.specs.Epochs.{IsOpenLeft, next_epoch, told_with_epoch};
-ghost use Rattle.cache_files.specs.Pages.{IsDropLeft, told_without_page};
-ghost use Rattle.cache_files.specs.declared.epoch.OpenFault.{OpenFault};
-ghost use Rattle.docroot_changes.specs.Changes.{MayDrop, MayOpen, NumberSet, PageGone, Told, PutsSetThePage, StoppedPutsMaySetThePage, TouchesSetTheStamp, StoppedTouchesMaySetTheStamp};
+ghost use Rattle.docroot_changes.specs.Changes.{PutsSetThePage, FailedPutsMaySetThePage, TouchesSetTheStamp, FailedTouchesMaySetTheStamp, DropsLeaveNoPage, FailedDropsMayLeaveNoPage, OpeningsSetTheNumber, FailedOpeningsMaySetTheNumber};
 
 use cache_files::{
     a_failed_drop_leaves_whole_pages, a_failed_opening_leaves_the_old_number_or_the_next,
@@ -27,7 +18,7 @@ use stat_files::{
 /// (`err`). Other pages, each stamp and the number of the session are as they were.
 pub fn what_a_put_sets()
     ensures put { PutsSetThePage }
-    ensures stopped { StoppedPutsMaySetThePage }
+    ensures stopped { FailedPutsMaySetThePage }
 {
     a_page_is_read_back();
     a_failed_put_leaves_whole_pages();
@@ -39,10 +30,8 @@ pub fn what_a_put_sets()
 /// A drop leaves no page of its key (`drop_page`: `ok`); one that failed leaves the old page or, where the disk failed, none (`err`). Other
 /// pages, each stamp and the number of the session are as they were.
 pub fn what_a_drop_sets()
-    ensures dropped { (result : Result ⊤ FileFault) (before after : Option Files) (key : PageKey) → IsPageKey key
-        → OnOk result (after ≡ told_without_page before key) → OnOk result (Told (PageGone key) before after) }
-    ensures stopped { (result : Result ⊤ FileFault) (asked made : Option (List Call)) (before after : Option Files) (key : PageKey) → IsPageKey key
-        → IfErr result (IsDropLeft asked made before after key) → IfErr result (λ fault. Told (MayDrop key fault) before after) }
+    ensures dropped { DropsLeaveNoPage }
+    ensures stopped { FailedDropsMayLeaveNoPage }
 {
     pages_have_files_of_their_own();
     a_failed_drop_leaves_whole_pages();
@@ -54,7 +43,7 @@ pub fn what_a_drop_sets()
 /// (`err`). Each page, the stamps of other folders and the number of the session are as they were.
 pub fn what_a_touch_sets()
     ensures touched { TouchesSetTheStamp }
-    ensures stopped { StoppedTouchesMaySetTheStamp }
+    ensures stopped { FailedTouchesMaySetTheStamp }
 {
     a_stamp_is_read_back();
     a_failed_touch_leaves_the_old_stamp_or_the_new();
@@ -68,10 +57,8 @@ pub fn what_a_touch_sets()
 /// An opening sets the number of the session, one more than before (`open_epoch`: `ok`, `after`); one that failed leaves the old number or,
 /// where the disk failed, the next (`left`). Each page and each stamp is as it was.
 pub fn what_an_opening_sets()
-    ensures opened { (result : Result ℕ OpenFault) (before after : Option Files) → IfOk result (λ epoch. IfSome before (λ files. next_epoch files ≡ Ok epoch))
-        → IfOk result (λ epoch. after ≡ told_with_epoch before epoch) → IfOk result (λ epoch. Told (NumberSet epoch) before after) }
-    ensures stopped { (result : Result ℕ OpenFault) (asked made : Option (List Call)) (before after : Option Files)
-        → IfErr result (IsOpenLeft asked made before after) → IfErr result (λ fault. Told (MayOpen fault) before after) }
+    ensures opened { OpeningsSetTheNumber }
+    ensures stopped { FailedOpeningsMaySetTheNumber }
 {
     a_session_is_after_every_stamp();
     a_failed_opening_leaves_the_old_number_or_the_next();

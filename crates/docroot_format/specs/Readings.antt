@@ -71,5 +71,5 @@ unfoldable pub head_of : List ℕ → Option HeadLine
 head_of text = option_and_then (λ s. body_of s.0 s.1) (option_and_then stamp_of (after_word (codes "page 1 ") text))
 
 -- the line of a head that says this, of a media type, is read back
-abbrev pub IsHeadReadBack : ℕ → ℕ → ℕ → Text → Type 0
-IsHeadReadBack epoch count size kind = IsTrue (is_kind kind) → head_of (head_text epoch count size kind) ≡ Some (record { epoch = epoch; count = count; size = size; kind = kind })
+abbrev pub IsHeadReadBackIfKind : ℕ → ℕ → ℕ → Text → Type 0
+IsHeadReadBackIfKind epoch count size kind = IsTrue (is_kind kind) → head_of (head_text epoch count size kind) ≡ Some (record { epoch = epoch; count = count; size = size; kind = kind })

@@ -1,5 +1,5 @@
 //! What follows from the definitions of names and texts: laws, on functions that do nothing.
-ghost use Rattle.std.specs.Prelude.{◌≡◌, ◌≢◌, ◌↔◌, ◌<◌, ◌^◌, ◌++◌, ◌∷◌, [], ℕ, List, IsTrue, Some, false, true};
+ghost use Rattle.std.specs.Prelude.{◌≡◌, ◌≢◌, ◌<◌, ◌^◌, ◌++◌, ◌∷◌, [], ℕ, List, IsTrue, Some, false};
 ghost use Rattle.cover_rules.specs.declared.page.PageKey.{PageKey};
 ghost use Rattle.cover_rules.specs.declared.invalidation.Invalidation.{Invalidation};
 ghost use Rattle.cover_rules.specs.Coverage.{deletes, stat_folder};
@@ -8,8 +8,8 @@ ghost use Rattle.sp_base.specs.Paths.{is_path, mangled_segs};
 ghost use Rattle.sp_outside.specs.FileNames.{beside_ending};
 ghost use Rattle.docroot_format.specs.Names.{body_name, epoch_name, have_names, head_name, is_docroot_name, is_page_file, is_place, is_stat_file, stat_name, IsFolder, HaveBytes, IsTouchedBy};
 ghost use Rattle.sp_base.specs.Texts.{Segments, Text};
-ghost use Rattle.docroot_format.specs.Readings.{HeadLine, epoch_of, head_of, stat_of, IsHeadReadBack};
-ghost use Rattle.docroot_format.specs.Deletions.{IsDeletedByName};
+ghost use Rattle.docroot_format.specs.Readings.{HeadLine, epoch_of, head_of, stat_of, IsHeadReadBackIfKind};
+ghost use Rattle.docroot_format.specs.Deletions.{IsDeletedByBody, IsDeletedByHead};
 ghost use Rattle.docroot_format.specs.Texts.{epoch_text, head_text, stat_text};
 
 use sp_base::{mangling_and_unmangling, segments_and_their_spelling};
@@ -47,7 +47,7 @@ pub fn folders_of_stamps_are_paths()
 
 /// The texts that are written read as what they were written of.
 pub fn texts_are_read_back()
-    ensures head { (epoch count size : ℕ) (kind : Text) → epoch < 2 ^ 64 → count < 2 ^ 64 → size < 2 ^ 64 → IsHeadReadBack epoch count size kind }
+    ensures head { (epoch count size : ℕ) (kind : Text) → epoch < 2 ^ 64 → count < 2 ^ 64 → size < 2 ^ 64 → IsHeadReadBackIfKind epoch count size kind }
     ensures stat { (epoch count : ℕ) → epoch < 2 ^ 64 → count < 2 ^ 64 → stat_of (stat_text epoch count) ≡ Some (epoch, count) }
     ensures epoch { (epoch : ℕ) → 0 < epoch → epoch < 2 ^ 64 → epoch_of (epoch_text epoch) ≡ Some epoch }
 {}
@@ -106,10 +106,8 @@ pub fn no_name_ends_as_one_beside()
 /// An invalidation deletes exactly the page at its handle, and the pages whose files have names that begin with one of its prefixes. It is
 /// the same whether a page's body is looked at or its head.
 pub fn deleted_pages_are_told_by_names()
-    ensures body { (inv : Invalidation) (key : PageKey) → IsPageKey key → IsTrue (is_path inv.handle) → HaveBytes inv.handle
-        → (deletes inv key ≡ true) ↔ IsDeletedByName inv key (body_name key.folder key.file) }
-    ensures head { (inv : Invalidation) (key : PageKey) → IsPageKey key → IsTrue (is_path inv.handle) → HaveBytes inv.handle
-        → (deletes inv key ≡ true) ↔ IsDeletedByName inv key (head_name key.folder key.file) }
+    ensures body { (inv : Invalidation) (key : PageKey) → IsPageKey key → IsTrue (is_path inv.handle) → HaveBytes inv.handle → IsDeletedByBody inv key }
+    ensures head { (inv : Invalidation) (key : PageKey) → IsPageKey key → IsTrue (is_path inv.handle) → HaveBytes inv.handle → IsDeletedByHead inv key }
 {
     segments_and_their_spelling();
 }

@@ -61,8 +61,8 @@ abbrev pub KeepsFlight : ℕ → List Flight → List Flight → Type 0
 KeepsFlight number old new = flight_at number new ≡ flight_at number old
 
 -- the flight under this number is there once the invalidation has begun, as that leaves it
-abbrev pub VoidsAlone : ℕ → ℕ → Invalidation → List Flight → Type 0
-VoidsAlone number level inv flights = flight_at number (map (after_invalidation level inv) flights) ≡ option_map (after_invalidation level inv) (flight_at number flights)
+abbrev pub IsFoundAsLeftBy : ℕ → ℕ → Invalidation → List Flight → Type 0
+IsFoundAsLeftBy number level inv flights = flight_at number (map (after_invalidation level inv) flights) ≡ option_map (after_invalidation level inv) (flight_at number flights)
 
 -- where numbers rise they do so with that of a flight which is above them
 abbrev pub RisesWith : ℕ → ℕ → Flight → List Flight → Type 0
@@ -73,5 +73,5 @@ abbrev pub RisesAfter : ℕ → ℕ → ℕ → Invalidation → List Flight →
 RisesAfter least most level inv flights = AreRising least flights most → AreRising least (map (after_invalidation level inv) flights) most
 
 -- where this number stands at this place it alone goes from there as its flight does
-abbrev pub LeavesPlace : ℕ → ℕ → List Flight → Type 0
-LeavesPlace number place flights = slice_get (numbers_of flights) place ≡ Some number → numbers_of (without number flights) ≡ remove (numbers_of flights) place
+abbrev pub LeavesPlaceIfThere : ℕ → ℕ → List Flight → Type 0
+LeavesPlaceIfThere number place flights = slice_get (numbers_of flights) place ≡ Some number → numbers_of (without number flights) ≡ remove (numbers_of flights) place

@@ -2,7 +2,7 @@
 ghost use Rattle.std.specs.Prelude.{◌≡◌, ◌≢◌, ◌<◌, ◌++◌, ◌∷◌, [], ℕ, List, IsSome, Some, None, map, slice_get};
 ghost use Rattle.cover_rules.specs.declared.invalidation.Invalidation.{Invalidation};
 ghost use Rattle.flights.specs.declared.flight.Flight.{Flight};
-ghost use Rattle.flights.specs.Flights.{AreRising, after_invalidation, flight_at, numbers_of, without, HasItsNumber, KeepsFlight, VoidsAlone, RisesWith, RisesAfter, LeavesPlace};
+ghost use Rattle.flights.specs.Flights.{AreRising, after_invalidation, flight_at, numbers_of, without, HasItsNumber, KeepsFlight, IsFoundAsLeftBy, RisesWith, RisesAfter, LeavesPlaceIfThere};
 ghost use Rattle.flights.specs.Landings.{UncoveredFlightsLandClear, CoveredFlightsLandVoided, UnkeyedFlightsLandUnkeyed};
 
 /// A flight that is asked under a number that no other has is there under it (`asked`), and stays so while others are asked
@@ -12,7 +12,7 @@ pub fn a_flight_is_there_until_its_ticket_is_spent()
     ensures asked { (flight : Flight) (flights : List Flight) → flight_at flight.number flights ≡ None → HasItsNumber flight (flights ++ flight ∷ []) }
     ensures others_asked { (number : ℕ) (other : Flight) (flights : List Flight) → number ≢ other.number → KeepsFlight number flights (flights ++ other ∷ []) }
     ensures others_spent { (number other : ℕ) (flights : List Flight) → number ≢ other → flight_at number (without other flights) ≡ flight_at number flights }
-    ensures voided { (number level : ℕ) (inv : Invalidation) (flights : List Flight) → VoidsAlone number level inv flights }
+    ensures voided { (number level : ℕ) (inv : Invalidation) (flights : List Flight) → IsFoundAsLeftBy number level inv flights }
     ensures spent { (least number most : ℕ) (flights : List Flight) → AreRising least flights most → flight_at number (without number flights) ≡ None }
 {}
 
@@ -32,7 +32,7 @@ pub fn tickets_have_the_places_of_their_flights()
     ensures asked { (flight : Flight) (flights : List Flight) → numbers_of (flights ++ flight ∷ []) ≡ numbers_of flights ++ flight.number ∷ [] }
     ensures voided { (level : ℕ) (inv : Invalidation) (flights : List Flight) → numbers_of (map (after_invalidation level inv) flights) ≡ numbers_of flights }
     ensures there { (number place : ℕ) (flights : List Flight) → slice_get (numbers_of flights) place ≡ Some number → IsSome (flight_at number flights) }
-    ensures left { (least number most place : ℕ) (flights : List Flight) → AreRising least flights most → LeavesPlace number place flights }
+    ensures left { (least number most place : ℕ) (flights : List Flight) → AreRising least flights most → LeavesPlaceIfThere number place flights }
 {}
 
 /// A flight that is for a page gives leave to keep it where it was not voided as it was asked, and no invalidation that has begun since

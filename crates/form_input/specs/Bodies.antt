@@ -1,7 +1,7 @@
 -- A multipart body as a whole (RFC 2046, section 5.1.1): the relation of which `multipart_of` is the answer.
 use Rattle.std.specs.Prelude.{◌≡◌, ◌≤◌, ◌&&◌, ℕ, Bool, true, not, List, [], ◌∷◌, ◌++◌, Some, map, length}
 use Rattle.std.specs.List.{list_all}
-use Rattle.sp_base.specs.Texts.{Text}
+use Rattle.sp_base.specs.Texts.{Text, Pairs}
 use Rattle.form_input.specs.Lines.{lines}
 use Rattle.form_input.specs.Multipart.{dash_boundary, line_kind, is_plain_line, is_closing_line, pair_of, most_pairs}
 
@@ -34,7 +34,7 @@ pub record IsMultipart (boundary : List ℕ) (ls : List Text) (parts : List Body
   pub closed : is_closing_line (line_kind (dash_boundary boundary) closing) ≡ true
 
 -- the pairs of a body's parts, at most 1,000
-pub record HasPairs (boundary body : List ℕ) (pairs : List (List ℕ × List ℕ)) : Type 0 where
+pub record HasPairs (boundary body : List ℕ) (pairs : Pairs) : Type 0 where
   pub parts : List BodyPart
   pub is : IsMultipart boundary (lines body) parts
   pub each : map (λ p. pair_of p.content) parts ≡ map Some pairs

@@ -1,7 +1,7 @@
 -- Why a multipart body is refused, as a whole (RFC 7578; RFC 2046, section 5.1.1): the relation of which a fault of `multipart_of` is the answer.
 use Rattle.std.specs.Prelude.{◌≡◌, ◌≤◌, ◌+◌, ◌⊎◌, ℕ, Bool, true, not, List, [], ◌∷◌, ◌++◌, Some, None, map, length}
 use Rattle.std.specs.List.{list_all}
-use Rattle.sp_base.specs.Texts.{Text}
+use Rattle.sp_base.specs.Texts.{Text, Pairs}
 use Rattle.form_input.specs.declared.fault.FormFault.{FormFault}
 use Rattle.form_input.specs.declared.fault.FormFault.TheVariants.{WrongKind, NoBoundary, BadPart, TooMany, NoMemory}
 use Rattle.form_input.specs.Lines.{lines}
@@ -18,7 +18,7 @@ abbrev pub is_boundary_line : List ℕ → List ℕ → Bool
 is_boundary_line dash line = not (is_plain_line (line_kind dash line))
 
 -- lines begin with a preamble and with parts that each have a pair; the others are left
-pub record BeginsWithPairs (boundary : List ℕ) (ls : List Text) (pairs : List (List ℕ × List ℕ)) (left : List Text) : Type 0 where
+pub record BeginsWithPairs (boundary : List ℕ) (ls : List Text) (pairs : Pairs) (left : List Text) : Type 0 where
   pub preamble : List Text
   pub parts : List BodyPart
   pub spells : ls ≡ preamble ++ (part_lines parts ++ left)
@@ -32,7 +32,7 @@ HasNoPart boundary body = are_plain (dash_boundary boundary) (lines body) ≡ tr
 
 -- after at most 1,000 parts with pairs stands a part that no boundary line ends
 pub record LacksEnd (boundary body : List ℕ) : Type 0 where
-  pub pairs : List (List ℕ × List ℕ)
+  pub pairs : Pairs
   pub last : BodyPart
   pub begins : BeginsWithPairs boundary (lines body) pairs (last.line ∷ last.content)
   pub few : length pairs ≤ most_pairs
@@ -40,7 +40,7 @@ pub record LacksEnd (boundary body : List ℕ) : Type 0 where
 
 -- after at most 1,000 parts with pairs stands a part without a pair, whose boundary line is at this place of the body
 pub record HasBadPart (boundary body : List ℕ) (place : ℕ) : Type 0 where
-  pub pairs : List (List ℕ × List ℕ)
+  pub pairs : Pairs
   pub bad : BodyPart
   pub next : List ℕ
   pub more : List Text
@@ -53,7 +53,7 @@ pub record HasBadPart (boundary body : List ℕ) (place : ℕ) : Type 0 where
 
 -- 1,001 parts have pairs, and a boundary line ends the last of them
 pub record HasTooMany (boundary body : List ℕ) : Type 0 where
-  pub pairs : List (List ℕ × List ℕ)
+  pub pairs : Pairs
   pub next : List ℕ
   pub more : List Text
   pub begins : BeginsWithPairs boundary (lines body) pairs (next ∷ more)

@@ -2,7 +2,7 @@
 use Rattle.std.specs.Prelude.{◌==◌, ◌&&◌, ◌+◌, ℕ, Bool, false, true, if◌then◌else◌, List, [], ◌∷◌, ◌++◌, Option, Some, None, Result, Ok, Err, codes, length, drop, take}
 use Rattle.std.specs.List.{list_all}
 use Rattle.std.specs.Str.{bytes_eq, is_utf8}
-use Rattle.sp_base.specs.Texts.{Text}
+use Rattle.sp_base.specs.Texts.{Text, Pairs}
 use Rattle.form_input.specs.declared.fault.FormFault.{FormFault}
 use Rattle.form_input.specs.declared.fault.FormFault.TheVariants.{BadPart, TooMany}
 use Rattle.form_input.specs.declared.boundary.LineKind.{LineKind}
@@ -100,21 +100,21 @@ abbrev pub most_pairs : ℕ
 most_pairs = 1000
 
 -- pairs before those of the rest, where it has no fault
-abbrev pub before_all : List (List ℕ × List ℕ) → Result (List (List ℕ × List ℕ)) FormFault → Result (List (List ℕ × List ℕ)) FormFault
+abbrev pub before_all : Pairs → Result Pairs FormFault → Result Pairs FormFault
 before_all pairs (Ok more) = Ok (pairs ++ more)
 before_all pairs (Err fault) = Err fault
 
 -- a part at a place, after n others, and the reading of the rest
-abbrev pub with_part : ℕ → ℕ → Option (List ℕ × List ℕ) → Result (List (List ℕ × List ℕ)) FormFault → Result (List (List ℕ × List ℕ)) FormFault
+abbrev pub with_part : ℕ → ℕ → Option (List ℕ × List ℕ) → Result Pairs FormFault → Result Pairs FormFault
 with_part n place None rest = Err (BadPart place)
 with_part n place (Some pair) rest = if n == most_pairs then Err TooMany else before_all (pair ∷ []) rest
 
 -- the pairs of sections in a body of `end` bytes, after n others: a part is a section that another follows, and the closing line ends them
-unfoldable pub pairs_of : ℕ → ℕ → List Section → Result (List (List ℕ × List ℕ)) FormFault
+unfoldable pub pairs_of : ℕ → ℕ → List Section → Result Pairs FormFault
 pairs_of end n [] = Err (BadPart end)
 pairs_of end n (s ∷ []) = if s.closing then Ok [] else Err (BadPart end)
 pairs_of end n (s ∷ next ∷ more) = if s.closing then Ok [] else with_part n s.place (pair_of s.content) (pairs_of end (n + 1) (next ∷ more))
 
 -- what a body reads as
-abbrev pub multipart_of : List ℕ → List ℕ → Result (List (List ℕ × List ℕ)) FormFault
+abbrev pub multipart_of : List ℕ → List ℕ → Result Pairs FormFault
 multipart_of boundary body = pairs_of (length body) 0 (sections (dash_boundary boundary) 0 (lines body)).later

@@ -256,8 +256,8 @@ AnswersRequest files faults c request peer old before new after answered =
     (w : RunState) → AsksCache w c request peer (behind old (files before) (faults before)) → IsAnswered w c request answered (behind old (files before) (faults before)) (behind new (files after) (faults after))
 
 -- a request is answered by the front itself, with this status
-abbrev pub local_answer : ConnectionId → ℕ → Bool → Conditions → Answered
-local_answer c status closes conditions = record { note = Local c status; reply = local_reply status; closes = closes; slices = false; conditions = conditions }
+abbrev pub answered_locally : ConnectionId → ℕ → Bool → Conditions → Answered
+answered_locally c status closes conditions = record { note = Local c status; reply = local_reply status; closes = closes; slices = false; conditions = conditions }
 
 -- the rendered flight that is asked for landed so, in each state that was stood for in which no slice is due
 abbrev pub DeliversPicked : {D : Type 0} → (D → Option Files) → (D → ℕ) → Pick → CacheParts → D → CacheParts → D → Ended → Type 0

@@ -29,8 +29,8 @@ abbrev pub closed_log : RunState → List LogEntry
 closed_log w = closing_entries_of w ++ w.log
 
 -- this is so of the files of a front and of each state that it stands for
-abbrev pub OfItsFiles : (Files → RunState → Type 0) → Type 0
-OfItsFiles IsSo = (publishing : Publishing) (content : Content) (board : Board) (files : Files) (faults : ℕ) (w : RunState) → FrontStandsFor publishing content (at_disk board (Some files) faults) w → IsSo files w
+abbrev pub OfFrontFilesAndStates : (Files → RunState → Type 0) → Type 0
+OfFrontFilesAndStates IsSo = (publishing : Publishing) (content : Content) (board : Board) (files : Files) (faults : ℕ) (w : RunState) → FrontStandsFor publishing content (at_disk board (Some files) faults) w → IsSo files w
 
 -- of each state that it stands for a restart allows what closes the log
 abbrev pub RestartsCloseLogs : Type 0

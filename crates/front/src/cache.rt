@@ -7,7 +7,7 @@ ghost use Rattle.coherence_core.specs.Openings.{OpensCore};
 ghost use Rattle.coherence_core.specs.Sessions.{BeginsSession, KeepsHolds};
 ghost use Rattle.docroot_changes.specs.Changes.{Told};
 ghost use Rattle.http_front.specs.Faults.{insufficient_storage};
-ghost use Rattle.front.specs.Caches.{AnswersRequest, local_answer};
+ghost use Rattle.front.specs.Caches.{AnswersRequest, answered_locally};
 ghost use Rattle.front.specs.Uses.{UsesDisk};
 
 use crate::answered::{Answered, with_memory, without_memory};
@@ -130,7 +130,7 @@ impl Cache {
 
 // Answers a request for which memory ran out.
 fn out_of_memory(c: ConnectionId, request: Req, disk_failed: bool) -> Answered
-    ensures { result ≡ local_answer c insufficient_storage true (record { disk_failed = disk_failed; out_of_memory = true }) }
+    ensures { result ≡ answered_locally c insufficient_storage true (record { disk_failed = disk_failed; out_of_memory = true }) }
 {
     turned_away(
         c,
@@ -142,7 +142,7 @@ fn out_of_memory(c: ConnectionId, request: Req, disk_failed: bool) -> Answered
 
 // Answers a request by the front itself, with this status.
 fn turned_away(c: ConnectionId, _request: Req, status: u16, conditions: Conditions) -> Answered
-    ensures { result ≡ local_answer c status (status == insufficient_storage) conditions }
+    ensures { result ≡ answered_locally c status (status == insufficient_storage) conditions }
 {
     Answered::local(c, status, conditions)
 }

@@ -2,7 +2,7 @@
 ghost use Rattle.std.specs.Prelude.{◌≡◌, ◌++◌, []};
 ghost use Rattle.cache_log.specs.Rules.{KeepsBound};
 ghost use Rattle.coherence_core.specs.Holds.{Holds, HoldsClosed};
-ghost use Rattle.front.specs.Endings.{closed_log, cut_off_entries, BeginsOverOpenLogs, OfItsFiles, RestartsCloseLogs, StandsWhateverTheCount};
+ghost use Rattle.front.specs.Endings.{closed_log, cut_off_entries, BeginsOverOpenLogs, OfFrontFilesAndStates, RestartsCloseLogs, StandsWhateverTheCount};
 
 use coherence_core::{
     a_log_is_closed_in_one_way, a_session_may_end_at_any_time, the_files_hold_what_stands,
@@ -25,11 +25,11 @@ pub fn a_front_begins_over_a_log_that_ends_anywhere()
 /// (`holds`): each flight in the air is lost, and then each unfinished flush is cut off, which a restart may do (`allowed`). Where no flight is in the air the flushes alone are (`landed`). So the
 /// next session can go on with that log. And the slices of each flush keep the bound of the log (`bound`).
 pub fn the_files_of_a_front_hold_its_log()
-    ensures held { OfItsFiles (λ files w. Holds w.farm files w.log) }
-    ensures holds { OfItsFiles (λ files w. HoldsClosed w.farm files (closed_log w)) }
+    ensures held { OfFrontFilesAndStates (λ files w. Holds w.farm files w.log) }
+    ensures holds { OfFrontFilesAndStates (λ files w. HoldsClosed w.farm files (closed_log w)) }
     ensures allowed { RestartsCloseLogs }
-    ensures bound { OfItsFiles (λ files w. KeepsBound w.farm w.found w.log) }
-    ensures landed { OfItsFiles (λ files w. w.flights ≡ [] → HoldsClosed w.farm files (cut_off_entries w ++ w.log)) }
+    ensures bound { OfFrontFilesAndStates (λ files w. KeepsBound w.farm w.found w.log) }
+    ensures landed { OfFrontFilesAndStates (λ files w. w.flights ≡ [] → HoldsClosed w.farm files (cut_off_entries w ++ w.log)) }
 {
     a_session_may_end_at_any_time();
     the_files_hold_what_stands();

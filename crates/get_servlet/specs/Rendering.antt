@@ -4,7 +4,7 @@ use Rattle.std.specs.List.{list_any}
 use Rattle.std.specs.Cmp.Lexicographic.{pointwise}
 use Rattle.std.specs.FinMap.Entries.{find}
 use Rattle.sp_base.specs.Texts.{Segments, Text}
-use Rattle.json.specs.Json.{Json, object, Members, no_members, member}
+use Rattle.json.specs.Json.{Json, object, Members, no_members, member, document}
 use Rattle.json.specs.Tree.{json_tokens}
 use Rattle.json.specs.Print.{print}
 use Rattle.sp_base.specs.Names.{by_name}
@@ -76,3 +76,7 @@ most_resources = 1000
 unfoldable pub greatest_fitting : (ℕ → ℕ) → ℕ → ℕ
 greatest_fitting count zero = 1
 greatest_fitting count (suc depth) = if nat_le (count (suc depth)) most_resources then suc depth else greatest_fitting count depth
+
+-- the text reads back, as JSON, as the very value
+abbrev pub IsReadBackAsJson : Seen → ℕ → Resource → Type 0
+IsReadBackAsJson seen depth res = document (json_text seen depth res) ≡ Some (resource_json seen depth res.path res)

@@ -1,6 +1,5 @@
 //! Laws of the definitions, on functions that do nothing.
 ghost use Rattle.std.specs.Prelude.{◌≡◌, ◌≤◌, ◌↔◌, ℕ, IsTrue, Some};
-ghost use Rattle.json.specs.Json.{document};
 ghost use Rattle.sp_base.specs.MediaTypes.{is_kind};
 ghost use Rattle.sp_base.specs.Paths.{most_segments};
 ghost use Rattle.resource_tree.specs.Seen.{Resource, Seen};
@@ -9,7 +8,7 @@ ghost use Rattle.get_servlet.specs.declared.streams.Stream.{Stream};
 ghost use Rattle.get_servlet.specs.Streams.{stream_of};
 ghost use Rattle.get_servlet.specs.Answers.{json_answer, IsOver};
 ghost use Rattle.get_servlet.specs.Objects.{objects_in, HasLongs, HaveLongs};
-ghost use Rattle.get_servlet.specs.Rendering.{resource_json, json_text, shown_count};
+ghost use Rattle.get_servlet.specs.Rendering.{resource_json, json_text, shown_count, IsReadBackAsJson};
 
 /// A path has at most 64 segments, so whoever asks for more levels is shown no more.
 pub fn sixty_four_levels_are_all()
@@ -23,8 +22,7 @@ pub fn shown_are_the_objects()
 
 /// The text is a JSON text (RFC 8259) of the very value, whatever the depth.
 pub fn texts_read_back()
-    ensures { (seen : Seen) (depth : ℕ) (res : Resource) → HasLongs res → HaveLongs seen
-        → document (json_text seen depth res) ≡ Some (resource_json seen depth res.path res) }
+    ensures { (seen : Seen) (depth : ℕ) (res : Resource) → HasLongs res → HaveLongs seen → IsReadBackAsJson seen depth res }
 {}
 
 /// A depth is named instead exactly where it is the greatest that is 1 or shows at most 1,000 resources, and the one asked for

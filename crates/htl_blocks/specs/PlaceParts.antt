@@ -14,21 +14,21 @@ use Rattle.htl_blocks.specs.declared.place.Place.{Place}
 use Rattle.htl_blocks.specs.declared.repetition.Repetition.{Repetition}
 
 -- the text of the script that a value names, with the variables of the place
-abbrev pub script_named_at : Bindings → Place → List TemplatePiece → List Part
-script_named_at scope place value = Script (statement_name (seen_at scope place) value) (vars_of place.vars.now) ∷ []
+abbrev pub script_for_place : Bindings → Place → List TemplatePiece → List Part
+script_for_place scope place value = Script (statement_name (seen_at scope place) value) (vars_of place.vars.now) ∷ []
 
 -- what stands in an element, of which this is the content
 abbrev pub parts_within : Option Body → List Block → Bindings → List Part
 parts_within body content = body_parts body (λ scope. blocks_parts scope content)
 
 -- what stands in it for the item at a place of its list
-abbrev pub round_at : Bindings → Place → List Block → Repetition → ℕ → List Part
-round_at scope place content repetition index =
+abbrev pub round_for_place : Bindings → Place → List Block → Repetition → ℕ → List Part
+round_for_place scope place content repetition index =
     round_parts repetition.name.now (parts_within repetition.body.now content) (seen_at scope place) (slice_index_or repetition.items index [])
 
 -- what stands in it for each item
-abbrev pub rounds_at : Bindings → Place → List Block → Repetition → List Part
-rounds_at scope place content repetition = flat_map (round_parts repetition.name.now (parts_within repetition.body.now content) (seen_at scope place)) repetition.items
+abbrev pub rounds_for_place : Bindings → Place → List Block → Repetition → List Part
+rounds_for_place scope place content repetition = flat_map (round_parts repetition.name.now (parts_within repetition.body.now content) (seen_at scope place)) repetition.items
 
 -- an element whose content stands once
 abbrev pub element_once : Bindings → Place → ElementTags → List Block → List Part
@@ -46,5 +46,5 @@ element_for_list scope place tags content list =
     between_tags tags.start.now tags.end.now (seen_at scope place) (listed (Some list) (parts_within tags.start.now.attributes.body content) (seen_at scope place))
 
 -- an element with its start tag, its content and its end tag
-abbrev pub element_at : Bindings → Place → ElementTags → List Block → List Part
-element_at scope place tags content = element_parts tags.start.now (λ scope. blocks_parts scope content) tags.end.now (seen_at scope place)
+abbrev pub element_for_place : Bindings → Place → ElementTags → List Block → List Part
+element_for_place scope place tags content = element_parts tags.start.now (λ scope. blocks_parts scope content) tags.end.now (seen_at scope place)

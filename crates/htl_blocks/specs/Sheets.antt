@@ -50,5 +50,5 @@ Wrote (Ok _) old new ps = new ≡ with_parts old ps
 Wrote (Err f) old new ps = Stops f old ps
 
 -- a text is too long, unless memory lacks
-abbrev pub RunsTooLong : List ℕ → RunFault → Type 0
-RunsTooLong text f = f ≢ NoMemory → (f ≡ TooLong) × (most_rendered_bytes < length text)
+abbrev pub RunFailsAsTooLong : List ℕ → RunFault → Type 0
+RunFailsAsTooLong text f = f ≢ NoMemory → (f ≡ TooLong) × (most_rendered_bytes < length text)

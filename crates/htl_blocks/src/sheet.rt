@@ -12,7 +12,7 @@ ghost use Rattle.htl_blocks.specs.Places.{IsPlaceIn};
 ghost use Rattle.htl_blocks.specs.Refused.{most_inclusions, most_rounds};
 ghost use Rattle.htl_blocks.specs.Sheets as spec;
 ghost use Rattle.htl_blocks.specs.Written as written;
-ghost use Rattle.htl_blocks.specs.PlaceParts.{script_named_at};
+ghost use Rattle.htl_blocks.specs.PlaceParts.{script_for_place};
 
 use crate::attribute::Unwrap;
 use crate::bounded_pieces::BoundedPieces;
@@ -78,7 +78,7 @@ fn push_template<'v, 'a: 'v>(
     template: &'v Template,
 ) -> Result<(), RunFault>
     ensures ok { OnOk result (string_bytes text.new ≡ string_bytes text.old ++ template_output (with_vars of.old (vars_of vars.now)) template.now) }
-    ensures err { IfErr result (spec.RunsTooLong (string_bytes text.old ++ template_output (with_vars of.old (vars_of vars.now)) template.now)) }
+    ensures err { IfErr result (spec.RunFailsAsTooLong (string_bytes text.old ++ template_output (with_vars of.old (vars_of vars.now)) template.now)) }
     ensures resource { of.new ≡ of.old }
 {
     match template.write(text, alloc, of, vars) {
@@ -163,7 +163,7 @@ pub fn include_script<'v, 'a: 'v>(
     value: &'v Template,
 ) -> Result<(), RunFault>
     requires { IsPlaceIn sheet.old.scope place.now }
-    ensures { spec.Wrote result sheet.old sheet.new (script_named_at sheet.old.scope place.now value.now) }
+    ensures { spec.Wrote result sheet.old sheet.new (script_for_place sheet.old.scope place.now value.now) }
 {
     let name = name(alloc, &mut sheet.of, place.vars, value)?;
     let frame = place.frame.duplicate(alloc)?;

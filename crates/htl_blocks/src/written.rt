@@ -7,7 +7,7 @@ ghost use Rattle.htl_text.specs.Template.{template_output};
 ghost use Rattle.htl_blocks.specs.Places.{HasItems, IsPlaceIn, seen_at};
 ghost use Rattle.htl_blocks.specs.Sheets.{Wrote};
 ghost use Rattle.htl_blocks.specs.Written as spec;
-ghost use Rattle.htl_blocks.specs.PlaceParts.{element_at, element_for_items, element_for_list, element_once, round_at, rounds_at};
+ghost use Rattle.htl_blocks.specs.PlaceParts.{element_for_place, element_for_items, element_for_list, element_once, round_for_place, rounds_for_place};
 
 use crate::attribute::Body;
 use crate::block::Block;
@@ -81,7 +81,7 @@ fn round<'v, 'a: 'v>(
     requires place { IsPlaceIn sheet.old.scope place.now }
     requires items { HasItems (seen_at sheet.old.scope place.now) repetition.now }
     requires index { index < length repetition.now.items }
-    ensures { Wrote result sheet.old sheet.new (round_at sheet.old.scope place.now content.now repetition.now index) }
+    ensures { Wrote result sheet.old sheet.new (round_for_place sheet.old.scope place.now content.now repetition.now index) }
 {
     let Some(item) = repetition.items.item(alloc, index)? else {
         return Ok(());
@@ -114,7 +114,7 @@ fn rounds<'v, 'a: 'v>(
 ) -> Result<(), RunFault>
     requires place { IsPlaceIn sheet.old.scope place.now }
     requires items { HasItems (seen_at sheet.old.scope place.now) repetition.now }
-    ensures { Wrote result sheet.old sheet.new (rounds_at sheet.old.scope place.now content.now repetition.now) }
+    ensures { Wrote result sheet.old sheet.new (rounds_for_place sheet.old.scope place.now content.now repetition.now) }
 {
     for index in 0..repetition.items.len() {
         round(sheet, alloc, place, content, repetition, index)?;
@@ -200,7 +200,7 @@ fn element<'v, 'a: 'v>(
     content: &'a [Block],
 ) -> Result<(), RunFault>
     requires { IsPlaceIn sheet.old.scope place.now }
-    ensures { Wrote result sheet.old sheet.new (element_at sheet.old.scope place.now tags.now content.now) }
+    ensures { Wrote result sheet.old sheet.new (element_for_place sheet.old.scope place.now tags.now content.now) }
 {
     let start = tags.start;
     if !passes(sheet, alloc, place.vars, &start.attributes.test)? {

@@ -1,61 +1,49 @@
 //! What an element writes, statement by statement: laws of the definitions, on functions that do nothing.
 
-ghost use Rattle.std.specs.Prelude.{◌≡◌, ℕ, [], ◌∷◌, ◌++◌, List, Some, None};
-ghost use Rattle.std.specs.List.{flat_map};
+ghost use Rattle.std.specs.Prelude.{◌≡◌, ℕ, List};
 ghost use Rattle.htl_expr.specs.Bindings.{Bindings};
-ghost use Rattle.htl_expr.specs.Value.{list_in};
 ghost use Rattle.htl_text.specs.declared.piece.TemplatePiece.{TemplatePiece};
 ghost use Rattle.htl_text.specs.Template.{template_output};
 ghost use Rattle.htl_blocks.specs.declared.attribute.Body.TheVariants as body;
 ghost use Rattle.htl_blocks.specs.declared.block.Tag.{Tag};
 ghost use Rattle.htl_blocks.specs.declared.block.Block.{Block};
-ghost use Rattle.htl_blocks.specs.declared.block.Block.TheVariants.{Text, Element};
-ghost use Rattle.htl_blocks.specs.Parts.{Round, Script, Resource, text_parts};
-ghost use Rattle.htl_blocks.specs.Written.{block_parts, blocks_parts, statement_name, statement_value, with_variable};
-ghost use Rattle.htl_blocks.specs.WrittenLaws.{StandsInTags, IsLeftOutUntrue, StandsUnwrapped, HidesStatements};
+ghost use Rattle.htl_blocks.specs.declared.block.Block.TheVariants.{Text};
+ghost use Rattle.htl_blocks.specs.Parts.{text_parts};
+ghost use Rattle.htl_blocks.specs.Written.{block_parts};
+ghost use Rattle.htl_blocks.specs.WrittenLaws.{IsLeftOutIfUntrue, IsItsContentIfUnwrapped, IsWrittenWholeIfInTags, ListElementsWriteEachItem, ElementsWithoutListAreLeftOut, ElementsWithoutItemsAreLeftOut, TextsStandInTags, ScriptsStandInTags, ResourcesStandInTags};
 
 /// An element whose test is false is left out.
 pub fn a_false_test_leaves_the_element_out()
-    ensures { (scope : Bindings) (tag : Tag) (content : List Block) (end_tag : List ℕ) → IsLeftOutUntrue scope tag content end_tag }
+    ensures { (scope : Bindings) (tag : Tag) (content : List Block) (end_tag : List ℕ) → IsLeftOutIfUntrue scope tag content end_tag }
 {}
 
 /// The content of an element stands between its tags once for each item of its list, in their order, with the item as the variable. The
 /// tags stand once.
 pub fn a_content_stands_once_for_each_item()
-    ensures { (scope : Bindings) (tag : Tag) (content : List Block) (end_tag name : List ℕ) (list : List TemplatePiece) (item : List ℕ) (items : List (List ℕ))
-        → StandsInTags scope tag → tag.attributes.body ≡ None → tag.attributes.list ≡ Some (name, list) → list_in (statement_value scope list) ≡ Some (item ∷ items)
-        → block_parts (Element tag content end_tag) scope ≡ text_parts (template_output scope tag.start) ++ (flat_map (λ one. Round ∷ blocks_parts (with_variable scope name one) content) (item ∷ items) ++ text_parts end_tag) }
+    ensures { ListElementsWriteEachItem }
 {}
 
 /// An element whose list is none, or has no items, is left out.
 pub fn a_list_without_items_leaves_the_element_out()
-    ensures none { (scope : Bindings) (tag : Tag) (content : List Block) (end_tag name : List ℕ) (list : List TemplatePiece)
-        → tag.attributes.list ≡ Some (name, list) → list_in (statement_value scope list) ≡ None → block_parts (Element tag content end_tag) scope ≡ [] }
-    ensures empty { (scope : Bindings) (tag : Tag) (content : List Block) (end_tag name : List ℕ) (list : List TemplatePiece)
-        → tag.attributes.list ≡ Some (name, list) → list_in (statement_value scope list) ≡ Some [] → block_parts (Element tag content end_tag) scope ≡ [] }
+    ensures none { ElementsWithoutListAreLeftOut }
+    ensures empty { ElementsWithoutItemsAreLeftOut }
 {}
 
 /// The printed value, the text of a script with the variables of the place, or that of a resource stands in place of the content.
 pub fn a_body_stands_in_place_of_the_content()
-    ensures text { (scope : Bindings) (tag : Tag) (content : List Block) (end_tag : List ℕ) (value : List TemplatePiece)
-        → StandsInTags scope tag → tag.attributes.list ≡ None → tag.attributes.body ≡ Some (body.Text value)
-        → block_parts (Element tag content end_tag) scope ≡ text_parts (template_output scope tag.start) ++ (text_parts (template_output scope value) ++ text_parts end_tag) }
-    ensures script { (scope : Bindings) (tag : Tag) (content : List Block) (end_tag : List ℕ) (value : List TemplatePiece)
-        → StandsInTags scope tag → tag.attributes.list ≡ None → tag.attributes.body ≡ Some (body.Include value)
-        → block_parts (Element tag content end_tag) scope ≡ text_parts (template_output scope tag.start) ++ (Script (statement_name scope value) scope.vars ∷ [] ++ text_parts end_tag) }
-    ensures resource { (scope : Bindings) (tag : Tag) (content : List Block) (end_tag : List ℕ) (value : List TemplatePiece)
-        → StandsInTags scope tag → tag.attributes.list ≡ None → tag.attributes.body ≡ Some (body.Resource value)
-        → block_parts (Element tag content end_tag) scope ≡ text_parts (template_output scope tag.start) ++ (Resource (statement_name scope value) ∷ [] ++ text_parts end_tag) }
+    ensures text { TextsStandInTags }
+    ensures script { ScriptsStandInTags }
+    ensures resource { ResourcesStandInTags }
 {}
 
 /// Unwrapping leaves the tags out and keeps the content.
 pub fn unwrapping_keeps_the_content()
-    ensures { (scope : Bindings) (tag : Tag) (content : List Block) (end_tag : List ℕ) → StandsUnwrapped scope tag content end_tag }
+    ensures { (scope : Bindings) (tag : Tag) (content : List Block) (end_tag : List ℕ) → IsItsContentIfUnwrapped scope tag content end_tag }
 {}
 
 /// Of a tag stands what its template writes, which is its text without the statements: they themselves don't show.
 pub fn statements_dont_show()
-    ensures { (scope : Bindings) (tag : Tag) (content : List Block) (end_tag : List ℕ) → HidesStatements scope tag content end_tag }
+    ensures { (scope : Bindings) (tag : Tag) (content : List Block) (end_tag : List ℕ) → IsWrittenWholeIfInTags scope tag content end_tag }
 {}
 
 /// A template writes its own text.

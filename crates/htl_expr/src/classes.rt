@@ -20,8 +20,9 @@ pub(crate) struct Classes<'a> {
 impl<'a> Model for Classes<'a> {
     ghost use Rattle.std.specs.Prelude.{List, ℕ};
     ghost use Rattle.htl_expr.specs.ComparedValue.{AreNumbered};
+    ghost use Rattle.sp_base.specs.Texts.{Text};
 
-    ghost Value = { List (List (List ℕ) × ℕ) };
+    ghost Value = { List (List Text × ℕ) };
 
     ghost view = { λ c. c.numbers.entries };
 

@@ -38,10 +38,11 @@ pub(crate) struct ComparedValue<'a> {
 }
 
 impl<'a> Model for ComparedValue<'a> {
-    ghost use Rattle.std.specs.Prelude.{List, ℕ};
+    ghost use Rattle.std.specs.Prelude.{List};
     ghost use Rattle.htl_expr.specs.ComparedValue.{texts_of};
+    ghost use Rattle.sp_base.specs.Texts.{Text};
 
-    ghost Value = { List (List ℕ) };
+    ghost Value = { List Text };
 
     ghost view = { λ c. texts_of c.texts };
 }

@@ -79,8 +79,9 @@ pub struct Listed<'v> {
 impl<'v> Model for Listed<'v> {
     ghost use Rattle.std.specs.Prelude.{List, ℕ};
     ghost use Rattle.htl_expr.specs.Lent.{out_of_lent, listed_texts};
+    ghost use Rattle.sp_base.specs.Texts.{Text};
 
-    ghost Value = { List (List ℕ) };
+    ghost Value = { List Text };
 
     ghost view = { λ l. listed_texts (out_of_lent l.list) };
 }

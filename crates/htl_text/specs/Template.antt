@@ -136,9 +136,9 @@ template_output scope ps = flat_map (piece_text scope) ps
 -- ---- what is written within the limit
 
 -- a text is written after what stood there, within the limit
-abbrev pub Renders : List ℕ → List ℕ → List ℕ → Type 0
-Renders old more new = (new ≡ old ++ more) × (length new ≤ most_rendered_bytes)
+abbrev pub Appends : List ℕ → List ℕ → List ℕ → Type 0
+Appends old more new = (new ≡ old ++ more) × (length new ≤ most_rendered_bytes)
 
 -- it would go beyond the limit, unless memory lacks
-abbrev pub RendersTooMuch : List ℕ → RenderFault → Type 0
-RendersTooMuch text f = f ≢ render_fault.NoMemory → (f ≡ render_fault.TooLong) × (most_rendered_bytes < length text)
+abbrev pub RenderFailsAsTooLong : List ℕ → RenderFault → Type 0
+RenderFailsAsTooLong text f = f ≢ render_fault.NoMemory → (f ≡ render_fault.TooLong) × (most_rendered_bytes < length text)

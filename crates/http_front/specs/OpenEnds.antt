@@ -32,18 +32,22 @@ abbrev pub LeavesEndOpen : List ℕ → List Turn → Type 0
 LeavesEndOpen stream turns = (last : List ℕ) × BeginsWithTurns stream turns last × EndsInSpoiltTarget last
 
 -- another end of a stream with these turns is the same, or the stream leaves its end open
-abbrev pub EndsAlike : List ℕ → List Turn → End → End → Type 0
-EndsAlike stream turns end last = SpellsTurns stream turns last → (end ≡ last) ⊎ LeavesEndOpen stream turns
+abbrev pub EndsAlikeOrOpenIfSpelt : List ℕ → List Turn → End → End → Type 0
+EndsAlikeOrOpenIfSpelt stream turns end last = SpellsTurns stream turns last → (end ≡ last) ⊎ LeavesEndOpen stream turns
 
 -- where fewer bytes come after the turns than a head may have, the stream may wait
-abbrev pub MayWait : List ℕ → List Turn → List ℕ → Type 0
-MayWait stream turns last = length last < longest_head → SpellsTurns stream turns Waits
+abbrev pub MayWaitIfShort : List ℕ → List Turn → List ℕ → Type 0
+MayWaitIfShort stream turns last = length last < longest_head → SpellsTurns stream turns Waits
 
 -- where as many or more do, it may have a long head
-abbrev pub MayBeLong : List ℕ → List Turn → List ℕ → Type 0
-MayBeLong stream turns last = longest_head ≤ length last → SpellsTurns stream turns (Breaks LongHead)
+abbrev pub MayBreakIfLong : List ℕ → List Turn → List ℕ → Type 0
+MayBreakIfLong stream turns last = longest_head ≤ length last → SpellsTurns stream turns (Breaks LongHead)
 
 -- a stream that ends in such a target has a bad head; or it waits, where fewer bytes come; or it has a long head, where as many or more do
 abbrev pub SpoiltTargetsEndSo : Type 0
 SpoiltTargetsEndSo = (stream last : List ℕ) (turns : List Turn) (end : End) → BeginsWithTurns stream turns last → EndsInSpoiltTarget last → SpellsTurns stream turns end
     → (end ≡ Breaks BadHead) ⊎ (((end ≡ Waits) × (length last < longest_head)) ⊎ ((end ≡ Breaks LongHead) × (longest_head ≤ length last)))
+
+-- these turns begin all of them
+abbrev pub AreFirstOf : List Turn → List Turn → Type 0
+AreFirstOf turns all = (later : List Turn) × (all ≡ turns ++ later)

@@ -52,8 +52,8 @@ unfoldable pub layers_kids : Content → Segments → List Resource → List Tex
 layers_kids tree path layers = fold (ordered_by tree) (kids_there tree path (all_kids layers)) layers
 
 -- one of the layers has this kid
-abbrev pub HaveKid : List Resource → Text → Type 0
-HaveKid layers name = list_any (λ (layer : Resource). has_text layer.kids name) layers ≡ true
+abbrev pub SomeLayerHasKid : List Resource → Text → Type 0
+SomeLayerHasKid layers name = list_any (λ (layer : Resource). has_text layer.kids name) layers ≡ true
 
 -- this kid is given of the layers
 abbrev pub GivesKid : Content → Segments → List Resource → Text → Type 0

@@ -10,7 +10,7 @@ ghost use Rattle.overlay_merge.specs.declared.layers.Layer.{Layer};
 ghost use Rattle.overlay_merge.specs.Roots.{is_merged_path, is_parent_of_roots};
 ghost use Rattle.overlay_merge.specs.Hiding.{layer_is_cut, merged_from, IsLeftOut};
 ghost use Rattle.overlay_merge.specs.Cut.{HidesNothing, IsOfLayer, LayerIsCut, NoLayerIsCut};
-ghost use Rattle.overlay_merge.specs.Kids.{all_kids, layers_kids, kids_there, HaveKid, GivesKid, IsKidMerged};
+ghost use Rattle.overlay_merge.specs.Kids.{all_kids, layers_kids, kids_there, SomeLayerHasKid, GivesKid, IsKidMerged};
 ghost use Rattle.overlay_merge.specs.Kids.{has_text, names_after_move};
 ghost use Rattle.overlay_merge.specs.Layers.{layer_below, override_layers};
 ghost use Rattle.overlay_merge.specs.Moves.{StandsBefore, without_name};
@@ -58,7 +58,7 @@ pub fn wishes_only_reorder()
 /// Each kid is a kid of one of the resources that are merged, and a merged resource is at its path. In a good tree something is seen at each
 /// kid that is given at any path.
 pub fn each_kid_is_there()
-    ensures of_a_layer { (tree : Content) (path : Segments) (layers : List Resource) (name : Text) → GivesKid tree path layers name → HaveKid layers name }
+    ensures of_a_layer { (tree : Content) (path : Segments) (layers : List Resource) (name : Text) → GivesKid tree path layers name → SomeLayerHasKid layers name }
     ensures there { (tree : Content) (path : Segments) (layers : List Resource) (name : Text) → GivesKid tree path layers name → IsKidMerged tree path name }
     ensures seen { (tree : Content) (path : Segments) (name : Text) → IsGood tree → ListsKid tree path name → has_resource tree (kid path name) ≡ true }
 {}

@@ -1,10 +1,11 @@
 // Kids that are moved to where they wish to stand.
-ghost use Rattle.std.specs.Prelude.{◌≡◌, ℕ, List, nat_eq, IfOk, OnOk, fold, option_copied};
+ghost use Rattle.std.specs.Prelude.{◌≡◌, List, nat_eq, IfOk, OnOk, fold, option_copied};
 ghost use Rattle.std.specs.Cmp.Lexicographic.{pointwise};
 ghost use Rattle.std.specs.List.{IsDistinct};
 ghost use Rattle.resource_tree.specs.Content.{kid};
 ghost use Rattle.overlay_merge.specs.Kids.{names_after_move, ordered_by, wish_at};
 ghost use Rattle.overlay_merge.specs.Slots.{SlotsAreGood, names_after_moves, names_of, AddsMove, AddsMoves};
+ghost use Rattle.sp_base.specs.Texts.{Text};
 
 use crate::slots::{Slots, slots_of};
 use resource_tree::{Res, Tree};
@@ -68,7 +69,7 @@ pub(crate) fn moves_of<'a>(
     tree: &'a Tree,
     layers: &'a [Res<'_>],
 ) -> Mem<Vec<KidMove<'a>>>
-    ensures { IfOk result (λ moves. (names : List (List ℕ)) → names_after_moves moves.items names ≡ fold (ordered_by tree.now) names layers.now) }
+    ensures { IfOk result (λ moves. (names : List Text) → names_after_moves moves.items names ≡ fold (ordered_by tree.now) names layers.now) }
 {
     let mut moves = Vec::new(alloc);
     for layer in layers {

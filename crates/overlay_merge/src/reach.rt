@@ -1,6 +1,7 @@
 // How deep what is seen reaches along a path.
-ghost use Rattle.std.specs.Prelude.{◌≡◌, ◌≤◌, ◌+◌, ℕ, List, true, false, length, take, IfOk};
+ghost use Rattle.std.specs.Prelude.{◌≡◌, ◌≤◌, ◌+◌, true, false, length, take, IfOk};
 ghost use Rattle.sp_base.specs.Paths.{is_under, parent_of};
+ghost use Rattle.sp_base.specs.Texts.{Segments};
 ghost use Rattle.overlay_merge.specs.Roots.{is_merged_path};
 ghost use Rattle.overlay_merge.specs.Layers.{has_node, layers_of};
 ghost use Rattle.overlay_merge.specs.Merged.{has_resource};
@@ -17,7 +18,7 @@ const SHORT_PATH: usize = 128;
 // The number of segments of the deepest node at a path or above it: below it no node is the last of its line.
 fn deepest_node(alloc: Global, tree: &Tree, path: &Path) -> Mem<usize>
     requires { is_merged_path path.now ≡ false }
-    ensures { IfOk result (λ n. (other : List (List ℕ)) → has_resource tree.now other ≡ true → is_under path.now (parent_of other) ≡ true → length other ≤ n + 1) }
+    ensures { IfOk result (λ n. (other : Segments) → has_resource tree.now other ≡ true → is_under path.now (parent_of other) ≡ true → length other ≤ n + 1) }
 {
     // `len` says that the parent of each node is there.
     let _ = tree.len();
@@ -42,7 +43,7 @@ fn has_node_at(alloc: Global, tree: &Tree, path: &Path, n: usize) -> Mem<bool>
 // layer wherever a kid of it has, so halving finds the last.
 fn deepest_layer(alloc: Global, tree: &Tree, path: &Path) -> Mem<usize>
     requires { is_merged_path path.now ≡ true }
-    ensures { IfOk result (λ n. (other : List (List ℕ)) → has_resource tree.now other ≡ true → is_under path.now (parent_of other) ≡ true → length other ≤ n + 1) }
+    ensures { IfOk result (λ n. (other : Segments) → has_resource tree.now other ≡ true → is_under path.now (parent_of other) ≡ true → length other ≤ n + 1) }
 {
     // `len` says that the parent of each node is there.
     let _ = tree.len();
@@ -61,7 +62,7 @@ fn deepest_layer(alloc: Global, tree: &Tree, path: &Path) -> Mem<usize>
 
 /// How deep it is worth to look along a path for what is seen.
 pub(crate) fn reach(alloc: Global, tree: &Tree, path: &Path) -> Mem<usize>
-    ensures { IfOk result (λ n. (other : List (List ℕ)) → has_resource tree.now other ≡ true → is_under path.now (parent_of other) ≡ true → length other ≤ n + 1) }
+    ensures { IfOk result (λ n. (other : Segments) → has_resource tree.now other ≡ true → is_under path.now (parent_of other) ≡ true → length other ≤ n + 1) }
 {
     if is_merged_path(path) {
         return deepest_layer(alloc, tree, path);

@@ -1,9 +1,10 @@
 //! Notes of the stamps of folders.
-ghost use Rattle.std.specs.Prelude.{◌≡◌, ◌≤◌, ◌<◌, ◌+◌, List, ℕ, [], None, OnOk, OnErr, Some, cond, false, length};
+ghost use Rattle.std.specs.Prelude.{◌≡◌, ◌≤◌, ◌<◌, ◌+◌, [], None, OnOk, OnErr, Some, cond, false, length};
 ghost use Rattle.page_index.specs.Held.{HeldStamps, same_folder};
 ghost use Rattle.page_index.specs.Limits.{most_notes, most_young};
 ghost use Rattle.page_index.specs.Notes.{held_stamp};
 ghost use Rattle.page_index.specs.Effects.{StampStaysOrFalls};
+ghost use Rattle.sp_base.specs.Texts.{Segments};
 
 use cover_rules::Stamp;
 use sp_base::{Mem, Path};
@@ -65,7 +66,7 @@ impl Stamps {
     pub(crate) fn put(&mut self, folder: Path, stamp: Option<Stamp>) -> Mem<()>
         ensures here { OnOk result (held_stamp self.new folder ≡ Some stamp) }
         ensures err { OnErr result (held_stamp self.new folder ≡ None) }
-        ensures others { (other : List (List ℕ)) → same_folder folder other ≡ false → StampStaysOrFalls other self.old self.new }
+        ensures others { (other : Segments) → same_folder folder other ≡ false → StampStaysOrFalls other self.old self.new }
     {
         self.forget(&folder);
         self.make_room();
@@ -75,7 +76,7 @@ impl Stamps {
     // Makes room in the younger generation: where it is full, the older one falls.
     fn make_room(&mut self)
         ensures room { length self.new.young < most_young }
-        ensures kept { (folder : List (List ℕ)) → StampStaysOrFalls folder self.old self.new }
+        ensures kept { (folder : Segments) → StampStaysOrFalls folder self.old self.new }
     {
         if self.young.len() < MOST_YOUNG {
             return;
@@ -87,7 +88,7 @@ impl Stamps {
     fn put_young(&mut self, folder: Path, stamp: Option<Stamp>) -> Mem<()>
         requires { length self.old.young < most_young }
         ensures here { OnOk result (held_stamp self.new folder ≡ Some stamp) }
-        ensures others { (other : List (List ℕ)) → same_folder folder other ≡ false → held_stamp self.new other ≡ held_stamp self.old other }
+        ensures others { (other : Segments) → same_folder folder other ≡ false → held_stamp self.new other ≡ held_stamp self.old other }
         ensures err { OnErr result (self.new ≡ self.old) }
     {
         self.young.insert(folder, stamp)?;
@@ -96,7 +97,7 @@ impl Stamps {
 
     pub(crate) fn forget(&mut self, folder: &Path)
         ensures fewer { length self.new.young ≤ length self.old.young }
-        ensures gone { (other : List (List ℕ)) → held_stamp self.new other ≡ cond (same_folder folder.now other) None (held_stamp self.old other) }
+        ensures gone { (other : Segments) → held_stamp self.new other ≡ cond (same_folder folder.now other) None (held_stamp self.old other) }
     {
         drop(self.young.remove(folder));
         drop(self.older.remove(folder));

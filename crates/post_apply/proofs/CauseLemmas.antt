@@ -19,7 +19,7 @@ use Rattle.post_plan.specs.declared.operation.Op.{Op}
 use Rattle.post_plan.specs.declared.operation.Op.TheVariants.{Nop, Delete, Copy, Move, Modify}
 use Rattle.post_apply.specs.declared.fault.ApplyFault.{ApplyFault}
 use Rattle.post_apply.specs.declared.fault.ApplyFault.TheVariants.{Tree}
-use Rattle.post_apply.specs.Laws.{tree_wants_memory, wants_memory}
+use Rattle.post_apply.specs.Laws.{is_tree_out_of_memory, is_post_out_of_memory}
 use Rattle.post_apply.specs.Steps.{ApplyOutcome, ◌>>=◌, in_turn, creation_outcome, or_too_deep, path_of_spot, changed_unless_fault, with_node, with_nodes_below, with_way}
 use Rattle.post_apply.specs.Removals.{delete_at, deletion_outcome, removal_outcome, without_property}
 use Rattle.post_apply.specs.Values.{named_outcome, put_at, put_on_way, set_at, hinted_value}
@@ -30,7 +30,7 @@ use Rattle.post_apply.specs.Posting.{PostedNode, carry, modify_outcome, modify, 
 -- ---- faults of the tree
 
 abbrev Known : Option TreeFault → Type 0
-Known o = IfSome o (λ (f : TreeFault). tree_wants_memory f ≡ false)
+Known o = IfSome o (λ (f : TreeFault). is_tree_out_of_memory f ≡ false)
 
 either : (b : Bool) (one other : Option TreeFault) → Known one → Known other → Known (cond b one other)
 either true one other this that = this
@@ -76,7 +76,7 @@ move_known tree from to = first_known (ends_fault tree from to) (cond (is_too_de
 -- ---- steps
 
 abbrev Told : {A : Type 0} → ApplyOutcome A → Type 0
-Told o = IfErr o (λ (e : ApplyFault). wants_memory e ≡ false)
+Told o = IfErr o (λ (e : ApplyFault). is_post_out_of_memory e ≡ false)
 
 abbrev okay : {A : Type 0} → A → ApplyOutcome A
 okay x = Ok x
@@ -161,7 +161,7 @@ replacing_told : (moves : Bool) (from to : List (List ℕ)) (tree : Content) →
 replacing_told moves from to tree = chained (outcome_without_goal tree to) (carry_outcome moves from to) (given_told tree to) (λ t. carried_told moves from to t)
 
 abbrev Begun : Option ApplyFault → Type 0
-Begun o = IfSome o (λ (f : ApplyFault). wants_memory f ≡ false)
+Begun o = IfSome o (λ (f : ApplyFault). is_post_out_of_memory f ≡ false)
 
 either_begun : (b : Bool) (one other : Option ApplyFault) → Begun one → Begun other → Begun (cond b one other)
 either_begun true one other this that = this

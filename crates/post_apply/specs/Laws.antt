@@ -17,27 +17,27 @@ abbrev pub OperationsKeepContentGood : Type 0
 OperationsKeepContentGood = (op : Op) (tree : Content) → IsTrue (names_paths op) → IsGood tree → IsGood (content_after op tree)
 
 -- whether a tree's fault is that memory ran out
-abbrev pub tree_wants_memory : TreeFault → Bool
-tree_wants_memory (NoSuch path) = false
-tree_wants_memory RootFixed = false
-tree_wants_memory IntoItself = false
-tree_wants_memory (Exists path) = false
-tree_wants_memory (Taken path) = false
-tree_wants_memory NoSibling = false
-tree_wants_memory TooDeep = false
-tree_wants_memory FullTree = false
-tree_wants_memory NoMemoryOfTree = true
+abbrev pub is_tree_out_of_memory : TreeFault → Bool
+is_tree_out_of_memory (NoSuch path) = false
+is_tree_out_of_memory RootFixed = false
+is_tree_out_of_memory IntoItself = false
+is_tree_out_of_memory (Exists path) = false
+is_tree_out_of_memory (Taken path) = false
+is_tree_out_of_memory NoSibling = false
+is_tree_out_of_memory TooDeep = false
+is_tree_out_of_memory FullTree = false
+is_tree_out_of_memory NoMemoryOfTree = true
 
 -- a fault that is no cause of the content's or the form's
-abbrev pub wants_memory : ApplyFault → Bool
-wants_memory (Tree fault) = tree_wants_memory fault
-wants_memory (Value name fault) = false
-wants_memory (DestThere path) = false
-wants_memory NoMemory = true
+abbrev pub is_post_out_of_memory : ApplyFault → Bool
+is_post_out_of_memory (Tree fault) = is_tree_out_of_memory fault
+is_post_out_of_memory (Value name fault) = false
+is_post_out_of_memory (DestThere path) = false
+is_post_out_of_memory NoMemory = true
 
 -- what an operation is refused for is never out of memory
 abbrev pub RefusalsHaveCauses : Type 0
-RefusalsHaveCauses = (op : Op) (tree : Content) → IfErr (post_outcome op tree) (λ fault. wants_memory fault ≡ false)
+RefusalsHaveCauses = (op : Op) (tree : Content) → IfErr (post_outcome op tree) (λ fault. is_post_out_of_memory fault ≡ false)
 
 -- what is made of a hint isn't taken; it is the hint where that isn't, and else has the least number with which it isn't
 pub record IsMadeName (tree : Content) (parent : Segments) (hint made : List ℕ) : Type 0 where

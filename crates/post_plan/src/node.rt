@@ -18,10 +18,11 @@ pub struct TargetNode<'a> {
 }
 
 impl<'a> Model for TargetNode<'a> {
-    ghost use Rattle.std.specs.Prelude.{List, ℕ, option_copied};
+    ghost use Rattle.std.specs.Prelude.{option_copied};
     ghost use Rattle.post_plan.specs.Spots.{under};
+    ghost use Rattle.sp_base.specs.Texts.{Segments};
 
-    ghost Value = { List (List ℕ) };
+    ghost Value = { Segments };
 
     ghost view = { λ n. under n.parent.now (option_copied n.name) };
 }

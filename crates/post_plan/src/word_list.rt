@@ -13,9 +13,10 @@ pub struct LentWords<'a> {
 }
 
 impl<'a> Model for LentWords<'a> {
-    ghost use Rattle.std.specs.Prelude.{List, ℕ, map};
+    ghost use Rattle.std.specs.Prelude.{List, map};
+    ghost use Rattle.sp_base.specs.Texts.{Text};
 
-    ghost Value = { List (List ℕ) };
+    ghost Value = { List Text };
 
     ghost view = { λ l. map (λ word. word.now) l.words.items };
 }

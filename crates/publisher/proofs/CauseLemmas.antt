@@ -16,7 +16,7 @@ use Rattle.post_plan.specs.Hints.{bad_hint, hint_fault}
 use Rattle.post_plan.specs.Plan.{carries_node, dest_word, faults, first_plan_fault, if_fault, is_bad_order, operation_unless_fault, path_fault, plan_of, relative_node, verb_of}
 use Rattle.post_plan.specs.declared.fault.PlanFault.{PlanFault}
 use Rattle.post_plan.specs.declared.fault.PlanFault.TheVariants.{BadOperation, NoDest, BadOrder, BadHint, BadPath}
-use Rattle.post_apply.specs.Laws.{RefusalsHaveCauses, wants_memory}
+use Rattle.post_apply.specs.Laws.{RefusalsHaveCauses, is_post_out_of_memory}
 use Rattle.post_apply.specs.Posting.{PostEffect, post_outcome}
 use Rattle.post_apply.specs.declared.fault.ApplyFault.{ApplyFault}
 use Rattle.post_apply.specs.declared.fault.ApplyFault.TheVariants.{Tree, Value, DestThere, NoMemory as NoMemoryOfOperation}
@@ -109,7 +109,7 @@ plan_cause target star pairs = unless_cause (first_plan_fault (faults target sta
 
 -- ---- operations
 
-tree_cause : (fault : TreeFault) → wants_memory (Tree fault) ≡ false → is_cause (tree_refusal fault) ≡ true
+tree_cause : (fault : TreeFault) → is_post_out_of_memory (Tree fault) ≡ false → is_cause (tree_refusal fault) ≡ true
 tree_cause (NoSuch path) e = refl
 tree_cause RootFixed e = refl
 tree_cause IntoItself e = refl
@@ -120,13 +120,13 @@ tree_cause TooDeep e = refl
 tree_cause FullTree e = refl
 tree_cause NoMemoryOfTree e = absurd cc
 
-fault_cause : (fault : ApplyFault) → wants_memory fault ≡ false → is_cause (of_operation fault) ≡ true
+fault_cause : (fault : ApplyFault) → is_post_out_of_memory fault ≡ false → is_cause (of_operation fault) ≡ true
 fault_cause (Tree fault) e = tree_cause fault e
 fault_cause (Value name fault) e = refl
 fault_cause (DestThere path) e = refl
 fault_cause NoMemoryOfOperation e = absurd cc
 
-operation_cause : (r : Result PostEffect ApplyFault) → IfErr r (λ (e : ApplyFault). wants_memory e ≡ false) → IfErr r (λ (e : ApplyFault). is_cause (of_operation e) ≡ true)
+operation_cause : (r : Result PostEffect ApplyFault) → IfErr r (λ (e : ApplyFault). is_post_out_of_memory e ≡ false) → IfErr r (λ (e : ApplyFault). is_cause (of_operation e) ≡ true)
 operation_cause (Ok done) was = tt
 operation_cause (Err fault) was = fault_cause fault was
 

@@ -39,7 +39,7 @@ AreUnpatched patch kept = (path : Segments) (reading : Reading) → reading_at k
 -- each of the indexes is the tree's
 pub record AreIndexesOf (tree : Content) (indexes : Indexes) : Type 0 where
   pub mappings : map_index.IsIndexOf tree indexes.mappings
-  pub scripts : script_index.IsIndexOf tree indexes.scripts
+  pub scripts : script_index.IsScriptIndexOf tree indexes.scripts
 
 -- indexes that are kept are the tree's
 abbrev pub AreIndexesFor : Content → Option Indexes → Type 0

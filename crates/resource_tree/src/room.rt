@@ -1,10 +1,11 @@
 // A patch over a tree, in room that is made before.
-ghost use Rattle.std.specs.Prelude.{◌≡◌, ◌≤◌, ◌<◌, ◌+◌, ℕ, List, IfErr, IfOk, OnErr, OnOk, length};
+ghost use Rattle.std.specs.Prelude.{◌≡◌, ◌≤◌, ◌<◌, ◌+◌, IfErr, IfOk, OnErr, OnOk, length};
 ghost use Rattle.std.specs.Map.{keys_of};
 ghost use Rattle.std.specs.List.{IsDistinct};
 ghost use Rattle.std.specs.Ordering.{eq_by_cmp};
 ghost use Rattle.resource_tree.specs.Content.{by_path, IsGood, node_at};
 ghost use Rattle.resource_tree.specs.Patches.{over, patching, patching_at};
+ghost use Rattle.sp_base.specs.Texts.{Segments};
 
 use crate::table::Nodes;
 use crate::{Patch, PatchNode, Tree};
@@ -39,7 +40,7 @@ impl Tree {
     pub fn apply(&mut self, patch: Patch) -> Mem<()>
         requires { IsGood (patching self.old patch) }
         ensures ok { OnOk result (self.new ≡ patching self.old patch) }
-        ensures look_ups { OnOk result ((q : List (List ℕ)) → node_at self.new q ≡ patching_at self.old patch q) }
+        ensures look_ups { OnOk result ((q : Segments) → node_at self.new q ≡ patching_at self.old patch q) }
         ensures unchanged { OnErr result (self.new ≡ self.old) }
     {
         self.nodes.make_room(patch.len())?;
@@ -67,7 +68,7 @@ impl RoomyTree {
         requires room { length patch ≤ self.room }
         requires good { IsGood (patching self.entries patch) }
         ensures after { result ≡ patching self.entries patch }
-        ensures look_ups { (q : List (List ℕ)) → node_at result q ≡ patching_at self.entries patch q }
+        ensures look_ups { (q : Segments) → node_at result q ≡ patching_at self.entries patch q }
     {
         let RoomyTree { mut nodes, n: _ } = self;
         put_all(&mut nodes, patch);

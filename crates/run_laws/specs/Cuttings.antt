@@ -1,10 +1,11 @@
 -- Two connections on which the same bytes came, or the one's and more, in whatever pieces.
-use Rattle.std.specs.Prelude.{◌≡◌, ◌++◌, ◌⊎◌, ℕ, true, List, ◌∷◌, flat_map}
+use Rattle.std.specs.Prelude.{◌≡◌, ◌++◌, ◌⊎◌, ℕ, true, List, ◌∷◌, flat_map, Some, false}
 use Rattle.connections.specs.Histories.{HaveNoSendingOutOfMemory}
 use Rattle.connections.specs.Ids.{ConnectionId}
 use Rattle.connections.specs.Slots.{Cached, Response, Slot, is_answered}
 use Rattle.connections.specs.declared.sending.Sending.{Sending}
-use Rattle.run_events.specs.Events.{Event, Run}
+use Rattle.connections.specs.Connections.{Connection}
+use Rattle.run_events.specs.Events.{Event, Run, state_after_events}
 use Rattle.run_laws.specs.Histories.{AnswersWhatCame, came_since_opened, sent_since_opened}
 use Rattle.run_events.specs.States.{Start, start_of}
 
@@ -40,3 +41,9 @@ pub record AreCutAlike (came more : List ℕ) (sent other : List Sending) : Type
 abbrev pub CuttingsAgree : Type 0
 CuttingsAgree = (p q : Start) (a b : List Event) (c d : ConnectionId) (more : List ℕ) → Run (start_of p) a → Run (start_of q) b
     → came_since_opened d b ≡ came_since_opened c a ++ more → AreCutAlike (came_since_opened c a) more (sent_since_opened c a) (sent_since_opened d b)
+
+-- where the same bytes came on two open connections that aren't closing, in one run or in two, the same turns were read of both
+abbrev pub SameStreamsHaveSameTurns : Type 0
+SameStreamsHaveSameTurns = (p q : Start) (a b : List Event) (c d : ConnectionId) (x y : Connection) → Run (start_of p) a → Run (start_of q) b
+    → (state_after_events (start_of p) a).connection c ≡ Some x → (state_after_events (start_of q) b).connection d ≡ Some y → x.closing ≡ false → y.closing ≡ false
+    → came_since_opened c a ≡ came_since_opened d b → x.turns ≡ y.turns

@@ -1,5 +1,5 @@
 -- What came on a connection since it was opened, and what was sent on it.
-use Rattle.std.specs.Prelude.{◌≡◌, ◌++◌, ℕ, Bool, true, false, nat_eq, if◌then◌else◌, List, [], ◌∷◌, None, flat_map}
+use Rattle.std.specs.Prelude.{◌≡◌, ◌++◌, ℕ, Bool, true, false, nat_eq, if◌then◌else◌, List, [], ◌∷◌, None, flat_map, Some}
 use Rattle.std.specs.List.{list_any}
 use Rattle.http_front.specs.Turns.{End, SpellsTurns, Waits}
 use Rattle.http_front.specs.declared.turn.Turn.{Turn}
@@ -12,8 +12,9 @@ use Rattle.run_events.specs.declared.note.Note.{Note}
 use Rattle.run_events.specs.declared.note.Note.TheVariants.{Sent, Idle}
 use Rattle.run_events.specs.declared.step.Step.{Step}
 use Rattle.run_events.specs.declared.step.Step.TheVariants.{Opened, Piece}
-use Rattle.run_events.specs.Events.{Event}
+use Rattle.run_events.specs.Events.{Event, Run, state_after_events}
 use Rattle.run_events.specs.declared.conditions.Conditions.{Conditions}
+use Rattle.run_events.specs.States.{Start, start_of}
 
 -- what a note sends on the connection
 abbrev pub sent_by : ConnectionId → Conditions → Note → List Sending
@@ -81,3 +82,12 @@ pub record AnswersWhatCame (came : List ℕ) (sent : List Sending) : Type 0 wher
 pub record HasReadAll (came : List ℕ) (connection : Connection) : Type 0 where
   pub spells : SpellsTurns came connection.turns Waits
   pub treated : next_turn connection ≡ None
+
+-- this is so of each open connection after each run of events
+abbrev pub OfOpenConnections : (List Event → ConnectionId → Connection → Type 0) → Type 0
+OfOpenConnections IsSo = (s : Start) (events : List Event) (c : ConnectionId) (connection : Connection) → Run (start_of s) events
+    → (state_after_events (start_of s) events).connection c ≡ Some connection → IsSo events c connection
+
+-- what was sent on a connection since it was opened answers what came on it since
+abbrev pub AnswersItsStream : ConnectionId → List Event → Type 0
+AnswersItsStream c events = AnswersWhatCame (came_since_opened c events) (sent_since_opened c events)

@@ -13,8 +13,8 @@ use Rattle.run_events.specs.declared.note.Note.TheVariants.{Rendered}
 use Rattle.connections.specs.Ids.{FlightId}
 use Rattle.connections.specs.Slots.{fixed_answer}
 use Rattle.run_events.specs.Publishers.{Publishing}
-use Rattle.run_events.specs.States.{RunState}
-use Rattle.run_events.specs.Events.{Event, after_event, state_before_notes}
+use Rattle.run_events.specs.States.{RunState, Start, start_of}
+use Rattle.run_events.specs.Events.{Event, after_event, state_before_notes, state_after_events}
 use Rattle.run_events.specs.Moves.{state_after_note, flying_at}
 
 -- A flight was rendered: its number, its request, its answer, and whether memory ran out in that event.
@@ -55,3 +55,7 @@ ArePublished publishing farm content [] last = last ≡ content
 ArePublished publishing farm content (rendering ∷ renders) last =
     ((rendering.answer ≡ (publishing content (publisher_ask farm rendering.request)).answer) × (rendering.out_of_memory ≡ false) × ArePublished publishing farm (publishing content (publisher_ask farm rendering.request)).content renders last)
     ⊎ ((rendering.answer ≡ fixed_answer) × (rendering.out_of_memory ≡ true) × ArePublished publishing farm content renders last)
+
+-- the renders of a run are published, each on the content that those before it left, and the content of the moment is what they all left
+abbrev pub HasPublishedRenders : Start → List Event → Type 0
+HasPublishedRenders s events = ArePublished s.publishing s.farm s.content (renders_of (start_of s) events) (state_after_events (start_of s) events).content

@@ -1,17 +1,16 @@
 //! Laws of whole runs: functions that do nothing.
-ghost use Rattle.std.specs.Prelude.{◌≡◌, ◌++◌, ◌∷◌, [], List, Some, false, map};
+ghost use Rattle.std.specs.Prelude.{◌≡◌, ◌++◌, ◌∷◌, [], List, false, map};
 ghost use Rattle.cache_log.specs.Rules.{IsLegal, KeepsBound};
 ghost use Rattle.run_events.specs.Events.{Event, Happens, Run, after_event, notes_of, state_after_events};
 ghost use Rattle.run_events.specs.States.{AreConnectionsCounted, AreFlightsRising, RunState, Start, start_of};
-ghost use Rattle.connections.specs.Connections.{Connection};
 ghost use Rattle.connections.specs.Histories.{AnswersRun, AreOfTurns};
 ghost use Rattle.connections.specs.Ids.{ConnectionId};
-ghost use Rattle.run_laws.specs.Cuttings.{CuttingsAgree};
+ghost use Rattle.run_laws.specs.Cuttings.{CuttingsAgree, SameStreamsHaveSameTurns};
 ghost use Rattle.run_laws.specs.Determined.{RunsWithMemoryAreOne, StreamsWithMemoryEndAlike};
-ghost use Rattle.run_laws.specs.Histories.{AnswersWhatCame, HasReadAll, came_since_opened, sent_since_opened};
+ghost use Rattle.run_laws.specs.Histories.{HasReadAll, came_since_opened, sent_since_opened, OfOpenConnections, AnswersItsStream};
 ghost use Rattle.run_laws.specs.Named.{EventsNamePages};
 ghost use Rattle.run_laws.specs.Owned.{AnswersAreOwn, HitsAreEntries};
-ghost use Rattle.run_laws.specs.Renders.{ArePublished, IsNeverFixed, renders_of};
+ghost use Rattle.run_laws.specs.Renders.{IsNeverFixed, HasPublishedRenders};
 ghost use Rattle.run_laws.specs.Brought.{StepsTellTheEnds, UncachedRunsLeaveNoChoice};
 ghost use Rattle.run_laws.specs.Logs.{EventsAddWhatIsAllowed, HitsAreFresh, IsBeginning, KeptPagesAreOwed, KeptPagesAreServed, OwedHitsGiveWhatWasKept, RepliesInFlightAreNotStored, log_after};
 
@@ -107,14 +106,10 @@ pub fn streams_with_memory_end_alike()
 /// there, or, only where a slot closes it, a prefix of that; and each turn has its slot, unless one closes the connection or memory ran
 /// out as something was sent.
 pub fn connections_are_answered_in_order()
-    ensures answers { (s : Start) (events : List Event) (c : ConnectionId) (connection : Connection) → Run (start_of s) events
-        → (state_after_events (start_of s) events).connection c ≡ Some connection → AnswersRun connection.slots (sent_since_opened c events) }
-    ensures slots { (s : Start) (events : List Event) (c : ConnectionId) (connection : Connection) → Run (start_of s) events
-        → (state_after_events (start_of s) events).connection c ≡ Some connection → AreOfTurns connection.turns connection.ends connection.slots }
-    ensures reads { (s : Start) (events : List Event) (c : ConnectionId) (connection : Connection) → Run (start_of s) events
-        → (state_after_events (start_of s) events).connection c ≡ Some connection → connection.closing ≡ false → HasReadAll (came_since_opened c events) connection }
-    ensures streams { (s : Start) (events : List Event) (c : ConnectionId) → Run (start_of s) events
-        → AnswersWhatCame (came_since_opened c events) (sent_since_opened c events) }
+    ensures answers { OfOpenConnections (λ events c connection. AnswersRun connection.slots (sent_since_opened c events)) }
+    ensures slots { OfOpenConnections (λ events c connection. AreOfTurns connection.turns connection.ends connection.slots) }
+    ensures reads { OfOpenConnections (λ events c connection. connection.closing ≡ false → HasReadAll (came_since_opened c events) connection) }
+    ensures streams { (s : Start) (events : List Event) (c : ConnectionId) → Run (start_of s) events → AnswersItsStream c events }
 {
     answers_in_order();
     slots_of_turns();
@@ -124,9 +119,7 @@ pub fn connections_are_answered_in_order()
 /// How a stream was cut into pieces changes no request: where the same bytes came on two open connections that aren't closing, in
 /// one run or in two, the same turns are treated on both.
 pub fn a_cutting_changes_no_turn()
-    ensures { (p q : Start) (a b : List Event) (c d : ConnectionId) (x y : Connection) → Run (start_of p) a → Run (start_of q) b
-        → (state_after_events (start_of p) a).connection c ≡ Some x → (state_after_events (start_of q) b).connection d ≡ Some y → x.closing ≡ false → y.closing ≡ false
-        → came_since_opened c a ≡ came_since_opened d b → x.turns ≡ y.turns }
+    ensures { SameStreamsHaveSameTurns }
 {
     connections_are_answered_in_order();
     the_turns_of_a_beginning();
@@ -146,8 +139,7 @@ pub fn a_cutting_changes_no_byte()
 /// Whatever happens: each flight that was rendered has the publisher's answer, on the content that the renders before it left, or where
 /// memory ran out the fixed one, which leaves the content; and the content of the moment is what they all left.
 pub fn renders_are_published()
-    ensures { (s : Start) (events : List Event) → IsNeverFixed s.publishing → Run (start_of s) events
-        → ArePublished s.publishing s.farm s.content (renders_of (start_of s) events) (state_after_events (start_of s) events).content }
+    ensures { (s : Start) (events : List Event) → IsNeverFixed s.publishing → Run (start_of s) events → HasPublishedRenders s events }
 {}
 
 /// Whatever happens: the flights in the air rise by number, and none has a higher number than were asked (`flights`); and as many

@@ -26,8 +26,8 @@ use Rattle.resource_tree.specs.declared.nodes.Node.{Node}
 use Rattle.resource_tree.specs.declared.patch.PatchNode.{PatchNode}
 use Rattle.resource_tree.specs.declared.patch.PatchNode.TheVariants as patch_node
 use Rattle.resource_tree.proofs.PathLemmas.{by_path_total, kid_parts, name_of-kid, parent_of-kid, path_from_same, same_path_self}
-use Rattle.script_rank.specs.Index.{Change, Index, IsChangeOf, IsIndexOf, has_path}
-use Rattle.script_rank.specs.Noting.{AddsScript, NotesEntry, has_text, has_text_there, is_text_path, leaves_text, text_path}
+use Rattle.script_rank.specs.Index.{ScriptPathsChange, ScriptPaths, IsScriptChangeOf, IsScriptIndexOf, has_path}
+use Rattle.script_rank.specs.Noting.{AddsScript, NotesScriptEntry, has_text, has_text_there, is_text_path, leaves_text, text_path}
 use Rattle.script_rank.specs.Ranking.{is_script, node_of, script_text}
 
 -- ---- a script is there where its text is
@@ -220,15 +220,15 @@ abbrev ends : Content → Segments → PatchNode → Bool
 ends tree at row = has_text_there (node_at tree at) && not (leaves_text row)
 
 -- the entries so far are noted
-pub record AreNoted (tree : Content) (entries : PatchEntries) (change : Change) : Type 0 where
+pub record AreNoted (tree : Content) (entries : PatchEntries) (change : ScriptPathsChange) : Type 0 where
   pub added : (path : Segments) → has_path change.added path ≡ list_any (is_entry (becomes tree) (text_path path)) entries
   pub gone : (path : Segments) → has_path change.gone path ≡ list_any (is_entry (ends tree) (text_path path)) entries
 
 any_next : {X : Type 0} (test : X → Bool) (xs : List X) (i : ℕ) (x : X) → slice_get xs i ≡ Some x → list_any test (take (i + 1) xs) ≡ (list_any test (take i xs) || test x)
 any_next test xs i x is = list_any_more test xs i x (slice_get_within xs i x is) ∙ ap (λ y. list_any test (take i xs) || test y) (get_or_from_slice_get xs i x x is)
 
-pub noted_next : (tree : Content) (patch : PatchEntries) (i : ℕ) (at : Segments) (row : PatchNode) (old new : Change) → slice_get patch i ≡ Some (at, row) → AreNoted tree (take i patch) old
-    → NotesEntry at (has_text_there (node_at tree at)) (leaves_text row) old new → AreNoted tree (take (i + 1) patch) new
+pub noted_next : (tree : Content) (patch : PatchEntries) (i : ℕ) (at : Segments) (row : PatchNode) (old new : ScriptPathsChange) → slice_get patch i ≡ Some (at, row) → AreNoted tree (take i patch) old
+    → NotesScriptEntry at (has_text_there (node_at tree at)) (leaves_text row) old new → AreNoted tree (take (i + 1) patch) new
 noted_next tree patch i at row old new is so_far one = record {
   added = λ path.
       one.added path ∙ ap (λ b. b || (same_path (text_path path) at && becomes tree at row)) (so_far.added path) ∙ sym (any_next (is_entry (becomes tree) (text_path path)) patch i (at, row) is);
@@ -279,7 +279,7 @@ left_text old None = stays (has_text_there old)
 left_text old (Some (patch_node.Node node)) = changes (has_text_there old) (has_text node)
 left_text old (Some patch_node.Gone) = changes (has_text_there old) false
 
-pub change_is : (tree : Content) (patch : PatchEntries) (change : Change) → IsGood tree → IsDistinct (eq_by_cmp by_path) (keys_of patch) → AreNoted tree patch change → IsChangeOf tree patch change
+pub change_is : (tree : Content) (patch : PatchEntries) (change : ScriptPathsChange) → IsGood tree → IsDistinct (eq_by_cmp by_path) (keys_of patch) → AreNoted tree patch change → IsScriptChangeOf tree patch change
 change_is tree patch change good once noted = record {
   scripts = λ after good_after shows path.
       let at = text_path path in
@@ -289,7 +289,7 @@ change_is tree patch change good once noted = record {
       ∙ sym (ap (λ b. has_path change.added path || (b && not (has_path change.gone path))) (script_is tree path good));
 }
 
-pub noted_none : (tree : Content) (change : Change) → change.added ≡ [] → change.gone ≡ [] → AreNoted tree [] change
+pub noted_none : (tree : Content) (change : ScriptPathsChange) → change.added ≡ [] → change.gone ≡ [] → AreNoted tree [] change
 noted_none tree change added gone = record { added = λ path. ap (λ paths. has_path paths path) added; gone = λ path. ap (λ paths. has_path paths path) gone }
 
 -- ---- the change over the index
@@ -302,9 +302,9 @@ or_swap true false false = refl
 or_swap false b true = refl
 or_swap false b false = refl
 
-pub index_after : (tree after : Content) (patch : PatchEntries) (change : Change) (old mid new : Index) → IsIndexOf tree old → IsChangeOf tree patch change → IsGood after → ((path : Segments) → node_at after path ≡ patching_at tree patch path)
+pub index_after : (tree after : Content) (patch : PatchEntries) (change : ScriptPathsChange) (old mid new : ScriptPaths) → IsScriptIndexOf tree old → IsScriptChangeOf tree patch change → IsGood after → ((path : Segments) → node_at after path ≡ patching_at tree patch path)
     → ((path : Segments) → has_path mid.scripts path ≡ (has_path old.scripts path && not (has_path change.gone path)))
-    → ((path : Segments) → has_path new.scripts path ≡ (has_path mid.scripts path || has_path change.added path)) → IsIndexOf after new
+    → ((path : Segments) → has_path new.scripts path ≡ (has_path mid.scripts path || has_path change.added path)) → IsScriptIndexOf after new
 index_after tree after patch change old mid new is changed good shows gone added = record {
   scripts = λ path.
       added path ∙ ap (λ b. b || has_path change.added path) (gone path ∙ ap (λ b. b && not (has_path change.gone path)) (is.scripts path))

@@ -8,7 +8,7 @@ use Rattle.resource_tree.specs.Content.{kid, name_of, same_path}
 use Rattle.resource_tree.specs.declared.nodes.Node.{Node}
 use Rattle.resource_tree.specs.declared.patch.PatchNode.{PatchNode}
 use Rattle.resource_tree.specs.declared.patch.PatchNode.TheVariants as patch_node
-use Rattle.script_rank.specs.Index.{Change, has_path}
+use Rattle.script_rank.specs.Index.{ScriptPathsChange, has_path}
 
 -- where the text of a script stands
 abbrev pub text_path : Segments → Segments
@@ -36,6 +36,6 @@ abbrev pub AddsScript : Segments → Bool → List Segments → List Segments �
 AddsScript at holds old new = (path : Segments) → has_path new path ≡ (has_path old path || (same_path (text_path path) at && holds))
 
 -- a change with one entry's more, from whether a text was at its path to whether one is there after it
-pub record NotesEntry (at : Segments) (before after : Bool) (old new : Change) : Type 0 where
+pub record NotesScriptEntry (at : Segments) (before after : Bool) (old new : ScriptPathsChange) : Type 0 where
   pub added : AddsScript at (after && not before) old.added new.added
   pub gone : AddsScript at (before && not after) old.gone new.gone

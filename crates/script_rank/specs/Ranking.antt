@@ -139,3 +139,15 @@ pub record IsFirstScript (tree : Content) (chain : List TypeName) (parts : Parts
 -- no script is a candidate
 abbrev pub HasNoCandidate : Content → List TypeName → Parts → Type 0
 HasNoCandidate tree chain parts = (path : Segments) (key : Key) → Candidate tree chain parts path key → ⊥
+
+-- two candidates of which neither is better than the other are one script
+abbrev pub CandidatesAreOneUnlessBetter : Content → List TypeName → Parts → Segments → Segments → Key → Key → Type 0
+CandidatesAreOneUnlessBetter tree chain parts p q k l = Candidate tree chain parts p k → Candidate tree chain parts q l → (IsBetter k l → ⊥) → (IsBetter l k → ⊥) → p ≡ q
+
+-- two candidates with one key are one script
+abbrev pub AreOneIfOfOneKey : Content → List TypeName → Parts → Segments → Segments → Key → Type 0
+AreOneIfOfOneKey tree chain parts p q k = Candidate tree chain parts p k → Candidate tree chain parts q k → p ≡ q
+
+-- two scripts that rank first are one
+abbrev pub AreOneIfFirst : Content → List TypeName → Parts → Segments → Segments → Type 0
+AreOneIfFirst tree chain parts p q = IsFirstScript tree chain parts p → IsFirstScript tree chain parts q → p ≡ q

@@ -1,9 +1,9 @@
 // The change of an index by a patch of the tree.
-ghost use Rattle.std.specs.Prelude.{◌≡◌, ◌≤◌, ◌&&◌, ◌||◌, ℕ, List, not, IfOk, OnOk, length};
-ghost use Rattle.resource_tree.specs.Content.{Content, IsGood, node_at};
-ghost use Rattle.resource_tree.specs.Patches.{PatchEntries};
-ghost use Rattle.script_rank.specs.Index.{HasPatchOver, HasRoom, IsChangeOf, IsIndexOf, has_path};
-ghost use Rattle.script_rank.specs.Noting.{NotesEntry, has_text_there, leaves_text};
+ghost use Rattle.std.specs.Prelude.{◌≡◌, ◌≤◌, ◌&&◌, ◌||◌, not, IfOk, OnOk, length};
+ghost use Rattle.resource_tree.specs.Content.{node_at};
+ghost use Rattle.script_rank.specs.Index.{HasScriptRoom, IsScriptChangeOf, IsScriptIndexOf, has_path, TakesScriptChange};
+ghost use Rattle.script_rank.specs.Noting.{NotesScriptEntry, has_text_there, leaves_text};
+ghost use Rattle.sp_base.specs.Texts.{Segments};
 
 use crate::ScriptIndex;
 use crate::texts::{has_text_there, is_text_path, leaves_text, push_script};
@@ -20,9 +20,9 @@ pub struct ScriptChange {
 }
 
 impl Model for ScriptChange {
-    ghost use Rattle.script_rank.specs.Index.{Change};
+    ghost use Rattle.script_rank.specs.Index.{ScriptPathsChange};
 
-    ghost Value = { Change };
+    ghost Value = { ScriptPathsChange };
 
     ghost view = { λ c. record { added = c.added.items; gone = c.gone.items } };
 }
@@ -31,8 +31,8 @@ impl ScriptIndex {
     /// What a patch of a tree changes in the tree's index, for which room is made here: all memory that the change takes. It looks at
     /// the entries of the patch alone, and of these at the nodes that may hold the text of a script.
     pub fn change_of(&mut self, alloc: Global, tree: &Tree, patch: &Patch) -> Mem<ScriptChange>
-        ensures change { IfOk result (IsChangeOf tree.now patch.now) }
-        ensures room { IfOk result (HasRoom self.new) }
+        ensures change { IfOk result (IsScriptChangeOf tree.now patch.now) }
+        ensures room { IfOk result (HasScriptRoom self.new) }
         ensures unchanged { self.new.scripts ≡ self.old.scripts }
     {
         let change = script_change(alloc, tree, patch)?;
@@ -42,8 +42,8 @@ impl ScriptIndex {
 
     /// Changes the index, with no memory: the index of a tree becomes that of each tree that has the patch over it.
     pub fn take(&mut self, change: ScriptChange)
-        requires { HasRoom self.old change }
-        ensures { (tree after : Content) (patch : PatchEntries) → IsIndexOf tree self.old → IsChangeOf tree patch change → IsGood after → HasPatchOver tree patch after → IsIndexOf after self.new }
+        requires { HasScriptRoom self.old change }
+        ensures { TakesScriptChange change self.old self.new }
     {
         let ScriptChange { added, gone } = change;
         self.forget_all(&gone);
@@ -51,7 +51,7 @@ impl ScriptIndex {
     }
 
     fn forget_all(&mut self, gone: &[Path])
-        ensures scripts { (q : List (List ℕ)) → has_path self.new.scripts q ≡ (has_path self.old.scripts q && not (has_path gone.now q)) }
+        ensures scripts { (q : Segments) → has_path self.new.scripts q ≡ (has_path self.old.scripts q && not (has_path gone.now q)) }
         ensures room { self.old.room ≤ self.new.room }
     {
         for path in gone {
@@ -61,7 +61,7 @@ impl ScriptIndex {
 
     fn put_all(&mut self, added: Vec<Path>)
         requires { length added.items ≤ self.old.room }
-        ensures { (q : List (List ℕ)) → has_path self.new.scripts q ≡ (has_path self.old.scripts q || has_path added.items q) }
+        ensures { (q : Segments) → has_path self.new.scripts q ≡ (has_path self.old.scripts q || has_path added.items q) }
     {
         let mut left = added;
         while let Some(path) = left.pop() {
@@ -71,7 +71,7 @@ impl ScriptIndex {
 }
 
 fn script_change(alloc: Global, tree: &Tree, patch: &Patch) -> Mem<ScriptChange>
-    ensures { IfOk result (IsChangeOf tree.now patch.now) }
+    ensures { IfOk result (IsScriptChangeOf tree.now patch.now) }
 {
     // What holds of each tree leaves no text of a script without its node.
     let _ = tree.len();
@@ -96,7 +96,7 @@ fn note_entry(
     path: &Path,
     row: &PatchNode,
 ) -> Mem<()>
-    ensures { OnOk result (NotesEntry path.now (has_text_there (node_at tree.now path.now)) (leaves_text row.now) change.old change.new) }
+    ensures { OnOk result (NotesScriptEntry path.now (has_text_there (node_at tree.now path.now)) (leaves_text row.now) change.old change.new) }
 {
     if !is_text_path(path) {
         return Ok(());

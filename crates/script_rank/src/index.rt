@@ -1,8 +1,9 @@
 //! The index of the scripts of a tree, in which the script that ranks first is found without the tree.
-ghost use Rattle.std.specs.Prelude.{◌≡◌, ◌++◌, IfNone, IfOk, IfSome, IsTrue, List, ℕ, OnOk};
+ghost use Rattle.std.specs.Prelude.{◌≡◌, ◌++◌, IfNone, IfOk, IfSome, IsTrue, OnOk};
 ghost use Rattle.sp_base.specs.Paths.{is_path};
+ghost use Rattle.sp_base.specs.Texts.{Segments};
 ghost use Rattle.resource_tree.specs.Content.{Content};
-ghost use Rattle.script_rank.specs.Index.{IsIndexOf, has_path};
+ghost use Rattle.script_rank.specs.Index.{IsScriptIndexOf, has_path};
 ghost use Rattle.script_rank.specs.Noting.{AddsScript, has_text};
 ghost use Rattle.script_rank.specs.Ranking.{HasNoCandidate, IsFirstScript, is_script};
 ghost use Rattle.script_rank.specs.Search.{search_result};
@@ -28,9 +29,9 @@ impl Model for ScriptIndex {
     ghost use Rattle.std.specs.Prelude.{◌-◌, vec_capacity, vec_len};
     ghost use Rattle.std.specs.List.Sorted.{IsSorted};
     ghost use Rattle.sp_base.specs.Paths.{by_path};
-    ghost use Rattle.script_rank.specs.Index.{Index};
+    ghost use Rattle.script_rank.specs.Index.{ScriptPaths};
 
-    ghost Value = { Index };
+    ghost Value = { ScriptPaths };
 
     ghost view = { λ i. record { scripts = i.scripts.items; room = vec_capacity i.scripts - vec_len i.scripts } };
 
@@ -40,7 +41,7 @@ impl Model for ScriptIndex {
 impl ScriptIndex {
     /// The index of a tree, made by one walk over its nodes.
     pub fn of(alloc: Global, tree: &Tree) -> Mem<ScriptIndex>
-        ensures { IfOk result (λ index. IsIndexOf tree.now index) }
+        ensures { IfOk result (λ index. IsScriptIndexOf tree.now index) }
     {
         let mut scripts = scripts_of(alloc, tree)?;
         scripts.sort()?;
@@ -50,9 +51,9 @@ impl ScriptIndex {
     /// The script that renders a resource with this chain of types, in each tree of which this is the index: the same that
     /// [`first_script`](crate::first_script) finds there. A place of a type that has no script below it is looked up once.
     pub fn first(&self, alloc: Global, chain: &TypeList, parts: &Parts) -> Mem<Option<Path>>
-        ensures some { (tree : Content) → IsIndexOf tree self.now → IfOk result (λ o. IfSome o (λ path. IsFirstScript tree chain.now parts.now path)) }
-        ensures none { (tree : Content) → IsIndexOf tree self.now → IfOk result (λ o. IfNone o (HasNoCandidate tree chain.now parts.now)) }
-        ensures value { (tree : Content) → IsIndexOf tree self.now → IfOk result (λ o. o ≡ search_result tree chain.now parts.now) }
+        ensures some { (tree : Content) → IsScriptIndexOf tree self.now → IfOk result (λ o. IfSome o (λ path. IsFirstScript tree chain.now parts.now path)) }
+        ensures none { (tree : Content) → IsScriptIndexOf tree self.now → IfOk result (λ o. IfNone o (HasNoCandidate tree chain.now parts.now)) }
+        ensures value { (tree : Content) → IsScriptIndexOf tree self.now → IfOk result (λ o. o ≡ search_result tree chain.now parts.now) }
     {
         let script_places = self.script_places(alloc, chain)?;
         script_place_search(alloc, self, script_places.as_slice(), parts)
@@ -108,7 +109,7 @@ impl ScriptIndex {
 
 // The paths of the scripts of a tree, in no order.
 fn scripts_of(alloc: Global, tree: &Tree) -> Mem<Vec<Path>>
-    ensures { IfOk result (λ scripts. (path : List (List ℕ)) → has_path scripts.items path ≡ is_script tree.now path) }
+    ensures { IfOk result (λ scripts. (path : Segments) → has_path scripts.items path ≡ is_script tree.now path) }
 {
     let mut scripts = Vec::new(alloc);
     let all = tree.rows(alloc)?;

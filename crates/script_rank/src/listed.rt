@@ -1,7 +1,8 @@
 // The paths of an index in their order: look-ups, and changes in room that is made before.
-ghost use Rattle.std.specs.Prelude.{◌≡◌, ◌≤◌, ◌<◌, ◌+◌, ◌&&◌, ◌||◌, ℕ, List, not, OnOk, vec_capacity, vec_len};
+ghost use Rattle.std.specs.Prelude.{◌≡◌, ◌≤◌, ◌<◌, ◌+◌, ◌&&◌, ◌||◌, not, OnOk, vec_capacity, vec_len};
 ghost use Rattle.std.specs.List.Sorted.{IsSorted};
 ghost use Rattle.sp_base.specs.Paths.{by_path};
+ghost use Rattle.sp_base.specs.Texts.{Segments};
 ghost use Rattle.resource_tree.specs.Content.{same_path};
 ghost use Rattle.script_rank.specs.Index.{has_path};
 ghost use Rattle.script_rank.specs.ScriptPlaceSearch.{has_under};
@@ -42,7 +43,7 @@ impl ScriptIndex {
     /// Adds a path, with no memory.
     pub(crate) fn put_in_room(&mut self, path: Path)
         requires { 0 < self.old.room }
-        ensures scripts { (q : List (List ℕ)) → has_path self.new.scripts q ≡ (has_path self.old.scripts q || same_path q path) }
+        ensures scripts { (q : Segments) → has_path self.new.scripts q ≡ (has_path self.old.scripts q || same_path q path) }
         ensures room { self.old.room ≤ self.new.room + 1 }
     {
         if let Err(place) = self.scripts.binary_search(&path) {
@@ -52,7 +53,7 @@ impl ScriptIndex {
 
     /// Takes a path away, if it is there.
     pub(crate) fn forget(&mut self, path: &Path)
-        ensures scripts { (q : List (List ℕ)) → has_path self.new.scripts q ≡ (has_path self.old.scripts q && not (same_path q path.now)) }
+        ensures scripts { (q : Segments) → has_path self.new.scripts q ≡ (has_path self.old.scripts q && not (same_path q path.now)) }
         ensures room { self.old.room ≤ self.new.room }
     {
         remove_path(&mut self.scripts, path);
@@ -63,7 +64,7 @@ impl ScriptIndex {
 fn remove_path(paths: &mut Vec<Path>, path: &Path)
     requires { IsSorted by_path paths.old.items }
     ensures order { IsSorted by_path paths.new.items }
-    ensures paths { (q : List (List ℕ)) → has_path paths.new.items q ≡ (has_path paths.old.items q && not (same_path q path.now)) }
+    ensures paths { (q : Segments) → has_path paths.new.items q ≡ (has_path paths.old.items q && not (same_path q path.now)) }
     ensures room { vec_capacity paths.new ≡ vec_capacity paths.old }
     ensures fewer { vec_len paths.new ≤ vec_len paths.old }
 {

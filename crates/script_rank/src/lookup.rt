@@ -1,5 +1,6 @@
 //! Where scripts are looked up: in a tree, or in the index of one.
-ghost use Rattle.std.specs.Prelude.{◌≡◌, Bool, ℕ, IfOk, List};
+ghost use Rattle.std.specs.Prelude.{◌≡◌, Bool, IfOk};
+ghost use Rattle.sp_base.specs.Texts.{Segments};
 
 use crate::ScriptIndex;
 use crate::script::script_text;
@@ -10,7 +11,7 @@ use std::alloc::Global;
 /// Tells the paths at which there are scripts.
 pub(crate) trait Scripts {
     /// Whether a script is at a path.
-    ghost tells: { Self → List (List ℕ) → Bool };
+    ghost tells: { Self → Segments → Bool };
 
     fn has(&self, alloc: Global, path: &Path) -> Mem<bool>
         ensures { IfOk result (λ b. b ≡ tells self.now path.now) };

@@ -20,7 +20,7 @@ use Rattle.run_events.specs.Publishers.{Publishing}
 use Rattle.run_laws.specs.Rounds.{HasNothingDue}
 use Rattle.serve_loop.specs.declared.serving.ServeEnd.{ServeEnd}
 use Rattle.serve_loop.specs.declared.serving.ServeEnd.TheVariants.{Turns, WorldFailed, NoMemory}
-use Rattle.serve_loop.specs.Turns.{ServedTurn, AreWholeTurns, IsCutTurn, with_cut, turn_events, turn_entries}
+use Rattle.serve_loop.specs.Turns.{ServedTurn, AreWholeTurns, IsCutTurn, with_cut, turn_events, turn_entries, happenings_of}
 use Rattle.resource_tree.specs.Content.{Content}
 use Rattle.front.specs.Boards.{at_disk}
 use Rattle.front.specs.Fronts.{FrontStandsFor}
@@ -149,7 +149,12 @@ pub record LeavesLegalLog (farm : Farm) (told : Option Files) (w : RunState) : T
   pub legal : IsLegal farm (left_log w)
 
 -- Over a publisher, a disk and a world so many turns are served, which end so: with each state that the front stood for, between two turns.
-abbrev pub RunsOn : {R D W : Type 0} → Publishing → (R → Content) → (D → Option Files) → (D → ℕ) → (W → Option (List WorldEntry)) → (W → ℕ) → (W → ℕ) → ℕ → ServeEnd → Front R → D → W → D → W → Type 0
-RunsOn publishing content files faults log next_faults send_faults turns end front before said after says = (w : RunState)
+abbrev pub Lasts : {R D W : Type 0} → Publishing → (R → Content) → (D → Option Files) → (D → ℕ) → (W → Option (List WorldEntry)) → (W → ℕ) → (W → ℕ) → ℕ → ServeEnd → Front R → D → W → D → W → Type 0
+Lasts publishing content files faults log next_faults send_faults turns end front before said after says = (w : RunState)
     → FrontStandsFor publishing (content front.renderer) (at_disk front.board (files before) (faults before)) w → IsServerAtRest w (log said)
     → IsServed w turns end (disk_over files faults before after) (world_over log next_faults send_faults said says)
+
+-- the world's log tells the turns: each happening that came to it has one, in their order, and there is no other
+abbrev pub HappeningsHaveTurns : Type 0
+HappeningsHaveTurns = (w : RunState) (limit : ℕ) (end : ServeEnd) (disk : DiskReport) (world : WorldReport) (s : IsServed w limit end disk world)
+    → happenings_of (turn_entries (with_cut s.turns s.cut)) ≡ map (λ (turn : ServedTurn). turn.news) (with_cut s.turns s.cut)

@@ -1,5 +1,5 @@
 -- What single steps of a server make of a run. (Of the theorem's reader this file is no concern.)
-use Rattle.std.specs.Prelude.{◌≡◌, ◌≤◌, ◌+◌, ◌⊎◌, ℕ, true, false, List, [], ◌∷◌, Option, Some, None, IfSome, IsSome, length}
+use Rattle.std.specs.Prelude.{◌≡◌, ◌≤◌, ◌+◌, ◌⊎◌, ℕ, true, false, List, [], ◌∷◌, Option, Some, None, IfSome, IsSome, length, OnOk, OnErr, Result}
 use Rattle.sp_outside.specs.Causes.{Rose}
 use Rattle.sp_outside.specs.Files.{Files}
 use Rattle.resource_tree.specs.Content.{Content}
@@ -245,11 +245,39 @@ pub record TakesTurns (old new : ServerAt) (count : ℕ) (w : RunState) : Type 0
 -- ---- disk tells of its files, how often it failed, what the world tells, and how many sendings failed
 
 -- this is so of the server before and after
-abbrev pub Serving : {R D W : Type 0} → Publishing → (R → Content) → (D → Option Files) → (D → ℕ) → (W → Option (List WorldEntry)) → (W → ℕ) → (ServerAt → ServerAt → Type 0) → Front R → D → W → Front R → D → W → Type 0
-Serving publishing content files faults log send_faults IsSo old before said new after says =
+abbrev pub Relates : {R D W : Type 0} → Publishing → (R → Content) → (D → Option Files) → (D → ℕ) → (W → Option (List WorldEntry)) → (W → ℕ) → (ServerAt → ServerAt → Type 0) → Front R → D → W → Front R → D → W → Type 0
+Relates publishing content files faults log send_faults IsSo old before said new after says =
     IsSo (server_at publishing (content old.renderer) (at_disk old.board (files before) (faults before)) (log said) (send_faults said)) (server_at publishing (content new.renderer) (at_disk new.board (files after) (faults after)) (log says) (send_faults says))
 
 -- this is so where the call leaves the world alone, whatever that tells
-abbrev pub ServingAlone : {R D : Type 0} → Publishing → (R → Content) → (D → Option Files) → (D → ℕ) → (ServerAt → ServerAt → Type 0) → Front R → D → Front R → D → Type 0
-ServingAlone publishing content files faults IsSo old before new after = (told : Option (List WorldEntry)) (send_faults : ℕ)
+abbrev pub RelatesAlone : {R D : Type 0} → Publishing → (R → Content) → (D → Option Files) → (D → ℕ) → (ServerAt → ServerAt → Type 0) → Front R → D → Front R → D → Type 0
+RelatesAlone publishing content files faults IsSo old before new after = (told : Option (List WorldEntry)) (send_faults : ℕ)
     → IsSo (server_at publishing (content old.renderer) (at_disk old.board (files before) (faults before)) told send_faults) (server_at publishing (content new.renderer) (at_disk new.board (files after) (faults after)) told send_faults)
+
+-- the same where the call is done
+abbrev pub IfDone : {A E R D W : Type 0} → Publishing → (R → Content) → (D → Option Files) → (D → ℕ) → (W → Option (List WorldEntry)) → (W → ℕ) → (ServerAt → ServerAt → Type 0) → Result A E → Front R → D → W → Front R → D → W → Type 0
+IfDone publishing content files faults log send_faults IsSo result old before said new after says = OnOk result (Relates publishing content files faults log send_faults IsSo old before said new after says)
+
+-- the same where it was cut off, since memory ran out
+abbrev pub IfCut : {A E R D W : Type 0} → Publishing → (R → Content) → (D → Option Files) → (D → ℕ) → (W → Option (List WorldEntry)) → (W → ℕ) → (ServerAt → ServerAt → Type 0) → Result A E → Front R → D → W → Front R → D → W → Type 0
+IfCut publishing content files faults log send_faults IsSo result old before said new after says = OnErr result (Relates publishing content files faults log send_faults IsSo old before said new after says)
+
+-- a call that is done makes this step
+abbrev pub StepIfDone : {A E R D W : Type 0} → Publishing → (R → Content) → (D → Option Files) → (D → ℕ) → (W → Option (List WorldEntry)) → (W → ℕ) → Step → Result A E → Front R → D → W → Front R → D → W → Type 0
+StepIfDone publishing content files faults log send_faults step result old before said new after says = OnOk result (Relates publishing content files faults log send_faults (MakesStepOf step) old before said new after says)
+
+-- one that is cut off ends within it
+abbrev pub StepIfCut : {A E R D W : Type 0} → Publishing → (R → Content) → (D → Option Files) → (D → ℕ) → (W → Option (List WorldEntry)) → (W → ℕ) → Step → Result A E → Front R → D → W → Front R → D → W → Type 0
+StepIfCut publishing content files faults log send_faults step result old before said new after says = OnErr result (Relates publishing content files faults log send_faults (CutsStepOf step) old before said new after says)
+
+-- a call that is done makes the turn of this news
+abbrev pub TurnIfDone : {A E R D W : Type 0} → Publishing → (R → Content) → (D → Option Files) → (D → ℕ) → (W → Option (List WorldEntry)) → (W → ℕ) → Happening → Result A E → Front R → D → W → Front R → D → W → Type 0
+TurnIfDone publishing content files faults log send_faults news result old before said new after says = OnOk result (Relates publishing content files faults log send_faults (MakesTurn news) old before said new after says)
+
+-- one that is cut off ends within it
+abbrev pub TurnIfCut : {A E R D W : Type 0} → Publishing → (R → Content) → (D → Option Files) → (D → ℕ) → (W → Option (List WorldEntry)) → (W → ℕ) → Happening → Result A E → Front R → D → W → Front R → D → W → Type 0
+TurnIfCut publishing content files faults log send_faults news result old before said new after says = OnErr result (Relates publishing content files faults log send_faults (CutsTurn news) old before said new after says)
+
+-- a call that is done makes what comes of the news before the flights
+abbrev pub BeginIfDone : {A E R D W : Type 0} → Publishing → (R → Content) → (D → Option Files) → (D → ℕ) → (W → Option (List WorldEntry)) → (W → ℕ) → Happening → Result A E → Front R → D → W → Front R → D → W → Type 0
+BeginIfDone publishing content files faults log send_faults news result old before said new after says = OnOk result (Relates publishing content files faults log send_faults (BeginsTurn news) old before said new after says)

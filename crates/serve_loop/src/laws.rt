@@ -1,13 +1,11 @@
 //! What follows of serving, on functions that do nothing but to call others.
-ghost use Rattle.std.specs.Prelude.{◌≡◌, ◌∷◌, [], ℕ, map};
+ghost use Rattle.std.specs.Prelude.{◌≡◌, ◌∷◌, [], ℕ};
 ghost use Rattle.cache_log.specs.Entries.{Session};
-ghost use Rattle.run_events.specs.States.{RunState, Start};
+ghost use Rattle.run_events.specs.States.{Start};
 ghost use Rattle.run_laws.specs.Logs.{IsBeginning};
-ghost use Rattle.serve_loop.specs.Served.{DiskReport, IsServed, WorldReport};
+ghost use Rattle.serve_loop.specs.Served.{HappeningsHaveTurns};
 ghost use Rattle.serve_loop.specs.Totals.{FailuresAreCounted};
 ghost use Rattle.serve_loop.specs.TurnParts.{ConnectionsGoForACause, TurnsHaveOneSlice, TurnsLandAll};
-ghost use Rattle.serve_loop.specs.Turns.{ServedTurn, happenings_of, turn_entries, with_cut};
-ghost use Rattle.serve_loop.specs.declared.serving.ServeEnd.{ServeEnd};
 ghost use Rattle.serve_loop.specs.Beginnings.{SessionsBeginOverFiles, SessionsLeaveLegalLogs};
 
 use coherence_core::a_session_begins_in_a_legal_log;
@@ -18,8 +16,7 @@ use run_laws::{
 
 /// The world's log tells the turns: each happening that came to it has one, in their order, and there is no other.
 pub fn each_happening_has_a_turn()
-    ensures { (w : RunState) (limit : ℕ) (end : ServeEnd) (disk : DiskReport) (world : WorldReport) (s : IsServed w limit end disk world)
-        → happenings_of (turn_entries (with_cut s.turns s.cut)) ≡ map (λ (turn : ServedTurn). turn.news) (with_cut s.turns s.cut) }
+    ensures { HappeningsHaveTurns }
 {}
 
 /// A session begins as the laws of runs want it: over files that hold a closed log, which is legal, with the number after the one that they

@@ -1,7 +1,7 @@
 //! What a turn does after the step of what came.
-ghost use Rattle.std.specs.Prelude.{◌≡◌, OnErr, OnOk};
+ghost use Rattle.std.specs.Prelude.{◌≡◌};
 ghost use Rattle.docroot_changes.specs.DocrootCalls.{MakesDocrootCalls};
-ghost use Rattle.serve_loop.specs.Steps.{CutsEnd, CutsLanding, CutsLandings, EndsTurn, LandsAll, LandsFirst, Serving};
+ghost use Rattle.serve_loop.specs.Steps.{CutsEnd, CutsLanding, CutsLandings, EndsTurn, LandsAll, LandsFirst, IfDone, IfCut};
 
 use crate::steps::make;
 use docroot_changes::docroot_calls_add_up;
@@ -23,10 +23,8 @@ pub(crate) fn land_all<R: Renderer + Drop, D: Disk, W: World>(
     disk: &mut D,
     world: &mut W,
 ) -> Mem<()>
-    ensures ok { OnOk result (Serving R.publishing R.content D.files D.faults W.log W.send_faults LandsAll
-        front.old disk.old world.old front.new disk.new world.new) }
-    ensures err { OnErr result (Serving R.publishing R.content D.files D.faults W.log W.send_faults CutsLandings
-        front.old disk.old world.old front.new disk.new world.new) }
+    ensures ok { IfDone R.publishing R.content D.files D.faults W.log W.send_faults LandsAll result front.old disk.old world.old front.new disk.new world.new }
+    ensures err { IfCut R.publishing R.content D.files D.faults W.log W.send_faults CutsLandings result front.old disk.old world.old front.new disk.new world.new }
     ensures next_count { W.next_faults world.new ≡ W.next_faults world.old }
     ensures calls { MakesDocrootCalls (D.calls disk.old) (D.calls disk.new) }
 {
@@ -47,10 +45,8 @@ fn land_first<R: Renderer + Drop, D: Disk, W: World>(
     disk: &mut D,
     world: &mut W,
 ) -> Mem<()>
-    ensures ok { OnOk result (Serving R.publishing R.content D.files D.faults W.log W.send_faults LandsFirst
-        front.old disk.old world.old front.new disk.new world.new) }
-    ensures err { OnErr result (Serving R.publishing R.content D.files D.faults W.log W.send_faults CutsLanding
-        front.old disk.old world.old front.new disk.new world.new) }
+    ensures ok { IfDone R.publishing R.content D.files D.faults W.log W.send_faults LandsFirst result front.old disk.old world.old front.new disk.new world.new }
+    ensures err { IfCut R.publishing R.content D.files D.faults W.log W.send_faults CutsLanding result front.old disk.old world.old front.new disk.new world.new }
     ensures next_count { W.next_faults world.new ≡ W.next_faults world.old }
     ensures calls { MakesDocrootCalls (D.calls disk.old) (D.calls disk.new) }
 {
@@ -67,10 +63,8 @@ pub(crate) fn purge_once<R: Renderer + Drop, D: Disk, W: World>(
     disk: &mut D,
     world: &mut W,
 ) -> Mem<()>
-    ensures ok { OnOk result (Serving R.publishing R.content D.files D.faults W.log W.send_faults EndsTurn
-        front.old disk.old world.old front.new disk.new world.new) }
-    ensures err { OnErr result (Serving R.publishing R.content D.files D.faults W.log W.send_faults CutsEnd
-        front.old disk.old world.old front.new disk.new world.new) }
+    ensures ok { IfDone R.publishing R.content D.files D.faults W.log W.send_faults EndsTurn result front.old disk.old world.old front.new disk.new world.new }
+    ensures err { IfCut R.publishing R.content D.files D.faults W.log W.send_faults CutsEnd result front.old disk.old world.old front.new disk.new world.new }
     ensures next_count { W.next_faults world.new ≡ W.next_faults world.old }
     ensures calls { MakesDocrootCalls (D.calls disk.old) (D.calls disk.new) }
 {

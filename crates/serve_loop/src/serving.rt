@@ -1,7 +1,7 @@
 //! The loop over what comes from the world.
 ghost use Rattle.std.specs.Prelude.{◌<◌};
 ghost use Rattle.docroot_changes.specs.DocrootCalls.{MakesDocrootCalls};
-ghost use Rattle.serve_loop.specs.Served.{HasEndCause, RunsOn, world_over};
+ghost use Rattle.serve_loop.specs.Served.{HasEndCause, Lasts, world_over};
 
 use crate::turn::{TurnEnd, turn};
 use cache_log::a_legal_log_grows_by_what_is_allowed;
@@ -32,7 +32,7 @@ pub fn serve<R: Renderer + Drop, D: Disk, W: World>(
     turns: u64,
 ) -> ServeEnd
     requires { 0 < turns }
-    ensures served { RunsOn R.publishing R.content D.files D.faults W.log W.next_faults W.send_faults turns result front.old disk.old world.old disk.new world.new }
+    ensures served { Lasts R.publishing R.content D.files D.faults W.log W.next_faults W.send_faults turns result front.old disk.old world.old disk.new world.new }
     ensures cause { HasEndCause result (world_over W.log W.next_faults W.send_faults world.old world.new) }
     ensures calls { MakesDocrootCalls (D.calls disk.old) (D.calls disk.new) }
 {

@@ -1,7 +1,7 @@
 //! One step of a front, with what is handed on of it.
 ghost use Rattle.std.specs.Prelude.{◌≡◌, OnErr, OnOk};
 ghost use Rattle.docroot_changes.specs.DocrootCalls.{MakesDocrootCalls};
-ghost use Rattle.serve_loop.specs.Steps.{CutsGoneOf, CutsStepOf, MakesGoneOf, MakesStepOf, Serving, ServingAlone};
+ghost use Rattle.serve_loop.specs.Steps.{CutsGoneOf, MakesGoneOf, RelatesAlone, StepIfDone, StepIfCut};
 
 use crate::handing::{HandedOn, hand_on};
 use connections::ConnectionId;
@@ -25,10 +25,8 @@ pub(crate) fn make<R: Renderer + Drop, D: Disk, W: World>(
     world: &mut W,
     step: &Step,
 ) -> Mem<()>
-    ensures ok { OnOk result (Serving R.publishing R.content D.files D.faults W.log W.send_faults (MakesStepOf step.now)
-        front.old disk.old world.old front.new disk.new world.new) }
-    ensures err { OnErr result (Serving R.publishing R.content D.files D.faults W.log W.send_faults (CutsStepOf step.now)
-        front.old disk.old world.old front.new disk.new world.new) }
+    ensures ok { StepIfDone R.publishing R.content D.files D.faults W.log W.send_faults step.now result front.old disk.old world.old front.new disk.new world.new }
+    ensures err { StepIfCut R.publishing R.content D.files D.faults W.log W.send_faults step.now result front.old disk.old world.old front.new disk.new world.new }
     ensures next_count { W.next_faults world.new ≡ W.next_faults world.old }
     ensures calls { MakesDocrootCalls (D.calls disk.old) (D.calls disk.new) }
 {
@@ -52,8 +50,8 @@ pub(crate) fn go<R: Renderer + Drop, D: Disk>(
     disk: &mut D,
     c: ConnectionId,
 ) -> Mem<()>
-    ensures ok { OnOk result (ServingAlone R.publishing R.content D.files D.faults (MakesGoneOf c) front.old disk.old front.new disk.new) }
-    ensures err { OnErr result (ServingAlone R.publishing R.content D.files D.faults (CutsGoneOf c) front.old disk.old front.new disk.new) }
+    ensures ok { OnOk result (RelatesAlone R.publishing R.content D.files D.faults (MakesGoneOf c) front.old disk.old front.new disk.new) }
+    ensures err { OnErr result (RelatesAlone R.publishing R.content D.files D.faults (CutsGoneOf c) front.old disk.old front.new disk.new) }
     ensures calls { MakesDocrootCalls (D.calls disk.old) (D.calls disk.new) }
 {
     events_leave_nothing_due();

@@ -1,7 +1,7 @@
 //! One turn.
-ghost use Rattle.std.specs.Prelude.{◌≡◌, OnErr, OnOk};
+ghost use Rattle.std.specs.Prelude.{◌≡◌};
 ghost use Rattle.docroot_changes.specs.DocrootCalls.{MakesDocrootCalls};
-ghost use Rattle.serve_loop.specs.Steps.{BeginsTurn, CutsTurn, EndsAs, HasTurnCause, MakesTurn, Serving};
+ghost use Rattle.serve_loop.specs.Steps.{EndsAs, HasTurnCause, Relates, TurnIfDone, TurnIfCut, BeginIfDone};
 
 use crate::rounds::{land_all, purge_once};
 use crate::steps::{go, make};
@@ -30,7 +30,7 @@ pub(crate) fn turn<R: Renderer + Drop, D: Disk, W: World>(
     disk: &mut D,
     world: &mut W,
 ) -> TurnEnd
-    ensures ends { Serving R.publishing R.content D.files D.faults W.log W.send_faults (EndsAs result) front.old disk.old world.old front.new disk.new world.new }
+    ensures ends { Relates R.publishing R.content D.files D.faults W.log W.send_faults (EndsAs result) front.old disk.old world.old front.new disk.new world.new }
     ensures cause { HasTurnCause result (W.next_faults world.old) (W.next_faults world.new) }
     ensures calls { MakesDocrootCalls (D.calls disk.old) (D.calls disk.new) }
 {
@@ -64,10 +64,8 @@ fn follow<R: Renderer + Drop, D: Disk, W: World>(
     world: &mut W,
     news: Happening,
 ) -> Mem<()>
-    ensures ok { OnOk result (Serving R.publishing R.content D.files D.faults W.log W.send_faults (MakesTurn news)
-        front.old disk.old world.old front.new disk.new world.new) }
-    ensures err { OnErr result (Serving R.publishing R.content D.files D.faults W.log W.send_faults (CutsTurn news)
-        front.old disk.old world.old front.new disk.new world.new) }
+    ensures ok { TurnIfDone R.publishing R.content D.files D.faults W.log W.send_faults news result front.old disk.old world.old front.new disk.new world.new }
+    ensures err { TurnIfCut R.publishing R.content D.files D.faults W.log W.send_faults news result front.old disk.old world.old front.new disk.new world.new }
     ensures next_count { W.next_faults world.new ≡ W.next_faults world.old }
     ensures calls { MakesDocrootCalls (D.calls disk.old) (D.calls disk.new) }
 {
@@ -85,10 +83,8 @@ fn begin<R: Renderer + Drop, D: Disk, W: World>(
     world: &mut W,
     news: Happening,
 ) -> Mem<()>
-    ensures ok { OnOk result (Serving R.publishing R.content D.files D.faults W.log W.send_faults (BeginsTurn news)
-        front.old disk.old world.old front.new disk.new world.new) }
-    ensures err { OnErr result (Serving R.publishing R.content D.files D.faults W.log W.send_faults (CutsTurn news)
-        front.old disk.old world.old front.new disk.new world.new) }
+    ensures ok { BeginIfDone R.publishing R.content D.files D.faults W.log W.send_faults news result front.old disk.old world.old front.new disk.new world.new }
+    ensures err { TurnIfCut R.publishing R.content D.files D.faults W.log W.send_faults news result front.old disk.old world.old front.new disk.new world.new }
     ensures next_count { W.next_faults world.new ≡ W.next_faults world.old }
     ensures calls { MakesDocrootCalls (D.calls disk.old) (D.calls disk.new) }
 {

@@ -10,7 +10,7 @@ use Rattle.cache_log.specs.Entries.{LogEntry}
 use Rattle.docroot_format.specs.declared.fault.FileFault.{FileFault}
 use Rattle.docroot_format.specs.declared.fault.FileFault.TheVariants as file_fault
 use Rattle.front.specs.Boards.{BoardAt, at_disk}
-use Rattle.front.specs.Fronts.{FrontStandsFor, epoch_of_board, BeginsFresh}
+use Rattle.front.specs.Fronts.{FrontBeginsFresh, FrontStandsFor, epoch_of_board}
 use Rattle.front.specs.declared.front.Front.{Front}
 use Rattle.outside_world.specs.declared.inputs.InputFault.{InputFault}
 use Rattle.outside_world.specs.declared.inputs.InputFault.TheVariants as input_fault
@@ -144,9 +144,9 @@ OpensRun beginning farm tree (Some files) b now =
 abbrev pub OpensRunOver : {D : Type 0} → (D → Option Files) → (D → ℕ) → Beginning → Farm → Content → D → D → Front PublisherRenderer → Type 0
 OpensRunOver files faults beginning farm publisher before after front = OpensRun beginning farm publisher (files before) (at_disk front.board (files after) (faults after)) front.renderer.publisher
 
--- a front that was just opened begins a run over files that were cleared
-abbrev pub BeginsFreshOver : {D : Type 0} → (D → Option Files) → (D → ℕ) → Front PublisherRenderer → D → D → Type 0
-BeginsFreshOver files faults front before after = BeginsFresh sling_publisher front.renderer.publisher (files before) (at_disk front.board (files after) (faults after))
+-- a front before a publisher, which was just opened, begins a run over files that were cleared
+abbrev pub SiteBeginsFresh : {D : Type 0} → (D → Option Files) → (D → ℕ) → Front PublisherRenderer → D → D → Type 0
+SiteBeginsFresh files faults front before after = FrontBeginsFresh sling_publisher (λ (renderer : PublisherRenderer). renderer.publisher) files faults front before after
 
 -- the run ends as is due of these words, with such a source and such inputs
 abbrev pub EndsAsDue : {S K I D W : Type 0} → List Text → StreamReport (List ℕ) → StreamReport Files → (K → Option (List ℕ)) → (K → ℕ) → (D → Option Files) → (D → ℕ) → (W → Option (List WorldEntry)) → (W → ℕ) → (W → ℕ) → Outside S K I D W → Outside S K I D W → Ending → Type 0
@@ -172,3 +172,9 @@ EndsForSite words publisher farm held sink_faults files disk_faults log next_fau
 abbrev pub ReplaysSource : {S K : Type 0} → (S → Option (List ℕ)) → (S → ℕ) → (K → Option (List ℕ)) → (K → ℕ) → S → S → K → K → Ending → Type 0
 ReplaysSource left source_faults held sink_faults source after sink written ending = (asked : List Text) (inputs : StreamReport Files) (disk : DiskReport) (world : WorldReport) → IsReplay asked → IsWorldUntouched world
     → Means (IsDue (call_of asked (report_over left source_faults source after) inputs disk world)) ending (report_over held sink_faults sink written)
+
+-- it ends so where these words were asked for, whatever the source, which is untouched
+abbrev pub EndsForWords : {S K I D W : Type 0} → ServeWords → (I → Option Files) → (I → ℕ) → (K → Option (List ℕ)) → (K → ℕ) → (D → Option Files) → (D → ℕ) → (W → Option (List WorldEntry)) → (W → ℕ) → (W → ℕ) → Outside S K I D W → Outside S K I D W → Ending → Type 0
+EndsForWords words contents input_faults held sink_faults files disk_faults log next_faults send_faults old new ending = (asked : List Text) (source : StreamReport (List ℕ))
+    → AsksFor asked (Serve words) → IsUntouched source
+    → EndsAsDue asked source (report_over contents input_faults old.inputs new.inputs) held sink_faults files disk_faults log next_faults send_faults old new ending

@@ -18,14 +18,16 @@ use Rattle.run_events.specs.declared.step.Pick.TheVariants.{Number, First}
 use Rattle.run_events.specs.declared.step.Step.{Step}
 use Rattle.run_events.specs.declared.step.Step.TheVariants.{Opened, Piece, Gone, Direct, Render, Deliver, Lose, Purge, Restart}
 use Rattle.sp_base.specs.Limits.{http_port}
+use Rattle.sp_base.specs.Texts.{Text}
 use Rattle.any_config.specs.declared.farm.Farm.{Farm}
 use Rattle.cover_rules.specs.declared.invalidation.Action.{Action}
 use Rattle.cache_log.specs.Entries.{Session}
 use Rattle.run_events.specs.Causes.{SpoilAtMost}
-use Rattle.run_events.specs.Publishers.{Publishing}
+use Rattle.run_events.specs.Publishers.{Publishing, direct_answer}
 use Rattle.run_events.specs.Events.{Event, Run, after_event, notes_of, state_before_notes}
 use Rattle.run_events.specs.States.{RunState, Start, start_of}
 use Rattle.sling_dispatch.specs.Farms.{farm_in, farm_text}
+use Rattle.http_front.specs.Targets.{path_bytes}
 
 -- ---- the requests that lines ask for (RFC 9112, sections 2.1 and 3)
 
@@ -167,3 +169,7 @@ pub record IsSession (s : Scenario) (left : List EventLine) (events : List Event
   pub steps : map (λ (e : Event). e.step) events ≡ filter_map (step_of (asked_publisher_host farm)) made
   pub run : Run (start_of (sling_start farm tree)) events
   pub armed : AreArmed Unarmed (start_of (sling_start farm tree)) (map arming_of made) events
+
+-- two targets with one path are answered alike
+abbrev pub AreAnsweredAlikeIfOnePath : Farm → Content → Text → Text → Type 0
+AreAnsweredAlikeIfOnePath farm content a b = path_bytes a ≡ path_bytes b → direct_answer sling_publisher farm content a ≡ direct_answer sling_publisher farm content b

@@ -1,6 +1,7 @@
 -- What a site's operator may rely on, of each session that is served.
-use Rattle.std.specs.Prelude.{◌≡◌, ◌≢◌, ◌++◌, ◌∷◌, false, List, Option, Some, Contains}
+use Rattle.std.specs.Prelude.{◌≡◌, ◌≢◌, ◌++◌, ◌∷◌, false, List, Option, Some, Contains, ℕ, ◌<◌, ◌⊎◌}
 use Rattle.sp_base.specs.declared.answer.Answer.{Answer}
+use Rattle.sp_base.specs.Limits.{greatest_u64}
 use Rattle.sp_outside.specs.Files.{Files}
 use Rattle.cover_rules.specs.declared.page.PageKey.{PageKey}
 use Rattle.cover_rules.specs.declared.invalidation.Invalidation.{Invalidation}
@@ -18,11 +19,17 @@ use Rattle.serve_loop.specs.Served.{IsServed, LeavesLegalLog, left_log}
 use Rattle.serve_loop.specs.Turns.{turn_events, with_cut}
 use Rattle.serve_loop.specs.declared.serving.ServeEnd.{ServeEnd}
 use Rattle.serve_loop.specs.declared.serving.ServeEnd.TheVariants.{NoMemory}
-use Rattle.sling_dispatch.specs.Reports.{RunCall}
-use Rattle.sling_dispatch.specs.Serving.{MayBeginOver, ServesSite, served_start}
+use Rattle.sling_dispatch.specs.Reports.{RunCall, StreamReport, HasNotFailed, HasFailed}
+use Rattle.sling_dispatch.specs.Serving.{MayBeginOver, ServesSite, served_start, IsServable}
 use Rattle.sling_dispatch.specs.declared.form.Beginning.{Beginning}
 use Rattle.sling_dispatch.specs.declared.form.Beginning.TheVariants.{Fresh, Warm}
 use Rattle.sling_dispatch.specs.declared.form.ServeWords.{ServeWords}
+use Rattle.sling_dispatch.specs.declared.ending.Ending.{Ending}
+use Rattle.sling_dispatch.specs.Endings.{Means, IsDue, IsReplay, HasContent, HasFarm}
+use Rattle.sling_dispatch.specs.Forms.{AsksNumber}
+use Rattle.sling_dispatch.specs.declared.ending.Ending.TheVariants as run_end
+use Rattle.replay_text.specs.declared.scenario.Scenario.{Scenario}
+use Rattle.replay_text.specs.Scenario.{ReadsScenario}
 
 -- A session that was served: one call that served these words, over these files, and what came of it from a log that it went on from, which is
 -- legal. (With `fresh` that is the empty one.)
@@ -99,3 +106,22 @@ abbrev pub ServedSessionsServeKeptPages : Type 0
 ServedSessionsServeKeptPages = (c : RunCall) (words : ServeWords) (end : ServeEnd) (s : ServedSession c words end) (before : List Event) (e : Event) (after : List Event) → served_session_events s ≡ before ++ e ∷ after
     → e.conditions.disk_failed ≡ false → e.conditions.out_of_memory ≡ false
     → OwedAreHits (state_before_notes (state_after_events (start_of (served_session_start s)) before) e e.step) e.body
+
+-- ---- where nothing outside is in the way, the run is done, unless it ran out of memory
+
+-- a replay of a scenario whose content and farm have a reading
+abbrev pub UnhinderedReplaysAreDone : Type 0
+UnhinderedReplaysAreDone = (c : RunCall) (sink : StreamReport (List ℕ)) (bytes : List ℕ) (s : Scenario) (ending : Ending) → Means (IsDue c) ending sink
+    → IsReplay c.words → c.source.old ≡ Some bytes → ReadsScenario bytes s → HasContent s → HasFarm s
+    → c.source.faults_old < greatest_u64 → HasNotFailed c.source → sink.faults_old < greatest_u64 → HasNotFailed sink
+    → (ending ≡ run_end.Done) ⊎ (ending ≡ run_end.NoMemory)
+
+-- serving over inputs, a document root and a world that let it
+abbrev pub UnhinderedServingIsDone : Type 0
+UnhinderedServingIsDone = (c : RunCall) (sink : StreamReport (List ℕ)) (words : ServeWords) (ending : Ending) → Means (IsDue c) ending sink → IsServable c words
+    → sink.faults_old < greatest_u64 → HasNotFailed sink → (ending ≡ run_end.Done) ⊎ (ending ≡ run_end.NoMemory)
+
+-- `scenario` and `soak`, but for a sink that failed
+abbrev pub NumberedRunsAreDoneUnlessTheSinkFailed : Type 0
+NumberedRunsAreDoneUnlessTheSinkFailed = (c : RunCall) (sink : StreamReport (List ℕ)) (ending : Ending) → Means (IsDue c) ending sink → AsksNumber c.words
+    → (ending ≡ run_end.Done) ⊎ ((ending ≡ run_end.NoMemory) ⊎ ((ending ≡ run_end.SinkFailed) × HasFailed sink))

@@ -1,28 +1,17 @@
 //! Laws of the definitions, on functions that do nothing.
-ghost use Rattle.std.specs.Prelude.{◌≡◌, ◌⊎◌, ◌<◌, ℕ, Bool, List, Some, length};
-ghost use Rattle.sp_base.specs.Limits.{greatest_u64};
-ghost use Rattle.sp_base.specs.Texts.{Segments};
+ghost use Rattle.std.specs.Prelude.{◌≡◌, ℕ, Bool, List, length};
+ghost use Rattle.sp_base.specs.Texts.{Segments, Text};
 ghost use Rattle.resource_tree.specs.Content.{Content};
-ghost use Rattle.http_front.specs.Targets.{begins_with_slash, path_bytes};
+ghost use Rattle.http_front.specs.Targets.{begins_with_slash};
 ghost use Rattle.any_config.specs.declared.farm.Farm as models;
 ghost use Rattle.url_split.specs.declared.decompose.Parts as split;
 ghost use Rattle.url_split.specs.Split.{IsSplit};
 ghost use Rattle.dispatch_rules.specs.UrlParts.{stem};
-ghost use Rattle.run_events.specs.Publishers.{direct_answer};
-ghost use Rattle.replay_text.specs.Scenario.{ReadsScenario};
 ghost use Rattle.sling_dispatch.specs.SessionLaws.{SessionHitsAreFresh, SessionLogsAreLegal, SessionRepliesInFlightAreNotStored, SessionsServeKeptPages, TranscriptsTellSessions};
-ghost use Rattle.sling_dispatch.specs.ServedLaws.{ServedHitsAreFresh, ServedLogsAreLegal, ServedRepliesInFlightAreNotStored, ServedSessionsGoOn, ServedSessionsLeaveLegalLogs, ServedSessionsServeKeptPages, SessionsAreServed};
+ghost use Rattle.sling_dispatch.specs.ServedLaws.{ServedHitsAreFresh, ServedLogsAreLegal, ServedRepliesInFlightAreNotStored, ServedSessionsGoOn, ServedSessionsLeaveLegalLogs, ServedSessionsServeKeptPages, SessionsAreServed, UnhinderedReplaysAreDone, UnhinderedServingIsDone, NumberedRunsAreDoneUnlessTheSinkFailed};
 ghost use Rattle.sling_dispatch.specs.SessionsWithMemory.{SessionsWithMemoryAreOne, UncachedTextsAreOne, UncachedScenariosAreOne};
-ghost use Rattle.sling_dispatch.specs.Endings.{Means, IsDue, IsReplay, HasContent, HasFarm};
-ghost use Rattle.sling_dispatch.specs.Forms.{AsksNumber};
-ghost use Rattle.sling_dispatch.specs.Reports.{StreamReport, RunCall, HasFailed, HasNotFailed};
-ghost use Rattle.sling_dispatch.specs.Serving.{IsServable};
-ghost use Rattle.sling_dispatch.specs.declared.form.ServeWords.{ServeWords};
-ghost use Rattle.sling_dispatch.specs.declared.ending.Ending.{Ending};
-ghost use Rattle.sling_dispatch.specs.declared.ending.Ending.TheVariants.{Done, NoMemory, SinkFailed};
 ghost use Rattle.sling_dispatch.specs.FilterParts.{SeesParts};
-ghost use Rattle.sling_dispatch.specs.Runs.{sling_publisher};
-ghost use Rattle.replay_text.specs.declared.scenario.Scenario.{Scenario};
+ghost use Rattle.sling_dispatch.specs.Runs.{AreAnsweredAlikeIfOnePath};
 
 use publisher::statuses_are_short;
 use replay_text::{a_transcript_tells_its_events, acts_are_told_by_their_lines, one_reading};
@@ -35,8 +24,7 @@ use serve_loop::{served_sessions_leave_legal_logs, sessions_begin_in_legal_logs}
 
 /// How the path of a target is escaped doesn't matter, apart from the slash that it begins with, nor which query follows.
 pub fn spellings_are_answered_alike()
-    ensures { (farm : models.Farm) (content : Content) (a b : List ℕ) → begins_with_slash a ≡ begins_with_slash b → path_bytes a ≡ path_bytes b
-        → direct_answer sling_publisher farm content a ≡ direct_answer sling_publisher farm content b }
+    ensures { (farm : models.Farm) (content : Content) (a b : Text) → begins_with_slash a ≡ begins_with_slash b → AreAnsweredAlikeIfOnePath farm content a b }
 {}
 
 /// Where the words are right and nothing outside is in the way, the run is done, unless it ran out of memory. `replay`: the source's bytes
@@ -44,14 +32,9 @@ pub fn spellings_are_answered_alike()
 /// number of the session is of its form and not at its end, and the inputs, what comes next and the sink didn't fail, nor the disk before the
 /// first turn. `scenario` and `soak`: the sink didn't fail.
 pub fn complete()
-    ensures replay { (c : RunCall) (sink : StreamReport (List ℕ)) (bytes : List ℕ) (s : Scenario) (ending : Ending) → Means (IsDue c) ending sink
-        → IsReplay c.words → c.source.old ≡ Some bytes → ReadsScenario bytes s → HasContent s → HasFarm s
-        → c.source.faults_old < greatest_u64 → HasNotFailed c.source → sink.faults_old < greatest_u64 → HasNotFailed sink
-        → (ending ≡ Done) ⊎ (ending ≡ NoMemory) }
-    ensures serve { (c : RunCall) (sink : StreamReport (List ℕ)) (words : ServeWords) (ending : Ending) → Means (IsDue c) ending sink → IsServable c words
-        → sink.faults_old < greatest_u64 → HasNotFailed sink → (ending ≡ Done) ⊎ (ending ≡ NoMemory) }
-    ensures numbered { (c : RunCall) (sink : StreamReport (List ℕ)) (ending : Ending) → Means (IsDue c) ending sink → AsksNumber c.words
-        → (ending ≡ Done) ⊎ ((ending ≡ NoMemory) ⊎ ((ending ≡ SinkFailed) × HasFailed sink)) }
+    ensures replay { UnhinderedReplaysAreDone }
+    ensures serve { UnhinderedServingIsDone }
+    ensures numbered { NumberedRunsAreDoneUnlessTheSinkFailed }
 {
     one_reading();
 }

@@ -4,7 +4,7 @@ ghost use Rattle.cache_files.specs.declared.epoch.OpenFault.TheVariants as fault
 ghost use Rattle.cache_files.specs.Epochs.{HasOpenCause, next_epoch};
 ghost use Rattle.docroot_changes.specs.DocrootCalls.{MakesDocrootCalls};
 ghost use Rattle.front.specs.Fronts.{epoch_of_front};
-ghost use Rattle.sling_dispatch.specs.InnerServing.{open_fault_of, BeginsFreshOver, OpensRunOver};
+ghost use Rattle.sling_dispatch.specs.InnerServing.{open_fault_of, OpensRunOver, SiteBeginsFresh};
 ghost use Rattle.sling_dispatch.specs.Serving.{KeepsLogs};
 
 use crate::form::Beginning;
@@ -49,7 +49,7 @@ fn cleared<D: Disk>(
     disk: &mut D,
 ) -> Result<Front<PublisherRenderer>, OpenFault>
     ensures same { IfOk result (λ cleared. cleared ≡ front) }
-    ensures stands { IfOk result (λ _. BeginsFreshOver D.files D.faults front disk.old disk.new) }
+    ensures stands { IfOk result (λ _. SiteBeginsFresh D.files D.faults front disk.old disk.new) }
     ensures err { IfErr result (λ e. (e ≢ fault.Disk → e ≡ fault.NoMemory)) }
     ensures cause { HasOpenCause (D.faults disk.old) (D.faults disk.new) result }
     ensures calls { MakesDocrootCalls (D.calls disk.old) (D.calls disk.new) }

@@ -1,5 +1,5 @@
 //! The run: what the words say is done, from the source, the inputs, the disk and the world to the sink.
-ghost use Rattle.std.specs.Prelude.{◌≡◌, ◌+◌, map};
+ghost use Rattle.std.specs.Prelude.{◌≡◌, ◌+◌};
 ghost use Rattle.replay_text.specs.Scenario.{longest_scenario};
 ghost use Rattle.docroot_changes.specs.DocrootCalls.{MakesDocrootCalls};
 ghost use Rattle.sling_dispatch.specs.declared.ending.Ending.{Ending};
@@ -7,7 +7,7 @@ ghost use Rattle.sling_dispatch.specs.Streams.{HasTaken};
 ghost use Rattle.sling_dispatch.specs.Endings.{Means, IsDue, IsReplay, ending_status};
 ghost use Rattle.sling_dispatch.specs.Forms.{IsServe};
 ghost use Rattle.sling_dispatch.specs.InnerServing.{IsScenarioOr, IsSummaryOr, ReplaysSource};
-ghost use Rattle.sling_dispatch.specs.Reports.{IsApart, IsUntouched, report_over, call_over};
+ghost use Rattle.sling_dispatch.specs.Reports.{IsUntouched, report_over, call_over, IsApartUnlessServe, word_texts};
 
 use crate::ending::Ending;
 use crate::form::{Form, form_of};
@@ -34,14 +34,13 @@ pub fn run<S: Source, K: Sink, I: Inputs, D: Disk, W: World>(
     outside: &mut Outside<S, K, I, D, W>,
 ) -> u8
     ensures taken { HasTaken (longest_scenario + 1) (S.left outside.old.source) (S.left outside.new.source) }
-    ensures ending { (e : Ending) × (result ≡ ending_status e) × Means (IsDue (call_over (map (λ w. w.now) words.now)
+    ensures ending { (e : Ending) × (result ≡ ending_status e) × Means (IsDue (call_over (word_texts words.now)
         S.left S.faults I.contents I.faults D.files D.faults W.log W.next_faults W.send_faults outside.old outside.new)) e
         (report_over K.held K.faults outside.old.sink outside.new.sink) }
-    ensures apart { (IsServe (map (λ w. w.now) words.now) → ⊥) → IsApart (call_over (map (λ w. w.now) words.now)
-        S.left S.faults I.contents I.faults D.files D.faults W.log W.next_faults W.send_faults outside.old outside.new) }
+    ensures apart { IsApartUnlessServe words.now S.left S.faults I.contents I.faults D.files D.faults W.log W.next_faults W.send_faults outside.old outside.new }
     ensures calls { MakesDocrootCalls (D.calls outside.old.disk) (D.calls outside.new.disk) }
-    ensures uncalled { (IsServe (map (λ w. w.now) words.now) → ⊥) → D.calls outside.new.disk ≡ D.calls outside.old.disk }
-    ensures source { (IsReplay (map (λ w. w.now) words.now) → ⊥) → IsUntouched (report_over S.left S.faults outside.old.source outside.new.source) }
+    ensures uncalled { (IsServe (word_texts words.now) → ⊥) → D.calls outside.new.disk ≡ D.calls outside.old.disk }
+    ensures source { (IsReplay (word_texts words.now) → ⊥) → IsUntouched (report_over S.left S.faults outside.old.source outside.new.source) }
 {
     ending(alloc, seeds, words, outside).status()
 }
@@ -53,14 +52,13 @@ fn ending<S: Source, K: Sink, I: Inputs, D: Disk, W: World>(
     outside: &mut Outside<S, K, I, D, W>,
 ) -> Ending
     ensures taken { HasTaken (longest_scenario + 1) (S.left outside.old.source) (S.left outside.new.source) }
-    ensures ending { Means (IsDue (call_over (map (λ w. w.now) words.now)
+    ensures ending { Means (IsDue (call_over (word_texts words.now)
         S.left S.faults I.contents I.faults D.files D.faults W.log W.next_faults W.send_faults outside.old outside.new)) result
         (report_over K.held K.faults outside.old.sink outside.new.sink) }
-    ensures apart { (IsServe (map (λ w. w.now) words.now) → ⊥) → IsApart (call_over (map (λ w. w.now) words.now)
-        S.left S.faults I.contents I.faults D.files D.faults W.log W.next_faults W.send_faults outside.old outside.new) }
+    ensures apart { IsApartUnlessServe words.now S.left S.faults I.contents I.faults D.files D.faults W.log W.next_faults W.send_faults outside.old outside.new }
     ensures calls { MakesDocrootCalls (D.calls outside.old.disk) (D.calls outside.new.disk) }
-    ensures uncalled { (IsServe (map (λ w. w.now) words.now) → ⊥) → D.calls outside.new.disk ≡ D.calls outside.old.disk }
-    ensures source { (IsReplay (map (λ w. w.now) words.now) → ⊥) → IsUntouched (report_over S.left S.faults outside.old.source outside.new.source) }
+    ensures uncalled { (IsServe (word_texts words.now) → ⊥) → D.calls outside.new.disk ≡ D.calls outside.old.disk }
+    ensures source { (IsReplay (word_texts words.now) → ⊥) → IsUntouched (report_over S.left S.faults outside.old.source outside.new.source) }
 {
     docroot_calls_add_up();
     let Ok(asked) = form_of(alloc, words) else {

@@ -1,13 +1,11 @@
 //! Serves a content before a farm, over the document root and the world.
-ghost use Rattle.std.specs.Prelude.{◌≡◌, ◌++◌, ◌∷◌, [], ℕ, List, IfOk, codes};
+ghost use Rattle.std.specs.Prelude.{◌≡◌, ◌++◌, ◌∷◌, [], IfOk, codes};
 ghost use Rattle.std.specs.Fmt.{decimal};
 ghost use Rattle.docroot_changes.specs.DocrootCalls.{MakesDocrootCalls};
-ghost use Rattle.serve_loop.specs.Served.{disk_over, world_over};
-ghost use Rattle.sling_dispatch.specs.Endings.{IsDue, Means};
-ghost use Rattle.sling_dispatch.specs.Forms.{AreServeWords, AsksFor};
-ghost use Rattle.sling_dispatch.specs.InnerServing.{IsInputOr, IsOfServeEnd, IsOpeningOr, EndsForContent, EndsForSite, EndsForTexts};
-ghost use Rattle.sling_dispatch.specs.Reports.{IsUntouched, StreamReport, call_of, report_over};
-ghost use Rattle.sling_dispatch.specs.declared.form.Form.TheVariants.{Serve};
+ghost use Rattle.sling_dispatch.specs.Endings.{Means};
+ghost use Rattle.sling_dispatch.specs.Forms.{AreServeWords};
+ghost use Rattle.sling_dispatch.specs.InnerServing.{IsInputOr, IsOfServeEnd, IsOpeningOr, EndsForContent, EndsForSite, EndsForTexts, EndsForWords};
+ghost use Rattle.sling_dispatch.specs.Reports.{report_over};
 
 use crate::ending::Ending;
 use crate::farms::farm_in;
@@ -49,12 +47,7 @@ pub fn serve_named<S, K: Sink, I: Inputs, D: Disk, W: World>(
     ensures source { outside.new.source ≡ outside.old.source }
     ensures contents { I.contents outside.new.inputs ≡ I.contents outside.old.inputs }
     ensures calls { MakesDocrootCalls (D.calls outside.old.disk) (D.calls outside.new.disk) }
-    ensures ending { (asked : List (List ℕ)) (source : StreamReport (List ℕ)) → AsksFor asked (Serve words) → IsUntouched source → Means
-        (IsDue (call_of asked source
-        (report_over I.contents I.faults outside.old.inputs outside.new.inputs)
-        (disk_over D.files D.faults outside.old.disk outside.new.disk)
-        (world_over W.log W.next_faults W.send_faults outside.old.world outside.new.world)))
-        result (report_over K.held K.faults outside.old.sink outside.new.sink) }
+    ensures ending { EndsForWords words I.contents I.faults K.held K.faults D.files D.faults W.log W.next_faults W.send_faults outside.old outside.new result }
 {
     docroot_calls_add_up();
     let content = match outside.inputs.whole(alloc, words.content.text()) {

@@ -149,16 +149,16 @@ abbrev pub mangled_of : Segments → Result Segments PathFault
 mangled_of segs = path_or_fault (mangled_segs segs)
 
 -- the first `n` bytes of the path's text read as this path
-abbrev pub HasPrefix : Segments → ℕ → Segments → Type 0
-HasPrefix path n read = path_of (take n (text_of path)) ≡ Ok read
+abbrev pub IsReadUpTo : Segments → ℕ → Segments → Type 0
+IsReadUpTo path n read = path_of (take n (text_of path)) ≡ Ok read
 
 -- the path is under the parent of that one
 abbrev pub IsUnderParentOf : Segments → Segments → Type 0
 IsUnderParentOf path read = is_under path (parent_of read) ≡ true
 
 -- where that has no more segments than so many, they are no more bytes than those of as many first segments
-abbrev pub FitsWithin : Segments → ℕ → Segments → ℕ → Type 0
-FitsWithin path n read most = length read ≤ most → n ≤ length (text_of (take most path))
+abbrev pub FitsIfShort : Segments → ℕ → Segments → ℕ → Type 0
+FitsIfShort path n read most = length read ≤ most → n ≤ length (text_of (take most path))
 
 -- a slash follows the first `n` segments
 abbrev pub HasSlashAfter : Segments → ℕ → Type 0

@@ -2,7 +2,7 @@
 ghost use Rattle.std.specs.Prelude.{◌≡◌, ◌<◌, ◌≤◌, ℕ, IsTrue, false, Ok, ◌∷◌, length, take};
 ghost use Rattle.std.specs.List.{AllByRecursion, list_any};
 ghost use Rattle.sp_base.specs.Bytes.{AreBytes};
-ghost use Rattle.sp_base.specs.Paths.{is_long, is_path, path_of, pieces, text_of, mangled_segs, mangled_of, unmangled_segs, HasPrefix, HasSlashAfter, IsUnderParentOf, FitsWithin};
+ghost use Rattle.sp_base.specs.Paths.{is_long, is_path, path_of, pieces, text_of, mangled_segs, mangled_of, unmangled_segs, IsReadUpTo, HasSlashAfter, IsUnderParentOf, FitsIfShort};
 ghost use Rattle.sp_base.specs.PathTexts.{lack_slashes, segs_in, spelling_of, SpellingsTell};
 ghost use Rattle.sp_base.specs.Texts.{Segments, Text};
 
@@ -18,8 +18,8 @@ pub fn a_path_and_its_text()
 /// A prefix of a path's text that reads as a path reads as one whose parent is the path or an ancestor of it, and it is no longer
 /// than as many first segments of the path. A slash follows these.
 pub fn the_prefixes_of_a_path()
-    ensures parent { (path read : Segments) (n : ℕ) → IsTrue (is_path path) → n ≤ length (text_of path) → HasPrefix path n read → IsUnderParentOf path read }
-    ensures within { (path read : Segments) (n most : ℕ) → IsTrue (is_path path) → n ≤ length (text_of path) → HasPrefix path n read → FitsWithin path n read most }
+    ensures parent { (path read : Segments) (n : ℕ) → IsTrue (is_path path) → n ≤ length (text_of path) → IsReadUpTo path n read → IsUnderParentOf path read }
+    ensures within { (path read : Segments) (n k : ℕ) → IsTrue (is_path path) → n ≤ length (text_of path) → IsReadUpTo path n read → FitsIfShort path n read k }
     ensures first { (path : Segments) (n : ℕ) → 0 < n → text_of (take n path) ≡ take (length (text_of (take n path))) (text_of path) }
     ensures slash { (path : Segments) (n : ℕ) → 0 < n → length (text_of (take n path)) < length (text_of path) → HasSlashAfter path n }
 {}

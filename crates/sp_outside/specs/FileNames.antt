@@ -1,11 +1,11 @@
 -- Which names may have a file below the folder of a disk, and how many may follow a name.
-use Rattle.std.specs.Prelude.{◌≡◌, ◌≢◌, ◌<◌, ◌⊎◌, ◌==◌, ◌&&◌, ◌+◌, ◌-◌, ◌*◌, ℕ, zero, suc, Bool, not, List, [], ◌∷◌, None, Contains, IsTrue, codes, length, nat_eq}
+use Rattle.std.specs.Prelude.{◌≡◌, ◌≢◌, ◌<◌, ◌⊎◌, ◌==◌, ◌&&◌, ◌+◌, ◌-◌, ◌*◌, ℕ, zero, suc, Bool, not, List, [], ◌∷◌, None, Contains, IsTrue, codes, length, nat_eq, IsUtf8, ◌≤◌, take}
 use Rattle.std.specs.List.{ends_with, list_all, list_any}
 use Rattle.std.specs.declared.cmp.Ordering.TheVariants.{Less}
 use Rattle.sp_base.specs.Names.{by_name}
 use Rattle.sp_base.specs.Paths.{is_dots, is_empty, pieces}
 use Rattle.sp_base.specs.Texts.{Text}
-use Rattle.sp_outside.specs.Files.{Files, file_at, has_prefix, longest_file_name}
+use Rattle.sp_outside.specs.Files.{Files, file_at, has_prefix, longest_file_name, IsListing, names_after}
 
 -- what the name of a file ends in that a disk writes beside another
 abbrev pub beside_ending : Text
@@ -64,3 +64,13 @@ name_number (suc n) before (b ∷ name) = name_number n (before * 257 + (b + 1))
 -- how many numbers of names are left from this one's on, below the first that no name has
 abbrev pub names_left : Text → ℕ
 names_left name = name_number longest_file_name 1 [] - name_number longest_file_name 0 name
+
+-- of a name that is listed after another, fewer names are left than of that one
+abbrev pub ListedNamesHaveFewerLeft : Type 0
+ListedNamesHaveFewerLeft = (prefix after name : Text) (most : ℕ) (names : List Text) → IsUtf8 after → length after ≤ longest_file_name → IsListing prefix after most names
+    → Contains names name → names_left name < names_left after
+
+-- a list leaves out no name that it came to
+abbrev pub ListsHoldWhatTheyReached : Type 0
+ListsHoldWhatTheyReached = (files : Files) (prefix after name : Text) (most : ℕ) (names : List Text) → names ≡ take most (names_after files prefix after)
+    → IsNameAfter files prefix after name → HasReached names most name → Contains names name

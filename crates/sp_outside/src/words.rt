@@ -1,5 +1,6 @@
 //! The words of a command line.
-ghost use Rattle.std.specs.Prelude.{◌≡◌, ℕ, List, Option, Some, None, IfOk, IfSome, slice_get};
+ghost use Rattle.std.specs.Prelude.{◌≡◌, List, Option, Some, None, IfOk, IfSome, slice_get};
+ghost use Rattle.sp_base.specs.Texts.{Text};
 
 use sp_base::{ByteBuf, Items, Mem, NoMemory};
 use std::alloc::Global;
@@ -11,7 +12,7 @@ pub type CommandWords = Items<ByteBuf>;
 /// The words of a command line, after the program's own name. A word is any bytes.
 pub trait Words {
     /// The words, where the command line tells them.
-    ghost told: { Self → Option (List (List ℕ)) };
+    ghost told: { Self → Option (List Text) };
 
     /// The word at a place, or None where there are no more.
     fn word(&self, alloc: Global, place: usize) -> Mem<Option<ByteBuf>>
@@ -25,9 +26,10 @@ pub struct MemWords {
 }
 
 impl Model for MemWords {
-    ghost use Rattle.std.specs.Prelude.{ℕ, List};
+    ghost use Rattle.std.specs.Prelude.{List};
+    ghost use Rattle.sp_base.specs.Texts.{Text};
 
-    ghost Value = { List (List ℕ) };
+    ghost Value = { List Text };
 
     ghost view = { λ w. w.words };
 }

@@ -43,3 +43,8 @@ abbrev pub TouchesElsewhereChangeNothing : Type 0
 TouchesElsewhereChangeNothing = (level : ℕ) (auto : Bool) (files : Files) (key : PageKey) (folder : Segments) (stamp page : Stamp) → IsPageKey key → AllByRecursion AreBytes folder
     → mangled_segs folder ≢ mangled_segs (stat_folder level key)
     → is_outdated level auto (files_with_stamp files folder stamp) key page ≡ is_outdated level auto files key page
+
+-- once the .stat file of a page has a stamp, the page is outdated unless that is older than the page's own
+abbrev pub TouchesOutdateUnlessOlder : Type 0
+TouchesOutdateUnlessOlder = (level : ℕ) (files : Files) (key : PageKey) (stamp page : Stamp) → stamp.epoch < 2 ^ 64 → stamp.count < 2 ^ 64
+    → is_outdated level true (files_with_stamp files (stat_folder level key) stamp) key page ≡ not (is_older stamp page)

@@ -1,5 +1,5 @@
 -- The stamps of folders, as the files of the docroot hold them (Adobe Dispatcher manual, "Invalidating Files by Folder Level").
-use Rattle.std.specs.Prelude.{◌≡◌, ◌≢◌, ◌⊎◌, ◌<◌, ◌≤◌, ℕ, Option, Some, None, option_and_then, option_map}
+use Rattle.std.specs.Prelude.{◌≡◌, ◌≢◌, ◌⊎◌, ◌<◌, ◌≤◌, ℕ, Option, Some, None, option_and_then, option_map, ◌^◌}
 use Rattle.sp_base.specs.Paths.{mangled_segs}
 use Rattle.sp_base.specs.Texts.{Segments, Text}
 use Rattle.std.specs.List.{AllByRecursion}
@@ -11,6 +11,7 @@ use Rattle.docroot_format.specs.Faults.{IsLeftByFault}
 use Rattle.docroot_format.specs.Readings.{stat_of}
 use Rattle.docroot_format.specs.Texts.{stat_text}
 use Rattle.docroot_format.specs.declared.fault.FileFault.{FileFault}
+use Rattle.docroot_format.specs.declared.fault.FileFault.TheVariants.{Disk as disk_failed}
 use Rattle.cover_rules.specs.declared.stamp.Stamp.{Stamp}
 
 -- the greatest stamp, which outdates every page
@@ -72,3 +73,18 @@ KeepsStamp old new folder = stamp_at new folder ≡ stamp_at old folder
 abbrev pub FailedTouchesKeepOthers : Type 0
 FailedTouchesKeepOthers = (files new : Files) (folder : Segments) (stamp : Stamp) (fault : FileFault) → AllByRecursion AreBytes folder
     → LeftByTouch files new folder stamp fault → KeepsOtherStamps files new folder
+
+-- it leaves the files as they were or, where the disk failed, with the new stamp
+abbrev pub FailedTouchesLeaveOldOrNew : Type 0
+FailedTouchesLeaveOldOrNew = (files new : Files) (folder : Segments) (stamp : Stamp) (fault : FileFault) → LeftByTouch files new folder stamp fault
+    → (new ≡ files) ⊎ ((fault ≡ disk_failed) × (new ≡ files_with_stamp files folder stamp))
+
+-- so its folder has the old stamp or the new one
+abbrev pub FailedTouchesLeaveAStamp : Type 0
+FailedTouchesLeaveAStamp = (files new : Files) (folder : Segments) (stamp : Stamp) (fault : FileFault) → stamp.epoch < 2 ^ 64 → stamp.count < 2 ^ 64
+    → LeftByTouch files new folder stamp fault → (stamp_at new folder ≡ stamp_at files folder) ⊎ (stamp_at new folder ≡ Some stamp)
+
+-- and each file but the folder's .stat file is as it was
+abbrev pub FailedTouchesKeepOtherFiles : Type 0
+FailedTouchesKeepOtherFiles = (files new : Files) (folder : Segments) (stamp : Stamp) (fault : FileFault) (name : Text) → LeftByTouch files new folder stamp fault
+    → name ≢ stat_name folder → file_at new name ≡ file_at files name

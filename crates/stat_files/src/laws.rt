@@ -1,18 +1,14 @@
 //! What follows from the definitions of stamps: laws, on functions that do nothing.
-ghost use Rattle.std.specs.Prelude.{◌≡◌, ◌≢◌, ◌⊎◌, ◌<◌, ◌^◌, ℕ, true, false, not, Some, None};
+ghost use Rattle.std.specs.Prelude.{◌≡◌, ◌≢◌, ◌⊎◌, ◌<◌, ◌^◌, true, false, Some, None};
 ghost use Rattle.std.specs.FinMap.{empty};
 ghost use Rattle.std.specs.List.{AllByRecursion};
 ghost use Rattle.sp_base.specs.Bytes.{AreBytes};
 ghost use Rattle.sp_base.specs.Texts.{Segments, Text};
-ghost use Rattle.sp_outside.specs.Files.{Files, file_at, with_file, without_file};
-ghost use Rattle.docroot_format.specs.declared.fault.FileFault.{FileFault};
-ghost use Rattle.docroot_format.specs.declared.fault.FileFault.TheVariants.{Disk as disk_failed};
+ghost use Rattle.sp_outside.specs.Files.{Files, with_file, without_file};
 ghost use Rattle.docroot_format.specs.Names.{stat_name};
-ghost use Rattle.cover_rules.specs.Coverage.{stat_folder};
-ghost use Rattle.cover_rules.specs.declared.page.PageKey.{PageKey};
 ghost use Rattle.cover_rules.specs.declared.stamp.Stamp.{Stamp};
-ghost use Rattle.stat_files.specs.Outdated.{is_older, is_outdated, outdates_page, ForeignStatsOutdate, MissingStatsOutdateNothing, TouchesElsewhereChangeNothing};
-ghost use Rattle.stat_files.specs.Stamps.{IsHeldOrGreatest, IsUpTo, LeftByTouch, files_with_stamp, greatest_stamp, stamp_at, stamp_or_greatest, IsReadBack, StampsAreApart, KeepsStamp, FailedTouchesKeepOthers};
+ghost use Rattle.stat_files.specs.Outdated.{is_older, outdates_page, ForeignStatsOutdate, MissingStatsOutdateNothing, TouchesElsewhereChangeNothing, TouchesOutdateUnlessOlder};
+ghost use Rattle.stat_files.specs.Stamps.{IsHeldOrGreatest, IsUpTo, greatest_stamp, stamp_at, stamp_or_greatest, IsReadBack, StampsAreApart, KeepsStamp, FailedTouchesKeepOthers, FailedTouchesLeaveOldOrNew, FailedTouchesLeaveAStamp, FailedTouchesKeepOtherFiles};
 
 use docroot_format::{names_are_apart, texts_are_read_back};
 use sp_outside::files_have_names;
@@ -76,8 +72,7 @@ pub fn what_outdates_a_page()
 /// A touch of a page's .stat folder outdates the page unless its stamp is newer than the touch, and a touch of another folder doesn't
 /// change whether it is outdated.
 pub fn a_touch_outdates_what_is_not_newer()
-    ensures touched { (level : ℕ) (files : Files) (key : PageKey) (stamp page : Stamp) → stamp.epoch < 2 ^ 64 → stamp.count < 2 ^ 64
-        → is_outdated level true (files_with_stamp files (stat_folder level key) stamp) key page ≡ not (is_older stamp page) }
+    ensures touched { TouchesOutdateUnlessOlder }
     ensures beside { TouchesElsewhereChangeNothing }
 {
     a_stamp_is_read_back();
@@ -87,15 +82,10 @@ pub fn a_touch_outdates_what_is_not_newer()
 
 /// A touch that failed leaves the old stamp or, where the disk failed, the new one; each other file, so each other stamp, is as it was.
 pub fn a_failed_touch_leaves_the_old_stamp_or_the_new()
-    ensures whole { (files new : Files) (folder : Segments) (stamp : Stamp) (fault : FileFault) → LeftByTouch files new folder stamp fault
-        → (new ≡ files) ⊎ ((fault ≡ disk_failed) × (new ≡ files_with_stamp files folder stamp)) }
-    ensures stamp { (files new : Files) (folder : Segments) (stamp : Stamp) (fault : FileFault) → stamp.epoch < 2 ^ 64 → stamp.count < 2 ^ 64
-        → LeftByTouch files new folder stamp fault
-        → (stamp_at new folder ≡ stamp_at files folder) ⊎ (stamp_at new folder ≡ Some stamp) }
+    ensures whole { FailedTouchesLeaveOldOrNew }
+    ensures stamp { FailedTouchesLeaveAStamp }
     ensures others { FailedTouchesKeepOthers }
-    ensures beside { (files new : Files) (folder : Segments) (stamp : Stamp) (fault : FileFault) (name : Text)
-        → LeftByTouch files new folder stamp fault
-        → name ≢ stat_name folder → file_at new name ≡ file_at files name }
+    ensures beside { FailedTouchesKeepOtherFiles }
 {
     a_stamp_is_read_back();
     files_have_names();

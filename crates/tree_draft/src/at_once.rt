@@ -1,6 +1,7 @@
 //! Changes of a tree at once: a draft is made of the tree, changed, and put over it as a patch.
-ghost use Rattle.std.specs.Prelude.{◌≡◌, ◌≢◌, ℕ, List, None, Some, OnOk, OnErr, IfOk, IfErr, IsTrue};
+ghost use Rattle.std.specs.Prelude.{◌≡◌, ◌≢◌, None, Some, OnOk, OnErr, IfOk, IfErr, IsTrue};
 ghost use Rattle.sp_base.specs.Paths.{seg_ok};
+ghost use Rattle.sp_base.specs.Texts.{Segments};
 ghost use Rattle.resource_tree.specs.Content.{IsGood, empty_node, node_at};
 ghost use Rattle.resource_tree.specs.Changes.{clearing, clearing_at, create_fault, creation, creation_at, fixed_fault, has_prop_at, order_fault, removal, removal_at, reordering, reordering_at, set_fault, unset_fault, update, update_at};
 ghost use Rattle.resource_tree.specs.Moves.{copy, copy_at, copy_fault, move_fault, relocation, relocation_at};
@@ -31,7 +32,7 @@ pub(crate) enum Change<'a> {
 pub fn create(alloc: Global, tree: &mut Tree, path: &Path) -> Result<(), TreeFault>
     ensures allowed { OnOk result (create_fault tree.old path.now ≡ None) }
     ensures ok { OnOk result (tree.new ≡ creation tree.old path.now empty_node) }
-    ensures look_ups { OnOk result ((q : List (List ℕ)) → node_at tree.new q ≡ creation_at tree.old path.now empty_node q) }
+    ensures look_ups { OnOk result ((q : Segments) → node_at tree.new q ≡ creation_at tree.old path.now empty_node q) }
     ensures err { IfErr result (λ e. e ≢ TreeFault.NoMemory → create_fault tree.old path.now ≡ Some e) }
     ensures unchanged { OnErr result (tree.new ≡ tree.old) }
 {
@@ -49,7 +50,7 @@ pub fn set(
     requires { IsTrue (seg_ok name.now) }
     ensures allowed { OnOk result (set_fault tree.old path.now name.now ≡ None) }
     ensures ok { OnOk result (tree.new ≡ update tree.old path.now name.now value) }
-    ensures look_ups { OnOk result ((q : List (List ℕ)) → node_at tree.new q ≡ update_at tree.old path.now name.now value q) }
+    ensures look_ups { OnOk result ((q : Segments) → node_at tree.new q ≡ update_at tree.old path.now name.now value q) }
     ensures err { IfErr result (λ e. e ≢ TreeFault.NoMemory → set_fault tree.old path.now name.now ≡ Some e) }
     ensures unchanged { OnErr result (tree.new ≡ tree.old) }
 {
@@ -61,7 +62,7 @@ pub fn unset(alloc: Global, tree: &mut Tree, path: &Path, name: &str) -> Result<
     ensures allowed { OnOk result (unset_fault tree.old path.now ≡ None) }
     ensures was { IfOk result (λ was. was ≡ has_prop_at tree.old path.now name.now) }
     ensures ok { OnOk result (tree.new ≡ clearing tree.old path.now name.now) }
-    ensures look_ups { OnOk result ((q : List (List ℕ)) → node_at tree.new q ≡ clearing_at tree.old path.now name.now q) }
+    ensures look_ups { OnOk result ((q : Segments) → node_at tree.new q ≡ clearing_at tree.old path.now name.now q) }
     ensures err { IfErr result (λ e. e ≢ TreeFault.NoMemory → unset_fault tree.old path.now ≡ Some e) }
     ensures unchanged { OnErr result (tree.new ≡ tree.old) }
 {
@@ -74,7 +75,7 @@ pub fn unset(alloc: Global, tree: &mut Tree, path: &Path, name: &str) -> Result<
 pub fn order(alloc: Global, tree: &mut Tree, path: &Path, place: &Place) -> Result<(), TreeFault>
     ensures allowed { OnOk result (order_fault tree.old path.now place.now ≡ None) }
     ensures ok { OnOk result (tree.new ≡ reordering tree.old path.now place.now) }
-    ensures look_ups { OnOk result ((q : List (List ℕ)) → node_at tree.new q ≡ reordering_at tree.old path.now place.now q) }
+    ensures look_ups { OnOk result ((q : Segments) → node_at tree.new q ≡ reordering_at tree.old path.now place.now q) }
     ensures err { IfErr result (λ e. e ≢ TreeFault.NoMemory → order_fault tree.old path.now place.now ≡ Some e) }
     ensures unchanged { OnErr result (tree.new ≡ tree.old) }
 {
@@ -85,7 +86,7 @@ pub fn order(alloc: Global, tree: &mut Tree, path: &Path, place: &Place) -> Resu
 pub fn remove(alloc: Global, tree: &mut Tree, path: &Path) -> Result<(), TreeFault>
     ensures allowed { OnOk result (fixed_fault tree.old path.now ≡ None) }
     ensures ok { OnOk result (tree.new ≡ removal tree.old path.now) }
-    ensures look_ups { OnOk result ((q : List (List ℕ)) → node_at tree.new q ≡ removal_at tree.old path.now q) }
+    ensures look_ups { OnOk result ((q : Segments) → node_at tree.new q ≡ removal_at tree.old path.now q) }
     ensures err { IfErr result (λ e. e ≢ TreeFault.NoMemory → fixed_fault tree.old path.now ≡ Some e) }
     ensures unchanged { OnErr result (tree.new ≡ tree.old) }
 {
@@ -102,7 +103,7 @@ pub fn copy_to(
 ) -> Result<(), TreeFault>
     ensures allowed { OnOk result (copy_fault tree.old source.now target.now ≡ None) }
     ensures ok { OnOk result (tree.new ≡ copy tree.old source.now target.now) }
-    ensures look_ups { OnOk result ((q : List (List ℕ)) → node_at tree.new q ≡ copy_at tree.old source.now target.now q) }
+    ensures look_ups { OnOk result ((q : Segments) → node_at tree.new q ≡ copy_at tree.old source.now target.now q) }
     ensures err { IfErr result (λ e. e ≢ TreeFault.NoMemory → copy_fault tree.old source.now target.now ≡ Some e) }
     ensures unchanged { OnErr result (tree.new ≡ tree.old) }
 {
@@ -119,7 +120,7 @@ pub fn move_to(
 ) -> Result<(), TreeFault>
     ensures allowed { OnOk result (move_fault tree.old source.now target.now ≡ None) }
     ensures ok { OnOk result (tree.new ≡ relocation tree.old source.now target.now) }
-    ensures look_ups { OnOk result ((q : List (List ℕ)) → node_at tree.new q ≡ relocation_at tree.old source.now target.now q) }
+    ensures look_ups { OnOk result ((q : Segments) → node_at tree.new q ≡ relocation_at tree.old source.now target.now q) }
     ensures err { IfErr result (λ e. e ≢ TreeFault.NoMemory → move_fault tree.old source.now target.now ≡ Some e) }
     ensures unchanged { OnErr result (tree.new ≡ tree.old) }
 {
@@ -141,7 +142,7 @@ fn make_change(alloc: Global, tree: &mut Tree, change: Change<'_>) -> Result<(),
     requires { HasName change }
     ensures allowed { OnOk result (change_fault tree.old change.entry ≡ None) }
     ensures ok { OnOk result (tree.new ≡ changed tree.old change.entry) }
-    ensures look_ups { OnOk result ((q : List (List ℕ)) → node_at tree.new q ≡ changed_at tree.old change.entry q) }
+    ensures look_ups { OnOk result ((q : Segments) → node_at tree.new q ≡ changed_at tree.old change.entry q) }
     ensures err { IfErr result (λ e. e ≢ TreeFault.NoMemory → change_fault tree.old change.entry ≡ Some e) }
     ensures unchanged { OnErr result (tree.new ≡ tree.old) }
 {

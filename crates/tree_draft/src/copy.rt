@@ -1,10 +1,11 @@
 // A node that is copied with all below it to another path.
-ghost use Rattle.std.specs.Prelude.{◌≡◌, ◌≢◌, ◌≤◌, ◌+◌, ◌&&◌, ℕ, List, None, Some, OnOk, IfOk, IfErr, is_some, length, true, false};
+ghost use Rattle.std.specs.Prelude.{◌≡◌, ◌≢◌, ◌≤◌, ◌+◌, ◌&&◌, None, Some, OnOk, IfOk, IfErr, is_some, length, true, false};
 ghost use Rattle.std.specs.List.{list_any, IsDistinct};
 ghost use Rattle.std.specs.List.Sorted.{IsStrictlySortedBy};
 ghost use Rattle.std.specs.Map.{keys_of};
 ghost use Rattle.std.specs.Ordering.{eq_by_cmp};
 ghost use Rattle.sp_base.specs.Paths.{is_path, is_under};
+ghost use Rattle.sp_base.specs.Texts.{Segments};
 ghost use Rattle.resource_tree.specs.declared.patch.PatchNode.TheVariants as patch_node;
 ghost use Rattle.resource_tree.specs.Content.{by_path, most_nodes, name_of, node_at, same_path, parent_of};
 ghost use Rattle.resource_tree.specs.Changes.{change_at, with_kid};
@@ -116,7 +117,7 @@ fn part_that_fits(
 ) -> Result<IndexMap<Path, HeldEntry, RandomState>, TreeFault>
     requires sound { IsSound draft.now }
     requires free { target_fault draft.now.content source.now target.now ≡ None }
-    ensures ok { IfOk result (λ part. (q : List (List ℕ)) → entry_at part.entries q ≡ entry_at (part_there draft.now.content source.now target.now) q) }
+    ensures ok { IfOk result (λ part. (q : Segments) → entry_at part.entries q ≡ entry_at (part_there draft.now.content source.now target.now) q) }
     ensures once { IfOk result (λ part. IsDistinct (eq_by_cmp by_path) (keys_of part.entries)) }
     ensures shallow { OnOk result (is_too_deep draft.now.content source.now target.now ≡ false) }
     ensures small { OnOk result (length draft.now.content + length (part draft.now.content source.now) ≤ most_nodes) }
@@ -138,8 +139,8 @@ pub(crate) fn part_there(
     target: &Path,
     paths: &[Path],
 ) -> Result<IndexMap<Path, HeldEntry, RandomState>, TreeFault>
-    requires all { (q : List (List ℕ)) → list_any (same_path q) paths.now ≡ (is_some (node_at draft.now.content q) && is_under q source.now) }
-    ensures ok { IfOk result (λ part. (q : List (List ℕ)) → entry_at part.entries q ≡ entry_at (part_there draft.now.content source.now target.now) q) }
+    requires all { (q : Segments) → list_any (same_path q) paths.now ≡ (is_some (node_at draft.now.content q) && is_under q source.now) }
+    ensures ok { IfOk result (λ part. (q : Segments) → entry_at part.entries q ≡ entry_at (part_there draft.now.content source.now target.now) q) }
     ensures once { IfOk result (λ part. IsDistinct (eq_by_cmp by_path) (keys_of part.entries)) }
     ensures fits { OnOk result (some_are_too_deep source.now target.now paths.now ≡ false) }
     ensures err { IfErr result (λ e. e ≢ TreeFault.NoMemory → (e ≡ TreeFault.TooDeep) × (some_are_too_deep source.now target.now paths.now ≡ true)) }

@@ -1,5 +1,5 @@
 //! A tree with changes over it, which it doesn't know yet.
-ghost use Rattle.std.specs.Prelude.{◌≡◌, ◌+◌, ℕ, List, Some, None, OnOk, IfOk, true, false, length, is_some, option_copied, option_map};
+ghost use Rattle.std.specs.Prelude.{◌≡◌, ◌+◌, Some, None, OnOk, IfOk, true, false, length, is_some, option_copied, option_map};
 ghost use Rattle.std.specs.List.Sorted.{IsStrictlySortedBy};
 ghost use Rattle.std.specs.Map.{keys_of};
 ghost use Rattle.resource_tree.specs.Content.{by_path, node_at, same_path};
@@ -8,6 +8,7 @@ ghost use Rattle.resource_tree.specs.declared.patch.PatchNode.TheVariants as pat
 ghost use Rattle.resource_tree.specs.Patches.{left_by, over, patching};
 ghost use Rattle.tree_draft.specs.Drafts.{IsCounted, IsSound};
 ghost use Rattle.tree_draft.specs.Edits.{one_if, is_node, edited_node};
+ghost use Rattle.sp_base.specs.Texts.{Segments};
 
 use crate::DraftNode;
 use crate::edit::Edit;
@@ -111,7 +112,7 @@ impl<'a> Draft<'a> {
     // Takes the node at a path out, and changes it. Until it is put back nothing is said of that path.
     fn take_with_edit(&mut self, alloc: Global, path: &Path, edit: Edit) -> Mem<HeldEntry>
         ensures value { IfOk result (λ r. Some r ≡ option_map (λ n. patch_node.Node (edited_node edit n)) (node_at self.old.content path.now)) }
-        ensures others { (q : List (List ℕ)) → same_path path.now q ≡ false → node_at self.new.content q ≡ node_at self.old.content q }
+        ensures others { (q : Segments) → same_path path.now q ≡ false → node_at self.new.content q ≡ node_at self.old.content q }
         ensures count { self.new.count ≡ self.old.count }
         ensures tree { self.new.tree ≡ self.old.tree }
         ensures ordered { IsStrictlySortedBy by_path (keys_of self.old.content) }
@@ -123,7 +124,7 @@ impl<'a> Draft<'a> {
     // Takes the node at a path out, and gives it other kids. Until it is put back nothing is said of that path.
     fn take_with_kids(&mut self, alloc: Global, path: &Path, kids: TextList) -> Mem<HeldEntry>
         ensures value { IfOk result (λ r. Some r ≡ option_map (λ n. patch_node.Node (with_kids kids n)) (node_at self.old.content path.now)) }
-        ensures others { (q : List (List ℕ)) → same_path path.now q ≡ false → node_at self.new.content q ≡ node_at self.old.content q }
+        ensures others { (q : Segments) → same_path path.now q ≡ false → node_at self.new.content q ≡ node_at self.old.content q }
         ensures count { self.new.count ≡ self.old.count }
         ensures tree { self.new.tree ≡ self.old.tree }
         ensures ordered { IsStrictlySortedBy by_path (keys_of self.old.content) }
@@ -135,7 +136,7 @@ impl<'a> Draft<'a> {
     // Takes what stands at a path out.
     fn take_entry(&mut self, path: &Path) -> Option<HeldEntry>
         ensures value { left_by result (node_at self.old.tree path.now) ≡ node_at self.old.content path.now }
-        ensures others { (q : List (List ℕ)) → same_path path.now q ≡ false → node_at self.new.content q ≡ node_at self.old.content q }
+        ensures others { (q : Segments) → same_path path.now q ≡ false → node_at self.new.content q ≡ node_at self.old.content q }
         ensures count { self.new.count ≡ self.old.count }
         ensures tree { self.new.tree ≡ self.old.tree }
         ensures ordered { IsStrictlySortedBy by_path (keys_of self.old.content) }

@@ -1,5 +1,5 @@
 // The kids' names of a changed node.
-ghost use Rattle.std.specs.Prelude.{◌≡◌, ◌≤◌, ◌++◌, ◌∷◌, [], ℕ, List, IfOk, OnOk, map, length, insert};
+ghost use Rattle.std.specs.Prelude.{◌≡◌, ◌≤◌, ◌++◌, ◌∷◌, [], List, IfOk, OnOk, map, length, insert};
 ghost use Rattle.resource_tree.specs.Kids.{other_kids};
 ghost use Rattle.tree_draft.specs.Falls as spec;
 
@@ -18,10 +18,11 @@ pub(crate) struct KidList {
 }
 
 impl Model for KidList {
-    ghost use Rattle.std.specs.Prelude.{List, ℕ, length};
+    ghost use Rattle.std.specs.Prelude.{List, length};
     ghost use Rattle.tree_draft.specs.Falls.{FellWithin, standing_names};
+    ghost use Rattle.sp_base.specs.Texts.{Text};
 
-    ghost Value = { List (List ℕ) };
+    ghost Value = { List Text };
 
     ghost view = { λ k. standing_names k.falls 0 k.names };
 

@@ -1,7 +1,8 @@
 // The paths of a part of a content: of a node and all below it, found by the kids' names.
-ghost use Rattle.std.specs.Prelude.{◌≡◌, ◌++◌, ◌&&◌, ℕ, List, IfOk, OnOk, map, is_some, true};
+ghost use Rattle.std.specs.Prelude.{◌≡◌, ◌++◌, ◌&&◌, IfOk, OnOk, map, is_some, true};
 ghost use Rattle.std.specs.List.{list_any};
 ghost use Rattle.sp_base.specs.Paths.{is_under};
+ghost use Rattle.sp_base.specs.Texts.{Segments};
 ghost use Rattle.resource_tree.specs.Content.{IsTree, kid, node_at, same_path};
 ghost use Rattle.resource_tree.specs.Changes.{kids_at};
 ghost use Rattle.resource_tree.specs.Parts.{kids_below};
@@ -17,7 +18,7 @@ const MOST_LEVELS: usize = MOST_SEGMENTS + 1;
 pub(crate) fn paths_under(draft: &Draft, alloc: Global, path: &Path) -> Mem<Vec<Path>>
     requires tree { IsTree (node_at draft.now.content) }
     requires there { is_some (node_at draft.now.content path.now) ≡ true }
-    ensures { IfOk result (λ paths. (q : List (List ℕ)) → list_any (same_path q) paths.items ≡ (is_some (node_at draft.now.content q) && is_under q path.now)) }
+    ensures { IfOk result (λ paths. (q : Segments) → list_any (same_path q) paths.items ≡ (is_some (node_at draft.now.content q) && is_under q path.now)) }
 {
     let mut paths = Vec::new(alloc);
     let mut level = Vec::new(alloc);

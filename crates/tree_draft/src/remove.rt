@@ -1,9 +1,10 @@
 // A node that is removed with all below it.
-ghost use Rattle.std.specs.Prelude.{◌≡◌, ◌≢◌, ℕ, List, None, Some, OnOk, IfErr, is_some, ◌&&◌};
+ghost use Rattle.std.specs.Prelude.{◌≡◌, ◌≢◌, None, Some, OnOk, IfErr, is_some, ◌&&◌};
 ghost use Rattle.std.specs.List.{list_any};
 ghost use Rattle.std.specs.List.Sorted.{IsStrictlySortedBy};
 ghost use Rattle.std.specs.Map.{keys_of};
 ghost use Rattle.sp_base.specs.Paths.{is_under};
+ghost use Rattle.sp_base.specs.Texts.{Segments};
 ghost use Rattle.resource_tree.specs.Content.{by_path, node_at, same_path};
 ghost use Rattle.resource_tree.specs.Changes.{fixed_fault, removal, without_under};
 ghost use Rattle.tree_draft.specs.Drafts.{DraftFollows, IsSound, IsCounted};
@@ -36,7 +37,7 @@ impl<'a> Draft<'a> {
     pub(crate) fn remove_part(&mut self, alloc: Global, path: &Path, paths: &[Path]) -> Mem<()>
         requires sound { IsSound self.old }
         requires fixed { fixed_fault self.old.content path.now ≡ None }
-        requires all { (q : List (List ℕ)) → list_any (same_path q) paths.now ≡ (is_some (node_at self.old.content q) && is_under q path.now) }
+        requires all { (q : Segments) → list_any (same_path q) paths.now ≡ (is_some (node_at self.old.content q) && is_under q path.now) }
         ensures ok { OnOk result (self.new.content ≡ removal self.old.content path.now) }
         ensures follows { OnOk result (DraftFollows self.old self.new) }
     {
@@ -49,7 +50,7 @@ impl<'a> Draft<'a> {
 
     // Takes the nodes at a path and under it away, whose paths are given.
     fn drop_nodes(&mut self, alloc: Global, path: &Path, paths: &[Path]) -> Mem<()>
-        requires all { (q : List (List ℕ)) → list_any (same_path q) paths.now ≡ (is_some (node_at self.old.content q) && is_under q path.now) }
+        requires all { (q : Segments) → list_any (same_path q) paths.now ≡ (is_some (node_at self.old.content q) && is_under q path.now) }
         requires in_order { IsStrictlySortedBy by_path (keys_of self.old.content) }
         requires counted { IsCounted self.old }
         ensures after { OnOk result (self.new.content ≡ without_under self.old.content path.now) }

@@ -84,17 +84,17 @@ abbrev pub HasTypeAt : Content → Properties → ℕ → TypeName → Type 0
 HasTypeAt tree props k type = slice_get (chain_of tree props) k ≡ Some type
 
 -- what comes after this type is its super type, or the default type
-abbrev pub FollowsBySuper : Content → Properties → ℕ → TypeName → TypeName → Type 0
-FollowsBySuper tree props k type next = HasTypeAt tree props (k + 1) next → (super_type tree type ≡ Some next) ⊎ (next ≡ default_type)
+abbrev pub IsSuperOrDefaultIfNext : Content → Properties → ℕ → TypeName → TypeName → Type 0
+IsSuperOrDefaultIfNext tree props k type next = HasTypeAt tree props (k + 1) next → (super_type tree type ≡ Some next) ⊎ (next ≡ default_type)
 
 -- after the resource's own type comes its super type, where that is another
-abbrev pub FollowsOwn : Content → Properties → TypeName → TypeName → Type 0
-FollowsOwn tree props own next = super_of tree props (Some own) ≡ Some next → same_type own next ≡ false → HasTypeAt tree props 1 next
+abbrev pub IsSecondIfOtherSuper : Content → Properties → TypeName → TypeName → Type 0
+IsSecondIfOtherSuper tree props own next = super_of tree props (Some own) ≡ Some next → same_type own next ≡ false → HasTypeAt tree props 1 next
 
 -- the chain of a resource without a type begins with its super type
-abbrev pub BeginsWithSuper : Content → Properties → TypeName → Type 0
-BeginsWithSuper tree props next = super_of tree props None ≡ Some next → HasTypeAt tree props 0 next
+abbrev pub IsFirstIfSuper : Content → Properties → TypeName → Type 0
+IsFirstIfSuper tree props next = super_of tree props None ≡ Some next → HasTypeAt tree props 0 next
 
 -- where the resource's own text names a super type it is that
-abbrev pub NamesSuper : Content → Properties → Option TypeName → Text → Type 0
-NamesSuper tree props own text = own_super props ≡ Some text → super_of tree props own ≡ type_of text
+abbrev pub IsSuperIfNamed : Content → Properties → Option TypeName → Text → Type 0
+IsSuperIfNamed tree props own text = own_super props ≡ Some text → super_of tree props own ≡ type_of text

@@ -5,7 +5,7 @@ ghost use Rattle.resource_tree.specs.Content.{Content};
 ghost use Rattle.sp_base.specs.Texts.{Properties, Text};
 ghost use Rattle.type_chain.specs.declared.type_name.TypeName.{TypeName};
 ghost use Rattle.type_chain.specs.Types.{same_type, type_of};
-ghost use Rattle.type_chain.specs.Chain.{chain_of, default_type, has_type, most_types, own_super, own_types, super_of, super_type, type_text, with_default, HasTypeAt, FollowsBySuper, FollowsOwn, BeginsWithSuper, NamesSuper};
+ghost use Rattle.type_chain.specs.Chain.{chain_of, default_type, has_type, most_types, own_super, own_types, super_of, super_type, type_text, with_default, HasTypeAt, IsSuperOrDefaultIfNext, IsSecondIfOtherSuper, IsFirstIfSuper, IsSuperIfNamed};
 ghost use Rattle.type_chain.specs.Steps.{AreOwnTypes, SuperTypesFollow, DefaultTypesEndChains};
 
 /// A chain begins with the resource's type, where it has one.
@@ -15,15 +15,15 @@ pub fn the_own_type_is_first()
 
 /// After the first type each is the super type of the one before it, or the default type.
 pub fn each_type_is_the_super_type_of_the_one_before()
-    ensures { (tree : Content) (props : Properties) (k : ℕ) (type next : TypeName) → 0 < k → HasTypeAt tree props k type → FollowsBySuper tree props k type next }
+    ensures { (tree : Content) (props : Properties) (k : ℕ) (t next : TypeName) → 0 < k → HasTypeAt tree props k t → IsSuperOrDefaultIfNext tree props k t next }
 {}
 
 /// The first step: after the resource's own type comes the super type that the resource's own text names, else that of its type. A
 /// resource without a type begins with the super type of its own text.
 pub fn the_super_type_of_the_resource_is_next()
-    ensures typed { (tree : Content) (props : Properties) (own next : TypeName) → type_of (type_text props) ≡ Some own → FollowsOwn tree props own next }
-    ensures untyped { (tree : Content) (props : Properties) (next : TypeName) → type_of (type_text props) ≡ None → BeginsWithSuper tree props next }
-    ensures own_text { (tree : Content) (props : Properties) (own : Option TypeName) (text : Text) → NamesSuper tree props own text }
+    ensures typed { (tree : Content) (props : Properties) (own next : TypeName) → type_of (type_text props) ≡ Some own → IsSecondIfOtherSuper tree props own next }
+    ensures untyped { (tree : Content) (props : Properties) (next : TypeName) → type_of (type_text props) ≡ None → IsFirstIfSuper tree props next }
+    ensures own_text { (tree : Content) (props : Properties) (own : Option TypeName) (text : Text) → IsSuperIfNamed tree props own text }
     ensures of_the_type { (tree : Content) (props : Properties) (own : TypeName) → own_super props ≡ None → super_of tree props (Some own) ≡ super_type tree own }
 {}
 

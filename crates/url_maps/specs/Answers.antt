@@ -1,5 +1,5 @@
 -- What a tree maps a text to, as one answer. It is the answer of the relation in Turns.antt: a law of the crate says so.
-use Rattle.std.specs.Prelude.{◌+◌, ◌-◌, ℕ, zero, suc, Bool, not, is_none, if◌then◌else◌, List, [], ◌∷◌, Option, Some, None, Result, Ok, Err, drop, filter, find, length, option_and_then, option_map, take, ◌≡◌, true}
+use Rattle.std.specs.Prelude.{◌+◌, ◌-◌, ℕ, zero, suc, Bool, not, is_none, if◌then◌else◌, List, [], ◌∷◌, Option, Some, None, Result, Ok, Err, drop, filter, find, length, option_and_then, option_map, take, ◌≡◌}
 use Rattle.std.specs.List.{list_all, range_with_len}
 use Rattle.std.specs.Map.{keys_of}
 use Rattle.std.specs.Option.{option_or}
@@ -15,7 +15,7 @@ use Rattle.url_maps.specs.declared.pairs.Pair.{Pair}
 use Rattle.url_maps.specs.declared.pairs.PairKind.{PairKind}
 use Rattle.url_maps.specs.declared.pairs.PairKind.TheVariants.{Mapping, Alias, VanityPath}
 use Rattle.url_maps.specs.Aliases.{has_alias}
-use Rattle.url_maps.specs.Mappings.{has_match, mapping_of, is_redirect}
+use Rattle.url_maps.specs.Mappings.{has_match, mapping_of}
 use Rattle.url_maps.specs.Patterns.{Asked, asked_for, host_of}
 use Rattle.url_maps.specs.PatternAnswers.{pattern_with}
 use Rattle.url_maps.specs.Pairs.{goes_on_after_prefix}
@@ -119,9 +119,9 @@ unfoldable pub map_answer : Content → List ℕ → ℕ → List ℕ → MapAns
 map_answer tree host port text = answer_of tree most_turns (Some (asked_for host port text)) text
 
 -- the answer to which a text is mapped is this
-abbrev pub IsTheAnswer : Content → Text → ℕ → Text → MapAnswer → Type 0
-IsTheAnswer tree host port text answer = IsMapped tree host port text answer → answer ≡ map_answer tree host port text
+abbrev pub IsTheAnswerIfMapped : Content → Text → ℕ → Text → MapAnswer → Type 0
+IsTheAnswerIfMapped tree host port text answer = IsMapped tree host port text answer → answer ≡ map_answer tree host port text
 
--- where a text leads away it does so by a status of a redirect
-abbrev pub IsAwayByRedirect : Content → Text → ℕ → Text → Text → ℕ → Type 0
-IsAwayByRedirect tree host port text target status = map_answer tree host port text ≡ Away status target → is_redirect status ≡ true
+-- a text leads away, by this status to this target
+abbrev pub IsAway : Content → Text → ℕ → Text → ℕ → Text → Type 0
+IsAway tree host port text status target = map_answer tree host port text ≡ Away status target

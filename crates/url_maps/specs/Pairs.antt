@@ -78,5 +78,5 @@ abbrev pub HasNoPair : Content → Option Asked → List ℕ → Type 0
 HasNoPair tree asked text = (k : ℕ) (pair : Pair) → Applies tree asked text k pair → ⊥
 
 -- where a pair decides a turn no other does
-abbrev pub DecidesAlone : Content → Option Asked → Text → ℕ → Pair → ℕ → Pair → Type 0
-DecidesAlone tree asked text at pair k other = Decides tree asked text at pair → Decides tree asked text k other → (at ≡ k) × (pair ≡ other)
+abbrev pub AreOneIfBothDecide : Content → Option Asked → Text → ℕ → Pair → ℕ → Pair → Type 0
+AreOneIfBothDecide tree asked text at pair k other = Decides tree asked text at pair → Decides tree asked text k other → (at ≡ k) × (pair ≡ other)

@@ -49,10 +49,10 @@ most_turns = 16
 unfoldable pub IsMapped : Content → List ℕ → ℕ → List ℕ → MapAnswer → Type 0
 IsMapped tree host port text answer = Turns tree most_turns (Some (asked_for host port text)) text answer
 
--- a text to which no pair applies is mapped to itself
-abbrev pub IsMappedToItself : Content → Text → ℕ → Text → Type 0
-IsMappedToItself tree host port text = HasNoPair tree (Some (asked_for host port text)) text → IsMapped tree host port text (Inside text)
+-- no pair applies to the text in the first turn
+abbrev pub HasNoPairFor : Content → Text → ℕ → Text → Type 0
+HasNoPairFor tree host port text = HasNoPair tree (Some (asked_for host port text)) text
 
 -- answers to which a text is mapped are one
-abbrev pub AreOneAnswer : Content → Text → ℕ → Text → MapAnswer → MapAnswer → Type 0
-AreOneAnswer tree host port text answer other = IsMapped tree host port text answer → IsMapped tree host port text other → answer ≡ other
+abbrev pub AreOneIfMapped : Content → Text → ℕ → Text → MapAnswer → MapAnswer → Type 0
+AreOneIfMapped tree host port text answer other = IsMapped tree host port text answer → IsMapped tree host port text other → answer ≡ other

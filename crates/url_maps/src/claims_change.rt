@@ -169,7 +169,7 @@ impl ClaimsChange {
     }
 
     // Gives a text a row without paths, and answers whether it had one.
-    pub(crate) fn had(&mut self, alloc: Global, text: &str) -> Mem<bool>
+    pub(crate) fn put_empty_row(&mut self, alloc: Global, text: &str) -> Mem<bool>
         ensures value { IfOk result (λ had. had ≡ has_row self.old text.now) }
         ensures rest { OnOk result ((t : List ℕ) → has_row self.new t ≡ (has_row self.old t || bytes_eq text.now t)) }
     {

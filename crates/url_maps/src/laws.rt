@@ -1,33 +1,35 @@
 //! What a mapping is in the subject's words: laws of the definitions, on functions that do nothing.
-ghost use Rattle.std.specs.Prelude.{ℕ, Option};
+ghost use Rattle.std.specs.Prelude.{◌≡◌, ℕ, Option, true};
 ghost use Rattle.sp_base.specs.Texts.{Text};
 ghost use Rattle.resource_tree.specs.Content.{Content, IsGood};
 ghost use Rattle.url_maps.specs.Aliases.{FirstSiblingsAreNamed};
 ghost use Rattle.url_maps.specs.VanityPaths.{GreatestOrdersAreNamed, LeastPathsAreNamed};
-ghost use Rattle.url_maps.specs.Answers.{map_answer, IsTheAnswer, IsAwayByRedirect};
+ghost use Rattle.url_maps.specs.Answers.{map_answer, IsTheAnswerIfMapped, IsAway};
+ghost use Rattle.url_maps.specs.Mappings.{is_redirect};
 ghost use Rattle.url_maps.specs.Patterns.{Asked};
-ghost use Rattle.url_maps.specs.Pairs.{DecidesAlone};
-ghost use Rattle.url_maps.specs.Turns.{IsMapped, IsMappedToItself, AreOneAnswer};
+ghost use Rattle.url_maps.specs.Pairs.{AreOneIfBothDecide};
+ghost use Rattle.url_maps.specs.Turns.{HasNoPairFor, IsMapped, AreOneIfMapped};
 ghost use Rattle.url_maps.specs.declared.answer.MapAnswer.{MapAnswer};
+ghost use Rattle.url_maps.specs.declared.answer.MapAnswer.TheVariants.{Inside};
 ghost use Rattle.url_maps.specs.declared.pairs.Pair.{Pair};
 
 use sp_base::a_path_and_its_text;
 
 /// A text to which no pair applies is mapped to itself.
 pub fn a_text_without_a_pair_is_mapped_to_itself()
-    ensures { (tree : Content) (host : Text) (port : ℕ) (text : Text) → IsMappedToItself tree host port text }
+    ensures { (tree : Content) (host : Text) (port : ℕ) (text : Text) → HasNoPairFor tree host port text → IsMapped tree host port text (Inside text) }
 {}
 
 /// At most one pair decides a turn.
 pub fn at_most_one_pair_decides()
-    ensures { (tree : Content) (asked : Option Asked) (text : Text) (at k : ℕ) (pair other : Pair) → IsGood tree → DecidesAlone tree asked text at pair k other }
+    ensures { (tree : Content) (asked : Option Asked) (text : Text) (at k : ℕ) (p q : Pair) → IsGood tree → AreOneIfBothDecide tree asked text at p k q }
 {
     a_path_and_its_text()
 }
 
 /// A text is mapped to one answer.
 pub fn a_text_is_mapped_to_one_answer()
-    ensures { (tree : Content) (host : Text) (port : ℕ) (text : Text) (answer other : MapAnswer) → IsGood tree → AreOneAnswer tree host port text answer other }
+    ensures { (tree : Content) (host : Text) (port : ℕ) (text : Text) (answer other : MapAnswer) → IsGood tree → AreOneIfMapped tree host port text answer other }
 {
     a_path_and_its_text()
 }
@@ -35,7 +37,7 @@ pub fn a_text_is_mapped_to_one_answer()
 /// A text is mapped to one answer, and this is it.
 pub fn the_answer_is_mapped()
     ensures is { (tree : Content) (host : Text) (port : ℕ) (text : Text) → IsGood tree → IsMapped tree host port text (map_answer tree host port text) }
-    ensures only { (tree : Content) (host : Text) (port : ℕ) (text : Text) (answer : MapAnswer) → IsGood tree → IsTheAnswer tree host port text answer }
+    ensures only { (tree : Content) (host : Text) (port : ℕ) (text : Text) (answer : MapAnswer) → IsGood tree → IsTheAnswerIfMapped tree host port text answer }
 {
     a_path_and_its_text();
     a_text_is_mapped_to_one_answer();
@@ -43,7 +45,7 @@ pub fn the_answer_is_mapped()
 
 /// A text that leads away does so by a status of a redirect.
 pub fn away_is_a_redirect()
-    ensures { (tree : Content) (host : Text) (port : ℕ) (text target : Text) (status : ℕ) → IsAwayByRedirect tree host port text target status }
+    ensures { (tree : Content) (host : Text) (port : ℕ) (text target : Text) (status : ℕ) → IsAway tree host port text status target → is_redirect status ≡ true }
 {}
 
 /// Of siblings with one alias the first in their order is named: where any of them stands, the named one stands there or before it.

@@ -1,9 +1,10 @@
 // The nodes whose kids with an alias a patch changes, or the aliases of whose kids.
-ghost use Rattle.std.specs.Prelude.{◌≡◌, ◌||◌, ◌&&◌, ℕ, List, IfOk, OnOk, IsTrue, None, Some, not, option_copied};
+ghost use Rattle.std.specs.Prelude.{◌≡◌, ◌||◌, ◌&&◌, IfOk, OnOk, IsTrue, None, Some, not, option_copied};
 ghost use Rattle.std.specs.List.{list_any};
 ghost use Rattle.resource_tree.specs.Content.{same_path};
 ghost use Rattle.resource_tree.specs.Patches.{left_by};
 ghost use Rattle.url_maps.specs.Siblings.{IsSettled, IsWithin, KeepsOthers, alias_words, is_aliased, kids_if};
+ghost use Rattle.sp_base.specs.Texts.{Segments};
 
 use crate::claims_change::ClaimsChange;
 use crate::named_kids::named_stay;
@@ -46,7 +47,7 @@ fn push_changed(
 }
 
 fn push_unless(paths: &mut PathList, known: bool, path: Path) -> Mem<()>
-    ensures { OnOk result ((q : List (List ℕ)) → list_any (same_path q) paths.new ≡ (list_any (same_path q) paths.old || (not known && same_path q path))) }
+    ensures { OnOk result ((q : Segments) → list_any (same_path q) paths.new ≡ (list_any (same_path q) paths.old || (not known && same_path q path))) }
 {
     if known {
         return Ok(());
@@ -98,7 +99,7 @@ pub(crate) fn left_by(row: &PatchNode) -> Option<&Node>
 
 // The same paths, each once.
 pub(crate) fn each_once(alloc: Global, tree: &Tree, paths: &[Path]) -> Mem<PathList>
-    ensures { IfOk result (λ list. (q : List (List ℕ)) → list_any (same_path q) list ≡ list_any (same_path q) paths.now) }
+    ensures { IfOk result (λ list. (q : Segments) → list_any (same_path q) list ≡ list_any (same_path q) paths.now) }
 {
     a_path_and_its_text();
     let mut known = ClaimsChange::new(alloc, tree.seeds());
@@ -106,7 +107,7 @@ pub(crate) fn each_once(alloc: Global, tree: &Tree, paths: &[Path]) -> Mem<PathL
     for path in paths {
         // `depth` says that the path is one.
         let _ = path.depth();
-        let is_known = known.had(alloc, path.as_text())?;
+        let is_known = known.put_empty_row(alloc, path.as_text())?;
         push_unless(&mut list, is_known, path.duplicate(alloc)?)?;
     }
     Ok(list)

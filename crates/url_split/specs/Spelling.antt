@@ -21,7 +21,7 @@ abbrev pub GivesBack : List ℕ → Parts → Type 0
 GivesBack text parts = (rest : List ℕ) × (text ≡ text_of parts.path ++ rest) × SpellsParts rest parts
 
 -- none is empty, and none has a dot or a slash
-abbrev pub AreSelectors : List (List ℕ) → Type 0
+abbrev pub AreSelectors : List Text → Type 0
 AreSelectors selectors = IsTrue (list_all (λ piece. is_full piece && is_word piece) selectors)
 
 -- it is empty, or begins with a slash

@@ -1,8 +1,9 @@
 //! Where the walk back over the dots of a text begins.
-ghost use Rattle.std.specs.Prelude.{◌≡◌, List, ℕ, Ok, map, IfOk};
+ghost use Rattle.std.specs.Prelude.{◌≡◌, Ok, map, IfOk};
 ghost use Rattle.sp_base.specs.Paths.{path_of};
 ghost use Rattle.std.specs.List.{slice_split};
 ghost use Rattle.sp_base.specs.Bytes.{is_slash};
+ghost use Rattle.sp_base.specs.Texts.{Segments};
 ghost use Rattle.url_split.specs.Walk.{HasParents, IsBeforeLong, IsBeforeSlash, IsFitEnd, IsReached};
 
 use crate::Known;
@@ -53,7 +54,7 @@ fn first_pieces(alloc: Global, text: &str) -> Mem<Path>
 
 // The path of a text that spells one.
 fn spelled_path(alloc: Global, text: &str) -> Mem<Path>
-    requires { (path : List (List ℕ)) × (path_of text.now ≡ Ok path) }
+    requires { (path : Segments) × (path_of text.now ≡ Ok path) }
     ensures { IfOk result (λ path. path_of text.now ≡ Ok path) }
 {
     match Path::read(alloc, text) {

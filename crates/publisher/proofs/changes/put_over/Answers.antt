@@ -1,6 +1,6 @@
 use Rattle.std.proofs.Common.{◌≡◌, sym, subst, ap, ◌∙◌}
 use Rattle.resource_tree.specs.Content.{Content, IsGood}
-use Rattle.script_rank.specs.Index.{Index, IsIndexOf, has_path}
+use Rattle.script_rank.specs.Index.{ScriptPaths, IsScriptIndexOf, has_path}
 use Rattle.publisher.specs.Kept.{AreAmong, AreReadings, KeptReadings}
 use Rattle.publisher.proofs.ForgetLemmas.{still_readings}
 use Rattle.publisher.proofs.changes.put_over.Goals as goal
@@ -11,7 +11,7 @@ returns-clause-kept c =
     c.in_ok-forget_patched.ensures.fewer c.in_ok-forget_patched.ensures.unpatched c.in_ok-apply.ensures.look_ups
 
 -- an index with other room is one of the same tree
-same_index : (tree : Content) (old new : Index) → new.scripts ≡ old.scripts → IsIndexOf tree old → IsIndexOf tree new
+same_index : (tree : Content) (old new : ScriptPaths) → new.scripts ≡ old.scripts → IsScriptIndexOf tree old → IsScriptIndexOf tree new
 same_index tree old new same is = record { scripts = λ path. ap (λ paths. has_path paths path) same ∙ is.scripts path }
 
 pub returns-clause-indexes : goal.returns-clause-indexes

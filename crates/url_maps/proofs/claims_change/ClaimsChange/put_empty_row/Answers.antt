@@ -3,7 +3,7 @@ use Rattle.std.specs.Prelude.{is_some}
 use Rattle.std.specs.Map.{lookup}
 use Rattle.std.specs.Str.{bytes_eq}
 use Rattle.url_maps.proofs.SiblingLemmas.{had_row}
-use Rattle.url_maps.proofs.claims_change.ClaimsChange.had.Goals as goal
+use Rattle.url_maps.proofs.claims_change.ClaimsChange.put_empty_row.Goals as goal
 
 pub returns-clause-rest : goal.returns-clause-rest
 returns-clause-rest c = λ t.

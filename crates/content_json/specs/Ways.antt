@@ -7,8 +7,9 @@ use Rattle.serde_json.specs.Find.{get, as_object}
 use Rattle.sp_base.specs.Paths.{most_segments}
 use Rattle.sp_base.specs.Names.{by_name}
 use Rattle.resource_tree.specs.declared.nodes.Node.{Node}
-use Rattle.resource_tree.specs.Content.{Content, node_at}
+use Rattle.resource_tree.specs.Content.{Content, kid, node_at, prop_at}
 use Rattle.content_json.specs.declared.fault.Found.{Found}
+use Rattle.content_json.specs.Lists.{data_value}
 use Rattle.content_json.specs.Names.{is_order}
 use Rattle.content_json.specs.Faults.{own_cause}
 use Rattle.content_json.specs.Nodes.{node_of_members, kids_of, order_names}
@@ -33,6 +34,10 @@ pub record IsPlaced (top : Data) (found : Found) : Type 0 where
 -- the node at a path is the object that the members on the way lead to, and there is none where they lead to no object
 abbrev pub IsNodeAtWay : Content → Data → Segments → Type 0
 IsNodeAtWay tree top path = node_at tree path ≡ option_and_then node_of_value (way_end path top)
+
+-- each property of a node at the path is the value that the path's members and its name lead to, as one of a property
+abbrev pub HasPropsOfWay : Content → Data → Segments → Type 0
+HasPropsOfWay tree top path = (node : Node) (name : Text) → node_at tree path ≡ Some node → prop_at node name ≡ option_and_then data_value (way_end (kid path name) top)
 
 -- no value on any way has a fault of its own
 abbrev pub HasNoCause : Data → Type 0

@@ -1,14 +1,12 @@
 //! Laws of content, on functions that do nothing.
-ghost use Rattle.std.specs.Prelude.{◌≡◌, Some, None, Ok, option_and_then};
+ghost use Rattle.std.specs.Prelude.{◌≡◌, Some, None, Ok};
 ghost use Rattle.serde_json.specs.Data.{Data, Members, object};
 ghost use Rattle.sp_base.specs.Texts.{Segments, Text};
-ghost use Rattle.resource_tree.specs.Content.{Content, IsGood, kid, node_at, prop_at};
-ghost use Rattle.resource_tree.specs.declared.nodes.Node.{Node};
+ghost use Rattle.resource_tree.specs.Content.{Content, IsGood};
 ghost use Rattle.content_json.specs.declared.fault.Found.{Found};
 ghost use Rattle.content_json.specs.ContentOf.{json_of, content, IsContentUnlessTooBig};
 ghost use Rattle.content_json.specs.Faults.{fault_in};
-ghost use Rattle.content_json.specs.Lists.{data_value};
-ghost use Rattle.content_json.specs.Ways.{way_end, IsPlaced, IsNodeAtWay, HasNoCause, HasKidsInOrderIfAtWay};
+ghost use Rattle.content_json.specs.Ways.{HasPropsOfWay, IsPlaced, IsNodeAtWay, HasNoCause, HasKidsInOrderIfAtWay};
 
 /// What is read is a tree: the root and each path's parent are there, and each node's kids are exactly the paths one segment longer.
 pub fn content_is_a_tree()
@@ -23,8 +21,7 @@ pub fn members_lead_to_nodes()
 /// A member's value stands under its name: the property of a name at a path is the value that the path's members and that name lead to, as
 /// one of a property; there is none where they lead to no value, to an object or `null`, or the name is `:order`.
 pub fn a_members_value_stands_under_its_name()
-    ensures { (bytes : Text) (tree : Content) (top : Data) (path : Segments) (node : Node) (name : Text) → content bytes ≡ Ok tree
-        → json_of bytes ≡ Some top → node_at tree path ≡ Some node → prop_at node name ≡ option_and_then data_value (way_end (kid path name) top) }
+    ensures { (bytes : Text) (tree : Content) (top : Data) (path : Segments) → content bytes ≡ Ok tree → json_of bytes ≡ Some top → HasPropsOfWay tree top path }
 {}
 
 /// Of an object without a fault the paths of the tree alone decide whether it is too big.

@@ -4,6 +4,7 @@ use Rattle.std.specs.Prelude.{◌≡◌, ◌==◌, ◌&&◌, ◌||◌, ℕ, Bool
 use Rattle.std.specs.List.{list_all, list_any}
 use Rattle.std.specs.Char.{is_ascii_alphanumeric}
 use Rattle.std.specs.Str.{str_eq_ignore_ascii_case}
+use Rattle.sp_base.specs.Texts.{Text}
 use Rattle.form_input.specs.Parameters.{is_space_or_tab}
 
 -- a byte that stands in no quotes: neither a blank nor a quote nor a semicolon
@@ -13,6 +14,10 @@ is_bare_byte b = not (is_space_or_tab b || (b == 34 || b == 59))
 -- a byte of a name: no `=` either
 abbrev pub is_name_byte : ℕ → Bool
 is_name_byte b = is_bare_byte b && not (b == 61)
+
+-- a text of such bytes alone
+abbrev pub IsName : Text → Type 0
+IsName name = list_all is_name_byte name ≡ true
 
 -- a byte of a token
 abbrev pub is_token_byte : ℕ → Bool

@@ -11,10 +11,10 @@ ghost use Rattle.overlay_merge.specs.Roots.{is_merged_path, is_parent_of_roots};
 ghost use Rattle.overlay_merge.specs.Hiding.{layer_is_cut, merged_from, IsLeftOut};
 ghost use Rattle.overlay_merge.specs.Cut.{HidesNothing, IsOfLayer, LayerIsCut, NoLayerIsCut};
 ghost use Rattle.overlay_merge.specs.Kids.{all_kids, layers_kids, kids_there, SomeLayerHasKid, GivesKid, IsKidMerged};
-ghost use Rattle.overlay_merge.specs.Kids.{has_text, names_after_move};
+ghost use Rattle.overlay_merge.specs.Kids.{names_after_move};
 ghost use Rattle.overlay_merge.specs.Layers.{layer_below, override_layers};
-ghost use Rattle.overlay_merge.specs.Moves.{StandsBefore, without_name};
-ghost use Rattle.overlay_merge.specs.Steps.{AreLayerSteps, IsBelow};
+ghost use Rattle.overlay_merge.specs.Moves.{IsMovable, KeepsOthers, StandsBefore};
+ghost use Rattle.overlay_merge.specs.Steps.{AreLayerSteps, AreTheLayersIfSteps, IsBelow};
 ghost use Rattle.overlay_merge.specs.Merged.{has_resource, merged_resource, OnlyLayersAreShown, OnlyLayersKeepTheirKids, PropertiesAreOfLayers, KidsAreOfLayers, ListsKid};
 
 /// Elsewhere than under the two roots the node is seen as it is, but that their parent doesn't list them.
@@ -68,8 +68,7 @@ pub fn each_kid_is_there()
 /// path is where the deepest node on it that names a super type leads, with what follows that node (`found`, `only`).
 pub fn the_layers_of_an_override_are_determined()
     ensures steps { (tree : Content) (seg : Text) (segs : Segments) → AreLayerSteps tree (seg ∷ segs) (reverse (override_layers tree (seg ∷ segs))) }
-    ensures alone { (tree : Content) (seg : Text) (segs : Segments) (layers : List Layer) → AreLayerSteps tree (seg ∷ segs) layers
-        → override_layers tree (seg ∷ segs) ≡ reverse layers }
+    ensures alone { (tree : Content) (seg : Text) (segs : Segments) (layers : List Layer) → AreTheLayersIfSteps tree (seg ∷ segs) layers }
     ensures found { (tree : Content) (path : Segments) (layer : Layer) → layer_below tree path ≡ Some layer → IsBelow tree path layer }
     ensures only { (tree : Content) (path : Segments) (layer : Layer) → IsBelow tree path layer → layer_below tree path ≡ Some layer }
 {}
@@ -77,8 +76,6 @@ pub fn the_layers_of_an_override_are_determined()
 /// A kid that is moved stands directly before the one that it names, and the others keep their order, where both are there and no name is
 /// there twice.
 pub fn a_moved_kid_stands_before_the_one_it_names()
-    ensures directly { (name other : Text) (names : List Text) → IsDistinct (pointwise nat_eq) names → pointwise nat_eq name other ≡ false
-        → has_text names name ≡ true → has_text names other ≡ true → StandsBefore (names_after_move name (Some other) names) name other }
-    ensures others { (name other : Text) (names : List Text) → IsDistinct (pointwise nat_eq) names → pointwise nat_eq name other ≡ false
-        → has_text names name ≡ true → has_text names other ≡ true → without_name name (names_after_move name (Some other) names) ≡ without_name name names }
+    ensures directly { (name other : Text) (names : List Text) → IsMovable names name other → StandsBefore (names_after_move name (Some other) names) name other }
+    ensures others { (name other : Text) (names : List Text) → IsMovable names name other → KeepsOthers name names (names_after_move name (Some other) names) }
 {}

@@ -1,8 +1,9 @@
 -- The removal of dot segments from the text of a path (RFC 3986, section 5.2.4), as a relation on the input, the output so far and what comes
 -- out in the end.
 use Rattle.std.specs.Prelude.{◌≡◌, ◌==◌, ◌⊎◌, ℕ, Bool, true, false, List, [], ◌∷◌, ◌++◌, codes, flat_map}
-use Rattle.sp_base.specs.Texts.{Segments}
-use Rattle.sp_base.specs.Paths.{has_slash, is_dots}
+use Rattle.sp_base.specs.Texts.{Segments, Text}
+use Rattle.sp_base.specs.Paths.{has_slash, is_dots, is_path}
+use Rattle.post_plan.specs.Spots.{is_absolute}
 
 -- a slash before each segment
 abbrev pub slashed : Segments → List ℕ
@@ -40,3 +41,12 @@ pub data RemovesDots : List ℕ → List ℕ → List ℕ → Type 0 where
   Stays : {input output result : List ℕ} (rest : List ℕ) → HasFirstSegment input (codes ".") rest → RemovesDots (or_slash rest) output result → RemovesDots input output result
   Climbs : {input output result : List ℕ} (rest kept : List ℕ) → HasFirstSegment input (codes "..") rest → IsWithoutLast output kept → RemovesDots (or_slash rest) kept result → RemovesDots input output result
   Moves : {input output result : List ℕ} (segment rest : List ℕ) → HasFirstSegment input segment rest → is_dots segment ≡ false → RemovesDots rest (output ++ 47 ∷ segment) result → RemovesDots input output result
+
+-- a name that isn't absolute, at a node
+pub record IsRelative (node : Segments) (text : Text) : Type 0 where
+  pub path : is_path node ≡ true
+  pub relative : is_absolute text ≡ false
+
+-- the path is what is left of the node's text, a slash and the name
+abbrev pub LeadsTo : Segments → Text → Segments → Type 0
+LeadsTo node text path = RemovesDots (slashed node ++ 47 ∷ text) [] (slashed path)

@@ -8,7 +8,7 @@ pub returns-clause-farm : goal.returns-clause-farm
 returns-clause-farm c = same_farm
 
 pub returns-clause-cache : goal.returns-clause-cache
-returns-clause-cache c = same_cache
+returns-clause-cache c = λ ms others agree hosts ask entries. same_cache hosts ask entries ms others agree
 
 pub returns-clause-rule : goal.returns-clause-rule
 returns-clause-rule c = same_rule

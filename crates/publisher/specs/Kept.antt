@@ -1,5 +1,5 @@
 -- What a publisher keeps beside its tree: the readings of scripts, and the indexes of mappings and of scripts. What is answered needs none of it: only private types and functions and proofs cite this.
-use Rattle.std.specs.Prelude.{◌≡◌, Bool, List, Option, Some, None, IfSome, codes, option_map}
+use Rattle.std.specs.Prelude.{◌≡◌, ◌⊎◌, Bool, false, List, Option, Some, None, IfSome, codes, option_map}
 use Rattle.std.specs.Map.{lookup}
 use Rattle.sp_base.specs.Texts.{Segments}
 use Rattle.resource_tree.specs.Content.{Content, kid, same_path}
@@ -35,6 +35,15 @@ text_path path = kid path (codes "jcr:content")
 -- no reading is kept of a script at whose text a patch has something
 abbrev pub AreUnpatched : PatchEntries → KeptReadings → Type 0
 AreUnpatched patch kept = (path : Segments) (reading : Reading) → reading_at kept path ≡ Some reading → entry_at patch (text_path path) ≡ None
+
+-- no reading is kept of a script whose text stands at this path
+abbrev pub IsTextUnread : Segments → KeptReadings → Type 0
+IsTextUnread path kept = (script : Segments) (reading : Reading) → reading_at kept script ≡ Some reading → same_path (text_path script) path ≡ false
+
+-- no reading is kept but those before and this one
+abbrev pub AddsAtMost : KeptReadings → Segments → Reading → KeptReadings → Type 0
+AddsAtMost old script reading new = (path : Segments) (kept : Reading) → reading_at new path ≡ Some kept
+    → (reading_at old path ≡ Some kept) ⊎ ((path ≡ script) × (kept ≡ reading))
 
 -- each of the indexes is the tree's
 pub record AreIndexesOf (tree : Content) (indexes : Indexes) : Type 0 where

@@ -11,3 +11,4 @@ pub mod Kept
 pub mod SeenAlone
 pub mod PostLaws
 pub mod Cases
+pub mod AnswerLaws

@@ -1,9 +1,8 @@
 // The change of a tree, and of what is kept beside it.
-ghost use Rattle.std.specs.Prelude.{◌≡◌, ℕ, List, Some, false, OnOk, OnErr};
-ghost use Rattle.resource_tree.specs.Content.{IsGood, same_path};
+ghost use Rattle.std.specs.Prelude.{◌≡◌, OnOk, OnErr};
+ghost use Rattle.resource_tree.specs.Content.{IsGood};
 ghost use Rattle.resource_tree.specs.Patches.{patching};
-ghost use Rattle.publisher.specs.declared.templates.Reading.{Reading};
-ghost use Rattle.publisher.specs.Kept.{AreAmong, AreIndexesOf, AreReadings, AreUnpatched, reading_at, text_path};
+ghost use Rattle.publisher.specs.Kept.{AreAmong, AreIndexesOf, AreReadings, AreUnpatched, IsTextUnread, reading_at};
 
 use crate::kept_index::Indexes;
 use crate::templates::Templates;
@@ -53,7 +52,7 @@ fn forget_patched(alloc: Global, templates: &mut Templates, patch: &Patch) -> Me
 // Forgets the reading of the script whose text stands at a path.
 fn forget_text(alloc: Global, templates: &mut Templates, path: &Path) -> Mem<()>
     ensures fewer { AreAmong templates.old templates.new }
-    ensures forgotten { OnOk result ((script : List (List ℕ)) (reading : Reading) → reading_at templates.new script ≡ Some reading → same_path (text_path script) path.now ≡ false) }
+    ensures forgotten { OnOk result (IsTextUnread path.now templates.new) }
 {
     if path.name() != "jcr:content" {
         return Ok(());

@@ -1,28 +1,19 @@
 //! Laws of the rendering, on functions that do nothing.
-ghost use Rattle.std.specs.Prelude.{◌≡◌, ◌≢◌, ◌≤◌, ◌<◌, ◌||◌, [], ℕ, IsTrue, List, true, length};
-ghost use Rattle.sp_base.specs.Limits.{most_rendered_bytes};
+ghost use Rattle.std.specs.Prelude.{◌≡◌, ◌≢◌, ◌<◌, ℕ, IsTrue, List, true};
 ghost use Rattle.sp_base.specs.MediaTypes.{is_kind};
-ghost use Rattle.sp_base.specs.Paths.{text_of};
+ghost use Rattle.sp_base.specs.Texts.{Text};
 ghost use Rattle.sp_base.specs.declared.answer.Answer.{Answer};
 ghost use Rattle.sp_base.specs.declared.answer.Ask.{Ask};
 ghost use Rattle.resource_tree.specs.Content.{Content, IsGood};
 ghost use Rattle.resource_tree.specs.Seen.{Resource};
-ghost use Rattle.url_maps.specs.Turns.{IsMapped};
-ghost use Rattle.url_maps.specs.declared.answer.MapAnswer.TheVariants.{Away};
 ghost use Rattle.htl_text.specs.declared.piece.TemplatePiece.{TemplatePiece};
-ghost use Rattle.htl_text.specs.Spelling.{SpellsTemplate};
-ghost use Rattle.htl_text.specs.Template.{template_output};
 ghost use Rattle.htl_blocks.specs.declared.block.Block.{Block};
-ghost use Rattle.htl_blocks.specs.Laws.{HasNoBlock};
-ghost use Rattle.htl_blocks.specs.Markup.{parts as markup_parts};
-ghost use Rattle.htl_blocks.specs.Reading.{most_nested_blocks};
-ghost use Rattle.htl_blocks.specs.Spelling.{SpellsBlocks};
 ghost use Rattle.error_answers.specs.Errors.{error_answer};
-ghost use Rattle.publisher.specs.Cases.{IsAnswer, ReadsByScript};
-ghost use Rattle.publisher.specs.Errors.{redirect};
-ghost use Rattle.publisher.specs.Pages.{bindings_at, page_of, place_of};
+ghost use Rattle.publisher.specs.AnswerLaws.{AreOfOnePath, FitsIfRead, IsRedirectIfAway, KeepsContentIfAway, KeepsContentIfRefused};
+ghost use Rattle.publisher.specs.AnswerLaws.{WritesPageIfSpelled, WritesPiecesIfPlain};
+ghost use Rattle.publisher.specs.Cases.{IsAnswer};
 ghost use Rattle.publisher.specs.PostLaws.{PostsAreRefusedForCauses, RequestsKeepContentGood};
-ghost use Rattle.publisher.specs.Rendering.{content_after_request, is_post, is_read, answer_to_request};
+ghost use Rattle.publisher.specs.Rendering.{content_after_request, is_read, answer_to_request};
 
 use form_input::forms_are_refused_for_causes;
 use get_servlet::{over_is_the_greatest_depth, streams_have_media_types};
@@ -39,7 +30,7 @@ use url_split::the_split_is_the_longest;
 
 /// A GET and a HEAD of one path are answered alike at one host and port, whatever body they bring.
 pub fn reads_depend_on_host_port_and_path()
-    ensures { (tree : Content) (a b : Ask) → is_read a.method ≡ true → is_read b.method ≡ true → a.host ≡ b.host → a.port ≡ b.port → a.path ≡ b.path → answer_to_request tree a ≡ answer_to_request tree b }
+    ensures { (tree : Content) (a b : Ask) → is_read a.method ≡ true → is_read b.method ≡ true → AreOfOnePath a b → answer_to_request tree a ≡ answer_to_request tree b }
 {}
 
 /// A GET and a HEAD change nothing (RFC 9110, section 9.2.1).
@@ -49,7 +40,7 @@ pub fn reads_change_nothing()
 
 /// What is answered neither 200 nor 201 changes nothing: a POST is done whole or not at all.
 pub fn refusals_change_nothing()
-    ensures { (tree : Content) (ask : Ask) → (answer_to_request tree ask).status ≢ 200 → (answer_to_request tree ask).status ≢ 201 → content_after_request tree ask ≡ tree }
+    ensures { (tree : Content) (ask : Ask) → KeepsContentIfRefused tree ask }
 {}
 
 /// Whatever the request, the content after it is one that a tree has.
@@ -73,7 +64,7 @@ pub fn posts_are_refused_for_causes()
 
 /// A representation has at most 4,194,304 bytes. (That a 200 to a POST has no more either is a clause of `Publisher::answer`.)
 pub fn representations_fit()
-    ensures { (tree : Content) (ask : Ask) → is_read ask.method ≡ true → (answer_to_request tree ask).status ≡ 200 → length (answer_to_request tree ask).body ≤ most_rendered_bytes }
+    ensures { (tree : Content) (ask : Ask) → FitsIfRead tree ask }
 {}
 
 /// Every status has three digits at most, and none is 507 (Insufficient Storage): out of memory is no answer of the content.
@@ -96,10 +87,8 @@ pub fn kinds_are_short()
 /// A GET, a HEAD or a POST of a path whose text is mapped away is a redirect to the escaped target. Whatever the method, it changes
 /// nothing.
 pub fn what_leads_away_is_a_redirect()
-    ensures answer { (tree : Content) (ask : Ask) (status : ℕ) (target : List ℕ) → IsGood tree → (is_read ask.method || is_post ask.method) ≡ true
-        → IsMapped tree ask.host ask.port (text_of ask.path) (Away status target) → answer_to_request tree ask ≡ redirect status target }
-    ensures content { (tree : Content) (ask : Ask) (status : ℕ) (target : List ℕ) → IsGood tree
-        → IsMapped tree ask.host ask.port (text_of ask.path) (Away status target) → content_after_request tree ask ≡ tree }
+    ensures answer { (tree : Content) (ask : Ask) (status : ℕ) (target : Text) → IsGood tree → IsRedirectIfAway tree ask status target }
+    ensures content { (tree : Content) (ask : Ask) (status : ℕ) (target : Text) → IsGood tree → KeepsContentIfAway tree ask status target }
 {
     the_answer_is_mapped();
 }
@@ -107,18 +96,14 @@ pub fn what_leads_away_is_a_redirect()
 /// A page that a script gives is what the blocks write that its text spells, for the resource, with what is put in: the resource is the one
 /// that the text is taken apart into to which the path's text is mapped, and the script the one that ranks first for its types.
 pub fn a_script_writes_its_page()
-    ensures { (tree : Content) (ask : Ask) (res : Resource) (text : List ℕ) (blocks : List Block) (reads : ReadsByScript tree ask res text)
-        → IsGood tree → SpellsBlocks most_nested_blocks text blocks
-        → (answer_to_request tree ask).status ≡ 200 → (answer_to_request tree ask).body ≡ (page_of tree (place_of reads.script res) blocks).text }
+    ensures { (tree : Content) (ask : Ask) (res : Resource) (text : Text) (blocks : List Block) → IsGood tree → WritesPageIfSpelled tree ask res text blocks }
 {
     an_answer_is_one_of_the_cases();
 }
 
 /// The page of a script without a block tag is what the pieces write that its text spells, for the resource and without variables.
 pub fn a_script_without_blocks_writes_its_pieces()
-    ensures { (tree : Content) (ask : Ask) (res : Resource) (text : List ℕ) (pieces : List TemplatePiece) (reads : ReadsByScript tree ask res text)
-        → IsGood tree → 0 < length text → HasNoBlock (markup_parts text) → SpellsTemplate text pieces []
-        → (answer_to_request tree ask).status ≡ 200 → (answer_to_request tree ask).body ≡ template_output (bindings_at (place_of reads.script res) []) pieces }
+    ensures { (tree : Content) (ask : Ask) (res : Resource) (text : Text) (pieces : List TemplatePiece) → IsGood tree → WritesPiecesIfPlain tree ask res text pieces }
 {
     an_answer_is_one_of_the_cases();
     the_pieces_are_the_text();

@@ -43,14 +43,14 @@ impl HeldContent {
         ensures kept { IsTrue self.old.is_indexed → IsTrue self.new.is_indexed }
     {
         match planned(alloc, &self.tree, ask, text) {
-            Ok(plan) => self.done(alloc, plan),
+            Ok(plan) => self.carry_out(alloc, plan),
             Err(Refusal::Status(status)) => error_answer(alloc, status),
             Err(Refusal::NoMemory) => Err(NoMemory),
         }
     }
 
     // Does what a POST puts over the tree. Its answer is made before, so that nothing changes where there is no memory for it.
-    fn done(&mut self, alloc: Global, planned: Planned) -> Mem<Answer>
+    fn carry_out(&mut self, alloc: Global, planned: Planned) -> Mem<Answer>
         requires { IsGood (patching self.old.tree planned.patch) }
         ensures answer { IfOk result (λ a. a ≡ report_answer planned.report) }
         ensures fits { IfOk result (λ a. length a.body ≤ most_rendered_bytes) }

@@ -1,9 +1,10 @@
 // The readings of scripts, each read once and kept until a POST changes its text.
 ghost use Rattle.std.specs.Prelude.{◌≡◌, ◌⊎◌, cond, List, ℕ, [], Some, None, IfOk, option_copied, option_map};
+ghost use Rattle.sp_base.specs.Texts.{Segments};
 ghost use Rattle.resource_tree.specs.Content.{same_path};
 ghost use Rattle.script_rank.specs.Ranking.{script_text};
 ghost use Rattle.publisher.specs.declared.templates.Reading.{Reading};
-ghost use Rattle.publisher.specs.Kept.{AreReadings, reading_at};
+ghost use Rattle.publisher.specs.Kept.{AddsAtMost, AreReadings, reading_at};
 ghost use Rattle.publisher.specs.Readings.{reading_of};
 
 use crate::shared_blocks::SharedBlocks;
@@ -72,14 +73,13 @@ impl Templates {
 
     /// Keeps a reading, if there is memory for it.
     fn keep(&mut self, script: Path, reading: Reading)
-        ensures { (path : List (List ℕ)) (kept : Reading) → reading_at self.new path ≡ Some kept
-            → (reading_at self.old path ≡ Some kept) ⊎ ((path ≡ script) × (kept ≡ reading)) }
+        ensures { AddsAtMost self.old script reading self.new }
     {
         let _ = self.readings.insert(script, reading);
     }
 
     pub(crate) fn forget(&mut self, script: &Path)
-        ensures { (path : List (List ℕ)) → reading_at self.new path ≡ cond (same_path script.now path) None (reading_at self.old path) }
+        ensures { (path : Segments) → reading_at self.new path ≡ cond (same_path script.now path) None (reading_at self.old path) }
     {
         drop(self.readings.remove(script));
     }

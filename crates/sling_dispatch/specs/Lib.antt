@@ -9,6 +9,7 @@ pub mod Fronts
 pub mod Streams
 pub mod Faults
 pub mod Endings
+pub mod RunEndings
 pub mod InnerEndings
 pub mod Forms
 pub mod Reports

@@ -1,13 +1,10 @@
 //! The whole program over a command line: the words that it is given, and the status that it ends with.
-ghost use Rattle.std.specs.Prelude.{◌≡◌, ◌+◌, List, map, IfOk};
+ghost use Rattle.std.specs.Prelude.{◌≡◌, ◌+◌, map, IfOk};
 ghost use Rattle.docroot_changes.specs.DocrootCalls.{MakesDocrootCalls};
-ghost use Rattle.sling_dispatch.specs.declared.ending.Ending.{Ending};
 ghost use Rattle.replay_text.specs.Scenario.{longest_scenario};
 ghost use Rattle.sling_dispatch.specs.Streams.{HasTaken};
-ghost use Rattle.sling_dispatch.specs.Endings.{Means, IsDue, IsReplay, AreWordsOf, ending_status};
-ghost use Rattle.sling_dispatch.specs.Forms.{IsServe};
-ghost use Rattle.sling_dispatch.specs.Reports.{IsApart, IsUntouched, report_over, call_over};
-ghost use Rattle.sp_base.specs.Texts.{Text};
+ghost use Rattle.sling_dispatch.specs.Endings.{AreWordsOf};
+ghost use Rattle.sling_dispatch.specs.RunEndings.{CommandEndsAsIsDue};
 
 use crate::ending::Ending;
 use crate::outside::Outside;
@@ -27,11 +24,8 @@ pub fn command<L: Words, S: Source, K: Sink, I: Inputs, D: Disk, W: World>(
     outside: &mut Outside<S, K, I, D, W>,
 ) -> u8
     ensures taken { HasTaken (longest_scenario + 1) (S.left outside.old.source) (S.left outside.new.source) }
-    ensures ending { (words : List Text) × AreWordsOf (L.told line.now) words × (e : Ending) × (result ≡ ending_status e) × Means (IsDue (call_over words
-        S.left S.faults I.contents I.faults D.files D.faults W.log W.next_faults W.send_faults outside.old outside.new)) e
-        (report_over K.held K.faults outside.old.sink outside.new.sink) × ((IsServe words → ⊥) → IsApart (call_over words
-        S.left S.faults I.contents I.faults D.files D.faults W.log W.next_faults W.send_faults outside.old outside.new) × (D.calls outside.new.disk ≡ D.calls outside.old.disk))
-        × ((IsReplay words → ⊥) → IsUntouched (report_over S.left S.faults outside.old.source outside.new.source)) }
+    ensures ending { CommandEndsAsIsDue (L.told line.now) S.left S.faults K.held K.faults I.contents I.faults D.files D.faults D.calls
+        W.log W.next_faults W.send_faults outside.old outside.new result }
     ensures calls { MakesDocrootCalls (D.calls outside.old.disk) (D.calls outside.new.disk) }
 {
     docroot_calls_add_up();

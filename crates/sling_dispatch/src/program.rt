@@ -2,12 +2,12 @@
 ghost use Rattle.std.specs.Prelude.{◌≡◌, ◌+◌};
 ghost use Rattle.replay_text.specs.Scenario.{longest_scenario};
 ghost use Rattle.docroot_changes.specs.DocrootCalls.{MakesDocrootCalls};
-ghost use Rattle.sling_dispatch.specs.declared.ending.Ending.{Ending};
 ghost use Rattle.sling_dispatch.specs.Streams.{HasTaken};
-ghost use Rattle.sling_dispatch.specs.Endings.{Means, IsDue, IsReplay, ending_status};
+ghost use Rattle.sling_dispatch.specs.Endings.{Means, IsReplay};
 ghost use Rattle.sling_dispatch.specs.Forms.{IsServe};
+ghost use Rattle.sling_dispatch.specs.RunEndings.{EndsAsIsDue, MeansWhatIsDue};
 ghost use Rattle.sling_dispatch.specs.InnerServing.{IsScenarioOr, IsSummaryOr, ReplaysSource};
-ghost use Rattle.sling_dispatch.specs.Reports.{IsUntouched, report_over, call_over, IsApartUnlessServe, word_texts};
+ghost use Rattle.sling_dispatch.specs.Reports.{IsUntouched, report_over, IsApartUnlessServe, word_texts};
 
 use crate::ending::Ending;
 use crate::form::{Form, form_of};
@@ -34,9 +34,8 @@ pub fn run<S: Source, K: Sink, I: Inputs, D: Disk, W: World>(
     outside: &mut Outside<S, K, I, D, W>,
 ) -> u8
     ensures taken { HasTaken (longest_scenario + 1) (S.left outside.old.source) (S.left outside.new.source) }
-    ensures ending { (e : Ending) × (result ≡ ending_status e) × Means (IsDue (call_over (word_texts words.now)
-        S.left S.faults I.contents I.faults D.files D.faults W.log W.next_faults W.send_faults outside.old outside.new)) e
-        (report_over K.held K.faults outside.old.sink outside.new.sink) }
+    ensures ending { EndsAsIsDue (word_texts words.now) S.left S.faults K.held K.faults I.contents I.faults D.files D.faults
+        W.log W.next_faults W.send_faults outside.old outside.new result }
     ensures apart { IsApartUnlessServe words.now S.left S.faults I.contents I.faults D.files D.faults W.log W.next_faults W.send_faults outside.old outside.new }
     ensures calls { MakesDocrootCalls (D.calls outside.old.disk) (D.calls outside.new.disk) }
     ensures uncalled { (IsServe (word_texts words.now) → ⊥) → D.calls outside.new.disk ≡ D.calls outside.old.disk }
@@ -52,9 +51,8 @@ fn ending<S: Source, K: Sink, I: Inputs, D: Disk, W: World>(
     outside: &mut Outside<S, K, I, D, W>,
 ) -> Ending
     ensures taken { HasTaken (longest_scenario + 1) (S.left outside.old.source) (S.left outside.new.source) }
-    ensures ending { Means (IsDue (call_over (word_texts words.now)
-        S.left S.faults I.contents I.faults D.files D.faults W.log W.next_faults W.send_faults outside.old outside.new)) result
-        (report_over K.held K.faults outside.old.sink outside.new.sink) }
+    ensures ending { MeansWhatIsDue (word_texts words.now) S.left S.faults K.held K.faults I.contents I.faults D.files D.faults
+        W.log W.next_faults W.send_faults outside.old outside.new result }
     ensures apart { IsApartUnlessServe words.now S.left S.faults I.contents I.faults D.files D.faults W.log W.next_faults W.send_faults outside.old outside.new }
     ensures calls { MakesDocrootCalls (D.calls outside.old.disk) (D.calls outside.new.disk) }
     ensures uncalled { (IsServe (word_texts words.now) → ⊥) → D.calls outside.new.disk ≡ D.calls outside.old.disk }

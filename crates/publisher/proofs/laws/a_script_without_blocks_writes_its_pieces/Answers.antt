@@ -8,7 +8,7 @@ use Rattle.publisher.proofs.ScriptLaw.{body_is, template_page}
 use Rattle.publisher.proofs.laws.a_script_without_blocks_writes_its_pieces.Goals as goal
 
 pub returns : goal.returns
-returns c tree ask res text pieces reads good full plain spells ok =
+returns c tree ask res text pieces good reads full plain spells ok =
     let blocks = block.Text pieces ∷ [] in
     let page = page_of tree (place_of reads.script res) blocks in
     let read = c.a_text_without_blocks_is_a_template.ensures text full plain ∙ ap text_block (c.the_pieces_are_the_text.ensures.only text pieces spells) in

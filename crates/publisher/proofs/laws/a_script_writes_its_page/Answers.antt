@@ -6,7 +6,7 @@ use Rattle.publisher.proofs.ScriptLaw.{body_is}
 use Rattle.publisher.proofs.laws.a_script_writes_its_page.Goals as goal
 
 pub returns : goal.returns
-returns c tree ask res text blocks reads good spells ok =
+returns c tree ask res text blocks good reads spells ok =
     let page = page_of tree (place_of reads.script res) blocks in
     body_is (answer_to_request tree ask) (mark_of res) page
     (sym (c.an_answer_is_one_of_the_cases.ensures.only tree ask (page_answer (mark_of res) page) good (by_script res text blocks reads spells refl))) ok

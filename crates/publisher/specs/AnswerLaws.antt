@@ -22,8 +22,10 @@ use Rattle.publisher.specs.Errors.{redirect}
 use Rattle.publisher.specs.Pages.{bindings_at, page_of, place_of}
 use Rattle.publisher.specs.Rendering.{content_after_request, is_post, is_read, answer_to_request}
 
--- two requests of one path, at one host and port
-pub record AreOfOnePath (a b : Ask) : Type 0 where
+-- each is a GET or a HEAD, of one path at one host and port
+pub record AreReadsOfOnePath (a b : Ask) : Type 0 where
+  pub one : is_read a.method ≡ true
+  pub other : is_read b.method ≡ true
   pub host : a.host ≡ b.host
   pub port : a.port ≡ b.port
   pub path : a.path ≡ b.path
@@ -51,7 +53,7 @@ WritesPageIfSpelled tree ask res text blocks = (reads : ReadsByScript tree ask r
     → (answer_to_request tree ask).status ≡ 200 → (answer_to_request tree ask).body ≡ (page_of tree (place_of reads.script res) blocks).text
 
 -- a page that a script without a block tag gives is what the pieces write that its text spells
-abbrev pub WritesPiecesIfPlain : Content → Ask → Resource → Text → List TemplatePiece → Type 0
-WritesPiecesIfPlain tree ask res text pieces = (reads : ReadsByScript tree ask res text) → 0 < length text → HasNoBlock (markup_parts text)
+abbrev pub IsWrittenIfPlain : Content → Ask → Resource → Text → List TemplatePiece → Type 0
+IsWrittenIfPlain tree ask res text pieces = (reads : ReadsByScript tree ask res text) → 0 < length text → HasNoBlock (markup_parts text)
     → SpellsTemplate text pieces [] → (answer_to_request tree ask).status ≡ 200
     → (answer_to_request tree ask).body ≡ template_output (bindings_at (place_of reads.script res) []) pieces

@@ -9,8 +9,8 @@ ghost use Rattle.resource_tree.specs.Seen.{Resource};
 ghost use Rattle.htl_text.specs.declared.piece.TemplatePiece.{TemplatePiece};
 ghost use Rattle.htl_blocks.specs.declared.block.Block.{Block};
 ghost use Rattle.error_answers.specs.Errors.{error_answer};
-ghost use Rattle.publisher.specs.AnswerLaws.{AreOfOnePath, FitsIfRead, IsRedirectIfAway, KeepsContentIfAway, KeepsContentIfRefused};
-ghost use Rattle.publisher.specs.AnswerLaws.{WritesPageIfSpelled, WritesPiecesIfPlain};
+ghost use Rattle.publisher.specs.AnswerLaws.{AreReadsOfOnePath, FitsIfRead, IsRedirectIfAway, KeepsContentIfAway, KeepsContentIfRefused};
+ghost use Rattle.publisher.specs.AnswerLaws.{WritesPageIfSpelled, IsWrittenIfPlain};
 ghost use Rattle.publisher.specs.Cases.{IsAnswer};
 ghost use Rattle.publisher.specs.PostLaws.{PostsAreRefusedForCauses, RequestsKeepContentGood};
 ghost use Rattle.publisher.specs.Rendering.{content_after_request, is_read, answer_to_request};
@@ -30,7 +30,7 @@ use url_split::the_split_is_the_longest;
 
 /// A GET and a HEAD of one path are answered alike at one host and port, whatever body they bring.
 pub fn reads_depend_on_host_port_and_path()
-    ensures { (tree : Content) (a b : Ask) → is_read a.method ≡ true → is_read b.method ≡ true → AreOfOnePath a b → answer_to_request tree a ≡ answer_to_request tree b }
+    ensures { (tree : Content) (a b : Ask) → AreReadsOfOnePath a b → answer_to_request tree a ≡ answer_to_request tree b }
 {}
 
 /// A GET and a HEAD change nothing (RFC 9110, section 9.2.1).
@@ -103,7 +103,7 @@ pub fn a_script_writes_its_page()
 
 /// The page of a script without a block tag is what the pieces write that its text spells, for the resource and without variables.
 pub fn a_script_without_blocks_writes_its_pieces()
-    ensures { (tree : Content) (ask : Ask) (res : Resource) (text : Text) (pieces : List TemplatePiece) → IsGood tree → WritesPiecesIfPlain tree ask res text pieces }
+    ensures { (tree : Content) (ask : Ask) (res : Resource) (text : Text) (pieces : List TemplatePiece) → IsGood tree → IsWrittenIfPlain tree ask res text pieces }
 {
     an_answer_is_one_of_the_cases();
     the_pieces_are_the_text();

@@ -4,7 +4,7 @@ use Rattle.std.specs.Prelude.{◌+◌, ◌==◌, ℕ, Bool, true, false, if◌th
 use Rattle.sp_base.specs.declared.answer.Answer.{Answer}
 use Rattle.cover_rules.specs.declared.page.PageKey.{PageKey}
 use Rattle.cover_rules.specs.declared.invalidation.Invalidation.{Invalidation}
-use Rattle.cache_log.specs.Ids.{FlightId, FlushId}
+use Rattle.cache_ids.specs.Ids.{FlightId, FlushId}
 
 -- What became of a landing: its answer was stored (kept); it may have been stored, since the disk failed or memory ran out (unkept); or it
 -- was only passed on.

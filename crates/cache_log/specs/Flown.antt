@@ -5,7 +5,7 @@ use Rattle.sp_base.specs.declared.answer.Answer.{Answer}
 use Rattle.any_config.specs.declared.farm.Farm.{Farm}
 use Rattle.cover_rules.specs.declared.page.PageKey.{PageKey}
 use Rattle.cover_rules.specs.declared.invalidation.Invalidation.{Invalidation}
-use Rattle.cache_log.specs.Ids.{FlightId, FlushId}
+use Rattle.cache_ids.specs.Ids.{FlightId, FlushId}
 use Rattle.cache_log.specs.Entries.{Fate, Kept, Unkept, Passed, FlushOutcome, Done, LogEntry, Asked, Landed, Lost, Begun, Ended, Up, Session}
 use Rattle.cache_log.specs.Hits.{Covers, stored}
 

@@ -7,7 +7,7 @@ use Rattle.cover_rules.specs.declared.page.PageKey.{PageKey}
 use Rattle.cover_rules.specs.declared.invalidation.Invalidation.{Invalidation}
 use Rattle.cover_rules.specs.Coverage.{covers}
 use Rattle.dispatch_rules.specs.Caching.{is_auto}
-use Rattle.cache_log.specs.Ids.{FlightId, FlushId}
+use Rattle.cache_ids.specs.Ids.{FlightId, FlushId}
 use Rattle.cache_log.specs.Entries.{Kept, Unkept, Done, LogEntry, Asked, Landed, Lost, Begun, Ended}
 
 -- The invalidation covers the page, before this farm: it deletes it, or a .stat file that it touches outdates it (Adobe Dispatcher manual,

@@ -8,7 +8,7 @@ use Rattle.dispatch_rules.specs.Caching.{is_storable}
 use Rattle.cache_log.specs.Entries.{LogEntry, Asked, Begun, Ended, Failed, Hit, Kept, Landed, Lost, Session, Sliced, Up, flights_asked, flushes_begun, Done, Fate}
 use Rattle.cache_log.specs.Flown.{IsPermittedHit, IsClearFlight, IsPermittedBy, IsUnfinishedFlush, since_asking}
 use Rattle.cache_log.specs.Hits.{Unfinished, InAir, Covers, IsClear, MayHit, MustHit, stored}
-use Rattle.cache_log.specs.Ids.{FlightId, FlushId}
+use Rattle.cache_ids.specs.Ids.{FlightId, FlushId}
 use Rattle.cache_log.specs.Rules.{AllAllowed, CallConditions, IsLegal, Allowed}
 
 -- a legal log stays legal with the entries of a call that are allowed

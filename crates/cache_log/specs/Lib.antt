@@ -1,5 +1,4 @@
 pub mod Limits
-pub mod Ids
 pub mod Entries
 pub mod Hits
 pub mod Flown

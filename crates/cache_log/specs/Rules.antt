@@ -6,7 +6,7 @@ use Rattle.any_config.specs.declared.farm.Farm.{Farm}
 use Rattle.cover_rules.specs.declared.page.PageKey.{PageKey}
 use Rattle.cover_rules.specs.declared.invalidation.Invalidation.{Invalidation}
 use Rattle.dispatch_rules.specs.Caching.{is_storable}
-use Rattle.cache_log.specs.Ids.{FlightId, FlushId}
+use Rattle.cache_ids.specs.Ids.{FlightId, FlushId}
 use Rattle.cache_log.specs.Entries.{Kept, Unkept, Passed, Done, Failed, LogEntry, Asked, Landed, Lost, Begun, Sliced, Ended, Hit, Up, Down, Session, flights_asked, flushes_begun, last_epoch, downs_since, is_up, slices_made, landings_stored}
 use Rattle.cache_log.specs.Hits.{Unfinished, InAir, IsClear, MayHit, MustHit}
 

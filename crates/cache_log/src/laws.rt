@@ -5,7 +5,7 @@ ghost use Rattle.any_config.specs.declared.farm.Farm.{Farm};
 ghost use Rattle.cover_rules.specs.declared.page.PageKey.{PageKey};
 ghost use Rattle.cover_rules.specs.declared.invalidation.Invalidation.{Invalidation};
 ghost use Rattle.dispatch_rules.specs.Caching.{is_storable};
-ghost use Rattle.cache_log.specs.Ids.{FlightId, FlushId};
+ghost use Rattle.cache_ids.specs.Ids.{FlightId, FlushId};
 ghost use Rattle.cache_log.specs.Entries.{LogEntry, downs_since, is_up, last_epoch};
 ghost use Rattle.cache_log.specs.Hits.{HasDone, InAir, IsClear, MayHit, MustHit, NoneDoneSince, Unfinished};
 ghost use Rattle.cache_log.specs.Flown.{HasEpoch, IsClearFlight, IsDoneFlush, IsFlying, IsOwedHit, IsUnfinishedFlush};

@@ -6,7 +6,7 @@ use Rattle.sp_outside.specs.Files.{Files}
 use Rattle.any_config.specs.declared.farm.Farm.{Farm}
 use Rattle.cover_rules.specs.declared.stamp.Stamp.{Stamp}
 use Rattle.cover_rules.specs.declared.invalidation.Invalidation.{Invalidation}
-use Rattle.cache_log.specs.Ids.{FlightId, FlushId}
+use Rattle.cache_ids.specs.Ids.{FlightId, FlushId}
 use Rattle.cache_log.specs.Entries.{LogEntry, Asked, Begun, Down, Session, Up, is_up, last_epoch}
 use Rattle.cache_log.specs.Rules.{IsAboveAll, IsLegal}
 use Rattle.cache_log.proofs.PlaceLemmas.{first-within, none-within, rest-within, within}

@@ -10,7 +10,7 @@ use Rattle.invalidation.specs.declared.purge.Purge.{Purge}
 use Rattle.invalidation.specs.declared.purge.PurgeStep.{PurgeStep}
 use Rattle.invalidation.specs.declared.purge.PurgeStep.TheVariants.{More, Done as step_done, DiskFailed, NoMemory}
 use Rattle.invalidation.specs.Slices.{IsSamePurge, IsSlice, IsStatOf, IsTakenFrom, Progress, folders_of}
-use Rattle.cache_log.specs.Ids.{FlushId}
+use Rattle.cache_ids.specs.Ids.{FlushId}
 use Rattle.cache_log.specs.Entries.{LogEntry, Done, Ended, Failed, FlushOutcome, Sliced, is_up}
 use Rattle.cache_log.specs.Rules.{AllAllowed, IsOldest}
 use Rattle.coherence_core.specs.Bounds.{BoundsSlices}

@@ -15,7 +15,7 @@ use Rattle.std.specs.Option.{option_and_then}
 use Rattle.flights.specs.declared.flight.Flight.{Flight}
 use Rattle.flights.specs.Flights.{AreRising, after_invalidation, numbers_of}
 use Rattle.invalidation.specs.Invalidations.{is_invalidation}
-use Rattle.cache_log.specs.Ids.{FlightId, FlushId}
+use Rattle.cache_ids.specs.Ids.{FlightId, FlushId}
 use Rattle.cache_log.specs.Entries.{LogEntry, Asked}
 use Rattle.cache_log.specs.Hits.{MayHit}
 use Rattle.cache_log.specs.Rules.{IsOwed}

@@ -14,7 +14,7 @@ use Rattle.cache_files.specs.Changes.{KeepsFiles}
 use Rattle.cache_files.specs.Epochs.{epoch_held}
 use Rattle.cache_files.specs.Pages.{page_body_name, page_head_name}
 use Rattle.invalidation.specs.Slices.{ChangesFiles}
-use Rattle.cache_log.specs.Ids.{FlushId}
+use Rattle.cache_ids.specs.Ids.{FlushId}
 use Rattle.cache_log.specs.Entries.{LogEntry, Asked, Begun, Session, stamps_drawn}
 use Rattle.cache_log.specs.Limits.{most_stamps}
 use Rattle.coherence_core.specs.Holds.{AreStatsFormed, KeepsStatFiles}

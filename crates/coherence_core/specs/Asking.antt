@@ -23,7 +23,7 @@ use Rattle.invalidation.specs.declared.inv_fault.InvFault.TheVariants as inv_fau
 use Rattle.coherence_core.specs.Requests.{ReachesCache, GotAs}
 use Rattle.coherence_core.specs.Served.{serves_page}
 use Rattle.coherence_core.specs.declared.answers.Requested.{Requested}
-use Rattle.cache_log.specs.Ids.{FlushId}
+use Rattle.cache_ids.specs.Ids.{FlushId}
 use Rattle.coherence_core.specs.Cores.{drawn_of, CoreStandsFor}
 use Rattle.coherence_core.specs.Notes.{HoldsStill, KnowsDisk, KnowsDiskWith, with_notes}
 use Rattle.page_index.specs.Agreement.{HasNoneCovered}

@@ -4,7 +4,7 @@ use Rattle.std.specs.List.{AllByRecursion}
 use Rattle.sp_outside.specs.Files.{Files}
 use Rattle.any_config.specs.declared.farm.Farm.{Farm}
 use Rattle.invalidation.specs.Slices.{HasBegun, most_added, names_ahead}
-use Rattle.cache_log.specs.Ids.{FlushId}
+use Rattle.cache_ids.specs.Ids.{FlushId}
 use Rattle.cache_log.specs.Entries.{LogEntry, flushes_begun, landings_stored, slices_made}
 use Rattle.cache_log.specs.Rules.{KeepsBound}
 use Rattle.coherence_core.specs.Holds.{files_counted}

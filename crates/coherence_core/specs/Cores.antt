@@ -9,7 +9,7 @@ use Rattle.cache_files.specs.Pages.{head_at, page_at}
 use Rattle.stat_files.specs.Stamps.{stamp_at}
 use Rattle.flights.specs.declared.flight.Flight.{Flight}
 use Rattle.flights.specs.Flights.{AreRising}
-use Rattle.cache_log.specs.Ids.{FlightId, FlushId}
+use Rattle.cache_ids.specs.Ids.{FlightId, FlushId}
 use Rattle.cache_log.specs.Entries.{LogEntry, is_up}
 use Rattle.cache_log.specs.Rules.{AllAllowed, CallConditions}
 use Rattle.coherence_core.specs.Bounds.{BoundsSlices}

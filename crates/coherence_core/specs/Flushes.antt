@@ -6,7 +6,7 @@ use Rattle.invalidation.specs.declared.purge.Purge.{Purge}
 use Rattle.invalidation.specs.declared.purge.PurgeStep.{PurgeStep}
 use Rattle.invalidation.specs.declared.purge.PurgeStep.TheVariants.{More, Done as step_done, DiskFailed, NoMemory}
 use Rattle.invalidation.specs.Slices.{IsSamePurge, IsSlice}
-use Rattle.cache_log.specs.Ids.{FlushId}
+use Rattle.cache_ids.specs.Ids.{FlushId}
 use Rattle.cache_log.specs.Entries.{LogEntry, Sliced, Ended, Done, Failed}
 use Rattle.cache_log.specs.Rules.{CallConditions}
 use Rattle.coherence_core.specs.Cores.{conditions_of_call}

@@ -12,7 +12,7 @@ use Rattle.flights.specs.declared.landing.Landing.{Landing}
 use Rattle.flights.specs.declared.landing.Landing.TheVariants.{Clear, Voided, Unkeyed}
 use Rattle.cache_log.specs.Entries.{Fate, Kept, Unkept, Passed, Landed as landed_entry}
 use Rattle.cache_log.specs.Rules.{CallConditions}
-use Rattle.cache_log.specs.Ids.{FlightId}
+use Rattle.cache_ids.specs.Ids.{FlightId}
 use Rattle.coherence_core.specs.Cores.{conditions_of_call, ExtendsCore}
 use Rattle.page_index.specs.Effects.{ForgetsPage}
 use Rattle.page_index.specs.declared.index.PageIndex.{PageIndex}

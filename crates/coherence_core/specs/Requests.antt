@@ -9,7 +9,7 @@ use Rattle.dispatch_rules.specs.Admission.{admits}
 use Rattle.dispatch_rules.specs.Caching.{cache_key, is_storable}
 use Rattle.flights.specs.Flights.{most_flights}
 use Rattle.invalidation.specs.Invalidations.{invalidation_of, is_invalidation}
-use Rattle.cache_log.specs.Ids.{FlightId, FlushId}
+use Rattle.cache_ids.specs.Ids.{FlightId, FlushId}
 use Rattle.cache_log.specs.Entries.{LogEntry, Asked, Begun, Hit as hit_entry}
 use Rattle.cache_log.specs.Hits.{MayHit}
 use Rattle.cache_log.specs.Rules.{CallConditions, IsOwed}

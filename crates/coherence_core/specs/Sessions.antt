@@ -5,7 +5,7 @@ use Rattle.any_config.specs.declared.farm.Farm.{Farm}
 use Rattle.cache_files.specs.declared.epoch.OpenFault.{OpenFault}
 use Rattle.cache_files.specs.declared.epoch.OpenFault.TheVariants as open_fault
 use Rattle.flights.specs.Flights.{numbers_of}
-use Rattle.cache_log.specs.Ids.{FlightId, FlushId}
+use Rattle.cache_ids.specs.Ids.{FlightId, FlushId}
 use Rattle.cache_log.specs.Entries.{LogEntry, Ended, Failed, Lost, Up, Down as down_entry, Session}
 use Rattle.cache_log.specs.Rules.{CallConditions}
 use Rattle.coherence_core.specs.Holds.{Holds, HoldsClosed, files_counted}

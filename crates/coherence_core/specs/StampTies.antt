@@ -14,7 +14,7 @@ use Rattle.dispatch_rules.specs.Caching.{is_auto}
 use Rattle.cache_files.specs.declared.page.Page.{Page}
 use Rattle.docroot_changes.specs.Changes.{IsStampFolder}
 use Rattle.flights.specs.declared.flight.Flight.{Flight}
-use Rattle.cache_log.specs.Ids.{FlightId, FlushId}
+use Rattle.cache_ids.specs.Ids.{FlightId, FlushId}
 use Rattle.cache_log.specs.Entries.{LogEntry, Asked, Begun, Done, Ended, Kept, Landed, Session, Unkept, last_epoch, stamps_drawn}
 use Rattle.cache_log.specs.Hits.{NoneDoneSince, SparesPage, stored}
 use Rattle.coherence_core.specs.Served.{IsFresh, Pages, Stamps, stat_for}

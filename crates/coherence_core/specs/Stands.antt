@@ -16,7 +16,7 @@ use Rattle.flights.specs.declared.flight.Flight.{Flight}
 use Rattle.flights.specs.Flights.{AreRising}
 use Rattle.invalidation.specs.declared.purge.Purge.{Purge}
 use Rattle.invalidation.specs.Slices.{Progress}
-use Rattle.cache_log.specs.Ids.{FlightId, FlushId}
+use Rattle.cache_ids.specs.Ids.{FlightId, FlushId}
 use Rattle.cache_log.specs.Entries.{LogEntry, downs_since, flights_asked, flushes_begun, last_epoch, stamps_drawn}
 use Rattle.cache_log.specs.Hits.{Covers, HasDone, InAir, IsClear, MayHit, MustHit, Unfinished}
 use Rattle.cache_log.specs.Rules.{IsAboveAll}

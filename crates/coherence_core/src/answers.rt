@@ -1,4 +1,5 @@
 //! What the calls of a core answer.
+use cache_ids::FlushId;
 use cover_rules::{Invalidation, PageKey};
 use flights::Ticket;
 use invalidation::InvFault;
@@ -15,7 +16,7 @@ pub enum Got {
     /// A flight, whose answer may be kept as the page if there is one.
     Asked(Ticket, Option<PageKey>),
     /// A flush, by its number. No slice of it is made yet.
-    Flush(u64, Invalidation),
+    Flush(FlushId, Invalidation),
     /// The request names no invalidation.
     FlushRefused(InvFault),
     /// The client may not invalidate.
@@ -48,15 +49,15 @@ pub enum Landed {
 }
 
 /// What a slice of the oldest flush came to.
-#[derive(Clone, Copy, PartialEq, Eq, Debug, Drop)]
+#[derive(Clone, Copy, Drop)]
 pub enum Purged {
     /// No flush is unfinished.
     Idle,
     /// The flush isn't finished yet.
-    More(u64),
-    Done(u64),
+    More(FlushId),
+    Done(FlushId),
     /// The disk failed, which ended the flush.
-    Failed(u64),
+    Failed(FlushId),
     /// Memory ran out, which ended the flush.
-    NoMemory(u64),
+    NoMemory(FlushId),
 }

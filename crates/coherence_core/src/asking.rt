@@ -9,6 +9,7 @@ ghost use Rattle.cache_log.specs.Limits.{most_stamps};
 
 use crate::answers::Got;
 use crate::core_state::{Core, MOST_STAMPS};
+use cache_ids::FlightId;
 use cover_rules::{Invalidation, PageKey, StatRule, covers};
 use flights::{AskFault, Flight};
 use sp_base::Mem;
@@ -43,7 +44,7 @@ impl Core {
         ensures { AskedAs self.old self.new key auto result }
     {
         let flight = Flight {
-            number: self.asked + 1,
+            number: FlightId::new(self.asked + 1),
             auto,
             stamp: self.next_stamp(),
             voided: self.is_barred(auto, &key),

@@ -9,6 +9,7 @@ use crate::answers::Got;
 use crate::core_state::{Core, MOST_STAMPS};
 use crate::noting::forget_covered;
 use crate::pending::Pending;
+use cache_ids::FlushId;
 use cover_rules::Invalidation;
 use dispatch_rules::may_flush;
 use invalidation::{InvFault, Purge, read_invalidation};
@@ -55,11 +56,12 @@ impl Core {
         let stamp = self.next_stamp();
         self.flights.void(level, &inv);
         self.begun += 1;
+        let number = FlushId::new(self.begun);
         self.queue.push_reserved(Pending {
-            number: self.begun,
+            number,
             purge: Purge::begin(level, inv, stamp),
         });
-        Got::Flush(self.begun, own)
+        Got::Flush(number, own)
     }
 }
 

@@ -5,7 +5,7 @@ use Rattle.sp_base.specs.declared.answer.Answer.{Answer}
 use Rattle.any_config.specs.declared.farm.Farm.{Farm}
 use Rattle.cover_rules.specs.declared.page.PageKey.{PageKey}
 use Rattle.dispatch_rules.specs.Caching.{is_storable}
-use Rattle.cache_log.specs.Ids.{FlightId}
+use Rattle.cache_ids.specs.Ids.{FlightId}
 use Rattle.cache_log.specs.Entries.{Kept, Unkept, Passed, Done, Failed, LogEntry, Asked, Landed, Lost, Begun, Sliced, Ended, Hit, Up, Down, Session}
 use Rattle.cache_log.specs.Hits.{MayHit, stored}
 use Rattle.cache_log.specs.Rules.{IsLegal, MayStore}

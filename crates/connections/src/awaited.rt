@@ -3,7 +3,7 @@ ghost use Rattle.std.specs.Prelude.{◌≡◌};
 ghost use Rattle.connections.specs.Slots.{is_same_awaited};
 ghost use Rattle.connections.specs.declared.awaited.Awaited.TheVariants as variant;
 
-use crate::ids::{FlightId, FlushId};
+use cache_ids::{FlightId, FlushId};
 
 /// What an answer waits for: that a flight lands or is lost, or that a flush ends.
 #[derive(Clone, Copy)]

@@ -1,4 +1,4 @@
-//! The numbers of what a front has many of.
+//! The numbers of connections.
 ghost use Rattle.std.specs.Prelude.{◌≡◌, Some, nat_eq, refl};
 ghost use Rattle.std.specs.Cmp.{nat_cmp_total, nat_eq_equiv, partial_equiv_from_equiv, unsigned_po, unsigned_ties};
 ghost use Rattle.std.specs.Ordering.{nat_cmp};
@@ -72,92 +72,4 @@ impl Ord for ConnectionId {
     fn cmp(&self, other: &ConnectionId) -> Ordering {
         self.number.cmp(&other.number)
     }
-}
-
-/// The number of a flight.
-#[derive(Clone, Copy)]
-pub struct FlightId {
-    number: u64,
-}
-
-impl Model for FlightId {
-    ghost use Rattle.std.specs.Prelude.{ℕ};
-
-    ghost Value = { ℕ };
-
-    ghost view = { λ id. id.number };
-
-    ghost inverse = { λ n. record { number = n } };
-}
-
-impl FlightId {
-    pub fn new(number: u64) -> FlightId
-        ensures { result ≡ number }
-    {
-        FlightId { number }
-    }
-
-    pub fn number(self) -> u64
-        ensures { result ≡ self }
-    {
-        self.number
-    }
-}
-
-impl PartialEq for FlightId {
-    ghost eq = { nat_eq };
-
-    ghost laws = { partial_equiv_from_equiv nat_eq_equiv };
-
-    fn eq(&self, other: &FlightId) -> bool {
-        self.number == other.number
-    }
-}
-
-impl Eq for FlightId {
-    ghost laws = { nat_eq_equiv };
-}
-
-/// The number of a flush.
-#[derive(Clone, Copy)]
-pub struct FlushId {
-    number: u64,
-}
-
-impl Model for FlushId {
-    ghost use Rattle.std.specs.Prelude.{ℕ};
-
-    ghost Value = { ℕ };
-
-    ghost view = { λ id. id.number };
-
-    ghost inverse = { λ n. record { number = n } };
-}
-
-impl FlushId {
-    pub fn new(number: u64) -> FlushId
-        ensures { result ≡ number }
-    {
-        FlushId { number }
-    }
-
-    pub fn number(self) -> u64
-        ensures { result ≡ self }
-    {
-        self.number
-    }
-}
-
-impl PartialEq for FlushId {
-    ghost eq = { nat_eq };
-
-    ghost laws = { partial_equiv_from_equiv nat_eq_equiv };
-
-    fn eq(&self, other: &FlushId) -> bool {
-        self.number == other.number
-    }
-}
-
-impl Eq for FlushId {
-    ghost laws = { nat_eq_equiv };
 }

@@ -1,6 +1,7 @@
 -- The flights in the air, and what an invalidation makes of them (Adobe Dispatcher manual, "Invalidating Cached Pages From AEM").
 use Rattle.std.specs.Prelude.{◌<◌, ◌≤◌, ◌==◌, ◌||◌, ℕ, Bool, false, if◌then◌else◌, List, [], ◌∷◌, Option, Some, None, IfSome, map, ◌≡◌, option_map, ◌++◌, remove, slice_get}
 use Rattle.std.specs.List.{AllByRecursion}
+use Rattle.cache_ids.specs.Ids.{FlightId}
 use Rattle.cover_rules.specs.declared.page.PageKey.{PageKey}
 use Rattle.cover_rules.specs.declared.invalidation.Invalidation.{Invalidation}
 use Rattle.cover_rules.specs.Pages.{IsPageKey}
@@ -18,17 +19,17 @@ AreForPages flights = AllByRecursion (λ flight. IfSome flight.key IsPageKey) fl
 -- ---- by number
 
 -- the flight with this number, the first if there are more
-abbrev pub flight_at : ℕ → List Flight → Option Flight
+abbrev pub flight_at : FlightId → List Flight → Option Flight
 flight_at number [] = None
 flight_at number (flight ∷ flights) = if flight.number == number then Some flight else flight_at number flights
 
 -- all others
-abbrev pub without : ℕ → List Flight → List Flight
+abbrev pub without : FlightId → List Flight → List Flight
 without number [] = []
 without number (flight ∷ flights) = if flight.number == number then flights else flight ∷ without number flights
 
 -- the numbers of the flights, in their order
-abbrev pub numbers_of : List Flight → List ℕ
+abbrev pub numbers_of : List Flight → List FlightId
 numbers_of flights = map (λ flight. flight.number) flights
 
 -- the numbers of the flights rise, all above the one and none above the other
@@ -57,11 +58,11 @@ abbrev pub HasItsNumber : Flight → List Flight → Type 0
 HasItsNumber flight flights = flight_at flight.number flights ≡ Some flight
 
 -- the same flight is there under this number, or none still
-abbrev pub KeepsFlight : ℕ → List Flight → List Flight → Type 0
+abbrev pub KeepsFlight : FlightId → List Flight → List Flight → Type 0
 KeepsFlight number old new = flight_at number new ≡ flight_at number old
 
 -- the flight under this number is there once the invalidation has begun, as that leaves it
-abbrev pub IsFoundAsLeftBy : ℕ → ℕ → Invalidation → List Flight → Type 0
+abbrev pub IsFoundAsLeftBy : FlightId → ℕ → Invalidation → List Flight → Type 0
 IsFoundAsLeftBy number level inv flights = flight_at number (map (after_invalidation level inv) flights) ≡ option_map (after_invalidation level inv) (flight_at number flights)
 
 -- where numbers rise they do so with that of a flight which is above them
@@ -73,5 +74,5 @@ abbrev pub RisesAfter : ℕ → ℕ → ℕ → Invalidation → List Flight →
 RisesAfter least most level inv flights = AreRising least flights most → AreRising least (map (after_invalidation level inv) flights) most
 
 -- where this number stands at this place it alone goes from there as its flight does
-abbrev pub LeavesPlaceIfThere : ℕ → ℕ → List Flight → Type 0
+abbrev pub LeavesPlaceIfThere : FlightId → ℕ → List Flight → Type 0
 LeavesPlaceIfThere number place flights = slice_get (numbers_of flights) place ≡ Some number → numbers_of (without number flights) ≡ remove (numbers_of flights) place

@@ -8,6 +8,7 @@ ghost use Rattle.flights.specs.Landings.{LandsAs};
 use crate::flight::Flight;
 use crate::landing::{Landing, landing_of};
 use crate::ticket::Ticket;
+use cache_ids::FlightId;
 use cover_rules::{Invalidation, StatRule, covers};
 use sp_base::Mem;
 use std::alloc::Global;
@@ -150,7 +151,7 @@ fn void_all(flights: &mut [Flight], level: usize, inv: &Invalidation)
     }
 }
 
-fn take_flight(flights: &mut Vec<Flight>, number: u64) -> Flight
+fn take_flight(flights: &mut Vec<Flight>, number: FlightId) -> Flight
     requires { IsSome (flight_at number flights.old.items) }
     ensures found { flight_at number flights.old.items ≡ Some result }
     ensures left { flights.new.items ≡ without number flights.old.items }
@@ -161,7 +162,7 @@ fn take_flight(flights: &mut Vec<Flight>, number: u64) -> Flight
 }
 
 // Where the flight stands.
-fn place_of(flights: &[Flight], number: u64) -> usize
+fn place_of(flights: &[Flight], number: FlightId) -> usize
     requires { IsSome (flight_at number flights.now) }
     ensures within { result < length flights.now }
     ensures value { flight_at number flights.now ≡ slice_get flights.now result }

@@ -1,11 +1,12 @@
 //! Tickets of flights.
 ghost use Rattle.std.specs.Prelude.{◌≡◌};
 
+use cache_ids::FlightId;
 use std::marker::Model;
 
 /// Stands for a flight in the air, and is spent when that lands or is lost. It can't be dropped.
 pub struct Ticket {
-    pub(crate) number: u64,
+    pub(crate) number: FlightId,
 }
 
 impl Model for Ticket {
@@ -17,7 +18,7 @@ impl Model for Ticket {
 }
 
 impl Ticket {
-    pub fn number(&self) -> u64
+    pub fn number(&self) -> FlightId
         ensures { result ≡ self.now }
     {
         self.number

@@ -12,7 +12,7 @@ use Rattle.cover_rules.specs.declared.page.PageKey.{PageKey}
 use Rattle.flights.specs.declared.flight.Flight.{Flight}
 use Rattle.flights.specs.Flights.{numbers_of}
 use Rattle.cache_log.specs.Entries.{LogEntry, Session}
-use Rattle.cache_log.specs.Ids.{FlightId}
+use Rattle.cache_ids.specs.Ids.{FlightId}
 use Rattle.coherence_core.specs.Cores.{StandsOver, flight_labels, flights_of, flushes_of}
 use Rattle.coherence_core.specs.Holds.{HoldsClosed, files_counted}
 use Rattle.coherence_core.specs.Openings.{IsCleared, IsCoreOpened, OpensCore}

@@ -6,7 +6,7 @@ use Rattle.std.proofs.lemmas.Map.{update_here}
 use Rattle.std.proofs.lemmas.Bool.Decides.{nat_tests}
 use Rattle.error_answers.specs.Errors.{error_answer}
 use Rattle.sp_base.specs.Requests.{Request}
-use Rattle.cache_log.specs.Ids.{FlushId}
+use Rattle.cache_ids.specs.Ids.{FlushId}
 use Rattle.http_front.specs.Faults.{fault_status, insufficient_storage}
 use Rattle.http_front.specs.declared.fault.InFault.{InFault}
 use Rattle.http_front.specs.declared.turn.Turn.TheVariants.{Whole}

@@ -7,7 +7,7 @@ use Rattle.error_answers.specs.Errors.{error_answer}
 use Rattle.http_front.specs.Faults.{insufficient_storage}
 use Rattle.sp_outside.specs.Files.{Files}
 use Rattle.cache_log.specs.Entries.{Done as done_outcome, Ended as ended_entry, Failed as failed_outcome, LogEntry, FlushOutcome, Sliced as sliced_entry, flights_asked, flushes_begun}
-use Rattle.cache_log.specs.Ids.{FlushId}
+use Rattle.cache_ids.specs.Ids.{FlushId}
 use Rattle.cache_log.specs.Rules.{CallConditions}
 use Rattle.coherence_core.specs.Cores.{ExtendsCore, KeepsFarm, CoreStandsFor, flight_labels, flights_of, flushes_of}
 use Rattle.coherence_core.specs.Flushes.{PurgedAs, purged_entries, purged_under}

@@ -10,7 +10,7 @@ use Rattle.http_front.specs.Turns.{End}
 use Rattle.http_front.specs.declared.fault.InFault.{InFault}
 use Rattle.http_front.specs.declared.turn.Turn.{Turn}
 use Rattle.http_front.specs.declared.turn.Turn.TheVariants.{Whole}
-use Rattle.cache_log.specs.Ids.{FlushId}
+use Rattle.cache_ids.specs.Ids.{FlushId}
 use Rattle.connections.specs.Connections.{Connection, Close, Nothing, Refuse, Treat, due_without_sending, is_crowded}
 use Rattle.connections.specs.Connections as model
 use Rattle.connections.specs.Ids.{ConnectionId}

@@ -12,7 +12,7 @@ use Rattle.dispatch_rules.specs.Caching.{cache_key}
 use Rattle.flights.specs.Flights.{numbers_of}
 use Rattle.http_front.specs.declared.turn.Turn.TheVariants.{Whole}
 use Rattle.cache_log.specs.Entries.{flights_asked, flushes_begun}
-use Rattle.cache_log.specs.Ids.{FlightId, FlushId}
+use Rattle.cache_ids.specs.Ids.{FlightId, FlushId}
 use Rattle.coherence_core.specs.Cores.{FlightsRise, CoreStandsFor, farm_of, flight_labels, flights_of, flushes_of}
 use Rattle.coherence_core.specs.declared.core_state.Core.{Core}
 use Rattle.connections.specs.AnswerQueues.{ReplyStandsFor}

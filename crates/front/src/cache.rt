@@ -15,7 +15,7 @@ use crate::ticketed::{TicketedFlight, new_flight};
 use any_config::Farm;
 use cache_files::OpenFault;
 use coherence_core::{Core, Got, Requested};
-use connections::{ConnectionId, FlightId, FlushId};
+use connections::ConnectionId;
 use flights::tickets_have_the_places_of_their_flights;
 use http_front::INSUFFICIENT_STORAGE;
 use run_events::{Conditions, Flushing};
@@ -97,7 +97,7 @@ impl Cache {
         let conditions = with_memory(disk_failed);
         match got {
             Got::Asked(ticket, key) => {
-                let number = FlightId::new(ticket.number());
+                let number = ticket.number();
                 let flying = new_flight(number, c, request);
                 self.flights
                     .push_reserved(TicketedFlight { ticket, flying });
@@ -105,7 +105,6 @@ impl Cache {
             }
             Got::Flush(number, inv) => {
                 let_go(request);
-                let number = FlushId::new(number);
                 self.flushes.push_reserved(Flushing {
                     number,
                     connection: c,

@@ -2,6 +2,7 @@
 ghost use Rattle.std.specs.Prelude.{◌≡◌, ◌<◌, ℕ, None};
 ghost use Rattle.flights.specs.Flights.{flight_at};
 
+use cache_ids::FlightId;
 use cover_rules::Stamp;
 use flights::{AskFault, Flight, Flights, a_flight_is_there_until_its_ticket_is_spent};
 
@@ -10,7 +11,7 @@ fn unkeyed(number: u64) -> Flight
     ensures key { result.key ≡ None }
 {
     Flight {
-        number,
+        number: FlightId::new(number),
         key: None,
         auto: false,
         stamp: Stamp { epoch: 1, count: 1 },

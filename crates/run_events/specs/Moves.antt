@@ -15,7 +15,7 @@ use Rattle.http_front.specs.Faults.{fault_status, insufficient_storage}
 use Rattle.http_front.specs.declared.turn.Turn.{Turn}
 use Rattle.http_front.specs.declared.turn.Turn.TheVariants.{Continue, Whole}
 use Rattle.cache_log.specs.Entries.{LogEntry, Asked, Landed, Lost as lost_entry, Begun, Sliced as sliced_entry, Ended, Hit as hit_entry, Up as up_entry, Down as down_entry, Fate, Kept as kept_fate, Unkept as unkept_fate, Passed as passed_fate, FlushOutcome, Done as done_outcome, Failed as failed_outcome}
-use Rattle.cache_log.specs.Ids.{FlightId, FlushId}
+use Rattle.cache_ids.specs.Ids.{FlightId, FlushId}
 use Rattle.connections.specs.declared.awaited.Awaited.TheVariants.{Flight as flight_awaited, Flush as flush_awaited}
 use Rattle.connections.specs.Slots.{Slot, Response, Awaits, Cached, Says, IsWritten, local_response, request_slot, fault_slot, fixed_answer}
 use Rattle.connections.specs.Connections.{Connection, Due, Send, Treat, Refuse, Close, Nothing, with_due_continue, is_crowded, with_slot, with_end, with_sent}

@@ -4,7 +4,7 @@ use Rattle.std.specs.List.{list_any}
 use Rattle.resource_tree.specs.Content.{Content}
 use Rattle.any_config.specs.declared.farm.Farm.{Farm}
 use Rattle.cache_log.specs.Entries.{LogEntry, flights_asked}
-use Rattle.cache_log.specs.Ids.{FlushId}
+use Rattle.cache_ids.specs.Ids.{FlushId}
 use Rattle.connections.specs.Connections.{Connection}
 use Rattle.connections.specs.Ids.{ConnectionId}
 use Rattle.run_events.specs.declared.flying.Flying.{Flying}

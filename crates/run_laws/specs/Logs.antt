@@ -8,7 +8,7 @@ use Rattle.cover_rules.specs.declared.invalidation.Invalidation.{Invalidation}
 use Rattle.cache_log.specs.Entries.{Kept, Unkept, Passed, Done, Fate, LogEntry, Asked, Landed, Begun, Ended, Hit, Session}
 use Rattle.cache_log.specs.Flown.{IsLanding, IsOwedHit, IsUnfinishedFlush}
 use Rattle.cache_log.specs.Hits.{Covers}
-use Rattle.cache_log.specs.Ids.{FlightId, FlushId}
+use Rattle.cache_ids.specs.Ids.{FlightId, FlushId}
 use Rattle.cache_log.specs.Rules.{AllAllowed, CallConditions, IsLegal, IsOwed}
 use Rattle.connections.specs.Ids.{ConnectionId}
 use Rattle.connections.specs.Slots.{IsHit}

@@ -8,7 +8,7 @@ use Rattle.cover_rules.specs.declared.invalidation.Invalidation.{Invalidation}
 use Rattle.cache_log.specs.Entries.{Passed, Done, Fate, LogEntry, Asked, Landed, Begun, Ended, Hit}
 use Rattle.cache_log.specs.Flown.{IsUnfinishedFlush}
 use Rattle.cache_log.specs.Hits.{Covers}
-use Rattle.cache_log.specs.Ids.{FlightId, FlushId}
+use Rattle.cache_ids.specs.Ids.{FlightId, FlushId}
 use Rattle.cache_log.specs.Rules.{IsLegal, KeepsBound}
 use Rattle.coherence_core.specs.Holds.{HoldsClosed, files_counted}
 use Rattle.connections.specs.Slots.{IsHit}

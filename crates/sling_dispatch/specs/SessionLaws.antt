@@ -6,7 +6,7 @@ use Rattle.cover_rules.specs.declared.invalidation.Invalidation.{Invalidation}
 use Rattle.cache_log.specs.Entries.{Passed, Done, Fate, LogEntry, Asked, Landed, Begun, Ended, Hit}
 use Rattle.cache_log.specs.Flown.{IsUnfinishedFlush}
 use Rattle.cache_log.specs.Hits.{Covers}
-use Rattle.cache_log.specs.Ids.{FlightId, FlushId}
+use Rattle.cache_ids.specs.Ids.{FlightId, FlushId}
 use Rattle.cache_log.specs.Rules.{IsLegal}
 use Rattle.connections.specs.Slots.{IsHit}
 use Rattle.run_events.specs.Events.{Event, state_after_events, state_before_notes, notes_of}

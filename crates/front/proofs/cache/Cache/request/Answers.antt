@@ -43,13 +43,13 @@ returns-in-NoMemory-clause-given g c = rw (← c.self.view_is, c.reserve.ensures
 pub returns-in-Flush-clause-given : goal.returns-in-Flush-clause-given
 returns-in-Flush-clause-given g c = rw (← c.self.view_is, c.reserve.ensures.items) (λ w asks. is-begun (behind (record { core = c.self.inside.core; flying = flying_of c.self.inside.flights.items; flushes = c.self.inside.flushes.items }) (g.D.Disk.files c.args.disk.now) (g.D.Disk.faults c.args.disk.now)) c.request-got.new.self (g.D.Disk.files c.request-got.new.disk) (g.D.Disk.faults c.request-got.new.disk) w c.args.c c.in-Flush.number c.args.request c.args.peer.now c.request-got.result.disk_failed c.in-Flush.inv c.is_empty-slices.result c.begun.result c.push_reserved-in-Flush.new.self.items asks
     (core-got (behind (record { core = c.self.inside.core; flying = flying_of c.self.inside.flights.items; flushes = c.self.inside.flushes.items }) (g.D.Disk.files c.args.disk.now) (g.D.Disk.faults c.args.disk.now)) c.request-got.new.self (g.D.Disk.files c.request-got.new.disk) (g.D.Disk.faults c.request-got.new.disk) c.args.request c.args.peer.now c.request-got.result (got.Flush c.in-Flush.number c.in-Flush.inv) c.in-Flush.is c.request-got.ensures.log (subst (λ p. (found : ℕ) (log : List LogEntry) → CoreStandsFor found (g.D.Disk.files c.args.disk.now) c.self.inside.core log → GotAs c.self.inside.core log c.args.request p c.request-got.result.disk_failed c.request-got.result.got) c.text.ensures c.request-got.ensures.cause) c.request-got.ensures.disk_failed c.request-got.ensures.labels c.request-got.ensures.flushes c.request-got.ensures.kept)
-    (c.push_reserved-in-Flush.ensures.items ∙ ap (λ (fs : List Flushing). fs ++ record { number = c.new-number-in-Flush.result; connection = c.args.c } ∷ []) c.reserve-else-is_err.ensures.items ∙ rw c.new-number-in-Flush.ensures refl) (c.is_empty-slices.ensures ∙ ap (λ n. n == 0) c.self.inside.flushes.ok.0) (c.begun.ensures ∙ rw (c.new-number-in-Flush.ensures, c.with_memory-conditions.ensures) refl))
+    (c.push_reserved-in-Flush.ensures.items ∙ ap (λ (fs : List Flushing). fs ++ record { number = c.in-Flush.number; connection = c.args.c } ∷ []) c.reserve-else-is_err.ensures.items) (c.is_empty-slices.ensures ∙ ap (λ n. n == 0) c.self.inside.flushes.ok.0) (c.begun.ensures ∙ rw c.with_memory-conditions.ensures refl))
 
 pub returns-in-Asked-clause-given : goal.returns-in-Asked-clause-given
 returns-in-Asked-clause-given g c = rw (← c.self.view_is, c.reserve-else-is_err.ensures.items) (λ w asks. is-asked (behind (record { core = c.self.inside.core; flying = flying_of c.self.inside.flights.items; flushes = c.self.inside.flushes.items }) (g.D.Disk.files c.args.disk.now) (g.D.Disk.faults c.args.disk.now)) c.request-got.new.self (g.D.Disk.files c.request-got.new.disk) (g.D.Disk.faults c.request-got.new.disk) w c.args.c c.in-Asked.ticket c.args.request c.args.peer.now c.request-got.result.disk_failed c.in-Asked.key c.asked.result (flying_of c.push_reserved.new.self.items) asks
     (core-got (behind (record { core = c.self.inside.core; flying = flying_of c.self.inside.flights.items; flushes = c.self.inside.flushes.items }) (g.D.Disk.files c.args.disk.now) (g.D.Disk.faults c.args.disk.now)) c.request-got.new.self (g.D.Disk.files c.request-got.new.disk) (g.D.Disk.faults c.request-got.new.disk) c.args.request c.args.peer.now c.request-got.result (got.Asked c.in-Asked.ticket c.in-Asked.key) c.in-Asked.is c.request-got.ensures.log (subst (λ p. (found : ℕ) (log : List LogEntry) → CoreStandsFor found (g.D.Disk.files c.args.disk.now) c.self.inside.core log → GotAs c.self.inside.core log c.args.request p c.request-got.result.disk_failed c.request-got.result.got) c.text.ensures c.request-got.ensures.cause) c.request-got.ensures.disk_failed c.request-got.ensures.labels c.request-got.ensures.flushes c.request-got.ensures.kept)
-    (kept-flying c.self.inside.flights.items c.push_reserved.new.self.items c.in-Asked.ticket c.new_flight-flying.result _ (c.push_reserved.ensures.items ∙ ap (λ (fs : List TicketedFlight). fs ++ record { ticket = c.in-Asked.ticket; flying = c.new_flight-flying.result } ∷ []) c.reserve.ensures.items) (c.new_flight-flying.ensures ∙ rw (c.new-number.ensures, c.number.ensures) refl))
-    (c.asked.ensures ∙ rw (c.new-number.ensures, c.number.ensures, c.with_memory-conditions.ensures) refl))
+    (kept-flying c.self.inside.flights.items c.push_reserved.new.self.items c.in-Asked.ticket c.new_flight-flying.result _ (c.push_reserved.ensures.items ∙ ap (λ (fs : List TicketedFlight). fs ++ record { ticket = c.in-Asked.ticket; flying = c.new_flight-flying.result } ∷ []) c.reserve.ensures.items) (c.new_flight-flying.ensures ∙ rw c.number-number.ensures refl))
+    (c.asked.ensures ∙ rw (c.number-number.ensures, c.with_memory-conditions.ensures) refl))
 
 pub returns-then-is_err-clause-given : goal.returns-then-is_err-clause-given
 returns-then-is_err-clause-given g c = λ w asks.

@@ -1,4 +1,4 @@
--- The numbers of what the log of a cache has many of.
+-- The numbers of what a cache has many of.
 use Rattle.std.specs.Prelude.{ℕ}
 
 -- the number of a flight

@@ -61,7 +61,7 @@ fn find_in_content(
         Err(ContentFault::NoMemory) => Err(NoMemory),
         Err(fault) => {
             found.faults = found.faults.saturating_add(1);
-            push_content_fault(&mut found.text, &fault)
+            push_content_fault(alloc, &mut found.text, &fault)
         }
     }
 }
@@ -129,7 +129,7 @@ fn find_in_farm(found: &mut Findings, alloc: Global, text: &[u8], top: &AnyNode)
         Err(FarmFault::NoMemory) => Err(NoMemory),
         Err(fault) => {
             found.faults = found.faults.saturating_add(1);
-            push_farm_fault(&mut found.text, &fault)?;
+            push_farm_fault(alloc, &mut found.text, &fault)?;
             add_warnings(found, &member_warnings(alloc, text, top)?)
         }
     }

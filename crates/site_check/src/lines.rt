@@ -60,29 +60,10 @@ fn told_of(fault: ScriptFault) -> (usize, &'static str) {
     }
 }
 
-fn push_at_path(out: &mut Vec<u8>, name: &[u8], path: &Path) -> Mem<()> {
-    push(out, name)?;
-    push(out, b" at ")?;
-    push_shown(out, path.as_text().as_bytes())
-}
-
-fn push_cause(out: &mut Vec<u8>, fault: &ContentFault) -> Mem<()> {
-    match fault {
-        ContentFault::NotJson => push(out, b"NotJson"),
-        ContentFault::NotObject => push(out, b"NotObject"),
-        ContentFault::BadName(path) => push_at_path(out, b"BadName", path),
-        ContentFault::BadNumber(path) => push_at_path(out, b"BadNumber", path),
-        ContentFault::MixedArray(path) => push_at_path(out, b"MixedArray", path),
-        ContentFault::BadOrder(path) => push_at_path(out, b"BadOrder", path),
-        ContentFault::TooBig => push(out, b"TooBig"),
-        ContentFault::NoMemory => Ok(()),
-    }
-}
-
-/// Why the content is refused.
-pub fn push_content_fault(out: &mut Vec<u8>, fault: &ContentFault) -> Mem<()> {
+/// Why the content is refused. The paths in the fault's text are shown.
+pub fn push_content_fault(alloc: Global, out: &mut Vec<u8>, fault: &ContentFault) -> Mem<()> {
     push(out, b"fault: content refused: ")?;
-    push_cause(out, fault)?;
+    push_shown(out, format!(in alloc; "{fault}")?.as_bytes())?;
     push(out, b"\n")
 }
 
@@ -126,21 +107,12 @@ pub fn push_any_fault(alloc: Global, out: &mut Vec<u8>, text: &[u8], fault: AnyF
     }
 }
 
-fn push_member(out: &mut Vec<u8>, cause: &[u8], member: &str) -> Mem<()> {
-    push(out, b"fault: farm refused: ")?;
-    push(out, cause)?;
-    push(out, member.as_bytes())?;
-    push(out, b"\n")
-}
-
 /// Why the file has no farm that can be used.
-pub fn push_farm_fault(out: &mut Vec<u8>, fault: &FarmFault) -> Mem<()> {
-    match fault {
-        FarmFault::Missing(member) => push_member(out, b"Missing ", member.text()),
-        FarmFault::BadKind(member) => push_member(out, b"BadKind ", member.text()),
-        FarmFault::NotSupported(member) => push_member(out, b"NotSupported ", member.text()),
-        FarmFault::NoMemory => Ok(()),
-    }
+pub fn push_farm_fault(alloc: Global, out: &mut Vec<u8>, fault: &FarmFault) -> Mem<()> {
+    push(
+        out,
+        format!(in alloc; "fault: farm refused: {fault}\n")?.as_bytes(),
+    )
 }
 
 fn push_number(
@@ -163,10 +135,7 @@ pub fn push_counts(alloc: Global, out: &mut Vec<u8>, faults: usize, warnings: us
 /// The line of a file that wasn't read.
 pub fn unread_line(alloc: Global, fault: InputFault, name: &str) -> Mem<Vec<u8>> {
     let mut line = Vec::new(alloc);
-    match fault {
-        InputFault::TooLong => push(&mut line, b"input too long: ")?,
-        _ => push(&mut line, b"input failed: ")?,
-    }
+    push(&mut line, format!(in alloc; "{fault}: ")?.as_bytes())?;
     push_shown(&mut line, name.as_bytes())?;
     push(&mut line, b"\n")?;
     Ok(line)

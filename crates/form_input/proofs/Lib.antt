@@ -1,7 +1,6 @@
 pub mod LineLemmas
 pub mod LineLawLemmas
 pub mod ParameterLemmas
-pub mod SpellingLemmas
 pub mod BoundaryLemmas
 pub mod PartLemmas
 pub mod FormLemmas

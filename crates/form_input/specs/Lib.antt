@@ -1,7 +1,6 @@
 pub mod Lines
 pub mod LineLaws
 pub mod Parameters
-pub mod Spelling
 pub mod Multipart
 pub mod Boundaries
 pub mod Bodies

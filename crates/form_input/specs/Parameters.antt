@@ -1,7 +1,7 @@
 -- The value of a header field with parameters, `TYPE; NAME=WORD; NAME="WORD"` (RFC 9110, section 5.6.6; RFC 2183, section 2).
 -- `pieces_left` is needed by private functions and proofs alone.
 use Rattle.std.specs.Prelude.{◌==◌, ◌&&◌, ℕ, Bool, false, true, if◌then◌else◌, List, [], ◌∷◌, Option, Some, None, length, drop, take, slice_index, slice_index_or}
-use Rattle.std.specs.List.{list_all, onto_first}
+use Rattle.std.specs.List.{onto_first}
 use Rattle.std.specs.Str.{str_eq_ignore_ascii_case}
 use Rattle.sp_base.specs.Texts.{Text}
 use Rattle.form_input.specs.declared.parameters.Quoting.{Quoting}
@@ -64,12 +64,12 @@ abbrev pub with_byte : ℕ → Option (List ℕ) → Option (List ℕ)
 with_byte b None = None
 with_byte b (Some word) = Some (b ∷ word)
 
--- the word that stands before a closing quote, where nothing but blanks follows it
+-- the word that stands before a closing quote; what follows that is passed over
 unfoldable pub word_in_quotes : Bool → List ℕ → Option (List ℕ)
 word_in_quotes escaped [] = None
 word_in_quotes true (b ∷ text) = with_byte b (word_in_quotes false text)
 word_in_quotes false (b ∷ text) = if b == 92 then word_in_quotes true text
-    else (if b == 34 then (if list_all is_space_or_tab text then Some [] else None)
+    else (if b == 34 then Some []
     else with_byte b (word_in_quotes false text))
 
 -- the word of a parameter, plain or in quotes

@@ -1,7 +1,5 @@
 //! What a form and a multipart body are: laws of the definitions, on functions that do nothing.
-ghost use Rattle.std.specs.Prelude.{◌≡◌, ℕ, List, Ok, Err, true};
-ghost use Rattle.std.specs.Str.{str_eq_ignore_ascii_case};
-ghost use Rattle.sp_base.specs.Texts.{Text};
+ghost use Rattle.std.specs.Prelude.{◌≡◌, ℕ, List, Ok, Err};
 ghost use Rattle.form_input.specs.declared.fault.FormFault.{FormFault};
 ghost use Rattle.form_input.specs.Bodies.{HasPairs};
 ghost use Rattle.form_input.specs.BodyFaults.{IsBodyFault};
@@ -9,8 +7,6 @@ ghost use Rattle.form_input.specs.FormLaws.{FormsAreRefusedForCauses};
 ghost use Rattle.form_input.specs.LineLaws.{AreLinesOf};
 ghost use Rattle.form_input.specs.Lines.{lines_text, lines};
 ghost use Rattle.form_input.specs.Multipart.{multipart_of};
-ghost use Rattle.form_input.specs.Parameters.{is_type, parameter};
-ghost use Rattle.form_input.specs.Spelling.{is_name_byte, is_token_byte, word_named, FieldPiece, IsFieldOf, IsName};
 
 /// A body reads as pairs exactly where it is a preamble, at most 1,000 parts that each stand after a boundary line and have a pair, a closing
 /// boundary line and an epilogue. The lines of a body, each with its end, are the body.
@@ -37,13 +33,4 @@ pub fn forms_are_refused_for_causes()
 pub fn lines_are_cut_at_their_ends()
     ensures found { (text : List ℕ) → AreLinesOf text (lines text) }
     ensures only { (text : List ℕ) (ls : List (List ℕ)) → AreLinesOf text ls → ls ≡ lines text }
-{}
-
-/// A field that its grammar spells is read as that grammar has it, whatever stands in its quotes: its type is the one that is spelled, and
-/// the word of a name is that of the first parameter with the name, in either case, of which each byte after a backslash stands for itself.
-/// A token is a name.
-pub fn parameters_are_as_they_are_spelled()
-    ensures field_type { (word text type : Text) (pieces : List FieldPiece) → IsFieldOf text type pieces → is_type word text ≡ str_eq_ignore_ascii_case type word }
-    ensures word { (name text type : Text) (pieces : List FieldPiece) → IsFieldOf text type pieces → IsName name → parameter name text ≡ word_named name pieces }
-    ensures token { (b : ℕ) → is_token_byte b ≡ true → is_name_byte b ≡ true }
 {}

@@ -14,5 +14,5 @@ pub use fault::FormFault;
 pub use form::{Form, MOST_PAIRS, read_form};
 pub use laws::{
     bodies_are_refused_for_their_first_fault, forms_are_refused_for_causes,
-    lines_are_cut_at_their_ends, parameters_are_as_they_are_spelled, the_parts_are_the_body,
+    lines_are_cut_at_their_ends, the_parts_are_the_body,
 };

@@ -151,7 +151,7 @@ pub fn after_name<'a>(separator: u8, name: &[u8], text: &'a [u8]) -> Option<&'a 
     }
 }
 
-// The word before a closing quote.
+// The word before the first closing quote, whatever follows that.
 #[tactic(auto, using(crate::proofs::ParameterLemmas::before_word_more, crate::proofs::ParameterLemmas::before_word_none), unfolding(crate::specs::Parameters::word_in_quotes))]
 fn unquoted(alloc: Global, text: &[u8]) -> Result<Option<Vec<u8>>, AllocError>
     ensures { IfOk result (λ o. option_map (λ v. v.items) o ≡ spec.word_in_quotes false text.now) }
@@ -167,7 +167,7 @@ fn unquoted(alloc: Global, text: &[u8]) -> Result<Option<Vec<u8>>, AllocError>
         } else if *b == b'\\' {
             escaped = true;
         } else if *b == b'"' {
-            return Ok(if all_blank(more) { Some(word) } else { None });
+            return Ok(Some(word));
         } else {
             word.push(*b)?;
         }

@@ -7,7 +7,5 @@ pub mod SetLemmas
 pub mod SpotPlaceLemmas
 pub mod NumberLemmas
 pub mod RelativeLemmas
-pub mod DotLemmas
-pub mod DotsAlone
 pub mod SlashLemmas
 pub mod NamedPaths

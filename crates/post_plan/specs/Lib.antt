@@ -2,7 +2,6 @@ pub mod Parameters
 pub mod Hints
 pub mod RelativePaths
 pub mod Spots
-pub mod DotSegments
 pub mod NewNames
 pub mod MadeNames
 pub mod Entries

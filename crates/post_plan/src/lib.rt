@@ -26,9 +26,7 @@ mod word_list;
 mod words;
 
 pub use fault::PlanFault;
-pub use laws::{
-    made_names_are_their_words_runs, operations_name_paths, relative_names_are_resolved,
-};
+pub use laws::{made_names_are_their_words_runs, operations_name_paths};
 pub use operation::{CarryOp, ModifyOp, NameWish, Op, PropSet, SetList};
 pub use planning::plan;
 pub use spot::{Carry, CarryList, Spot, SpotList};

@@ -1,4 +1,4 @@
--- The removal of dot segments from the text of a path (RFC 3986, section 5.2.4), as a relation on the input, the output so far and what comes
+-- The removal of dot segments from the text of a path that begins with a slash (RFC 3986, section 5.2.4), as a relation on the input, the output so far and what comes
 -- out in the end.
 use Rattle.std.specs.Prelude.{◌≡◌, ◌==◌, ◌⊎◌, ℕ, Bool, true, false, List, [], ◌∷◌, ◌++◌, codes, flat_map}
 use Rattle.sp_base.specs.Texts.{Segments, Text}

@@ -1,5 +1,5 @@
-use Rattle.form_input.proofs.SpellingLemmas.{type_is, word_is, tokens_are_names}
-use Rattle.form_input.proofs.laws.parameters_are_as_they_are_spelled.Goals as goal
+use Rattle.form_laws.proofs.SpellingLemmas.{type_is, word_is, tokens_are_names}
+use Rattle.form_laws.proofs.laws.parameters_are_as_they_are_spelled.Goals as goal
 
 pub returns-clause-field_type : goal.returns-clause-field_type
 returns-clause-field_type c = type_is

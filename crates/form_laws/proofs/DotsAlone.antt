@@ -2,7 +2,7 @@
 use Rattle.std.proofs.Common.{◌≡◌, ◌==◌, ◌⊎◌, inl, inr, ℕ, Bool, true, false, ◌||◌, eqb, List, [], ◌∷◌, ◌++◌, codes, refl, ap, sym, ◌∙◌, subst}
 use Rattle.std.proofs.lemmas.Bool.{or_parts}
 use Rattle.sp_base.specs.Paths.{has_slash, is_dots}
-use Rattle.post_plan.specs.DotSegments.{ends_segment, HasFirstSegment, or_slash, EndsInSegment, IsWithoutLast, RemovesDots}
+use Rattle.form_laws.specs.DotSegments.{ends_segment, HasFirstSegment, or_slash, EndsInSegment, IsWithoutLast, RemovesDots}
 
 same_parts : (one other rest more : List ℕ) → has_slash one ≡ false → has_slash other ≡ false → ends_segment rest ≡ true → ends_segment more ≡ true → one ++ rest ≡ other ++ more → (one ≡ other) × (rest ≡ more)
 same_parts [] [] rest more w v e f same = (refl, same)

@@ -10,8 +10,8 @@ use Rattle.std.specs.Str.{str_eq_ignore_ascii_case, bytes_eq}
 use Rattle.form_input.specs.declared.parameters.Quoting.{Quoting}
 use Rattle.form_input.specs.declared.parameters.Quoting.TheVariants.{Outside, Inside}
 use Rattle.form_input.specs.Parameters.{is_space_or_tab, after_blanks, before_blanks, trimmed_text, quoting_step, separates, parameter_pieces_from, parameter_pieces, is_type, after_separator, after_name, word_in_quotes, parameter_word, word_or, parameter_word_in, parameter}
-use Rattle.form_input.specs.Spelling as spelled
-use Rattle.form_input.specs.Spelling.{is_bare_byte, is_name_byte, QuotedByte, byte_spelling, meant_byte, is_quoted_byte, ParameterValue, value_spelling, meant_word, is_parameter_value, FieldParameter, parameter_spelling, is_parameter, FieldPiece, piece_spelling, is_field_piece, pieces_spelling, IsFieldOf, word_named}
+use Rattle.form_laws.specs.Spelling as spelled
+use Rattle.form_laws.specs.Spelling.{is_bare_byte, is_name_byte, QuotedByte, byte_spelling, meant_byte, is_quoted_byte, ParameterValue, value_spelling, meant_word, is_parameter_value, FieldParameter, parameter_spelling, is_parameter, FieldPiece, piece_spelling, is_field_piece, pieces_spelling, IsFieldOf, word_named}
 use Rattle.form_input.proofs.ParameterLemmas.{with_prefix, with_prefix_none, piece_goes_on, piece_ends, piece_last}
 
 -- ---- what is known of a byte
@@ -199,14 +199,14 @@ none_named (d ∷ name) = refl
 
 -- ---- words
 
-quoted_word : (bs : List QuotedByte) (after : List ℕ) → list_all is_quoted_byte bs ≡ true → list_all is_space_or_tab after ≡ true → word_in_quotes false ((flat_map byte_spelling bs ++ 34 ∷ []) ++ after) ≡ Some (map meant_byte bs)
+quoted_word : (bs : List QuotedByte) (after : List ℕ) → list_all is_quoted_byte bs ≡ true → word_in_quotes false ((flat_map byte_spelling bs ++ 34 ∷ []) ++ after) ≡ Some (map meant_byte bs)
 unfolding word_in_quotes
-quoted_word [] after e f = rw f refl
-quoted_word (QuotedByte.Plain b ∷ bs) after e f =
+quoted_word [] after e = refl
+quoted_word (QuotedByte.Plain b ∷ bs) after e =
     let both = and_parts (is_quoted_byte (QuotedByte.Plain b)) (list_all is_quoted_byte bs) e in
     let parts = or_parts (eqb b 34) (eqb b 92) (not-true (eqb b 34 || eqb b 92) both.0) in
-    rw (parts.0, parts.1, quoted_word bs after both.1 f) refl
-quoted_word (QuotedByte.Escaped b ∷ bs) after e f = rw (quoted_word bs after e f) refl
+    rw (parts.0, parts.1, quoted_word bs after both.1) refl
+quoted_word (QuotedByte.Escaped b ∷ bs) after e = rw (quoted_word bs after e) refl
 
 begins_bare : (w after : List ℕ) → list_all is_bare_byte w ≡ true → list_all is_space_or_tab after ≡ true → eqb (slice_index (w ++ after) 0) 34 ≡ false
 begins_bare [] [] e f = refl
@@ -215,7 +215,7 @@ begins_bare (b ∷ w) after e f = no_quote b (and_parts (is_bare_byte b) (list_a
 
 value_word : (v : ParameterValue) (after : List ℕ) → is_parameter_value v ≡ true → list_all is_space_or_tab after ≡ true → parameter_word (value_spelling v ++ after) ≡ Some (meant_word v)
 value_word (ParameterValue.Bare w) after e f = rw (begins_bare w after e f) (ap Some (before_cuts w after e f))
-value_word (ParameterValue.Quoted bs) after e f = quoted_word bs after e f
+value_word (ParameterValue.Quoted bs) after e f = quoted_word bs after e
 
 -- what is read of a piece, before what is read of the others
 abbrev piece_word : List ℕ → Option FieldParameter → Option (List ℕ) → Option (List ℕ)

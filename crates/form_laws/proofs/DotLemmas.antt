@@ -13,7 +13,7 @@ use Rattle.post_plan.specs.RelativePaths.{RelativePath, relative_parent, relativ
 use Rattle.post_plan.specs.declared.spot.Spot.{Spot}
 use Rattle.post_plan.specs.Spots.{led_to, is_absolute, ends_in_name, spot_there, spot_below, relative_spot, full_path, if_changeable, any_spot, spot_of, goal_base}
 use Rattle.resource_tree.specs.MergeRoots.{is_merged_path}
-use Rattle.post_plan.specs.DotSegments.{slashed, ends_segment, HasFirstSegment, or_slash, EndsInSegment, IsWithoutLast, RemovesDots}
+use Rattle.form_laws.specs.DotSegments.{slashed, ends_segment, HasFirstSegment, or_slash, EndsInSegment, IsWithoutLast, RemovesDots}
 
 -- ---- segments and their text
 

@@ -1,6 +1,6 @@
-use Rattle.post_plan.proofs.DotLemmas.{spots_are_resolved, goals_are_resolved}
-use Rattle.post_plan.proofs.DotsAlone.{one_outcome}
-use Rattle.post_plan.proofs.laws.relative_names_are_resolved.Goals as goal
+use Rattle.form_laws.proofs.DotLemmas.{spots_are_resolved, goals_are_resolved}
+use Rattle.form_laws.proofs.DotsAlone.{one_outcome}
+use Rattle.form_laws.proofs.laws.relative_names_are_resolved.Goals as goal
 
 pub returns-clause-spot : goal.returns-clause-spot
 returns-clause-spot c = λ node text spot is. spots_are_resolved node text spot is.path is.relative

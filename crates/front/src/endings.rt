@@ -83,7 +83,7 @@ impl Cache {
         }
         let flush = self.flushes[0];
         let purged = self.core.purge_step(alloc, disk);
-        leave_unfinished(&mut self.flushes, purged);
+        leave_unfinished(&mut self.flushes, &purged);
         slice_end(flush, purged)
     }
 }
@@ -106,8 +106,8 @@ fn rendered_answer(flying: Flying) -> Answer
 }
 
 // Leaves the flushes that are unfinished after a slice of the oldest.
-fn leave_unfinished(flushes: &mut Vec<Flushing>, purged: Purged)
-    ensures { flushes.new.items ≡ left_after purged flushes.old.items }
+fn leave_unfinished(flushes: &mut Vec<Flushing>, purged: &Purged)
+    ensures { flushes.new.items ≡ left_after purged.now flushes.old.items }
 {
     if ends(purged) && !flushes.is_empty() {
         flushes.remove(0);
@@ -134,8 +134,8 @@ fn landing_end(number: FlightId, connection: ConnectionId, answer: Answer, lande
 }
 
 // Whether the slice ended its flush.
-fn ends(purged: Purged) -> bool
-    ensures { result ≡ is_ending purged }
+fn ends(purged: &Purged) -> bool
+    ensures { result ≡ is_ending purged.now }
 {
     match purged {
         Purged::Idle | Purged::More(_) => false,

@@ -41,7 +41,7 @@ impl Core {
             return Purged::Idle;
         }
         let purged = slice_first(&mut self.queue, alloc, disk);
-        retire(purged, &mut self.queue);
+        retire(&mut self.queue, &purged);
         purged
     }
 }
@@ -63,9 +63,9 @@ fn slice_first<D: Disk>(queue: &mut Vec<Pending>, alloc: Global, disk: &mut D) -
 }
 
 // Takes the oldest flush out of the queue, where it has ended.
-fn retire(purged: Purged, queue: &mut Vec<Pending>)
+fn retire(queue: &mut Vec<Pending>, purged: &Purged)
     requires { 0 < length queue.old.items }
-    ensures { queue.new.items ≡ flushes_left_by purged queue.old.items }
+    ensures { queue.new.items ≡ flushes_left_by purged.now queue.old.items }
 {
     match purged {
         Purged::Idle | Purged::More(_) => {}

@@ -8,6 +8,8 @@ use Rattle.resource_tree.specs.declared.nodes.Node.{Node}
 use Rattle.resource_tree.specs.declared.patch.PatchNode.{PatchNode}
 use Rattle.resource_tree.specs.Content.{Content, kid, node_at, prop_at, same_path}
 use Rattle.resource_tree.specs.Patches as patches
+use Rattle.url_maps.specs.declared.siblings.Naming.{Naming}
+use Rattle.url_maps.specs.declared.siblings.Naming.TheVariants.{First, Nobody}
 use Rattle.url_maps.specs.Claims.{ClaimRows, claimants, first_claimant, claims_by}
 use Rattle.url_maps.specs.Noting.{has_row}
 use Rattle.sp_base.specs.Properties.{value_texts}
@@ -16,6 +18,11 @@ use Rattle.sp_base.specs.Properties.{value_texts}
 abbrev pub or_else : List Segments → List Segments → List Segments
 or_else [] others = others
 or_else (path ∷ paths) others = path ∷ paths
+
+-- whether the first kid that claims a text is to be named
+abbrev pub names_first : Naming → Bool
+names_first First = true
+names_first Nobody = false
 
 -- a path, where it is to be named
 abbrev pub path_if : Bool → Segments → Option Segments

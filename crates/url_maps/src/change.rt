@@ -6,7 +6,7 @@ ghost use Rattle.url_maps.specs.Noting.{NotesVanityPaths};
 
 use crate::MapIndex;
 use crate::claimed::vanity_texts;
-use crate::claims_change::ClaimsChange;
+use crate::claims_change::{ClaimsChange, PatchedTexts};
 use crate::parents::left_by;
 use crate::patterns::{PatternList, patterns_change, put_patterns};
 use crate::siblings::siblings_change;
@@ -65,6 +65,13 @@ impl MapIndex {
     }
 }
 
+// The node at a path, and what a patch has there.
+#[derive(Clone, Copy)]
+struct PatchedRow<'a> {
+    path: &'a Path,
+    row: &'a PatchNode,
+}
+
 fn change_by(alloc: Global, index: &MapIndex, tree: &Tree, patch: &Patch) -> Mem<IndexChange>
     requires { IsIndexOf tree.now index.now }
     ensures { IfOk result (IsChangeOf tree.now patch.now) }
@@ -87,7 +94,14 @@ fn vanity_change(alloc: Global, index: &MapIndex, tree: &Tree, patch: &Patch) ->
         let Some((path, row)) = patch.at(place) else {
             continue;
         };
-        note_row(&mut change, alloc, index, tree, patch, path, row)?;
+        note_row(
+            &mut change,
+            alloc,
+            index,
+            tree,
+            patch,
+            &PatchedRow { path, row },
+        )?;
     }
     Ok(change)
 }
@@ -99,15 +113,19 @@ fn note_row(
     index: &MapIndex,
     tree: &Tree,
     patch: &Patch,
-    path: &Path,
-    row: &PatchNode,
+    patched: &PatchedRow,
 ) -> Mem<()>
-    ensures { OnOk result (NotesVanityPaths index.now tree.now patch.now path.now row.now change.old change.new) }
+    ensures { OnOk result (NotesVanityPaths index.now tree.now patch.now patched.now.path.now patched.now.row.now change.old change.new) }
 {
-    let old = tree.node(path);
-    let new = left_by(row);
+    let old = tree.node(patched.path);
+    let new = left_by(patched.row);
     let before = vanity_texts(alloc, old)?;
     let after = vanity_texts(alloc, new)?;
-    change.note_node(alloc, &index.vanity_paths, patch, path, &before, &after)?;
+    let texts = PatchedTexts {
+        path: patched.path,
+        before: &before,
+        after: &after,
+    };
+    change.note_node(alloc, &index.vanity_paths, patch, &texts)?;
     Ok(())
 }

@@ -32,6 +32,14 @@ impl Model for ClaimsChange {
     ghost view = { λ c. map (λ e. (string_bytes e.0, e.1)) c.rows.entries };
 }
 
+/// The texts that the node at a path claims before a patch, and those that it claims after it.
+#[derive(Clone, Copy)]
+pub(crate) struct PatchedTexts<'a> {
+    pub(crate) path: &'a Path,
+    pub(crate) before: &'a TextList,
+    pub(crate) after: &'a TextList,
+}
+
 impl ClaimsChange {
     pub(crate) fn new(alloc: Global, seeds: RandomState) -> ClaimsChange
         ensures { result ≡ [] }
@@ -53,14 +61,13 @@ impl ClaimsChange {
         alloc: Global,
         claims: &Claims,
         patch: &Patch,
-        path: &Path,
-        before: &TextList,
-        after: &TextList,
+        row: &PatchedTexts,
     ) -> Mem<()>
-        ensures { OnOk result (NotesEntry claims.now.rows patch.now path.now (is_one_of before.now) (is_one_of after.now) self.old self.new) }
+        ensures { OnOk result (NotesEntry claims.now.rows patch.now row.now.path.now (is_one_of row.now.before.now) (is_one_of row.now.after.now) self.old self.new) }
     {
-        self.note_all(alloc, claims, patch, before.as_slice(), None)?;
-        self.note_all(alloc, claims, patch, after.as_slice(), Some(path))?;
+        self.note_all(alloc, claims, patch, row.before.as_slice(), None)?;
+        let path = Some(row.path);
+        self.note_all(alloc, claims, patch, row.after.as_slice(), path)?;
         Ok(())
     }
 

@@ -4,7 +4,7 @@ ghost use Rattle.resource_tree.specs.Content.{kid, node_at};
 ghost use Rattle.resource_tree.specs.Patches.{patching_at};
 ghost use Rattle.url_maps.specs.Claims.{AreClaims, NamesFirst, claims_alias};
 ghost use Rattle.url_maps.specs.Changes.{LeadsOn};
-ghost use Rattle.url_maps.specs.Siblings.{PutsFamilies, PutsKids, path_if, PutsKid};
+ghost use Rattle.url_maps.specs.Siblings.{PutsFamilies, PutsKids, names_first, path_if, PutsKid};
 
 use crate::claimed::alias_texts;
 use crate::claims::Claims;
@@ -13,6 +13,22 @@ use crate::parents::{changed_parents, each_once, left_by};
 use resource_tree::{Node, Patch, Tree};
 use sp_base::{Mem, Path, a_path_and_its_text};
 use std::alloc::Global;
+
+// Whether the rows of texts name who claims them.
+#[derive(Clone, Copy)]
+enum Naming {
+    /// The first kid that claims a text is named.
+    First,
+    /// No kid is.
+    Nobody,
+}
+
+// A kid by its parent and its name.
+#[derive(Clone, Copy)]
+struct Sibling<'a> {
+    parent: &'a Path,
+    name: &'a str,
+}
 
 // The first siblings of a tree, made of all who claim a text as their alias. It walks over the kids of the nodes of which several kids
 // claim one text: of the others the one that claims a text is the first.
@@ -34,7 +50,7 @@ pub(crate) fn first_siblings(alloc: Global, tree: &Tree, claims: Claims) -> Mem<
         tree,
         &unchanged,
         parents.as_slice(),
-        true,
+        Naming::First,
     )?;
     first.make_room(change.len())?;
     first.change(change);
@@ -49,8 +65,15 @@ pub(crate) fn siblings_change(alloc: Global, tree: &Tree, patch: &Patch) -> Mem<
     let parents = changed.as_slice();
     let mut change = ClaimsChange::new(alloc, tree.seeds());
     let unchanged = Patch::new(alloc, tree.seeds());
-    put_families(&mut change, alloc, tree, &unchanged, parents, false)?;
-    put_families(&mut change, alloc, tree, patch, parents, true)?;
+    put_families(
+        &mut change,
+        alloc,
+        tree,
+        &unchanged,
+        parents,
+        Naming::Nobody,
+    )?;
+    put_families(&mut change, alloc, tree, patch, parents, Naming::First)?;
     Ok(change)
 }
 
@@ -61,13 +84,13 @@ fn put_families(
     tree: &Tree,
     patch: &Patch,
     parents: &[Path],
-    names: bool,
+    naming: Naming,
 ) -> Mem<()>
-    ensures { OnOk result (PutsFamilies (patching_at tree.now patch.now) names parents.now change.old change.new) }
+    ensures { OnOk result (PutsFamilies (patching_at tree.now patch.now) (names_first naming) parents.now change.old change.new) }
 {
     a_path_and_its_text();
     for parent in parents {
-        put_kids(change, alloc, tree, patch, parent, names)?;
+        put_kids(change, alloc, tree, patch, parent, naming)?;
     }
     Ok(())
 }
@@ -78,16 +101,20 @@ fn put_kids(
     tree: &Tree,
     patch: &Patch,
     parent: &Path,
-    names: bool,
+    naming: Naming,
 ) -> Mem<()>
-    ensures { OnOk result (PutsKids (patching_at tree.now patch.now) names parent.now change.old change.new) }
+    ensures { OnOk result (PutsKids (patching_at tree.now patch.now) (names_first naming) parent.now change.old change.new) }
 {
     let Some(node) = node_after(tree, patch, parent) else {
         return Ok(());
     };
     let kids = node.kids.as_slice();
     for name in kids {
-        put_kid(change, alloc, tree, patch, parent, name.text(), names)?;
+        let sibling = Sibling {
+            parent,
+            name: name.text(),
+        };
+        put_kid(change, alloc, tree, patch, &sibling, naming)?;
     }
     Ok(())
 }
@@ -97,24 +124,26 @@ fn put_kid(
     alloc: Global,
     tree: &Tree,
     patch: &Patch,
-    parent: &Path,
-    name: &str,
-    names: bool,
+    sibling: &Sibling,
+    naming: Naming,
 ) -> Mem<()>
-    ensures { OnOk result (PutsKid tree.now patch.now (kid parent.now name.now) names change.old change.new) }
+    ensures { OnOk result (PutsKid tree.now patch.now (kid sibling.now.parent.now sibling.now.name.now) (names_first naming) change.old change.new) }
 {
-    let Some(path) = parent.child_or_none(alloc, name)? else {
+    let Some(path) = sibling.parent.child_or_none(alloc, sibling.name)? else {
         return Ok(());
     };
     let texts = alias_texts(alloc, &path, node_after(tree, patch, &path))?;
-    change.put_all(alloc, texts.as_slice(), path_if(names, &path))?;
+    change.put_all(alloc, texts.as_slice(), path_if(naming, &path))?;
     Ok(())
 }
 
-fn path_if(names: bool, path: &Path) -> Option<&Path>
-    ensures { option_copied result ≡ path_if names path.now }
+fn path_if(naming: Naming, path: &Path) -> Option<&Path>
+    ensures { option_copied result ≡ path_if (names_first naming) path.now }
 {
-    if names { Some(path) } else { None }
+    match naming {
+        Naming::First => Some(path),
+        Naming::Nobody => None,
+    }
 }
 
 // The node at a path of a tree with a patch over it.

@@ -28,6 +28,13 @@ pub(crate) struct MappingStep {
     pub away: Option<u16>,
 }
 
+/// A text, cut where a prefix ends.
+#[derive(Clone, Copy)]
+struct Cut<'a> {
+    prefix: &'a str,
+    rest: &'a str,
+}
+
 /// What a turn knows of its mappings before it looks at a prefix.
 #[derive(Drop)]
 pub(crate) struct Known {
@@ -118,14 +125,14 @@ impl MapIndex {
         let mut prefix = text;
         loop {
             let rest = &text[prefix.len()..];
-            if let Some(pair) = self.best(alloc, tree, asked, known, prefix, rest)? {
+            if let Some(pair) = self.best(alloc, tree, asked, known, &Cut { prefix, rest })? {
                 return Ok(Some(MappingStep {
                     text: text_after(alloc, &pair, rest)?,
                     away: pair.away,
                 }));
             }
             match shorter(prefix) {
-                Some(cut) => prefix = cut,
+                Some(less) => prefix = less,
                 None => return Ok(None),
             }
         }
@@ -151,28 +158,27 @@ impl MapIndex {
         tree: &Tree,
         asked: &Option<HostText>,
         known: &Known,
-        prefix: &str,
-        rest: &str,
+        cut: &Cut,
     ) -> Mem<Option<Pair>>
         requires index { IsIndexOf tree.now self.now }
-        requires cut { is_prefix_end rest.now ≡ true }
-        requires reach { IsBeyond tree.now (host_of asked.now) prefix.now known.now.reach }
-        requires pattern { IsOf PairKind.Pattern tree.now asked.now prefix.now (pair_if_at (length prefix.now) known.now.pattern) }
-        ensures { IfOk result (IsBest tree.now asked.now prefix.now rest.now) }
+        requires cut { is_prefix_end cut.now.rest.now ≡ true }
+        requires reach { IsBeyond tree.now (host_of asked.now) cut.now.prefix.now known.now.reach }
+        requires pattern { IsOf PairKind.Pattern tree.now asked.now cut.now.prefix.now (pair_if_at (length cut.now.prefix.now) known.now.pattern) }
+        ensures { IfOk result (IsBest tree.now asked.now cut.now.prefix.now cut.now.rest.now) }
     {
-        if let Some(pair) = mapping_within(alloc, tree, asked, known.reach, prefix)? {
+        if let Some(pair) = mapping_within(alloc, tree, asked, known.reach, cut.prefix)? {
             return Ok(Some(pair));
         }
-        if let Some(pair) = pair_if_at(alloc, prefix.len(), &known.pattern)? {
+        if let Some(pair) = pair_if_at(alloc, cut.prefix.len(), &known.pattern)? {
             return Ok(Some(pair));
         }
-        if let Some(pair) = self.alias_of(alloc, tree, prefix)? {
+        if let Some(pair) = self.alias_of(alloc, tree, cut.prefix)? {
             return Ok(Some(pair));
         }
-        if begins_with_slash(rest) {
+        if begins_with_slash(cut.rest) {
             return Ok(None);
         }
-        Ok(self.vanity_path_of(alloc, tree, prefix)?)
+        Ok(self.vanity_path_of(alloc, tree, cut.prefix)?)
     }
 }
 

@@ -9,8 +9,8 @@ pub returns-then-begins_with_slash : goal.returns-then-begins_with_slash
 returns-then-begins_with_slash c =
     let tree = c.args.tree.now in
     let asked = c.args.asked.now in
-    let prefix = c.args.prefix.now in
-    let rest = c.args.rest.now in
+    let prefix = c.args.cut.now.prefix.now in
+    let rest = c.args.cut.now.rest.now in
     none_best tree asked prefix rest c.requires.cut
     (mapping_pair tree asked prefix None (subst (IsMappingOf tree (host_of asked) prefix) c.in_default.is c.in_ok-pair.ensures))
     (subst (IsOf Pattern tree asked prefix) (sym c.in_ok-pair-2.ensures ∙ c.in_default-2.is) c.requires.pattern)
@@ -21,8 +21,8 @@ pub returns : goal.returns
 returns c =
     let tree = c.args.tree.now in
     let asked = c.args.asked.now in
-    let prefix = c.args.prefix.now in
-    let rest = c.args.rest.now in
+    let prefix = c.args.cut.now.prefix.now in
+    let rest = c.args.cut.now.rest.now in
     best_last tree asked prefix rest c.requires.cut c.in_ok-vanity_path_of.field-0
     (mapping_pair tree asked prefix None (subst (IsMappingOf tree (host_of asked) prefix) c.in_default.is c.in_ok-pair.ensures))
     (subst (IsOf Pattern tree asked prefix) (sym c.in_ok-pair-2.ensures ∙ c.in_default-2.is) c.requires.pattern)

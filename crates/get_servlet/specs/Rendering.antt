@@ -1,5 +1,5 @@
 -- A resource as JSON (Apache Sling, "Rendering content, default GET servlets"): an object of its properties and then, above depth 0, of the kids that it shows, in their order and at a depth one less.
-use Rattle.std.specs.Prelude.{◌+◌, ◌∷◌, ℕ, Bool, zero, suc, nat_eq, nat_le, if◌then◌else◌, is_some, List, [], Option, Some, None, option_map, Result, Ok, Err, sum_by}
+use Rattle.std.specs.Prelude.{◌≡◌, ◌+◌, ◌∷◌, ℕ, Bool, zero, suc, nat_eq, nat_le, if◌then◌else◌, is_some, List, [], Option, Some, None, option_map, Result, Ok, Err, sum_by}
 use Rattle.std.specs.List.{list_any}
 use Rattle.std.specs.Cmp.Lexicographic.{pointwise}
 use Rattle.std.specs.FinMap.Entries.{find}

@@ -9,6 +9,7 @@ use Rattle.json.specs.Written.{Written}
 use Rattle.resource_tree.specs.Seen.{Resource, Seen}
 use Rattle.property_json.specs.PropertyJson.{Adds}
 use Rattle.get_servlet.specs.declared.kids.Kid.{Kid}
+use Rattle.get_servlet.specs.declared.writing.ResourceAt.{ResourceAt}
 use Rattle.get_servlet.specs.Rendering.{most_resources, shown_kid, resource_json, shown_at, greatest_fitting}
 
 -- ---- writing
@@ -17,6 +18,10 @@ use Rattle.get_servlet.specs.Rendering.{most_resources, shown_kid, resource_json
 abbrev pub kid_member_tokens : List ℕ → (Segments → Resource → Json) → Option Kid → List Token
 kid_member_tokens name json None = []
 kid_member_tokens name json (Some kid) = Token.key name ∷ json_tokens (json kid.path kid.res)
+
+-- the tokens of this kid, with n levels below it
+abbrev pub member_tokens : Seen → ℕ → Text → Kid → List Token
+member_tokens seen depth name kid = kid_member_tokens name (resource_json seen depth) (Some kid)
 
 -- the tokens of the kid of a name
 abbrev pub named_kid_tokens : Seen → ℕ → Segments → Resource → Text → List Token
@@ -30,6 +35,16 @@ kids_tokens seen depth path res names = flat_map (λ name. named_kid_tokens seen
 unfoldable pub below_tokens : Seen → ℕ → Segments → Resource → List Token
 below_tokens seen zero path res = []
 below_tokens seen (suc depth) path res = kids_tokens seen depth path res res.kids
+
+-- the same of a resource at a path: its own tokens, those of its kid of a name, and those of its kids
+abbrev pub tokens_at : Seen → ℕ → ResourceAt → List Token
+tokens_at seen depth at = json_tokens (resource_json seen depth at.path.now at.res.now)
+
+abbrev pub named_kid_tokens_at : Seen → ℕ → ResourceAt → Text → List Token
+named_kid_tokens_at seen depth at name = named_kid_tokens seen depth at.path.now at.res.now name
+
+abbrev pub below_tokens_at : Seen → ℕ → ResourceAt → List Token
+below_tokens_at seen depth at = below_tokens seen depth at.path.now at.res.now
 
 -- the bytes of these tokens, without the commas between them
 abbrev pub bytes_in : List Token → ℕ

@@ -1,9 +1,8 @@
 // Writes a resource as JSON: its properties, and then its kids in their order. It stops where the text is seen to be too long.
-ghost use Rattle.std.specs.Prelude.{◌≡◌, IfOk, Some};
-ghost use Rattle.json.specs.Tree.{json_tokens};
+ghost use Rattle.std.specs.Prelude.{◌≡◌, IfOk};
 ghost use Rattle.get_servlet.specs.Answers.{text_within, ReadsAs};
 ghost use Rattle.get_servlet.specs.Rendering.{resource_json, json_text};
-ghost use Rattle.get_servlet.specs.Steps.{kid_member_tokens, below_tokens, Spends, named_kid_tokens};
+ghost use Rattle.get_servlet.specs.Steps.{member_tokens, below_tokens_at, Spends, named_kid_tokens_at, tokens_at};
 
 use crate::answer::JsonAnswer;
 use crate::kids::{Kid, shown_kid};
@@ -17,6 +16,22 @@ use std::alloc::Global;
 /// The bytes that are made room for before a text is begun, so that those of most resources need no more.
 const FIRST_ROOM: usize = 256;
 
+// A resource, at the path below which its kids are looked up.
+#[derive(Clone, Copy)]
+struct ResourceAt<'a> {
+    path: &'a Path,
+    res: &'a Res<'a>,
+}
+
+// How far a text may go.
+#[derive(Clone, Copy)]
+struct Bounds {
+    /// The levels below the resource.
+    depth: u32,
+    /// The bytes that are left.
+    room: usize,
+}
+
 // Writes a resource, and `depth` levels below it. The text leaves no more of a room of bytes than the answer says, and none
 // is said where it needs more than the room: then, and out of memory, some of it may be written.
 #[cycle(writing)]
@@ -24,21 +39,20 @@ fn write_resource<L: Look>(
     alloc: Global,
     look: &L,
     writer: &mut Writer,
-    path: &Path,
-    res: &Res<'_>,
-    depth: u32,
-    room: usize,
+    at: &ResourceAt<'_>,
+    bounds: Bounds,
 ) -> Mem<Option<usize>>
-    ensures { IfOk result (λ left. Spends room left writer.old writer.new (json_tokens (resource_json (L.seen look.now) depth path.now res.now))) }
+    ensures { IfOk result (λ left. Spends bounds.room left writer.old writer.new (tokens_at (L.seen look.now) bounds.depth at.now)) }
 {
     // A law: where the tokens of the kids stand.
     properties_come_first();
-    let Some(room) = room.checked_sub(properties_bytes(res.props())) else {
+    let Some(room) = bounds.room.checked_sub(properties_bytes(at.res.props())) else {
         return Ok(None);
     };
     writer.begin_object()?;
-    write_properties(writer, res.props())?;
-    let Some(left) = write_kids(alloc, look, writer, path, res, depth, room)? else {
+    write_properties(writer, at.res.props())?;
+    let depth = bounds.depth;
+    let Some(left) = write_kids(alloc, look, writer, at, Bounds { depth, room })? else {
         return Ok(None);
     };
     writer.end_object()?;
@@ -53,16 +67,20 @@ fn write_member<L: Look>(
     writer: &mut Writer,
     kid: &Kid<'_>,
     name: &str,
-    depth: u32,
-    room: usize,
+    bounds: Bounds,
 ) -> Mem<Option<usize>>
-    ensures { IfOk result (λ left. Spends room left writer.old writer.new (kid_member_tokens name.now (resource_json (L.seen look.now) depth) (Some kid.now))) }
+    ensures { IfOk result (λ left. Spends bounds.room left writer.old writer.new (member_tokens (L.seen look.now) bounds.depth name.now kid.now)) }
 {
-    let Some(room) = room.checked_sub(name.len()) else {
+    let Some(room) = bounds.room.checked_sub(name.len()) else {
         return Ok(None);
     };
     writer.key(name)?;
-    write_resource(alloc, look, writer, &kid.path, &kid.res, depth, room)
+    let at = ResourceAt {
+        path: &kid.path,
+        res: &kid.res,
+    };
+    let depth = bounds.depth;
+    write_resource(alloc, look, writer, &at, Bounds { depth, room })
 }
 
 // Writes the kid of a name as a member, if it is shown, and `depth` levels below it.
@@ -71,17 +89,15 @@ fn write_kid<L: Look>(
     alloc: Global,
     look: &L,
     writer: &mut Writer,
-    path: &Path,
-    res: &Res<'_>,
+    at: &ResourceAt<'_>,
     name: &str,
-    depth: u32,
-    room: usize,
+    bounds: Bounds,
 ) -> Mem<Option<usize>>
-    ensures { IfOk result (λ left. Spends room left writer.old writer.new (named_kid_tokens (L.seen look.now) depth path.now res.now name.now)) }
+    ensures { IfOk result (λ left. Spends bounds.room left writer.old writer.new (named_kid_tokens_at (L.seen look.now) bounds.depth at.now name.now)) }
 {
-    match shown_kid(alloc, look, path, res, name)? {
-        Some(kid) => write_member(alloc, look, writer, &kid, name, depth, room),
-        None => Ok(Some(room)),
+    match shown_kid(alloc, look, at.path, at.res, name)? {
+        Some(kid) => write_member(alloc, look, writer, &kid, name, bounds),
+        None => Ok(Some(bounds.room)),
     }
 }
 
@@ -91,19 +107,21 @@ fn write_kids<L: Look>(
     alloc: Global,
     look: &L,
     writer: &mut Writer,
-    path: &Path,
-    res: &Res<'_>,
-    depth: u32,
-    room: usize,
+    at: &ResourceAt<'_>,
+    bounds: Bounds,
 ) -> Mem<Option<usize>>
-    ensures { IfOk result (λ left. Spends room left writer.old writer.new (below_tokens (L.seen look.now) depth path.now res.now)) }
+    ensures { IfOk result (λ left. Spends bounds.room left writer.old writer.new (below_tokens_at (L.seen look.now) bounds.depth at.now)) }
 {
-    if depth == 0 {
-        return Ok(Some(room));
+    if bounds.depth == 0 {
+        return Ok(Some(bounds.room));
     }
-    let mut left = room;
-    for name in res.kids() {
-        let rest = write_kid(alloc, look, writer, path, res, name.text(), depth - 1, left)?;
+    let mut left = bounds.room;
+    for name in at.res.kids() {
+        let below = Bounds {
+            depth: bounds.depth - 1,
+            room: left,
+        };
+        let rest = write_kid(alloc, look, writer, at, name.text(), below)?;
         let Some(rest) = rest else {
             return Ok(None);
         };
@@ -124,8 +142,15 @@ pub(crate) fn text_answer<L: Look>(
     ensures reads_back { IfOk result (ReadsAs (resource_json (L.seen look.now) depth res.now.path res.now)) }
 {
     let mut writer = Writer::new(Vec::with_capacity(alloc, FIRST_ROOM)?);
-    let Some(_) = write_resource(alloc, look, &mut writer, res.path(), res, depth, most_bytes)?
-    else {
+    let at = ResourceAt {
+        path: res.path(),
+        res,
+    };
+    let bounds = Bounds {
+        depth,
+        room: most_bytes,
+    };
+    let Some(_) = write_resource(alloc, look, &mut writer, &at, bounds)? else {
         return Ok(JsonAnswer::TooLong);
     };
     let text = String::from_utf8(writer.into_inner()).unwrap();

@@ -1,11 +1,12 @@
 -- Paths in their order: what a binary search says of them, and what an insert and a removal leave.
-use Rattle.std.proofs.Common.{◌≡◌, ◌<◌, ◌≤◌, ◌+◌, ◌-◌, ℕ, Bool, true, false, List, [], ◌∷◌, ◌++◌, Result, Ok, Err, length, get_or, take, refl, sym, ◌∙◌, ap, ⊎_elim, arith}
+use Rattle.std.proofs.Common.{◌≡◌, ◌<◌, ◌≤◌, ◌+◌, ◌-◌, ℕ, Bool, true, false, cond, List, [], ◌∷◌, ◌++◌, Result, Ok, Err, length, get_or, take, refl, sym, ◌∙◌, ap, ⊎_elim, arith}
 use Rattle.std.specs.Prelude.{◌&&◌, ◌||◌, is_ok, nat_eq, not}
 use Rattle.std.specs.declared.cmp.Ordering.{Ordering}
 use Rattle.std.specs.declared.cmp.Ordering.TheVariants.{Less, Equal, Greater}
 use Rattle.std.specs.Cmp.Lexicographic.{pointwise, nat_list_cmp_total, nat_list_eq_equiv, same_text, slice_cmp}
-use Rattle.std.specs.List.{AllPairs, insert, remove}
-use Rattle.std.specs.List.Sorted.{IsBinarySearchResult, IsPartitionPoint, IsSearchInRange, IsSorted}
+use Rattle.std.specs.List.{AllPairs, dedup, dedup_from, filter, insert, remove}
+use Rattle.std.specs.List.Sorted.{IsBinarySearchResult, IsPartitionPoint, IsSearchInRange, IsSorted, IsStrictlySortedBy}
+use Rattle.std.specs.Result.{is_err}
 use Rattle.std.specs.Ordering.{is_eq, is_lt, nat_cmp, ordering_reverse, ordering_then}
 use Rattle.std.proofs.lemmas.Bool.{and_from, and_parts, cases_Bool, cases_eq, cases_lt, cases_order, false_from_ne_true, false≢true, true≢false}
 use Rattle.std.proofs.lemmas.Cmp.{tied_back, tied_itself}
@@ -13,6 +14,7 @@ use Rattle.std.proofs.lemmas.List.Edits.{get_or-insert_above, get_or-insert_at, 
 use Rattle.std.proofs.lemmas.List.Folds.{list_any-append, list_any_at, list_any_more, list_any_none}
 use Rattle.std.proofs.lemmas.List.Quantifiers.{all_pairs_remove}
 use Rattle.std.proofs.lemmas.List.Sorted.{IsPermutation-insert, IsPermutation-remove, list_any-IsPermutation, ranks_by, searchable_from_sorted, sorted_far}
+use Rattle.std.proofs.lemmas.Map.Keys.{Less-from_sorted, sorted_from_all_adjacent}
 use Rattle.std.proofs.lemmas.Map.Lookups.{exact_bytes}
 use Rattle.sp_base.specs.Texts.{Segments}
 use Rattle.sp_base.specs.PathExact.{exact_paths}
@@ -29,6 +31,11 @@ less p q = is_lt (by_path p q)
 abbrev same : List ℕ → List ℕ → Bool
 same = pointwise nat_eq
 
+-- ---- paths in their order, each once
+
+follow : (xs : List Segments) (k : ℕ) (d : Segments) → IsStrictlySortedBy by_path xs → k + 1 < length xs → by_path (get_or xs k d) (get_or xs (k + 1) d) ≡ Less
+follow xs k d up within = Less-from_sorted by_path xs k (k + 1) d up (omega arith) within
+
 -- ---- one path and another
 
 one_path : (p q : Segments) → by_path p q ≡ Equal → p ≡ q
@@ -42,6 +49,13 @@ apart_above x y e = ap is_eq (by_path_total.antisymm x y ∙ ap ordering_reverse
 
 not_below : (x y : Segments) → by_path y x ≡ Less → less x y ≡ false
 not_below x y e = ap is_lt (by_path_total.antisymm x y ∙ ap ordering_reverse e)
+
+above : (x y : Segments) → by_path y x ≡ Greater → by_path x y ≡ Less
+above x y e = by_path_total.antisymm x y ∙ ap ordering_reverse e
+
+-- a list of paths in their order, each once, is sorted
+pub rises : (xs : List Segments) → IsStrictlySortedBy by_path xs → IsSorted by_path xs
+rises xs up k d from within = not_below (get_or xs (k + 1) d) (get_or xs k d) (follow xs k d up within)
 
 -- ---- a path below another
 
@@ -106,6 +120,13 @@ pub lists_is : (xs : List Segments) (x : Segments) (r : Result ℕ ℕ) → IsSo
 lists_is xs x (Ok i) up range found = sym (listed xs x i range found)
 lists_is xs x (Err i) up range found = sym (not_listed xs x i (place xs x i up found))
 
+pub lacks_is : (xs : List Segments) (x : Segments) (r : Result ℕ ℕ) → IsSorted by_path xs → IsSearchInRange r (length xs) → IsFound xs x r → is_err r ≡ not (has_path xs x)
+lacks_is xs x r up range found = err_or_ok r ∙ ap not (lists_is xs x r up range found)
+  where
+    err_or_ok : (r : Result ℕ ℕ) → is_err r ≡ not (is_ok r)
+    err_or_ok (Ok i) = refl
+    err_or_ok (Err i) = refl
+
 pub under_found : (xs : List Segments) (x : Segments) (i : ℕ) → i < length xs → IsFound xs x (Ok i) → has_under xs x ≡ true
 under_found xs x i within found = list_any_at (λ p. is_under p x) xs i x within (ap (λ p. is_under p x) (found_at xs x i found) ∙ under_self x)
 
@@ -156,43 +177,44 @@ listed_twice xs i x q within found = ⊎_elim
     there : (q : Segments) → q ≡ x → has_path xs q ≡ (has_path xs q || same_path q x)
     there q e = let yes : has_path xs q ≡ true = ap (has_path xs) e ∙ listed xs x i within found in yes ∙ sym (ap (λ b. b || same_path q x) yes)
 
-pub rises_insert : (xs : List Segments) (i : ℕ) (x : Segments) → IsSorted by_path xs → i ≤ length xs → IsFound xs x (Err i) → IsSorted by_path (insert xs i x)
-rises_insert xs i x up le found k d from within =
-    let (low, high) = place xs x i up found in
-    let size : length (insert xs i x) ≡ length xs + 1 = length-insert xs i x le in
-    ⊎_elim
+pub rises_insert : (xs : List Segments) (i : ℕ) (x : Segments) → IsStrictlySortedBy by_path xs → i ≤ length xs → IsFound xs x (Err i) → IsStrictlySortedBy by_path (insert xs i x)
+rises_insert xs i x up le found =
+    let (low, high) = place xs x i (rises xs up) found in
+    let ys = insert xs i x in
+    let size : length ys ≡ length xs + 1 = length-insert xs i x le in
+    sorted_from_all_adjacent by_path_total ys x (λ k within. ⊎_elim
     (λ (last : k + 1 ≡ i).
-    let here : get_or (insert xs i x) (k + 1) d ≡ x = ap (λ n. get_or (insert xs i x) n d) last ∙ get_or-insert_at xs i x d le in
-    ap (λ y. less y (get_or (insert xs i x) k d)) here ∙ ap (less x) (get_or-insert_below xs i x d k (omega (arith, last)) le) ∙ not_below x (get_or xs k d) (low k d from (omega (arith, last))))
+    let here : get_or ys (k + 1) x ≡ x = ap (λ n. get_or ys n x) last ∙ get_or-insert_at xs i x x le in
+    ap (by_path (get_or ys k x)) here ∙ ap (λ y. by_path y x) (get_or-insert_below xs i x x k (omega (arith, last)) le) ∙ low k x (omega arith) (omega (arith, last)))
     (λ other. ⊎_elim
     (λ (before : k + 1 < i).
-    ap (λ y. less y (get_or (insert xs i x) k d)) (get_or-insert_below xs i x d (k + 1) before le) ∙ ap (less (get_or xs (k + 1) d)) (get_or-insert_below xs i x d k (omega (arith, before)) le)
-    ∙ up k d from (omega (arith, before, le)))
+    ap (by_path (get_or ys k x)) (get_or-insert_below xs i x x (k + 1) before le) ∙ ap (λ y. by_path y (get_or xs (k + 1) x)) (get_or-insert_below xs i x x k (omega (arith, before)) le)
+    ∙ follow xs k x up (omega (arith, before, le)))
     (λ (after : i < k + 1).
-    let above : get_or (insert xs i x) (k + 1) d ≡ get_or xs k d = get_or-insert_above xs i x d k (omega (arith, after)) le in
+    let next : get_or ys (k + 1) x ≡ get_or xs k x = get_or-insert_above xs i x x k (omega (arith, after)) le in
     ⊎_elim
     (λ (first : k ≡ i).
-    ap (λ y. less y (get_or (insert xs i x) k d)) above ∙ ap (less (get_or xs k d)) (ap (λ n. get_or (insert xs i x) n d) first ∙ get_or-insert_at xs i x d le)
-    ∙ ap is_lt (high k d (omega (arith, after)) (omega (arith, within, size))))
+    ap (by_path (get_or ys k x)) next ∙ ap (λ y. by_path y (get_or xs k x)) (ap (λ n. get_or ys n x) first ∙ get_or-insert_at xs i x x le)
+    ∙ above x (get_or xs k x) (high k x (omega (arith, after)) (omega (arith, within, size))))
     (λ ne.
     let one : (k - 1) + 1 ≡ k = omega (arith, after, ne) in
-    let under : get_or (insert xs i x) k d ≡ get_or xs (k - 1) d = ap (λ n. get_or (insert xs i x) n d) (sym one) ∙ get_or-insert_above xs i x d (k - 1) (omega (arith, after, ne)) le in
-    ap (λ y. less y (get_or (insert xs i x) k d)) above ∙ ap (less (get_or xs k d)) under ∙ ap (λ n. less (get_or xs n d) (get_or xs (k - 1) d)) (sym one)
-    ∙ up (k - 1) d (omega arith) (omega (arith, one, within, size)))
+    let under : get_or ys k x ≡ get_or xs (k - 1) x = ap (λ n. get_or ys n x) (sym one) ∙ get_or-insert_above xs i x x (k - 1) (omega (arith, after, ne)) le in
+    ap (by_path (get_or ys k x)) next ∙ ap (λ y. by_path y (get_or xs k x)) under ∙ ap (λ n. by_path (get_or xs (k - 1) x) (get_or xs n x)) (sym one)
+    ∙ follow xs (k - 1) x up (omega (arith, one, within, size)))
     (cases_eq k i))
     other)
-    (cases_order (k + 1) i)
+    (cases_order (k + 1) i))
 
 -- ---- a removal
 
 pub removed : (xs : List Segments) (i : ℕ) (x q : Segments) → i < length xs → IsFound xs x (Ok i) → has_path xs q ≡ (same_path q x || has_path (remove xs i) q)
 removed xs i x q within found = list_any-IsPermutation (same_path q) xs (x ∷ remove xs i) (IsPermutation-remove xs i x within (sym (found_at xs x i found)))
 
-pub rises_remove : (xs : List Segments) (i : ℕ) → IsSorted by_path xs → i < length xs → IsSorted by_path (remove xs i)
+pub rises_remove : (xs : List Segments) (i : ℕ) → IsStrictlySortedBy by_path xs → i < length xs → IsStrictlySortedBy by_path (remove xs i)
 rises_remove xs i up within =
-    let pairs : AllPairs (λ p q. less q p ≡ false) xs = λ j k d before inside. sorted_far less (ranks_by by_path_total (λ p. p)) xs up j k d (omega (arith, before)) inside in
-    let left : AllPairs (λ p q. less q p ≡ false) (remove xs i) = all_pairs_remove (λ p q. less q p ≡ false) xs i within pairs in
-    λ k d from inside. left k (k + 1) d (omega arith) inside
+    let pairs : AllPairs (λ p q. by_path p q ≡ Less) xs = λ j k d before inside. Less-from_sorted by_path xs j k d up before inside in
+    let left : AllPairs (λ p q. by_path p q ≡ Less) (remove xs i) = all_pairs_remove (λ p q. by_path p q ≡ Less) xs i within pairs in
+    sorted_from_all_adjacent by_path_total (remove xs i) [] (λ k inside. left k (k + 1) [] (omega arith) inside)
 
 -- a path that a search doesn't find is none of those that are left
 pub forgotten : (xs ys : List Segments) (x q : Segments) (i : ℕ) → IsSorted by_path ys → IsFound ys x (Err i) → (has_path ys q || same_path q x) ≡ (has_path xs q || same_path q x) → has_path ys q ≡ (has_path xs q && not (same_path q x))
@@ -249,7 +271,7 @@ or_false : (a : Bool) → (a || false) ≡ a
 or_false true = refl
 or_false false = refl
 
-any_last : (xs : List Segments) (x q : Segments) → has_path (xs ++ x ∷ []) q ≡ (has_path xs q || same_path q x)
+pub any_last : (xs : List Segments) (x q : Segments) → has_path (xs ++ x ∷ []) q ≡ (has_path xs q || same_path q x)
 any_last xs x q = list_any-append (same_path q) xs (x ∷ []) ∙ ap (λ b. has_path xs q || b) (or_false (same_path q x))
 
 turn : (c s n : Bool) → ((c || s) || n) ≡ (c || (n || s))
@@ -266,3 +288,45 @@ put_one old new left rest x q whole last one so_far =
 
 pub all_put : (new left : List Segments) (q : Segments) (whole : Bool) → left ≡ [] → (has_path new q || has_path left q) ≡ whole → has_path new q ≡ whole
 all_put new left q whole none is = sym (ap (λ xs. has_path new q || has_path xs q) none ∙ or_false (has_path new q)) ∙ is
+
+-- ---- many at once
+
+-- what isn't told twice is told
+same_again : (q x y : Segments) (rest : Bool) → same_path y x ≡ true → (same_path q x || rest) ≡ (same_path q x || (same_path q y || rest))
+same_again q x y rest e = twice (same_path q x) rest ∙ ap (λ p. same_path q x || (same_path q p || rest)) (sym (path_from_same y x e))
+  where
+    twice : (a b : Bool) → (a || b) ≡ (a || (a || b))
+    twice true b = refl
+    twice false b = refl
+
+from_one : (x : Segments) (xs : List Segments) (q : Segments) → has_path (dedup_from same_path x xs) q ≡ (same_path q x || has_path xs q)
+from_one x [] q = refl
+from_one x (y ∷ xs) q = ⊎_elim
+    (λ (e : same_path y x ≡ true).
+    ap (λ t. has_path (cond t (dedup_from same_path x xs) (x ∷ dedup_from same_path y xs)) q) e ∙ from_one x xs q ∙ same_again q x y (has_path xs q) e)
+    (λ (e : same_path y x ≡ false).
+    ap (λ t. has_path (cond t (dedup_from same_path x xs) (x ∷ dedup_from same_path y xs)) q) e ∙ ap (λ b. same_path q x || b) (from_one y xs q))
+    (cases_Bool (same_path y x))
+
+pub each_once : (xs : List Segments) (q : Segments) → has_path (dedup same_path xs) q ≡ has_path xs q
+each_once [] q = refl
+each_once (x ∷ xs) q = from_one x xs q
+
+-- those that pass a test
+passes : (test : Segments → Bool) (x : Segments) (xs : List Segments) (q : Segments) (t s : Bool) → test x ≡ t → same_path q x ≡ s → has_path (filter test xs) q ≡ (has_path xs q && test q)
+    → has_path (cond t (x ∷ filter test xs) (filter test xs)) q ≡ ((same_path q x || has_path xs q) && test q)
+passes test x xs q true true holds e rest =
+    ap (λ b. b || has_path (filter test xs) q) e ∙ sym (ap test (path_from_same q x e) ∙ holds) ∙ sym (ap (λ b. (b || has_path xs q) && test q) e)
+passes test x xs q true false holds e rest = ap (λ b. b || has_path (filter test xs) q) e ∙ rest ∙ sym (ap (λ b. (b || has_path xs q) && test q) e)
+passes test x xs q false true fails e rest =
+    let none : test q ≡ false = ap test (path_from_same q x e) ∙ fails in
+    rest ∙ ap (λ b. has_path xs q && b) none ∙ and_none (has_path xs q) ∙ sym (ap (λ b. (b || has_path xs q) && test q) e ∙ none)
+  where
+    and_none : (a : Bool) → (a && false) ≡ false
+    and_none true = refl
+    and_none false = refl
+passes test x xs q false false fails e rest = rest ∙ sym (ap (λ b. (b || has_path xs q) && test q) e)
+
+pub passing : (test : Segments → Bool) (xs : List Segments) (q : Segments) → has_path (filter test xs) q ≡ (has_path xs q && test q)
+passing test [] q = refl
+passing test (x ∷ xs) q = passes test x xs q (test x) (same_path q x) refl refl (passing test xs q)

@@ -11,13 +11,13 @@ use Rattle.sp_base.specs.Texts.{Segments}
 use Rattle.sp_base.specs.Paths.{path_or_fault, child_of, fault_of, has_slash, is_dots, is_empty, is_long, is_path, is_under, path_of, pieces, seg_ok, text_of, unless_fault}
 use Rattle.sp_base.specs.declared.path.PathFault.{PathFault}
 use Rattle.sp_base.specs.declared.path.PathFault.TheVariants.{EmptySegment}
-use Rattle.resource_tree.specs.Content.{Content, IsTree, kid, node_at, same_path}
+use Rattle.resource_tree.specs.Content.{Content, IsTree, kid, name_of, node_at, same_path}
 use Rattle.resource_tree.specs.declared.nodes.Node.{Node}
 use Rattle.resource_tree.proofs.PathLemmas.{path_from_same}
 use Rattle.resource_tree.proofs.Under.{under_root}
 use Rattle.type_chain.specs.ScriptPlaces.{has_kids}
 use Rattle.script_rank.specs.Index.{has_path}
-use Rattle.script_rank.specs.Ranking.{is_script}
+use Rattle.script_rank.specs.Ranking.{is_script, is_script_name}
 use Rattle.script_rank.specs.Search.{script_at, script_in}
 use Rattle.script_rank.specs.ScriptPlaceSearch.{has_under, path_if, script_below}
 
@@ -129,7 +129,7 @@ none_below {at} good place name rest none there =
     no_kid good place name (at place) refl none (above good (kid place name) rest (subst (λ p. IsSome (at p)) (sym (append_assoc place (name ∷ []) rest)) there))
 
 no_script : (tree : Content) (path : List (List ℕ)) → (IsSome (node_at tree path) → ⊥) → is_script tree path ≡ true → ⊥
-no_script tree path none script = none (and_parts (is_some (node_at tree path)) _ script).0
+no_script tree path none script = none (and_parts (is_some (node_at tree path)) _ (and_parts (is_script_name (name_of path)) _ script).1).0
 
 -- that has no kids
 pub none_without_kids : (tree : Content) (place : Segments) → IsTree (node_at tree) → has_kids (node_at tree place) ≡ false → HasNoneBelow tree place

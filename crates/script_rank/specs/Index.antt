@@ -1,7 +1,9 @@
 -- The scripts of a tree as a list, and what a patch of the tree changes of it.
 use Rattle.std.specs.Prelude.{◌≡◌, ◌≤◌, ◌&&◌, ◌||◌, ℕ, Bool, not, List, length}
 use Rattle.std.specs.List.{list_any}
+use Rattle.std.specs.List.Sorted.{IsStrictlySortedBy}
 use Rattle.sp_base.specs.Texts.{Segments}
+use Rattle.sp_base.specs.Paths.{by_path}
 use Rattle.resource_tree.specs.Content.{Content, IsGood, node_at, same_path}
 use Rattle.resource_tree.specs.Patches.{PatchEntries, patching_at}
 use Rattle.script_rank.specs.Ranking.{is_script}
@@ -15,8 +17,10 @@ pub record ScriptPaths : Type 0 where
   pub scripts : List Segments
   pub room : ℕ
 
--- The index lists the scripts of the tree, and nothing else.
+-- The index lists the scripts of the tree, and nothing else, in the order of their paths, each once. Paths are ordered segment by segment, and
+-- segments by their bytes.
 pub record IsScriptIndexOf (tree : Content) (index : ScriptPaths) : Type 0 where
+  pub order : IsStrictlySortedBy by_path index.scripts
   pub scripts : (path : Segments) → has_path index.scripts path ≡ is_script tree path
 
 -- the paths that become those of scripts, and those of the scripts that are gone

@@ -1,6 +1,7 @@
 -- The scripts that may answer a request, and which of them ranks first (Apache Sling, "Servlets and Scripts", "Script Naming Conventions").
 use Rattle.std.specs.Prelude.{◌≡◌, ◌<◌, ◌≤◌, ◌&&◌, ◌⊎◌, ◌++◌, ◌∷◌, [], ℕ, Bool, true, false, IsTrue, is_some, nat_eq, List, Option, Some, None, option_and_then, Result, Ok, Err, codes, flat_map, length, slice_get, take}
 use Rattle.std.specs.Cmp.Lexicographic.{pointwise}
+use Rattle.std.specs.List.{ends_with}
 use Rattle.sp_base.specs.Texts.{Segments, Text}
 use Rattle.sp_base.specs.Paths.{child_of, path_of, text_of}
 use Rattle.sp_base.specs.Properties.{text_in}
@@ -83,9 +84,13 @@ node_of tree (Err e) = None
 unfoldable pub script_text : Content → Segments → Option (List ℕ)
 script_text tree path = option_and_then (λ node. text_in node.props (codes "jcr:data")) (node_of tree (child_of path (codes "jcr:content")))
 
--- whether a node is at the path that has a script's text
+-- whether a name may be a script's
+abbrev pub is_script_name : Text → Bool
+is_script_name name = ends_with nat_eq name (codes ".html")
+
+-- whether a node is at the path that has a script's name and text
 abbrev pub is_script : Content → Segments → Bool
-is_script tree path = is_some (node_at tree path) && is_some (script_text tree path)
+is_script tree path = is_script_name (name_of path) && (is_some (node_at tree path) && is_some (script_text tree path))
 
 -- by what a candidate is ranked: its naming, and the places of its type in the chain, of its place among the type's, and of its
 -- spelling among the naming's

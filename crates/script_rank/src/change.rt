@@ -1,8 +1,10 @@
 // The change of an index by a patch of the tree.
-ghost use Rattle.std.specs.Prelude.{◌≡◌, ◌≤◌, ◌&&◌, ◌||◌, not, IfOk, OnOk, length};
+ghost use Rattle.std.specs.Prelude.{◌≡◌, ◌==◌, ◌≤◌, ◌&&◌, ◌||◌, not, IfOk, OnOk, length};
+ghost use Rattle.std.specs.List.Sorted.{IsStrictlySortedBy};
+ghost use Rattle.sp_base.specs.Paths.{by_path};
 ghost use Rattle.resource_tree.specs.Content.{node_at};
 ghost use Rattle.script_rank.specs.Index.{HasScriptRoom, IsScriptChangeOf, IsScriptIndexOf, has_path, TakesScriptChange};
-ghost use Rattle.script_rank.specs.Noting.{NotesScriptEntry, has_text_there, leaves_text};
+ghost use Rattle.script_rank.specs.Noting.{NotesScriptEntry, is_script_text_there, leaves_script_text};
 ghost use Rattle.sp_base.specs.Texts.{Segments};
 
 use crate::ScriptIndex;
@@ -11,6 +13,9 @@ use resource_tree::{Patch, PatchNode, Tree};
 use sp_base::{Mem, Path};
 use std::alloc::Global;
 use std::marker::Model;
+
+/// The most paths that are put into an index, or taken out of it, one by one.
+const FEW: usize = 16;
 
 /// What a patch changes in an index: the paths that become those of scripts, and those of the scripts that are gone.
 #[derive(Drop)]
@@ -25,6 +30,15 @@ impl Model for ScriptChange {
     ghost Value = { ScriptPathsChange };
 
     ghost view = { λ c. record { added = c.added.items; gone = c.gone.items } };
+}
+
+impl ScriptChange {
+    /// Whether a patch changes no script's path.
+    pub fn is_none(&self) -> bool
+        ensures { result ≡ (length self.now.added == 0 && length self.now.gone == 0) }
+    {
+        self.added.is_empty() && self.gone.is_empty()
+    }
 }
 
 impl ScriptIndex {
@@ -46,11 +60,23 @@ impl ScriptIndex {
         ensures { TakesScriptChange change self.old self.new }
     {
         let ScriptChange { added, gone } = change;
-        self.forget_all(&gone);
+        self.forget_all(gone);
         self.put_all(added);
     }
 
-    fn forget_all(&mut self, gone: &[Path])
+    // Each path of a few moves those that stand after it. Of many, each script is looked up once.
+    fn forget_all(&mut self, gone: Vec<Path>)
+        ensures scripts { (q : Segments) → has_path self.new.scripts q ≡ (has_path self.old.scripts q && not (has_path gone.items q)) }
+        ensures room { self.old.room ≤ self.new.room }
+    {
+        if gone.len() <= FEW {
+            self.forget_each(&gone);
+        } else {
+            self.forget_at_once(gone);
+        }
+    }
+
+    fn forget_each(&mut self, gone: &[Path])
         ensures scripts { (q : Segments) → has_path self.new.scripts q ≡ (has_path self.old.scripts q && not (has_path gone.now q)) }
         ensures room { self.old.room ≤ self.new.room }
     {
@@ -59,14 +85,30 @@ impl ScriptIndex {
         }
     }
 
+    // Each path of a few moves those that stand after it. Many are put after the others, and all are sorted once.
     fn put_all(&mut self, added: Vec<Path>)
         requires { length added.items ≤ self.old.room }
-        ensures { (q : Segments) → has_path self.new.scripts q ≡ (has_path self.old.scripts q || has_path added.items q) }
+        ensures scripts { (q : Segments) → has_path self.new.scripts q ≡ (has_path self.old.scripts q || has_path added.items q) }
+        ensures order { IsStrictlySortedBy by_path self.new.scripts }
+    {
+        if added.len() <= FEW {
+            self.put_each(added);
+        } else {
+            self.put_at_once(added);
+        }
+    }
+
+    fn put_each(&mut self, added: Vec<Path>)
+        requires { length added.items ≤ self.old.room }
+        ensures scripts { (q : Segments) → has_path self.new.scripts q ≡ (has_path self.old.scripts q || has_path added.items q) }
+        ensures order { IsStrictlySortedBy by_path self.new.scripts }
     {
         let mut left = added;
         while let Some(path) = left.pop() {
             self.put_in_room(path);
         }
+        // What holds of each index says that it is in order.
+        let _ = self.scripts.len();
     }
 }
 
@@ -96,7 +138,7 @@ fn note_entry(
     path: &Path,
     row: &PatchNode,
 ) -> Mem<()>
-    ensures { OnOk result (NotesScriptEntry path.now (has_text_there (node_at tree.now path.now)) (leaves_text row.now) change.old change.new) }
+    ensures { OnOk result (NotesScriptEntry path.now (is_script_text_there path.now (node_at tree.now path.now)) (leaves_script_text path.now row.now) change.old change.new) }
 {
     if !is_text_path(path) {
         return Ok(());

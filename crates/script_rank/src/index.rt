@@ -4,11 +4,12 @@ ghost use Rattle.sp_base.specs.Paths.{is_path};
 ghost use Rattle.sp_base.specs.Texts.{Segments};
 ghost use Rattle.resource_tree.specs.Content.{Content};
 ghost use Rattle.script_rank.specs.Index.{IsScriptIndexOf, has_path};
-ghost use Rattle.script_rank.specs.Noting.{AddsScript, has_text};
+ghost use Rattle.script_rank.specs.Noting.{AddsScript, is_script_text};
 ghost use Rattle.script_rank.specs.Ranking.{HasNoCandidate, IsFirstScript, is_script};
 ghost use Rattle.script_rank.specs.Search.{search_result};
 ghost use Rattle.script_rank.specs.ScriptPlaceSearch.{AreKeptPlacesOf, has_under, kept_places_of, place_if};
 
+use crate::listed::sort_once;
 use crate::ranking::script_place_search;
 use crate::texts::{has_text, is_text_path, push_script};
 use resource_tree::{Node, Tree};
@@ -27,7 +28,7 @@ pub struct ScriptIndex {
 
 impl Model for ScriptIndex {
     ghost use Rattle.std.specs.Prelude.{◌-◌, vec_capacity, vec_len};
-    ghost use Rattle.std.specs.List.Sorted.{IsSorted};
+    ghost use Rattle.std.specs.List.Sorted.{IsStrictlySortedBy};
     ghost use Rattle.sp_base.specs.Paths.{by_path};
     ghost use Rattle.script_rank.specs.Index.{ScriptPaths};
 
@@ -35,7 +36,7 @@ impl Model for ScriptIndex {
 
     ghost view = { λ i. record { scripts = i.scripts.items; room = vec_capacity i.scripts - vec_len i.scripts } };
 
-    ghost invariant = { λ i. IsSorted by_path i.scripts.items };
+    ghost invariant = { λ i. IsStrictlySortedBy by_path i.scripts.items };
 }
 
 impl ScriptIndex {
@@ -44,7 +45,7 @@ impl ScriptIndex {
         ensures { IfOk result (λ index. IsScriptIndexOf tree.now index) }
     {
         let mut scripts = scripts_of(alloc, tree)?;
-        scripts.sort()?;
+        sort_once(&mut scripts);
         Ok(ScriptIndex { scripts })
     }
 
@@ -122,7 +123,7 @@ fn scripts_of(alloc: Global, tree: &Tree) -> Mem<Vec<Path>>
 
 // Adds the script whose text the node at a path holds, if it holds one.
 fn push_row(scripts: &mut Vec<Path>, alloc: Global, path: &Path, node: &Node) -> Mem<()>
-    ensures { OnOk result (AddsScript path.now (has_text node.now) scripts.old.items scripts.new.items) }
+    ensures { OnOk result (AddsScript path.now (is_script_text path.now node.now) scripts.old.items scripts.new.items) }
 {
     if !is_text_path(path) {
         return Ok(());

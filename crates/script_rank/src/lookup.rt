@@ -4,6 +4,7 @@ ghost use Rattle.sp_base.specs.Texts.{Segments};
 
 use crate::ScriptIndex;
 use crate::script::script_text;
+use crate::texts::is_script_name;
 use resource_tree::Tree;
 use sp_base::{Mem, Path};
 use std::alloc::Global;
@@ -22,9 +23,9 @@ impl Scripts for Tree {
 
     ghost tells = { is_script };
 
-    // Whether a node is there that has a script's text.
+    // Whether a node is there that has a script's name and text.
     fn has(&self, alloc: Global, path: &Path) -> Mem<bool> {
-        if self.node(path).is_none() {
+        if !is_script_name(path.name()) || self.node(path).is_none() {
             return Ok(false);
         }
         Ok(script_text(alloc, self, path)?.is_some())

@@ -1,16 +1,34 @@
 // The nodes that hold the texts of scripts.
 ghost use Rattle.std.specs.Prelude.{◌≡◌, OnOk, option_copied, true};
-ghost use Rattle.script_rank.specs.Noting.{AddsScript, has_text, has_text_there, is_text_path, leaves_text};
+ghost use Rattle.script_rank.specs.Noting.{AddsScript, has_text, has_text_there, is_named_script, is_text_path, leaves_text};
+ghost use Rattle.script_rank.specs.Ranking.{is_script_name};
 
 use resource_tree::{Node, PatchNode};
 use sp_base::{Mem, Path};
 use std::alloc::Global;
 
-/// Whether the text of a script may stand at a path.
+/// Whether a name may be a script's.
+pub(crate) fn is_script_name(name: &str) -> bool
+    ensures { result ≡ is_script_name name.now }
+{
+    name.as_bytes().ends_with(b".html")
+}
+
+// Whether there is a name that may be a script's.
+fn is_named_script(name: Option<&str>) -> bool
+    ensures { result ≡ is_named_script (option_copied name.entry) }
+{
+    match name {
+        Some(name) => is_script_name(name),
+        None => false,
+    }
+}
+
+/// Whether the text of a script may stand at a path: the segment before its last one names the script.
 pub(crate) fn is_text_path(path: &Path) -> bool
     ensures { result ≡ is_text_path path.now }
 {
-    path.name() == "jcr:content"
+    path.name() == "jcr:content" && is_named_script(path.seg(path.depth().saturating_sub(2)))
 }
 
 /// Whether a node holds the text of a script.

@@ -1,4 +1,6 @@
 use Rattle.std.proofs.Common.{◌≡◌, sym, subst, ap, ◌∙◌}
+use Rattle.std.specs.List.Sorted.{IsStrictlySortedBy}
+use Rattle.sp_base.specs.Paths.{by_path}
 use Rattle.resource_tree.specs.Content.{Content, IsGood}
 use Rattle.script_rank.specs.Index.{ScriptPaths, IsScriptIndexOf, has_path}
 use Rattle.publisher.specs.Kept.{AreAmong, AreReadings, KeptReadings}
@@ -12,7 +14,7 @@ returns-clause-kept c =
 
 -- an index with other room is one of the same tree
 same_index : (tree : Content) (old new : ScriptPaths) → new.scripts ≡ old.scripts → IsScriptIndexOf tree old → IsScriptIndexOf tree new
-same_index tree old new same is = record { scripts = λ path. ap (λ paths. has_path paths path) same ∙ is.scripts path }
+same_index tree old new same is = record { order = subst (IsStrictlySortedBy by_path) (sym same) is.order; scripts = λ path. ap (λ paths. has_path paths path) same ∙ is.scripts path }
 
 pub returns-clause-indexes : goal.returns-clause-indexes
 returns-clause-indexes c = record {

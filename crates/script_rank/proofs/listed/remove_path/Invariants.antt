@@ -1,6 +1,6 @@
 use Rattle.std.proofs.Common.{◌≡◌, ◌≤◌, ℕ, List, vec_len}
 use Rattle.std.specs.Prelude.{◌||◌, vec_capacity}
-use Rattle.std.specs.List.Sorted.{IsSorted}
+use Rattle.std.specs.List.Sorted.{IsStrictlySortedBy}
 use Rattle.sp_base.specs.Paths.{by_path}
 use Rattle.resource_tree.specs.Content.{same_path}
 use Rattle.script_rank.specs.Index.{has_path}
@@ -8,7 +8,7 @@ use Rattle.script_rank.proofs.listed.remove_path.Given as goal
 
 abbrev pub invariant-loop-place : goal.invariant-loop-place
 invariant-loop-place l = record {
-  order : IsSorted by_path l.paths.items;
+  order : IsStrictlySortedBy by_path l.paths.items;
   others : (q : List (List ℕ)) → (has_path l.paths.items q || same_path q l.path) ≡ (has_path l.fn.paths.items q || same_path q l.path);
   room : vec_capacity l.paths ≡ vec_capacity l.fn.paths;
   fewer : vec_len l.paths ≤ vec_len l.fn.paths;

@@ -1,6 +1,5 @@
-use Rattle.std.proofs.Common.{◌∙◌, ap, arith, length, sym, subst}
-use Rattle.std.specs.Prelude.{◌&&◌, not}
-use Rattle.script_rank.specs.Index.{ScriptPathsChange, IsScriptChangeOf, has_path}
+use Rattle.std.proofs.Common.{ap, arith, length, sym, subst}
+use Rattle.script_rank.specs.Index.{ScriptPathsChange, IsScriptChangeOf}
 use Rattle.script_rank.proofs.TextLemmas.{index_after}
 use Rattle.script_rank.proofs.index.ScriptIndex.take.Goals as goal
 
@@ -11,4 +10,4 @@ pub returns : goal.returns
 returns c = λ tree after patch is change good shows.
     index_after tree after patch (record { added = c.change.inside.added.items; gone = c.change.inside.gone.items }) c.args.self.now c.forget_all.new.self c.put_all.new.self is
     (subst (IsScriptChangeOf tree patch) (sym c.change.view_is) change) good shows
-    (λ q. c.forget_all.ensures.scripts q ∙ ap (λ xs. has_path c.args.self.now.scripts q && not (has_path xs q)) c.deref.ensures.value) c.put_all.ensures
+    c.forget_all.ensures.scripts c.put_all.ensures.scripts c.put_all.ensures.order

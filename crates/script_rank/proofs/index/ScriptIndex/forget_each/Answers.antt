@@ -3,7 +3,7 @@ use Rattle.std.specs.Prelude.{◌&&◌, not}
 use Rattle.std.proofs.lemmas.List.{take_all}
 use Rattle.script_rank.specs.Index.{has_path}
 use Rattle.script_rank.proofs.ListedLemmas.{gone_more, gone_none}
-use Rattle.script_rank.proofs.index.ScriptIndex.forget_all.Goals as goal
+use Rattle.script_rank.proofs.index.ScriptIndex.forget_each.Goals as goal
 
 pub loop-path-init : goal.loop-path-init
 loop-path-init c = record { scripts = λ q. gone_none c.args.self.now.scripts q; room = omega arith }

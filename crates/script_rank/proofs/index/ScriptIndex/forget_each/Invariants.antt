@@ -1,7 +1,7 @@
 use Rattle.std.proofs.Common.{◌≡◌, ◌≤◌, ℕ, List, take}
 use Rattle.std.specs.Prelude.{◌&&◌, not}
 use Rattle.script_rank.specs.Index.{has_path}
-use Rattle.script_rank.proofs.index.ScriptIndex.forget_all.Given as goal
+use Rattle.script_rank.proofs.index.ScriptIndex.forget_each.Given as goal
 
 abbrev pub invariant-loop-path : goal.invariant-loop-path
 invariant-loop-path l = record {

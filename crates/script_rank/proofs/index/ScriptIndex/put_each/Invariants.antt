@@ -1,7 +1,7 @@
 use Rattle.std.proofs.Common.{◌≡◌, ◌≤◌, ℕ, List, length, vec_len}
 use Rattle.std.specs.Prelude.{◌||◌}
 use Rattle.script_rank.specs.Index.{has_path}
-use Rattle.script_rank.proofs.index.ScriptIndex.put_all.Given as goal
+use Rattle.script_rank.proofs.index.ScriptIndex.put_each.Given as goal
 
 abbrev pub invariant-loop-path : goal.invariant-loop-path
 invariant-loop-path l = record {

@@ -56,3 +56,7 @@ AddsScript at holds old new = (path : Segments) → has_path new path ≡ (has_p
 pub record NotesScriptEntry (at : Segments) (before after : Bool) (old new : ScriptPathsChange) : Type 0 where
   pub added : AddsScript at (after && not before) old.added new.added
   pub gone : AddsScript at (before && not after) old.gone new.gone
+
+-- how far a change has come with one entry more of a patch, at a path where this node is, if any
+abbrev pub NotesPatchedRow : Segments → Option Node → PatchNode → ScriptPathsChange → ScriptPathsChange → Type 0
+NotesPatchedRow path node row old new = NotesScriptEntry path (is_script_text_there path node) (leaves_script_text path row) old new

@@ -4,7 +4,7 @@ ghost use Rattle.std.specs.List.Sorted.{IsStrictlySortedBy};
 ghost use Rattle.sp_base.specs.Paths.{by_path};
 ghost use Rattle.resource_tree.specs.Content.{node_at};
 ghost use Rattle.script_rank.specs.Index.{HasScriptRoom, IsScriptChangeOf, IsScriptIndexOf, has_path, TakesScriptChange};
-ghost use Rattle.script_rank.specs.Noting.{NotesScriptEntry, is_script_text_there, leaves_script_text};
+ghost use Rattle.script_rank.specs.Noting.{NotesPatchedRow};
 ghost use Rattle.sp_base.specs.Texts.{Segments};
 
 use crate::ScriptIndex;
@@ -138,7 +138,7 @@ fn note_entry(
     path: &Path,
     row: &PatchNode,
 ) -> Mem<()>
-    ensures { OnOk result (NotesScriptEntry path.now (is_script_text_there path.now (node_at tree.now path.now)) (leaves_script_text path.now row.now) change.old change.new) }
+    ensures { OnOk result (NotesPatchedRow path.now (node_at tree.now path.now) row.now change.old change.new) }
 {
     if !is_text_path(path) {
         return Ok(());

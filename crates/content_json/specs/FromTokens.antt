@@ -14,6 +14,7 @@ use Rattle.serde_json.specs.Find.{get_member}
 use Rattle.serde_json.specs.Read.{of_json, of_members, converted, read, of_items}
 use Rattle.serde_json.specs.View.{items_of}
 use Rattle.sp_base.specs.declared.value.Value.{Value}
+use Rattle.content_json.specs.declared.from_tokens.MemberPlace.{MemberPlace}
 use Rattle.content_json.specs.declared.open_object.OpenObject.{OpenObject}
 use Rattle.content_json.specs.OpenProps.{held}
 use Rattle.resource_tree.specs.Content.{Content, node_at}
@@ -81,9 +82,13 @@ pub record AddsMember (levels : ℕ) (path : Segments) (name : List ℕ) (before
   pub gains : Gains before after name told
   pub nodes : (q : Segments) → node_at new q ≡ with_nodes_at old (member_nodes path name told) q
 
+-- the same of the member that stands at a place
+abbrev pub AddsMemberAt : MemberPlace → OpenObject → OpenObject → Content → Content → List Token → List Token → Type 0
+AddsMemberAt place before after old new ts rest = AddsMember place.levels place.path.now place.name.now before after old new ts rest
+
 -- and so with a kid whose opening brace is read already
-abbrev pub AddsKid : ℕ → Segments → List ℕ → OpenObject → OpenObject → Content → Content → List Token → List Token → Type 0
-AddsKid levels path name before after old new ts rest = AddsMember levels path name before after old new (begin_object ∷ ts) rest
+abbrev pub AddsKidAt : MemberPlace → OpenObject → OpenObject → Content → Content → List Token → List Token → Type 0
+AddsKidAt place before after old new ts rest = AddsMemberAt place before after old new (begin_object ∷ ts) rest
 
 -- so it is with all members up to the closing brace
 pub record AddsMembers (levels : ℕ) (path : Segments) (after : OpenObject) (old new : Content) (ts rest : List Token) : Type 0 where

@@ -4,7 +4,7 @@ ghost use Rattle.serde_json.specs.Data.{no_members, object};
 ghost use Rattle.json.specs.Reads.{token_of};
 ghost use Rattle.sp_base.specs.Paths.{most_segments};
 ghost use Rattle.content_json.specs.Names.{is_content_name, order_name};
-ghost use Rattle.content_json.specs.FromTokens.{HoldsMembers, IsSoundContent, AddsObject, AddsMembers, AddsMember, AddsKid, TakesIn};
+ghost use Rattle.content_json.specs.FromTokens.{HoldsMembers, IsSoundContent, AddsObject, AddsMembers, AddsMemberAt, AddsKidAt, TakesIn};
 
 use crate::names::{is_content_name, is_order};
 use crate::open_object::OpenObject;
@@ -15,6 +15,14 @@ use resource_tree::{MOST_NODES, NodeMap};
 use sp_base::{MOST_SEGMENTS, Mem, Path};
 use std::alloc::Global;
 use std::hash::RandomState;
+
+// Where a member with a name stands: in the object at a path, below which there may be `levels` more levels.
+#[derive(Clone, Copy)]
+struct MemberPlace<'p, 'a> {
+    path: &'p Path,
+    levels: usize,
+    name: &'a str,
+}
 
 /// The nodes of sound content. There may be none where a member takes the place of a kid of its name, where a fault is replaced by a
 /// later member of its name, and of content that isn't sound.
@@ -94,7 +102,8 @@ fn add_members<'a>(
         let Some(name) = key else {
             return Ok(true);
         };
-        if !add_member(alloc, reader, nodes, path, levels, name, parent)? {
+        let place = MemberPlace { path, levels, name };
+        if !add_member(alloc, reader, nodes, &place, parent)? {
             return Ok(false);
         }
     }
@@ -106,25 +115,23 @@ fn add_member<'a>(
     alloc: Global,
     reader: &mut Reader<'a>,
     nodes: &mut NodeMap,
-    path: &Path,
-    levels: usize,
-    name: &'a str,
+    place: &MemberPlace<'_, 'a>,
     parent: &mut OpenObject<'a>,
 ) -> Mem<bool>
-    requires levels { length path.now + levels ≡ most_segments }
+    requires levels { length place.now.path.now + place.now.levels ≡ most_segments }
     ensures shorter { OnOk result (length reader.new ≤ length reader.old) }
-    ensures added { IfOk result (λ done. done ≡ true → AddsMember levels path.now name.now parent.old parent.new nodes.old nodes.new reader.old reader.new) }
+    ensures added { IfOk result (λ done. done ≡ true → AddsMemberAt place.now parent.old parent.new nodes.old nodes.new reader.old reader.new) }
 {
-    if is_order(name) {
+    if is_order(place.name) {
         return add_order(alloc, reader, parent);
     }
-    if !is_content_name(name) {
+    if !is_content_name(place.name) {
         return Ok(false);
     }
     match reader.next() {
-        Some(Token::BeginObject) => add_kid(alloc, reader, nodes, path, levels, name, parent),
-        Some(Token::Null) => parent.put_null(name),
-        Some(first) => add_property(alloc, reader, first, name, parent),
+        Some(Token::BeginObject) => add_kid(alloc, reader, nodes, place, parent),
+        Some(Token::Null) => parent.put_null(place.name),
+        Some(first) => add_property(alloc, reader, first, place.name, parent),
         None => Ok(false),
     }
 }
@@ -135,21 +142,19 @@ fn add_kid<'a>(
     alloc: Global,
     reader: &mut Reader<'a>,
     nodes: &mut NodeMap,
-    path: &Path,
-    levels: usize,
-    name: &'a str,
+    place: &MemberPlace<'_, 'a>,
     parent: &mut OpenObject<'a>,
 ) -> Mem<bool>
-    requires levels { length path.now + levels ≡ most_segments }
-    requires plain { is_content_name name.now ≡ true }
+    requires levels { length place.now.path.now + place.now.levels ≡ most_segments }
+    requires plain { is_content_name place.now.name.now ≡ true }
     ensures shorter { OnOk result (length reader.new ≤ length reader.old) }
-    ensures added { IfOk result (λ done. done ≡ true → AddsKid levels path.now name.now parent.old parent.new nodes.old nodes.new reader.old reader.new) }
+    ensures added { IfOk result (λ done. done ≡ true → AddsKidAt place.now parent.old parent.new nodes.old nodes.new reader.old reader.new) }
 {
-    if levels == 0 || !parent.put_kid(name)? {
+    if place.levels == 0 || !parent.put_kid(place.name)? {
         return Ok(false);
     }
-    let kid = kid_path(alloc, path, name)?;
-    add_object(alloc, reader, nodes, kid, levels - 1)
+    let kid = kid_path(alloc, place.path, place.name)?;
+    add_object(alloc, reader, nodes, kid, place.levels - 1)
 }
 
 // Takes in what `:order` lists.

@@ -3,9 +3,9 @@
 ghost use Rattle.std.specs.Prelude.{◌≡◌, ◌≢◌, ◌≤◌, ◌<◌, [], IfOk, IfErr, string_bytes, length};
 ghost use Rattle.htl_expr.specs.Print as spec;
 ghost use Rattle.htl_expr.specs.Value.{property};
-ghost use Rattle.htl_expr.specs.Writing.{Wrote};
+ghost use Rattle.htl_expr.specs.Writing.{WroteAs};
 
-use crate::escape::push;
+use crate::escape::{Writing, push};
 use crate::evaluation::Evaluation;
 use crate::lists::push_texts;
 use crate::room::WriteFault;
@@ -28,18 +28,17 @@ fn push_newly_joined(
     text: &mut String,
     alloc: Global,
     scope: &mut Evaluation,
-    most: usize,
-    context: Option<Context>,
+    writing: Writing,
     name: &TextBuf,
     items: &[TextBuf],
 ) -> Result<(), WriteFault>
-    requires room { length (string_bytes text.old) ≤ most }
+    requires room { length (string_bytes text.old) ≤ writing.most }
     requires items { spec.plain [] (property scope.old name.now) ≡ spec.concatenation [] items.now }
-    ensures text { Wrote most result (string_bytes text.old) (spec.in_context context (spec.concatenation [] items.now)) (string_bytes text.new) }
+    ensures text { WroteAs writing result (string_bytes text.old) (spec.concatenation [] items.now) (string_bytes text.new) }
     ensures scope { scope.new ≡ scope.old }
 {
-    let joined = joined(alloc, most - text.as_str().len(), items)?;
-    push(text, most, context, joined.text())?;
+    let joined = joined(alloc, writing.most - text.as_str().len(), items)?;
+    push(text, writing.most, writing.context, joined.text())?;
     scope.remember_joined(name.duplicate(alloc)?, joined)?;
     Ok(())
 }
@@ -49,18 +48,17 @@ pub(crate) fn push_joined(
     text: &mut String,
     alloc: Global,
     scope: &mut Evaluation,
-    most: usize,
-    context: Option<Context>,
+    writing: Writing,
     name: &TextBuf,
     items: &[TextBuf],
 ) -> Result<(), WriteFault>
-    requires room { length (string_bytes text.old) ≤ most }
+    requires room { length (string_bytes text.old) ≤ writing.most }
     requires items { spec.plain [] (property scope.old name.now) ≡ spec.concatenation [] items.now }
-    ensures text { Wrote most result (string_bytes text.old) (spec.in_context context (spec.concatenation [] items.now)) (string_bytes text.new) }
+    ensures text { WroteAs writing result (string_bytes text.old) (spec.concatenation [] items.now) (string_bytes text.new) }
     ensures scope { scope.new ≡ scope.old }
 {
     if let Some(joined) = scope.joined(name) {
-        return push(text, most, context, joined.text());
+        return push(text, writing.most, writing.context, joined.text());
     }
-    push_newly_joined(text, alloc, scope, most, context, name, items)
+    push_newly_joined(text, alloc, scope, writing, name, items)
 }

@@ -7,6 +7,14 @@ ghost use Rattle.htl_expr.specs.Writing.{Wrote};
 use crate::room::{WriteFault, push_within};
 use htl_syntax::Context;
 
+/// How texts are written: within how many bytes, and in which context.
+#[derive(Clone, Copy)]
+pub(crate) struct Writing {
+    /// The most bytes that a text may have then.
+    pub(crate) most: usize,
+    pub(crate) context: Option<Context>,
+}
+
 fn reference(c: u8) -> Option<&'static str>
     ensures { option_map (λ text. text.now) result ≡ spec.reference c }
 {

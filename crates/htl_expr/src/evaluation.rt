@@ -7,10 +7,9 @@ ghost use Rattle.htl_expr.specs.Remembered.{compared_by};
 ghost use Rattle.htl_expr.specs.Print.{plain};
 ghost use Rattle.htl_expr.specs.Value as spec;
 
-use crate::classes::Classes;
 use crate::compare::{SameBy, same_by};
 use crate::kept::{is_item, item_len, push_item};
-use crate::numbered::{Aspect, has_one_number};
+use crate::numbered::{Aspect, Numbering, has_one_number};
 use crate::scope::{Scope, property};
 use sp_base::{Mem, TextBuf};
 use std::alloc::Global;
@@ -23,9 +22,8 @@ use std::marker::Model;
 #[derive(Drop)]
 pub struct Evaluation<'a> {
     scope: Scope<'a>,
-    classes: Classes<'a>,
-    lists: BTreeMap<TextBuf, u64>,
-    items: BTreeMap<TextBuf, u64>,
+    lists: Numbering<'a>,
+    items: Numbering<'a>,
     joined: BTreeMap<TextBuf, TextBuf>,
     item_texts: BTreeMap<TextBuf, TextBuf>,
 }
@@ -39,7 +37,7 @@ impl<'a> Model for Evaluation<'a> {
 
     ghost view = { λ e. e.scope };
 
-    ghost invariant = { λ e. Knows e.scope aspect.List e.classes e.lists × (Knows e.scope aspect.Item e.classes e.items × (RemembersJoined e.scope e.joined × RemembersItemTexts e.scope e.item_texts)) };
+    ghost invariant = { λ e. Knows e.scope aspect.List e.lists.classes e.lists.known × (Knows e.scope aspect.Item e.items.classes e.items.known × (RemembersJoined e.scope e.joined × RemembersItemTexts e.scope e.item_texts)) };
 }
 
 // What tells whether two properties of the resource are the same.
@@ -62,9 +60,8 @@ impl<'a> Evaluation<'a> {
                 kind: scope.kind,
                 vars: scope.vars,
             },
-            classes: Classes::new(alloc),
-            lists: BTreeMap::new(alloc),
-            items: BTreeMap::new(alloc),
+            lists: Numbering::new(alloc),
+            items: Numbering::new(alloc),
             joined: BTreeMap::new(alloc),
             item_texts: BTreeMap::new(alloc),
         }
@@ -81,15 +78,7 @@ impl<'a> Evaluation<'a> {
         ensures same { IfOk result (λ same. same ≡ pointwise (pointwise nat_eq) (compared_by self.old Aspect.List a.now) (compared_by self.old Aspect.List b.now)) }
         ensures scope { self.new ≡ self.old }
     {
-        has_one_number(
-            alloc,
-            &self.scope,
-            Aspect::List,
-            &mut self.classes,
-            &mut self.lists,
-            a,
-            b,
-        )
+        has_one_number(alloc, &self.scope, Aspect::List, &mut self.lists, a, b)
     }
 
     // Whether two properties have the same text as items of list literals, by their numbers.
@@ -97,15 +86,7 @@ impl<'a> Evaluation<'a> {
         ensures same { IfOk result (λ same. same ≡ pointwise (pointwise nat_eq) (compared_by self.old Aspect.Item a.now) (compared_by self.old Aspect.Item b.now)) }
         ensures scope { self.new ≡ self.old }
     {
-        has_one_number(
-            alloc,
-            &self.scope,
-            Aspect::Item,
-            &mut self.classes,
-            &mut self.items,
-            a,
-            b,
-        )
+        has_one_number(alloc, &self.scope, Aspect::Item, &mut self.items, a, b)
     }
 
     /// Whether two properties have the same text as items of list literals.

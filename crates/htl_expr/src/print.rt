@@ -5,10 +5,10 @@ ghost use Rattle.htl_expr.specs.Lent.{out_of_lent, plain_item, IsOperand, plain_
 ghost use Rattle.htl_expr.specs.Print as spec;
 ghost use Rattle.htl_expr.specs.Value.{plain_text, print};
 ghost use Rattle.htl_expr.specs.Variables.{seen_by};
-ghost use Rattle.htl_expr.specs.Writing.{Wrote, WriteFailsAsTooLong, IsWrittenWithin};
+ghost use Rattle.htl_expr.specs.Writing.{Wrote, WroteAs, WriteFailsAsTooLong, IsWrittenWithin};
 
 use crate::empty_join::push_joined;
-use crate::escape::push;
+use crate::escape::{Writing, push};
 use crate::evaluation::Evaluation;
 use crate::expression::Expr;
 use crate::lent::{Lent, Operand};
@@ -92,20 +92,26 @@ fn push_closed(
     text: &mut String,
     alloc: Global,
     scope: &mut Evaluation,
-    most: usize,
-    context: Option<Context>,
+    writing: Writing,
     operand: &Operand,
 ) -> Result<(), WriteFault>
-    requires room { length (string_bytes text.old) ≤ most }
+    requires room { length (string_bytes text.old) ≤ writing.most }
     requires operand { IsOperand scope.old operand.now }
-    ensures text { Wrote most result (string_bytes text.old) (spec.in_context context (spec.plain [] (out_of_lent operand.now.value))) (string_bytes text.new) }
+    ensures text { WroteAs writing result (string_bytes text.old) (spec.plain [] (out_of_lent operand.now.value)) (string_bytes text.new) }
     ensures scope { scope.new ≡ scope.old }
 {
     match (operand.property, &operand.value) {
         (Some(name), Lent::Texts(items)) => {
-            push_joined(text, alloc, scope, most, context, name, items.as_slice())
+            push_joined(text, alloc, scope, writing, name, items.as_slice())
         }
-        _ => push_value(text, alloc, most, context, "", &operand.value),
+        _ => push_value(
+            text,
+            alloc,
+            writing.most,
+            writing.context,
+            "",
+            &operand.value,
+        ),
     }
 }
 
@@ -114,20 +120,26 @@ fn push_operand(
     text: &mut String,
     alloc: Global,
     scope: &mut Evaluation,
-    most: usize,
-    context: Option<Context>,
+    writing: Writing,
     join: &str,
     operand: &Operand,
 ) -> Result<(), WriteFault>
-    requires room { length (string_bytes text.old) ≤ most }
+    requires room { length (string_bytes text.old) ≤ writing.most }
     requires operand { IsOperand scope.old operand.now }
-    ensures text { Wrote most result (string_bytes text.old) (spec.in_context context (plain_lent join.now operand.now.value)) (string_bytes text.new) }
+    ensures text { WroteAs writing result (string_bytes text.old) (plain_lent join.now operand.now.value) (string_bytes text.new) }
     ensures scope { scope.new ≡ scope.old }
 {
     if join.is_empty() {
-        push_closed(text, alloc, scope, most, context, operand)
+        push_closed(text, alloc, scope, writing, operand)
     } else {
-        push_value(text, alloc, most, context, join, &operand.value)
+        push_value(
+            text,
+            alloc,
+            writing.most,
+            writing.context,
+            join,
+            &operand.value,
+        )
     }
 }
 
@@ -149,18 +161,17 @@ impl Expr {
         alloc: Global,
         of: &mut Evaluation<'a>,
         vars: &'v Variables<'v>,
-        most: usize,
-        context: Option<Context>,
+        writing: Writing,
     ) -> Result<(), WriteFault>
-        requires { length (string_bytes text.old) ≤ most }
-        ensures text { Wrote most result (string_bytes text.old) (spec.in_context context (plain_text (seen_by of.old vars.now) self.now)) (string_bytes text.new) }
+        requires { length (string_bytes text.old) ≤ writing.most }
+        ensures text { WroteAs writing result (string_bytes text.old) (plain_text (seen_by of.old vars.now) self.now) (string_bytes text.new) }
         ensures resource { of.new ≡ of.old }
     {
         match &self.expression.node {
             Some(node) => {
                 let operand = value(alloc, of, vars, node)?;
                 let join = join_text(&self.expression.join);
-                push_operand(text, alloc, of, most, context, join, &operand)
+                push_operand(text, alloc, of, writing, join, &operand)
             }
             None => Ok(()),
         }
@@ -185,7 +196,11 @@ impl Expr {
         if len > most {
             return Err(WriteFault::TooLong);
         }
-        match self.push_in(text, alloc, of, vars, most, self.expression.context) {
+        let writing = Writing {
+            most,
+            context: self.expression.context,
+        };
+        match self.push_in(text, alloc, of, vars, writing) {
             Ok(()) => Ok(()),
             Err(fault) => {
                 text.truncate(len);

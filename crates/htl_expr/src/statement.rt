@@ -5,6 +5,7 @@ ghost use Rattle.htl_expr.specs.Value as spec;
 ghost use Rattle.htl_expr.specs.Variables.{seen_by};
 ghost use Rattle.htl_expr.specs.Writing.{WriteFailsAsTooLong};
 
+use crate::escape::Writing;
 use crate::evaluation::Evaluation;
 use crate::expression::Expr;
 use crate::lent;
@@ -62,7 +63,11 @@ impl Expr {
         ensures resource { of.new ≡ of.old }
     {
         let mut text = String::new(alloc);
-        self.push_in(&mut text, alloc, of, vars, most, Some(Context::Unsafe))?;
+        let writing = Writing {
+            most,
+            context: Some(Context::Unsafe),
+        };
+        self.push_in(&mut text, alloc, of, vars, writing)?;
         Ok(TextBuf::from(text))
     }
 }

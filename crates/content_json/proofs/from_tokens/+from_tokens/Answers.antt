@@ -22,31 +22,31 @@ or_true false b h = h
 pub add_kid-returns-clause-added : goal.add_kid-returns-clause-added
 add_kid-returns-clause-added t c =
     let put : c.in_ok-put_kid.field-0 ≡ true = grind arith in
-    let some : c.args.levels ≢ 0 = grind arith in
-    let plain : is_content_name c.args.name.now ≡ true = search rules in
+    let some : c.args.place.now.levels ≢ 0 = grind arith in
+    let plain : is_content_name c.args.place.now.name.now ≡ true = search rules in
     IfOk-weaker c.add_object.result _ _
-    (λ done inner whole. kid_added c.args.levels c.args.path.now c.in_ok-kid.kid c.args.name.now c.args.parent.now c.put_kid.new.self c.args.nodes.now c.add_object.new.nodes c.args.reader.now c.add_object.new.reader some plain c.in_ok-kid.ensures (c.in_ok-put_kid.ensures put) (inner whole))
+    (λ done inner whole. kid_added c.args.place.now.levels c.args.place.now.path.now c.in_ok-kid.kid c.args.place.now.name.now c.args.parent.now c.put_kid.new.self c.args.nodes.now c.add_object.new.nodes c.args.reader.now c.add_object.new.reader some plain c.in_ok-kid.ensures (c.in_ok-put_kid.ensures put) (inner whole))
     c.add_object.ensures.added
 
 pub add_member-returns-then-is_order-clause-added : goal.add_member-returns-then-is_order-clause-added
 add_member-returns-then-is_order-clause-added t c =
-    let order : is_order c.args.name.now ≡ true = grind arith in
-    let named = same_text c.args.name.now order_name (sym order) in
+    let order : is_order c.args.place.now.name.now ≡ true = grind arith in
+    let named = same_text c.args.place.now.name.now order_name (sym order) in
     IfOk-weaker c.add_order.result _ _
-    (λ done taken whole. leaf_added c.args.levels c.args.path.now c.args.name.now c.args.parent.now c.add_order.new.parent c.args.nodes.now c.args.reader.now c.add_order.new.reader (ap (λ b. b || is_content_name c.args.name.now) order)
+    (λ done taken whole. leaf_added c.args.place.now.levels c.args.place.now.path.now c.args.place.now.name.now c.args.parent.now c.add_order.new.parent c.args.nodes.now c.args.reader.now c.add_order.new.reader (ap (λ b. b || is_content_name c.args.place.now.name.now) order)
     (rw named (taken whole)))
     c.add_order.ensures.added
 
 pub add_member-returns-in-Some-Null-clause-added : goal.add_member-returns-in-Some-Null-clause-added
 add_member-returns-in-Some-Null-clause-added t c =
     let first : c.args.reader.now ≡ Token.null ∷ c.next.new.self = c.in-Some-Null.ensures.value ∙ ap (λ t. token_of t ∷ c.next.new.self) c.in-Some-Null.field-0-is in
-    let plain : is_content_name c.args.name.now ≡ true = grind arith in
+    let plain : is_content_name c.args.place.now.name.now ≡ true = grind arith in
     IfOk-weaker c.put_null.result _ _
-    (λ done taken whole. leaf_added c.args.levels c.args.path.now c.args.name.now c.args.parent.now c.put_null.new.self c.args.nodes.now c.args.reader.now c.next.new.self (or_true (is_order c.args.name.now) (is_content_name c.args.name.now) plain)
+    (λ done taken whole. leaf_added c.args.place.now.levels c.args.place.now.path.now c.args.place.now.name.now c.args.parent.now c.put_null.new.self c.args.nodes.now c.args.reader.now c.next.new.self (or_true (is_order c.args.place.now.name.now) (is_content_name c.args.place.now.name.now) plain)
     (record {
       told = null;
       read = λ depth. ap (λ ts. converted of_json (value (suc depth) ts)) first ∙ null_read (suc depth) c.next.new.self;
-      faultless = member_fault-none c.args.name.now null refl;
+      faultless = member_fault-none c.args.place.now.name.now null refl;
       no_kid = refl;
       gains = taken whole;
     }))
@@ -55,11 +55,11 @@ add_member-returns-in-Some-Null-clause-added t c =
 pub add_member-returns-in-Some : goal.add_member-returns-in-Some
 add_member-returns-in-Some t c =
     let first : c.args.reader.now ≡ token_of c.in-Some.first ∷ c.next.new.self = c.in-Some.ensures.value in
-    let plain : is_content_name c.args.name.now ≡ true = grind arith in
+    let plain : is_content_name c.args.place.now.name.now ≡ true = grind arith in
     record {
       shorter = on_ok_weaker c.add_property.result (λ h. omega (arith, h, ap length first)) c.add_property.ensures.shorter;
       added = IfOk-weaker c.add_property.result _ _
-          (λ done taken whole. leaf_added c.args.levels c.args.path.now c.args.name.now c.args.parent.now c.add_property.new.parent c.args.nodes.now c.args.reader.now c.add_property.new.reader (or_true (is_order c.args.name.now) (is_content_name c.args.name.now) plain) (rw first (taken whole)))
+          (λ done taken whole. leaf_added c.args.place.now.levels c.args.place.now.path.now c.args.place.now.name.now c.args.parent.now c.add_property.new.parent c.args.nodes.now c.args.reader.now c.add_property.new.reader (or_true (is_order c.args.place.now.name.now) (is_content_name c.args.place.now.name.now) plain) (rw first (taken whole)))
           c.add_property.ensures.added;
     }
 

@@ -17,10 +17,10 @@ abbrev pub decreases-add_members : goal.decreases-add_members
 decreases-add_members l = 4 * l.levels + 2
 
 abbrev pub decreases-add_member : goal.decreases-add_member
-decreases-add_member l = 4 * l.levels + 1
+decreases-add_member l = 4 * l.place.now.levels + 1
 
 abbrev pub decreases-add_kid : goal.decreases-add_kid
-decreases-add_kid l = 4 * l.levels
+decreases-add_kid l = 4 * l.place.now.levels
 
 -- the members so far are taken in, and what is left to read makes the same object with them
 abbrev pub invariant-add_members-members : goal.invariant-add_members-members

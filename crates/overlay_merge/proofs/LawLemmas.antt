@@ -39,7 +39,7 @@ moved_at names name other (Some at) is =
       | false ↦ IsPermutation-refl names
     ]
 
-moved-reorders : (names : List (List ℕ)) (name : List ℕ) (wish : Option (List ℕ)) → IsPermutation names (names_after_move name wish names)
+pub moved-reorders : (names : List (List ℕ)) (name : List ℕ) (wish : Option (List ℕ)) → IsPermutation names (names_after_move name wish names)
 unfolding names_after_move
 moved-reorders names name None = IsPermutation-refl names
 moved-reorders names name (Some other) =

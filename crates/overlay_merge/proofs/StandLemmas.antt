@@ -1,13 +1,18 @@
 -- Where a kid stands once it is moved.
-use Rattle.std.proofs.Common.{◌≡◌, ◌++◌, ◌||◌, ℕ, Bool, true, false, not, cond, List, [], ◌∷◌, Some, refl, sym, ◌∙◌, ap, subst}
+use Rattle.std.proofs.Common.{◌≡◌, ◌++◌, ◌||◌, inl, inr, ℕ, Bool, true, false, not, cond, List, [], ◌∷◌, Option, None, Some, refl, sym, ◌∙◌, ap, subst}
 use Rattle.std.specs.Prelude.{nat_eq}
 use Rattle.std.specs.List.{AllByRecursion, IsDistinct, list_any}
-use Rattle.std.specs.Cmp.Lexicographic.{pointwise, same_text}
+use Rattle.std.specs.Cmp.Lexicographic.{nat_list_eq_equiv, pointwise, same_text}
 use Rattle.std.proofs.lemmas.Bool.{or_from}
 use Rattle.std.proofs.lemmas.List.Elements.{filter-append}
+use Rattle.std.proofs.lemmas.Map.Keys.{IsDistinct-IsPermutation}
+use Rattle.overlay_merge.specs.Hiding.{merged_from}
 use Rattle.overlay_merge.specs.Kids.{has_text, names_after_move}
-use Rattle.overlay_merge.specs.Moves.{StandsBefore, without_name}
-use Rattle.overlay_merge.proofs.MoveLemmas.{but, but_none, moved_at, self}
+use Rattle.overlay_merge.specs.Moves.{AreDistinct, IsNotMoved, KidsAreDistinct, StandsBefore, without_name}
+use Rattle.overlay_merge.proofs.KidLemmas.{are_nodes_merged}
+use Rattle.overlay_merge.proofs.LawLemmas.{moved-reorders}
+use Rattle.overlay_merge.proofs.MoveLemmas.{but, but_none, moved_at, moved_none, moved_nowhere, moved_same, self}
+use Rattle.overlay_merge.proofs.OrderLemmas.{distinct_there}
 
 -- where a name stands first
 pub record FirstOf (name : List ℕ) (names : List (List ℕ)) : Type 0 where
@@ -36,14 +41,6 @@ unfolding IsDistinct
 once name [] below d = all_lack name below d.0
 once name (q ∷ above) below d = once name above below d.1
 
-pub kid_stands : (name other : List ℕ) (names : List (List ℕ)) → IsDistinct (pointwise nat_eq) names → pointwise nat_eq name other ≡ false → has_text names name ≡ true → has_text names other ≡ true
-    → StandsBefore (names_after_move name (Some other) names) name other
-kid_stands name other names distinct differ has_name has_other =
-    let n = first_of name names has_name in
-    let o = first_of other names has_other in
-    let below = once name n.above n.below (subst (λ (ns : List (List ℕ)). IsDistinct (pointwise nat_eq) ns) n.is distinct) in
-    record { above = but name o.above; below = but name o.below; is = moved_at name other names n.above n.below o.above o.below differ n.is n.lacks below o.is o.lacks }
-
 but_again : (name : List ℕ) (names : List (List ℕ)) → list_any (pointwise nat_eq name) (but name names) ≡ false
 but_again name [] = refl
 but_again name (q ∷ names) = go (pointwise nat_eq name q) refl (but_again name names)
@@ -52,10 +49,18 @@ but_again name (q ∷ names) = go (pointwise nat_eq name q) refl (but_again name
     go true is ih = ih
     go false is ih = or_from (pointwise nat_eq name q) (list_any (pointwise nat_eq name) (but name names)) is ih
 
+pub kid_stands : (name other : List ℕ) (names : List (List ℕ)) → AreDistinct names → pointwise nat_eq name other ≡ false → has_text names name ≡ true → has_text names other ≡ true
+    → StandsBefore (names_after_move name (Some other) names) name other
+kid_stands name other names distinct differ has_name has_other =
+    let n = first_of name names has_name in
+    let o = first_of other names has_other in
+    let below = once name n.above n.below (subst (λ (ns : List (List ℕ)). IsDistinct (pointwise nat_eq) ns) n.is distinct) in
+    record { above = but name o.above; below = but name o.below; is = moved_at name other names n.above n.below o.above o.below differ n.is n.lacks below o.is o.lacks; lacks_above = but_again name o.above; lacks_below = but_again name o.below }
+
 but_twice : (name : List ℕ) (names : List (List ℕ)) → but name (but name names) ≡ but name names
 but_twice name names = but_none name (but name names) (but_again name names)
 
-pub others_stay : (name other : List ℕ) (names : List (List ℕ)) → IsDistinct (pointwise nat_eq) names → pointwise nat_eq name other ≡ false → has_text names name ≡ true → has_text names other ≡ true
+pub others_stay : (name other : List ℕ) (names : List (List ℕ)) → AreDistinct names → pointwise nat_eq name other ≡ false → has_text names name ≡ true → has_text names other ≡ true
     → without_name name (names_after_move name (Some other) names) ≡ without_name name names
 others_stay name other names distinct differ has_name has_other =
     let n = first_of name names has_name in
@@ -69,3 +74,19 @@ others_stay name other names distinct differ has_name has_other =
     ∙ ap (λ (ns : List (List ℕ)). ns ++ other ∷ but name (but name o.below)) (but_twice name o.above)
     ∙ ap (λ (ns : List (List ℕ)). but name o.above ++ other ∷ ns) (but_twice name o.below)
     ∙ sym (ap (but name) o.is ∙ filter-append (λ (q : List ℕ). not (pointwise nat_eq name q)) o.above (other ∷ o.below) ∙ ap (λ (b : Bool). but name o.above ++ cond (not b) (other ∷ but name o.below) (but name o.below)) differ)
+
+-- ---- what isn't moved, and names that are moved one after the other
+
+pub not_moved : (name : List ℕ) (wish : Option (List ℕ)) (names : List (List ℕ)) → IsNotMoved names name wish → names_after_move name wish names ≡ names
+unfolding names_after_move
+not_moved name None names is = refl
+not_moved name (Some other) names (inl same) = moved_same name other names same
+not_moved name (Some other) names (inr (inl none)) = moved_none name other names none
+not_moved name (Some other) names (inr (inr none)) = moved_nowhere name other names none
+
+pub kids_differ : KidsAreDistinct
+kids_differ tree path good = distinct_there tree path (merged_from tree path) good.shape (are_nodes_merged tree path)
+
+pub still_differ : (name : List ℕ) (wish : Option (List ℕ)) (names : List (List ℕ)) → AreDistinct names → AreDistinct (names_after_move name wish names)
+still_differ name wish names distinct =
+    IsDistinct-IsPermutation (pointwise nat_eq) nat_list_eq_equiv.symm names (names_after_move name wish names) (moved-reorders names name wish) distinct

@@ -1,7 +1,7 @@
 //! What is merged in the subject's words: laws of the definitions, on functions that do nothing.
 ghost use Rattle.std.specs.Cmp.Lexicographic.{pointwise};
 ghost use Rattle.std.specs.List.{IsDistinct};
-ghost use Rattle.std.specs.Prelude.{◌≡◌, ◌∷◌, [], All, List, Some, nat_eq, reverse, true, false};
+ghost use Rattle.std.specs.Prelude.{◌≡◌, ◌∷◌, [], All, List, Option, Some, nat_eq, reverse, true, false};
 ghost use Rattle.sp_base.specs.Texts.{Segments, Text};
 ghost use Rattle.std.specs.List.Sorted.{IsPermutation};
 ghost use Rattle.resource_tree.specs.Content.{Content, IsGood, kid};
@@ -13,7 +13,7 @@ ghost use Rattle.overlay_merge.specs.Cut.{HidesNothing, IsOfLayer, LayerIsCut, N
 ghost use Rattle.overlay_merge.specs.Kids.{all_kids, layers_kids, kids_there, SomeLayerHasKid, GivesKid, IsKidMerged};
 ghost use Rattle.overlay_merge.specs.Kids.{names_after_move};
 ghost use Rattle.overlay_merge.specs.Layers.{layer_below, override_layers};
-ghost use Rattle.overlay_merge.specs.Moves.{IsMovable, KeepsOthers, StandsBefore};
+ghost use Rattle.overlay_merge.specs.Moves.{AreDistinct, IsMovable, IsNotMoved, KeepsOthers, KidsAreDistinct, StandsBefore};
 ghost use Rattle.overlay_merge.specs.Steps.{AreLayerSteps, AreTheLayersIfSteps, IsBelow};
 ghost use Rattle.overlay_merge.specs.Merged.{has_resource, merged_resource, OnlyLayersAreShown, OnlyLayersKeepTheirKids, PropertiesAreOfLayers, KidsAreOfLayers, ListsKid};
 
@@ -73,9 +73,13 @@ pub fn the_layers_of_an_override_are_determined()
     ensures only { (tree : Content) (path : Segments) (layer : Layer) → IsBelow tree path layer → layer_below tree path ≡ Some layer }
 {}
 
-/// A kid that is moved stands directly before the one that it names, and the others keep their order, where both are there and no name is
-/// there twice.
+/// A kid that is moved stands directly before the one that it names and nowhere else, and the others keep their order, where both are there
+/// and no name is there twice (`directly`, `others`). Without a wish, where it names itself or where one of the two isn't there, nothing moves
+/// (`stays`). In a good tree no name is twice among the kids that are ordered (`kids`), nor after a move (`after`).
 pub fn a_moved_kid_stands_before_the_one_it_names()
     ensures directly { (name other : Text) (names : List Text) → IsMovable names name other → StandsBefore (names_after_move name (Some other) names) name other }
     ensures others { (name other : Text) (names : List Text) → IsMovable names name other → KeepsOthers name names (names_after_move name (Some other) names) }
+    ensures stays { (name : Text) (wish : Option Text) (names : List Text) → IsNotMoved names name wish → names_after_move name wish names ≡ names }
+    ensures kids { KidsAreDistinct }
+    ensures after { (name : Text) (wish : Option Text) (names : List Text) → AreDistinct names → AreDistinct (names_after_move name wish names) }
 {}

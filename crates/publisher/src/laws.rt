@@ -113,7 +113,7 @@ pub fn a_script_without_blocks_writes_its_pieces()
 }
 
 /// The answer to a request is the one of the cases of `specs/Cases.antt` that applies, and none of the others applies with another answer:
-/// what the publisher answers, by relations alone.
+/// what the publisher answers, by relations alone but for what a page puts in (`page_of`, `specs/Pages.antt`).
 pub fn an_answer_is_one_of_the_cases()
     ensures is { (tree : Content) (ask : Ask) → IsGood tree → IsAnswer tree ask (answer_to_request tree ask) }
     ensures only { (tree : Content) (ask : Ask) (answer : Answer) → IsGood tree → IsAnswer tree ask answer → answer ≡ answer_to_request tree ask }

@@ -338,6 +338,18 @@ pub(crate) fn value<'v, 'a: 'v>(
     }
 }
 
+// The value of a node, with copies of what it has lent.
+fn owned_value<'v, 'a: 'v>(
+    alloc: Global,
+    scope: &mut Evaluation<'a>,
+    vars: &'v Variables<'v>,
+    node: &'v ExprNode,
+) -> Mem<Out>
+    ensures { IfOk result (λ v. v ≡ spec.value (seen_by scope.old vars.now) node.now) }
+{
+    owned(alloc, &value(alloc, scope, vars, node)?.value)
+}
+
 impl Expr {
     /// The value for a resource. That of an empty expression is nothing.
     pub fn value<'a>(&'a self, alloc: Global, scope: &Scope<'a>) -> Mem<Out>
@@ -346,10 +358,7 @@ impl Expr {
         match &self.expression.node {
             Some(node) => {
                 let mut resource = Evaluation::of(alloc, scope);
-                owned(
-                    alloc,
-                    &value(alloc, &mut resource, scope.variables(), node)?.value,
-                )
+                owned_value(alloc, &mut resource, scope.variables(), node)
             }
             None => Ok(Out::Nothing),
         }

@@ -6,7 +6,7 @@ use Rattle.sp_base.specs.Limits.{most_rendered_bytes}
 use Rattle.sp_base.specs.Paths.{text_of}
 use Rattle.sp_base.specs.declared.answer.Answer.{Answer}
 use Rattle.sp_base.specs.declared.answer.Ask.{Ask}
-use Rattle.resource_tree.specs.Content.{Content, node_at}
+use Rattle.resource_tree.specs.Content.{Content, name_of, node_at}
 use Rattle.resource_tree.specs.Seen.{Resource}
 use Rattle.overlay_merge.specs.Merged.{has_resource, merged_resource}
 use Rattle.url_maps.specs.Turns.{IsMapped}
@@ -15,7 +15,7 @@ use Rattle.url_maps.specs.declared.answer.MapAnswer.TheVariants.{Inside, Away}
 use Rattle.url_split.specs.declared.decompose.Parts.{Parts}
 use Rattle.url_split.specs.Split.{IsLost, IsSplit, split_of}
 use Rattle.type_chain.specs.Chain.{chain_of}
-use Rattle.script_rank.specs.Ranking.{HasNoCandidate, IsFirstScript, is_script, script_text}
+use Rattle.script_rank.specs.Ranking.{HasNoCandidate, IsFirstScript, is_script_name, script_text}
 use Rattle.script_rank.specs.Search.{search_result}
 use Rattle.htl_blocks.specs.declared.block.Block.{Block}
 use Rattle.htl_blocks.specs.declared.fault.BlockFault.{BlockFault}
@@ -59,13 +59,14 @@ within-is res true text is = ap (λ b. json_representation res (if b then Whole 
 within-is res false text is =
     ap (λ b. json_representation res (if b then Whole text else TooLong)) is ∙ sym (ap (λ b. if b then answer_with_body 200 json_kind (mark_of res) text else error_answer 500) is)
 
-no-text : (a : Bool) (text : Option (List ℕ)) → text ≡ None → (a && is_some text) ≡ true → ⊥
-no-text a None is e = by_flag a e
+no-text : (named node : Bool) (text : Option (List ℕ)) → text ≡ None → (named && (node && is_some text)) ≡ true → ⊥
+no-text named node None is e = by_flags named node e
   where
-    by_flag : (a : Bool) → (a && false) ≡ true → ⊥
-    by_flag true e = cc
-    by_flag false e = cc
-no-text a (Some text) is e = cc
+    by_flags : (named node : Bool) → (named && (node && false)) ≡ true → ⊥
+    by_flags true true e = cc
+    by_flags true false e = cc
+    by_flags false node e = cc
+no-text named node (Some text) is e = cc
 
 few : (a b : Bool) (depth shown : ℕ) → nat_le depth 1 ≡ a → nat_le shown most_resources ≡ b → (a || b) ≡ true → 1 < depth → shown ≤ most_resources
 few true b depth shown small is e deep = grind (arith, nat_tests)
@@ -109,7 +110,7 @@ page-case tree ask s res text reads (Err fault) is = refused_script res text rea
 
 text-case : (tree : Content) (ask : Ask) → Searches tree ask → (parts : Parts) (res : Resource) → ReadsResource tree ask parts res → (script : List (List ℕ)) → IsFirstScript tree (chain_of tree res.props) parts script
     → (text : Option (List ℕ)) → script_text tree script ≡ text → IsAnswer tree ask (answer_by (option_map (with_text script) text) tree parts res)
-text-case tree ask s parts res reads script first None none = absurd (no-text (is_some (node_at tree script)) (script_text tree script) none first.candidate.script)
+text-case tree ask s parts res reads script first None none = absurd (no-text (is_script_name (name_of script)) (is_some (node_at tree script)) (script_text tree script) none first.candidate.script)
 text-case tree ask s parts res reads script first (Some text) some =
     page-case tree ask s res text (record { parts = parts; resource = reads; script = script; first = first; text_is = some }) (blocks_of text) refl
 

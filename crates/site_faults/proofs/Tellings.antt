@@ -10,9 +10,9 @@ use Rattle.std.proofs.lemmas.List.Folds.{list_any_more}
 use Rattle.std.proofs.lemmas.Map.Views.{tells_apart}
 use Rattle.sp_base.specs.PathExact.{exact_paths}
 use Rattle.resource_tree.specs.declared.nodes.Node.{Node}
-use Rattle.resource_tree.specs.Content.{Content, by_path, node_at, same_path}
+use Rattle.resource_tree.specs.Content.{Content, by_path, name_of, node_at, same_path}
 use Rattle.resource_tree.specs.Rows.{AreRowsOf}
-use Rattle.script_rank.specs.Ranking.{script_text}
+use Rattle.script_rank.specs.Ranking.{is_script_name, script_text}
 use Rattle.site_faults.specs.declared.script_fault.ScriptFault.{ScriptFault}
 use Rattle.site_faults.specs.Scripts.{fault_of_text, is_script_path, script_fault_at}
 use Rattle.site_faults.specs.Telling.{Tells}
@@ -55,10 +55,12 @@ any_keys : {R : Type 0} (f : R → List (List ℕ) × Node) (q : List (List ℕ)
 any_keys f q [] = refl
 any_keys f q (r ∷ all) = ap (λ b. same_path q (f r).0 || b) (any_keys f q all)
 
-there_alone : {X : Type 0} (node script text : Bool) (fault : Option X) → (if node then (if script && (node && text) then fault else None) else None) ≡ (if script && (node && text) then fault else None)
-there_alone true script text fault = refl
-there_alone false true text fault = refl
-there_alone false false text fault = refl
+there_alone : {X : Type 0} (node script named text : Bool) (fault : Option X)
+    → (if node then (if script && (named && (node && text)) then fault else None) else None) ≡ (if script && (named && (node && text)) then fault else None)
+there_alone true script named text fault = refl
+there_alone false true true text fault = refl
+there_alone false true false text fault = refl
+there_alone false false named text fault = refl
 
 -- all rows of a content
 pub tells_all : {R : Type 0} (f : R → List (List ℕ) × Node) (tree : Content) (all : List R) (i : ℕ) (told : List (List (List ℕ) × ScriptFault)) → AreRowsOf tree (map f all) → length all ≤ i
@@ -66,4 +68,4 @@ pub tells_all : {R : Type 0} (f : R → List (List ℕ) × Node) (tree : Content
 tells_all f tree all i told are end is q =
     is q ∙ ap (λ rs. if list_any (λ r. same_path q (f r).0) rs then script_fault_at tree q else None) (take_all i all end)
     ∙ ap (λ z. if z then script_fault_at tree q else None) (sym (any_keys f q all) ∙ are.paths q)
-    ∙ there_alone (is_some (node_at tree q)) (is_script_path q) (is_some (script_text tree q)) (option_and_then fault_of_text (script_text tree q))
+    ∙ there_alone (is_some (node_at tree q)) (is_script_path q) (is_script_name (name_of q)) (is_some (script_text tree q)) (option_and_then fault_of_text (script_text tree q))

@@ -119,14 +119,14 @@ module _ (tree : Content) (q : List (List ℕ)) (good : IsGood tree) where
 
   by_remove : (path : List (List ℕ)) → IfOk (remove path tree) (Untouched (Delete path))
   by_remove path =
-      let Free : Type 0 = IsApartFrom tree q (path ∷ []) in
+      let Free : Type 0 = IsApartFrom tree q (places_of path (Delete path)) in
       followed (λ (t : Content). Free → IsAsBefore tree q t) (Untouched (Delete path)) (removal_outcome tree path) _
       (when (IsAsBefore tree q) Free (removal_outcome tree path) (λ free. just_same (removal_outcome tree path) (kept_removed tree q tree path free.0 (refl, λ n there_. there_))))
       (λ t h. h)
 
   by_copy : (op : CarryOp) → IfOk (carry false op tree) (Untouched (Copy op))
   by_copy op =
-      let Free : Type 0 = IsApartFrom tree q (op.to ∷ []) in
+      let Free : Type 0 = IsApartFrom tree q (places_of op.to (Copy op)) in
       let there = carry_node false op.replace op.from op.to tree in
       followed (λ (t : Content). Free → IsAsBefore tree q t) (Untouched (Copy op)) there _
       (when (IsAsBefore tree q) Free there (λ free. just_same there (kept_carry_node tree q false op.replace op.from op.to tree (λ e. absurd (false≢true e)) free.0 (refl, λ n there_. there_))))
@@ -134,7 +134,7 @@ module _ (tree : Content) (q : List (List ℕ)) (good : IsGood tree) where
 
   by_move : (op : CarryOp) → IfOk (carry true op tree) (Untouched (Move op))
   by_move op =
-      let Free : Type 0 = IsApartFrom tree q (op.from ∷ op.to ∷ []) in
+      let Free : Type 0 = IsApartFrom tree q (places_of op.to (Move op)) in
       let there = carry_node true op.replace op.from op.to tree in
       followed (λ (t : Content). Free → IsAsBefore tree q t) (Untouched (Move op)) there _
       (when (IsAsBefore tree q) Free there (λ free. just_same there (kept_carry_node tree q true op.replace op.from op.to tree (λ _. free.0) free.1.0 (refl, λ n there_. there_))))

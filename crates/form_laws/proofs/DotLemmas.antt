@@ -1,38 +1,36 @@
 -- Where a relative name leads is what is left of its text, put after the node's, once the dot segments are removed.
-use Rattle.std.proofs.Common.{◌≡◌, ◌<◌, ◌≤◌, ◌+◌, ◌-◌, ◌==◌, ◌⊎◌, inl, inr, ℕ, zero, suc, Bool, true, false, cond, not, ◌&&◌, ◌||◌, eqb, List, [], ◌∷◌, ◌++◌, Option, Some, None, take, drop, length, get_or, codes, refl, ap, sym, ◌∙◌, subst, arith, append_assoc, length-append}
-use Rattle.std.specs.Prelude.{nat_le, nat_eq, option_and_then}
-use Rattle.std.specs.Cmp.Lexicographic.{pointwise, same_text}
-use Rattle.std.specs.List.{list_all, list_any, flat_map, slice_split, onto_first}
+use Rattle.std.proofs.Common.{◌≡◌, ◌≤◌, ◌+◌, ◌-◌, inl, ℕ, zero, suc, Bool, true, false, cond, not, ◌&&◌, eqb, List, [], ◌∷◌, ◌++◌, Option, Some, None, take, length, get_or, codes, refl, ap, sym, ◌∙◌, subst, arith, append_assoc}
+use Rattle.std.specs.Prelude.{nat_le, option_and_then}
+use Rattle.std.specs.Cmp.Lexicographic.{same_text}
+use Rattle.std.specs.List.{list_all, onto_first}
 use Rattle.std.specs.Str.{bytes_eq}
-use Rattle.std.proofs.lemmas.Bool.{and_parts, and_from, or_parts, not-true, eqb-true, leb-true}
+use Rattle.std.proofs.lemmas.Bool.{and_parts, and_from, not-true, eqb-true}
 use Rattle.std.proofs.lemmas.Bool.Decides.{nat_tests}
-use Rattle.std.proofs.lemmas.List.{append-nil, take_all, take_more, get_or-take}
+use Rattle.std.proofs.lemmas.List.{append-nil, take_all, take_more}
 use Rattle.sp_base.specs.Texts.{Segments}
-use Rattle.sp_base.specs.Paths.{has_slash, is_dots, is_empty, is_long, seg_ok, is_path, pieces, path_or_none}
-use Rattle.post_plan.specs.RelativePaths.{RelativePath, relative_parent, relative_path_step, relative_path_from, relative_path_of}
-use Rattle.post_plan.specs.declared.spot.Spot.{Spot}
-use Rattle.post_plan.specs.Spots.{led_to, is_absolute, ends_in_name, spot_there, spot_below, relative_spot, full_path, if_changeable, any_spot, spot_of, goal_base}
-use Rattle.resource_tree.specs.MergeRoots.{is_merged_path}
-use Rattle.form_laws.specs.DotSegments.{slashed, ends_segment, HasFirstSegment, or_slash, EndsInSegment, IsWithoutLast, RemovesDots}
+use Rattle.sp_base.specs.Paths.{has_slash, is_dots, is_empty, is_long, seg_ok, is_path, pieces}
+use Rattle.post_plan.specs.RelativePaths.{RelativePath, relative_parent, relative_path_from, relative_path_of}
+use Rattle.post_plan.specs.Spots.{ends_in_name}
+use Rattle.form_laws.specs.DotSegments.{slashed, ends_segment, HasFirstSegment, or_slash, RemovesDots}
 
 -- ---- segments and their text
 
-abbrev is_whole : List ℕ → Bool
+abbrev pub is_whole : List ℕ → Bool
 is_whole seg = not (has_slash seg)
 
-ok_whole : (seg : List ℕ) → seg_ok seg ≡ true → has_slash seg ≡ false
+pub ok_whole : (seg : List ℕ) → seg_ok seg ≡ true → has_slash seg ≡ false
 ok_whole seg e = not-true (has_slash seg) (and_parts (not (is_long seg)) (not (has_slash seg)) (and_parts (not (is_dots seg)) (not (is_long seg) && not (has_slash seg)) (and_parts (not (is_empty seg)) (not (is_dots seg) && (not (is_long seg) && not (has_slash seg))) e).1).1).1
 
 ok_no_dots : (seg : List ℕ) → seg_ok seg ≡ true → is_dots seg ≡ false
 ok_no_dots seg e = not-true (is_dots seg) (and_parts (not (is_dots seg)) (not (is_long seg) && not (has_slash seg)) (and_parts (not (is_empty seg)) (not (is_dots seg) && (not (is_long seg) && not (has_slash seg))) e).1).0
 
-all_whole : (segs : Segments) → list_all seg_ok segs ≡ true → list_all is_whole segs ≡ true
+pub all_whole : (segs : Segments) → list_all seg_ok segs ≡ true → list_all is_whole segs ≡ true
 all_whole [] e = refl
 all_whole (seg ∷ segs) e =
     let both = and_parts (seg_ok seg) (list_all seg_ok segs) e in
     rw (ok_whole seg both.0, all_whole segs both.1) refl
 
-slashed_append : (segs more : Segments) → slashed (segs ++ more) ≡ slashed segs ++ slashed more
+pub slashed_append : (segs more : Segments) → slashed (segs ++ more) ≡ slashed segs ++ slashed more
 slashed_append [] more = refl
 slashed_append (seg ∷ segs) more = ap (λ (s : List ℕ). 47 ∷ (seg ++ s)) (slashed_append segs more) ∙ ap (λ (s : List ℕ). 47 ∷ s) (sym (append_assoc seg (slashed segs) (slashed more)))
 
@@ -43,7 +41,7 @@ ends_slashed : (segs : Segments) → ends_segment (slashed segs) ≡ true
 ends_slashed [] = refl
 ends_slashed (seg ∷ segs) = refl
 
-first_slashed : (seg : List ℕ) (segs : Segments) → has_slash seg ≡ false → HasFirstSegment (slashed (seg ∷ segs)) seg (slashed segs)
+pub first_slashed : (seg : List ℕ) (segs : Segments) → has_slash seg ≡ false → HasFirstSegment (slashed (seg ∷ segs)) seg (slashed segs)
 first_slashed seg segs whole = record { spells = refl; whole = whole; ends = ends_slashed segs }
 
 some_split : (text : List ℕ) → (first : List ℕ) × (more : Segments) × (pieces text ≡ first ∷ more)
@@ -79,7 +77,7 @@ moves_all done (seg ∷ node) segs result ok d =
     (moves_all (done ++ seg ∷ []) node segs result both.1 (subst (λ (o : Segments). RemovesDots (slashed segs) (slashed o) result) (sym (append_assoc done (seg ∷ []) node)) d))
 
 -- where a relative path has led so far
-abbrev led : Segments → RelativePath → Segments
+abbrev pub led : Segments → RelativePath → Segments
 led node r = take (length node - r.up) node ++ r.down
 
 last_of : (segs : Segments) → 1 ≤ length segs → segs ≡ take (length segs - 1) segs ++ get_or segs (length segs - 1) [] ∷ []
@@ -172,10 +170,10 @@ good_last (q ∷ p ∷ qs) e =
     let m : length (p ∷ qs) - 1 ≡ length qs = omega arith in
     good_last (p ∷ qs) (ap (λ (k : ℕ). seg_ok (get_or (p ∷ qs) k [])) m ∙ sym (ap (λ (k : ℕ). seg_ok (get_or (q ∷ p ∷ qs) k [])) n) ∙ e)
 
-some_is : (one other : RelativePath) → ◌≡◌ {A = Option RelativePath} (Some one) (Some other) → one ≡ other
+pub some_is : (one other : RelativePath) → ◌≡◌ {A = Option RelativePath} (Some one) (Some other) → one ≡ other
 some_is one other e = cc
 
-abbrev step_by : Bool → Bool → Bool → RelativePath → List ℕ → Option RelativePath
+abbrev pub step_by : Bool → Bool → Bool → RelativePath → List ℕ → Option RelativePath
 step_by p d s r q = cond p (Some r) (cond d (Some (relative_parent r)) (cond s (Some (record { up = r.up; down = r.down ++ q ∷ [] })) None))
 
 parent_grows : (r : RelativePath) → r.up ≤ (relative_parent r).up
@@ -185,7 +183,7 @@ parent_grows r = go (eqb (length r.down) 0)
     go true = omega arith
     go false = omega arith
 
-up_grows : (qs : Segments) (r final : RelativePath) → relative_path_from r qs ≡ Some final → r.up ≤ final.up
+pub up_grows : (qs : Segments) (r final : RelativePath) → relative_path_from r qs ≡ Some final → r.up ≤ final.up
 unfolding relative_path_from
 up_grows [] r final e = let same = ap (λ (w : RelativePath). w.up) (some_is r final e) in omega (arith, same)
 up_grows (q ∷ qs) r final e = go (bytes_eq q (codes ".")) (bytes_eq q (codes "..")) (seg_ok q) (λ next f. up_grows qs next final f) e
@@ -233,10 +231,10 @@ removes node (q ∷ qs) r final n d good e low =
         (subst (λ (segs : Segments). RemovesDots (slashed qs) (slashed segs) (slashed (led node final))) (sym (append_assoc (take (length node - r.up) node) r.down (q ∷ []))) (ih (record { up = r.up; down = r.down ++ q ∷ [] }) (whole_more r.down q d (ok_whole q es)) f))
     go false false false ep ex es ih f = absurd cc
 
-path_ok : (node : Segments) → is_path node ≡ true → list_all seg_ok node ≡ true
+pub path_ok : (node : Segments) → is_path node ≡ true → list_all seg_ok node ≡ true
 path_ok node e = (and_parts (list_all seg_ok node) (nat_le (length node) 64) e).0
 
-placed : (node : Segments) (text : List ℕ) (final : RelativePath) → is_path node ≡ true → ends_in_name text ≡ true → relative_path_of text ≡ Some final → final.up ≤ length node
+pub placed : (node : Segments) (text : List ℕ) (final : RelativePath) → is_path node ≡ true → ends_in_name text ≡ true → relative_path_of text ≡ Some final → final.up ≤ length node
     → RemovesDots (slashed node ++ 47 ∷ text) [] (slashed (led node final))
 placed node text final path name e low =
     let ok = path_ok node path in
@@ -244,113 +242,3 @@ placed node text final path name e low =
     let start : take (length node - 0) node ++ [] ≡ node = append-nil (take (length node - 0) node) ∙ take_all (length node - 0) node (omega arith) in
     let all : RemovesDots (slashed (pieces text)) (slashed node) (slashed (led node final)) = subst (λ (segs : Segments). RemovesDots (slashed (pieces text)) (slashed segs) (slashed (led node final))) start (removes node (pieces text) (record { up = 0; down = [] }) final (all_whole node ok) refl (good_last (pieces text) name) e low) in
     subst (λ (input : List ℕ). RemovesDots input [] (slashed (led node final))) (slashed_append node (pieces text) ∙ ap (λ (s : List ℕ). slashed node ++ s) (pieces_slashed text)) (moves_all [] node (pieces text) (slashed (led node final)) ok all)
-
--- ---- spots and goals
-
--- where a name leads by its relative path
-pub record IsLed (node : Segments) (text : List ℕ) (path : Segments) : Type 0 where
-  pub final : RelativePath
-  pub name : ends_in_name text ≡ true
-  pub reads : relative_path_of text ≡ Some final
-  pub low : final.up ≤ length node
-  pub place : path ≡ take (length node - final.up) node ++ final.down
-
-led_removes : (node : Segments) (text : List ℕ) (path : Segments) → is_path node ≡ true → IsLed node text path → RemovesDots (slashed node ++ 47 ∷ text) [] (slashed path)
-led_removes node text path ok l = subst (λ (segs : Segments). RemovesDots (slashed node ++ 47 ∷ text) [] (slashed segs)) (sym l.place) (placed node text l.final ok l.name l.reads l.low)
-
-there_is : (segs path : Segments) → path_or_none segs ≡ Some path → segs ≡ path
-there_is segs path e = go (is_path segs) e
-  where
-    go : (x : Bool) → cond {A = Option Segments} x (Some segs) None ≡ Some path → segs ≡ path
-    go true f = cc
-    go false f = absurd cc
-
--- where a relative path leads to is the path that it names
-pub record LedTo (node : Segments) (r : RelativePath) (path : Segments) : Type 0 where
-  pub low : r.up ≤ length node
-  pub place : path ≡ take (length node - r.up) node ++ r.down
-
-led_is : (node : Segments) (r : RelativePath) (path : Segments) → led_to node r ≡ Some path → LedTo node r path
-led_is node r path e = go (nat_le r.up (length node)) refl e
-  where
-    go : (x : Bool) → nat_le r.up (length node) ≡ x → cond {A = Option Segments} x (path_or_none (take (length node - r.up) node ++ r.down)) None ≡ Some path → LedTo node r path
-    go true is f = record { low = leb-true r.up (length node) is; place = sym (there_is (take (length node - r.up) node ++ r.down) path f) }
-    go false is f = absurd cc
-
-spot_led : (node : Segments) (r : RelativePath) (spot : Spot) → relative_spot node r ≡ Some spot → LedTo node r (full_path node spot)
-spot_led node r spot e = go (eqb r.up 0) refl e
-  where
-    below : (o : Option Segments) → spot_below o ≡ Some spot → path_or_none r.down ≡ o → r.up ≡ 0 → LedTo node r (full_path node spot)
-    below None f is zero_up = absurd cc
-    below (Some path) f is zero_up =
-        let same : record { at_target = true; path = path } ≡ spot = spot_same (record { at_target = true; path = path }) spot f in
-        let none : length node - r.up ≡ length node = omega (arith, zero_up) in
-        record {
-          low = omega (arith, zero_up);
-          place = ap (full_path node) (sym same) ∙ ap (λ (segs : Segments). node ++ segs) (sym (there_is r.down path is)) ∙ ap (λ (segs : Segments). segs ++ r.down) (sym (ap (λ (k : ℕ). take k node) none ∙ take_all (length node) node (omega arith)));
-        }
-      where
-        spot_same : (one other : Spot) → ◌≡◌ {A = Option Spot} (Some one) (Some other) → one ≡ other
-        spot_same one other g = cc
-
-    there : (o : Option Segments) → spot_there o ≡ Some spot → led_to node r ≡ o → LedTo node r (full_path node spot)
-    there None f is = absurd cc
-    there (Some path) f is =
-        let same : record { at_target = false; path = path } ≡ spot = spot_same (record { at_target = false; path = path }) spot f in
-        subst (λ (segs : Segments). LedTo node r segs) (ap (full_path node) same) (led_is node r path is)
-      where
-        spot_same : (one other : Spot) → ◌≡◌ {A = Option Spot} (Some one) (Some other) → one ≡ other
-        spot_same one other g = cc
-
-    go : (x : Bool) → eqb r.up 0 ≡ x → cond x (spot_below (path_or_none r.down)) (spot_there (led_to node r)) ≡ Some spot → LedTo node r (full_path node spot)
-    go true is f = below (path_or_none r.down) f refl (eqb-true r.up 0 is)
-    go false is f = there (led_to node r) f refl
-
-changeable : (b : Bool) (one other : Spot) → cond {A = Option Spot} b None (Some one) ≡ Some other → one ≡ other
-changeable true one other e = absurd cc
-changeable false one other e = cc
-
-spot_is_led : (node : Segments) (text : List ℕ) (spot : Spot) → is_absolute text ≡ false → spot_of node text ≡ Some spot → IsLed node text (full_path node spot)
-spot_is_led node text spot rel e = named (ends_in_name text) refl e
-  where
-    found : (o : Option RelativePath) → relative_path_of text ≡ o → ends_in_name text ≡ true → option_and_then (if_changeable node) (option_and_then (relative_spot node) o) ≡ Some spot → IsLed node text (full_path node spot)
-    found None is name f = absurd cc
-    found (Some r) is name f = seen (relative_spot node r) refl f
-      where
-        seen : (s : Option Spot) → relative_spot node r ≡ s → option_and_then (if_changeable node) s ≡ Some spot → IsLed node text (full_path node spot)
-        seen None at g = absurd cc
-        seen (Some one) at g =
-            let same = changeable (is_merged_path (full_path node one)) one spot g in
-            let l = spot_led node r spot (at ∙ ap Some same) in
-            record { final = r; name = name; reads = is; low = l.low; place = l.place }
-
-    absolute : (x : Bool) → is_absolute text ≡ x → ends_in_name text ≡ true → option_and_then (if_changeable node) (any_spot node text) ≡ Some spot → IsLed node text (full_path node spot)
-    absolute true is name f = absurd (let g : true ≡ false = sym is ∙ rel in cc)
-    absolute false is name f = found (relative_path_of text) refl name (rw is at f)
-
-    named : (x : Bool) → ends_in_name text ≡ x → cond x (option_and_then (if_changeable node) (any_spot node text)) None ≡ Some spot → IsLed node text (full_path node spot)
-    named true is f = absolute (is_absolute text) refl is f
-    named false is f = absurd cc
-
-pub spots_are_resolved : (node : Segments) (text : List ℕ) (spot : Spot) → is_path node ≡ true → is_absolute text ≡ false → spot_of node text ≡ Some spot → RemovesDots (slashed node ++ 47 ∷ text) [] (slashed (full_path node spot))
-spots_are_resolved node text spot ok rel e = led_removes node text (full_path node spot) ok (spot_is_led node text spot rel e)
-
-goal_is_led : (parent : Segments) (text : List ℕ) (path : Segments) → is_absolute text ≡ false → goal_base parent text ≡ Some path → IsLed parent text path
-goal_is_led parent text path rel e = absolute (is_absolute text) refl e
-  where
-    found : (o : Option RelativePath) → relative_path_of text ≡ o → ends_in_name text ≡ true → option_and_then (led_to parent) o ≡ Some path → IsLed parent text path
-    found None is name f = absurd cc
-    found (Some r) is name f =
-        let l = led_is parent r path f in
-        record { final = r; name = name; reads = is; low = l.low; place = l.place }
-
-    named : (x : Bool) → ends_in_name text ≡ x → cond x (option_and_then (led_to parent) (relative_path_of text)) None ≡ Some path → IsLed parent text path
-    named true is f = found (relative_path_of text) refl is f
-    named false is f = absurd cc
-
-    absolute : (x : Bool) → is_absolute text ≡ x → goal_base parent text ≡ Some path → IsLed parent text path
-    absolute true is f = absurd (let g : true ≡ false = sym is ∙ rel in cc)
-    absolute false is f = named (ends_in_name text) refl (rw is at f)
-
-pub goals_are_resolved : (parent : Segments) (text : List ℕ) (path : Segments) → is_path parent ≡ true → is_absolute text ≡ false → goal_base parent text ≡ Some path → RemovesDots (slashed parent ++ 47 ∷ text) [] (slashed path)
-goals_are_resolved parent text path ok rel e = led_removes parent text path ok (goal_is_led parent text path rel e)

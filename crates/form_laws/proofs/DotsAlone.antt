@@ -1,10 +1,10 @@
 -- The removal of dot segments has one outcome.
-use Rattle.std.proofs.Common.{◌≡◌, ◌==◌, ◌⊎◌, inl, inr, ℕ, Bool, true, false, ◌||◌, eqb, List, [], ◌∷◌, ◌++◌, codes, refl, ap, sym, ◌∙◌, subst}
+use Rattle.std.proofs.Common.{◌≡◌, inl, inr, ℕ, true, false, eqb, List, [], ◌∷◌, ◌++◌, codes, refl, ap, sym, ◌∙◌, subst}
 use Rattle.std.proofs.lemmas.Bool.{or_parts}
 use Rattle.sp_base.specs.Paths.{has_slash, is_dots}
-use Rattle.form_laws.specs.DotSegments.{ends_segment, HasFirstSegment, or_slash, EndsInSegment, IsWithoutLast, RemovesDots}
+use Rattle.form_laws.specs.DotSegments.{ends_segment, HasFirstSegment, or_slash, IsWithoutLast, RemovesDots}
 
-same_parts : (one other rest more : List ℕ) → has_slash one ≡ false → has_slash other ≡ false → ends_segment rest ≡ true → ends_segment more ≡ true → one ++ rest ≡ other ++ more → (one ≡ other) × (rest ≡ more)
+pub same_parts : (one other rest more : List ℕ) → has_slash one ≡ false → has_slash other ≡ false → ends_segment rest ≡ true → ends_segment more ≡ true → one ++ rest ≡ other ++ more → (one ≡ other) × (rest ≡ more)
 same_parts [] [] rest more w v e f same = (refl, same)
 same_parts [] (c ∷ other) rest more w v e f same = absurd (let g : ends_segment rest ≡ eqb c 47 = ap ends_segment same in let h = (or_parts (eqb c 47) (has_slash other) v).0 in let k : true ≡ false = sym e ∙ g ∙ h in cc)
 same_parts (c ∷ one) [] rest more w v e f same = absurd (let g : eqb c 47 ≡ ends_segment more = ap ends_segment same in let h = (or_parts (eqb c 47) (has_slash one) w).0 in let k : true ≡ false = sym f ∙ sym g ∙ h in cc)

@@ -1,3 +1,5 @@
 pub mod SpellingLemmas
 pub mod DotLemmas
 pub mod DotsAlone
+pub mod RelativeNameLemmas
+pub mod GoalLemmas

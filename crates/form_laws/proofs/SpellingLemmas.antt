@@ -11,7 +11,7 @@ use Rattle.form_input.specs.declared.parameters.Quoting.{Quoting}
 use Rattle.form_input.specs.declared.parameters.Quoting.TheVariants.{Outside, Inside}
 use Rattle.form_input.specs.Parameters.{is_space_or_tab, after_blanks, before_blanks, trimmed_text, quoting_step, separates, parameter_pieces_from, parameter_pieces, is_type, after_separator, after_name, word_in_quotes, parameter_word, word_or, parameter_word_in, parameter}
 use Rattle.form_laws.specs.Spelling as spelled
-use Rattle.form_laws.specs.Spelling.{is_bare_byte, is_name_byte, QuotedByte, byte_spelling, meant_byte, is_quoted_byte, ParameterValue, value_spelling, meant_word, is_parameter_value, FieldParameter, parameter_spelling, is_parameter, FieldPiece, piece_spelling, is_field_piece, pieces_spelling, IsFieldOf, word_named}
+use Rattle.form_laws.specs.Spelling.{is_bare_byte, is_name_byte, QuotedByte, byte_spelling, meant_byte, is_quoted_byte, ParameterValue, value_spelling, meant_word, is_parameter_value, FieldParameter, parameter_spelling, is_parameter, FieldPiece, piece_spelling, is_field_piece, pieces_spelling, IsFieldOf, word_named, begins_with_name, is_named_if_parameter, is_passed_byte, may_follow, may_follow_value, IsNamedField}
 use Rattle.form_input.proofs.ParameterLemmas.{with_prefix, with_prefix_none, piece_goes_on, piece_ends, piece_last}
 
 -- ---- what is known of a byte
@@ -108,12 +108,38 @@ option_passes : (o : Option FieldParameter) → spelled.is_parameter_or_none o �
 option_passes None e = refl
 option_passes (Some p) e = parameter_passes p e
 
+passed_over : (w : List ℕ) → list_all is_passed_byte w ≡ true → Passes Outside w Outside
+passed_over [] e = refl
+passed_over (b ∷ w) e =
+    let both = and_parts (is_passed_byte b) (list_all is_passed_byte w) e in
+    let parts = or_parts (eqb b 34) (eqb b 59) (not-true (eqb b 34 || eqb b 59) both.0) in
+    (parts.1, subst (λ (q : Quoting). Passes q w Outside) (sym (step_outside b parts.0)) (passed_over w both.1))
+
+value_follows : (v : ParameterValue) (after : List ℕ) → list_all (may_follow_value v) after ≡ true → Passes Outside after Outside
+value_follows (ParameterValue.Bare w) after e = blanks_pass after e
+value_follows (ParameterValue.Quoted bs) after e = passed_over after e
+
+follows_passes : (o : Option FieldParameter) (after : List ℕ) → list_all (may_follow o) after ≡ true → Passes Outside after Outside
+follows_passes None after e = passed_over after e
+follows_passes (Some p) after e = value_follows p.value after e
+
+-- what is known of a piece
+record Parts (before : List ℕ) (parameter : Option FieldParameter) (after : List ℕ) : Type 0 where
+  pub blanks : list_all is_space_or_tab before ≡ true
+  pub spelled : spelled.is_parameter_or_none parameter ≡ true
+  pub follows : list_all (may_follow parameter) after ≡ true
+
+parts_of : (before : List ℕ) (parameter : Option FieldParameter) (after : List ℕ) → is_field_piece (record { before = before; parameter = parameter; after = after }) ≡ true → Parts before parameter after
+parts_of before parameter after e =
+    let both = and_parts (list_all is_space_or_tab before) (spelled.is_parameter_or_none parameter && list_all (may_follow parameter) after) e in
+    let later = and_parts (spelled.is_parameter_or_none parameter) (list_all (may_follow parameter) after) both.1 in
+    record { blanks = both.0; spelled = later.0; follows = later.1 }
+
 piece_passes : (piece : FieldPiece) → is_field_piece piece ≡ true → Passes Outside (piece_spelling piece) Outside
 piece_passes piece e =
-    let both = and_parts (list_all is_space_or_tab piece.before) (spelled.is_parameter_or_none piece.parameter && list_all is_space_or_tab piece.after) e in
-    let later = and_parts (spelled.is_parameter_or_none piece.parameter) (list_all is_space_or_tab piece.after) both.1 in
-    passes_append Outside piece.before (spelled.spelling_or_none piece.parameter ++ piece.after) Outside Outside (blanks_pass piece.before both.0)
-    (passes_append Outside (spelled.spelling_or_none piece.parameter) piece.after Outside Outside (option_passes piece.parameter later.0) (blanks_pass piece.after later.1))
+    let parts = parts_of piece.before piece.parameter piece.after e in
+    passes_append Outside piece.before (spelled.spelling_or_none piece.parameter ++ piece.after) Outside Outside (blanks_pass piece.before parts.blanks)
+    (passes_append Outside (spelled.spelling_or_none piece.parameter) piece.after Outside Outside (option_passes piece.parameter parts.spelled) (follows_passes piece.parameter piece.after parts.follows))
 
 -- the pieces of a text are what the grammar has
 pieces_are : (s : List ℕ) (ps : List FieldPiece) → Passes Outside s Outside → list_all is_field_piece ps ≡ true → parameter_pieces (s ++ pieces_spelling ps) ≡ s ∷ map piece_spelling ps
@@ -193,9 +219,22 @@ named (c ∷ n) (d ∷ name) rest e f =
     go true ih = ih
     go false ih = refl
 
-none_named : (name : List ℕ) → after_name 61 name [] ≡ None
-none_named [] = refl
-none_named (d ∷ name) = refl
+-- a text that doesn't begin with the name and `=` has none to give
+not_named : (name text : List ℕ) → str_eq_ignore_ascii_case (take (length (name ++ 61 ∷ [])) text) (name ++ 61 ∷ []) ≡ false → after_name 61 name text ≡ None
+not_named [] [] e = refl
+not_named [] (c ∷ text) e = go (eqb c 61) refl
+  where
+    go : (x : Bool) → eqb c 61 ≡ x → cond x (Some text) None ≡ None
+    go true is = absurd (let f : true ≡ false = sym (ap (λ (b : ℕ). str_eq_ignore_ascii_case (b ∷ []) (61 ∷ [])) (eqb-true c 61 is)) ∙ e in cc)
+    go false is = refl
+not_named (d ∷ name) [] e = refl
+not_named (d ∷ name) (c ∷ text) e = go (eqb (to_ascii_lowercase c) (to_ascii_lowercase d)) (not_named name text) e
+  where
+    go : (x : Bool) → (str_eq_ignore_ascii_case (take (length (name ++ 61 ∷ [])) text) (name ++ 61 ∷ []) ≡ false → after_name 61 name text ≡ None)
+        → (x && bytes_eq (map to_ascii_lowercase (take (length (name ++ 61 ∷ [])) text)) (map to_ascii_lowercase (name ++ 61 ∷ []))) ≡ false
+        → cond (x && bytes_eq (map to_ascii_lowercase (take (length name) text)) (map to_ascii_lowercase name)) (after_separator 61 (drop (length name) text)) None ≡ None
+    go true ih f = ih f
+    go false ih f = refl
 
 -- ---- words
 
@@ -213,7 +252,7 @@ begins_bare [] [] e f = refl
 begins_bare [] (b ∷ after) e f = blank_no_quote b (and_parts (is_space_or_tab b) (list_all is_space_or_tab after) f).0
 begins_bare (b ∷ w) after e f = no_quote b (and_parts (is_bare_byte b) (list_all is_bare_byte w) e).0
 
-value_word : (v : ParameterValue) (after : List ℕ) → is_parameter_value v ≡ true → list_all is_space_or_tab after ≡ true → parameter_word (value_spelling v ++ after) ≡ Some (meant_word v)
+value_word : (v : ParameterValue) (after : List ℕ) → is_parameter_value v ≡ true → list_all (may_follow_value v) after ≡ true → parameter_word (value_spelling v ++ after) ≡ Some (meant_word v)
 value_word (ParameterValue.Bare w) after e f = rw (begins_bare w after e f) (ap Some (before_cuts w after e f))
 value_word (ParameterValue.Quoted bs) after e f = quoted_word bs after e
 
@@ -229,9 +268,9 @@ begins_name (b ∷ n) rest e =
     let both = and_parts (is_bare_byte b) (not (eqb b 61)) (and_parts (is_name_byte b) (list_all is_name_byte n) e).0 in
     after_stays b (n ++ 61 ∷ rest) (blank_or_not b both.0)
 
-parameter_read : (name : List ℕ) (p : FieldParameter) (after : List ℕ) (other : Option (List ℕ)) → list_all is_name_byte name ≡ true → is_parameter p ≡ true → list_all is_space_or_tab after ≡ true
+parameter_read : (name : List ℕ) (p : FieldParameter) (after : List ℕ) (other : Option (List ℕ)) → list_all is_name_byte name ≡ true → is_parameter p ≡ true → list_all (may_follow_value p.value) after ≡ true
     → word_or (after_name 61 name (after_blanks (parameter_spelling p ++ after))) other ≡ piece_word name (Some p) other
-parameter_read name p after other f e blanks =
+parameter_read name p after other f e follows =
     let both = and_parts (list_all is_name_byte p.name) (is_parameter_value p.value) e in
     ap (λ (t : List ℕ). word_or (after_name 61 name (after_blanks t)) other) (append_assoc p.name (61 ∷ value_spelling p.value) after)
     ∙ ap (λ (t : List ℕ). word_or (after_name 61 name t) other) (begins_name p.name (value_spelling p.value ++ after) both.0)
@@ -239,21 +278,23 @@ parameter_read name p after other f e blanks =
     ∙ go (str_eq_ignore_ascii_case p.name name)
   where
     go : (x : Bool) → word_or (cond x (Some (value_spelling p.value ++ after)) None) other ≡ cond x (Some (meant_word p.value)) other
-    go true = value_word p.value after (and_parts (list_all is_name_byte p.name) (is_parameter_value p.value) e).1 blanks
+    go true = value_word p.value after (and_parts (list_all is_name_byte p.name) (is_parameter_value p.value) e).1 follows
     go false = refl
 
-option_read : (name : List ℕ) (o : Option FieldParameter) (after : List ℕ) (other : Option (List ℕ)) → list_all is_name_byte name ≡ true → spelled.is_parameter_or_none o ≡ true → list_all is_space_or_tab after ≡ true
-    → word_or (after_name 61 name (after_blanks (spelled.spelling_or_none o ++ after))) other ≡ piece_word name o other
-option_read name None after other f e blanks = ap (λ (t : List ℕ). word_or (after_name 61 name t) other) (after_all after blanks) ∙ ap (λ (o : Option (List ℕ)). word_or o other) (none_named name)
-option_read name (Some p) after other f e blanks = parameter_read name p after other f e blanks
+piece_read_by : (name before after : List ℕ) (o : Option FieldParameter) (other : Option (List ℕ)) → list_all is_name_byte name ≡ true → Parts before o after
+    → is_named_if_parameter name o (before ++ (spelled.spelling_or_none o ++ after)) ≡ true → word_or (after_name 61 name (after_blanks (before ++ (spelled.spelling_or_none o ++ after)))) other ≡ piece_word name o other
+piece_read_by name before after None other f parts lacks = ap (λ (o : Option (List ℕ)). word_or o other) (not_named name (after_blanks (before ++ after)) (not-true (begins_with_name name (before ++ after)) lacks))
+piece_read_by name before after (Some p) other f parts lacks =
+    ap (λ (t : List ℕ). word_or (after_name 61 name t) other) (after_skips before (parameter_spelling p ++ after) parts.blanks)
+    ∙ parameter_read name p after other f parts.spelled parts.follows
 
-piece_read : (name : List ℕ) (piece : FieldPiece) (other : Option (List ℕ)) → list_all is_name_byte name ≡ true → is_field_piece piece ≡ true
+-- the asked name begins a piece only as a parameter's
+abbrev is_clear : List ℕ → FieldPiece → Bool
+is_clear name piece = is_named_if_parameter name piece.parameter (piece_spelling piece)
+
+piece_read : (name : List ℕ) (piece : FieldPiece) (other : Option (List ℕ)) → list_all is_name_byte name ≡ true → is_field_piece piece ≡ true → is_clear name piece ≡ true
     → word_or (after_name 61 name (after_blanks (piece_spelling piece))) other ≡ piece_word name piece.parameter other
-piece_read name piece other f e =
-    let both = and_parts (list_all is_space_or_tab piece.before) (spelled.is_parameter_or_none piece.parameter && list_all is_space_or_tab piece.after) e in
-    let later = and_parts (spelled.is_parameter_or_none piece.parameter) (list_all is_space_or_tab piece.after) both.1 in
-    ap (λ (t : List ℕ). word_or (after_name 61 name t) other) (after_skips piece.before (spelled.spelling_or_none piece.parameter ++ piece.after) both.0)
-    ∙ option_read name piece.parameter piece.after other f later.0 later.1
+piece_read name piece other f e clear = piece_read_by name piece.before piece.after piece.parameter other f (parts_of piece.before piece.parameter piece.after e) clear
 
 named_later : (name : List ℕ) (o : Option FieldParameter) (ps : List FieldPiece) (before after : List ℕ) → word_named name (record { before = before; parameter = o; after = after } ∷ ps) ≡ piece_word name o (word_named name ps)
 named_later name None ps before after = refl
@@ -263,13 +304,14 @@ named_later name (Some p) ps before after = go (str_eq_ignore_ascii_case p.name 
     go true = refl
     go false = refl
 
-words_are : (name : List ℕ) (ps : List FieldPiece) → list_all is_name_byte name ≡ true → list_all is_field_piece ps ≡ true → parameter_word_in name (map piece_spelling ps) ≡ word_named name ps
+words_are : (name : List ℕ) (ps : List FieldPiece) → list_all is_name_byte name ≡ true → list_all is_field_piece ps ≡ true → list_all (is_clear name) ps ≡ true → parameter_word_in name (map piece_spelling ps) ≡ word_named name ps
 unfolding parameter_word_in
-words_are name [] f e = refl
-words_are name (p ∷ ps) f e =
+words_are name [] f e clear = refl
+words_are name (p ∷ ps) f e clear =
     let both = and_parts (is_field_piece p) (list_all is_field_piece ps) e in
-    piece_read name p (parameter_word_in name (map piece_spelling ps)) f both.0
-    ∙ ap (piece_word name p.parameter) (words_are name ps f both.1)
+    let each = and_parts (is_clear name p) (list_all (is_clear name) ps) clear in
+    piece_read name p (parameter_word_in name (map piece_spelling ps)) f both.0 each.0
+    ∙ ap (piece_word name p.parameter) (words_are name ps f both.1 each.1)
     ∙ sym (named_later name p.parameter ps p.before p.after)
 
 field_pieces : (text type : List ℕ) (ps : List FieldPiece) (f : IsFieldOf text type ps) → parameter_pieces text ≡ (f.before ++ (type ++ f.after)) ∷ map piece_spelling ps
@@ -284,10 +326,10 @@ type_is word text type ps f =
     ap (λ (pieces : List (List ℕ)). str_eq_ignore_ascii_case (trimmed_text (get_or pieces 0 [])) word) (field_pieces text type ps f)
     ∙ ap (λ (t : List ℕ). str_eq_ignore_ascii_case t word) (trimmed f.before type f.after f.blanks_before f.is_type f.blanks_after)
 
-pub word_is : (name text type : List ℕ) (ps : List FieldPiece) → IsFieldOf text type ps → list_all is_name_byte name ≡ true → parameter name text ≡ word_named name ps
-word_is name text type ps f is =
-    ap (λ (pieces : List (List ℕ)). parameter_word_in name (drop 1 pieces)) (field_pieces text type ps f)
-    ∙ words_are name ps is f.each
+pub word_is : (name text type : List ℕ) (ps : List FieldPiece) → IsNamedField name text type ps → parameter name text ≡ word_named name ps
+word_is name text type ps is =
+    ap (λ (pieces : List (List ℕ)). parameter_word_in name (drop 1 pieces)) (field_pieces text type ps is.field)
+    ∙ words_are name ps is.is_name is.field.each is.of_parameters
 
 -- the byte isn't this one, since it is one of a token and this one is not
 other_byte : (b mark : ℕ) → spelled.is_token_byte b ≡ true → spelled.is_token_byte mark ≡ false → eqb b mark ≡ false

@@ -1,11 +1,11 @@
 -- A header field with parameters as a grammar spells it (RFC 9110, sections 5.6.2 to 5.6.6): a type, and after each semicolon a parameter or
--- none, with blanks around it. What stands in no quotes may have more bytes than those of a token, as `:`, `=` and `@`.
-use Rattle.std.specs.Prelude.{◌≡◌, ◌==◌, ◌&&◌, ◌||◌, ℕ, Bool, true, not, List, [], ◌∷◌, ◌++◌, Option, Some, None, codes, find, filter_map, flat_map, map, option_map}
+-- none, with blanks around it. What stands in no quotes may have more bytes than those of a token, as `:`, `=` and `@`. In the place of a
+-- parameter, and after a value in quotes, other texts may stand too, which no grammar has.
+use Rattle.std.specs.Prelude.{◌≡◌, ◌==◌, ◌&&◌, ◌||◌, ℕ, Bool, true, not, List, [], ◌∷◌, ◌++◌, Option, Some, None, codes, find, filter_map, flat_map, length, map, option_map, take}
 use Rattle.std.specs.List.{list_all, list_any}
 use Rattle.std.specs.Char.{is_ascii_alphanumeric}
 use Rattle.std.specs.Str.{str_eq_ignore_ascii_case}
-use Rattle.sp_base.specs.Texts.{Text}
-use Rattle.form_input.specs.Parameters.{is_space_or_tab}
+use Rattle.form_input.specs.Parameters.{after_blanks, is_space_or_tab}
 
 -- a byte that stands in no quotes: neither a blank nor a quote nor a semicolon
 abbrev pub is_bare_byte : ℕ → Bool
@@ -14,10 +14,6 @@ is_bare_byte b = not (is_space_or_tab b || (b == 34 || b == 59))
 -- a byte of a name: no `=` either
 abbrev pub is_name_byte : ℕ → Bool
 is_name_byte b = is_bare_byte b && not (b == 61)
-
--- a text of such bytes alone
-abbrev pub IsName : Text → Type 0
-IsName name = list_all is_name_byte name ≡ true
 
 -- a byte of a token
 abbrev pub is_token_byte : ℕ → Bool
@@ -76,7 +72,21 @@ parameter_spelling p = p.name ++ 61 ∷ value_spelling p.value
 abbrev pub is_parameter : FieldParameter → Bool
 is_parameter p = list_all is_name_byte p.name && is_parameter_value p.value
 
--- what stands after a semicolon: a parameter or none, and blanks around it
+-- a byte of a text that is passed over
+abbrev pub is_passed_byte : ℕ → Bool
+is_passed_byte b = not (b == 34 || b == 59)
+
+-- a byte between a value and the next semicolon: a blank, and after quotes any that is passed over
+abbrev pub may_follow_value : ParameterValue → ℕ → Bool
+may_follow_value (Bare word) b = is_space_or_tab b
+may_follow_value (Quoted bytes) b = is_passed_byte b
+
+-- a byte behind a parameter, or of another text in its place
+abbrev pub may_follow : Option FieldParameter → ℕ → Bool
+may_follow None b = is_passed_byte b
+may_follow (Some p) b = may_follow_value p.value b
+
+-- what stands after a semicolon: blanks, a parameter or none, and what is behind it
 pub record FieldPiece : Type 0 where
   pub before : List ℕ
   pub parameter : Option FieldParameter
@@ -96,9 +106,9 @@ is_parameter_or_none (Some p) = is_parameter p
 abbrev pub piece_spelling : FieldPiece → List ℕ
 piece_spelling piece = piece.before ++ (spelling_or_none piece.parameter ++ piece.after)
 
--- what stands around the parameter are blanks
+-- each of the three is what it may be
 abbrev pub is_field_piece : FieldPiece → Bool
-is_field_piece piece = list_all is_space_or_tab piece.before && (is_parameter_or_none piece.parameter && list_all is_space_or_tab piece.after)
+is_field_piece piece = list_all is_space_or_tab piece.before && (is_parameter_or_none piece.parameter && list_all (may_follow piece.parameter) piece.after)
 
 -- pieces, each after a semicolon
 abbrev pub pieces_spelling : List FieldPiece → List ℕ
@@ -117,3 +127,18 @@ pub record IsFieldOf (text type : List ℕ) (pieces : List FieldPiece) : Type 0 
 -- the word of the first parameter that has this name, without regard to case
 abbrev pub word_named : List ℕ → List FieldPiece → Option (List ℕ)
 word_named name pieces = option_map (λ p. meant_word p.value) (find (λ p. str_eq_ignore_ascii_case p.name name) (filter_map (λ piece. piece.parameter) pieces))
+
+-- a text begins, after blanks, with this name, without regard to case, and `=`
+abbrev pub begins_with_name : List ℕ → List ℕ → Bool
+begins_with_name name text = str_eq_ignore_ascii_case (take (length (name ++ 61 ∷ [])) (after_blanks text)) (name ++ 61 ∷ [])
+
+-- it is a parameter, or begins with another name or none
+abbrev pub is_named_if_parameter : List ℕ → Option FieldParameter → List ℕ → Bool
+is_named_if_parameter name None text = not (begins_with_name name text)
+is_named_if_parameter name (Some p) text = true
+
+-- a field, and a name with which no piece begins that isn't a parameter
+pub record IsNamedField (name text type : List ℕ) (pieces : List FieldPiece) : Type 0 where
+  pub field : IsFieldOf text type pieces
+  pub is_name : list_all is_name_byte name ≡ true
+  pub of_parameters : list_all (λ piece. is_named_if_parameter name piece.parameter (piece_spelling piece)) pieces ≡ true

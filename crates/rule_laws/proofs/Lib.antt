@@ -2,5 +2,5 @@ pub mod MemberLemmas
 pub mod EntryLemmas
 pub mod HostLemmas
 pub mod FarmLemmas
-pub mod PassedLemmas
+pub mod AlikeLemmas
 pub mod TouchedLemmas

@@ -1,3 +1,3 @@
 pub mod FarmTable
-pub mod Passed
+pub mod Alike
 pub mod Touched

@@ -2,7 +2,7 @@
 use Rattle.std.specs.Prelude.{◌≡◌, ℕ, List, Option}
 use Rattle.sp_base.specs.Texts.{Text}
 use Rattle.sp_outside.specs.Files.{Files}
-use Rattle.sp_outside.specs.declared.disk.Call.{Call}
+use Rattle.sp_outside.specs.Calls.{Call}
 use Rattle.outside_world.specs.declared.world.WorldEntry.{WorldEntry}
 use Rattle.sling_dispatch.specs.declared.ending.Ending.{Ending}
 use Rattle.sling_dispatch.specs.declared.outside.Outside.{Outside}

@@ -18,7 +18,7 @@ same_next : {A B : Type 0} (m : FarmOutcome A) (f g : A → FarmOutcome B) → (
 same_next (Ok x) f g each = each x
 same_next (Err fault) f g each = refl
 
-next_next : {A B C : Type 0} (m : FarmOutcome A) (f : A → FarmOutcome B) (g : B → FarmOutcome C) → ((m >>= f) >>= g) ≡ (m >>= λ x. f x >>= g)
+pub next_next : {A B C : Type 0} (m : FarmOutcome A) (f : A → FarmOutcome B) (g : B → FarmOutcome C) → ((m >>= f) >>= g) ≡ (m >>= λ x. f x >>= g)
 next_next (Ok x) f g = refl
 next_next (Err fault) f g = refl
 
@@ -165,14 +165,14 @@ cache_alike hosts ask entries ms others alike =
     rw (rules, level, authorized, auto, clients, ignored) refl
 
 -- what is read of a farm after its hosts
-abbrev after_hosts : List VirtualHost → List ℕ × ℕ → Members → FarmOutcome Farm
+abbrev pub after_hosts : List VirtualHost → List ℕ × ℕ → Members → FarmOutcome Farm
 after_hosts hosts ask farm = filters farm >>= λ entries. needed_group (codes "cache") farm >>= λ cache. with_cache hosts ask entries cache
 
-abbrev after_served : Members → Members → FarmOutcome Farm
+abbrev pub after_served : Members → Members → FarmOutcome Farm
 after_served farm served = each served_host served >>= λ hosts. after_hosts hosts (publisher_address served) farm
 
 -- what is read of the one farm
-abbrev farm_rows : Members → FarmOutcome Farm
+abbrev pub farm_rows : Members → FarmOutcome Farm
 farm_rows farm = needed_group (codes "virtualhosts") farm >>= after_served farm
 
 after_hosts_alike : (hosts : List VirtualHost) (ask : List ℕ × ℕ) (ms others : Members) → AreFarmsAlike ms others → after_hosts hosts ask ms ≡ after_hosts hosts ask others

@@ -49,7 +49,7 @@ some_glob : (g : List GlobPiece) (o : Option (List GlobPiece)) → ◌≡◌ {A 
 some_glob g o e = cc
 
 -- the glob that an entry needs
-needed_glob_found : (ms : Members) (o : Option (List GlobPiece)) (g : List GlobPiece) → glob_at (codes "glob") ms ≡ Ok o → or_bad (codes "glob") o ≡ Ok g → HasGlob ms (codes "glob") g
+pub needed_glob_found : (ms : Members) (o : Option (List GlobPiece)) (g : List GlobPiece) → glob_at (codes "glob") ms ≡ Ok o → or_bad (codes "glob") o ≡ Ok g → HasGlob ms (codes "glob") g
 unfolding glob_at
 needed_glob_found ms o g e f = go (member_value (codes "glob") ms) refl e
   where
@@ -71,7 +71,7 @@ needed_glob_only ms g h =
 
 -- ---- tests
 
-test_found : (name : List ℕ) (ms : Members) (t : Option Test) → test_at name ms ≡ Ok t → HasTest ms name t
+pub test_found : (name : List ℕ) (ms : Members) (t : Option Test) → test_at name ms ≡ Ok t → HasTest ms name t
 unfolding test_at test_of
 test_found name ms t e = go (member_value name ms) refl e
   where
@@ -92,7 +92,7 @@ test_found name ms t e = go (member_value name ms) refl e
         let b = bind_found (test_of name value) (λ t. Ok (Some t)) t f in
         subst (λ (s : Option Test). HasTest ms name s) (ok_is (Some b.0) t b.2) (by value is (out-AnyNode value) refl b.0 b.1)
 
-test_only : (name : List ℕ) (ms : Members) (t : Option Test) → HasTest ms name t → test_at name ms ≡ Ok t
+pub test_only : (name : List ℕ) (ms : Members) (t : Option Test) → HasTest ms name t → test_at name ms ≡ Ok t
 unfolding test_at test_of
 test_only name ms t (HasTest.Lacks lacks) = ap (test_or_none name) (lacks_only name ms lacks)
 test_only name ms t (HasTest.ByGlob {glob = g} h) =
@@ -118,14 +118,14 @@ type_only : (a : Bool) → rule_type (cond a (codes "allow") (codes "deny")) ≡
 type_only true = refl
 type_only false = refl
 
-allow_found : (ms : Members) (a : Bool) → allow ms ≡ Ok a → SaysAllow ms a
+pub allow_found : (ms : Members) (a : Bool) → allow ms ≡ Ok a → SaysAllow ms a
 unfolding allow
 allow_found ms a e =
     let c = bind_found (or_bad (codes "type") (member_value (codes "type") ms)) (λ value. member_word (codes "type") value >>= rule_type) a e in
     let b = bind_found (member_word (codes "type") c.0) rule_type a c.2 in
     record { value = c.0; there = member_found (codes "type") ms c.0 (bad_found (codes "type") (member_value (codes "type") ms) c.0 c.1); is = word_found (codes "type") c.0 b.0 b.1 ∙ ap (λ (w : List ℕ). AnyNode-F.Word w) (type_found b.0 a b.2) }
 
-allow_only : (ms : Members) (a : Bool) → SaysAllow ms a → allow ms ≡ Ok a
+pub allow_only : (ms : Members) (a : Bool) → SaysAllow ms a → allow ms ≡ Ok a
 unfolding allow
 allow_only ms a h =
     bind_only (or_bad (codes "type") (member_value (codes "type") ms)) (λ value. member_word (codes "type") value >>= rule_type) h.value a

@@ -16,17 +16,17 @@ use Rattle.rule_laws.proofs.HostLemmas.{served_found, served_only, asked_found, 
 
 -- ---- lists of entries
 
-rules_found : (name : List ℕ) (ms : Members) (rules : List Rule) → needed_rules name ms ≡ Ok rules → HasRules ms name rules
+pub rules_found : (name : List ℕ) (ms : Members) (rules : List Rule) → needed_rules name ms ≡ Ok rules → HasRules ms name rules
 unfolding needed_rules
 rules_found name ms rules e =
     let g = bind_found (needed_group name ms) (λ group. each (entry name rule) group) rules e in
     record { group = g.0; there = needed_found name ms g.0 g.1; each = each_found (entry name rule) IsRuleEntry (rule_found name) g.0 rules g.2 }
 
-rules_only : (name : List ℕ) (ms : Members) (rules : List Rule) → HasRules ms name rules → needed_rules name ms ≡ Ok rules
+pub rules_only : (name : List ℕ) (ms : Members) (rules : List Rule) → HasRules ms name rules → needed_rules name ms ≡ Ok rules
 unfolding needed_rules
 rules_only name ms rules h = bind_only (needed_group name ms) (λ group. each (entry name rule) group) h.group rules (needed_only name ms h.group h.there) (each_only (entry name rule) IsRuleEntry (rule_only name) h.group rules h.each)
 
-optional_rules_found : (name : List ℕ) (ms : Members) (rules : List Rule) → optional_rules name ms ≡ Ok rules → HasRulesOrNone ms name rules
+pub optional_rules_found : (name : List ℕ) (ms : Members) (rules : List Rule) → optional_rules name ms ≡ Ok rules → HasRulesOrNone ms name rules
 unfolding optional_rules
 optional_rules_found name ms rules e =
     let g = bind_found (optional_group name ms) (λ group. each (entry name rule) group) rules e in
@@ -40,18 +40,18 @@ optional_rules_found name ms rules e =
     go group (inl there) all = inl (record { group = group; there = there; each = all })
     go group (inr none) all = inr (none.0, none_of rules (subst (λ (ms : Members). AllZip IsRuleEntry ms rules) none.1 all))
 
-optional_rules_only : (name : List ℕ) (ms : Members) (rules : List Rule) → HasRulesOrNone ms name rules → optional_rules name ms ≡ Ok rules
+pub optional_rules_only : (name : List ℕ) (ms : Members) (rules : List Rule) → HasRulesOrNone ms name rules → optional_rules name ms ≡ Ok rules
 unfolding optional_rules
 optional_rules_only name ms rules (inl h) = bind_only (optional_group name ms) (λ group. each (entry name rule) group) h.group rules (optional_only name ms h.group (inl h.there)) (each_only (entry name rule) IsRuleEntry (rule_only name) h.group rules h.each)
 optional_rules_only name ms rules (inr none) = bind_only (optional_group name ms) (λ group. each (entry name rule) group) [] rules (optional_only name ms [] (inr (none.0, refl))) (ap Ok (sym none.1))
 
-filters_found : (ms : Members) (entries : List Filter) → filters ms ≡ Ok entries → HasEntries IsFilterEntry ms (codes "filter") entries
+pub filters_found : (ms : Members) (entries : List Filter) → filters ms ≡ Ok entries → HasEntries IsFilterEntry ms (codes "filter") entries
 unfolding filters
 filters_found ms entries e =
     let g = bind_found (needed_group (codes "filter") ms) (λ group. each (entry (codes "filter") filter) group) entries e in
     record { group = g.0; there = needed_found (codes "filter") ms g.0 g.1; each = each_found (entry (codes "filter") filter) IsFilterEntry (filter_found (codes "filter")) g.0 entries g.2 }
 
-filters_only : (ms : Members) (entries : List Filter) → HasEntries IsFilterEntry ms (codes "filter") entries → filters ms ≡ Ok entries
+pub filters_only : (ms : Members) (entries : List Filter) → HasEntries IsFilterEntry ms (codes "filter") entries → filters ms ≡ Ok entries
 unfolding filters
 filters_only ms entries h = bind_only (needed_group (codes "filter") ms) (λ group. each (entry (codes "filter") filter) group) h.group entries (needed_only (codes "filter") ms h.group h.there) (each_only (entry (codes "filter") filter) IsFilterEntry (filter_only (codes "filter")) h.group entries h.each)
 

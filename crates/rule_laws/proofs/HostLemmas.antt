@@ -34,11 +34,11 @@ cut_of (c ∷ t) = go (at_last_colon t) (cut_of t)
         colon true is = Cut.Parts {cut = ([], t)} (record { spells = ap (λ (b : ℕ). b ∷ t) (eqb-true c 58 is); last = none })
         colon false is = Cut.Whole (eqb-false c 58 is, none)
 
-no_colon : (text : List ℕ) → HasNoColon text → at_last_colon text ≡ None
+pub no_colon : (text : List ℕ) → HasNoColon text → at_last_colon text ≡ None
 no_colon [] none = refl
 no_colon (c ∷ t) none = ap (cut_again c t) (no_colon t none.1) ∙ rw (ne_eqb c 58 none.0) refl
 
-colon_at : (host port : List ℕ) → HasNoColon port → at_last_colon (host ++ 58 ∷ port) ≡ Some (host, port)
+pub colon_at : (host port : List ℕ) → HasNoColon port → at_last_colon (host ++ 58 ∷ port) ≡ Some (host, port)
 colon_at [] port none = ap (cut_again 58 port) (no_colon port none)
 colon_at (c ∷ host) port none = ap (cut_again c (host ++ 58 ∷ port)) (colon_at host port none)
 
@@ -73,7 +73,7 @@ host_made name text part g port (IsHostText.AtPort {host = before} {port = digit
 
 -- ---- served hosts
 
-no_bytes : (name : List ℕ) → eqb (length name) 0 ≡ true → name ≡ []
+pub no_bytes : (name : List ℕ) → eqb (length name) 0 ≡ true → name ≡ []
 no_bytes [] e = refl
 no_bytes (c ∷ name) e = let f = eqb-true (length (c ∷ name)) 0 e in absurd (omega (arith, f))
 

@@ -4,3 +4,8 @@ pub mod HostLemmas
 pub mod FarmLemmas
 pub mod AlikeLemmas
 pub mod TouchedLemmas
+pub mod NumberLemmas
+pub mod FaultLemmas
+pub mod EntryFaults
+pub mod HostFaults
+pub mod FarmFaultLemmas

@@ -30,14 +30,14 @@ named_is name text e = same_text text name (sym e)
 named_self : (name : List ℕ) → is_member_name name name ≡ true
 named_self name = (bytes_eq-Decides name name).1 refl
 
-named_not : (name text : List ℕ) → text ≢ name → is_member_name name text ≡ false
+pub named_not : (name text : List ℕ) → text ≢ name → is_member_name name text ≡ false
 named_not name text other = go (is_member_name name text) refl
   where
     go : (x : Bool) → is_member_name name text ≡ x → x ≡ false
     go true e = absurd (other (named_is name text e))
     go false e = refl
 
-not_named : (name text : List ℕ) → is_member_name name text ≡ false → text ≢ name
+pub not_named : (name text : List ℕ) → is_member_name name text ≡ false → text ≢ name
 not_named name text e same = let f : is_member_name name text ≡ true = ap (is_member_name name) same ∙ named_self name in let g : true ≡ false = sym f ∙ e in absurd cc
 
 -- ---- members

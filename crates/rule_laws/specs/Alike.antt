@@ -40,12 +40,16 @@ HaveWordsAlike names ms others = AllByRecursion (HaveAlike AreWordsAlike ms othe
 
 -- ---- entries
 
+-- the names of tests, in their order
+abbrev pub test_names : List Text
+test_names = codes "glob" ∷ codes "method" ∷ codes "url" ∷ codes "path" ∷ codes "selectors" ∷ codes "extension" ∷ codes "suffix" ∷ codes "query" ∷ []
+
 -- the names that are looked for in an entry of rules, and in one of the filter
 abbrev pub rule_names : List Text
 rule_names = codes "type" ∷ codes "glob" ∷ []
 
 abbrev pub filter_names : List Text
-filter_names = codes "type" ∷ codes "glob" ∷ codes "method" ∷ codes "url" ∷ codes "path" ∷ codes "selectors" ∷ codes "extension" ∷ codes "suffix" ∷ codes "query" ∷ []
+filter_names = codes "type" ∷ test_names
 
 -- one value, told by one name
 abbrev pub AreToldAlike : List ℕ → List ℕ × AnyNode → List ℕ × AnyNode → Type 0

@@ -1,3 +1,5 @@
 pub mod FarmTable
 pub mod Alike
 pub mod Touched
+pub mod Numbers
+pub mod FarmFaults

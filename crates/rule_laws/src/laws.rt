@@ -1,19 +1,35 @@
 //! What the rules of a dispatcher are in the words of their documentation: laws of the definitions, on functions that do nothing.
-ghost use Rattle.std.specs.Prelude.{◌≡◌, ◌↔◌, ℕ, Contains, Ok, Some, length, slice_get};
-ghost use Rattle.sp_base.specs.Texts.{Segments};
-ghost use Rattle.any_config.specs.Farms.{farm_of};
+ghost use Rattle.std.specs.Prelude.{◌≡◌, ◌↔◌, ◌<◌, ◌^◌, ℕ, Contains, Err, Ok, Some, length, slice_get};
+ghost use Rattle.sp_base.specs.Texts.{Segments, Text};
+ghost use Rattle.any_config.specs.Farms.{decimal, farm_of};
 ghost use Rattle.any_config.specs.declared.farm.Farm.{Farm};
+ghost use Rattle.any_config.specs.declared.farm_fault.FarmFault.{FarmFault};
 ghost use Rattle.any_config.specs.declared.node.AnyNode.{AnyNode};
 ghost use Rattle.cover_rules.specs.Coverage.{touched_of};
 ghost use Rattle.cover_rules.specs.declared.invalidation.Invalidation.{Invalidation};
 ghost use Rattle.rule_laws.specs.Alike.{AreReadAlike};
+ghost use Rattle.rule_laws.specs.FarmFaults.{IsFarmFault};
 ghost use Rattle.rule_laws.specs.FarmTable.{IsFarmOf};
+ghost use Rattle.rule_laws.specs.Numbers.{IsWritten};
 ghost use Rattle.rule_laws.specs.Touched.{IsTouched};
 
 /// The farm of a file is its table: a farm is that of a file exactly where it has what each row of the table says.
 pub fn the_farm_is_its_table()
     ensures found { (top : AnyNode) (farm : Farm) → farm_of top ≡ Ok farm → IsFarmOf top farm }
     ensures only { (top : AnyNode) (farm : Farm) → IsFarmOf top farm → farm_of top ≡ Ok farm }
+{}
+
+/// A file has no farm exactly where a row of the table is at fault, and its fault is that of the first such row, in the order of the table and
+/// of the entries of each list.
+pub fn the_first_fault_is_told()
+    ensures found { (top : AnyNode) (fault : FarmFault) → farm_of top ≡ Err fault → IsFarmFault top fault }
+    ensures only { (top : AnyNode) (fault : FarmFault) → IsFarmFault top fault → farm_of top ≡ Err fault }
+{}
+
+/// A text is a number of the table exactly where it is that number's digits, without a leading zero, and the number is at most the greatest
+/// that is asked for.
+pub fn a_number_is_its_digits()
+    ensures { (most n : ℕ) (text : Text) → most < 2 ^ 64 → (decimal most text ≡ Some n) ↔ IsWritten most text n }
 {}
 
 /// Whatever else stands in a file changes nothing: two files whose members that are looked for are alike, level by level, give one farm, or one

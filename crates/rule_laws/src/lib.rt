@@ -4,5 +4,6 @@
 mod laws;
 
 pub use laws::{
-    other_members_change_nothing, the_farm_is_its_table, touched_folders_are_above_the_handle,
+    a_number_is_its_digits, other_members_change_nothing, the_farm_is_its_table,
+    the_first_fault_is_told, touched_folders_are_above_the_handle,
 };

@@ -1,0 +1,32 @@
+//! What block statements are in the words of their language: laws of the definitions, on functions that do nothing.
+
+ghost use Rattle.std.specs.Prelude.{List};
+ghost use Rattle.sp_base.specs.Texts.{Text};
+ghost use Rattle.htl_expr.specs.Bindings.{Bindings};
+ghost use Rattle.htl_blocks.specs.declared.block.Tag.{Tag};
+ghost use Rattle.htl_blocks.specs.declared.block.Block.{Block};
+ghost use Rattle.block_laws.specs.Together.{IsWrittenAsWithoutTestIfTrue, IsWrittenAsWithoutTagsIfUnwrapped, IsWrittenAsWithoutUnwrapIfFalse, ListsRepeatWhatStandsWithin, TextsStandAsContent, BodiesStandAsContent};
+
+/// An element whose test is true writes what it writes without the test, whatever else it has.
+pub fn a_true_test_changes_nothing()
+    ensures { (scope : Bindings) (tag : Tag) (content : List Block) (end_tag : Text) → IsWrittenAsWithoutTestIfTrue scope tag content end_tag }
+{}
+
+/// An unwrapped element writes what it writes without its tags, whatever else it has (`tags`). One whose unwrap is false is written as without
+/// it (`unwrap`).
+pub fn an_unwrapped_element_is_written_without_tags()
+    ensures tags { (scope : Bindings) (tag : Tag) (content : List Block) (end_tag : Text) → IsWrittenAsWithoutTagsIfUnwrapped scope tag content end_tag }
+    ensures unwrap { (scope : Bindings) (tag : Tag) (content : List Block) (end_tag : Text) → IsWrittenAsWithoutUnwrapIfFalse scope tag content end_tag }
+{}
+
+/// An element with a list writes its tags once, and between them what stands in it, once for each item, in order, with the item as the
+/// variable: its content, or its text, include or resource.
+pub fn a_list_repeats_what_stands_within()
+    ensures { ListsRepeatWhatStandsWithin }
+{}
+
+/// An element with a text, an include or a resource writes what it writes with that as its content, whatever else it has.
+pub fn a_body_is_written_as_the_content()
+    ensures text { TextsStandAsContent }
+    ensures body { BodiesStandAsContent }
+{}

@@ -1,1 +1,3 @@
 mod Together
+mod Scans
+mod PartLemmas

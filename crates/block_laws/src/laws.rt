@@ -1,10 +1,13 @@
 //! What block statements are in the words of their language: laws of the definitions, on functions that do nothing.
 
-ghost use Rattle.std.specs.Prelude.{List};
+ghost use Rattle.std.specs.Prelude.{◌≡◌, List};
 ghost use Rattle.sp_base.specs.Texts.{Text};
 ghost use Rattle.htl_expr.specs.Bindings.{Bindings};
 ghost use Rattle.htl_blocks.specs.declared.block.Tag.{Tag};
 ghost use Rattle.htl_blocks.specs.declared.block.Block.{Block};
+ghost use Rattle.htl_blocks.specs.Markup.{parts};
+ghost use Rattle.htl_blocks.specs.Spelling.{text_of};
+ghost use Rattle.block_laws.specs.PartKinds.{AreParts};
 ghost use Rattle.block_laws.specs.Together.{IsWrittenAsWithoutTestIfTrue, IsWrittenAsWithoutTagsIfUnwrapped, IsWrittenAsWithoutUnwrapIfFalse, ListsRepeatWhatStandsWithin, TextsStandAsContent, BodiesStandAsContent};
 
 /// An element whose test is true writes what it writes without the test, whatever else it has.
@@ -29,4 +32,11 @@ pub fn a_list_repeats_what_stands_within()
 pub fn a_body_is_written_as_the_content()
     ensures text { TextsStandAsContent }
     ensures body { BodiesStandAsContent }
+{}
+
+/// Each part of a text is of one of the kinds: a tag up to its first `>` outside quotes, an end tag, or a byte at which neither begins (`each`).
+/// No text has other parts of these kinds (`only`).
+pub fn each_part_is_of_a_kind()
+    ensures each { (t : Text) → AreParts (parts t) }
+    ensures only { (ps : List Text) → AreParts ps → parts (text_of ps) ≡ ps }
 {}

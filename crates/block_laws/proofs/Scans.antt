@@ -7,6 +7,7 @@ use Rattle.sp_base.specs.Texts.{Text}
 use Rattle.htl_blocks.specs.declared.quoting.Quoting.{Quoting}
 use Rattle.htl_blocks.specs.Markup.{quoting_step}
 use Rattle.block_laws.specs.PartKinds.{quoting_after, HoldsOfNone}
+use Rattle.block_laws.specs.TagStatements.{Stops}
 
 -- ---- a text in two
 
@@ -70,11 +71,6 @@ scan_none test quoting n (c ∷ t) none =
     rw here (scan_none test (quoting_step quoting c) (n + 1) t none.1)
 
 -- ---- runs
-
--- nothing, or a byte that isn't good
-abbrev pub Stops : (ℕ → Bool) → Text → Type 0
-Stops good [] = Unit {0}
-Stops good (c ∷ t) = good c ≡ false
 
 -- a run of good bytes at the beginning, of this length
 pub record Run (good : ℕ → Bool) (n : ℕ) (t : Text) : Type 0 where

@@ -1,13 +1,17 @@
 //! What block statements are in the words of their language: laws of the definitions, on functions that do nothing.
 
-ghost use Rattle.std.specs.Prelude.{◌≡◌, List};
+ghost use Rattle.std.specs.Prelude.{◌≡◌, List, Some, false};
 ghost use Rattle.sp_base.specs.Texts.{Text};
 ghost use Rattle.htl_expr.specs.Bindings.{Bindings};
+ghost use Rattle.htl_blocks.specs.declared.attribute.Attribute.{Attribute};
+ghost use Rattle.htl_blocks.specs.declared.attribute.Attributes.{Attributes};
 ghost use Rattle.htl_blocks.specs.declared.block.Tag.{Tag};
 ghost use Rattle.htl_blocks.specs.declared.block.Block.{Block};
+ghost use Rattle.htl_blocks.specs.Attributes.{is_block_tag, tag_attributes};
 ghost use Rattle.htl_blocks.specs.Markup.{parts};
 ghost use Rattle.htl_blocks.specs.Spelling.{text_of};
 ghost use Rattle.block_laws.specs.PartKinds.{AreParts};
+ghost use Rattle.block_laws.specs.TagStatements.{ArePiecesApart, IsTagWith, SpellsTag};
 ghost use Rattle.block_laws.specs.Together.{IsWrittenAsWithoutTestIfTrue, IsWrittenAsWithoutTagsIfUnwrapped, IsWrittenAsWithoutUnwrapIfFalse, ListsRepeatWhatStandsWithin, TextsStandAsContent, BodiesStandAsContent};
 
 /// An element whose test is true writes what it writes without the test, whatever else it has.
@@ -39,4 +43,16 @@ pub fn a_body_is_written_as_the_content()
 pub fn each_part_is_of_a_kind()
     ensures each { (t : Text) → AreParts (parts t) }
     ensures only { (ps : List Text) → AreParts ps → parts (text_of ps) ≡ ps }
+{}
+
+/// A tag has statements, and without them it is a text, exactly where it is that text in pieces, with the statements and the blanks before each
+/// between the pieces: each statement a name with its value, of each kind one at most.
+pub fn a_tag_is_its_pieces_and_statements()
+    ensures found { (tag kept : Text) (a : Attributes) → tag_attributes tag ≡ Some (a, kept) → IsTagWith tag a kept }
+    ensures only { (tag kept : Text) (a : Attributes) → IsTagWith tag a kept → tag_attributes tag ≡ Some (a, kept) }
+{}
+
+/// What is left of a tag has no statement, where after each of its statements the tag goes on with a blank, `/` or `>`, or ends.
+pub fn no_statement_is_left()
+    ensures { (tag : Text) (pieces : List Text) (each : List Attribute) → SpellsTag tag pieces each → ArePiecesApart pieces → is_block_tag (text_of pieces) ≡ false }
 {}

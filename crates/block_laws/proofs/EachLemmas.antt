@@ -1,5 +1,5 @@
 -- The statements of a tag together.
-use Rattle.std.proofs.Common.{◌≡◌, Bool, true, false, cond, List, [], ◌∷◌, ◌++◌, Option, Some, None, is_none, refl, ap, sym, ◌∙◌, append-nil}
+use Rattle.std.proofs.Common.{◌≡◌, cond, List, [], ◌∷◌, ◌++◌, Option, Some, None, is_none, refl, ap, sym, ◌∙◌, append-nil}
 use Rattle.std.specs.List.{filter_map}
 use Rattle.std.specs.Option.{option_to_list}
 use Rattle.sp_base.specs.Texts.{Text}
@@ -35,8 +35,12 @@ none_is each a e = let clash : None ≡ Some a = sym (none_gathered each) ∙ e 
 found_together : (each : List Attribute) (found a : Attributes) → gathered (Some found) each ≡ Some a → Together found each a
 found_together [] found a e =
     let same : found ≡ a = cc in
-    record { tests = append-nil (option_to_list found.test) ∙ ap (λ (f : Attributes). option_to_list f.test) same; lists = append-nil (option_to_list found.list) ∙ ap (λ (f : Attributes). option_to_list f.list) same;
-    bodies = append-nil (option_to_list found.body) ∙ ap (λ (f : Attributes). option_to_list f.body) same; unwraps = append-nil (option_to_list found.unwrap) ∙ ap (λ (f : Attributes). option_to_list f.unwrap) same }
+    record {
+      tests = append-nil (option_to_list found.test) ∙ ap (λ (f : Attributes). option_to_list f.test) same;
+      lists = append-nil (option_to_list found.list) ∙ ap (λ (f : Attributes). option_to_list f.list) same;
+      bodies = append-nil (option_to_list found.body) ∙ ap (λ (f : Attributes). option_to_list f.body) same;
+      unwraps = append-nil (option_to_list found.unwrap) ∙ ap (λ (f : Attributes). option_to_list f.unwrap) same;
+    }
 found_together (attribute.Test v ∷ each) found a e = go found.test refl (found_together each (record found { test = Some v }) a) e
   where
     go : (o : Option (List TemplatePiece)) → found.test ≡ o → (gathered (Some (record found { test = Some v })) each ≡ Some a → Together (record found { test = Some v }) each a) → gathered (cond (is_none o) (Some (record found { test = Some v })) None) each ≡ Some a → Together found (attribute.Test v ∷ each) a

@@ -1,5 +1,5 @@
 -- In what is left of a tag no statement begins.
-use Rattle.std.proofs.Common.{◌≡◌, ℕ, Bool, true, false, cond, not, ◌&&◌, eqb, nat_eq, List, [], ◌∷◌, ◌++◌, codes, Option, None, is_none, refl, ap, sym, subst, ◌∙◌, arith, append-nil, append_assoc}
+use Rattle.std.proofs.Common.{◌≡◌, ℕ, Bool, true, false, cond, not, ◌&&◌, eqb, nat_eq, List, [], ◌∷◌, ◌++◌, Option, is_none, refl, ap, sym, subst, ◌∙◌, arith, append-nil, append_assoc}
 use Rattle.std.proofs.lemmas.Bool.{and_parts, eqb-true}
 use Rattle.std.proofs.lemmas.Bool.Decides.{nat_tests}
 use Rattle.std.specs.List.{AllByRecursion, list_all, starts_with}
@@ -9,7 +9,7 @@ use Rattle.htl_blocks.specs.declared.attribute.Attribute.{Attribute}
 use Rattle.htl_blocks.specs.declared.quoting.Quoting.{Quoting}
 use Rattle.htl_blocks.specs.declared.quoting.Quoting.TheVariants.{Outside, Within}
 use Rattle.htl_blocks.specs.Markup.{begins_tag, quoting_step}
-use Rattle.htl_blocks.specs.Attributes.{begins_statement, is_block_tag, statement_place, statement_prefix}
+use Rattle.htl_blocks.specs.Attributes.{begins_statement, is_block_tag, statement_prefix}
 use Rattle.htl_blocks.specs.Spelling.{text_of}
 use Rattle.block_laws.specs.PartKinds.{quoting_after, HoldsOfNone}
 use Rattle.block_laws.specs.TagStatements.{AreBlanks, ArePiecesApart, goes_on_after_values, IsApart, IsCutAtStatement, SpellsTag}

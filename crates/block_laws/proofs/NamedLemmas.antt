@@ -1,5 +1,5 @@
 -- The names of statements, and what they say.
-use Rattle.std.proofs.Common.{◌≡◌, ◌≤◌, ◌⊎◌, inl, inr, ℕ, Bool, true, false, cond, ◌&&◌, eqb, nat_eq, List, [], ◌∷◌, ◌++◌, take, drop, length, codes, Option, Some, None, Result, Ok, Err, refl, ap, sym, ◌∙◌, arith}
+use Rattle.std.proofs.Common.{◌≡◌, ◌≤◌, inl, inr, ℕ, Bool, true, false, cond, ◌&&◌, eqb, nat_eq, List, [], ◌∷◌, ◌++◌, drop, length, codes, Some, None, Result, Ok, Err, refl, ap, sym, ◌∙◌, arith}
 use Rattle.std.proofs.lemmas.Bool.{and_parts, eqb-true}
 use Rattle.std.specs.List.{starts_with}
 use Rattle.std.specs.Cmp.Lexicographic.{pointwise, same_text}
@@ -12,7 +12,7 @@ use Rattle.htl_blocks.specs.declared.attribute.Attribute.TheVariants as attribut
 use Rattle.htl_blocks.specs.declared.attribute.Unwrap.TheVariants as unwrap
 use Rattle.htl_blocks.specs.declared.statement.Statement.{Statement}
 use Rattle.htl_blocks.specs.declared.statement.Statement.TheVariants as statement
-use Rattle.htl_blocks.specs.Attributes.{ValueText, none, unquoted, quoted, at_most_one, one_piece, is_variable, list_statement, statement_of, statement_attribute, quoted_attribute, unwraps, value_of, with_read_value, with_value, without_value}
+use Rattle.htl_blocks.specs.Attributes.{ValueText, none, unquoted, quoted, at_most_one, one_piece, is_variable, list_statement, statement_of, statement_attribute, unwraps, value_of, with_read_value, with_value, without_value}
 use Rattle.block_laws.specs.TagStatements.{IsNamed, Says}
 
 -- ---- names

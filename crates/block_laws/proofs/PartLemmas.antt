@@ -12,7 +12,7 @@ use Rattle.htl_blocks.specs.declared.quoting.Quoting.TheVariants.{Outside, Withi
 use Rattle.htl_blocks.specs.Markup.{begins_end_tag, begins_tag, ended_len, ends, ends_after_name, ends_tag, is_name_byte, name_len, part_len, parts, parts_after, quoting_step, run_bytes, tag_end, tag_len}
 use Rattle.htl_blocks.specs.Spelling.{text_of}
 use Rattle.block_laws.specs.PartKinds.{quoting_after, HoldsOfNone, ends_tag_before, IsName, end_tag_of, BeginsNoEndTag, IsPart, AreParts}
-use Rattle.block_laws.proofs.Scans.{take_all, drop_all, cut_behind, scan, FirstIs, Finds, scan_finds, scan_is, scan_none, Run, run_found, run_is}
+use Rattle.block_laws.proofs.Scans.{take_all, drop_all, cut_behind, scan, Finds, scan_finds, scan_is, scan_none, Run, run_found, run_is}
 
 -- ---- tags
 

@@ -1,5 +1,5 @@
 -- What a tag is read as is what its text spells.
-use Rattle.std.proofs.Common.{◌≡◌, ◌⊎◌, inl, inr, ◌<◌, ◌≤◌, ◌+◌, ℕ, zero, suc, Bool, true, false, cond, ◌&&◌, eqb, List, [], ◌∷◌, ◌++◌, take, drop, length, Option, Some, None, refl, ap, sym, subst, ◌∙◌, arith, append-nil, append_assoc, length-append}
+use Rattle.std.proofs.Common.{◌≡◌, inl, inr, ◌<◌, ◌≤◌, ◌+◌, ℕ, zero, suc, Bool, true, false, cond, ◌&&◌, eqb, List, [], ◌∷◌, ◌++◌, take, drop, length, Option, Some, None, refl, ap, sym, subst, ◌∙◌, arith, append-nil, append_assoc, length-append}
 use Rattle.std.proofs.lemmas.Bool.{and_parts, eqb-true}
 use Rattle.std.proofs.lemmas.Bool.Decides.{nat_tests}
 use Rattle.std.specs.List.{list_all}
@@ -14,7 +14,7 @@ use Rattle.htl_blocks.specs.Markup.{quoting_step}
 use Rattle.htl_blocks.specs.Attributes.{added, after_attribute, attribute_of, attributes_read, begins_statement, end_trimmed, key_len, known_attribute, no_attributes, split_at_blank, statement_attribute, statement_of, statement_place, statement_split, tag_attributes, to_statement, unquoted, value_read, with_attribute, with_known, ValueText}
 use Rattle.htl_blocks.specs.Spelling.{text_of}
 use Rattle.block_laws.specs.PartKinds.{quoting_after, HoldsOfNone}
-use Rattle.block_laws.specs.TagStatements.{is_key_byte, AreBlanks, HasValue, BeginsWith, EndsInNoBlank, IsCutAtStatement, SpellsTag, HasEachOnce, IsTagWith}
+use Rattle.block_laws.specs.TagStatements.{is_key_byte, AreBlanks, HasValue, BeginsWith, EndsInNoBlank, IsCutAtStatement, SpellsTag, IsTagWith}
 use Rattle.block_laws.proofs.Scans.{cut_behind, scan, FirstIs, Finds, scan_finds, scan_is, scan_none, Run}
 use Rattle.block_laws.proofs.NamedLemmas.{named_found, named_is, said, says_is}
 use Rattle.block_laws.proofs.ValueLemmas.{key_found, key_len_is, value_found, value_is, value_shorter, Reads}
@@ -57,11 +57,12 @@ begins_found t a e = go (statement_of x.run) refl (value_found x.later)
 pub begins_is : (t : Text) (a : Attribute) (later : Text) → BeginsWith t a later → (attribute_of t ≡ Some a) × (after_attribute t ≡ later)
 begins_is t a later x =
     let len : key_len t ≡ length x.name = ap key_len x.whole ∙ key_len_is x.name x.after x.all x.stops in
-    let read = value_is x.after x.value later x.valued in
-    (begins_at t x.name x.after a x.whole len
-    ∙ ap (λ (o : Option Statement). known_attribute o (value_read x.after).0) (named_is x.name x.means x.named)
-    ∙ ap (λ (v : ValueText × Text). statement_attribute x.means v.0) read ∙ says_is x.means x.value a x.says,
-    after_at t x.name x.after x.whole len ∙ ap (λ (v : ValueText × Text). v.1) read)
+    let read = value_is x.after x.value later x.valued in (
+      begins_at t x.name x.after a x.whole len
+          ∙ ap (λ (o : Option Statement). known_attribute o (value_read x.after).0) (named_is x.name x.means x.named)
+          ∙ ap (λ (v : ValueText × Text). statement_attribute x.means v.0) read ∙ says_is x.means x.value a x.says,
+      after_at t x.name x.after x.whole len ∙ ap (λ (v : ValueText × Text). v.1) read,
+    )
 
 -- what follows a statement is no longer than the text from it on
 begins_shorter : (t : Text) (a : Attribute) (later : Text) → BeginsWith t a later → length later ≤ length t
@@ -156,8 +157,15 @@ cut_found t m x =
     let size = length-append x.before (x.byte ∷ []) in
     let two = cut_behind (x.before ++ x.byte ∷ []) x.later t (m + 1) (x.whole ∙ sym (append_assoc x.before (x.byte ∷ []) x.later)) (omega (arith, at, size)) in
     let e = end_found x.before in
-    rw (one.0, two.1) (record { blanks = e.blanks; blank = x.byte; whole = x.whole ∙ ap (λ (u : Text). u ++ x.byte ∷ x.later) e.whole; first = subst (λ (u : Text). HoldsOfNone begins_statement Outside u (x.byte ∷ x.later)) e.whole x.none;
-    here = ap (λ (u : Text). begins_statement (quoting_after Outside u) x.byte x.later) (sym e.whole) ∙ x.holds; are_blanks = e.all; ends = e.ends })
+    rw (one.0, two.1) (record {
+      blanks = e.blanks;
+      blank = x.byte;
+      whole = x.whole ∙ ap (λ (u : Text). u ++ x.byte ∷ x.later) e.whole;
+      first = subst (λ (u : Text). HoldsOfNone begins_statement Outside u (x.byte ∷ x.later)) e.whole x.none;
+      here = ap (λ (u : Text). begins_statement (quoting_after Outside u) x.byte x.later) (sym e.whole) ∙ x.holds;
+      are_blanks = e.all;
+      ends = e.ends;
+    })
 
 split_found : (t : Text) → Splits t (statement_split t)
 unfolding statement_split

@@ -1,17 +1,14 @@
 -- What an element writes without one of its statements.
-use Rattle.std.proofs.Common.{◌≡◌, ℕ, Bool, true, false, cond, List, [], ◌∷◌, ◌++◌, Option, Some, None, refl, ap, sym, ◌∙◌, append-nil}
+use Rattle.std.proofs.Common.{◌≡◌, true, false, cond, List, [], ◌∷◌, Option, Some, None, refl, ap, sym, ◌∙◌, append-nil}
 use Rattle.std.proofs.Math.Path.{fun_ext}
 use Rattle.std.specs.List.{flat_map}
 use Rattle.sp_base.specs.Texts.{Text}
 use Rattle.htl_expr.specs.Bindings.{Bindings}
-use Rattle.htl_expr.specs.Value.{list_in}
-use Rattle.htl_text.specs.declared.piece.TemplatePiece.{TemplatePiece}
-use Rattle.htl_blocks.specs.declared.attribute.Body.TheVariants as body
 use Rattle.htl_blocks.specs.declared.block.Tag.{Tag}
 use Rattle.htl_blocks.specs.declared.block.Block.{Block}
 use Rattle.htl_blocks.specs.declared.block.Block.TheVariants as block
 use Rattle.htl_blocks.specs.Parts.{Part, Round}
-use Rattle.htl_blocks.specs.Written.{passes, keeps_tags, body_parts, listed, between_tags, element_parts, block_parts, blocks_parts, with_variable}
+use Rattle.htl_blocks.specs.Written.{passes, keeps_tags, body_parts, listed, between_tags, block_parts, blocks_parts, with_variable}
 use Rattle.htl_blocks.proofs.ElementLemmas.{element_is, text_is, in_tags}
 use Rattle.block_laws.specs.Together.{without_test, without_unwrap, without_body, without_text, body_alone, within, IsWrittenAsWithoutTestIfTrue, IsWrittenAsWithoutTagsIfUnwrapped, IsWrittenAsWithoutUnwrapIfFalse, ListsRepeatWhatStandsWithin, TextsStandAsContent, BodiesStandAsContent}
 

@@ -1,5 +1,5 @@
 -- The values of attributes.
-use Rattle.std.proofs.Common.{◌≡◌, ◌⊎◌, inl, inr, ◌<◌, ◌≤◌, ◌+◌, ℕ, zero, suc, Bool, true, false, cond, not, eqb, List, [], ◌∷◌, ◌++◌, take, drop, length, Option, Some, None, refl, ap, sym, subst, ◌∙◌, arith, append-nil, append_assoc, length-append}
+use Rattle.std.proofs.Common.{◌≡◌, ◌⊎◌, inl, inr, ◌≤◌, ◌+◌, ℕ, zero, suc, Bool, true, false, cond, not, eqb, [], ◌∷◌, ◌++◌, take, drop, length, Some, None, refl, ap, sym, subst, ◌∙◌, arith, append-nil, append_assoc, length-append}
 use Rattle.std.proofs.lemmas.Bool.{eqb-true}
 use Rattle.std.proofs.lemmas.Bool.Decides.{nat_tests}
 use Rattle.std.specs.List.{list_all}
@@ -8,9 +8,9 @@ use Rattle.sp_base.specs.Texts.{Text}
 use Rattle.htl_syntax.specs.Tokens.{is_blank, is_quote}
 use Rattle.htl_blocks.specs.declared.byte_run.ByteRun.TheVariants as run
 use Rattle.htl_blocks.specs.Markup.{ends, run_bytes}
-use Rattle.htl_blocks.specs.Attributes.{ValueText, none, unquoted, quoted, key_len, quoted_len, mark_at, quoted_at, start_trimmed, value_after, value_at_mark, value_read}
+use Rattle.htl_blocks.specs.Attributes.{ValueText, none, unquoted, quoted, key_len, quoted_len, start_trimmed, value_after, value_at_mark, value_read}
 use Rattle.block_laws.specs.TagStatements.{is_key_byte, Stops, AreBlanks, HasNoMark, HasValue}
-use Rattle.block_laws.proofs.Scans.{cut_behind, drop_all, Run, run_found, run_is}
+use Rattle.block_laws.proofs.Scans.{cut_behind, Run, run_found, run_is}
 
 not_not : (b : Bool) → b ≡ not (not b)
 not_not true = refl

@@ -1,12 +1,11 @@
 -- What an element writes, by taking one of its statements away. So they stand together: test, list, body and unwrap in this order.
-use Rattle.std.specs.Prelude.{◌≡◌, true, false, ℕ, List, [], ◌∷◌, ◌++◌, Option, Some, None}
+use Rattle.std.specs.Prelude.{◌≡◌, true, false, List, [], ◌∷◌, ◌++◌, Option, Some, None}
 use Rattle.std.specs.List.{flat_map}
 use Rattle.sp_base.specs.Texts.{Text}
 use Rattle.htl_expr.specs.Bindings.{Bindings}
 use Rattle.htl_expr.specs.Value.{list_in}
 use Rattle.htl_text.specs.declared.piece.TemplatePiece.{TemplatePiece}
 use Rattle.htl_text.specs.Template.{template_output}
-use Rattle.htl_blocks.specs.declared.attribute.Attributes.{Attributes}
 use Rattle.htl_blocks.specs.declared.attribute.Body.{Body}
 use Rattle.htl_blocks.specs.declared.attribute.Body.TheVariants as body
 use Rattle.htl_blocks.specs.declared.block.Tag.{Tag}

@@ -15,7 +15,7 @@ use Rattle.htl_blocks.specs.declared.attribute.Unwrap.TheVariants as unwrap
 use Rattle.htl_blocks.specs.declared.quoting.Quoting.TheVariants.{Outside}
 use Rattle.htl_blocks.specs.declared.statement.Statement.{Statement}
 use Rattle.htl_blocks.specs.declared.statement.Statement.TheVariants as statement
-use Rattle.htl_blocks.specs.Attributes.{begins_statement, ValueText, none, quoted, is_variable, with_value, unwraps}
+use Rattle.htl_blocks.specs.Attributes.{begins_statement, is_block_tag, ValueText, none, quoted, is_variable, with_value, unwraps}
 use Rattle.htl_blocks.specs.Markup.{ends_key}
 use Rattle.htl_blocks.specs.Spelling.{text_of}
 use Rattle.block_laws.specs.PartKinds.{quoting_after, HoldsOfNone}
@@ -159,3 +159,7 @@ IsApart (c ∷ t) = goes_on_after_values c ≡ true
 abbrev pub ArePiecesApart : List Text → Type 0
 ArePiecesApart [] = Unit {0}
 ArePiecesApart (first ∷ pieces) = AllByRecursion IsApart pieces
+
+-- of a tag of which the pieces are apart no statement is left
+abbrev pub HasNoStatementLeftIfApart : Text → List Text → List Attribute → Type 0
+HasNoStatementLeftIfApart tag pieces each = SpellsTag tag pieces each → ArePiecesApart pieces → is_block_tag (text_of pieces) ≡ false

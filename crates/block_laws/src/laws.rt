@@ -1,17 +1,17 @@
 //! What block statements are in the words of their language: laws of the definitions, on functions that do nothing.
 
-ghost use Rattle.std.specs.Prelude.{◌≡◌, List, Some, false};
+ghost use Rattle.std.specs.Prelude.{◌≡◌, List, Some};
 ghost use Rattle.sp_base.specs.Texts.{Text};
 ghost use Rattle.htl_expr.specs.Bindings.{Bindings};
 ghost use Rattle.htl_blocks.specs.declared.attribute.Attribute.{Attribute};
 ghost use Rattle.htl_blocks.specs.declared.attribute.Attributes.{Attributes};
 ghost use Rattle.htl_blocks.specs.declared.block.Tag.{Tag};
 ghost use Rattle.htl_blocks.specs.declared.block.Block.{Block};
-ghost use Rattle.htl_blocks.specs.Attributes.{is_block_tag, tag_attributes};
+ghost use Rattle.htl_blocks.specs.Attributes.{tag_attributes};
 ghost use Rattle.htl_blocks.specs.Markup.{parts};
 ghost use Rattle.htl_blocks.specs.Spelling.{text_of};
 ghost use Rattle.block_laws.specs.PartKinds.{AreParts};
-ghost use Rattle.block_laws.specs.TagStatements.{ArePiecesApart, IsTagWith, SpellsTag};
+ghost use Rattle.block_laws.specs.TagStatements.{HasNoStatementLeftIfApart, IsTagWith};
 ghost use Rattle.block_laws.specs.Together.{IsWrittenAsWithoutTestIfTrue, IsWrittenAsWithoutTagsIfUnwrapped, IsWrittenAsWithoutUnwrapIfFalse, ListsRepeatWhatStandsWithin, TextsStandAsContent, BodiesStandAsContent};
 
 /// An element whose test is true writes what it writes without the test, whatever else it has.
@@ -54,5 +54,5 @@ pub fn a_tag_is_its_pieces_and_statements()
 
 /// What is left of a tag has no statement, where after each of its statements the tag goes on with a blank, `/` or `>`, or ends.
 pub fn no_statement_is_left()
-    ensures { (tag : Text) (pieces : List Text) (each : List Attribute) → SpellsTag tag pieces each → ArePiecesApart pieces → is_block_tag (text_of pieces) ≡ false }
+    ensures { (tag : Text) (pieces : List Text) (each : List Attribute) → HasNoStatementLeftIfApart tag pieces each }
 {}

@@ -1,0 +1,3 @@
+pub mod Together
+pub mod PartKinds
+pub mod TagStatements

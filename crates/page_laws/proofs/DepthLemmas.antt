@@ -4,7 +4,7 @@ use Rattle.resource_tree.specs.Content.{Content}
 use Rattle.htl_blocks.specs.Parts.{Part, Byte, Round, Script, Resource, is_inclusion}
 use Rattle.publisher.specs.Pages.{Page, Place, Written, inclusion, part_page, parts_page, put_in, written_page}
 use Rattle.publisher.proofs.PageLemmas.{parts_more, parts_none}
-use Rattle.page_laws.specs.Limits.{PutsSomethingIn, PutsIn, Nests}
+use Rattle.page_laws.specs.Limits.{Nests}
 
 -- a part among others that is too deep
 record DeepPart (put : Part → Page) (ps : List Part) : Type 0 where
@@ -15,11 +15,11 @@ record DeepPart (put : Part → Page) (ps : List Part) : Type 0 where
   puts : is_inclusion part ≡ true
   deep : (put part).is_deep ≡ true
 
-either : (a b : Bool) → (a || b) ≡ true → (a ≡ true) ⊎ (b ≡ true)
+pub either : (a b : Bool) → (a || b) ≡ true → (a ≡ true) ⊎ (b ≡ true)
 either true b e = inl refl
 either false b e = inr e
 
-or_right : (a b : Bool) → b ≡ true → (a || b) ≡ true
+pub or_right : (a b : Bool) → b ≡ true → (a || b) ≡ true
 or_right true b e = refl
 or_right false b e = e
 

@@ -1,5 +1,6 @@
 -- What is put in.
-use Rattle.std.proofs.Common.{◌≡◌, ℕ, zero, suc, Bool, true, false, cond, List, [], ◌∷◌, Option, Some, None, IfSome, IfNone, option_and_then, Result, Ok, Err, refl, ap, sym, subst, ◌∙◌}
+use Rattle.std.proofs.Common.{◌≡◌, ℕ, suc, Bool, true, false, cond, List, [], Option, Some, None, IfSome, IfNone, Result, Ok, Err, refl, ap, ◌∙◌}
+use Rattle.std.specs.Prelude.{option_and_then}
 use Rattle.std.specs.Result.{result_ok}
 use Rattle.sp_base.specs.Paths.{name_of, parent_of}
 use Rattle.sp_base.specs.Texts.{Pairs, Segments, Text}
@@ -16,11 +17,10 @@ use Rattle.htl_blocks.specs.declared.fault.BlockFault.{BlockFault}
 use Rattle.htl_blocks.specs.Parts.{Part, Script, Resource as ResourcePart}
 use Rattle.htl_blocks.specs.Reading.{blocks_of, most_nested_blocks}
 use Rattle.htl_blocks.specs.Spelling.{SpellsBlocks}
-use Rattle.htl_blocks.specs.Written.{blocks_parts}
-use Rattle.publisher.specs.Pages.{Place, bindings_at, html_parts, included_resource, included_script, inclusion, is_script_name, joined, one_inclusion, page_of, parts_page, path_named, place_of, put_in, readable_blocks, resource_by, script_blocks, shown_resource, written_at, written_by_script, written_page}
+use Rattle.publisher.specs.Pages.{Place, html_parts, included_resource, included_script, inclusion, is_script_name, joined, one_inclusion, parts_page, path_named, place_of, put_in, readable_blocks, resource_by, script_blocks, shown_resource, written_at, written_page}
 use Rattle.publisher.proofs.PageLemmas.{resource_is, script_is}
 use Rattle.publisher.proofs.ScriptLaw.{found_first}
-use Rattle.page_laws.specs.Inclusions.{HasScript, LeadsToScript, LeadsToResource, ScriptsStandForTheSameResource, ResourcesStandByTheirFirstScript, NothingStandsForMissingScripts, NothingStandsForMissingResources, PagesOfOneIncludeAreThatScripts, PagesOfOneResourceAreThatResources}
+use Rattle.page_laws.specs.Inclusions.{HasScript, ScriptsStandForTheSameResource, ResourcesStandByTheirFirstScript, NothingStandsForMissingScripts, NothingStandsForMissingResources, PagesOfOneIncludeAreThatScripts, PagesOfOneResourceAreThatResources}
 
 -- what the layers below say: a script is read as the blocks that it spells, and the search finds the script that ranks first
 pub record Known : Type 0 where
@@ -75,7 +75,7 @@ nothing_stands tree levels place p e = ap (written_page (inclusion tree levels))
 
 pub scripts_stand : Known → ScriptsStandForTheSameResource
 scripts_stand known tree levels place name vars script blocks x =
-    let at = record place { script = script } in
+    let at : Place = record place { script = script } in
     put_in_stands tree levels place (Script name vars) at vars blocks (ap (included_script tree place vars) x.named ∙ ap (written_at at vars) (blocks_there known tree script blocks x.has))
 
 first_is : Known → (tree : Content) (res : Resource) (script : Segments) → IsFirstScript tree (chain_of tree res.props) (html_parts res.path) script → first_script tree (chain_of tree res.props) (html_parts res.path) ≡ Some script

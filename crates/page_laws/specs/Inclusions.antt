@@ -1,5 +1,5 @@
 -- What a script puts in (HTML Template Language specification 1.4, "Block Statements", include and resource), by relations in place of searches.
-use Rattle.std.specs.Prelude.{◌≡◌, ℕ, zero, suc, true, List, [], ◌∷◌, ◌++◌, Some}
+use Rattle.std.specs.Prelude.{◌≡◌, ℕ, suc, true, List, [], ◌∷◌, Some}
 use Rattle.sp_base.specs.Paths.{name_of, parent_of}
 use Rattle.sp_base.specs.Texts.{Pairs, Segments, Text}
 use Rattle.resource_tree.specs.Content.{Content}
@@ -8,11 +8,11 @@ use Rattle.overlay_merge.specs.Merged.{merged_resource}
 use Rattle.type_chain.specs.Chain.{chain_of}
 use Rattle.script_rank.specs.Ranking.{IsFirstScript, script_text}
 use Rattle.htl_blocks.specs.declared.block.Block.{Block}
-use Rattle.htl_blocks.specs.Parts.{Part, Script, Resource as ResourcePart, is_inclusion}
+use Rattle.htl_blocks.specs.Parts.{Script, Resource as ResourcePart}
 use Rattle.htl_blocks.specs.Reading.{most_nested_blocks}
 use Rattle.htl_blocks.specs.Spelling.{SpellsBlocks}
 use Rattle.htl_blocks.specs.Written.{blocks_parts}
-use Rattle.publisher.specs.Pages.{Page, Place, Written, bindings_at, blank, html_parts, inclusion, is_script_name, joined, most_levels, one_inclusion, page_of, parts_page, path_named, place_of, put_in}
+use Rattle.publisher.specs.Pages.{Page, Place, bindings_at, blank, html_parts, inclusion, is_script_name, joined, one_inclusion, page_of, parts_page, path_named, place_of}
 
 -- the script at a path: its name is one of a script, and its text spells these blocks
 pub record HasScript (tree : Content) (path : Segments) (blocks : List Block) : Type 0 where

@@ -47,3 +47,7 @@ pub data PassesLimit (tree : Content) (place : Place) (blocks : List Block) : Ty
 abbrev pub IsRefusedWhereItPassesALimit : Content → Ask → Resource → Text → List Block → Type 0
 IsRefusedWhereItPassesALimit tree ask res text blocks = (reads : ReadsByScript tree ask res text) → SpellsBlocks most_nested_blocks text blocks
     → ((answer_to_request tree ask).status ≡ 500) ↔ PassesLimit tree (place_of reads.script res) blocks
+
+-- so it is with each page by a script
+abbrev pub PagesAreRefusedWhereTheyPassALimit : Type 0
+PagesAreRefusedWhereTheyPassALimit = (tree : Content) (ask : Ask) (res : Resource) (text : Text) (blocks : List Block) → IsGood tree → IsRefusedWhereItPassesALimit tree ask res text blocks

@@ -1,13 +1,7 @@
 //! What a page puts in, and where it is refused: laws of the definitions, on functions that do nothing.
 
-ghost use Rattle.std.specs.Prelude.{List};
-ghost use Rattle.sp_base.specs.Texts.{Text};
-ghost use Rattle.sp_base.specs.declared.answer.Ask.{Ask};
-ghost use Rattle.resource_tree.specs.Content.{Content, IsGood};
-ghost use Rattle.resource_tree.specs.Seen.{Resource};
-ghost use Rattle.htl_blocks.specs.declared.block.Block.{Block};
 ghost use Rattle.page_laws.specs.Inclusions.{ScriptsStandForTheSameResource, ResourcesStandByTheirFirstScript, NothingStandsForMissingScripts, NothingStandsForMissingResources, PagesOfOneIncludeAreThatScripts, PagesOfOneResourceAreThatResources};
-ghost use Rattle.page_laws.specs.Limits.{IsRefusedWhereItPassesALimit};
+ghost use Rattle.page_laws.specs.Limits.{PagesAreRefusedWhereTheyPassALimit};
 
 use htl_blocks::the_blocks_are_the_text;
 use publisher::an_answer_is_one_of_the_cases;
@@ -33,7 +27,7 @@ pub fn what_is_put_in_is_its_own_page()
 /// A page by a script is answered 500 exactly where it passes a limit: of its text, of how much is to be put in, of the contents of lists, or
 /// of how deep scripts and resources stand one in another.
 pub fn a_page_is_refused_where_a_limit_is_passed()
-    ensures { (tree : Content) (ask : Ask) (res : Resource) (text : Text) (blocks : List Block) → IsGood tree → IsRefusedWhereItPassesALimit tree ask res text blocks }
+    ensures { PagesAreRefusedWhereTheyPassALimit }
 {
     an_answer_is_one_of_the_cases();
 }

@@ -1,0 +1,3 @@
+mod InclusionLemmas
+mod DepthLemmas
+mod LimitLemmas

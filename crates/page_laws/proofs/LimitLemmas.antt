@@ -1,0 +1,95 @@
+-- Which pages are refused.
+use Rattle.std.proofs.Common.{◌≡◌, ◌↔◌, ◌⊎◌, inl, inr, ◌<◌, nat_le, nat_lt, ℕ, Bool, true, false, cond, ◌||◌, List, [], length, refl, ap, sym, ◌∙◌, arith}
+use Rattle.std.proofs.lemmas.Bool.Decides.{nat_tests}
+use Rattle.sp_base.specs.Limits.{most_rendered_bytes}
+use Rattle.sp_base.specs.declared.answer.Answer.{Answer}
+use Rattle.sp_base.specs.declared.answer.Mark.{Mark}
+use Rattle.resource_tree.specs.Content.{Content}
+use Rattle.htl_blocks.specs.declared.block.Block.{Block}
+use Rattle.htl_blocks.specs.Refused.{most_inclusions, most_rounds}
+use Rattle.htl_blocks.specs.Written.{blocks_parts}
+use Rattle.error_answers.specs.Errors.{error_answer}
+use Rattle.publisher.specs.Errors.{answer_with_body}
+use Rattle.publisher.specs.Pages.{Page, Place, bindings_at, is_over, most_levels, page_of}
+use Rattle.publisher.specs.Rendering.{html_kind, page_answer}
+use Rattle.page_laws.specs.Limits.{PassesLimit}
+use Rattle.page_laws.proofs.DepthLemmas.{deep_nests, either, nests_deep, or_right}
+
+less : (n m : ℕ) → nat_lt n m ≡ true → n < m
+less n m e = grind (arith, nat_tests)
+
+is_less : (n m : ℕ) → n < m → nat_lt n m ≡ true
+is_less n m e = grind (arith, nat_tests)
+
+above : (n m : ℕ) → nat_le n m ≡ false → m < n
+above n m e = grind (arith, nat_tests)
+
+is_above : (n m : ℕ) → m < n → nat_le n m ≡ false
+is_above n m e = grind (arith, nat_tests)
+
+or_left : (a b : Bool) → a ≡ true → (a || b) ≡ true
+or_left true b e = refl
+or_left false b e = absurd cc
+
+-- ---- the status of a page
+
+status_of : (over small : Bool) (mark : Mark) (page : Page) → (cond over (error_answer 500) (cond small (answer_with_body 200 html_kind mark page.text) (error_answer 500))).status ≡ 500 → (over ≡ true) ⊎ (small ≡ false)
+unfolding error_answer
+status_of true small mark page e = inl refl
+status_of false true mark page e = absurd (omega (arith, e))
+status_of false false mark page e = inr refl
+
+is_refused : (over small : Bool) (mark : Mark) (page : Page) → (over ≡ true) ⊎ (small ≡ false) → (cond over (error_answer 500) (cond small (answer_with_body 200 html_kind mark page.text) (error_answer 500))).status ≡ 500
+unfolding error_answer
+is_refused true small mark page e = refl
+is_refused false true mark page (inl e) = absurd cc
+is_refused false true mark page (inr e) = absurd cc
+is_refused false false mark page e = refl
+
+-- ---- the limits
+
+-- what makes a page over
+over_means : (page : Page) → is_over page ≡ true → (page.is_deep ≡ true) ⊎ ((most_inclusions < page.inclusions) ⊎ (most_rounds < page.rounds))
+over_means page e = go (either page.is_deep (nat_lt most_inclusions page.inclusions || nat_lt most_rounds page.rounds) e)
+  where
+    counted : (nat_lt most_inclusions page.inclusions ≡ true) ⊎ (nat_lt most_rounds page.rounds ≡ true) → (page.is_deep ≡ true) ⊎ ((most_inclusions < page.inclusions) ⊎ (most_rounds < page.rounds))
+    counted (inl f) = inr (inl (less most_inclusions page.inclusions f))
+    counted (inr f) = inr (inr (less most_rounds page.rounds f))
+
+    go : (page.is_deep ≡ true) ⊎ ((nat_lt most_inclusions page.inclusions || nat_lt most_rounds page.rounds) ≡ true) → (page.is_deep ≡ true) ⊎ ((most_inclusions < page.inclusions) ⊎ (most_rounds < page.rounds))
+    go (inl f) = inl f
+    go (inr f) = counted (either (nat_lt most_inclusions page.inclusions) (nat_lt most_rounds page.rounds) f)
+
+means_over : (page : Page) → (page.is_deep ≡ true) ⊎ ((most_inclusions < page.inclusions) ⊎ (most_rounds < page.rounds)) → is_over page ≡ true
+means_over page (inl deep) = or_left page.is_deep (nat_lt most_inclusions page.inclusions || nat_lt most_rounds page.rounds) deep
+means_over page (inr (inl more)) =
+    or_right page.is_deep (nat_lt most_inclusions page.inclusions || nat_lt most_rounds page.rounds) (or_left (nat_lt most_inclusions page.inclusions) (nat_lt most_rounds page.rounds) (is_less most_inclusions page.inclusions more))
+means_over page (inr (inr more)) =
+    or_right page.is_deep (nat_lt most_inclusions page.inclusions || nat_lt most_rounds page.rounds) (or_right (nat_lt most_inclusions page.inclusions) (nat_lt most_rounds page.rounds) (is_less most_rounds page.rounds more))
+
+over_passes : (tree : Content) (place : Place) (blocks : List Block) → is_over (page_of tree place blocks) ≡ true → PassesLimit tree place blocks
+over_passes tree place blocks e = go (over_means (page_of tree place blocks) e)
+  where
+    go : ((page_of tree place blocks).is_deep ≡ true) ⊎ ((most_inclusions < (page_of tree place blocks).inclusions) ⊎ (most_rounds < (page_of tree place blocks).rounds)) → PassesLimit tree place blocks
+    go (inl deep) = PassesLimit.TooDeep (deep_nests tree most_levels place (blocks_parts (bindings_at place []) blocks) deep)
+    go (inr (inl more)) = PassesLimit.TooMuchPutIn more
+    go (inr (inr more)) = PassesLimit.TooManyRounds more
+
+-- a page that passes a limit is over, or too long
+passes_over : (tree : Content) (place : Place) (blocks : List Block) → PassesLimit tree place blocks
+    → (is_over (page_of tree place blocks) ≡ true) ⊎ (nat_le (length (page_of tree place blocks).text) most_rendered_bytes ≡ false)
+passes_over tree place blocks (PassesLimit.TooLong more) = inr (is_above (length (page_of tree place blocks).text) most_rendered_bytes more)
+passes_over tree place blocks (PassesLimit.TooMuchPutIn more) = inl (means_over (page_of tree place blocks) (inr (inl more)))
+passes_over tree place blocks (PassesLimit.TooManyRounds more) = inl (means_over (page_of tree place blocks) (inr (inr more)))
+passes_over tree place blocks (PassesLimit.TooDeep nests) = inl (means_over (page_of tree place blocks) (inl (nests_deep tree most_levels place (blocks_parts (bindings_at place []) blocks) nests)))
+
+refused_passes : (tree : Content) (place : Place) (blocks : List Block) → (is_over (page_of tree place blocks) ≡ true) ⊎ (nat_le (length (page_of tree place blocks).text) most_rendered_bytes ≡ false) → PassesLimit tree place blocks
+refused_passes tree place blocks (inl over) = over_passes tree place blocks over
+refused_passes tree place blocks (inr long) = PassesLimit.TooLong (above (length (page_of tree place blocks).text) most_rendered_bytes long)
+
+pub refused_is : (tree : Content) (mark : Mark) (place : Place) (blocks : List Block) (answer : Answer) → answer ≡ page_answer mark (page_of tree place blocks) → (answer.status ≡ 500) ↔ PassesLimit tree place blocks
+refused_is tree mark place blocks answer is =
+    let page = page_of tree place blocks in
+    let over = is_over page in
+    let small = nat_le (length page.text) most_rendered_bytes in
+    (λ e. refused_passes tree place blocks (status_of over small mark page (sym (ap (λ (a : Answer). a.status) is) ∙ e)), λ x. ap (λ (a : Answer). a.status) is ∙ is_refused over small mark page (passes_over tree place blocks x))

@@ -1,0 +1,2 @@
+pub mod Inclusions
+pub mod Limits

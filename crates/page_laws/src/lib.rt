@@ -1,0 +1,6 @@
+//! Laws of pages: what stands for a script or a resource that is put in, and which pages are refused. Definitions and laws alone.
+#![tactic(auto)]
+
+mod laws;
+
+pub use laws::{a_page_is_refused_where_a_limit_is_passed, what_is_put_in_is_its_own_page};

@@ -5,9 +5,9 @@ use std::alloc::Global;
 use std::hash::RandomState;
 use std::test::Fail;
 
-// `one` writes a byte, `two` puts in `one`, `rounds` has 3,000 contents of lists, and `long` writes a property.
+// `one` writes a byte, `two` puts in `one`, `rounds` has 1,000,000 contents of lists, and `long` writes a property.
 const SCRIPTS: &str =
-    r#","one.html":{"jcr:content":{"jcr:data":"1"}},"two.html":{"jcr:content":{"jcr:data":"<i data-sly-unwrap data-sly-include='one.html'></i>"}},"rounds.html":{"jcr:content":{"jcr:data":"<p data-sly-unwrap data-sly-list='${properties.items}'><q data-sly-unwrap data-sly-list='${properties.tags}'></q></p>"}},"long.html":{"jcr:content":{"jcr:data":"${properties.long}"}}"#;
+    r#","one.html":{"jcr:content":{"jcr:data":"1"}},"two.html":{"jcr:content":{"jcr:data":"<i data-sly-unwrap data-sly-include='one.html'></i>"}},"rounds.html":{"jcr:content":{"jcr:data":"<p data-sly-unwrap data-sly-list='${properties.items}'><q data-sly-unwrap data-sly-list='${properties.fewer}'></q></p>"}},"long.html":{"jcr:content":{"jcr:data":"${properties.long}"}}"#;
 
 // A part so often, between two texts.
 fn repeated(alloc: Global, start: &str, part: &str, times: usize, end: &str) -> Mem<String> {
@@ -78,25 +78,31 @@ fn a_thousand_are_put_in(rt: HostRuntime) -> Result<(), Fail> {
 
 const ROUNDS: &str = "<i data-sly-unwrap data-sly-include='rounds.html'></i>";
 
-const THOUSAND: &str = "<p data-sly-unwrap data-sly-list='${properties.items}'></p>";
-
-const THOUSAND_AND_ONE: &str =
-    "<p data-sly-unwrap data-sly-list='${properties.items}'></p><p data-sly-unwrap data-sly-list='${properties.one}'></p>";
+const ONE_ROUND: &str = "<p data-sly-unwrap data-sly-list='${properties.one}'></p>";
 
 const CONTENTS: [(&str, usize, &str, Option<usize>); 2] = [
-    (ROUNDS, 333, THOUSAND, Some(0)),
-    (ROUNDS, 333, THOUSAND_AND_ONE, None),
+    (ROUNDS, 1, "", Some(0)),
+    (ROUNDS, 1, ONE_ROUND, None),
 ];
 
-// A property `items` with 1,000 texts.
-fn items(alloc: Global) -> Mem<String> {
-    repeated(alloc, r#","items":["x""#, r#","x""#, 999, "]")
+// A property `items` with 1,000 texts, and `fewer` with 999.
+fn lists(alloc: Global) -> Mem<String> {
+    let mut text = repeated(
+        alloc,
+        r#","items":["x""#,
+        r#","x""#,
+        999,
+        r#"],"fewer":["x""#,
+    )?;
+    push_times(&mut text, r#","x""#, 998)?;
+    push_all(&mut text, &["]"])?;
+    Ok(text)
 }
 
 #[test]
 fn contents_stand_a_million_times(rt: HostRuntime) -> Result<(), Fail> {
     let seeds = RandomState::new(&rt)?;
-    let Ok(members) = items(rt.alloc()) else {
+    let Ok(members) = lists(rt.alloc()) else {
         return Ok(());
     };
     assert_eq!(rt;

@@ -11,10 +11,10 @@ ghost use Rattle.flights.specs.Landings.{UncoveredFlightsLandClear, CoveredFligh
 /// rise, none is there under its number once its ticket is spent (`spent`).
 pub fn a_flight_is_there_until_its_ticket_is_spent()
     ensures asked { (flight : Flight) (flights : List Flight) → flight_at flight.number flights ≡ None → HasItsNumber flight (flights ++ flight ∷ []) }
-    ensures others_asked { (number : FlightId) (other : Flight) (flights : List Flight) → number ≢ other.number → KeepsFlight number flights (flights ++ other ∷ []) }
-    ensures others_spent { (number other : FlightId) (flights : List Flight) → number ≢ other → flight_at number (without other flights) ≡ flight_at number flights }
-    ensures voided { (number : FlightId) (level : ℕ) (inv : Invalidation) (flights : List Flight) → IsFoundAsLeftBy number level inv flights }
-    ensures spent { (least : ℕ) (number : FlightId) (most : ℕ) (flights : List Flight) → AreRising least flights most → flight_at number (without number flights) ≡ None }
+    ensures others_asked { (id : FlightId) (other : Flight) (flights : List Flight) → id ≢ other.number → KeepsFlight id flights (flights ++ other ∷ []) }
+    ensures others_spent { (id other : FlightId) (flights : List Flight) → id ≢ other → flight_at id (without other flights) ≡ flight_at id flights }
+    ensures voided { (id : FlightId) (level : ℕ) (inv : Invalidation) (flights : List Flight) → IsFoundAsLeftBy id level inv flights }
+    ensures spent { (least : ℕ) (id : FlightId) (most : ℕ) (flights : List Flight) → AreRising least flights most → flight_at id (without id flights) ≡ None }
 {}
 
 /// The numbers of the flights in the air rise where each that is asked has a higher number than all before it (`asked`): an invalidation
@@ -22,8 +22,8 @@ pub fn a_flight_is_there_until_its_ticket_is_spent()
 pub fn the_numbers_of_flights_rise()
     ensures asked { (least most : ℕ) (flight : Flight) (flights : List Flight) → RisesWith least most flight flights }
     ensures voided { (least most level : ℕ) (inv : Invalidation) (flights : List Flight) → RisesAfter least most level inv flights }
-    ensures left { (least : ℕ) (number : FlightId) (most : ℕ) (flights : List Flight) → AreRising least flights most → AreRising least (without number flights) most }
-    ensures above { (least : ℕ) (number : FlightId) (most : ℕ) (flights : List Flight) → AreRising least flights most → most < number → flight_at number flights ≡ None }
+    ensures left { (least : ℕ) (id : FlightId) (most : ℕ) (flights : List Flight) → AreRising least flights most → AreRising least (without id flights) most }
+    ensures above { (least : ℕ) (id : FlightId) (most : ℕ) (flights : List Flight) → AreRising least flights most → most < id → flight_at id flights ≡ None }
 {}
 
 /// Tickets in the order of their asking have the places of their flights, where numbers rise: that of a flight that is asked comes last
@@ -32,8 +32,8 @@ pub fn the_numbers_of_flights_rise()
 pub fn tickets_have_the_places_of_their_flights()
     ensures asked { (flight : Flight) (flights : List Flight) → numbers_of (flights ++ flight ∷ []) ≡ numbers_of flights ++ flight.number ∷ [] }
     ensures voided { (level : ℕ) (inv : Invalidation) (flights : List Flight) → numbers_of (map (after_invalidation level inv) flights) ≡ numbers_of flights }
-    ensures there { (number : FlightId) (place : ℕ) (flights : List Flight) → slice_get (numbers_of flights) place ≡ Some number → IsSome (flight_at number flights) }
-    ensures left { (least : ℕ) (number : FlightId) (most place : ℕ) (flights : List Flight) → AreRising least flights most → LeavesPlaceIfThere number place flights }
+    ensures there { (id : FlightId) (place : ℕ) (flights : List Flight) → slice_get (numbers_of flights) place ≡ Some id → IsSome (flight_at id flights) }
+    ensures left { (least : ℕ) (id : FlightId) (most place : ℕ) (flights : List Flight) → AreRising least flights most → LeavesPlaceIfThere id place flights }
 {}
 
 /// A flight that is for a page gives leave to keep it where it was not voided as it was asked, and no invalidation that has begun since

@@ -48,5 +48,5 @@ pub record IsRelative (node : Segments) (text : Text) : Type 0 where
   pub relative : is_absolute text ≡ false
 
 -- the path is what is left of the node's text, a slash and the name
-abbrev pub LeadsTo : Segments → Text → Segments → Type 0
-LeadsTo node text path = RemovesDots (slashed node ++ 47 ∷ text) [] (slashed path)
+abbrev pub LeavesPath : Segments → Text → Segments → Type 0
+LeavesPath node text path = RemovesDots (slashed node ++ 47 ∷ text) [] (slashed path)

@@ -31,8 +31,8 @@ pub record IsMovable (names : List Text) (name other : Text) : Type 0 where
   pub named : has_text names other ≡ true
 
 -- all names but this one are as before, in their order
-abbrev pub KeepsOthers : Text → List Text → List Text → Type 0
-KeepsOthers name old new = without_name name new ≡ without_name name old
+abbrev pub KeepsOtherNames : Text → List Text → List Text → Type 0
+KeepsOtherNames name old new = without_name name new ≡ without_name name old
 
 -- a name isn't moved: it wishes nothing, names itself, isn't there, or what it names isn't
 abbrev pub IsNotMoved : List Text → Text → Option Text → Type 0

@@ -1,7 +1,6 @@
 -- A page: what a script writes for a resource, with what the scripts and resources write that are put in, one in another
 -- (HTML Template Language specification 1.4, "Block Statements", include and resource).
-use Rattle.std.specs.Prelude.{ℕ, zero, suc, ◌+◌, Bool, true, false, nat_lt, nat_eq, ◌||◌, if◌then◌else◌, List, [], ◌∷◌, ◌++◌, codes, Option, Some, None, option_and_then}
-use Rattle.std.specs.List.{ends_with}
+use Rattle.std.specs.Prelude.{ℕ, zero, suc, ◌+◌, Bool, true, false, nat_lt, ◌||◌, if◌then◌else◌, List, [], ◌∷◌, ◌++◌, codes, Option, Some, None, option_and_then}
 use Rattle.std.specs.Result.{result_ok}
 use Rattle.sp_base.specs.Bytes.{begins_with_byte}
 use Rattle.sp_base.specs.Paths.{child_of, name_of, parent_of, path_of, text_of}
@@ -11,7 +10,7 @@ use Rattle.resource_tree.specs.Seen.{Resource}
 use Rattle.overlay_merge.specs.Merged.{merged_resource}
 use Rattle.url_split.specs.declared.decompose.Parts.{Parts}
 use Rattle.type_chain.specs.Chain.{chain_of, type_text}
-use Rattle.script_rank.specs.Ranking.{script_text}
+use Rattle.script_rank.specs.Ranking.{is_script_name, script_text}
 use Rattle.script_rank.specs.Search.{search_result as first_script}
 use Rattle.htl_expr.specs.Bindings.{Bindings}
 use Rattle.htl_blocks.specs.declared.block.Block.{Block}
@@ -45,10 +44,6 @@ pub record Written : Type 0 where
 abbrev pub written_at : Place → Pairs → Option (List Block) → Option Written
 written_at place vars None = None
 written_at place vars (Some blocks) = Some (record { place = place; parts = blocks_parts (bindings_at place vars) blocks })
-
--- the name is one of a script
-abbrev pub is_script_name : Text → Bool
-is_script_name name = ends_with nat_eq name (codes ".html")
 
 -- the blocks of a text that has a reading
 abbrev pub readable_blocks : Text → Option (List Block)

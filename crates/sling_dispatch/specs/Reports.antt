@@ -66,7 +66,7 @@ pub record IsWorldUntouched (world : WorldReport) : Type 0 where
   pub send_count : world.send_new ≡ world.send_old
 
 -- what only `serve` asks anything of is as before
-pub record IsApart (c : RunCall) : Type 0 where
+pub record IsServingUntouched (c : RunCall) : Type 0 where
   pub inputs : IsUntouched c.inputs
   pub disk : IsDiskUntouched c.disk
   pub world : IsWorldUntouched c.world
@@ -78,4 +78,4 @@ word_texts words = map (λ word. word.now) words
 -- unless the words are those of `serve`, what only that asks anything of is as before
 abbrev pub IsApartUnlessServe : {S K I D W : Type 0} → List (Bor (List ℕ)) → (S → Option (List ℕ)) → (S → ℕ) → (I → Option Files) → (I → ℕ) → (D → Option Files) → (D → ℕ) → (W → Option (List WorldEntry)) → (W → ℕ) → (W → ℕ) → Outside S K I D W → Outside S K I D W → Type 0
 IsApartUnlessServe words left source_faults contents input_faults files disk_faults log next_faults send_faults old new =
-    (IsServe (word_texts words) → ⊥) → IsApart (call_over (word_texts words) left source_faults contents input_faults files disk_faults log next_faults send_faults old new)
+    (IsServe (word_texts words) → ⊥) → IsServingUntouched (call_over (word_texts words) left source_faults contents input_faults files disk_faults log next_faults send_faults old new)

@@ -21,10 +21,11 @@ use Rattle.url_maps.specs.Mappings.{IsPlain, has_match, mapping_of}
 use Rattle.url_maps.specs.Patterns.{Asked, asked_for, host_of}
 use Rattle.url_maps.specs.PatternAnswers.{pattern_with}
 use Rattle.url_maps.specs.Pairs.{Applies, Decides, HasNoPair, IsPair, IsPairOf, goes_on_after_prefix}
-use Rattle.url_maps.specs.Search.{IsBest, IsFirstPath, IsMappingOf, IsMappingPair, IsOf, is_prefix_end, mapped_path}
+use Rattle.url_maps.specs.Search.{IsBest, IsFirstPath, IsMappingOf, IsMappingPair, IsOf, mapped_path}
 use Rattle.url_maps.specs.Turns.{IsMapped, Turns, leads, most_turns, text_after}
 use Rattle.url_maps.specs.VanityPaths.{has_vanity_path, vanity_page, vanity_cmp, with_slash}
 use Rattle.sp_base.specs.Properties.{value_texts}
+use Rattle.regex_rules.specs.Fronts.{may_cut}
 use Rattle.url_maps.proofs.LawLemmas.{alias_path}
 use Rattle.url_maps.proofs.MappingLemmas.{IsSpelled, no_node_pair, no_path_pair, no_plain_pair, pair_at_node}
 use Rattle.url_maps.proofs.PairLemmas.{best_alias, best_last, best_mapping, best_pattern, goes_on_cut, mapping_pair, none_best, none_of}
@@ -334,7 +335,7 @@ module _ (read : IsReadBack) (spelled : IsSpelled) (valid : (text : List ℕ) (p
 
   -- ---- the pair that decides
 
-  best_is : (asked : Option Asked) (prefix rest : List ℕ) → is_prefix_end rest ≡ true → IsBest tree asked prefix rest (pair_with tree asked prefix rest)
+  best_is : (asked : Option Asked) (prefix rest : List ℕ) → may_cut rest ≡ true → IsBest tree asked prefix rest (pair_with tree asked prefix rest)
   best_is asked prefix rest cut =
       let vanity = cond (goes_on_after_prefix VanityPath rest) (vanity_with tree prefix) None in
       elim (mapping_with tree (host_of asked) prefix) as (λ o. IsOf Mapping tree asked prefix o → IsBest tree asked prefix rest (option_or o (option_or (pattern_with tree asked prefix) (option_or (alias_with tree prefix) vanity)))) [
@@ -364,11 +365,11 @@ module _ (read : IsReadBack) (spelled : IsSpelled) (valid : (text : List ℕ) (p
       let prefix = take at text in
       let rest = drop at text in
       ⊎_elim
-      (λ (cut : is_prefix_end rest ≡ true). subst (λ b. IsBest tree asked prefix rest (cond b (pair_with tree asked prefix rest) None)) (sym cut) (best_is asked prefix rest cut))
-      (λ (whole : is_prefix_end rest ≡ false).
+      (λ (cut : may_cut rest ≡ true). subst (λ b. IsBest tree asked prefix rest (cond b (pair_with tree asked prefix rest) None)) (sym cut) (best_is asked prefix rest cut))
+      (λ (whole : may_cut rest ≡ false).
       subst (λ b. IsBest tree asked prefix rest (cond b (pair_with tree asked prefix rest) None)) (sym whole)
       (λ other has goes. true≢false (sym (goes_on_cut other.kind rest goes) ∙ whole)))
-      (cases_Bool (is_prefix_end rest))
+      (cases_Bool (may_cut rest))
 
   -- what is decided
   abbrev IsDecision : Option Asked → List ℕ → Option (ℕ × Pair) → Type 0

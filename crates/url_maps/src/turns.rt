@@ -1,10 +1,11 @@
 //! The turns in which a text is mapped.
 ghost use Rattle.std.specs.Prelude.{◌≡◌, ◌==◌, ◌++◌, true, IfOk, length, option_copied, slice_index};
+ghost use Rattle.regex_rules.specs.Fronts.{may_cut};
 ghost use Rattle.url_maps.specs.Answers.{map_answer};
 ghost use Rattle.url_maps.specs.Claims.{IsIndexOf};
 ghost use Rattle.url_maps.specs.Found.{IsLongestPair, IsTextOf, pair_if_at};
 ghost use Rattle.url_maps.specs.Patterns.{host_of};
-ghost use Rattle.url_maps.specs.Search.{HasNoMappingBeyond, IsBest, IsBeyond, IsLastSeparator, IsOf, IsShorter, IsTurn, is_prefix_end, is_separator};
+ghost use Rattle.url_maps.specs.Search.{HasNoMappingBeyond, IsBest, IsBeyond, IsLastSeparator, IsOf, IsShorter, IsTurn, is_separator};
 ghost use Rattle.url_maps.specs.Turns.{IsMapped, target_ending};
 
 use crate::asked::HostText;
@@ -161,7 +162,7 @@ impl MapIndex {
         cut: &Cut,
     ) -> Mem<Option<Pair>>
         requires index { IsIndexOf tree.now self.now }
-        requires cut { is_prefix_end cut.now.rest.now ≡ true }
+        requires cut { may_cut cut.now.rest.now ≡ true }
         requires reach { IsBeyond tree.now (host_of asked.now) cut.now.prefix.now known.now.reach }
         requires pattern { IsOf PairKind.Pattern tree.now asked.now cut.now.prefix.now (pair_if_at (length cut.now.prefix.now) known.now.pattern) }
         ensures { IfOk result (IsBest tree.now asked.now cut.now.prefix.now cut.now.rest.now) }

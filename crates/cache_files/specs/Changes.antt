@@ -13,13 +13,13 @@ use Rattle.docroot_format.specs.Names.{stat_name}
 use Rattle.docroot_format.specs.declared.fault.FileFault.{FileFault}
 use Rattle.docroot_format.specs.declared.fault.FileFault.TheVariants.{NoMemory}
 use Rattle.cache_files.specs.Epochs.{epoch_held}
-use Rattle.cache_files.specs.Pages.{IsDropLeft, IsPutLeft, files_with_page, head_at, page_at, page_body_name, page_head_name, page_of}
+use Rattle.cache_files.specs.Pages.{IsDropLeft, IsPutLeft, files_with_page, head_at, page_at, page_body_name, page_head_name, plain_page}
 
 -- ---- the page of one key
 
 -- the files hold for a key what was put: the page of an answer with its stamp, and the head that says so
 pub record HasPage (files : Files) (key : PageKey) (stamp : Stamp) (answer : Answer) : Type 0 where
-  pub page : page_at files key ≡ Some (page_of stamp answer.kind answer.body)
+  pub page : page_at files key ≡ Some (plain_page stamp answer.kind answer.body)
   pub head : head_at files key ≡ Some (record { stamp = stamp; kind = answer.kind; length = length answer.body })
 
 -- the files hold for a key what they held before: its page, and its head, which may stand without a page

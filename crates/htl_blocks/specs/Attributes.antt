@@ -16,7 +16,7 @@ use Rattle.htl_blocks.specs.declared.attribute.Body.TheVariants as body
 use Rattle.htl_blocks.specs.declared.attribute.Unwrap.TheVariants as unwrap
 use Rattle.htl_blocks.specs.declared.statement.Statement.{Statement}
 use Rattle.htl_blocks.specs.declared.statement.Statement.TheVariants as statement
-use Rattle.htl_blocks.specs.Markup.{begins_tag, quoting_step, run_bytes}
+use Rattle.htl_blocks.specs.Markup.{begins_tag, markup_quoting_step, run_bytes}
 use Rattle.htl_blocks.specs.declared.byte_run.ByteRun.TheVariants as run
 
 -- what the names of block statements begin with
@@ -31,7 +31,7 @@ begins_statement (Within mark) c t = false
 -- the place of the blank before the first block statement of a tag, where this text begins at place n
 unfoldable pub statement_place : Quoting → ℕ → List ℕ → Option ℕ
 statement_place quoting n [] = None
-statement_place quoting n (c ∷ t) = if begins_statement quoting c t then Some n else statement_place (quoting_step quoting c) (n + 1) t
+statement_place quoting n (c ∷ t) = if begins_statement quoting c t then Some n else statement_place (markup_quoting_step quoting c) (n + 1) t
 
 -- a part of a script that is a tag with a block statement
 unfoldable pub is_block_tag : List ℕ → Bool

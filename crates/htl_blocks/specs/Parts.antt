@@ -22,8 +22,8 @@ part_text (Script name vars) = []
 part_text (Resource name) = []
 
 -- the text that is written beside what is put in
-abbrev pub text_of : List Part → List ℕ
-text_of ps = flat_map part_text ps
+abbrev pub text_of_parts : List Part → List ℕ
+text_of_parts ps = flat_map part_text ps
 
 -- whether a part is put in from elsewhere
 abbrev pub is_inclusion : Part → Bool

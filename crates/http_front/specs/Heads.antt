@@ -88,18 +88,18 @@ abbrev pub head_fault : HeadParts → Option InFault
 head_fault p = first_refusal p.minor p.target (heads p)
 
 -- what a head asks for, where host, target and length can be read
-pub record Asked : Type 0 where
+pub record AskedFields : Type 0 where
   pub host : List ℕ
   pub port : ℕ
   pub target : Target
   pub body_length : ℕ
 
 -- the same, of these
-abbrev pub asked_with : List ℕ × ℕ → Target → ℕ → Asked
+abbrev pub asked_with : List ℕ × ℕ → Target → ℕ → AskedFields
 asked_with host target n = record { host = host.0; port = host.1; target = target; body_length = n }
 
 -- what a head asks for, where its host, its target and its length can be read
-unfoldable pub asked_of : ℕ → List ℕ → List (List ℕ × List ℕ) → Option Asked
+unfoldable pub asked_of : ℕ → List ℕ → List (List ℕ × List ℕ) → Option AskedFields
 asked_of minor target fields = option_and_then (λ host. option_and_then (λ read. option_map (asked_with host read) (body_length fields)) (target_of target)) (asked_host minor fields)
 
 -- a Connection field has the option `close` (RFC 9110, section 7.6.1)
@@ -124,7 +124,7 @@ abbrev pub awaits_continue : ℕ → ℕ → List (List ℕ × List ℕ) → Boo
 awaits_continue minor n fields = (minor == 1) && (nat_lt 0 n && is_continue (field_of fields (codes "expect")))
 
 -- the request that a head with these parts asks for, without its body
-abbrev pub request_with : List ℕ → List ℕ → ℕ → Asked → List (List ℕ × List ℕ) → Bool → Request
+abbrev pub request_with : List ℕ → List ℕ → ℕ → AskedFields → List (List ℕ × List ℕ) → Bool → Request
 request_with method line minor asked fields close = record {
   method = method;
   line = line;
@@ -140,7 +140,7 @@ request_with method line minor asked fields close = record {
 }
 
 -- the head with what it asks for
-abbrev pub head_with : HeadParts → Asked → AskedHead
+abbrev pub head_with : HeadParts → AskedFields → AskedHead
 head_with p asked = record {
   request = request_with p.method (request_line p.method p.target p.minor) p.minor asked (heads p) (closes_connection p);
   body_length = asked.body_length;
@@ -150,7 +150,7 @@ head_with p asked = record {
 -- nothing is wrong with a head, and this is what it asks for
 pub record Asks (p : HeadParts) (head : AskedHead) : Type 0 where
   pub faultless : head_fault p ≡ None
-  pub asked : Asked
+  pub asked : AskedFields
   pub asked_is : asked_of p.minor p.target (heads p) ≡ Some asked
   pub head_is : head ≡ head_with p asked
 

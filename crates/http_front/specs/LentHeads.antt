@@ -11,14 +11,14 @@ use Rattle.sp_base.specs.Requests.{Request, request_line}
 use Rattle.http_front.specs.declared.head.LentAsked.{LentAsked}
 use Rattle.http_front.specs.declared.target.LentTarget.{LentTarget}
 use Rattle.http_front.specs.declared.target.Target.{Target}
-use Rattle.http_front.specs.Heads.{Asked, request_with}
+use Rattle.http_front.specs.Heads.{AskedFields, request_with}
 
 -- a target whose query is lent
 abbrev pub target_by : LentTarget → Target
 target_by target = record { path = target.path; slash = target.slash; query = option_copied target.query }
 
 -- a head whose host and query are lent
-abbrev pub asked_by : LentAsked → Asked
+abbrev pub asked_by : LentAsked → AskedFields
 asked_by asked = record { host = asked.host.now; port = asked.port; target = target_by asked.target; body_length = asked.body_length }
 
 -- the fields whose values stand at places of the bytes

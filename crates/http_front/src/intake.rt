@@ -49,7 +49,7 @@ impl Intake {
     ghost use Rattle.http_front.specs.declared.fault.InFault.{InFault};
     ghost use Rattle.http_front.specs.declared.fault.InFault.TheVariants.{NoMemory};
     ghost use Rattle.http_front.specs.Turns.{Waits, Breaks};
-    ghost use Rattle.http_front.specs.Intakes.{StandsFor, Grows, Keeps, Tells, Ends, weight, told_fault, rest_of, IntakeLeads, LeadsBy, Stands, IsBody, IsAtHead, Advances};
+    ghost use Rattle.http_front.specs.Intakes.{StandsFor, Grows, Keeps, Tells, Ends, weight, told_fault, rest_of, IntakeLeads, LeadsByTurn, Stands, IsBody, IsAtHead, Advances};
 
     pub fn new(alloc: Global) -> Mem<Intake>
         ensures { IfOk result (λ intake. StandsFor intake [] []) }
@@ -146,7 +146,7 @@ impl Intake {
     // The request whose head was read, once its body is whole.
     fn take_body(&mut self, alloc: Global) -> Result<Option<Turn>, InFault>
         requires { IsBody self.old.phase }
-        ensures turn { IfOk result (λ o. IfSome o (LeadsBy self.old self.new)) }
+        ensures turn { IfOk result (λ o. IfSome o (LeadsByTurn self.old self.new)) }
         ensures less { IfOk result (λ o. OnSome o (weight self.new < weight self.old)) }
         ensures waits { IfOk result (λ o. IfNone o ((self.new ≡ self.old) × Stands self.old Waits)) }
         ensures err { IfErr result (λ fault. (self.new ≡ self.old) × (fault ≡ NoMemory)) }

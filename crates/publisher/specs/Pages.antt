@@ -28,8 +28,8 @@ pub record Place : Type 0 where
   pub props : Properties
 
 -- a script for a resource
-abbrev pub place_of : Segments → Resource → Place
-place_of script res = record { script = script; path = res.path; props = res.props }
+abbrev pub place_for : Segments → Resource → Place
+place_for script res = record { script = script; path = res.path; props = res.props }
 
 -- what the expressions of a place see, with variables
 abbrev pub bindings_at : Place → Pairs → Bindings
@@ -75,17 +75,17 @@ html_parts path = record { path = path; selectors = []; extension = codes "html"
 -- a resource by a script, without variables
 abbrev pub resource_by : Content → Resource → Option Segments → Option Written
 resource_by tree res None = None
-resource_by tree res (Some script) = written_by_script tree (place_of script res) []
+resource_by tree res (Some script) = written_by_script tree (place_for script res) []
 
 -- what is seen at a path, by the script that ranks first for it with the extension html
-abbrev pub shown_resource : Content → Option Resource → Option Written
-shown_resource tree None = None
-shown_resource tree (Some res) = resource_by tree res (first_script tree (chain_of tree res.props) (html_parts res.path))
+abbrev pub written_resource : Content → Option Resource → Option Written
+written_resource tree None = None
+written_resource tree (Some res) = resource_by tree res (first_script tree (chain_of tree res.props) (html_parts res.path))
 
 -- the resource at a path
 abbrev pub included_resource : Content → Option Segments → Option Written
 included_resource tree None = None
-included_resource tree (Some path) = shown_resource tree (merged_resource tree path)
+included_resource tree (Some path) = written_resource tree (merged_resource tree path)
 
 -- What a part puts in at a place, if there is something to put in. A script's name is one below the folder of the script that names it, a
 -- resource's one below the resource.

@@ -36,16 +36,16 @@ abbrev pub linking_at : List ℕ → Rows → List Rows → ℕ → Linking
 linking_at follow rows around bit = record { follow = follow; rows = rows; around = around; bit = bit }
 
 -- the last row goes on with a piece
-abbrev pub added : Piece → Repeat → List ℕ → Rows → List Rows → ℕ → Linking
-added one repeat follow rows around bit = linking_at (join repeat rows.row one follow) (record { earlier = rows.earlier; row = followed rows.row (so_often repeat one) }) around bit
+abbrev pub piece_added : Piece → Repeat → List ℕ → Rows → List Rows → ℕ → Linking
+piece_added one repeat follow rows around bit = linking_at (join repeat rows.row one follow) (record { earlier = rows.earlier; row = followed rows.row (so_often repeat one) }) around bit
 
 abbrev pub closed : Repeat → Linking → List Rows → Linking
 closed repeat self [] = self
-closed repeat self (outer ∷ around) = added (either self.rows.earlier self.rows.row) repeat self.follow outer around self.bit
+closed repeat self (outer ∷ around) = piece_added (either self.rows.earlier self.rows.row) repeat self.follow outer around self.bit
 
 -- past one character
 abbrev pub linked_past_one : Repeat → Linking → Linking
-linked_past_one repeat self = added (piece_of self.bit self.bit false) repeat self.follow self.rows self.around (next_bit self.bit)
+linked_past_one repeat self = piece_added (piece_of self.bit self.bit false) repeat self.follow self.rows self.around (next_bit self.bit)
 
 -- past a bar: the innermost open rows begin another one
 abbrev pub linked_past_bar : Linking → Linking

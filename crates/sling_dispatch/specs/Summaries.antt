@@ -17,9 +17,9 @@ abbrev pub is_hit : Note → Bool
 is_hit (Hit c key) = true
 is_hit _ = false
 
-abbrev pub is_kept : Note → Bool
-is_kept (Kept number key) = true
-is_kept _ = false
+abbrev pub tells_kept : Note → Bool
+tells_kept (Kept number key) = true
+tells_kept _ = false
 
 abbrev pub is_passed_note : Note → Bool
 is_passed_note (Passed number) = true
@@ -67,7 +67,7 @@ counts events notes =
       events = events;
       asks = count_by is_ask notes;
       hits = count_by is_hit notes;
-      kept = count_by is_kept notes;
+      kept = count_by tells_kept notes;
       passed = count_by is_passed_note notes;
       unkept = count_by is_unkept notes;
       lost = count_by is_lost notes;

@@ -9,7 +9,7 @@ use Rattle.resource_tree.specs.Content.{Content}
 use Rattle.url_maps.specs.declared.pairs.Pair.{Pair}
 use Rattle.url_maps.specs.declared.pairs.PairKind.{PairKind}
 use Rattle.url_maps.specs.declared.pairs.PairKind.TheVariants.{Mapping, Pattern, Alias, VanityPath}
-use Rattle.url_maps.specs.Patterns.{Asked, host_of}
+use Rattle.url_maps.specs.Patterns.{Asked, node_of_host}
 use Rattle.url_maps.specs.Pairs.{Applies, Decides, HasNoPair, IsPair, IsPairOf, goes_on_after_prefix, rank}
 use Rattle.url_maps.specs.Search.{HasNoneBeyond, IsBest, IsMappingOf, IsOf, is_separator}
 
@@ -112,7 +112,7 @@ module _ (tree : Content) (asked : Option Asked) (prefix rest : List ℕ) (cut :
       (λ (v : other.kind ≡ VanityPath). ⊎_elim (λ none. none other v has) (λ slash. true≢false (sym goes ∙ ap (λ k. goes_on_after_prefix k rest) v ∙ slash)) no_vanity)
 
 -- a mapping of the host node is the pair of its kind
-pub mapping_pair : (tree : Content) (asked : Option Asked) (prefix : List ℕ) (o : Option Pair) → IsMappingOf tree (host_of asked) prefix o → IsOf Mapping tree asked prefix o
+pub mapping_pair : (tree : Content) (asked : Option Asked) (prefix : List ℕ) (o : Option Pair) → IsMappingOf tree (node_of_host asked) prefix o → IsOf Mapping tree asked prefix o
 mapping_pair tree asked prefix (Some pair) is = (is.0, subst (λ kind. IsPairOf kind tree asked prefix pair) (sym is.0) is.1)
 mapping_pair tree asked prefix None none = λ pair is has. none pair (subst (λ kind. IsPairOf kind tree asked prefix pair) is has)
 

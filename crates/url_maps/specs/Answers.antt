@@ -17,7 +17,7 @@ use Rattle.url_maps.specs.declared.pairs.PairKind.{PairKind}
 use Rattle.url_maps.specs.declared.pairs.PairKind.TheVariants.{Mapping, Alias, VanityPath}
 use Rattle.url_maps.specs.Aliases.{has_alias}
 use Rattle.url_maps.specs.Mappings.{has_match, mapping_of}
-use Rattle.url_maps.specs.Patterns.{Asked, asked_for, host_of}
+use Rattle.url_maps.specs.Patterns.{Asked, asked_for, node_of_host}
 use Rattle.url_maps.specs.PatternAnswers.{pattern_with}
 use Rattle.url_maps.specs.Pairs.{goes_on_after_prefix}
 use Rattle.url_maps.specs.Search.{mapped_path}
@@ -87,7 +87,7 @@ vanity_with tree prefix = vanity_at tree prefix (path_of prefix)
 
 -- among those with a prefix, before the rest of a text
 abbrev pub pair_with : Content → Option Asked → List ℕ → List ℕ → Option Pair
-pair_with tree asked prefix rest = option_or (mapping_with tree (host_of asked) prefix) (option_or (pattern_with tree asked prefix) (option_or (alias_with tree prefix) (if goes_on_after_prefix VanityPath rest then vanity_with tree prefix else None)))
+pair_with tree asked prefix rest = option_or (mapping_with tree (node_of_host asked) prefix) (option_or (pattern_with tree asked prefix) (option_or (alias_with tree prefix) (if goes_on_after_prefix VanityPath rest then vanity_with tree prefix else None)))
 
 -- among those whose prefix ends at a place of a text
 abbrev pub pair_at : Content → Option Asked → List ℕ → ℕ → Option Pair

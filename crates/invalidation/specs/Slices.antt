@@ -152,7 +152,7 @@ IsStatOf folders name = (folder : Segments) × (Contains folders folder × (name
 -- each file is as it was, or has a name of which the first holds, and is gone, or one of which the second holds, and holds the stamp
 abbrev pub ChangesFiles : (IsTaken IsStamped : Text → Type 0) → Stamp → Files → Files → Type 0
 ChangesFiles IsTaken IsStamped stamp old new = (name : Text) → (file_at new name ≡ file_at old name)
-    ⊎ ((IsTaken name × (file_at new name ≡ None)) ⊎ (IsStamped name × (file_at new name ≡ Some (stat_text stamp.epoch stamp.count))))
+    ⊎ ((IsTaken name × (file_at new name ≡ None)) ⊎ (IsStamped name × (file_at new name ≡ Some (stat_text stamp))))
 
 -- whichever names are counted, at most so many files fewer have one of them
 abbrev pub LosesNames : ℕ → Files → Files → Type 0

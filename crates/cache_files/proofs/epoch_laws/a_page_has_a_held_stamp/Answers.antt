@@ -20,7 +20,7 @@ noted : (line : Option HeadLine) (found : Option (List ℕ)) (page : Page) → o
 noted None found page e = absurd cc
 noted (Some line) None page e = absurd cc
 noted (Some line) (Some body) page e =
-    (note_of line, (refl, stamp_of (nat_eq (length body) line.size) (record { epoch = line.epoch; count = line.count }) line.kind body page e))
+    (note_of line, (refl, stamp_of (nat_eq (length body) line.size) line.stamp line.kind body page e))
 
 pub returns : goal.returns
 returns c = λ files key page is at.

@@ -4,7 +4,7 @@ ghost use Rattle.cover_rules.specs.declared.page.PageKey.{PageKey};
 ghost use Rattle.cover_rules.specs.declared.stamp.Stamp.{Stamp};
 ghost use Rattle.cover_rules.specs.declared.invalidation.Invalidation.{Invalidation};
 ghost use Rattle.cover_rules.specs.Coverage.{deletes, stat_folder};
-ghost use Rattle.cover_rules.specs.Pages.{IsPageKey, page_key_of};
+ghost use Rattle.cover_rules.specs.Pages.{IsPageKey};
 ghost use Rattle.sp_base.specs.Paths.{is_path, mangled_segs};
 ghost use Rattle.sp_outside.specs.FileNames.{beside_ending};
 ghost use Rattle.docroot_format.specs.Names.{body_name, epoch_name, have_names, head_name, is_docroot_name, is_page_file, is_place, is_stat_file, stat_name, IsFolder, HaveBytes, IsTouchedBy};
@@ -17,16 +17,16 @@ use sp_base::{mangling_and_unmangling, segments_and_their_spelling};
 
 /// A page that has a key has files, and so have the .stat files of its folder.
 pub fn a_page_has_files()
-    ensures page { (path : Segments) (key : PageKey) → page_key_of path ≡ Some key → IsTrue (is_place key.folder key.file) }
-    ensures folder { (path : Segments) (key : PageKey) → page_key_of path ≡ Some key → IsTrue (have_names key.folder) }
+    ensures page { (key : PageKey) → IsPageKey key → IsTrue (is_place key.folder key.file) }
+    ensures folder { (key : PageKey) → IsPageKey key → IsTrue (have_names key.folder) }
 {}
 
 /// The folder and the file of a page's key are mangled, and so are the folders that may have stamps for it: those of the key's folder,
 /// and each folder that an invalidation touches. Each of their segments has a file name. A folder has one .stat file however it is spelled.
 pub fn folders_are_mangled()
-    ensures page { (path : Segments) (key : PageKey) → page_key_of path ≡ Some key → IsFolder key.folder }
-    ensures file { (path : Segments) (key : PageKey) → page_key_of path ≡ Some key → mangled_segs (key.file ∷ []) ≡ key.file ∷ [] }
-    ensures stat { (level : ℕ) (path : Segments) (key : PageKey) → page_key_of path ≡ Some key → IsFolder (stat_folder level key) }
+    ensures page { (key : PageKey) → IsPageKey key → IsFolder key.folder }
+    ensures file { (key : PageKey) → IsPageKey key → mangled_segs (key.file ∷ []) ≡ key.file ∷ [] }
+    ensures stat { (level : ℕ) (key : PageKey) → IsPageKey key → IsFolder (stat_folder level key) }
     ensures touched { (level : ℕ) (inv : Invalidation) (folder : Segments) → IsTouchedBy level inv folder → IsFolder folder }
     ensures names { (folder : Segments) → IsFolder folder → IsTrue (have_names (mangled_segs folder)) }
     ensures one { (folder : Segments) → stat_name (mangled_segs folder) ≡ stat_name folder }

@@ -125,8 +125,8 @@ WhateverHappens IsSo = (peer : List ℕ) (moves : List Move) → AreMovesOf (fre
 
 -- Where nothing is due of the connection but its end, each of its turns has its slot, and so has the fault that ends them, unless a slot closes
 -- the connection, or memory ran out as something was sent.
-abbrev pub AreTreatedIfAtRest : Connection → List Move → Type 0
-AreTreatedIfAtRest c moves = IsAtRest (due c) → some_closes c.slots ≡ false → HaveNoSendingOutOfMemory (sendings moves) → AreAllTreated c.turns c.ends c.slots
+abbrev pub AreTreatedIfAtRestUnlessCut : Connection → List Move → Type 0
+AreTreatedIfAtRestUnlessCut c moves = IsAtRest (due c) → some_closes c.slots ≡ false → HaveNoSendingOutOfMemory (sendings moves) → AreAllTreated c.turns c.ends c.slots
 
 -- ---- what the code keeps of a connection, before and after
 

@@ -3,7 +3,7 @@ ghost use Rattle.std.specs.Prelude.{◌≡◌, ◌≢◌, ◌<◌, ◌++◌, ◌
 ghost use Rattle.cache_ids.specs.Ids.{FlightId};
 ghost use Rattle.cover_rules.specs.declared.invalidation.Invalidation.{Invalidation};
 ghost use Rattle.flights.specs.declared.flight.Flight.{Flight};
-ghost use Rattle.flights.specs.Flights.{AreRising, after_invalidation, flight_at, numbers_of, without, HasItsNumber, KeepsFlight, IsFoundAsLeftBy, RisesWith, RisesAfter, LeavesPlaceIfThere};
+ghost use Rattle.flights.specs.Flights.{AreRising, after_invalidation, flight_at, numbers_of, without, HasItsNumber, KeepsFlight, IsFoundAsLeftBy, RisesWithIfAbove, RisesAfterIfRising, LeavesPlaceIfThere};
 ghost use Rattle.flights.specs.Landings.{UncoveredFlightsLandClear, CoveredFlightsLandVoided, UnkeyedFlightsLandUnkeyed};
 
 /// A flight that is asked under a number that no other has is there under it (`asked`), and stays so while others are asked
@@ -20,8 +20,8 @@ pub fn a_flight_is_there_until_its_ticket_is_spent()
 /// The numbers of the flights in the air rise where each that is asked has a higher number than all before it (`asked`): an invalidation
 /// and a landing keep that (`voided`, `left`), and no flight has a number above the greatest (`above`).
 pub fn the_numbers_of_flights_rise()
-    ensures asked { (least most : ℕ) (flight : Flight) (flights : List Flight) → RisesWith least most flight flights }
-    ensures voided { (least most level : ℕ) (inv : Invalidation) (flights : List Flight) → RisesAfter least most level inv flights }
+    ensures asked { (least most : ℕ) (flight : Flight) (flights : List Flight) → RisesWithIfAbove least most flight flights }
+    ensures voided { (least most level : ℕ) (inv : Invalidation) (flights : List Flight) → RisesAfterIfRising least most level inv flights }
     ensures left { (least : ℕ) (id : FlightId) (most : ℕ) (flights : List Flight) → AreRising least flights most → AreRising least (without id flights) most }
     ensures above { (least : ℕ) (id : FlightId) (most : ℕ) (flights : List Flight) → AreRising least flights most → most < id → flight_at id flights ≡ None }
 {}

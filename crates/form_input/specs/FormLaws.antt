@@ -5,13 +5,13 @@ use Rattle.form_input.specs.declared.fault.FormFault.TheVariants.{WrongKind, NoB
 use Rattle.form_input.specs.Forms.{form_of}
 
 -- a fault that is no cause of the form's
-abbrev pub form_wants_memory : FormFault → Bool
-form_wants_memory WrongKind = false
-form_wants_memory NoBoundary = false
-form_wants_memory (BadPart place) = false
-form_wants_memory TooMany = false
-form_wants_memory NoMemory = true
+abbrev pub is_form_out_of_memory : FormFault → Bool
+is_form_out_of_memory WrongKind = false
+is_form_out_of_memory NoBoundary = false
+is_form_out_of_memory (BadPart place) = false
+is_form_out_of_memory TooMany = false
+is_form_out_of_memory NoMemory = true
 
 -- what a form is refused for is never out of memory
 abbrev pub FormsAreRefusedForCauses : Type 0
-FormsAreRefusedForCauses = (kind body : List ℕ) → IfErr (form_of kind body) (λ fault. form_wants_memory fault ≡ false)
+FormsAreRefusedForCauses = (kind body : List ℕ) → IfErr (form_of kind body) (λ fault. is_form_out_of_memory fault ≡ false)

@@ -22,13 +22,13 @@ abbrev pub IsLeftOutIfUntrue : Bindings → Tag → List Block → List ℕ → 
 IsLeftOutIfUntrue scope tag content end_tag = passes scope tag.attributes.test ≡ false → block_parts (Element tag content end_tag) scope ≡ []
 
 -- of an element that is unwrapped, and has neither a list nor a body, the content stands
-abbrev pub IsItsContentIfUnwrapped : Bindings → Tag → List Block → List ℕ → Type 0
-IsItsContentIfUnwrapped scope tag content end_tag = passes scope tag.attributes.test ≡ true → tag.attributes.list ≡ None → tag.attributes.body ≡ None → keeps_tags scope tag.attributes.unwrap ≡ false
+abbrev pub IsItsContentIfUnwrappedWithoutListOrBody : Bindings → Tag → List Block → List ℕ → Type 0
+IsItsContentIfUnwrappedWithoutListOrBody scope tag content end_tag = passes scope tag.attributes.test ≡ true → tag.attributes.list ≡ None → tag.attributes.body ≡ None → keeps_tags scope tag.attributes.unwrap ≡ false
     → block_parts (Element tag content end_tag) scope ≡ blocks_parts scope content
 
 -- of the tag stands what its template writes, which is its text without the statements
-abbrev pub IsWrittenWholeIfInTags : Bindings → Tag → List Block → List ℕ → Type 0
-IsWrittenWholeIfInTags scope tag content end_tag = StandsInTags scope tag → tag.attributes.list ≡ None → tag.attributes.body ≡ None
+abbrev pub IsWrittenWholeIfInTagsWithoutListOrBody : Bindings → Tag → List Block → List ℕ → Type 0
+IsWrittenWholeIfInTagsWithoutListOrBody scope tag content end_tag = StandsInTags scope tag → tag.attributes.list ≡ None → tag.attributes.body ≡ None
     → block_parts (Element tag content end_tag) scope ≡ text_parts (template_output scope tag.start) ++ (blocks_parts scope content ++ text_parts end_tag)
 
 -- the content of an element stands between its tags once for each item of its list, with the item as the variable

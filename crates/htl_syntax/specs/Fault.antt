@@ -91,5 +91,5 @@ IsExpressionFault (Unexpected place) s = MayGoOn nesting_limit s place × ((leve
 IsExpressionFault (TooDeep place) s = MayGoOn nesting_limit s place × (HasNone nesting_limit s place × (HasSome (suc nesting_limit) s place × (begins nests (drop place s) ≡ true)))
 
 -- faults of a text are one
-abbrev pub AreOneFault : List ℕ → ExprFault → ExprFault → Type 0
-AreOneFault text f g = IsExpressionFault f text → IsExpressionFault g text → f ≡ g
+abbrev pub AreOneFaultIfBothAre : List ℕ → ExprFault → ExprFault → Type 0
+AreOneFaultIfBothAre text f g = IsExpressionFault f text → IsExpressionFault g text → f ≡ g

@@ -13,7 +13,7 @@ use Rattle.http_front.specs.declared.intake.Phase.TheVariants.{Heading, Body, Fa
 use Rattle.http_front.specs.declared.turn.Turn.{Turn}
 use Rattle.http_front.specs.declared.turn.Turn.TheVariants.{Continue, Whole}
 use Rattle.http_front.specs.Turns.{End, Waits, Breaks, longest_head, BeginsAsking, BeginsRefused, HasBody, with_body, AwaitsHead, HasNoHead, StopsIn, BeginsWithRequest, SpellsTurns}
-use Rattle.http_front.specs.Intakes.{TurnsFollow, Continues, Ends, IntakeLeads, Keeps, LeadsByTurn, RemainderSpells, Stands, Tells, rest_of}
+use Rattle.http_front.specs.Intakes.{TurnsFollow, Continues, EndsIfStoodFor, IntakeLeads, KeepsIfStoodFor, LeadsByTurn, RemainderSpells, Stands, TellsIfStoodFor, rest_of}
 use Rattle.http_front.proofs.TurnLemmas.{begins_append, never_grows, window_full}
 
 append_nil : {A : Type 0} (xs : List A) → xs ++ [] ≡ xs
@@ -116,33 +116,33 @@ leads_body old phase rest a request body heading is fits made = λ more turns en
 
 -- ---- one call, from its steps
 
-pub ends : (i : Intake) (end : End) → Stands i end → Ends i end
+pub ends : (i : Intake) (end : End) → Stands i end → EndsIfStoodFor i end
 ends i end stands = λ stream told for.
     subst (λ s. SpellsTurns s told end) (append_nil stream) (subst (λ ts. SpellsTurns (stream ++ []) ts end) (append_nil told) (for [] [] end stands))
 
-pub keeps : (old new : Intake) → IntakeLeads old new → Keeps old new
+pub keeps : (old new : Intake) → IntakeLeads old new → KeepsIfStoodFor old new
 keeps old new leads = λ stream told for more turns end l. for more turns end (leads more turns end l)
 
-pub tells : (old new : Intake) (turn : Turn) → LeadsByTurn old new turn → Tells old new turn
+pub tells : (old new : Intake) (turn : Turn) → LeadsByTurn old new turn → TellsIfStoodFor old new turn
 tells old new turn leads = λ stream told for more turns end l.
     subst (λ ts. SpellsTurns (stream ++ more) ts end) (sym (append_assoc told (turn ∷ []) turns)) (for more (turn ∷ turns) end (leads more turns end l))
 
 -- after a step that told nothing
-pub tells_after : (old mid new : Intake) (r : Result (Option Turn) InFault) → IntakeLeads old mid → IfOk r (λ o. IfSome o (LeadsByTurn mid new)) → IfOk r (λ o. IfSome o (Tells old new))
+pub tells_after : (old mid new : Intake) (r : Result (Option Turn) InFault) → IntakeLeads old mid → IfOk r (λ o. IfSome o (LeadsByTurn mid new)) → IfOk r (λ o. IfSome o (TellsIfStoodFor old new))
 tells_after old mid new (Ok (Some turn)) leads by = tells old new turn (λ more turns end l. leads more (turn ∷ turns) end (by more turns end l))
 tells_after old mid new (Ok None) leads by = tt
 tells_after old mid new (Err e) leads by = tt
 
-pub ends_after : (old mid new : Intake) (r : Result (Option Turn) InFault) → IntakeLeads old mid → IfOk r (λ o. IfNone o ((new ≡ mid) × Stands mid Waits)) → IfOk r (λ o. IfNone o (Ends old Waits))
+pub ends_after : (old mid new : Intake) (r : Result (Option Turn) InFault) → IntakeLeads old mid → IfOk r (λ o. IfNone o ((new ≡ mid) × Stands mid Waits)) → IfOk r (λ o. IfNone o (EndsIfStoodFor old Waits))
 ends_after old mid new (Ok (Some turn)) leads waits = tt
 ends_after old mid new (Ok None) leads waits = ends old Waits (leads [] [] Waits waits.1)
 ends_after old mid new (Err e) leads waits = tt
 
-pub keeps_after : (old mid new : Intake) (r : Result (Option Turn) InFault) → IntakeLeads old mid → IfOk r (λ o. IfNone o ((new ≡ mid) × Stands mid Waits)) → IfOk r (λ o. IfNone o (Keeps old new))
+pub keeps_after : (old mid new : Intake) (r : Result (Option Turn) InFault) → IntakeLeads old mid → IfOk r (λ o. IfNone o ((new ≡ mid) × Stands mid Waits)) → IfOk r (λ o. IfNone o (KeepsIfStoodFor old new))
 keeps_after old mid new (Ok (Some turn)) leads waits = tt
 keeps_after old mid new (Ok None) leads waits = keeps old new (subst (IntakeLeads old) (sym waits.0) leads)
 keeps_after old mid new (Err e) leads waits = tt
 
-pub keeps_failed : (old mid new : Intake) (r : Result (Option Turn) InFault) → IntakeLeads old mid → IfErr r (λ fault. (new ≡ mid) × (fault ≡ NoMemory)) → OnErr r (Keeps old new)
+pub keeps_failed : (old mid new : Intake) (r : Result (Option Turn) InFault) → IntakeLeads old mid → IfErr r (λ fault. (new ≡ mid) × (fault ≡ NoMemory)) → OnErr r (KeepsIfStoodFor old new)
 keeps_failed old mid new (Ok o) leads failed = tt
 keeps_failed old mid new (Err e) leads failed = keeps old new (subst (IntakeLeads old) (sym failed.0) leads)

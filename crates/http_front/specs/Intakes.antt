@@ -50,20 +50,20 @@ told_fault i = fault_in i.phase
 -- ---- what one call leads to
 
 -- the intake stands for what it stood for
-abbrev pub Keeps : Intake → Intake → Type 0
-Keeps old new = (stream : List ℕ) (told : List Turn) → StandsFor old stream told → StandsFor new stream told
+abbrev pub KeepsIfStoodFor : Intake → Intake → Type 0
+KeepsIfStoodFor old new = (stream : List ℕ) (told : List Turn) → StandsFor old stream told → StandsFor new stream told
 
 -- one turn more has been told of what it stood for
-abbrev pub Tells : Intake → Intake → Turn → Type 0
-Tells old new turn = (stream : List ℕ) (told : List Turn) → StandsFor old stream told → StandsFor new stream (told ++ turn ∷ [])
+abbrev pub TellsIfStoodFor : Intake → Intake → Turn → Type 0
+TellsIfStoodFor old new turn = (stream : List ℕ) (told : List Turn) → StandsFor old stream told → StandsFor new stream (told ++ turn ∷ [])
 
 -- these bytes more have come of what it stood for
-abbrev pub Grows : Intake → Intake → List ℕ → Type 0
-Grows old new piece = (stream : List ℕ) (told : List Turn) → StandsFor old stream told → StandsFor new (stream ++ piece) told
+abbrev pub GrowsIfStoodFor : Intake → Intake → List ℕ → Type 0
+GrowsIfStoodFor old new piece = (stream : List ℕ) (told : List Turn) → StandsFor old stream told → StandsFor new (stream ++ piece) told
 
 -- the turns of what it stood for are all told, and end so
-abbrev pub Ends : Intake → End → Type 0
-Ends i end = (stream : List ℕ) (told : List Turn) → StandsFor i stream told → SpellsTurns stream told end
+abbrev pub EndsIfStoodFor : Intake → End → Type 0
+EndsIfStoodFor i end = (stream : List ℕ) (told : List Turn) → StandsFor i stream told → SpellsTurns stream told end
 
 -- a number that falls with each turn
 abbrev pub phase_weight : Phase → ℕ

@@ -40,5 +40,5 @@ IsNotMoved names name None = Unit {0}
 IsNotMoved names name (Some other) = (pointwise nat_eq name other ≡ true) ⊎ ((has_text names name ≡ false) ⊎ (has_text names other ≡ false))
 
 -- in a good tree no kid of a merged resource is there twice before the first is moved
-abbrev pub KidsAreDistinct : Type 0
-KidsAreDistinct = (tree : Content) (path : Segments) → IsGood tree → AreDistinct (kids_there tree path (all_kids (merged_from tree path)))
+abbrev pub UnmovedKidsAreDistinct : Type 0
+UnmovedKidsAreDistinct = (tree : Content) (path : Segments) → IsGood tree → AreDistinct (kids_there tree path (all_kids (merged_from tree path)))

@@ -35,8 +35,8 @@ abbrev pub KeepsContentIfRefused : Content → Ask → Type 0
 KeepsContentIfRefused tree ask = (answer_to_request tree ask).status ≢ 200 → (answer_to_request tree ask).status ≢ 201 → content_after_request tree ask ≡ tree
 
 -- a representation that is answered has at most so many bytes
-abbrev pub FitsIfRead : Content → Ask → Type 0
-FitsIfRead tree ask = is_read ask.method ≡ true → (answer_to_request tree ask).status ≡ 200 → length (answer_to_request tree ask).body ≤ most_rendered_bytes
+abbrev pub FitsIfReadAndAnswered : Content → Ask → Type 0
+FitsIfReadAndAnswered tree ask = is_read ask.method ≡ true → (answer_to_request tree ask).status ≡ 200 → length (answer_to_request tree ask).body ≤ most_rendered_bytes
 
 -- where the path's text leads away, a GET, a HEAD or a POST is answered with a redirect
 abbrev pub IsRedirectIfAway : Content → Ask → ℕ → Text → Type 0

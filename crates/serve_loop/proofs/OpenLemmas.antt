@@ -17,7 +17,7 @@ use Rattle.run_events.specs.declared.step.Step.TheVariants.{Opened, Piece, Gone,
 use Rattle.run_events.specs.States.{RunState}
 use Rattle.run_events.specs.Moves.{state_after_note, state_after_notes}
 use Rattle.run_events.specs.Events.{Event, Happens, HappensBy, after_event, condition_notes, going, most_connections, notes_of, opening, state_after_opening, state_before_notes}
-use Rattle.run_laws.specs.Addressed.{AddsNoConnection, AreAddressed, IsAddressed, IsThereOrOpened, LeavesSession, opened_by_step}
+use Rattle.run_laws.specs.Addressed.{AddsNoConnection, AreAddressed, IsAddressed, WasThereOrOpenedIfThere, LeavesSession, opened_by_step}
 use Rattle.serve_loop.specs.Turns.{IsFailedAt, entries_of_note, entries_of_notes}
 use Rattle.serve_loop.specs.Hands.{AreOfOpen, IsOfOpen}
 use Rattle.serve_loop.specs.Served.{HasOpenConnections}
@@ -28,7 +28,7 @@ use Rattle.serve_loop.proofs.HandingLemmas.{AreOfOpenIn}
 -- what is so of the notes of each event
 pub record NoteLaws : Type 0 where
   pub notes : (w : RunState) (e : Event) → Happens w e → LeavesSession e.step → AreAddressed e.step (state_before_notes w e e.step) e.body
-  pub begun : (w : RunState) (e : Event) → IsThereOrOpened e.step w (state_before_notes w e e.step)
+  pub begun : (w : RunState) (e : Event) → WasThereOrOpenedIfThere e.step w (state_before_notes w e e.step)
   pub brings : (w : RunState) (n : Note) → AddsNoConnection w (state_after_note w n)
   pub shut : (w : RunState) (c : ConnectionId) → (state_after_note w (note.Shut c)).connection c ≡ None
 

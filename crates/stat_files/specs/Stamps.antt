@@ -80,8 +80,8 @@ FailedTouchesLeaveOldOrNew = (files new : Files) (folder : Segments) (stamp : St
     → (new ≡ files) ⊎ ((fault ≡ disk_failed) × (new ≡ files_with_stamp files folder stamp))
 
 -- so its folder has the old stamp or the new one
-abbrev pub FailedTouchesLeaveAStamp : Type 0
-FailedTouchesLeaveAStamp = (files new : Files) (folder : Segments) (stamp : Stamp) (fault : FileFault) → stamp.epoch < 2 ^ 64 → stamp.count < 2 ^ 64
+abbrev pub FailedTouchesLeaveOldStampOrNew : Type 0
+FailedTouchesLeaveOldStampOrNew = (files new : Files) (folder : Segments) (stamp : Stamp) (fault : FileFault) → stamp.epoch < 2 ^ 64 → stamp.count < 2 ^ 64
     → LeftByTouch files new folder stamp fault → (stamp_at new folder ≡ stamp_at files folder) ⊎ (stamp_at new folder ≡ Some stamp)
 
 -- and each file but the folder's .stat file is as it was

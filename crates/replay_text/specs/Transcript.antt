@@ -13,7 +13,7 @@ use Rattle.cover_rules.specs.declared.invalidation.Action.{Action}
 use Rattle.cover_rules.specs.declared.invalidation.Action.TheVariants.{Activate, Deactivate, Delete}
 use Rattle.run_events.specs.declared.note.Failure.TheVariants.{Disk}
 use Rattle.run_events.specs.declared.note.Note.{Note}
-use Rattle.run_events.specs.declared.note.Note.TheVariants.{Answer as answered, Ask, Hit, Local, Flush, Sliced, Done, Failed, Rendered, Kept, Unkept, Passed, Lost, Sent, Shut, Refused, Idle, Up, Down, Hurt, Dry}
+use Rattle.run_events.specs.declared.note.Note.TheVariants.{Answer as answered, Ask, Hit, Local, Flush, Sliced, Done, Failed, Rendered, Kept, Unkept, Passed, Lost, Sent, Shut, Refused, Idle, Up, Down, Hurt, OutOfMemory}
 use Rattle.run_events.specs.Named.{IsPage, IsHandle}
 
 -- a hexadecimal digit, in lower case
@@ -94,7 +94,7 @@ note_line Idle = codes "none"
 note_line (Up epoch) = codes "up " ++ decimal epoch
 note_line Down = codes "down"
 note_line Hurt = codes "hurt"
-note_line Dry = codes "dry"
+note_line OutOfMemory = codes "dry"
 
 -- the line of a note, where it has one
 abbrev pub note_text : Note → List ℕ

@@ -4,7 +4,7 @@ use Rattle.std.specs.List.{list_any}
 use Rattle.std.specs.Option.{option_map_or}
 use Rattle.std.specs.Cmp.Lexicographic.{pointwise}
 use Rattle.std.specs.FinMap.Entries.{find}
-use Rattle.sp_base.specs.Texts.{Segments}
+use Rattle.sp_base.specs.Texts.{Segments, Properties}
 use Rattle.sp_base.specs.Names.{by_name}
 use Rattle.sp_base.specs.Paths.{is_path}
 use Rattle.sp_base.specs.Properties.{value_texts}
@@ -36,11 +36,11 @@ abbrev pub lists_name : Option Value → List ℕ → Bool
 lists_name value name = list_any (text_stands_for name) (value_texts value)
 
 -- whether properties hide their resource
-abbrev pub hides_resource : List (List ℕ × Value) → Bool
+abbrev pub hides_resource : Properties → Bool
 hides_resource props = is_value_true (find by_name (codes "sling:hideResource") props)
 
 -- whether properties hide a kid of their resource
-abbrev pub hides_kid : List ℕ → List (List ℕ × Value) → Bool
+abbrev pub hides_kid : List ℕ → Properties → Bool
 hides_kid name props = lists_name (find by_name (codes "sling:hideChildren") props) name
 
 -- whether the node at a path hides its resource

@@ -50,5 +50,5 @@ WroteParts (Ok _) old new ps = new ≡ with_parts old ps
 WroteParts (Err f) old new ps = Stops f old ps
 
 -- a text is too long, unless memory lacks
-abbrev pub RunFailsAsTooLongUnlessOutOfMemory : List ℕ → RunFault → Type 0
-RunFailsAsTooLongUnlessOutOfMemory text f = f ≢ NoMemory → (f ≡ TooLong) × (most_rendered_bytes < length text)
+abbrev pub RunFailsAsTooLongIfMemory : List ℕ → RunFault → Type 0
+RunFailsAsTooLongIfMemory text f = f ≢ NoMemory → (f ≡ TooLong) × (most_rendered_bytes < length text)

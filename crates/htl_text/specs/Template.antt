@@ -140,5 +140,5 @@ abbrev pub Appends : List ℕ → List ℕ → List ℕ → Type 0
 Appends old more new = (new ≡ old ++ more) × (length new ≤ most_rendered_bytes)
 
 -- it would go beyond the limit, unless memory lacks
-abbrev pub RenderFailsAsTooLongUnlessOutOfMemory : List ℕ → RenderFault → Type 0
-RenderFailsAsTooLongUnlessOutOfMemory text f = f ≢ render_fault.NoMemory → (f ≡ render_fault.TooLong) × (most_rendered_bytes < length text)
+abbrev pub RenderFailsAsTooLongIfMemory : List ℕ → RenderFault → Type 0
+RenderFailsAsTooLongIfMemory text f = f ≢ render_fault.NoMemory → (f ≡ render_fault.TooLong) × (most_rendered_bytes < length text)

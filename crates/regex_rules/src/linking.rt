@@ -119,7 +119,7 @@ impl Linking {
 
     // The last row goes on with this piece.
     fn add(&mut self, piece: Piece, repeat: Repeat)
-        ensures { self.new ≡ spec.added piece repeat self.old.follow self.old.rows self.old.around self.old.bit }
+        ensures { self.new ≡ spec.piece_added piece repeat self.old.follow self.old.rows self.old.around self.old.bit }
     {
         if repeat.may_go_on() {
             self.follow.link(piece.last, piece.first);

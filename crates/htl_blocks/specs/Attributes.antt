@@ -136,21 +136,13 @@ with_read_value s (Some v) = Some (with_value s v)
 
 -- without a value, or with an empty one, only unwrap stands
 abbrev pub without_value : Statement → Option Attribute
-without_value statement.Test = None
-without_value (statement.List name) = None
-without_value statement.Text = None
-without_value statement.Include = None
-without_value statement.Resource = None
 without_value statement.Unwrap = Some (attribute.Unwrap unwrap.Always)
+without_value _ = None
 
 -- whether a statement is unwrap
 abbrev pub unwraps : Statement → Bool
-unwraps statement.Test = false
-unwraps (statement.List name) = false
-unwraps statement.Text = false
-unwraps statement.Include = false
-unwraps statement.Resource = false
 unwraps statement.Unwrap = true
+unwraps _ = false
 
 -- a statement with a value in quotes; unwrap with an empty one has none
 abbrev pub quoted_attribute : Statement → List ℕ → Option Attribute

@@ -9,7 +9,7 @@ use Rattle.sp_base.specs.Names.{by_name}
 use Rattle.sp_base.specs.Paths.{is_path}
 use Rattle.sp_base.specs.Properties.{value_texts}
 use Rattle.sp_base.specs.declared.value.Value.{Value}
-use Rattle.sp_base.specs.declared.value.Value.TheVariants.{Text, Long, Truth, Texts, Longs, Truths}
+use Rattle.sp_base.specs.declared.value.Value.TheVariants.{Truth}
 use Rattle.resource_tree.specs.Content.{Content, node_at}
 use Rattle.resource_tree.specs.Seen.{Resource, res_at}
 use Rattle.overlay_merge.specs.declared.layers.Layer.{Layer}
@@ -19,13 +19,8 @@ use Rattle.overlay_merge.specs.Layers.{layers_of}
 
 -- the one truth value true
 abbrev pub is_value_true : Option Value → Bool
-is_value_true None = false
-is_value_true (Some (Text t)) = false
-is_value_true (Some (Long n)) = false
 is_value_true (Some (Truth b)) = b
-is_value_true (Some (Texts ts)) = false
-is_value_true (Some (Longs ns)) = false
-is_value_true (Some (Truths bs)) = false
+is_value_true _ = false
 
 -- a text stands for a name where it is that name, and `*` stands for each name
 abbrev pub text_stands_for : List ℕ → List ℕ → Bool

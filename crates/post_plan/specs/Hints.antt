@@ -7,7 +7,7 @@ use Rattle.sp_base.specs.declared.hint.HintKind.{HintKind}
 use Rattle.sp_base.specs.declared.hint.HintKind.TheVariants.{Text, Long, Truth}
 use Rattle.sp_base.specs.Texts.{Pairs}
 use Rattle.post_plan.specs.declared.suffix.Suffix.{Suffix}
-use Rattle.post_plan.specs.declared.suffix.Suffix.TheVariants.{Plain, TypeHint, DefaultValue, Delete, MoveFrom, CopyFrom, ValueFrom, IgnoreBlanks}
+use Rattle.post_plan.specs.declared.suffix.Suffix.TheVariants.{TypeHint}
 use Rattle.post_plan.specs.declared.fault.PlanFault.{PlanFault}
 use Rattle.post_plan.specs.declared.fault.PlanFault.TheVariants.{BadHint}
 use Rattle.post_plan.specs.Parameters.{parameter_suffix, any_marked, content_where}
@@ -34,14 +34,8 @@ hint_of word = if ends_with nat_eq word (codes "[]") then hint_by true (hint_kin
 -- whether the suffix is unknown, or is `@TypeHint` and its word names no hint
 abbrev pub is_bad_word : Option Suffix → List ℕ → Bool
 is_bad_word None word = true
-is_bad_word (Some Plain) word = false
 is_bad_word (Some TypeHint) word = is_none (hint_of word)
-is_bad_word (Some DefaultValue) word = false
-is_bad_word (Some Delete) word = false
-is_bad_word (Some MoveFrom) word = false
-is_bad_word (Some CopyFrom) word = false
-is_bad_word (Some ValueFrom) word = false
-is_bad_word (Some IgnoreBlanks) word = false
+is_bad_word _ word = false
 
 -- the name of the first content parameter with an unknown suffix or an unknown type hint
 abbrev pub bad_hint_where : Bool → Pairs → Option (List ℕ)

@@ -14,7 +14,7 @@ use Rattle.post_plan.specs.declared.fault.PlanFault.TheVariants.{BadOperation, N
 use Rattle.post_plan.specs.declared.verb.Verb.{Verb}
 use Rattle.post_plan.specs.declared.verb.Verb.TheVariants.{Modify, Delete, Copy, Move, Nop}
 use Rattle.post_plan.specs.declared.suffix.Suffix.{Suffix}
-use Rattle.post_plan.specs.declared.suffix.Suffix.TheVariants.{Plain, TypeHint, DefaultValue, Delete as DeleteSuffix, MoveFrom, CopyFrom, ValueFrom, IgnoreBlanks}
+use Rattle.post_plan.specs.declared.suffix.Suffix.TheVariants.{MoveFrom, CopyFrom}
 use Rattle.post_plan.specs.declared.operation.Op.{Op}
 use Rattle.post_plan.specs.declared.operation.Op.TheVariants.{Modify as ModifyOperation, Delete as DeleteOperation, Copy as CopyOperation, Move as MoveOperation, Nop as NopOperation}
 use Rattle.post_plan.specs.declared.operation.ModifyOp.{ModifyOp}
@@ -44,21 +44,14 @@ verb_of pairs = verb_by (first_word (codes ":operation") pairs)
 
 -- whether that copies or moves the node
 abbrev pub carries_node : Option Verb → Bool
-carries_node None = false
-carries_node (Some Modify) = false
-carries_node (Some Delete) = false
 carries_node (Some Copy) = true
 carries_node (Some Move) = true
-carries_node (Some Nop) = false
+carries_node _ = false
 
 -- whether that changes the node
 abbrev pub is_modify : Option Verb → Bool
-is_modify None = false
 is_modify (Some Modify) = true
-is_modify (Some Delete) = false
-is_modify (Some Copy) = false
-is_modify (Some Move) = false
-is_modify (Some Nop) = false
+is_modify _ = false
 
 -- the word of `:dest`, or an empty one
 abbrev pub dest_word : Pairs → List ℕ
@@ -120,15 +113,9 @@ relative_node target star pairs = under target (option_map wished_name (fresh_wi
 
 -- whether the parameter's word names what is copied or moved
 abbrev pub names_source : Option Suffix → Bool
-names_source None = false
-names_source (Some Plain) = false
-names_source (Some TypeHint) = false
-names_source (Some DefaultValue) = false
-names_source (Some DeleteSuffix) = false
 names_source (Some MoveFrom) = true
 names_source (Some CopyFrom) = true
-names_source (Some ValueFrom) = false
-names_source (Some IgnoreBlanks) = false
+names_source _ = false
 
 -- the text of a content parameter that names nothing that may be changed: its name's path, else its source
 abbrev pub bad_entry : Segments → List ℕ × List ℕ → Option (List ℕ)

@@ -28,8 +28,8 @@ join repeat row next sets = link row.last next.first (if may_go_on repeat then l
 -- ---- over the places
 
 -- rows at their beginning
-abbrev pub begun : Rows
-begun = record { earlier = no_rows; row = empty_row }
+abbrev pub begun_rows : Rows
+begun_rows = record { earlier = no_rows; row = empty_row }
 
 -- what may come after each character so far, the innermost open rows and those around them, and the bit of the next character
 abbrev pub linking_at : List ℕ → Rows → List Rows → ℕ → Linking
@@ -54,7 +54,7 @@ linked_past_bar self = linking_at self.follow (record { earlier = either self.ro
 -- past one place
 abbrev pub past : Place → Linking → Linking
 past (One one repeat) self = linked_past_one repeat self
-past Open self = linking_at self.follow begun (self.rows ∷ self.around) self.bit
+past Open self = linking_at self.follow begun_rows (self.rows ∷ self.around) self.bit
 past Bar self = linked_past_bar self
 past (Close repeat) self = closed repeat self self.around
 
@@ -97,7 +97,7 @@ ones (Close repeat ∷ places) = ones places
 
 -- before the first of this number of characters
 abbrev pub unlinked : ℕ → Linking
-unlinked number = linking_at (replicate number 0) begun [] 1
+unlinked number = linking_at (replicate number 0) begun_rows [] 1
 
 -- The table of a pattern with these places, which has at most 64 characters.
 pub record IsTable (places : List Place) (table : Positions) : Type 0 where

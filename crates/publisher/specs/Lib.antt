@@ -3,6 +3,7 @@ pub mod Depths
 pub mod Choices
 pub mod Readings
 pub mod Pages
+pub mod Waits
 pub mod Gathering
 pub mod Refusals
 pub mod Posting

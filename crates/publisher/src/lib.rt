@@ -26,6 +26,7 @@ mod setting;
 mod shared_blocks;
 mod targets;
 mod templates;
+mod waiting;
 
 pub use laws::{
     a_script_without_blocks_writes_its_pieces, a_script_writes_its_page,

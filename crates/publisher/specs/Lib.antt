@@ -9,6 +9,7 @@ pub mod Refusals
 pub mod Posting
 pub mod Rendering
 pub mod Kept
+pub mod FirstScripts
 pub mod SeenAlone
 pub mod PostLaws
 pub mod Cases

@@ -5,6 +5,7 @@ mod changes;
 mod choices;
 mod depths;
 mod errors;
+mod first_scripts;
 mod held_content;
 mod kept_index;
 mod laws;

@@ -1,0 +1,7 @@
+use Rattle.publisher.proofs.FirstLemmas.{one_more}
+use Rattle.publisher.proofs.first_scripts.remember.Goals as goal
+
+pub returns : goal.returns
+returns c =
+    one_more c.args.tree.now c.args.firsts.now c.make_place.new.firsts c.put.new.firsts c.in-Ok.first c.args.props.now c.args.parts.now c.requires.firsts c.make_place.ensures
+    c.in-Ok.ensures.of c.in-Ok.ensures.script c.put.ensures

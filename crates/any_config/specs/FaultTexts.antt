@@ -11,12 +11,12 @@ abbrev pub fault_at_byte : List ℕ → ℕ → List ℕ
 fault_at_byte name at = name ++ codes " at " ++ decimal at
 
 -- a fault of a file `dispatcher.any`, by its name and its place
-abbrev pub file_fault_text : AnyFault → List ℕ
-file_fault_text (file.BadName at) = fault_at_byte (codes "BadName") at
-file_fault_text (file.BadQuote at) = fault_at_byte (codes "BadQuote") at
-file_fault_text (file.TooDeep at) = fault_at_byte (codes "TooDeep") at
-file_fault_text (file.Unclosed at) = fault_at_byte (codes "Unclosed") at
-file_fault_text file.NoMemory = []
+abbrev pub any_fault_text : AnyFault → List ℕ
+any_fault_text (file.BadName at) = fault_at_byte (codes "BadName") at
+any_fault_text (file.BadQuote at) = fault_at_byte (codes "BadQuote") at
+any_fault_text (file.TooDeep at) = fault_at_byte (codes "TooDeep") at
+any_fault_text (file.Unclosed at) = fault_at_byte (codes "Unclosed") at
+any_fault_text file.NoMemory = []
 
 -- a fault of a farm, by its name and that of the member
 abbrev pub farm_fault_text : FarmFault → List ℕ

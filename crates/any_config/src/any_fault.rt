@@ -1,6 +1,6 @@
 //! Why bytes are no `dispatcher.any` file.
 ghost use Rattle.std.specs.Prelude.{◌≡◌, Some};
-ghost use Rattle.any_config.specs.FaultTexts.{file_fault_text};
+ghost use Rattle.any_config.specs.FaultTexts.{any_fault_text};
 ghost use Rattle.any_config.specs.declared.any_fault.AnyFault.TheVariants.{NoMemory as no_memory};
 
 use sp_base::NoMemory;
@@ -22,7 +22,7 @@ pub enum AnyFault {
 }
 
 impl fmt::Display for AnyFault {
-    ghost output = { λ fault. Some (file_fault_text fault) };
+    ghost output = { λ fault. Some (any_fault_text fault) };
 
     fn fmt<W: fmt::Write>(&self, f: &mut fmt::Formatter<W>) -> fmt::Result {
         match self {

@@ -1,5 +1,5 @@
 -- A change of one file of the docroot leaves no stamp later than the session, where the file isn't one of a later stamp.
-use Rattle.std.proofs.Common.{◌≡◌, ◌≢◌, ◌≤◌, inl, inr, ⊎_elim, ℕ, List, Option, Some, None, sym, ◌∙◌, ap, subst, arith, option_map}
+use Rattle.std.proofs.Common.{◌≡◌, ◌≢◌, ◌≤◌, inl, inr, ⊎_elim, ℕ, List, Some, None, sym, ◌∙◌, ap, subst, arith, option_map}
 use Rattle.std.specs.Prelude.{option_and_then, unwrap_or}
 use Rattle.std.specs.List.{AllByRecursion}
 use Rattle.sp_base.specs.Bytes.{AreBytes}
@@ -32,7 +32,7 @@ abbrev HeadsKept : Files → List ℕ → Type 0
 HeadsKept new name = (key : PageKey) → IsPageKey key → page_head_name key ≡ name → (head : HeadNote) → head_at new key ≡ Some head → head.stamp.epoch ≤ epoch_held new
 
 abbrev StatsKept : Files → List ℕ → Type 0
-StatsKept new name = (folder : List (List ℕ)) → AllByRecursion AreBytes folder → stat_name folder ≡ name → (stamp : Stamp) → option_and_then stat_of (file_at new (stat_name folder)) ≡ Some (stamp.epoch, stamp.count)
+StatsKept new name = (folder : List (List ℕ)) → AllByRecursion AreBytes folder → stat_name folder ≡ name → (stamp : Stamp) → option_and_then stat_of (file_at new (stat_name folder)) ≡ Some stamp
     → stamp.epoch ≤ epoch_held new
 
 keeps_page : (files new : Files) (name : List ℕ) (stamp : Stamp) → Beside files new name → HeadsKept new name → epoch_held files ≤ epoch_held new → HasNoLaterStamp files → IsPageStamp new stamp → stamp.epoch ≤ epoch_held new
@@ -73,14 +73,14 @@ rises_by files new name beside differ = same_up_to (epoch_held files) (epoch_hel
 no_head : (head : HeadNote) → None ≡ Some head → ⊥
 no_head head e = absurd (cc (e))
 
-no_stamp : (stamp : ℕ × ℕ) → None ≡ Some stamp → ⊥
+no_stamp : (stamp : Stamp) → None ≡ Some stamp → ⊥
 no_stamp stamp e = absurd (cc (e))
 
 pub removed : (files new : Files) (name : List ℕ) → Beside files new name → file_at new name ≡ None → epoch_name ≢ name → HasNoLaterStamp files → HasNoLaterStamp new
 removed files new name beside none differ before =
     keeps files new name beside
     (λ key page e head at. absurd (no_head head (sym (ap (λ n. head_from (file_at new n)) e ∙ ap head_from none) ∙ at)))
-    (λ folder text e stamp at. absurd (no_stamp (stamp.epoch, stamp.count) (sym (ap (λ n. option_and_then stat_of (file_at new n)) e ∙ ap (option_and_then stat_of) none) ∙ at)))
+    (λ folder text e stamp at. absurd (no_stamp stamp (sym (ap (λ n. option_and_then stat_of (file_at new n)) e ∙ ap (option_and_then stat_of) none) ∙ at)))
     (rises_by files new name beside differ) before
 
 pub other_file : (files new : Files) (name : List ℕ) → Beside files new name → NoHead name → NoStat name → epoch_held files ≤ epoch_held new → HasNoLaterStamp files → HasNoLaterStamp new
@@ -93,7 +93,7 @@ body_file files new name beside heads stats differ = other_file files new name b
 noted : (line : HeadLine) (head : HeadNote) → Some (note_of line) ≡ Some head → note_of line ≡ head
 noted line head e = cc (e)
 
-pub head_file : (files new : Files) (name text : List ℕ) (line : HeadLine) → Beside files new name → file_at new name ≡ Some text → head_of text ≡ Some line → line.epoch ≤ epoch_held files → NoStat name → epoch_name ≢ name
+pub head_file : (files new : Files) (name text : List ℕ) (line : HeadLine) → Beside files new name → file_at new name ≡ Some text → head_of text ≡ Some line → line.stamp.epoch ≤ epoch_held files → NoStat name → epoch_name ≢ name
     → HasNoLaterStamp files → HasNoLaterStamp new
 head_file files new name text line beside found read small stats differ before =
     let rises = rises_by files new name beside differ in
@@ -103,20 +103,17 @@ head_file files new name text line beside found read small stats differ before =
     subst (λ (h : HeadNote). h.stamp.epoch ≤ epoch_held new) (noted line head is) (omega (arith, small, rises)))
     (λ folder texts e. absurd (stats folder texts e)) rises before
 
-abbrev pair : ℕ → ℕ → ℕ × ℕ
-pair e c = (e, c)
+one_stamp : (stamp other : Stamp) → Some stamp ≡ Some other → stamp ≡ other
+one_stamp stamp other e = cc (e)
 
-paired : (e c f d : ℕ) → Some (pair e c) ≡ Some (pair f d) → e ≡ f
-paired e c f d h = ap (λ (o : Option (ℕ × ℕ)). (unwrap_or o (pair 0 0)).0) h
-
-pub stat_file : (files new : Files) (name text : List ℕ) (epoch count : ℕ) → Beside files new name → file_at new name ≡ Some text → stat_of text ≡ Some (epoch, count) → epoch ≤ epoch_held files → NoHead name → epoch_name ≢ name
+pub stat_file : (files new : Files) (name text : List ℕ) (stamp : Stamp) → Beside files new name → file_at new name ≡ Some text → stat_of text ≡ Some stamp → stamp.epoch ≤ epoch_held files → NoHead name → epoch_name ≢ name
     → HasNoLaterStamp files → HasNoLaterStamp new
-stat_file files new name text epoch count beside found read small heads differ before =
+stat_file files new name text stamp beside found read small heads differ before =
     let rises = rises_by files new name beside differ in
     keeps files new name beside (λ key page e. absurd (heads key page e))
-    (λ folder texts e stamp at.
-    let is : Some (pair epoch count) ≡ Some (pair stamp.epoch stamp.count) = sym (ap (λ n. option_and_then stat_of (file_at new n)) e ∙ ap (option_and_then stat_of) found ∙ read) ∙ at in
-    omega (arith, paired epoch count stamp.epoch stamp.count is, small, rises))
+    (λ folder texts e other at.
+    let is : Some stamp ≡ Some other = sym (ap (λ n. option_and_then stat_of (file_at new n)) e ∙ ap (option_and_then stat_of) found ∙ read) ∙ at in
+    subst (λ (s : Stamp). s.epoch ≤ epoch_held new) (one_stamp stamp other is) (omega (arith, small, rises)))
     rises before
 
 -- ---- the steps of a put and of a drop
@@ -129,7 +126,7 @@ pub record PutStates (files : Files) (key : PageKey) (stamp : Stamp) (answer : A
 pub bare_state : FileLaws → (files : Files) (name : List ℕ) → epoch_name ≢ name → HasNoLaterStamp files → HasNoLaterStamp (without_file files name)
 bare_state laws files name differ before = removed files (without_file files name) name (laws.left files name) (laws.removed files name) differ before
 
-pub put_states : FileLaws → (files : Files) (key : PageKey) (stamp : Stamp) (answer : Answer) (line : HeadLine) → NameLaws key → head_of (page_head_text stamp answer) ≡ Some line → line.epoch ≤ epoch_held files
+pub put_states : FileLaws → (files : Files) (key : PageKey) (stamp : Stamp) (answer : Answer) (line : HeadLine) → NameLaws key → head_of (page_head_text stamp answer) ≡ Some line → line.stamp.epoch ≤ epoch_held files
     → HasNoLaterStamp files → PutStates files key stamp answer
 put_states laws files key stamp answer line names read small before =
     let head = page_head_name key in

@@ -7,7 +7,7 @@ use Rattle.cover_rules.specs.declared.stamp.Stamp.{Stamp}
 use Rattle.docroot_format.specs.Faults.{IsLeftByFault}
 use Rattle.docroot_format.specs.declared.fault.FileFault.{FileFault}
 use Rattle.docroot_format.specs.declared.fault.FileFault.TheVariants.{Disk, NoMemory}
-use Rattle.cache_files.specs.Changes.{LeftByDrop, LeftByDryPut, LeftByPut}
+use Rattle.cache_files.specs.Changes.{LeftByDrop, LeftByPutOutOfMemory, LeftByPut}
 use Rattle.cache_files.specs.Pages.{files_with_page, files_without_page, page_body_name, page_head_name}
 
 -- the files once a page's head was taken away, and once its body was written then
@@ -48,7 +48,7 @@ dry_state : (P : Files → Type 0) (old wanted new : Files) → P old → IsLeft
 dry_state P old wanted new p left = ⊎_elim (λ e. subst P (sym (some_same new old e)) p) (λ e. absurd (not_disk e.0)) left
 
 pub put_left_dry : (P : Files → Type 0) (files new : Files) (key : PageKey) (stamp : Stamp) (answer : Answer) → P files → P (bare_files files key) → P (half_files files key answer.body)
-    → LeftByDryPut files new key stamp answer → P new
+    → LeftByPutOutOfMemory files new key stamp answer → P new
 put_left_dry P files new key stamp answer old bare half left =
     ⊎_elim (λ l. subst P (sym (some_same new files l.1.1)) old)
     (λ begun. ⊎_elim (λ l. absurd (not_disk l.0))

@@ -13,13 +13,13 @@ use Rattle.docroot_format.specs.Names.{stat_name}
 use Rattle.docroot_format.specs.declared.fault.FileFault.{FileFault}
 use Rattle.docroot_format.specs.declared.fault.FileFault.TheVariants.{NoMemory}
 use Rattle.cache_files.specs.Epochs.{epoch_held}
-use Rattle.cache_files.specs.Pages.{IsDropLeft, IsPutLeft, files_with_page, head_at, page_at, page_body_name, page_head_name, page_of}
+use Rattle.cache_files.specs.Pages.{IsDropLeft, IsPutLeft, files_with_page, head_at, page_at, page_body_name, page_head_name, plain_page}
 
 -- ---- the page of one key
 
 -- the files hold for a key what was put: the page of an answer with its stamp, and the head that says so
 pub record HasPage (files : Files) (key : PageKey) (stamp : Stamp) (answer : Answer) : Type 0 where
-  pub page : page_at files key ≡ Some (page_of stamp answer.kind answer.body)
+  pub page : page_at files key ≡ Some (plain_page stamp answer.kind answer.body)
   pub head : head_at files key ≡ Some (record { stamp = stamp; kind = answer.kind; length = length answer.body })
 
 -- the files hold for a key what they held before: its page, and its head, which may stand without a page
@@ -66,8 +66,8 @@ abbrev pub LeftByPut : Files → Files → PageKey → Stamp → Answer → Type
 LeftByPut old new key stamp answer = (asked : Option (List Call)) × ((made : Option (List Call)) × ((fault : FileFault) × IsPutLeft asked made (Some old) (Some new) key stamp answer fault))
 
 -- a put that found no memory leaves these files
-abbrev pub LeftByDryPut : Files → Files → PageKey → Stamp → Answer → Type 0
-LeftByDryPut old new key stamp answer = (asked : Option (List Call)) × ((made : Option (List Call)) × IsPutLeft asked made (Some old) (Some new) key stamp answer NoMemory)
+abbrev pub LeftByPutOutOfMemory : Files → Files → PageKey → Stamp → Answer → Type 0
+LeftByPutOutOfMemory old new key stamp answer = (asked : Option (List Call)) × ((made : Option (List Call)) × IsPutLeft asked made (Some old) (Some new) key stamp answer NoMemory)
 
 -- a drop that failed leaves these files
 abbrev pub LeftByDrop : Files → Files → PageKey → Type 0
@@ -80,8 +80,8 @@ abbrev pub OfEachPut : (Files → PageKey → Stamp → Answer → Type 0) → T
 OfEachPut IsSo = (files : Files) (key : PageKey) (stamp : Stamp) (answer : Answer) → IsSo files key stamp answer
 
 -- this is so of the files before and after
-abbrev pub OfEachChangeByPut : (Files → Files → PageKey → Stamp → Answer → Type 0) → Type 0
-OfEachChangeByPut IsSo = (files new : Files) (key : PageKey) (stamp : Stamp) (answer : Answer) → IsSo files new key stamp answer
+abbrev pub OfFilesAndPut : (Files → Files → PageKey → Stamp → Answer → Type 0) → Type 0
+OfFilesAndPut IsSo = (files new : Files) (key : PageKey) (stamp : Stamp) (answer : Answer) → IsSo files new key stamp answer
 
 -- bytes that are written as the stamp of a folder change no page
 abbrev pub StampKeepsPages : Files → Segments → Text → Type 0

@@ -23,7 +23,7 @@ IsPageStamp files stamp = (key : PageKey) × (IsPageKey key × ((head : HeadNote
 
 -- the .stat file of a folder, which is a path, is of the form, and has this stamp
 abbrev pub IsFolderStamp : Files → Stamp → Type 0
-IsFolderStamp files stamp = (folder : Segments) × (IsTrue (is_path folder) × (AllByRecursion AreBytes folder × (option_and_then stat_of (file_at files (stat_name folder)) ≡ Some (stamp.epoch, stamp.count))))
+IsFolderStamp files stamp = (folder : Segments) × (IsTrue (is_path folder) × (AllByRecursion AreBytes folder × (option_and_then stat_of (file_at files (stat_name folder)) ≡ Some stamp)))
 
 -- the files hold a stamp
 abbrev pub HoldsStamp : Files → Stamp → Type 0
@@ -57,4 +57,4 @@ FailedPutsKeepOrder = (files new : Files) (key : PageKey) (stamp : Stamp) (answe
 
 -- with the stamp of a folder written over them, the files hold no stamp later than the session, where they held none
 abbrev pub KeepsOrderWithStamp : Files → Segments → Stamp → Type 0
-KeepsOrderWithStamp files folder stamp = KeepsOrder files (with_file files (stat_name folder) (stat_text stamp.epoch stamp.count))
+KeepsOrderWithStamp files folder stamp = KeepsOrder files (with_file files (stat_name folder) (stat_text stamp))

@@ -27,7 +27,7 @@ page_head_name key = head_name key.folder key.file
 
 -- the head that is written for an answer with a stamp
 abbrev pub page_head_text : Stamp → Answer → Text
-page_head_text stamp answer = head_text stamp.epoch stamp.count (length answer.body) answer.kind
+page_head_text stamp answer = head_text stamp (length answer.body) answer.kind
 
 -- an answer that may be stored: 200, of a media type that a head holds
 pub record IsStorable (answer : Answer) : Type 0 where
@@ -43,12 +43,12 @@ pub record IsPagePut (stamp : Stamp) (answer : Answer) : Type 0 where
   pub size : length answer.body < 2 ^ 64
 
 -- a page of an answer: 200, without a location
-abbrev pub page_of : Stamp → Text → Text → Page
-page_of stamp kind body = record { stamp = stamp; answer = record { status = 200; kind = kind; location = []; mark = Plain; body = body } }
+abbrev pub plain_page : Stamp → Text → Text → Page
+plain_page stamp kind body = record { stamp = stamp; answer = record { status = 200; kind = kind; location = []; mark = Plain; body = body } }
 
 -- the page that a head and a body make, where the body has the head's length
 abbrev pub stored_page : HeadLine → Text → Option Page
-stored_page head body = if length body == head.size then Some (page_of (record { epoch = head.epoch; count = head.count }) head.kind body) else None
+stored_page head body = if length body == head.size then Some (plain_page head.stamp head.kind body) else None
 
 -- the page that the files hold for a key: one whose head is of the form, and whose body has the length that the head says
 abbrev pub page_at : Files → PageKey → Option Page
@@ -59,7 +59,7 @@ page_at files key = option_and_then (λ head. option_and_then (stored_page head)
 
 -- what a head says, as a note of it
 abbrev pub note_of : HeadLine → HeadNote
-note_of line = record { stamp = record { epoch = line.epoch; count = line.count }; kind = line.kind; length = line.size }
+note_of line = record { stamp = line.stamp; kind = line.kind; length = line.size }
 
 -- the head that the files hold for a key, where it is of the form
 abbrev pub head_at : Files → PageKey → Option HeadNote
@@ -67,7 +67,7 @@ head_at files key = option_map note_of (option_and_then head_of (file_at files (
 
 -- the page that a head which was noted and a body make, where the body has the head's length
 abbrev pub page_under : HeadNote → Text → Option Page
-page_under head body = if length body == head.length then Some (page_of head.stamp head.kind body) else None
+page_under head body = if length body == head.length then Some (plain_page head.stamp head.kind body) else None
 
 -- the page that the files hold for a key under a head
 abbrev pub known_at : Files → PageKey → HeadNote → Option Page

@@ -44,10 +44,7 @@ fn note_in(alloc: Global, head: &[u8]) -> Mem<Option<HeadNote>>
         return Ok(None);
     };
     Ok(Some(HeadNote {
-        stamp: Stamp {
-            epoch: line.epoch,
-            count: line.count,
-        },
+        stamp: line.stamp,
         kind: TextBuf::of(alloc, line.kind)?,
         length: line.size,
     }))

@@ -10,7 +10,7 @@ ghost use Rattle.docroot_format.specs.Texts.{epoch_text};
 ghost use Rattle.cover_rules.specs.Pages.{IsPageKey};
 ghost use Rattle.cover_rules.specs.declared.page.PageKey.{PageKey};
 ghost use Rattle.cover_rules.specs.declared.stamp.Stamp.{Stamp};
-ghost use Rattle.cache_files.specs.Changes.{HasNoPage, HasPage, IsOldNoneOrNew, IsOldOrNone, KeepsFiles, KeepsOtherPages, KeepsPages, KeepsStamps, LeftByDrop, LeftByDryPut, LeftByPut, StampKeepsPages, StampKeepsEpoch, files_amid_put, HasOldPageOrNone, HasOldHeadOrNone, KeepsPageBeside, OfEachChangeByPut, OfEachPut};
+ghost use Rattle.cache_files.specs.Changes.{HasNoPage, HasPage, IsOldNoneOrNew, IsOldOrNone, KeepsFiles, KeepsOtherPages, KeepsPages, KeepsStamps, LeftByDrop, LeftByPutOutOfMemory, LeftByPut, StampKeepsPages, StampKeepsEpoch, files_amid_put, HasOldPageOrNone, HasOldHeadOrNone, KeepsPageBeside, OfFilesAndPut, OfEachPut};
 ghost use Rattle.cache_files.specs.Epochs.{epoch_held, greatest_epoch, next_epoch};
 ghost use Rattle.cache_files.specs.Pages.{IsPagePut, files_with_page, files_without_page, head_at, known_at, page_at, page_body_name, page_head_name};
 
@@ -82,10 +82,10 @@ pub fn a_removal_leaves_pages_or_none()
 /// A put that failed leaves the old page, no page, or the new one, and each other page, each stamp, the number of the session and each
 /// other file as it was.
 pub fn a_failed_put_leaves_whole_pages()
-    ensures page { OfEachChangeByPut (λ files new key stamp answer. LeftByPut files new key stamp answer → IsOldNoneOrNew files new key stamp answer) }
-    ensures others { OfEachChangeByPut (λ files new key stamp answer. IsPageKey key → LeftByPut files new key stamp answer → KeepsOtherPages files new key) }
-    ensures stamps { OfEachChangeByPut (λ files new key stamp answer. IsPageKey key → LeftByPut files new key stamp answer → KeepsStamps files new) }
-    ensures files { OfEachChangeByPut (λ files new key stamp answer. LeftByPut files new key stamp answer → KeepsFiles files new key) }
+    ensures page { OfFilesAndPut (λ files new key stamp answer. LeftByPut files new key stamp answer → IsOldNoneOrNew files new key stamp answer) }
+    ensures others { OfFilesAndPut (λ files new key stamp answer. IsPageKey key → LeftByPut files new key stamp answer → KeepsOtherPages files new key) }
+    ensures stamps { OfFilesAndPut (λ files new key stamp answer. IsPageKey key → LeftByPut files new key stamp answer → KeepsStamps files new) }
+    ensures files { OfFilesAndPut (λ files new key stamp answer. LeftByPut files new key stamp answer → KeepsFiles files new key) }
 {
     files_have_names();
     names_are_apart();
@@ -94,7 +94,7 @@ pub fn a_failed_put_leaves_whole_pages()
 
 /// A put that found no memory on its way leaves the old page or no page.
 pub fn a_put_out_of_memory_leaves_the_old_page_or_none()
-    ensures { (files new : Files) (key : PageKey) (stamp : Stamp) (answer : Answer) → LeftByDryPut files new key stamp answer → IsOldOrNone files new key }
+    ensures { (files new : Files) (key : PageKey) (stamp : Stamp) (answer : Answer) → LeftByPutOutOfMemory files new key stamp answer → IsOldOrNone files new key }
 {
     a_stopped_put_leaves_no_page();
 }

@@ -39,13 +39,7 @@ pub fn put_page<D: Disk>(
     let head_file = head_name(alloc, &key.folder, key.file.text())?;
     let body_file = body_name(alloc, &key.folder, key.file.text())?;
     let bytes = answer.body.bytes();
-    let head = head_text(
-        alloc,
-        stamp.epoch,
-        stamp.count,
-        bytes.len(),
-        answer.kind.text(),
-    )?;
+    let head = head_text(alloc, stamp, bytes.len(), answer.kind.text())?;
     disk.remove(head_file.text())?;
     disk.put(body_file.text(), bytes)?;
     disk.put(head_file.text(), head.text().as_bytes())?;

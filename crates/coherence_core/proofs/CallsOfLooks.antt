@@ -24,7 +24,7 @@ use Rattle.page_index.specs.declared.page_note.PageNote.{PageNote}
 use Rattle.stat_files.specs.Outdated.{is_outdated, outdates_page}
 use Rattle.coherence_core.specs.LookCalls.{AreRead, FailsAt, ReadsPage, body_file, ended_as, files_read, files_under, gets, head_file, stat_file, unless_noted}
 use Rattle.coherence_core.specs.Lookups.{IfAgreed, IsLook, NotesPage, stat_asked}
-use Rattle.coherence_core.specs.Requests.{is_got_dry}
+use Rattle.coherence_core.specs.Requests.{is_got_out_of_memory}
 use Rattle.coherence_core.specs.declared.answers.Requested.{Requested}
 use Rattle.coherence_core.specs.declared.look.Look.{Look}
 use Rattle.coherence_core.proofs.LookLemmas.{agreed_before, agreed_both, agreed_map, agreed_of}
@@ -200,12 +200,12 @@ look_body told asked mid between made notes farm key head result reads there sta
 -- ---- a request
 
 -- what a request ended as, where the disk didn't fail
-as_other : (requested : Requested) → requested.disk_failed ≡ false → ended_as requested ≡ (if is_got_dry requested.got then Err file_fault.NoMemory else Ok (tt {0}))
-as_other requested failed = ap (λ (b : Bool). if b then Err file_fault.Disk else (if is_got_dry requested.got then Err file_fault.NoMemory else Ok (tt {0}))) failed
+as_other : (requested : Requested) → requested.disk_failed ≡ false → ended_as requested ≡ (if is_got_out_of_memory requested.got then Err file_fault.NoMemory else Ok (tt {0}))
+as_other requested failed = ap (λ (b : Bool). if b then Err file_fault.Disk else (if is_got_out_of_memory requested.got then Err file_fault.NoMemory else Ok (tt {0}))) failed
 
 -- a look that was answered, as the request tells it
 pub ended_ok : {A : Type 0} (told : Option Files) (asked made : Told) (notes : PageIndex) (farm : Farm) (key : PageKey) (a : A) (requested : Requested) → requested.disk_failed ≡ false → ReadsPage told asked made notes farm key (Ok a) → ReadsPage told asked made notes farm key (ended_as requested)
-ended_ok told asked made notes farm key a requested failed reads = subst (λ (r : Result ⊤ FileFault). ReadsPage told asked made notes farm key r) (sym (as_other requested failed)) (by_test (is_got_dry requested.got))
+ended_ok told asked made notes farm key a requested failed reads = subst (λ (r : Result ⊤ FileFault). ReadsPage told asked made notes farm key r) (sym (as_other requested failed)) (by_test (is_got_out_of_memory requested.got))
   where
     by_test : (b : Bool) → ReadsPage {T = ⊤} told asked made notes farm key (if b then Err file_fault.NoMemory else Ok (tt {0}))
     by_test true = record {

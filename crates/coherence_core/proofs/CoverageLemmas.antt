@@ -1,12 +1,11 @@
 -- What the core takes of coverage, from the laws of the layers below.
-use Rattle.std.proofs.Common.{◌≡◌, ◌↔◌, ◌&&◌, ◌||◌, ℕ, Bool, true, false, not, Some, IsTrue, Contains, inl, inr, refl, ap, ◌∙◌, ⊎_elim}
+use Rattle.std.proofs.Common.{◌≡◌, ◌↔◌, ◌&&◌, ◌||◌, ℕ, Bool, true, false, not, IsTrue, Contains, inl, inr, refl, ap, ◌∙◌, ⊎_elim}
 use Rattle.std.specs.List.{AllByRecursion, list_all}
 use Rattle.std.proofs.lemmas.Bool.{or_cases}
 use Rattle.sp_base.specs.Bytes.{AreBytes}
 use Rattle.sp_base.specs.Paths.{is_path, is_under, parent_of}
-use Rattle.sp_base.specs.Texts.{Segments}
 use Rattle.any_config.specs.declared.farm.Farm.{Farm}
-use Rattle.cover_rules.specs.Pages.{IsPageKey, is_folder_segment, page_key_of, page_path}
+use Rattle.cover_rules.specs.Pages.{IsPageKey, is_folder_segment}
 use Rattle.cover_rules.specs.declared.page.PageKey.{PageKey}
 use Rattle.cover_rules.specs.declared.invalidation.Invalidation.{Invalidation}
 use Rattle.cover_rules.specs.Coverage.{deletes, handle_of, outdates, stat_folder, touched_of}
@@ -33,7 +32,7 @@ outdates_parts level false inv key is = absurd (none inv.only is)
 pub facts_of : (farm : Farm)
     → ((level : ℕ) (inv : Invalidation) (key : PageKey) → IsTrue (list_all is_folder_segment key.folder) → (outdates level true inv key ≡ true) ↔ Contains (touched_of level inv) (stat_folder level key))
     → ((key : PageKey) → IsPageKey key → IsTrue (list_all is_folder_segment key.folder))
-    → ((level : ℕ) (path : Segments) (key : PageKey) → page_key_of path ≡ Some key → IsFolder (stat_folder level key))
+    → ((level : ℕ) (key : PageKey) → IsPageKey key → IsFolder (stat_folder level key))
     → ((level : ℕ) (key : PageKey) → IsPageKey key → IsTrue (is_path (stat_folder level key)))
     → ((level : ℕ) (key : PageKey) → IsPageKey key → AllByRecursion AreBytes (stat_folder level key))
     → CoverageFacts farm
@@ -48,5 +47,5 @@ facts_of farm law segments folders paths bytes = record {
       let parts = outdates_parts farm.level (is_auto farm key) inv key h in
       inr (parts.0, (law farm.level inv key (segments key page)).0 parts.1))
       (or_cases (deletes inv key) (outdates farm.level (is_auto farm key) inv key) cov);
-  folder = λ key page. record { path = paths farm.level key page; docroot = folders farm.level (page_path key) key page.own; bytes = bytes farm.level key page };
+  folder = λ key page. record { path = paths farm.level key page; docroot = folders farm.level key page; bytes = bytes farm.level key page };
 }

@@ -18,7 +18,7 @@ use Rattle.cache_files.specs.declared.head_note.HeadNote.{HeadNote}
 use Rattle.cache_files.specs.Epochs.{epoch_held}
 use Rattle.cache_files.specs.Changes.{HasPage}
 use Rattle.cache_files.specs.HeldStamps.{KeepsOrder}
-use Rattle.cache_files.specs.Pages.{IsPagePut, head_at, page_at, page_of}
+use Rattle.cache_files.specs.Pages.{IsPagePut, head_at, page_at, plain_page}
 use Rattle.stat_files.specs.Stamps.{stamp_at}
 use Rattle.docroot_changes.specs.Changes.{BesidePage, MayPut, PageSet, Told}
 use Rattle.flights.specs.ClearPages.{ClearPage}
@@ -68,7 +68,7 @@ plain_is MustRevalidate is = absurd (cc is)
 pub storable_parts : (a : Answer) → is_storable a ≡ true → (a.status ≡ 200) × (a.mark ≡ Plain)
 storable_parts a is = let both = and_parts (a.status == 200) (is_plain_mark a.mark) is in (eqb-true a.status 200 both.0, plain_is a.mark both.1)
 
-stored_is : (st : Stamp) (a : Answer) → is_storable a ≡ true → (page_of st a.kind a.body).answer ≡ stored a
+stored_is : (st : Stamp) (a : Answer) → is_storable a ≡ true → (plain_page st a.kind a.body).answer ≡ stored a
 stored_is st a is = let p = storable_parts a is in (λ i. record { status = sym p.0 i; kind = a.kind; location = []; mark = sym p.1 i; body = a.body })
 
 pub if_flight : (o : Option Flight) (f : Flight) (P : Flight → Type 0) → o ≡ Some f → P f → IfSome o P
@@ -221,10 +221,10 @@ module _ (found : ℕ) (core : Core) (n : ℕ) (f : Flight) (at : flight_at n co
       put_others : BesidePage c.key files after → (l : PageKey) → IsPageKey l → c.key ≢ l → page_at after l ≡ page_at files l
       put_others beside l good ne = (beside.pages l good (λ e. ne (sym e))).page
 
-      put_set : PageSet c.key c.stamp a files after → (l : PageKey) → IsPageKey l → (page_at after l ≡ page_at files l) ⊎ ((c.key ≡ l) × ((page_at after l ≡ Some (page_of c.stamp a.kind a.body)) ⊎ (page_at after l ≡ None)))
+      put_set : PageSet c.key c.stamp a files after → (l : PageKey) → IsPageKey l → (page_at after l ≡ page_at files l) ⊎ ((c.key ≡ l) × ((page_at after l ≡ Some (plain_page c.stamp a.kind a.body)) ⊎ (page_at after l ≡ None)))
       put_set set l good = ⊎_elim (λ (same : c.key ≡ l). inr (same, inl (ap (page_at after) (sym same) ∙ set.here.page))) (λ (ne : c.key ≢ l). inl (put_others set.beside l good ne)) (key_cases c.key l)
 
-      put_may : (fault : FileFault) → MayPut c.key c.stamp a fault files after → (l : PageKey) → IsPageKey l → (page_at after l ≡ page_at files l) ⊎ ((c.key ≡ l) × ((page_at after l ≡ Some (page_of c.stamp a.kind a.body)) ⊎ (page_at after l ≡ None)))
+      put_may : (fault : FileFault) → MayPut c.key c.stamp a fault files after → (l : PageKey) → IsPageKey l → (page_at after l ≡ page_at files l) ⊎ ((c.key ≡ l) × ((page_at after l ≡ Some (plain_page c.stamp a.kind a.body)) ⊎ (page_at after l ≡ None)))
       put_may fault put l good = ⊎_elim
           (λ (same : c.key ≡ l). ⊎_elim
           (λ old. inl (ap (page_at after) (sym same) ∙ old.page ∙ ap (page_at files) same))
@@ -236,12 +236,12 @@ module _ (found : ℕ) (core : Core) (n : ℕ) (f : Flight) (at : flight_at n co
       whole : is_storable a ≡ true → PageSet c.key c.stamp a files after → StandsOver found after (record core { flights = next; pages = notes }) (Landed n (Some c.key) a Kept ∷ log)
       whole storable t = over (Landed n (Some c.key) a Kept ∷ log) s.down_is t.beside t.order (set_heads t)
           (names_stay core.farm found 2 files after core.queue.items log (Landed n (Some c.key) a Kept ∷ log) t.names (two_more core.farm found log (landings_stored log + 1) refl (flushes_begun log) refl) (λ v. refl) refl s.slices)
-          (kept core.farm (page_at files) (stamp_at files) (epoch_held files) core.flights core.queue.items core.asked core.begun core.epoch (drawn_of core) log s.stands n (rising files log s) c.key a (page_of c.stamp a.kind a.body) (stored_is c.stamp a storable) (page_at after) (put_set t) clear_here own_here drew_here facts key_cases t.here.page fresh_here)
+          (kept core.farm (page_at files) (stamp_at files) (epoch_held files) core.flights core.queue.items core.asked core.begun core.epoch (drawn_of core) log s.stands n (rising files log s) c.key a (plain_page c.stamp a.kind a.body) (stored_is c.stamp a storable) (page_at after) (put_set t) clear_here own_here drew_here facts key_cases t.here.page fresh_here)
 
       part : (fault : FileFault) → is_storable a ≡ true → MayPut c.key c.stamp a fault files after → StandsOver found after (record core { flights = next; pages = notes }) (Landed n (Some c.key) a Unkept ∷ log)
       part fault storable t = over (Landed n (Some c.key) a Unkept ∷ log) s.down_is t.beside t.order (may_heads fault t)
           (names_stay core.farm found 2 files after core.queue.items log (Landed n (Some c.key) a Unkept ∷ log) t.names (two_more core.farm found log (landings_stored log + 1) refl (flushes_begun log) refl) (λ v. refl) refl s.slices)
-          (unkept core.farm (page_at files) (stamp_at files) (epoch_held files) core.flights core.queue.items core.asked core.begun core.epoch (drawn_of core) log s.stands n (rising files log s) c.key a (page_of c.stamp a.kind a.body) (stored_is c.stamp a storable) (page_at after) (put_may fault t) clear_here own_here drew_here facts)
+          (unkept core.farm (page_at files) (stamp_at files) (epoch_held files) core.flights core.queue.items core.asked core.begun core.epoch (drawn_of core) log s.stands n (rising files log s) c.key a (plain_page c.stamp a.kind a.body) (stored_is c.stamp a storable) (page_at after) (put_may fault t) clear_here own_here drew_here facts)
 
     for_key : (told new : Option Files) (out : LandedAs) → StaysTold core.pages notes told new → Told KeepsStatFiles told new → IsStored c.key c.stamp a out told new → ExtendsLogs core.farm (CoreStandsFor found told core) (CoreStandsFor found new (record core { flights = next; pages = notes })) (landed_under out) (Landed n (Some c.key) a (fate_of out) ∷ [])
     for_key None new out stays keeps t = extends (λ log s. absurd s)

@@ -8,7 +8,7 @@ use Rattle.cover_rules.specs.declared.invalidation.Invalidation.{Invalidation}
 use Rattle.docroot_changes.specs.Changes.{IsStampFolder}
 use Rattle.invalidation.specs.declared.place.Place.{Place}
 use Rattle.invalidation.specs.declared.purge.Purge.{Purge}
-use Rattle.invalidation.specs.Slices.{IsBehind, Progress}
+use Rattle.invalidation.specs.Slices.{IsBehindPlace, Progress}
 use Rattle.cache_log.specs.Entries.{LogEntry, Begun, Ended, FlushOutcome}
 use Rattle.cache_log.specs.Hits.{Unfinished}
 use Rattle.cache_log.proofs.PlaceLemmas.{none-within, within}
@@ -87,7 +87,7 @@ oldest p ps w inv later (inr h) = flush_later p ps w inv later h
 untouched : (page : Pages) (stat : Stamps) (p : Purge) → p.place ≡ None → Progress p page stat
 untouched page stat p none = record {
   touched = λ begun. absurd (cc (subst (λ (o : Option Place). IsSome o) none begun));
-  gone = λ k good del behind. absurd (subst (λ (o : Option Place). IsBehind p.inv o k) none behind);
+  gone = λ k good del behind. absurd (subst (λ (o : Option Place). IsBehindPlace p.inv o k) none behind);
 }
 
 -- the next is at work once the head has ended

@@ -17,7 +17,7 @@ use Rattle.cover_rules.specs.declared.invalidation.Invalidation.{Invalidation}
 use Rattle.cover_rules.specs.declared.page.PageKey.{PageKey}
 use Rattle.cover_rules.specs.declared.stamp.Stamp.{Stamp}
 use Rattle.dispatch_rules.specs.Caching.{is_auto}
-use Rattle.cache_files.specs.Pages.{head_at, known_at, page_at, page_body_name, page_of, page_under}
+use Rattle.cache_files.specs.Pages.{head_at, known_at, page_at, page_body_name, plain_page, page_under}
 use Rattle.cache_files.specs.declared.head_note.HeadNote.{HeadNote}
 use Rattle.cache_files.specs.declared.page.Page.{Page}
 use Rattle.stat_files.specs.Outdated.{outdates_page}
@@ -161,16 +161,16 @@ served_none : (auto : Bool) (stat : Option Stamp) (head : HeadNote) (body : Opti
 served_none auto stat head None on = refl
 served_none auto stat head (Some body) on = by_test (length body == head.length)
   where
-    by_test : (b : Bool) → served auto stat (if b then Some (page_of head.stamp head.kind body) else None) ≡ None
-    by_test true = ap (λ (x : Bool). if x then None else Some (page_of head.stamp head.kind body).answer) on
+    by_test : (b : Bool) → served auto stat (if b then Some (plain_page head.stamp head.kind body) else None) ≡ None
+    by_test true = ap (λ (x : Bool). if x then None else Some (plain_page head.stamp head.kind body).answer) on
     by_test false = refl
 
 served_some : (auto : Bool) (stat : Option Stamp) (head : HeadNote) (body : Option Text) → (auto && outdates_page stat head.stamp) ≡ false → served auto stat (option_and_then (page_under head) body) ≡ option_map (λ (p : Page). p.answer) (option_and_then (page_under head) body)
 served_some auto stat head None off = refl
 served_some auto stat head (Some body) off = by_test (length body == head.length)
   where
-    by_test : (b : Bool) → served auto stat (if b then Some (page_of head.stamp head.kind body) else None) ≡ option_map (λ (p : Page). p.answer) (if b then Some (page_of head.stamp head.kind body) else None)
-    by_test true = ap (λ (x : Bool). if x then None else Some (page_of head.stamp head.kind body).answer) off
+    by_test : (b : Bool) → served auto stat (if b then Some (plain_page head.stamp head.kind body) else None) ≡ option_map (λ (p : Page). p.answer) (if b then Some (plain_page head.stamp head.kind body) else None)
+    by_test true = ap (λ (x : Bool). if x then None else Some (plain_page head.stamp head.kind body).answer) off
     by_test false = refl
 
 module _ (law : (files : Files) (key : PageKey) → page_at files key ≡ option_and_then (known_at files key) (head_at files key)) (files : Files) (key : PageKey) (auto : Bool) (stat : Option Stamp) where

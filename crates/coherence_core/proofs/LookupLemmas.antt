@@ -9,7 +9,7 @@ use Rattle.cover_rules.specs.declared.stamp.Stamp.{Stamp}
 use Rattle.dispatch_rules.specs.Caching.{is_storable}
 use Rattle.cache_files.specs.declared.head_note.HeadNote.{HeadNote}
 use Rattle.cache_files.specs.declared.page.Page.{Page}
-use Rattle.cache_files.specs.Pages.{head_at, known_at, page_at, page_body_name, page_of, page_under}
+use Rattle.cache_files.specs.Pages.{head_at, known_at, page_at, page_body_name, plain_page, page_under}
 use Rattle.stat_files.specs.Outdated.{outdates_page}
 use Rattle.coherence_core.specs.Served.{served}
 
@@ -17,8 +17,8 @@ use Rattle.coherence_core.specs.Served.{served}
 under_head : (head : HeadNote) (body : Text) (page : Page) → page_under head body ≡ Some page → is_storable page.answer ≡ true
 under_head head body page is = by_test (length body == head.length) is
   where
-    by_test : (b : Bool) → (if b then Some (page_of head.stamp head.kind body) else None) ≡ Some page → is_storable page.answer ≡ true
-    by_test true e = let same : page_of head.stamp head.kind body ≡ page = cc e in ap (λ (p : Page). is_storable p.answer) (sym same)
+    by_test : (b : Bool) → (if b then Some (plain_page head.stamp head.kind body) else None) ≡ Some page → is_storable page.answer ≡ true
+    by_test true e = let same : plain_page head.stamp head.kind body ≡ page = cc e in ap (λ (p : Page). is_storable p.answer) (sym same)
     by_test false e = absurd (cc e)
 
 known_page : (o : Option Text) (head : HeadNote) (page : Page) → option_and_then (page_under head) o ≡ Some page → is_storable page.answer ≡ true

@@ -24,7 +24,7 @@ use Rattle.coherence_core.specs.Notes.{KnowsDisk, KnowsDiskWith, with_notes}
 use Rattle.page_index.specs.declared.index.PageIndex.{PageIndex}
 use Rattle.coherence_core.specs.Cores.{ExtendsLogs, FlightsRise, KeepsFarm, CoreStandsFor, StandsOver, conditions_of_call, drawn_of, flight_labels, flush_numbers}
 use Rattle.coherence_core.specs.Facts.{CoverageFacts}
-use Rattle.coherence_core.specs.Requests.{GotAs, IsNotOwed, ReachesCache, got_entries, got_flights, got_flushes, got_labels, is_got_dry}
+use Rattle.coherence_core.specs.Requests.{GotAs, IsNotOwed, ReachesCache, got_entries, got_flights, got_flushes, got_labels, is_got_out_of_memory}
 use Rattle.coherence_core.specs.Served.{stat_for}
 use Rattle.coherence_core.specs.declared.answers.Got.{Got}
 use Rattle.coherence_core.specs.declared.answers.Got.TheVariants as got
@@ -58,7 +58,7 @@ flushes_push (p ∷ ps) q = ap (λ l. p.number ∷ l) (flushes_push ps q)
 -- ---- what is owed
 
 pub record Owes (told : Option Files) (old new : Core) (req : Request) (peer : Text) (got : Got) (disk_failed : Bool) : Type 0 where
-  pub log : (found : ℕ) → ExtendsLogs old.farm (CoreStandsFor found told old) (CoreStandsFor found told new) (conditions_of_call disk_failed (is_got_dry got)) (got_entries got)
+  pub log : (found : ℕ) → ExtendsLogs old.farm (CoreStandsFor found told old) (CoreStandsFor found told new) (conditions_of_call disk_failed (is_got_out_of_memory got)) (got_entries got)
   pub cause : (found : ℕ) (log : List LogEntry) → CoreStandsFor found told old log → GotAs old log req peer disk_failed got
   pub flights : numbers_of new.flights ≡ numbers_of old.flights ++ got_flights got
   pub labels : flight_labels new.flights ≡ flight_labels old.flights ++ got_labels got
@@ -74,7 +74,7 @@ AddsNone got = (got_entries got ≡ []) × (got_flights got ≡ []) × (got_labe
 module _ (told : Option Files) (old new : Core) (req : Request) (peer : Text) where
   same_owes : (got : Got) (disk_failed : Bool) → AddsNone got → IsSameCore old new → ((found : ℕ) (log : List LogEntry) → CoreStandsFor found told old log → GotAs old log req peer disk_failed got) → Owes told old new req peer got disk_failed
   same_owes got disk_failed none same cause = record {
-    log = λ found. subst (λ (es : List LogEntry). ExtendsLogs old.farm (CoreStandsFor found told old) (CoreStandsFor found told new) (conditions_of_call disk_failed (is_got_dry got)) es) (sym none.0) (adds_nothing old.farm found told old new (conditions_of_call disk_failed (is_got_dry got)) same);
+    log = λ found. subst (λ (es : List LogEntry). ExtendsLogs old.farm (CoreStandsFor found told old) (CoreStandsFor found told new) (conditions_of_call disk_failed (is_got_out_of_memory got)) es) (sym none.0) (adds_nothing old.farm found told old new (conditions_of_call disk_failed (is_got_out_of_memory got)) same);
     cause = cause;
     flights = ap numbers_of same.flights ∙ sym (append-nil (numbers_of old.flights)) ∙ ap (λ (l : List FlightId). numbers_of old.flights ++ l) (sym none.1);
     labels = ap flight_labels same.flights ∙ sym (append-nil (flight_labels old.flights)) ∙ ap (λ (l : List (FlightId × Option PageKey)). flight_labels old.flights ++ l) (sym none.2);
@@ -87,7 +87,7 @@ module _ (told : Option Files) (old new : Core) (req : Request) (peer : Text) wh
   -- the same where something may have been noted
   noted_owes : (notes : PageIndex) → KnowsDiskWith told old notes → (got : Got) (disk_failed : Bool) → AddsNone got → new ≡ with_notes old notes → ((found : ℕ) (log : List LogEntry) → CoreStandsFor found told old log → GotAs old log req peer disk_failed got) → Owes told old new req peer got disk_failed
   noted_owes notes learns got disk_failed none same cause = record {
-    log = λ found. subst (λ (es : List LogEntry). ExtendsLogs old.farm (CoreStandsFor found told old) (CoreStandsFor found told new) (conditions_of_call disk_failed (is_got_dry got)) es) (sym none.0) (extended found told learns);
+    log = λ found. subst (λ (es : List LogEntry). ExtendsLogs old.farm (CoreStandsFor found told old) (CoreStandsFor found told new) (conditions_of_call disk_failed (is_got_out_of_memory got)) es) (sym none.0) (extended found told learns);
     cause = cause;
     flights = ap (λ (c : Core). numbers_of c.flights) same ∙ sym (append-nil (numbers_of old.flights)) ∙ ap (λ (l : List FlightId). numbers_of old.flights ++ l) (sym none.1);
     labels = ap (λ (c : Core). flight_labels c.flights) same ∙ sym (append-nil (flight_labels old.flights)) ∙ ap (λ (l : List (FlightId × Option PageKey)). flight_labels old.flights ++ l) (sym none.2);
@@ -97,7 +97,7 @@ module _ (told : Option Files) (old new : Core) (req : Request) (peer : Text) wh
     knows = λ k. subst (KnowsDisk told) (sym same) (learns k);
   }
     where
-      extended : (found : ℕ) (t : Option Files) → KnowsDiskWith t old notes → ExtendsLogs old.farm (CoreStandsFor found t old) (CoreStandsFor found t new) (conditions_of_call disk_failed (is_got_dry got)) []
+      extended : (found : ℕ) (t : Option Files) → KnowsDiskWith t old notes → ExtendsLogs old.farm (CoreStandsFor found t old) (CoreStandsFor found t new) (conditions_of_call disk_failed (is_got_out_of_memory got)) []
       extended found None l = extends (λ log s. absurd s)
       extended found (Some files) l = extends (λ log s. (tt, subst (λ (c : Core). StandsOver found files c log) (sym same) (noting_over found files old notes log s (l s.knows))))
 

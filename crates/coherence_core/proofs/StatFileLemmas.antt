@@ -37,7 +37,7 @@ kept_formed old new keeps formed name bytes is at = formed name bytes is (sym (k
 
 -- what is taken of texts: that of a stamp reads, and the number of a session has 64 bits
 pub record TextLaws : Type 0 where
-  pub stat : (epoch count : ℕ) → epoch < 2 ^ 64 → count < 2 ^ 64 → stat_of (stat_text epoch count) ≡ Some (epoch, count)
+  pub stat : (stamp : Stamp) → stamp.epoch < 2 ^ 64 → stamp.count < 2 ^ 64 → stat_of (stat_text stamp) ≡ Some stamp
   pub fits : (text : Text) (epoch : ℕ) → epoch_of text ≡ Some epoch → (0 < epoch) × (epoch < 2 ^ 64)
 
 held_fits : (o : Option Text) → ((text : Text) (epoch : ℕ) → epoch_of text ≡ Some epoch → (0 < epoch) × (epoch < 2 ^ 64)) → unwrap_or (option_and_then epoch_of o) 0 < 2 ^ 64
@@ -64,21 +64,21 @@ epoch_fits : (epoch held : ℕ) → epoch ≤ held → held < 2 ^ 64 → epoch <
 epoch_fits epoch held le lt = omega (arith, le, lt)
 
 -- the text of a flush's stamp reads
-pub flush_reads : TextLaws → (files : Files) (s : Stamp) (drawn : ℕ) (log : List LogEntry) (v : FlushId) (inv : Invalidation) → s.epoch ≤ epoch_held files → IsFlushStamp log v inv s → drawn ≡ stamps_drawn log → drawn ≤ most_stamps → IsSome (stat_of (stat_text s.epoch s.count))
+pub flush_reads : TextLaws → (files : Files) (s : Stamp) (drawn : ℕ) (log : List LogEntry) (v : FlushId) (inv : Invalidation) → s.epoch ≤ epoch_held files → IsFlushStamp log v inv s → drawn ≡ stamps_drawn log → drawn ≤ most_stamps → IsSome (stat_of (stat_text s))
 flush_reads texts files s drawn log v inv low is same few =
     let epoch : s.epoch < 2 ^ 64 = epoch_fits s.epoch (epoch_held files) low (held_fits (file_at files epoch_name) texts.fits) in
     let count : s.count < 2 ^ 64 = count_fits s.count drawn (stamps_drawn log) (stamp_counted log v inv s is) same few in
-    subst (λ (o : Option (ℕ × ℕ)). IsSome o) (sym (texts.stat s.epoch s.count epoch count)) refl
+    subst (λ (o : Option Stamp). IsSome o) (sym (texts.stat s epoch count)) refl
 
 some_text : (text bytes : Text) (o : Option Text) → o ≡ Some text → o ≡ Some bytes → text ≡ bytes
 some_text text bytes o is at = cc (is, at)
 
 -- where each file stays, goes, or gets a text that reads
-pub slice_formed : (IsTaken IsStamped : Text → Type 0) (stamp : Stamp) (old new : Files) → IsSome (stat_of (stat_text stamp.epoch stamp.count)) → ChangesFiles IsTaken IsStamped stamp old new → AreStatsFormed old → AreStatsFormed new
+pub slice_formed : (IsTaken IsStamped : Text → Type 0) (stamp : Stamp) (old new : Files) → IsSome (stat_of (stat_text stamp)) → ChangesFiles IsTaken IsStamped stamp old new → AreStatsFormed old → AreStatsFormed new
 slice_formed IsTaken IsStamped stamp old new reads changes formed name bytes is at = ⊎_elim
     (λ same. formed name bytes is (sym same ∙ at))
     (λ other. ⊎_elim
     (λ gone. absurd (cc (gone.1, at)))
-    (λ set. subst (λ (text : Text). IsSome (stat_of text)) (some_text (stat_text stamp.epoch stamp.count) bytes (file_at new name) set.1 at) reads)
+    (λ set. subst (λ (text : Text). IsSome (stat_of text)) (some_text (stat_text stamp) bytes (file_at new name) set.1 at) reads)
     other)
     (changes name)

@@ -136,8 +136,8 @@ KeyedAs told old new key got disk_failed = (notes : PageIndex) × (KnowsDiskWith
 -- ---- requests
 
 -- memory ran out before anything was done
-abbrev pub IsDryRequest : Core → Core → Requested → Type 0
-IsDryRequest old new requested = (new ≡ old) × (requested.got ≡ got.NoMemory) × (requested.disk_failed ≡ false)
+abbrev pub IsRequestOutOfMemory : Core → Core → Requested → Type 0
+IsRequestOutOfMemory old new requested = (new ≡ old) × (requested.got ≡ got.NoMemory) × (requested.disk_failed ≡ false)
 
 -- the cache is down
 abbrev pub IsDownRequest : Core → Core → Requested → Type 0
@@ -161,7 +161,7 @@ IsKeyedRequest told old new req requested = ReachesCache old req × ((key : Page
 
 -- what a request came to
 abbrev pub RequestedAs : Option Files → Core → Core → Request → Text → Requested → Type 0
-RequestedAs told old new req peer requested = IsDryRequest old new requested ⊎ (IsDownRequest old new requested ⊎ (IsFlushRequest old new req peer requested ⊎ (IsDeniedRequest old new req requested ⊎ (IsUnkeyedRequest old new req requested ⊎ IsKeyedRequest told old new req requested))))
+RequestedAs told old new req peer requested = IsRequestOutOfMemory old new requested ⊎ (IsDownRequest old new requested ⊎ (IsFlushRequest old new req peer requested ⊎ (IsDeniedRequest old new req requested ⊎ (IsUnkeyedRequest old new req requested ⊎ IsKeyedRequest told old new req requested))))
 
 -- in each session and for each log that a core and a disk stand for, what is got has its cause in the log
 abbrev pub HasCauseInEachLog : Option Files → Core → Request → Text → Requested → Type 0

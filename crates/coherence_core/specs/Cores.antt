@@ -63,8 +63,8 @@ conditions_of_call disk_failed out_of_memory = record { disk_failed = disk_faile
 -- ---- what callers see of a core beside its log
 
 -- what the dispatcher does for the site
-abbrev pub farm_of : Core → Farm
-farm_of core = core.farm
+abbrev pub core_farm : Core → Farm
+core_farm core = core.farm
 
 -- the flights in the air, the oldest first
 abbrev pub flights_of : Core → List Flight

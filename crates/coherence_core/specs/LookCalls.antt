@@ -20,7 +20,7 @@ use Rattle.page_index.specs.Notes.{head_noted, known_page, stamp_noted}
 use Rattle.page_index.specs.declared.index.PageIndex.{PageIndex}
 use Rattle.stat_files.specs.Outdated.{is_outdated}
 use Rattle.coherence_core.specs.Lookups.{IfAgreed}
-use Rattle.coherence_core.specs.Requests.{is_got_dry}
+use Rattle.coherence_core.specs.Requests.{is_got_out_of_memory}
 use Rattle.coherence_core.specs.declared.answers.Requested.{Requested}
 use Rattle.coherence_core.specs.declared.core_state.Core.{Core}
 
@@ -92,7 +92,7 @@ page_asked core req = if core.down || is_invalidation req || not (admits core.fa
 
 -- whether the disk failed in a request, or else memory ran out, as a call on files tells it
 abbrev pub ended_as : Requested → Result ⊤ FileFault
-ended_as requested = if requested.disk_failed then Err Disk else (if is_got_dry requested.got then Err NoMemory else Ok tt)
+ended_as requested = if requested.disk_failed then Err Disk else (if is_got_out_of_memory requested.got then Err NoMemory else Ok tt)
 
 -- Which calls a request made: where it has the cache look at a page, those of that look, and else none.
 abbrev pub AsksDisk : Option Files → Option (List Call) → Option (List Call) → Core → Option PageKey → Requested → Type 0

@@ -39,8 +39,8 @@ abbrev pub IsDeleted : PageKey → ℕ → Invalidation → Type 0
 IsDeleted key level inv = deletes inv key ≡ true
 
 -- the invalidation touches the folder
-abbrev pub IsTouched : Segments → ℕ → Invalidation → Type 0
-IsTouched folder level inv = Contains (touched_of level inv) folder
+abbrev pub IsTouchedFolder : Segments → ℕ → Invalidation → Type 0
+IsTouchedFolder folder level inv = Contains (touched_of level inv) folder
 
 -- this is noted as the head of the key's page, or that it has none
 abbrev pub NotesHead : PageKey → Option HeadNote → PageIndex → PageIndex → Type 0
@@ -52,7 +52,7 @@ NotesHit key body = NotesThis (λ files. (page : Page) × ((page_at files key �
 
 -- this is noted as the folder's stamp, or that it has none
 abbrev pub NotesStamp : Segments → Option Stamp → PageIndex → PageIndex → Type 0
-NotesStamp folder stamp = NotesThis (λ files. stamp_at files folder ≡ stamp) (IsTouched folder)
+NotesStamp folder stamp = NotesThis (λ files. stamp_at files folder ≡ stamp) (IsTouchedFolder folder)
 
 -- What a look at a page notes of it, over the files of a disk that tells them: notes that agreed with the files do so still; and where no
 -- unfinished flush covered any of them, none does still.

@@ -43,13 +43,13 @@ got_flushes (got.Flush flush inv) = flush ∷ []
 got_flushes _ = []
 
 -- it found no memory
-abbrev pub is_got_dry : Got → Bool
-is_got_dry got.NoMemory = true
-is_got_dry _ = false
+abbrev pub is_got_out_of_memory : Got → Bool
+is_got_out_of_memory got.NoMemory = true
+is_got_out_of_memory _ = false
 
 -- what the call ran under
 abbrev pub requested_under : Requested → CallConditions
-requested_under requested = conditions_of_call requested.disk_failed (is_got_dry requested.got)
+requested_under requested = conditions_of_call requested.disk_failed (is_got_out_of_memory requested.got)
 
 -- a request that reaches the cache: the cache is up, no invalidation is asked for, and the farm admits the request
 pub record ReachesCache (core : Core) (req : Request) : Type 0 where

@@ -38,13 +38,13 @@ is_disk_failure (Err open_fault.Disk) = true
 is_disk_failure _ = false
 
 -- an opening found no memory
-abbrev pub is_opening_dry : Result ℕ OpenFault → Bool
-is_opening_dry (Err open_fault.NoMemory) = true
-is_opening_dry _ = false
+abbrev pub is_opening_out_of_memory : Result ℕ OpenFault → Bool
+is_opening_out_of_memory (Err open_fault.NoMemory) = true
+is_opening_out_of_memory _ = false
 
 -- what a restart ran under
 abbrev pub restarted_under : Result ℕ OpenFault → CallConditions
-restarted_under opened = record { disk_failed = is_disk_failure opened; out_of_memory = is_opening_dry opened; restarts = true }
+restarted_under opened = record { disk_failed = is_disk_failure opened; out_of_memory = is_opening_out_of_memory opened; restarts = true }
 
 -- A session begins over files that hold a closed log: the core and the new files stand for that log and the session, which found as many files
 -- as there were.

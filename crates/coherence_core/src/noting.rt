@@ -54,7 +54,7 @@ pub(crate) fn keep_asked(pages: &mut PageIndex, key: &PageKey)
 {
     forgotten_notes_agree();
     fewer_notes_agree();
-    match pages.asked(key) {
+    match pages.note_asked(key) {
         Ok(()) => {}
         Err(_) => {}
     }

@@ -10,7 +10,7 @@ use Rattle.connections.specs.declared.sending.Sending.{Sending}
 use Rattle.connections.specs.declared.awaited.Awaited.{Awaited}
 use Rattle.connections.specs.Slots.{Response, Slot, MayAnswer, is_answered, is_last, interim_slot}
 use Rattle.connections.specs.Connections.{Connection, Close, Nothing, Send, with_due_continue, after_turn, due, due_at_slot, due_at_turn, due_without_sending, with_piece, slots_with_end, fresh, next_turn, with_end, with_sent, with_slot}
-use Rattle.connections.specs.Histories.{AnswersRun, Ending, Follows, IsDueSending, IsEndOr, Move, Piece, Sent, Shut, Treatment, after_all, sendings}
+use Rattle.connections.specs.Histories.{AnswersRun, Ending, AreMovesOf, IsDueSending, IsEndOr, Move, Piece, Sent, Shut, Treatment, after_all, sendings}
 use Rattle.connections.specs.AnswerQueues.{AllAnswered}
 use Rattle.connections.proofs.PlaceLemmas.{filled-past, length-filled}
 use Rattle.connections.proofs.TurnLemmas.{LastCloses, last-of}
@@ -147,7 +147,7 @@ told-ending c sent n t told =
     record { within = omega (arith, length-filled n t c.slots); past = rw cut told.past }
 
 -- ---- all moves
-told-all : (c : Connection) (moves : List Move) (sent : List Sending) → Told c sent → Follows c moves → Told (after_all c moves) (sent ++ sendings moves)
+told-all : (c : Connection) (moves : List Move) (sent : List Sending) → Told c sent → AreMovesOf c moves → Told (after_all c moves) (sent ++ sendings moves)
 told-all c [] sent told follows = rw (append-nil sent) told
 told-all c (Piece bytes turns ends ∷ moves) sent told follows = told-all (with_piece bytes turns ends c) moves sent (told-fed c sent bytes turns ends told) follows.1
 told-all c (Treatment slot ∷ moves) sent told follows = told-all (with_due_continue (with_slot slot c)) moves sent (told-advanced (with_slot slot c) sent (told-slot c sent slot told)) follows.1
@@ -160,7 +160,7 @@ told-all c (Shut ∷ moves) sent told follows = told-all c moves sent told follo
 fresh-told : (peer : List ℕ) → Told (fresh peer) []
 fresh-told peer = record { within = grind arith; past = refl }
 
-pub told-of : (peer : List ℕ) (moves : List Move) → Follows (fresh peer) moves → Told (after_all (fresh peer) moves) (sendings moves)
+pub told-of : (peer : List ℕ) (moves : List Move) → AreMovesOf (fresh peer) moves → Told (after_all (fresh peer) moves) (sendings moves)
 told-of peer moves follows = told-all (fresh peer) moves [] (fresh-told peer) follows
 
 held : (c : Connection) → ((slot : Slot) → due c ≢ Send slot) → c.over ≡ false → AnswersRun (drop c.sent c.slots) []
@@ -174,7 +174,7 @@ held c none going = by_slots (drop c.sent c.slots) refl
     by_slots [] e = tt
     by_slots (s ∷ ss) e = by_test s (is_answered s.response) (drop-head c.sent c.slots s ss e).0 refl
 
-pub in-order : (peer : List ℕ) (moves : List Move) → Follows (fresh peer) moves → ((slot : Slot) → due (after_all (fresh peer) moves) ≢ Send slot) → AnswersRun (after_all (fresh peer) moves).slots (sendings moves)
+pub in-order : (peer : List ℕ) (moves : List Move) → AreMovesOf (fresh peer) moves → ((slot : Slot) → due (after_all (fresh peer) moves) ≢ Send slot) → AnswersRun (after_all (fresh peer) moves).slots (sendings moves)
 in-order peer moves follows none =
     let c = after_all (fresh peer) moves in
     let told = told-of peer moves follows in
@@ -206,7 +206,7 @@ take-none [] n e = grind (arith, common_steps)
 take-none (x ∷ xs) zero e = absurd (let no : ⊥ = cc in no)
 take-none (x ∷ xs) (suc n) e = ap (λ zs. x ∷ zs) (take-none xs n e)
 
-pub at-end : (peer : List ℕ) (moves : List Move) → Follows (fresh peer) moves → (after_all (fresh peer) moves).closing ≡ true → slice_get (after_all (fresh peer) moves).slots (after_all (fresh peer) moves).sent ≡ None
+pub at-end : (peer : List ℕ) (moves : List Move) → AreMovesOf (fresh peer) moves → (after_all (fresh peer) moves).closing ≡ true → slice_get (after_all (fresh peer) moves).slots (after_all (fresh peer) moves).sent ≡ None
     → due (after_all (fresh peer) moves) ≡ Close
 at-end peer moves follows closing none =
     let c = after_all (fresh peer) moves in

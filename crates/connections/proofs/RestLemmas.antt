@@ -9,7 +9,7 @@ use Rattle.http_front.specs.declared.turn.Turn.TheVariants.{Continue, Whole}
 use Rattle.connections.specs.declared.sending.Sending.{Sending}
 use Rattle.connections.specs.Slots.{Awaits, Cached, Fixed, Interim, IsWritten, MayAnswer, Response, Says, Slot, are_fixed_507, is_answered, is_last}
 use Rattle.connections.specs.Connections.{Close, Connection, Nothing, Send, due, due_at_slot, due_at_turn, due_without_sending, fresh, next_turn}
-use Rattle.connections.specs.Histories.{AreAllTreated, Follows, HaveNoSendingOutOfMemory, IsAtRest, IsOfTurn, Move, after_all, sendings, some_closes}
+use Rattle.connections.specs.Histories.{AreAllTreated, AreMovesOf, HaveNoSendingOutOfMemory, IsAtRest, IsOfTurn, Move, after_all, sendings, some_closes}
 use Rattle.connections.proofs.FixedLemmas.{fixed_is, hit-unfixed}
 use Rattle.connections.proofs.HistoryLemmas.{Past, PastRest, told-of}
 use Rattle.connections.proofs.TurnLemmas.{LastCloses, Open, good-of}
@@ -97,7 +97,7 @@ get-past [] n e = omega arith
 get-past (x ∷ xs) zero e = absurd (let no : ⊥ = cc in no)
 get-past (x ∷ xs) (suc n) e = omega (arith, get-past xs n e)
 
-pub each-treated : (peer : List ℕ) (moves : List Move) → Follows (fresh peer) moves → IsAtRest (due (after_all (fresh peer) moves)) → some_closes (after_all (fresh peer) moves).slots ≡ false → HaveNoSendingOutOfMemory (sendings moves)
+pub each-treated : (peer : List ℕ) (moves : List Move) → AreMovesOf (fresh peer) moves → IsAtRest (due (after_all (fresh peer) moves)) → some_closes (after_all (fresh peer) moves).slots ≡ false → HaveNoSendingOutOfMemory (sendings moves)
     → AreAllTreated (after_all (fresh peer) moves).turns (after_all (fresh peer) moves).ends (after_all (fresh peer) moves).slots
 each-treated peer moves follows rests none memory =
     let c = after_all (fresh peer) moves in

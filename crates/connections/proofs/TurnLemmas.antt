@@ -10,7 +10,7 @@ use Rattle.http_front.specs.declared.turn.Turn.TheVariants.{Continue, Whole}
 use Rattle.connections.specs.declared.awaited.Awaited.{Awaited}
 use Rattle.connections.specs.Slots.{Fixed, Response, Says, Slot, interim_slot, is_answered, is_awaiting, local_response}
 use Rattle.connections.specs.Connections.{Close, Connection, Due, Nothing, Refuse, Send, Treat, with_due_continue, after_turn, due, due_at_slot, due_at_turn, due_without_sending, with_piece, slots_with_end, fresh, next_turn, with_end, with_response, with_sent, with_slot}
-use Rattle.connections.specs.Histories.{AreOfTurns, Ending, Follows, IsEndOr, IsOfEnd, IsOfFault, IsOfTurn, IsSlotOf, Move, Piece, Sent, Shut, Treatment, after_all}
+use Rattle.connections.specs.Histories.{AreOfTurns, Ending, AreMovesOf, IsEndOr, IsOfEnd, IsOfFault, IsOfTurn, IsSlotOf, Move, Piece, Sent, Shut, Treatment, after_all}
 
 -- the slots are those of turns, and none closes the connection
 abbrev pub Open : List Turn → List Slot → Type 0
@@ -262,7 +262,7 @@ good-fed c bytes turns ends good = good-where c.closing c (with_due_continue (re
 good-ending : (c : Connection) (n : Awaited) (r : Response) → r ≢ Fixed → Good c → Good (with_end n r c)
 good-ending c n r other good = record { are = filled-are n r c.turns c.ends c.slots other good.are; open_ = λ e. filled-open n r c.turns c.slots other (good.open_ e); last = λ e. last-filled n r c.slots (good.last e) }
 
-good-all : (c : Connection) (moves : List Move) → Good c → Follows c moves → Good (after_all c moves)
+good-all : (c : Connection) (moves : List Move) → Good c → AreMovesOf c moves → Good (after_all c moves)
 good-all c [] good follows = good
 good-all c (Piece bytes turns ends ∷ moves) good follows = good-all (with_piece bytes turns ends c) moves (good-fed c bytes turns ends good) follows.1
 good-all c (Treatment slot ∷ moves) good follows = good-all (with_due_continue (with_slot slot c)) moves (good-advanced (with_slot slot c) (good-treatment c slot good follows.0)) follows.1
@@ -273,11 +273,11 @@ good-all c (Shut ∷ moves) good follows = good-all c moves good follows.1
 fresh-good : (peer : List ℕ) → Good (fresh peer)
 fresh-good peer = record { are = tt; open_ = λ e. tt; last = λ e. absurd (let no : ⊥ = cc in no) }
 
-pub good-of : (peer : List ℕ) (moves : List Move) → Follows (fresh peer) moves → Good (after_all (fresh peer) moves)
+pub good-of : (peer : List ℕ) (moves : List Move) → AreMovesOf (fresh peer) moves → Good (after_all (fresh peer) moves)
 good-of peer moves follows = good-all (fresh peer) moves (fresh-good peer) follows
 
-pub of-turns : (peer : List ℕ) (moves : List Move) → Follows (fresh peer) moves → AreOfTurns (after_all (fresh peer) moves).turns (after_all (fresh peer) moves).ends (after_all (fresh peer) moves).slots
+pub of-turns : (peer : List ℕ) (moves : List Move) → AreMovesOf (fresh peer) moves → AreOfTurns (after_all (fresh peer) moves).turns (after_all (fresh peer) moves).ends (after_all (fresh peer) moves).slots
 of-turns peer moves follows = (good-of peer moves follows).are
 
-pub last-of : (peer : List ℕ) (moves : List Move) → Follows (fresh peer) moves → (after_all (fresh peer) moves).closing ≡ true → LastCloses (after_all (fresh peer) moves).slots
+pub last-of : (peer : List ℕ) (moves : List Move) → AreMovesOf (fresh peer) moves → (after_all (fresh peer) moves).closing ≡ true → LastCloses (after_all (fresh peer) moves).slots
 last-of peer moves follows e = (good-of peer moves follows).last e

@@ -64,9 +64,9 @@ IsMove c Shut = due c ≡ Close
 IsMove c _ = Unit {0}
 
 -- each of these may happen to the connection in the state that those before it left
-abbrev pub Follows : Connection → List Move → Type 0
-Follows c [] = Unit {0}
-Follows c (move ∷ moves) = IsMove c move × Follows (connection_after_move c move) moves
+abbrev pub AreMovesOf : Connection → List Move → Type 0
+AreMovesOf c [] = Unit {0}
+AreMovesOf c (move ∷ moves) = IsMove c move × AreMovesOf (connection_after_move c move) moves
 
 -- the connection after all of these
 abbrev pub after_all : Connection → List Move → Connection
@@ -121,12 +121,12 @@ pub record AreAllTreated (turns : List Turn) (ends : End) (slots : List Slot) : 
 
 -- this is so of a connection that was just opened, whatever happens to it then
 abbrev pub WhateverHappens : (Connection → List Move → Type 0) → Type 0
-WhateverHappens IsSo = (peer : List ℕ) (moves : List Move) → Follows (fresh peer) moves → IsSo (after_all (fresh peer) moves) moves
+WhateverHappens IsSo = (peer : List ℕ) (moves : List Move) → AreMovesOf (fresh peer) moves → IsSo (after_all (fresh peer) moves) moves
 
 -- Where nothing is due of the connection but its end, each of its turns has its slot, and so has the fault that ends them, unless a slot closes
 -- the connection, or memory ran out as something was sent.
-abbrev pub AreTreatedIfAtRest : Connection → List Move → Type 0
-AreTreatedIfAtRest c moves = IsAtRest (due c) → some_closes c.slots ≡ false → HaveNoSendingOutOfMemory (sendings moves) → AreAllTreated c.turns c.ends c.slots
+abbrev pub AreTreatedIfAtRestUnlessCut : Connection → List Move → Type 0
+AreTreatedIfAtRestUnlessCut c moves = IsAtRest (due c) → some_closes c.slots ≡ false → HaveNoSendingOutOfMemory (sendings moves) → AreAllTreated c.turns c.ends c.slots
 
 -- ---- what the code keeps of a connection, before and after
 

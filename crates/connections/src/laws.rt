@@ -7,7 +7,7 @@ ghost use Rattle.cache_log.specs.Entries.{LogEntry};
 ghost use Rattle.http_front.specs.Answers.{answer_bytes, fixed_507};
 ghost use Rattle.connections.specs.Slots.{Slot, fixed_answer, IsFixedWhole, IsHitIfPermitted};
 ghost use Rattle.connections.specs.Connections.{Close, Send, due};
-ghost use Rattle.connections.specs.Histories.{AnswersRun, AreOfTurns, sendings, AreTreatedIfAtRest, WhateverHappens};
+ghost use Rattle.connections.specs.Histories.{AnswersRun, AreOfTurns, sendings, AreTreatedIfAtRestUnlessCut, WhateverHappens};
 
 /// Whatever happens to a connection: once nothing more can be sent, what was sent on it answers its slots in their order, each once,
 /// up to the first that waits, and nothing after one that closes the connection.
@@ -29,7 +29,7 @@ pub fn a_closing_connection_ends()
 /// Whatever happens to a connection: where nothing is due but its end, each turn that its stream spells has its slot, and so has the
 /// fault that ends them, unless a slot closes the connection, or memory ran out as something was sent.
 pub fn each_turn_is_treated()
-    ensures { WhateverHappens AreTreatedIfAtRest }
+    ensures { WhateverHappens AreTreatedIfAtRestUnlessCut }
 {}
 
 /// The fixed answer, sent whole where the connection closes after it, is the fixed 507 (`bytes`); no other answer is, nor is it in another

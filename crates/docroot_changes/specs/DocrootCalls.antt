@@ -65,8 +65,8 @@ DropsTakeDocrootCalls = (result : Result ⊤ FileFault) (asked made : Option (Li
     → OnOk result (made ≡ told_calls asked (drop_calls key)) → IfErr result (IsDropLeft asked made before after key) → MakesDocrootCalls asked made
 
 -- some of the calls were made that read a page, its head first
-abbrev pub ReadsPageFirst : Option (List Call) → Option (List Call) → PageKey → Type 0
-ReadsPageFirst asked made key = MadeFirst asked made (Get (page_head_name key) ∷ Get (page_body_name key) ∷ [])
+abbrev pub ReadsHeadFirst : Option (List Call) → Option (List Call) → PageKey → Type 0
+ReadsHeadFirst asked made key = MadeFirst asked made (Get (page_head_name key) ∷ Get (page_body_name key) ∷ [])
 
 -- a reading of a page's head makes only such calls, whatever it answers
 abbrev pub HeadReadingsTakeDocrootCalls : Type 0

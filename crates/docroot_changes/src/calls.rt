@@ -5,7 +5,7 @@ ghost use Rattle.sp_outside.specs.Calls.{Call, Get, Names, Put, Remove, told_cal
 ghost use Rattle.sp_outside.specs.FileNames.{has_segments, is_inside};
 ghost use Rattle.cover_rules.specs.Pages.{IsPageKey};
 ghost use Rattle.cover_rules.specs.declared.page.PageKey.{PageKey};
-ghost use Rattle.docroot_changes.specs.DocrootCalls.{IsDocrootCall, MakesDocrootCalls, leads_in, CallsAddUp, FollowsByDocrootCalls, PutsTakeDocrootCalls, DropsTakeDocrootCalls, ReadsPageFirst, HeadReadingsTakeDocrootCalls, BodyReadingsTakeDocrootCalls, TouchesTakeDocrootCalls, StampReadingsTakeDocrootCalls, OpeningsTakeDocrootCalls};
+ghost use Rattle.docroot_changes.specs.DocrootCalls.{IsDocrootCall, MakesDocrootCalls, leads_in, CallsAddUp, FollowsByDocrootCalls, PutsTakeDocrootCalls, DropsTakeDocrootCalls, ReadsHeadFirst, HeadReadingsTakeDocrootCalls, BodyReadingsTakeDocrootCalls, TouchesTakeDocrootCalls, StampReadingsTakeDocrootCalls, OpeningsTakeDocrootCalls};
 
 use docroot_format::{names_lie_in_the_docroot, names_tell_their_files};
 
@@ -31,7 +31,7 @@ pub fn docroot_calls_lead_nowhere_out()
 pub fn pages_take_docroot_calls()
     ensures put { PutsTakeDocrootCalls }
     ensures dropped { DropsTakeDocrootCalls }
-    ensures got { (asked made : Option (List Call)) (key : PageKey) → IsPageKey key → ReadsPageFirst asked made key → MakesDocrootCalls asked made }
+    ensures got { (asked made : Option (List Call)) (key : PageKey) → IsPageKey key → ReadsHeadFirst asked made key → MakesDocrootCalls asked made }
     ensures head { HeadReadingsTakeDocrootCalls }
     ensures known { BodyReadingsTakeDocrootCalls }
 {

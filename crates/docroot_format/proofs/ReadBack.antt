@@ -7,6 +7,7 @@ use Rattle.std.proofs.lemmas.List.{length-append, take_at, drop_at}
 use Rattle.sp_base.specs.Bytes.{is_digit}
 use Rattle.sp_base.specs.Limits.{greatest_u64}
 use Rattle.sp_base.specs.MediaTypes.{is_kind}
+use Rattle.cover_rules.specs.declared.stamp.Stamp.{Stamp}
 use Rattle.docroot_format.specs.Readings.{digit_fits, digits_from, begins_number, leading_number, after_word, is_end, stamp_of, stat_of, epoch_of, stored_kind, HeadLine, body_of, head_of}
 use Rattle.docroot_format.specs.Texts.{head_text, stat_text, epoch_text}
 use Rattle.docroot_format.proofs.NameLemmas.{append_both}
@@ -80,11 +81,11 @@ number_read n t short none =
     ap (λ b. cond b (Some (digits_from 0 (decimal n ++ t))) None) (begins n t short none)
     ∙ ap Some (digits_read n t short ∙ ends n t none)
 
-abbrev pair : ℕ → ℕ × List ℕ → (ℕ × ℕ) × List ℕ
-pair e q = ((e, q.0), q.1)
+abbrev pair : ℕ → ℕ × List ℕ → Stamp × List ℕ
+pair e q = (record { epoch = e; count = q.0 }, q.1)
 
 stamp_read : (e c : ℕ) (t : List ℕ) → e < 2 ^ 64 → c < 2 ^ 64 → is_digit (slice_index t 0) ≡ false
-    → stamp_of (decimal e ++ (codes " " ++ (decimal c ++ t))) ≡ Some ((e, c), t)
+    → stamp_of (decimal e ++ (codes " " ++ (decimal c ++ t))) ≡ Some (record { epoch = e; count = c }, t)
 unfolding stamp_of after_word
 stamp_read e c t short_e short_c none =
     ap (option_and_then (λ p. option_and_then (λ rest. option_map (pair p.0) (leading_number rest)) (after_word (codes " ") p.1)))
@@ -95,11 +96,11 @@ stamp_read e c t short_e short_c none =
 flat : (a b c d e : List ℕ) → (((a ++ b) ++ c) ++ d) ++ e ≡ a ++ (b ++ (c ++ (d ++ e)))
 flat a b c d e = sym (append_both ((a ++ b) ++ c) d e) ∙ sym (append_both (a ++ b) c (d ++ e)) ∙ sym (append_both a b (c ++ (d ++ e)))
 
-pub stat_read : (e c : ℕ) → e < 2 ^ 64 → c < 2 ^ 64 → stat_of (stat_text e c) ≡ Some (e, c)
+pub stat_read : (stamp : Stamp) → stamp.epoch < 2 ^ 64 → stamp.count < 2 ^ 64 → stat_of (stat_text stamp) ≡ Some stamp
 unfolding stat_of after_word
-stat_read e c short_e short_c =
-    ap stat_of (flat (codes "stat 1 ") (decimal e) (codes " ") (decimal c) (codes "\n"))
-    ∙ ap (option_and_then (λ s. cond (is_end s.1) (Some s.0) None)) (stamp_read e c (codes "\n") short_e short_c refl)
+stat_read stamp short_e short_c =
+    ap stat_of (flat (codes "stat 1 ") (decimal stamp.epoch) (codes " ") (decimal stamp.count) (codes "\n"))
+    ∙ ap (option_and_then (λ s. cond (is_end s.1) (Some s.0) None)) (stamp_read stamp.epoch stamp.count (codes "\n") short_e short_c refl)
 
 above_zero : (e : ℕ) → 0 < e → nat_lt 0 e ≡ true
 above_zero e some = grind (arith, nat_tests)
@@ -114,25 +115,25 @@ kind_read kind good =
     let len : length (kind ++ codes "\n") - 1 ≡ length kind = omega (arith, length-append kind (codes "\n")) in
     rw (len, take_at kind (codes "\n") (length kind) refl, drop_at kind (codes "\n") (length kind) refl, good) refl
 
-abbrev line : ℕ × ℕ → ℕ → List ℕ → HeadLine
-line stamp n kind = record { epoch = stamp.0; count = stamp.1; size = n; kind = kind }
+abbrev line : Stamp → ℕ → List ℕ → HeadLine
+line stamp n kind = record { stamp = stamp; size = n; kind = kind }
 
-body_read : (stamp : ℕ × ℕ) (n : ℕ) (kind : List ℕ) → n < 2 ^ 64 → is_kind kind ≡ true
-    → body_of stamp (codes " " ++ (decimal n ++ (codes " " ++ (kind ++ codes "\n")))) ≡ Some (record { epoch = stamp.0; count = stamp.1; size = n; kind = kind })
+body_read : (stamp : Stamp) (n : ℕ) (kind : List ℕ) → n < 2 ^ 64 → is_kind kind ≡ true
+    → body_of stamp (codes " " ++ (decimal n ++ (codes " " ++ (kind ++ codes "\n")))) ≡ Some (record { stamp = stamp; size = n; kind = kind })
 unfolding body_of after_word
 body_read stamp n kind short good =
     ap (option_and_then (λ p. option_map (line stamp p.0) (option_and_then stored_kind (after_word (codes " ") p.1))))
     (number_read n (codes " " ++ (kind ++ codes "\n")) short refl)
     ∙ ap (option_map (line stamp n)) (kind_read kind good)
 
-pub head_read : (e c n : ℕ) (kind : List ℕ) → e < 2 ^ 64 → c < 2 ^ 64 → n < 2 ^ 64 → IsTrue (is_kind kind)
-    → head_of (head_text e c n kind) ≡ Some (record { epoch = e; count = c; size = n; kind = kind })
+pub head_read : (stamp : Stamp) (n : ℕ) (kind : List ℕ) → stamp.epoch < 2 ^ 64 → stamp.count < 2 ^ 64 → n < 2 ^ 64 → IsTrue (is_kind kind)
+    → head_of (head_text stamp n kind) ≡ Some (record { stamp = stamp; size = n; kind = kind })
 unfolding head_of after_word
-head_read e c n kind short_e short_c short_n good =
+head_read stamp n kind short_e short_c short_n good =
     let rest : List ℕ = codes " " ++ (decimal n ++ (codes " " ++ (kind ++ codes "\n"))) in
-    let leading : List ℕ = ((codes "page 1 " ++ decimal e) ++ codes " ") ++ decimal c in
+    let leading : List ℕ = ((codes "page 1 " ++ decimal stamp.epoch) ++ codes " ") ++ decimal stamp.count in
     ap head_of (sym (append_both (((leading ++ codes " ") ++ decimal n) ++ codes " ") kind (codes "\n"))
     ∙ flat leading (codes " ") (decimal n) (codes " ") (kind ++ codes "\n")
-    ∙ flat (codes "page 1 ") (decimal e) (codes " ") (decimal c) rest)
-    ∙ ap (option_and_then (λ s. body_of s.0 s.1)) (stamp_read e c rest short_e short_c refl)
-    ∙ body_read (e, c) n kind short_n good
+    ∙ flat (codes "page 1 ") (decimal stamp.epoch) (codes " ") (decimal stamp.count) rest)
+    ∙ ap (option_and_then (λ s. body_of s.0 s.1)) (stamp_read stamp.epoch stamp.count rest short_e short_c refl)
+    ∙ body_read stamp n kind short_n good

@@ -10,6 +10,7 @@ use Rattle.std.proofs.lemmas.List.{take-append-drop}
 use Rattle.sp_base.specs.Bytes.{is_digit}
 use Rattle.sp_base.specs.Limits.{greatest_u64}
 use Rattle.sp_base.specs.MediaTypes.{is_kind}
+use Rattle.cover_rules.specs.declared.stamp.Stamp.{Stamp}
 use Rattle.docroot_format.specs.Readings.{digit_fits, digits_from, begins_number, leading_number, after_word, is_end, stamp_of, stat_of, epoch_of, stored_kind, HeadLine, body_of, head_of}
 use Rattle.docroot_format.specs.Texts.{head_text, stat_text, epoch_text}
 use Rattle.docroot_format.proofs.NameLemmas.{append_both}
@@ -118,7 +119,7 @@ map_some f (Some x) y e = record { first = x; is = refl; same = cc (e) }
 nested : (a b c d e : List ℕ) → a ++ (b ++ (c ++ (d ++ e))) ≡ (((a ++ b) ++ c) ++ d) ++ e
 nested a b c d e = append_both a b (c ++ (d ++ e)) ∙ append_both (a ++ b) c (d ++ e) ∙ append_both ((a ++ b) ++ c) d e
 
-stamp_spelled : (text : List ℕ) (s : (ℕ × ℕ) × List ℕ) → stamp_of text ≡ Some s → text ≡ decimal s.0.0 ++ (codes " " ++ (decimal s.0.1 ++ s.1))
+stamp_spelled : (text : List ℕ) (s : Stamp × List ℕ) → stamp_of text ≡ Some s → text ≡ decimal s.0.epoch ++ (codes " " ++ (decimal s.0.count ++ s.1))
 unfolding stamp_of
 stamp_spelled text s e =
     let a = then_some _ (leading_number text) s e in
@@ -127,19 +128,19 @@ stamp_spelled text s e =
     number_spelled text a.first a.is
     ∙ ap (λ t. decimal a.first.0 ++ t) (word_spelled (codes " ") a.first.1 b.first b.is)
     ∙ ap (λ t. decimal a.first.0 ++ (codes " " ++ t)) (number_spelled b.first c.first c.is)
-    ∙ ap (λ (z : (ℕ × ℕ) × List ℕ). decimal z.0.0 ++ (codes " " ++ (decimal z.0.1 ++ z.1))) c.same
+    ∙ ap (λ (z : Stamp × List ℕ). decimal z.0.epoch ++ (codes " " ++ (decimal z.0.count ++ z.1))) c.same
 
-pub stat_spelled : (text : List ℕ) (epoch count : ℕ) → stat_of text ≡ Some (epoch, count) → text ≡ stat_text epoch count
+pub stat_spelled : (text : List ℕ) (stamp : Stamp) → stat_of text ≡ Some stamp → text ≡ stat_text stamp
 unfolding stat_of
-stat_spelled text epoch count e =
-    let a = then_some _ (option_and_then stamp_of (after_word (codes "stat 1 ") text)) (epoch, count) e in
+stat_spelled text stamp e =
+    let a = then_some _ (option_and_then stamp_of (after_word (codes "stat 1 ") text)) stamp e in
     let b = then_some stamp_of (after_word (codes "stat 1 ") text) a.first a.is in
-    let s = some_of (is_end a.first.1) a.first.0 (epoch, count) a.next in
+    let s = some_of (is_end a.first.1) a.first.0 stamp a.next in
     word_spelled (codes "stat 1 ") text b.first b.is
     ∙ ap (λ t. codes "stat 1 " ++ t) (stamp_spelled b.first a.first b.next)
-    ∙ ap (λ t. codes "stat 1 " ++ (decimal a.first.0.0 ++ (codes " " ++ (decimal a.first.0.1 ++ t)))) (end_spelled a.first.1 s.0)
-    ∙ nested (codes "stat 1 ") (decimal a.first.0.0) (codes " ") (decimal a.first.0.1) (codes "\n")
-    ∙ ap (λ (z : ℕ × ℕ). stat_text z.0 z.1) s.1
+    ∙ ap (λ t. codes "stat 1 " ++ (decimal a.first.0.epoch ++ (codes " " ++ (decimal a.first.0.count ++ t)))) (end_spelled a.first.1 s.0)
+    ∙ nested (codes "stat 1 ") (decimal a.first.0.epoch) (codes " ") (decimal a.first.0.count) (codes "\n")
+    ∙ ap stat_text s.1
 
 pub epoch_spelled : (text : List ℕ) (epoch : ℕ) → epoch_of text ≡ Some epoch → text ≡ epoch_text epoch
 unfolding epoch_of
@@ -193,8 +194,8 @@ kind_spelled text kind e =
     ∙ ap (λ (t : List ℕ). take n text ++ t) (end_spelled (drop n text) (first_of (is_end (drop n text)) (is_kind (take n text)) s.0))
     ∙ ap (λ (t : List ℕ). t ++ codes "\n") s.1
 
-body_spelled : (stamp : ℕ × ℕ) (text : List ℕ) (line : HeadLine) → body_of stamp text ≡ Some line
-    → (text ≡ codes " " ++ (decimal line.size ++ (codes " " ++ (line.kind ++ codes "\n")))) × ((stamp.0 ≡ line.epoch) × (stamp.1 ≡ line.count))
+body_spelled : (stamp : Stamp) (text : List ℕ) (line : HeadLine) → body_of stamp text ≡ Some line
+    → (text ≡ codes " " ++ (decimal line.size ++ (codes " " ++ (line.kind ++ codes "\n")))) × (stamp ≡ line.stamp)
 unfolding body_of
 body_spelled stamp text line e =
     let a = then_some _ (option_and_then leading_number (after_word (codes " ") text)) line e in
@@ -206,14 +207,14 @@ body_spelled stamp text line e =
           ∙ ap (λ t. codes " " ++ (decimal a.first.0 ++ t)) (word_spelled (codes " ") a.first.1 d.first d.is)
           ∙ ap (λ t. codes " " ++ (decimal a.first.0 ++ (codes " " ++ t))) (kind_spelled d.first c.first d.next)
           ∙ ap (λ (l : HeadLine). codes " " ++ (decimal l.size ++ (codes " " ++ (l.kind ++ codes "\n")))) c.same,
-      (ap (λ (l : HeadLine). l.epoch) c.same, ap (λ (l : HeadLine). l.count) c.same),
+      ap (λ (l : HeadLine). l.stamp) c.same,
     )
 
 nested_more : (a b c d e f g h i : List ℕ) → a ++ (b ++ (c ++ (d ++ (e ++ (f ++ (g ++ (h ++ i))))))) ≡ (((((((a ++ b) ++ c) ++ d) ++ e) ++ f) ++ g) ++ h) ++ i
 nested_more a b c d e f g h i = nested a b c d (e ++ (f ++ (g ++ (h ++ i)))) ∙ nested (((a ++ b) ++ c) ++ d) e f g (h ++ i)
     ∙ append_both ((((((a ++ b) ++ c) ++ d) ++ e) ++ f) ++ g) h i
 
-pub head_spelled : (text : List ℕ) (line : HeadLine) → head_of text ≡ Some line → text ≡ head_text line.epoch line.count line.size line.kind
+pub head_spelled : (text : List ℕ) (line : HeadLine) → head_of text ≡ Some line → text ≡ head_text line.stamp line.size line.kind
 unfolding head_of
 head_spelled text line e =
     let a = then_some _ (option_and_then stamp_of (after_word (codes "page 1 ") text)) line e in
@@ -222,7 +223,6 @@ head_spelled text line e =
     let end : List ℕ = codes " " ++ (decimal line.size ++ (codes " " ++ (line.kind ++ codes "\n"))) in
     word_spelled (codes "page 1 ") text b.first b.is
     ∙ ap (λ t. codes "page 1 " ++ t) (stamp_spelled b.first a.first b.next)
-    ∙ ap (λ t. codes "page 1 " ++ (decimal a.first.0.0 ++ (codes " " ++ (decimal a.first.0.1 ++ t)))) body.0
-    ∙ ap (λ n. codes "page 1 " ++ (decimal n ++ (codes " " ++ (decimal a.first.0.1 ++ end)))) body.1.0
-    ∙ ap (λ n. codes "page 1 " ++ (decimal line.epoch ++ (codes " " ++ (decimal n ++ end)))) body.1.1
-    ∙ nested_more (codes "page 1 ") (decimal line.epoch) (codes " ") (decimal line.count) (codes " ") (decimal line.size) (codes " ") line.kind (codes "\n")
+    ∙ ap (λ t. codes "page 1 " ++ (decimal a.first.0.epoch ++ (codes " " ++ (decimal a.first.0.count ++ t)))) body.0
+    ∙ ap (λ (s : Stamp). codes "page 1 " ++ (decimal s.epoch ++ (codes " " ++ (decimal s.count ++ end)))) body.1
+    ∙ nested_more (codes "page 1 ") (decimal line.stamp.epoch) (codes " ") (decimal line.stamp.count) (codes " ") (decimal line.size) (codes " ") line.kind (codes "\n")

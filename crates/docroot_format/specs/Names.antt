@@ -50,12 +50,12 @@ abbrev pub is_file_name_byte : ℕ → Bool
 is_file_name_byte b = is_plain_name_byte b || b == 37
 
 -- a byte of a name: one of a file's name, or the slash between two
-abbrev pub is_name_byte : ℕ → Bool
-is_name_byte b = is_file_name_byte b || b == 47
+abbrev pub is_docroot_name_byte : ℕ → Bool
+is_docroot_name_byte b = is_file_name_byte b || b == 47
 
 -- A name that lies in the docroot: one that leads nowhere out of a disk's folder, of these bytes alone.
 abbrev pub is_docroot_name : Text → Bool
-is_docroot_name name = is_inside name && list_all is_name_byte name
+is_docroot_name name = is_inside name && list_all is_docroot_name_byte name
 
 -- a page file, of a body or a head: a name of segments of which the last doesn't begin with a dot
 abbrev pub is_page_file : List ℕ → Bool

@@ -7,6 +7,7 @@ use Rattle.sp_base.specs.Bytes.{is_digit}
 use Rattle.sp_base.specs.Limits.{greatest_u64}
 use Rattle.sp_base.specs.MediaTypes.{is_kind}
 use Rattle.sp_base.specs.Texts.{Text}
+use Rattle.cover_rules.specs.declared.stamp.Stamp.{Stamp}
 use Rattle.docroot_format.specs.Texts.{head_text}
 
 -- the text begins with a digit that fits after a number
@@ -39,12 +40,12 @@ after_word word text = if starts_with nat_eq text word then Some (drop (length w
 abbrev pub is_end : List ℕ → Bool
 is_end text = pointwise nat_eq text (codes "\n")
 
--- the stamp at the beginning of a text, epoch and count, and what is left
-unfoldable pub stamp_of : List ℕ → Option ((ℕ × ℕ) × List ℕ)
-stamp_of text = option_and_then (λ e. option_and_then (λ rest. option_map (λ c. ((e.0, c.0), c.1)) (leading_number rest)) (after_word (codes " ") e.1)) (leading_number text)
+-- the stamp at the beginning of a text, and what is left
+unfoldable pub stamp_of : List ℕ → Option (Stamp × List ℕ)
+stamp_of text = option_and_then (λ e. option_and_then (λ rest. option_map (λ c. (record { epoch = e.0; count = c.0 }, c.1)) (leading_number rest)) (after_word (codes " ") e.1)) (leading_number text)
 
 -- the stamp that a .stat file holds
-unfoldable pub stat_of : List ℕ → Option (ℕ × ℕ)
+unfoldable pub stat_of : List ℕ → Option Stamp
 stat_of text = option_and_then (λ s. if is_end s.1 then Some s.0 else None) (option_and_then stamp_of (after_word (codes "stat 1 ") text))
 
 -- the epoch that a file holds, from 1 on
@@ -57,19 +58,18 @@ stored_kind text = if is_end (drop (length text - 1) text) && is_kind (take (len
 
 -- what a head says: the stamp, and the length and the media type of the body
 pub record HeadLine : Type 0 where
-  pub epoch : ℕ
-  pub count : ℕ
+  pub stamp : Stamp
   pub size : ℕ
   pub kind : List ℕ
 
 -- the rest of a head after its stamp: the length and the media type of the body
-unfoldable pub body_of : (ℕ × ℕ) → List ℕ → Option HeadLine
-body_of stamp text = option_and_then (λ n. option_map (λ kind. record { epoch = stamp.0; count = stamp.1; size = n.0; kind = kind }) (option_and_then stored_kind (after_word (codes " ") n.1))) (option_and_then leading_number (after_word (codes " ") text))
+unfoldable pub body_of : Stamp → List ℕ → Option HeadLine
+body_of stamp text = option_and_then (λ n. option_map (λ kind. record { stamp = stamp; size = n.0; kind = kind }) (option_and_then stored_kind (after_word (codes " ") n.1))) (option_and_then leading_number (after_word (codes " ") text))
 
 -- the head that bytes are
 unfoldable pub head_of : List ℕ → Option HeadLine
 head_of text = option_and_then (λ s. body_of s.0 s.1) (option_and_then stamp_of (after_word (codes "page 1 ") text))
 
 -- the line of a head that says this, of a media type, is read back
-abbrev pub IsHeadReadBackIfKind : ℕ → ℕ → ℕ → Text → Type 0
-IsHeadReadBackIfKind epoch count size kind = IsTrue (is_kind kind) → head_of (head_text epoch count size kind) ≡ Some (record { epoch = epoch; count = count; size = size; kind = kind })
+abbrev pub IsHeadReadBackIfKind : Stamp → ℕ → Text → Type 0
+IsHeadReadBackIfKind stamp size kind = IsTrue (is_kind kind) → head_of (head_text stamp size kind) ≡ Some (record { stamp = stamp; size = size; kind = kind })

@@ -1,14 +1,15 @@
 -- The texts of the files of the docroot but for bodies, as they are written.
 -- `most_digits_of_u64` and `longest_stat_text` are needed by private functions alone.
 use Rattle.std.specs.Prelude.{◌++◌, ℕ, List, codes, decimal}
+use Rattle.cover_rules.specs.declared.stamp.Stamp.{Stamp}
 
 -- the head of a page: its stamp, the length of its body, and the body's media type
-abbrev pub head_text : ℕ → ℕ → ℕ → List ℕ → List ℕ
-head_text epoch count size kind = codes "page 1 " ++ decimal epoch ++ codes " " ++ decimal count ++ codes " " ++ decimal size ++ codes " " ++ kind ++ codes "\n"
+abbrev pub head_text : Stamp → ℕ → List ℕ → List ℕ
+head_text stamp size kind = codes "page 1 " ++ decimal stamp.epoch ++ codes " " ++ decimal stamp.count ++ codes " " ++ decimal size ++ codes " " ++ kind ++ codes "\n"
 
 -- the stamp of a folder
-abbrev pub stat_text : ℕ → ℕ → List ℕ
-stat_text epoch count = codes "stat 1 " ++ decimal epoch ++ codes " " ++ decimal count ++ codes "\n"
+abbrev pub stat_text : Stamp → List ℕ
+stat_text stamp = codes "stat 1 " ++ decimal stamp.epoch ++ codes " " ++ decimal stamp.count ++ codes "\n"
 
 -- the most digits of a number of 64 bits
 abbrev pub most_digits_of_u64 : ℕ

@@ -4,13 +4,13 @@ ghost use Rattle.sp_base.specs.MediaTypes as kinds;
 ghost use Rattle.docroot_format.specs.Readings as spec;
 
 use crate::readings::{after_word, is_end, number, stamp};
+use cover_rules::Stamp;
 use sp_base::is_kind;
 
 /// What the head of a page says.
 #[derive(Clone, Copy, Drop)]
 pub struct PageHead<'a> {
-    pub epoch: u64,
-    pub count: u64,
+    pub stamp: Stamp,
     /// The length of the body.
     pub size: u64,
     /// The media type of the body.
@@ -45,18 +45,13 @@ fn kind(text: &[u8]) -> Option<&str>
 /// The head that bytes are.
 #[tactic(auto, unfolding(crate::specs::Readings::head_of, crate::specs::Readings::body_of))]
 pub fn head_in(text: &[u8]) -> Option<PageHead<'_>>
-    ensures { option_map (λ h. record { epoch = h.epoch; count = h.count; size = h.size; kind = h.kind.now }) result ≡ spec.head_of text.now }
+    ensures { option_map (λ h. record { stamp = h.stamp; size = h.size; kind = h.kind.now }) result ≡ spec.head_of text.now }
 {
     let rest = after_word(b"page 1 ", text)?;
-    let ((epoch, count), rest) = stamp(rest)?;
+    let (stamp, rest) = stamp(rest)?;
     let rest = after_word(b" ", rest)?;
     let (size, rest) = number(rest)?;
     let rest = after_word(b" ", rest)?;
     let kind = kind(rest)?;
-    Some(PageHead {
-        epoch,
-        count,
-        size,
-        kind,
-    })
+    Some(PageHead { stamp, size, kind })
 }

@@ -1,9 +1,10 @@
 //! What follows from the definitions of names and texts: laws, on functions that do nothing.
 ghost use Rattle.std.specs.Prelude.{◌≡◌, ◌≢◌, ◌<◌, ◌^◌, ◌++◌, ◌∷◌, [], ℕ, List, IsTrue, Some, false};
 ghost use Rattle.cover_rules.specs.declared.page.PageKey.{PageKey};
+ghost use Rattle.cover_rules.specs.declared.stamp.Stamp.{Stamp};
 ghost use Rattle.cover_rules.specs.declared.invalidation.Invalidation.{Invalidation};
 ghost use Rattle.cover_rules.specs.Coverage.{deletes, stat_folder};
-ghost use Rattle.cover_rules.specs.Pages.{IsPageKey, page_key_of};
+ghost use Rattle.cover_rules.specs.Pages.{IsPageKey};
 ghost use Rattle.sp_base.specs.Paths.{is_path, mangled_segs};
 ghost use Rattle.sp_outside.specs.FileNames.{beside_ending};
 ghost use Rattle.docroot_format.specs.Names.{body_name, epoch_name, have_names, head_name, is_docroot_name, is_page_file, is_place, is_stat_file, stat_name, IsFolder, HaveBytes, IsTouchedBy};
@@ -16,16 +17,16 @@ use sp_base::{mangling_and_unmangling, segments_and_their_spelling};
 
 /// A page that has a key has files, and so have the .stat files of its folder.
 pub fn a_page_has_files()
-    ensures page { (path : Segments) (key : PageKey) → page_key_of path ≡ Some key → IsTrue (is_place key.folder key.file) }
-    ensures folder { (path : Segments) (key : PageKey) → page_key_of path ≡ Some key → IsTrue (have_names key.folder) }
+    ensures page { (key : PageKey) → IsPageKey key → IsTrue (is_place key.folder key.file) }
+    ensures folder { (key : PageKey) → IsPageKey key → IsTrue (have_names key.folder) }
 {}
 
 /// The folder and the file of a page's key are mangled, and so are the folders that may have stamps for it: those of the key's folder,
 /// and each folder that an invalidation touches. Each of their segments has a file name. A folder has one .stat file however it is spelled.
 pub fn folders_are_mangled()
-    ensures page { (path : Segments) (key : PageKey) → page_key_of path ≡ Some key → IsFolder key.folder }
-    ensures file { (path : Segments) (key : PageKey) → page_key_of path ≡ Some key → mangled_segs (key.file ∷ []) ≡ key.file ∷ [] }
-    ensures stat { (level : ℕ) (path : Segments) (key : PageKey) → page_key_of path ≡ Some key → IsFolder (stat_folder level key) }
+    ensures page { (key : PageKey) → IsPageKey key → IsFolder key.folder }
+    ensures file { (key : PageKey) → IsPageKey key → mangled_segs (key.file ∷ []) ≡ key.file ∷ [] }
+    ensures stat { (level : ℕ) (key : PageKey) → IsPageKey key → IsFolder (stat_folder level key) }
     ensures touched { (level : ℕ) (inv : Invalidation) (folder : Segments) → IsTouchedBy level inv folder → IsFolder folder }
     ensures names { (folder : Segments) → IsFolder folder → IsTrue (have_names (mangled_segs folder)) }
     ensures one { (folder : Segments) → stat_name (mangled_segs folder) ≡ stat_name folder }
@@ -47,16 +48,16 @@ pub fn folders_of_stamps_are_paths()
 
 /// The texts that are written read as what they were written of.
 pub fn texts_are_read_back()
-    ensures head { (epoch count size : ℕ) (kind : Text) → epoch < 2 ^ 64 → count < 2 ^ 64 → size < 2 ^ 64 → IsHeadReadBackIfKind epoch count size kind }
-    ensures stat { (epoch count : ℕ) → epoch < 2 ^ 64 → count < 2 ^ 64 → stat_of (stat_text epoch count) ≡ Some (epoch, count) }
+    ensures head { (stamp : Stamp) (size : ℕ) (kind : Text) → stamp.epoch < 2 ^ 64 → stamp.count < 2 ^ 64 → size < 2 ^ 64 → IsHeadReadBackIfKind stamp size kind }
+    ensures stat { (stamp : Stamp) → stamp.epoch < 2 ^ 64 → stamp.count < 2 ^ 64 → stat_of (stat_text stamp) ≡ Some stamp }
     ensures epoch { (epoch : ℕ) → 0 < epoch → epoch < 2 ^ 64 → epoch_of (epoch_text epoch) ≡ Some epoch }
 {}
 
 /// What reads as a head, a stamp or the number of a session is the text of it: a text of one form has no other spelling. The number of a
 /// session is from 1 on and below 2^64.
 pub fn what_reads_is_its_text()
-    ensures head { (text : Text) (line : HeadLine) → head_of text ≡ Some line → text ≡ head_text line.epoch line.count line.size line.kind }
-    ensures stat { (text : Text) (epoch count : ℕ) → stat_of text ≡ Some (epoch, count) → text ≡ stat_text epoch count }
+    ensures head { (text : Text) (line : HeadLine) → head_of text ≡ Some line → text ≡ head_text line.stamp line.size line.kind }
+    ensures stat { (text : Text) (stamp : Stamp) → stat_of text ≡ Some stamp → text ≡ stat_text stamp }
     ensures epoch { (text : Text) (epoch : ℕ) → epoch_of text ≡ Some epoch → text ≡ epoch_text epoch }
     ensures fits { (text : Text) (epoch : ℕ) → epoch_of text ≡ Some epoch → (0 < epoch) × (epoch < 2 ^ 64) }
 {}

@@ -2,6 +2,8 @@
 ghost use Rattle.std.specs.Prelude.{◌≡◌, ◌<◌, drop, length, option_map};
 ghost use Rattle.docroot_format.specs.Readings as spec;
 
+use cover_rules::Stamp;
+
 // The number with the next digit, where it fits.
 #[tactic(auto, unfolding(crate::specs::Readings::digit_fits))]
 fn next(number: u64, text: &[u8]) -> Option<u64>
@@ -84,18 +86,18 @@ pub(crate) fn is_end(text: &[u8]) -> bool
 }
 
 #[tactic(auto, unfolding(crate::specs::Readings::stamp_of))]
-pub(crate) fn stamp(text: &[u8]) -> Option<((u64, u64), &[u8])>
+pub(crate) fn stamp(text: &[u8]) -> Option<(Stamp, &[u8])>
     ensures { option_map (λ p. (p.0, p.1.now)) result ≡ spec.stamp_of text.now }
 {
     let (epoch, rest) = number(text)?;
     let rest = after_word(b" ", rest)?;
     let (count, rest) = number(rest)?;
-    Some(((epoch, count), rest))
+    Some((Stamp { epoch, count }, rest))
 }
 
-/// The stamp that a .stat file holds, epoch and count.
+/// The stamp that a .stat file holds.
 #[tactic(auto, unfolding(crate::specs::Readings::stat_of))]
-pub fn stat_in(text: &[u8]) -> Option<(u64, u64)>
+pub fn stat_in(text: &[u8]) -> Option<Stamp>
     ensures { result ≡ spec.stat_of text.now }
 {
     let rest = after_word(b"stat 1 ", text)?;

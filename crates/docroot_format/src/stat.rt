@@ -4,6 +4,7 @@ ghost use Rattle.docroot_format.specs.Texts as text;
 ghost use Rattle.docroot_format.specs.Texts.{longest_stat_text, most_digits_of_u64};
 
 use arrayvec::ArrayString;
+use cover_rules::Stamp;
 use itoa::Buffer;
 
 // Two words, two numbers of at most 20 digits, and what parts and ends them.
@@ -22,14 +23,14 @@ fn push_number(text: &mut StatText, number: u64)
 }
 
 /// The stamp of a folder.
-pub fn stat_text(epoch: u64, count: u64) -> StatText
-    ensures { result.bytes ≡ text.stat_text epoch count }
+pub fn stat_text(stamp: Stamp) -> StatText
+    ensures { result.bytes ≡ text.stat_text stamp }
 {
     let mut text = StatText::new();
     text.push_str("stat 1 ");
-    push_number(&mut text, epoch);
+    push_number(&mut text, stamp.epoch);
     text.push_str(" ");
-    push_number(&mut text, count);
+    push_number(&mut text, stamp.count);
     text.push_str("\n");
     text
 }

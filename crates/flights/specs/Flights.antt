@@ -66,12 +66,12 @@ abbrev pub IsFoundAsLeftBy : FlightId → ℕ → Invalidation → List Flight �
 IsFoundAsLeftBy number level inv flights = flight_at number (map (after_invalidation level inv) flights) ≡ option_map (after_invalidation level inv) (flight_at number flights)
 
 -- where numbers rise they do so with that of a flight which is above them
-abbrev pub RisesWith : ℕ → ℕ → Flight → List Flight → Type 0
-RisesWith least most flight flights = AreRising least flights most → most < flight.number → AreRising least (flights ++ flight ∷ []) flight.number
+abbrev pub RisesWithIfAbove : ℕ → ℕ → Flight → List Flight → Type 0
+RisesWithIfAbove least most flight flights = AreRising least flights most → most < flight.number → AreRising least (flights ++ flight ∷ []) flight.number
 
 -- where they rise they do so once an invalidation has begun
-abbrev pub RisesAfter : ℕ → ℕ → ℕ → Invalidation → List Flight → Type 0
-RisesAfter least most level inv flights = AreRising least flights most → AreRising least (map (after_invalidation level inv) flights) most
+abbrev pub RisesAfterIfRising : ℕ → ℕ → ℕ → Invalidation → List Flight → Type 0
+RisesAfterIfRising least most level inv flights = AreRising least flights most → AreRising least (map (after_invalidation level inv) flights) most
 
 -- where this number stands at this place it alone goes from there as its flight does
 abbrev pub LeavesPlaceIfThere : FlightId → ℕ → List Flight → Type 0

@@ -4,11 +4,11 @@ use Rattle.std.proofs.Math.Seq.{take-append_seam}
 use Rattle.std.proofs.lemmas.List.{append-nil}
 use Rattle.form_input.specs.Lines.{lines, lines_left}
 use Rattle.form_input.specs.Multipart.{Sections, line_kind, is_plain_line, is_closing_line, with_line, sections}
-use Rattle.form_input.specs.Boundaries.{sections_left, with_lines, prefix_of, IsEnded, IsPassed}
+use Rattle.form_input.specs.Boundaries.{sections_left, with_lines, prefix_of, IsEnded, ArePartsPassed}
 use Rattle.std.proofs.lemmas.Bool.Decides.{nat_tests}
 use Rattle.form_input.proofs.LineLemmas.{lines_append}
 
-pub passed_nothing : (dash : List ℕ) (end : ℕ) (whole : List ℕ) → IsPassed dash end whole whole
+pub passed_nothing : (dash : List ℕ) (end : ℕ) (whole : List ℕ) → ArePartsPassed dash end whole whole
 passed_nothing dash end whole = record { prefix = []; done = []; parts = refl; ended = inl (refl, refl); same = refl }
 
 -- the sections from a line on
@@ -33,7 +33,7 @@ ended_more prefix line done alone e = elim e as (λ _. IsEnded (prefix ++ (line 
 
 -- one more line was read
 pub passed_line : (dash : List ℕ) (end : ℕ) (whole rest line more : List ℕ) → lines rest ≡ line ∷ lines more → lines line ≡ line ∷ [] → rest ≡ line ++ 13 ∷ 10 ∷ more
-    → is_plain_line (line_kind dash line) ≡ true → length whole ≤ end → IsPassed dash end whole rest → IsPassed dash end whole more
+    → is_plain_line (line_kind dash line) ≡ true → length whole ≤ end → ArePartsPassed dash end whole rest → ArePartsPassed dash end whole more
 passed_line dash end whole rest line more first alone parts plain within p =
     let size : length rest ≡ length line + suc (suc (length more)) = rw parts (rw length-append refl) in
     let whole_size : length whole ≡ length p.prefix + length rest = rw p.parts (length-append p.prefix rest) in
@@ -85,7 +85,7 @@ pub record Reached (dash : List ℕ) (end : ℕ) (whole : List ℕ) (prefix afte
   pub later : (sections_left dash end (Some whole)).later ≡ record { place = place; closing = closing; content = (sections_left dash end after).before } ∷ (sections_left dash end after).later
 
 pub reached : (dash : List ℕ) (end : ℕ) (whole rest line : List ℕ) (after : Option (List ℕ)) → lines rest ≡ line ∷ lines_left after → ((more : List ℕ) → after ≡ Some more → rest ≡ line ++ 13 ∷ 10 ∷ more)
-    → is_plain_line (line_kind dash line) ≡ false → length whole ≤ end → IsPassed dash end whole rest
+    → is_plain_line (line_kind dash line) ≡ false → length whole ≤ end → ArePartsPassed dash end whole rest
     → Reached dash end whole (prefix_of whole (length rest)) after (end - length rest) (is_closing_line (line_kind dash line))
 reached dash end whole rest line after first parts plain within p =
     let whole_size : length whole ≡ length p.prefix + length rest = rw p.parts (length-append p.prefix rest) in
@@ -99,7 +99,7 @@ reached dash end whole rest line after first parts plain within p =
     }
 
 -- no boundary line is left
-pub none_left : (dash : List ℕ) (end : ℕ) (whole rest line : List ℕ) → lines rest ≡ line ∷ [] → is_plain_line (line_kind dash line) ≡ true → IsPassed dash end whole rest → (sections_left dash end (Some whole)).later ≡ []
+pub none_left : (dash : List ℕ) (end : ℕ) (whole rest line : List ℕ) → lines rest ≡ line ∷ [] → is_plain_line (line_kind dash line) ≡ true → ArePartsPassed dash end whole rest → (sections_left dash end (Some whole)).later ≡ []
 unfolding sections
 none_left dash end whole rest line first plain p =
     ap (λ (s : Sections). s.later) (p.same ∙ ap (with_lines p.done) (first_line dash end rest line [] first ∙ plain_line (is_plain_line (line_kind dash line)) (is_closing_line (line_kind dash line)) (end - length rest) line (sections dash (end - length rest + length line + 2) []) plain))

@@ -5,7 +5,7 @@ use Rattle.form_urlencoded.specs.Form.{raw_pairs}
 use Rattle.form_input.specs.Parameters.{is_type, parameter}
 use Rattle.form_input.specs.Multipart.{Section, before_all, most_pairs, multipart_of, pair_of, pairs_of, with_part}
 use Rattle.form_input.specs.Forms.{by_boundary, form_of, is_boundary, urlencoded_of}
-use Rattle.form_input.specs.FormLaws.{form_wants_memory}
+use Rattle.form_input.specs.FormLaws.{is_form_out_of_memory}
 use Rattle.form_input.specs.declared.fault.FormFault.{FormFault}
 use Rattle.form_input.specs.declared.fault.FormFault.TheVariants.{WrongKind, NoBoundary, BadPart, TooMany}
 
@@ -13,7 +13,7 @@ abbrev Read : Type 0
 Read = Result (List (List ℕ × List ℕ)) FormFault
 
 abbrev HasCause : Read → Type 0
-HasCause r = IfErr r (λ (e : FormFault). form_wants_memory e ≡ false)
+HasCause r = IfErr r (λ (e : FormFault). is_form_out_of_memory e ≡ false)
 
 abbrev reads : List (List ℕ × List ℕ) → Read
 reads pairs = Ok pairs

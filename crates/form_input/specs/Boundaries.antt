@@ -19,7 +19,7 @@ abbrev pub IsEnded : List ℕ → List Text → Type 0
 IsEnded prefix done = ((prefix ≡ []) × (done ≡ [])) ⊎ ((text : List ℕ) × (prefix ≡ text ++ 13 ∷ 10 ∷ []) × (done ≡ lines text))
 
 -- a part of what is left was read
-pub record IsPassed (dash : List ℕ) (end : ℕ) (whole rest : List ℕ) : Type 0 where
+pub record ArePartsPassed (dash : List ℕ) (end : ℕ) (whole rest : List ℕ) : Type 0 where
   pub prefix : List ℕ
   pub done : List Text
   pub parts : whole ≡ prefix ++ rest

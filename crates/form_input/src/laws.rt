@@ -1,5 +1,6 @@
 //! What a form and a multipart body are: laws of the definitions, on functions that do nothing.
 ghost use Rattle.std.specs.Prelude.{◌≡◌, ℕ, List, Ok, Err};
+ghost use Rattle.sp_base.specs.Texts.{Pairs, Text};
 ghost use Rattle.form_input.specs.declared.fault.FormFault.{FormFault};
 ghost use Rattle.form_input.specs.Bodies.{HasPairs};
 ghost use Rattle.form_input.specs.BodyFaults.{IsBodyFault};
@@ -11,8 +12,8 @@ ghost use Rattle.form_input.specs.Multipart.{multipart_of};
 /// A body reads as pairs exactly where it is a preamble, at most 1,000 parts that each stand after a boundary line and have a pair, a closing
 /// boundary line and an epilogue. The lines of a body, each with its end, are the body.
 pub fn the_parts_are_the_body()
-    ensures found { (boundary body : List ℕ) (pairs : List (List ℕ × List ℕ)) → multipart_of boundary body ≡ Ok pairs → HasPairs boundary body pairs }
-    ensures only { (boundary body : List ℕ) (pairs : List (List ℕ × List ℕ)) → HasPairs boundary body pairs → multipart_of boundary body ≡ Ok pairs }
+    ensures found { (boundary body : List ℕ) (pairs : Pairs) → multipart_of boundary body ≡ Ok pairs → HasPairs boundary body pairs }
+    ensures only { (boundary body : List ℕ) (pairs : Pairs) → HasPairs boundary body pairs → multipart_of boundary body ≡ Ok pairs }
     ensures lines { (body : List ℕ) → lines_text (lines body) ≡ body }
 {}
 
@@ -32,5 +33,5 @@ pub fn forms_are_refused_for_causes()
 /// none of them.
 pub fn lines_are_cut_at_their_ends()
     ensures found { (text : List ℕ) → AreLinesOf text (lines text) }
-    ensures only { (text : List ℕ) (ls : List (List ℕ)) → AreLinesOf text ls → ls ≡ lines text }
+    ensures only { (text : List ℕ) (ls : List Text) → AreLinesOf text ls → ls ≡ lines text }
 {}

@@ -9,9 +9,10 @@ use Rattle.std.proofs.lemmas.Bool.Decides.{nat_tests}
 use Rattle.std.proofs.lemmas.List.{append-nil, take_all, take_more}
 use Rattle.sp_base.specs.Texts.{Segments}
 use Rattle.sp_base.specs.Paths.{has_slash, is_dots, is_empty, is_long, seg_ok, is_path, pieces}
+use Rattle.sp_base.specs.PathTexts.{ends_segment, spelling_of}
 use Rattle.post_plan.specs.RelativePaths.{RelativePath, relative_parent, relative_path_from, relative_path_of}
 use Rattle.post_plan.specs.Spots.{ends_in_name}
-use Rattle.form_laws.specs.DotSegments.{slashed, ends_segment, HasFirstSegment, or_slash, RemovesDots}
+use Rattle.form_laws.specs.DotSegments.{HasFirstSegment, or_slash, RemovesDots}
 
 -- ---- segments and their text
 
@@ -30,18 +31,18 @@ all_whole (seg ∷ segs) e =
     let both = and_parts (seg_ok seg) (list_all seg_ok segs) e in
     rw (ok_whole seg both.0, all_whole segs both.1) refl
 
-pub slashed_append : (segs more : Segments) → slashed (segs ++ more) ≡ slashed segs ++ slashed more
+pub slashed_append : (segs more : Segments) → spelling_of (segs ++ more) ≡ spelling_of segs ++ spelling_of more
 slashed_append [] more = refl
-slashed_append (seg ∷ segs) more = ap (λ (s : List ℕ). 47 ∷ (seg ++ s)) (slashed_append segs more) ∙ ap (λ (s : List ℕ). 47 ∷ s) (sym (append_assoc seg (slashed segs) (slashed more)))
+slashed_append (seg ∷ segs) more = ap (λ (s : List ℕ). 47 ∷ (seg ++ s)) (slashed_append segs more) ∙ ap (λ (s : List ℕ). 47 ∷ s) (sym (append_assoc seg (spelling_of segs) (spelling_of more)))
 
-slashed_more : (segs : Segments) (seg : List ℕ) → slashed (segs ++ seg ∷ []) ≡ slashed segs ++ 47 ∷ seg
-slashed_more segs seg = slashed_append segs (seg ∷ []) ∙ ap (λ (s : List ℕ). slashed segs ++ 47 ∷ s) (append-nil seg)
+slashed_more : (segs : Segments) (seg : List ℕ) → spelling_of (segs ++ seg ∷ []) ≡ spelling_of segs ++ 47 ∷ seg
+slashed_more segs seg = slashed_append segs (seg ∷ []) ∙ ap (λ (s : List ℕ). spelling_of segs ++ 47 ∷ s) (append-nil seg)
 
-ends_slashed : (segs : Segments) → ends_segment (slashed segs) ≡ true
+ends_slashed : (segs : Segments) → ends_segment (spelling_of segs) ≡ true
 ends_slashed [] = refl
 ends_slashed (seg ∷ segs) = refl
 
-pub first_slashed : (seg : List ℕ) (segs : Segments) → has_slash seg ≡ false → HasFirstSegment (slashed (seg ∷ segs)) seg (slashed segs)
+pub first_slashed : (seg : List ℕ) (segs : Segments) → has_slash seg ≡ false → HasFirstSegment (spelling_of (seg ∷ segs)) seg (spelling_of segs)
 first_slashed seg segs whole = record { spells = refl; whole = whole; ends = ends_slashed segs }
 
 some_split : (text : List ℕ) → (first : List ℕ) × (more : Segments) × (pieces text ≡ first ∷ more)
@@ -53,28 +54,28 @@ some_split (b ∷ text) = let s = some_split text in go (eqb b 47) s.0 s.1 s.2
     go false first more e = (b ∷ first, more, ap (onto_first b) e)
 
 -- a text after a slash is its pieces, each after one
-pieces_slashed : (text : List ℕ) → slashed (pieces text) ≡ 47 ∷ text
+pieces_slashed : (text : List ℕ) → spelling_of (pieces text) ≡ 47 ∷ text
 pieces_slashed [] = refl
 pieces_slashed (b ∷ text) = let s = some_split text in go (eqb b 47) refl s.0 s.1 s.2 (pieces_slashed text)
   where
-    go : (x : Bool) → eqb b 47 ≡ x → (first : List ℕ) (more : Segments) → pieces text ≡ first ∷ more → slashed (pieces text) ≡ 47 ∷ text → slashed (cond x ([] ∷ pieces text) (onto_first b (pieces text))) ≡ 47 ∷ b ∷ text
+    go : (x : Bool) → eqb b 47 ≡ x → (first : List ℕ) (more : Segments) → pieces text ≡ first ∷ more → spelling_of (pieces text) ≡ 47 ∷ text → spelling_of (cond x ([] ∷ pieces text) (onto_first b (pieces text))) ≡ 47 ∷ b ∷ text
     go true is first more e ih = ap (λ (s : List ℕ). 47 ∷ s) ih ∙ ap (λ (c : ℕ). 47 ∷ c ∷ text) (sym (eqb-true b 47 is))
     go false is first more e ih =
-        let whole : 47 ∷ (first ++ slashed more) ≡ 47 ∷ text = sym (ap slashed e) ∙ ih in
-        let rest : first ++ slashed more ≡ text = cc in
-        ap (λ (ps : Segments). slashed (onto_first b ps)) e ∙ ap (λ (s : List ℕ). 47 ∷ b ∷ s) rest
+        let whole : 47 ∷ (first ++ spelling_of more) ≡ 47 ∷ text = sym (ap spelling_of e) ∙ ih in
+        let rest : first ++ spelling_of more ≡ text = cc in
+        ap (λ (ps : Segments). spelling_of (onto_first b ps)) e ∙ ap (λ (s : List ℕ). 47 ∷ b ∷ s) rest
 
 -- ---- steps
 
-moves : (done : Segments) (seg : List ℕ) (segs : Segments) (result : List ℕ) → seg_ok seg ≡ true → RemovesDots (slashed segs) (slashed (done ++ seg ∷ [])) result → RemovesDots (slashed (seg ∷ segs)) (slashed done) result
-moves done seg segs result ok d = RemovesDots.Moves seg (slashed segs) (first_slashed seg segs (ok_whole seg ok)) (ok_no_dots seg ok) (subst (λ (o : List ℕ). RemovesDots (slashed segs) o result) (slashed_more done seg) d)
+moves : (done : Segments) (seg : List ℕ) (segs : Segments) (result : List ℕ) → seg_ok seg ≡ true → RemovesDots (spelling_of segs) (spelling_of (done ++ seg ∷ [])) result → RemovesDots (spelling_of (seg ∷ segs)) (spelling_of done) result
+moves done seg segs result ok d = RemovesDots.Moves seg (spelling_of segs) (first_slashed seg segs (ok_whole seg ok)) (ok_no_dots seg ok) (subst (λ (o : List ℕ). RemovesDots (spelling_of segs) o result) (slashed_more done seg) d)
 
-moves_all : (done node segs : Segments) (result : List ℕ) → list_all seg_ok node ≡ true → RemovesDots (slashed segs) (slashed (done ++ node)) result → RemovesDots (slashed (node ++ segs)) (slashed done) result
-moves_all done [] segs result ok d = subst (λ (o : Segments). RemovesDots (slashed segs) (slashed o) result) (append-nil done) d
+moves_all : (done node segs : Segments) (result : List ℕ) → list_all seg_ok node ≡ true → RemovesDots (spelling_of segs) (spelling_of (done ++ node)) result → RemovesDots (spelling_of (node ++ segs)) (spelling_of done) result
+moves_all done [] segs result ok d = subst (λ (o : Segments). RemovesDots (spelling_of segs) (spelling_of o) result) (append-nil done) d
 moves_all done (seg ∷ node) segs result ok d =
     let both = and_parts (seg_ok seg) (list_all seg_ok node) ok in
     moves done seg (node ++ segs) result both.0
-    (moves_all (done ++ seg ∷ []) node segs result both.1 (subst (λ (o : Segments). RemovesDots (slashed segs) (slashed o) result) (sym (append_assoc done (seg ∷ []) node)) d))
+    (moves_all (done ++ seg ∷ []) node segs result both.1 (subst (λ (o : Segments). RemovesDots (spelling_of segs) (spelling_of o) result) (sym (append_assoc done (seg ∷ []) node)) d))
 
 -- where a relative path has led so far
 abbrev pub led : Segments → RelativePath → Segments
@@ -158,7 +159,7 @@ later_end : (q : List ℕ) (qs : Segments) → good_end (q ∷ qs) ≡ true → 
 later_end q [] e = refl
 later_end q (p ∷ qs) e = e
 
-no_end : (q : List ℕ) (qs : Segments) → good_end (q ∷ qs) ≡ true → seg_ok q ≡ false → or_slash (slashed qs) ≡ slashed qs
+no_end : (q : List ℕ) (qs : Segments) → good_end (q ∷ qs) ≡ true → seg_ok q ≡ false → or_slash (spelling_of qs) ≡ spelling_of qs
 no_end q [] e f = absurd (let g : true ≡ false = sym e ∙ f in cc)
 no_end q (p ∷ qs) e f = refl
 
@@ -195,50 +196,50 @@ up_grows (q ∷ qs) r final e = go (bytes_eq q (codes ".")) (bytes_eq q (codes "
     go false false false ih f = absurd cc
 
 removes : (node qs : Segments) (r final : RelativePath) → list_all is_whole node ≡ true → list_all is_whole r.down ≡ true → good_end qs ≡ true → relative_path_from r qs ≡ Some final → final.up ≤ length node
-    → RemovesDots (slashed qs) (slashed (led node r)) (slashed (led node final))
+    → RemovesDots (spelling_of qs) (spelling_of (led node r)) (spelling_of (led node final))
 unfolding relative_path_from
-removes node [] r final n d good e low = RemovesDots.Ends refl (ap (λ (w : RelativePath). slashed (led node w)) (sym (some_is r final e)))
+removes node [] r final n d good e low = RemovesDots.Ends refl (ap (λ (w : RelativePath). spelling_of (led node w)) (sym (some_is r final e)))
 removes node (q ∷ qs) r final n d good e low =
     go (bytes_eq q (codes ".")) (bytes_eq q (codes "..")) (seg_ok q) refl refl refl
     (λ next whole f. removes node qs next final n whole (later_end q qs good) f low) e
   where
-    to_rest : (kept : List ℕ) → seg_ok q ≡ false → RemovesDots (slashed qs) kept (slashed (led node final)) → RemovesDots (or_slash (slashed qs)) kept (slashed (led node final))
-    to_rest kept unfit = subst (λ (rest : List ℕ). RemovesDots rest kept (slashed (led node final))) (sym (no_end q qs good unfit))
+    to_rest : (kept : List ℕ) → seg_ok q ≡ false → RemovesDots (spelling_of qs) kept (spelling_of (led node final)) → RemovesDots (or_slash (spelling_of qs)) kept (spelling_of (led node final))
+    to_rest kept unfit = subst (λ (rest : List ℕ). RemovesDots rest kept (spelling_of (led node final))) (sym (no_end q qs good unfit))
 
-    stays : q ≡ codes "." → RemovesDots (slashed qs) (slashed (led node r)) (slashed (led node final)) → RemovesDots (slashed (q ∷ qs)) (slashed (led node r)) (slashed (led node final))
+    stays : q ≡ codes "." → RemovesDots (spelling_of qs) (spelling_of (led node r)) (spelling_of (led node final)) → RemovesDots (spelling_of (q ∷ qs)) (spelling_of (led node r)) (spelling_of (led node final))
     stays same next =
         let whole : has_slash q ≡ false = rw same refl in
         let unfit : seg_ok q ≡ false = rw same refl in
-        RemovesDots.Stays (slashed qs) (subst (λ (s : List ℕ). HasFirstSegment (slashed (q ∷ qs)) s (slashed qs)) same (first_slashed q qs whole)) (to_rest (slashed (led node r)) unfit next)
+        RemovesDots.Stays (spelling_of qs) (subst (λ (s : List ℕ). HasFirstSegment (spelling_of (q ∷ qs)) s (spelling_of qs)) same (first_slashed q qs whole)) (to_rest (spelling_of (led node r)) unfit next)
 
-    climbs : q ≡ codes ".." → Climbed node r (relative_parent r) → RemovesDots (slashed qs) (slashed (led node (relative_parent r))) (slashed (led node final)) → RemovesDots (slashed (q ∷ qs)) (slashed (led node r)) (slashed (led node final))
+    climbs : q ≡ codes ".." → Climbed node r (relative_parent r) → RemovesDots (spelling_of qs) (spelling_of (led node (relative_parent r))) (spelling_of (led node final)) → RemovesDots (spelling_of (q ∷ qs)) (spelling_of (led node r)) (spelling_of (led node final))
     climbs same c next =
         let whole : has_slash q ≡ false = rw same refl in
         let unfit : seg_ok q ≡ false = rw same refl in
-        RemovesDots.Climbs (slashed qs) (slashed (led node (relative_parent r))) (subst (λ (s : List ℕ). HasFirstSegment (slashed (q ∷ qs)) s (slashed qs)) same (first_slashed q qs whole))
-        (inl (record { last = c.last; spells = ap slashed c.is ∙ slashed_more (led node (relative_parent r)) c.last; whole = c.whole })) (to_rest (slashed (led node (relative_parent r))) unfit next)
+        RemovesDots.Climbs (spelling_of qs) (spelling_of (led node (relative_parent r))) (subst (λ (s : List ℕ). HasFirstSegment (spelling_of (q ∷ qs)) s (spelling_of qs)) same (first_slashed q qs whole))
+        (inl (record { last = c.last; spells = ap spelling_of c.is ∙ slashed_more (led node (relative_parent r)) c.last; whole = c.whole })) (to_rest (spelling_of (led node (relative_parent r))) unfit next)
 
     go : (p x s : Bool) → bytes_eq q (codes ".") ≡ p → bytes_eq q (codes "..") ≡ x → seg_ok q ≡ s
-        → ((next : RelativePath) → list_all is_whole next.down ≡ true → relative_path_from next qs ≡ Some final → RemovesDots (slashed qs) (slashed (led node next)) (slashed (led node final)))
-        → option_and_then (λ next. relative_path_from next qs) (step_by p x s r q) ≡ Some final → RemovesDots (slashed (q ∷ qs)) (slashed (led node r)) (slashed (led node final))
+        → ((next : RelativePath) → list_all is_whole next.down ≡ true → relative_path_from next qs ≡ Some final → RemovesDots (spelling_of qs) (spelling_of (led node next)) (spelling_of (led node final)))
+        → option_and_then (λ next. relative_path_from next qs) (step_by p x s r q) ≡ Some final → RemovesDots (spelling_of (q ∷ qs)) (spelling_of (led node r)) (spelling_of (led node final))
     go true x s ep ex es ih f = stays (same_text q (codes ".") (sym ep)) (ih r d f)
     go false true s ep ex es ih f =
         let more = up_grows qs (relative_parent r) final f in
         let c = climbed node r n d (omega (arith, more, low)) in
         climbs (same_text q (codes "..") (sym ex)) c (ih (relative_parent r) c.kept f)
     go false false true ep ex es ih f =
-        moves (led node r) q qs (slashed (led node final)) es
-        (subst (λ (segs : Segments). RemovesDots (slashed qs) (slashed segs) (slashed (led node final))) (sym (append_assoc (take (length node - r.up) node) r.down (q ∷ []))) (ih (record { up = r.up; down = r.down ++ q ∷ [] }) (whole_more r.down q d (ok_whole q es)) f))
+        moves (led node r) q qs (spelling_of (led node final)) es
+        (subst (λ (segs : Segments). RemovesDots (spelling_of qs) (spelling_of segs) (spelling_of (led node final))) (sym (append_assoc (take (length node - r.up) node) r.down (q ∷ []))) (ih (record { up = r.up; down = r.down ++ q ∷ [] }) (whole_more r.down q d (ok_whole q es)) f))
     go false false false ep ex es ih f = absurd cc
 
 pub path_ok : (node : Segments) → is_path node ≡ true → list_all seg_ok node ≡ true
 path_ok node e = (and_parts (list_all seg_ok node) (nat_le (length node) 64) e).0
 
 pub placed : (node : Segments) (text : List ℕ) (final : RelativePath) → is_path node ≡ true → ends_in_name text ≡ true → relative_path_of text ≡ Some final → final.up ≤ length node
-    → RemovesDots (slashed node ++ 47 ∷ text) [] (slashed (led node final))
+    → RemovesDots (spelling_of node ++ 47 ∷ text) [] (spelling_of (led node final))
 placed node text final path name e low =
     let ok = path_ok node path in
     let none : length node - 0 ≡ length node = omega arith in
     let start : take (length node - 0) node ++ [] ≡ node = append-nil (take (length node - 0) node) ∙ take_all (length node - 0) node (omega arith) in
-    let all : RemovesDots (slashed (pieces text)) (slashed node) (slashed (led node final)) = subst (λ (segs : Segments). RemovesDots (slashed (pieces text)) (slashed segs) (slashed (led node final))) start (removes node (pieces text) (record { up = 0; down = [] }) final (all_whole node ok) refl (good_last (pieces text) name) e low) in
-    subst (λ (input : List ℕ). RemovesDots input [] (slashed (led node final))) (slashed_append node (pieces text) ∙ ap (λ (s : List ℕ). slashed node ++ s) (pieces_slashed text)) (moves_all [] node (pieces text) (slashed (led node final)) ok all)
+    let all : RemovesDots (spelling_of (pieces text)) (spelling_of node) (spelling_of (led node final)) = subst (λ (segs : Segments). RemovesDots (spelling_of (pieces text)) (spelling_of segs) (spelling_of (led node final))) start (removes node (pieces text) (record { up = 0; down = [] }) final (all_whole node ok) refl (good_last (pieces text) name) e low) in
+    subst (λ (input : List ℕ). RemovesDots input [] (spelling_of (led node final))) (slashed_append node (pieces text) ∙ ap (λ (s : List ℕ). spelling_of node ++ s) (pieces_slashed text)) (moves_all [] node (pieces text) (spelling_of (led node final)) ok all)

@@ -2,7 +2,8 @@
 use Rattle.std.proofs.Common.{◌≡◌, inl, inr, ℕ, true, false, eqb, List, [], ◌∷◌, ◌++◌, codes, refl, ap, sym, ◌∙◌, subst}
 use Rattle.std.proofs.lemmas.Bool.{or_parts}
 use Rattle.sp_base.specs.Paths.{has_slash, is_dots}
-use Rattle.form_laws.specs.DotSegments.{ends_segment, HasFirstSegment, or_slash, IsWithoutLast, RemovesDots}
+use Rattle.sp_base.specs.PathTexts.{ends_segment}
+use Rattle.form_laws.specs.DotSegments.{HasFirstSegment, or_slash, IsWithoutLast, RemovesDots}
 
 pub same_parts : (one other rest more : List ℕ) → has_slash one ≡ false → has_slash other ≡ false → ends_segment rest ≡ true → ends_segment more ≡ true → one ++ rest ≡ other ++ more → (one ≡ other) × (rest ≡ more)
 same_parts [] [] rest more w v e f same = (refl, same)

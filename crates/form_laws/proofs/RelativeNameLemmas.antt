@@ -9,11 +9,11 @@ use Rattle.std.proofs.lemmas.List.{append_cancel_left, length-take, take_all}
 use Rattle.std.proofs.lemmas.List.Folds.{list_all-append}
 use Rattle.sp_base.specs.Texts.{Segments}
 use Rattle.sp_base.specs.Paths.{is_path, path_in, path_or_none, pieces, seg_ok}
+use Rattle.sp_base.specs.PathTexts.{spelling_of}
 use Rattle.resource_tree.specs.MergeRoots.{is_merged_path}
 use Rattle.post_plan.specs.RelativePaths.{RelativePath, relative_parent, relative_path_from, relative_path_of}
 use Rattle.post_plan.specs.declared.spot.Spot.{Spot}
 use Rattle.post_plan.specs.Spots.{any_spot, ends_in_name, full_path, if_changeable, is_absolute, led_to, relative_spot, spot_below, spot_of, spot_there}
-use Rattle.form_laws.specs.DotSegments.{slashed}
 use Rattle.form_laws.specs.RelativeNames.{is_climb, is_step, IsSpotOf, NamesPath, StaysWithin}
 use Rattle.form_laws.proofs.DotLemmas.{first_slashed, led, ok_whole, path_ok, placed, some_is, step_by, up_grows}
 use Rattle.form_laws.proofs.DotsAlone.{one_outcome, same_parts}
@@ -174,7 +174,7 @@ down_ok (q ∷ qs) r final e ok = go (bytes_eq q (codes ".")) (bytes_eq q (codes
 
 -- ---- segments that one text spells
 
-slashed_same : (one other : Segments) → list_all seg_ok one ≡ true → list_all seg_ok other ≡ true → slashed one ≡ slashed other → one ≡ other
+slashed_same : (one other : Segments) → list_all seg_ok one ≡ true → list_all seg_ok other ≡ true → spelling_of one ≡ spelling_of other → one ≡ other
 slashed_same [] [] w v e = refl
 slashed_same [] (q ∷ qs) w v e = absurd cc
 slashed_same (p ∷ ps) [] w v e = absurd cc
@@ -183,10 +183,10 @@ slashed_same (p ∷ ps) (q ∷ qs) w v e =
     let other = and_parts (seg_ok q) (list_all seg_ok qs) v in
     let first = first_slashed p ps (ok_whole p one.0) in
     let second = first_slashed q qs (ok_whole q other.0) in
-    let same = same_parts p q (slashed ps) (slashed qs) first.whole second.whole first.ends second.ends (tails e) in
+    let same = same_parts p q (spelling_of ps) (spelling_of qs) first.whole second.whole first.ends second.ends (tails e) in
     ap (λ (s : List ℕ). s ∷ ps) same.0 ∙ ap (λ (ss : Segments). q ∷ ss) (slashed_same ps qs one.1 other.1 same.1)
   where
-    tails : slashed (p ∷ ps) ≡ slashed (q ∷ qs) → p ++ slashed ps ≡ q ++ slashed qs
+    tails : spelling_of (p ∷ ps) ≡ spelling_of (q ∷ qs) → p ++ spelling_of ps ≡ q ++ spelling_of qs
     tails f = cc
 
 -- ---- what a name names
@@ -213,7 +213,7 @@ pub names_from : (node : Segments) (text : List ℕ) (path : Segments) → is_pa
 names_from node text path ok fit n =
     let r = read_from (pieces text) start n.steps in
     let low = stays_from text r.0 (length node) r.1 n.within in
-    let same = one_outcome (slashed node ++ 47 ∷ text) [] (slashed path) (slashed (led node r.0)) n.leads (placed node text r.0 ok n.last r.1 low) in
+    let same = one_outcome (spelling_of node ++ 47 ∷ text) [] (spelling_of path) (spelling_of (led node r.0)) n.leads (placed node text r.0 ok n.last r.1 low) in
     record { by = r.0; reads = r.1; low = low; place = slashed_same path (led node r.0) fit (led_ok node text r.0 ok r.1) same }
 
 -- ---- spots

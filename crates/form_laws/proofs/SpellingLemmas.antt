@@ -11,7 +11,7 @@ use Rattle.form_input.specs.declared.parameters.Quoting.{Quoting}
 use Rattle.form_input.specs.declared.parameters.Quoting.TheVariants.{Outside, Inside}
 use Rattle.form_input.specs.Parameters.{is_space_or_tab, after_blanks, before_blanks, trimmed_text, quoting_step, separates, parameter_pieces_from, parameter_pieces, is_type, after_separator, after_name, word_in_quotes, parameter_word, word_or, parameter_word_in, parameter}
 use Rattle.form_laws.specs.Spelling as spelled
-use Rattle.form_laws.specs.Spelling.{is_bare_byte, is_name_byte, QuotedByte, byte_spelling, meant_byte, is_quoted_byte, ParameterValue, value_spelling, meant_word, is_parameter_value, FieldParameter, parameter_spelling, is_parameter, FieldPiece, piece_spelling, is_field_piece, pieces_spelling, IsFieldOf, word_named, begins_with_name, is_named_if_parameter, is_passed_byte, may_follow, may_follow_value, IsNamedField}
+use Rattle.form_laws.specs.Spelling.{is_bare_byte, is_bare_name_byte, QuotedByte, byte_spelling, meant_byte, is_quoted_byte, ParameterValue, value_spelling, meant_word, is_parameter_value, FieldParameter, parameter_spelling, is_parameter, FieldPiece, piece_spelling, is_field_piece, pieces_spelling, IsFieldOf, word_named, begins_with_name, is_named_if_parameter, is_passed_byte, may_follow, may_follow_value, IsNamedField}
 use Rattle.form_input.proofs.ParameterLemmas.{with_prefix, with_prefix_none, piece_goes_on, piece_ends, piece_last}
 
 -- ---- what is known of a byte
@@ -31,10 +31,10 @@ blank_no_quote b e = grind (arith, nat_tests)
 blank_no_semicolon : (b : ℕ) → is_space_or_tab b ≡ true → eqb b 59 ≡ false
 blank_no_semicolon b e = grind (arith, nat_tests)
 
-names_are_bare : (w : List ℕ) → list_all is_name_byte w ≡ true → list_all is_bare_byte w ≡ true
+names_are_bare : (w : List ℕ) → list_all is_bare_name_byte w ≡ true → list_all is_bare_byte w ≡ true
 names_are_bare [] e = refl
 names_are_bare (b ∷ w) e =
-    let both = and_parts (is_name_byte b) (list_all is_name_byte w) e in
+    let both = and_parts (is_bare_name_byte b) (list_all is_bare_name_byte w) e in
     rw ((and_parts (is_bare_byte b) (not (eqb b 61)) both.0).0, names_are_bare w both.1) refl
 
 -- ---- where the quotes are
@@ -101,7 +101,7 @@ value_passes (ParameterValue.Quoted bs) e = (refl, passes_append Inside (flat_ma
 
 parameter_passes : (p : FieldParameter) → is_parameter p ≡ true → Passes Outside (parameter_spelling p) Outside
 parameter_passes p e =
-    let both = and_parts (list_all is_name_byte p.name) (is_parameter_value p.value) e in
+    let both = and_parts (list_all is_bare_name_byte p.name) (is_parameter_value p.value) e in
     passes_append Outside p.name (61 ∷ value_spelling p.value) Outside Outside (bare_passes p.name (names_are_bare p.name both.0)) (refl, value_passes p.value both.1)
 
 option_passes : (o : Option FieldParameter) → spelled.is_parameter_or_none o ≡ true → Passes Outside (spelled.spelling_or_none o) Outside
@@ -197,20 +197,20 @@ trimmed before w after e is f = ap before_blanks (after_skips before (w ++ after
 lower_other : (d : ℕ) → eqb d 61 ≡ false → eqb 61 (to_ascii_lowercase d) ≡ false
 lower_other d e = grind (arith, nat_tests)
 
-no_equals : (b : ℕ) → is_name_byte b ≡ true → eqb b 61 ≡ false
+no_equals : (b : ℕ) → is_bare_name_byte b ≡ true → eqb b 61 ≡ false
 no_equals b e = not-true (eqb b 61) (and_parts (is_bare_byte b) (not (eqb b 61)) e).1
 
-named : (n name rest : List ℕ) → list_all is_name_byte n ≡ true → list_all is_name_byte name ≡ true → after_name 61 name (n ++ 61 ∷ rest) ≡ cond (str_eq_ignore_ascii_case n name) (Some rest) None
+named : (n name rest : List ℕ) → list_all is_bare_name_byte n ≡ true → list_all is_bare_name_byte name ≡ true → after_name 61 name (n ++ 61 ∷ rest) ≡ cond (str_eq_ignore_ascii_case n name) (Some rest) None
 named [] [] rest e f = refl
 named (c ∷ n) [] rest e f =
-    let both = and_parts (is_name_byte c) (list_all is_name_byte n) e in
+    let both = and_parts (is_bare_name_byte c) (list_all is_bare_name_byte n) e in
     rw (no_equals c both.0) refl
 named [] (d ∷ name) rest e f =
-    let both = and_parts (is_name_byte d) (list_all is_name_byte name) f in
+    let both = and_parts (is_bare_name_byte d) (list_all is_bare_name_byte name) f in
     rw (lower_other d (no_equals d both.0)) refl
 named (c ∷ n) (d ∷ name) rest e f =
-    let one = and_parts (is_name_byte c) (list_all is_name_byte n) e in
-    let other = and_parts (is_name_byte d) (list_all is_name_byte name) f in
+    let one = and_parts (is_bare_name_byte c) (list_all is_bare_name_byte n) e in
+    let other = and_parts (is_bare_name_byte d) (list_all is_bare_name_byte name) f in
     go (eqb (to_ascii_lowercase c) (to_ascii_lowercase d)) (named n name rest one.1 other.1)
   where
     go : (x : Bool) → after_name 61 name (n ++ 61 ∷ rest) ≡ cond (str_eq_ignore_ascii_case n name) (Some rest) None
@@ -261,27 +261,27 @@ abbrev piece_word : List ℕ → Option FieldParameter → Option (List ℕ) →
 piece_word name None other = other
 piece_word name (Some p) other = cond (str_eq_ignore_ascii_case p.name name) (Some (meant_word p.value)) other
 
-begins_name : (n rest : List ℕ) → list_all is_name_byte n ≡ true → after_blanks (n ++ 61 ∷ rest) ≡ n ++ 61 ∷ rest
+begins_name : (n rest : List ℕ) → list_all is_bare_name_byte n ≡ true → after_blanks (n ++ 61 ∷ rest) ≡ n ++ 61 ∷ rest
 unfolding after_blanks
 begins_name [] rest e = refl
 begins_name (b ∷ n) rest e =
-    let both = and_parts (is_bare_byte b) (not (eqb b 61)) (and_parts (is_name_byte b) (list_all is_name_byte n) e).0 in
+    let both = and_parts (is_bare_byte b) (not (eqb b 61)) (and_parts (is_bare_name_byte b) (list_all is_bare_name_byte n) e).0 in
     after_stays b (n ++ 61 ∷ rest) (blank_or_not b both.0)
 
-parameter_read : (name : List ℕ) (p : FieldParameter) (after : List ℕ) (other : Option (List ℕ)) → list_all is_name_byte name ≡ true → is_parameter p ≡ true → list_all (may_follow_value p.value) after ≡ true
+parameter_read : (name : List ℕ) (p : FieldParameter) (after : List ℕ) (other : Option (List ℕ)) → list_all is_bare_name_byte name ≡ true → is_parameter p ≡ true → list_all (may_follow_value p.value) after ≡ true
     → word_or (after_name 61 name (after_blanks (parameter_spelling p ++ after))) other ≡ piece_word name (Some p) other
 parameter_read name p after other f e follows =
-    let both = and_parts (list_all is_name_byte p.name) (is_parameter_value p.value) e in
+    let both = and_parts (list_all is_bare_name_byte p.name) (is_parameter_value p.value) e in
     ap (λ (t : List ℕ). word_or (after_name 61 name (after_blanks t)) other) (append_assoc p.name (61 ∷ value_spelling p.value) after)
     ∙ ap (λ (t : List ℕ). word_or (after_name 61 name t) other) (begins_name p.name (value_spelling p.value ++ after) both.0)
     ∙ ap (λ (o : Option (List ℕ)). word_or o other) (named p.name name (value_spelling p.value ++ after) both.0 f)
     ∙ go (str_eq_ignore_ascii_case p.name name)
   where
     go : (x : Bool) → word_or (cond x (Some (value_spelling p.value ++ after)) None) other ≡ cond x (Some (meant_word p.value)) other
-    go true = value_word p.value after (and_parts (list_all is_name_byte p.name) (is_parameter_value p.value) e).1 follows
+    go true = value_word p.value after (and_parts (list_all is_bare_name_byte p.name) (is_parameter_value p.value) e).1 follows
     go false = refl
 
-piece_read_by : (name before after : List ℕ) (o : Option FieldParameter) (other : Option (List ℕ)) → list_all is_name_byte name ≡ true → Parts before o after
+piece_read_by : (name before after : List ℕ) (o : Option FieldParameter) (other : Option (List ℕ)) → list_all is_bare_name_byte name ≡ true → Parts before o after
     → is_named_if_parameter name o (before ++ (spelled.spelling_or_none o ++ after)) ≡ true → word_or (after_name 61 name (after_blanks (before ++ (spelled.spelling_or_none o ++ after)))) other ≡ piece_word name o other
 piece_read_by name before after None other f parts lacks = ap (λ (o : Option (List ℕ)). word_or o other) (not_named name (after_blanks (before ++ after)) (not-true (begins_with_name name (before ++ after)) lacks))
 piece_read_by name before after (Some p) other f parts lacks =
@@ -292,7 +292,7 @@ piece_read_by name before after (Some p) other f parts lacks =
 abbrev is_clear : List ℕ → FieldPiece → Bool
 is_clear name piece = is_named_if_parameter name piece.parameter (piece_spelling piece)
 
-piece_read : (name : List ℕ) (piece : FieldPiece) (other : Option (List ℕ)) → list_all is_name_byte name ≡ true → is_field_piece piece ≡ true → is_clear name piece ≡ true
+piece_read : (name : List ℕ) (piece : FieldPiece) (other : Option (List ℕ)) → list_all is_bare_name_byte name ≡ true → is_field_piece piece ≡ true → is_clear name piece ≡ true
     → word_or (after_name 61 name (after_blanks (piece_spelling piece))) other ≡ piece_word name piece.parameter other
 piece_read name piece other f e clear = piece_read_by name piece.before piece.after piece.parameter other f (parts_of piece.before piece.parameter piece.after e) clear
 
@@ -304,7 +304,7 @@ named_later name (Some p) ps before after = go (str_eq_ignore_ascii_case p.name 
     go true = refl
     go false = refl
 
-words_are : (name : List ℕ) (ps : List FieldPiece) → list_all is_name_byte name ≡ true → list_all is_field_piece ps ≡ true → list_all (is_clear name) ps ≡ true → parameter_word_in name (map piece_spelling ps) ≡ word_named name ps
+words_are : (name : List ℕ) (ps : List FieldPiece) → list_all is_bare_name_byte name ≡ true → list_all is_field_piece ps ≡ true → list_all (is_clear name) ps ≡ true → parameter_word_in name (map piece_spelling ps) ≡ word_named name ps
 unfolding parameter_word_in
 words_are name [] f e clear = refl
 words_are name (p ∷ ps) f e clear =
@@ -339,5 +339,5 @@ other_byte b mark e f = go (eqb b mark) refl
     go true is = absurd (let same = eqb-true b mark is in let g : spelled.is_token_byte b ≡ false = rw same f in let h : true ≡ false = sym e ∙ g in cc)
     go false is = refl
 
-pub tokens_are_names : (b : ℕ) → spelled.is_token_byte b ≡ true → is_name_byte b ≡ true
+pub tokens_are_names : (b : ℕ) → spelled.is_token_byte b ≡ true → is_bare_name_byte b ≡ true
 tokens_are_names b e = rw (other_byte b 32 e refl, other_byte b 9 e refl, other_byte b 34 e refl, other_byte b 59 e refl, other_byte b 61 e refl) refl

@@ -1,18 +1,10 @@
 -- The removal of dot segments from the text of a path that begins with a slash (RFC 3986, section 5.2.4), as a relation on the input, the output so far and what comes
 -- out in the end.
-use Rattle.std.specs.Prelude.{◌≡◌, ◌==◌, ◌⊎◌, ℕ, Bool, true, false, List, [], ◌∷◌, ◌++◌, codes, flat_map}
+use Rattle.std.specs.Prelude.{◌≡◌, ◌⊎◌, ℕ, true, false, List, [], ◌∷◌, ◌++◌, codes}
 use Rattle.sp_base.specs.Texts.{Segments, Text}
 use Rattle.sp_base.specs.Paths.{has_slash, is_dots, is_path}
+use Rattle.sp_base.specs.PathTexts.{ends_segment, spelling_of}
 use Rattle.post_plan.specs.Spots.{is_absolute}
-
--- a slash before each segment
-abbrev pub slashed : Segments → List ℕ
-slashed segs = flat_map (λ seg. 47 ∷ seg) segs
-
--- nothing follows, or a slash
-abbrev pub ends_segment : List ℕ → Bool
-ends_segment [] = true
-ends_segment (b ∷ rest) = b == 47
 
 -- the first segment of the input, with the slash before it, and the rest
 pub record HasFirstSegment (input segment rest : List ℕ) : Type 0 where
@@ -48,5 +40,5 @@ pub record IsRelative (node : Segments) (text : Text) : Type 0 where
   pub relative : is_absolute text ≡ false
 
 -- the path is what is left of the node's text, a slash and the name
-abbrev pub LeadsTo : Segments → Text → Segments → Type 0
-LeadsTo node text path = RemovesDots (slashed node ++ 47 ∷ text) [] (slashed path)
+abbrev pub LeavesPath : Segments → Text → Segments → Type 0
+LeavesPath node text path = RemovesDots (spelling_of node ++ 47 ∷ text) [] (spelling_of path)

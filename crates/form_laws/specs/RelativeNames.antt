@@ -8,7 +8,7 @@ use Rattle.sp_base.specs.Paths.{is_dots, is_path, parent_of, pieces, seg_ok}
 use Rattle.resource_tree.specs.MergeRoots.{is_merged_path}
 use Rattle.post_plan.specs.declared.spot.Spot.{Spot}
 use Rattle.post_plan.specs.Spots.{ends_in_name, full_path, goes_under, own_name}
-use Rattle.form_laws.specs.DotSegments.{LeadsTo}
+use Rattle.form_laws.specs.DotSegments.{LeavesPath}
 
 -- a piece that leads somewhere: a segment, `.` or `..`
 abbrev pub is_step : List ℕ → Bool
@@ -28,7 +28,7 @@ pub record NamesPath (node : Segments) (text : Text) (path : Segments) : Type 0 
   pub steps : list_all is_step (pieces text) ≡ true
   pub last : ends_in_name text ≡ true
   pub within : StaysWithin (length node) text
-  pub leads : LeadsTo node text path
+  pub leads : LeavesPath node text path
 
 -- a relative name that may be changed: one that never climbs out of its node is kept relative to that, and what is kept has at most 64 segments
 pub record IsSpotOf (node : Segments) (text : Text) (spot : Spot) : Type 0 where

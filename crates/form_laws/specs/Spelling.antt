@@ -12,8 +12,8 @@ abbrev pub is_bare_byte : ℕ → Bool
 is_bare_byte b = not (is_space_or_tab b || (b == 34 || b == 59))
 
 -- a byte of a name: no `=` either
-abbrev pub is_name_byte : ℕ → Bool
-is_name_byte b = is_bare_byte b && not (b == 61)
+abbrev pub is_bare_name_byte : ℕ → Bool
+is_bare_name_byte b = is_bare_byte b && not (b == 61)
 
 -- a byte of a token
 abbrev pub is_token_byte : ℕ → Bool
@@ -70,7 +70,7 @@ parameter_spelling p = p.name ++ 61 ∷ value_spelling p.value
 
 -- its name and its value are such
 abbrev pub is_parameter : FieldParameter → Bool
-is_parameter p = list_all is_name_byte p.name && is_parameter_value p.value
+is_parameter p = list_all is_bare_name_byte p.name && is_parameter_value p.value
 
 -- a byte of a text that is passed over
 abbrev pub is_passed_byte : ℕ → Bool
@@ -140,5 +140,5 @@ is_named_if_parameter name (Some p) text = true
 -- a field, and a name with which no piece begins that isn't a parameter
 pub record IsNamedField (name text type : List ℕ) (pieces : List FieldPiece) : Type 0 where
   pub field : IsFieldOf text type pieces
-  pub is_name : list_all is_name_byte name ≡ true
+  pub is_name : list_all is_bare_name_byte name ≡ true
   pub of_parameters : list_all (λ piece. is_named_if_parameter name piece.parameter (piece_spelling piece)) pieces ≡ true

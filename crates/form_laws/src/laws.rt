@@ -7,7 +7,7 @@ ghost use Rattle.post_plan.specs.Spots.{goal_of, spot_of};
 ghost use Rattle.post_plan.specs.declared.spot.Spot.{Spot};
 ghost use Rattle.form_laws.specs.DotSegments.{IsRelative, RemovesDots};
 ghost use Rattle.form_laws.specs.RelativeNames.{IsGoalOf, IsSpotOf};
-ghost use Rattle.form_laws.specs.Spelling.{is_name_byte, is_token_byte, word_named, FieldPiece, IsFieldOf, IsNamedField};
+ghost use Rattle.form_laws.specs.Spelling.{is_bare_name_byte, is_token_byte, word_named, FieldPiece, IsFieldOf, IsNamedField};
 
 /// A field that its grammar spells is read as that grammar has it, whatever stands in its quotes: its type is the one that is spelled, and
 /// the word of a name is that of the first parameter with the name, in either case, of which each byte after a backslash stands for itself.
@@ -16,7 +16,7 @@ ghost use Rattle.form_laws.specs.Spelling.{is_name_byte, is_token_byte, word_nam
 pub fn parameters_are_as_they_are_spelled()
     ensures field_type { (word text type : Text) (pieces : List FieldPiece) → IsFieldOf text type pieces → is_type word text ≡ str_eq_ignore_ascii_case type word }
     ensures word { (name text type : Text) (pieces : List FieldPiece) → IsNamedField name text type pieces → parameter name text ≡ word_named name pieces }
-    ensures token { (b : ℕ) → is_token_byte b ≡ true → is_name_byte b ≡ true }
+    ensures token { (b : ℕ) → is_token_byte b ≡ true → is_bare_name_byte b ≡ true }
 {}
 
 /// A relative name is a spot of a node exactly where each of its pieces is a segment, `.` or `..`, the last is a segment, none leads above the

@@ -21,7 +21,7 @@ use Rattle.flights.specs.declared.flight.Flight.{Flight}
 use Rattle.cache_log.specs.Entries.{Fate, Kept, Landed, LogEntry, Lost as lost_entry, Passed, Unkept, flights_asked, flushes_begun}
 use Rattle.cache_ids.specs.Ids.{FlightId}
 use Rattle.cache_log.specs.Rules.{CallConditions, HasFallenShort, MayStore}
-use Rattle.coherence_core.specs.Cores.{ExtendsCore, FlightsRise, KeepsFarm, CoreStandsFor, farm_of, flight_labels, flights_of, flush_numbers, flushes_of}
+use Rattle.coherence_core.specs.Cores.{ExtendsCore, FlightsRise, KeepsFarm, CoreStandsFor, flight_labels, flights_of, flush_numbers, flushes_of}
 use Rattle.coherence_core.specs.Landings.{IsKeptAs, fate_of, landed_under}
 use Rattle.coherence_core.specs.declared.answers.Landed.{Landed as LandedAs}
 use Rattle.coherence_core.specs.declared.answers.Landed.TheVariants as landed

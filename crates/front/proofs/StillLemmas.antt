@@ -9,7 +9,7 @@ use Rattle.run_events.specs.declared.flying.Flying.{Flying}
 use Rattle.run_events.specs.declared.flying.Flushing.{Flushing}
 use Rattle.run_events.specs.declared.note.Failure.TheVariants.{Restart as cut_off}
 use Rattle.run_events.specs.declared.note.Note.{Note}
-use Rattle.run_events.specs.declared.note.Note.TheVariants.{Answer as answered, Ask as asked, Hit, Local, Flush, Sliced, Done, Failed, Rendered, Kept, Unkept, Passed, Lost, Sent, Shut, Refused, Idle, Up, Down, Hurt, Dry}
+use Rattle.run_events.specs.declared.note.Note.TheVariants.{Answer as answered, Ask as asked, Hit, Local, Flush, Sliced, Done, Failed, Rendered, Kept, Unkept, Passed, Lost, Sent, Shut, Refused, Idle, Up, Down, Hurt, OutOfMemory}
 use Rattle.run_events.specs.declared.step.Step.{Step}
 use Rattle.run_events.specs.declared.step.Step.TheVariants as step
 use Rattle.run_events.specs.Events.{DeliverAs, DeliverTo, Event, HappensBy, LeadsNotes, LoseTo, MayLand, PieceTo, PurgeTo, after_event, state_before_notes, state_after_going, going, is_any, is_rendered, most_connections, state_after_opening, opening, picked_flight}
@@ -144,7 +144,7 @@ is-render Idle = inl tt
 is-render (Up epoch) = inl tt
 is-render Down = inl tt
 is-render Hurt = inl tt
-is-render Dry = inl tt
+is-render OutOfMemory = inl tt
 
 pub record SameSession (w v : RunState) : Type 0 where
   pub farm : v.farm ≡ w.farm

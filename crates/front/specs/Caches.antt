@@ -13,7 +13,7 @@ use Rattle.flights.specs.Flights.{numbers_of}
 use Rattle.http_front.specs.declared.turn.Turn.TheVariants.{Whole}
 use Rattle.cache_log.specs.Entries.{flights_asked, flushes_begun}
 use Rattle.cache_ids.specs.Ids.{FlightId, FlushId}
-use Rattle.coherence_core.specs.Cores.{FlightsRise, CoreStandsFor, farm_of, flight_labels, flights_of, flushes_of}
+use Rattle.coherence_core.specs.Cores.{FlightsRise, CoreStandsFor, core_farm, flight_labels, flights_of, flushes_of}
 use Rattle.coherence_core.specs.declared.core_state.Core.{Core}
 use Rattle.connections.specs.AnswerQueues.{ReplyStandsFor}
 use Rattle.connections.specs.Connections.{Connection, Treat, due, is_crowded, with_end}
@@ -99,7 +99,7 @@ AreFlushesRising least (flush ∷ flushes) most = (least < flush.number) × AreF
 -- The cache and the files stand for the log, and the cache has the flights and the flushes of the state.
 pub record BehindStandsFor (b : Behind) (w : RunState) : Type 0 where
   pub core_is : CoreStandsFor w.found b.files b.cache.core w.log
-  pub farm_is : w.farm ≡ farm_of b.cache.core
+  pub farm_is : w.farm ≡ core_farm b.cache.core
   pub flying_is : b.cache.flying ≡ w.flights
   pub rising : AirRises 0 b.cache.flying (flights_asked w.log)
   pub flights_are : flight_labels (flights_of b.cache.core) ≡ flying_labels w.farm b.cache.flying

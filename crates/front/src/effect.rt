@@ -90,7 +90,7 @@ impl Effect {
             all.push(Note::Hurt)?;
         }
         if conditions.out_of_memory {
-            all.push(Note::Dry)?;
+            all.push(Note::OutOfMemory)?;
         }
         Ok(NoteList::from(all))
     }

@@ -2,7 +2,7 @@
 use Rattle.std.specs.Prelude.{◌==◌, ◌&&◌, ◌-◌, ℕ, Bool, not, if◌then◌else◌, List, Option, Some, None, option_map, codes, length, slice_index}
 use Rattle.sp_base.specs.MediaTypes.{is_kind}
 use Rattle.sp_base.specs.Properties.{text_in}
-use Rattle.sp_base.specs.declared.value.Value.{Value}
+use Rattle.sp_base.specs.Texts.{Properties}
 use Rattle.resource_tree.specs.Seen.{Resource, Seen}
 use Rattle.get_servlet.specs.declared.kids.Kid.{Kid}
 use Rattle.get_servlet.specs.declared.streams.Stream.{Stream}
@@ -23,7 +23,7 @@ abbrev pub make_stream : Option (List ℕ) → List ℕ → Stream
 make_stream kind body = record { kind = media_type_of kind; body = body }
 
 -- the stream of these properties
-abbrev pub stream_in : List (List ℕ × Value) → Option Stream
+abbrev pub stream_in : Properties → Option Stream
 stream_in props = option_map (make_stream (text_in props (codes "jcr:mimeType"))) (text_in props (codes "jcr:data"))
 
 -- the stream of a kid's properties, where there is a kid

@@ -11,8 +11,8 @@ use Rattle.glob_rules.specs.declared.piece.CharRange.{CharRange}
 use Rattle.glob_rules.specs.declared.piece.CharClass.{CharClass}
 use Rattle.glob_rules.specs.declared.piece.GlobPiece.{GlobPiece}
 use Rattle.glob_rules.specs.declared.piece.GlobPiece.TheVariants.{Star, AnyChar, Literal, Class}
-use Rattle.glob_rules.specs.Reading.{is_open, is_close, is_negation, plain_piece, range, ranges_of, class_of, pieces_from, unclosed_class, unless_unclosed, glob_of}
-use Rattle.glob_rules.specs.Spelling.{GoesOn, AreRanges, IsClass, Spells, IsOpen, IsFault}
+use Rattle.glob_rules.specs.Reading.{is_open, is_close, is_negation, plain_piece, glob_range, ranges_of, class_of, pieces_from, unclosed_class, unless_unclosed, glob_of}
+use Rattle.glob_rules.specs.Spelling.{GoesOnAsRange, AreGlobRanges, IsGlobClass, SpellsGlob, IsOpen, IsGlobFault}
 use Rattle.glob_rules.proofs.ReadLemmas.{closes, class_piece, stays_unclosed}
 
 equals : (c d : ℕ) → (c == d) ≡ true → c ≡ d
@@ -20,48 +20,48 @@ equals c d h = grind (arith, nat_tests)
 
 -- ---- ranges
 
-ranges_sound : (cs : List ℕ) → AreRanges cs (ranges_of cs)
-ranges_sound [] = AreRanges.none
-ranges_sound (c ∷ []) = AreRanges.alone (λ g. absurd (let e = g.2 in cc)) AreRanges.none
-ranges_sound (c ∷ d ∷ []) = AreRanges.alone (λ g. absurd (let e = g.2 in cc)) (AreRanges.alone (λ g. absurd (let e = g.2 in cc)) AreRanges.none)
+ranges_sound : (cs : List ℕ) → AreGlobRanges cs (ranges_of cs)
+ranges_sound [] = AreGlobRanges.none
+ranges_sound (c ∷ []) = AreGlobRanges.alone (λ g. absurd (let e = g.2 in cc)) AreGlobRanges.none
+ranges_sound (c ∷ d ∷ []) = AreGlobRanges.alone (λ g. absurd (let e = g.2 in cc)) (AreGlobRanges.alone (λ g. absurd (let e = g.2 in cc)) AreGlobRanges.none)
 ranges_sound (c ∷ d ∷ e ∷ cs) = go (d == 45) refl (ranges_sound cs) (ranges_sound (d ∷ e ∷ cs))
   where
-    go : (b : Bool) → (d == 45) ≡ b → AreRanges cs (ranges_of cs) → AreRanges (d ∷ e ∷ cs) (ranges_of (d ∷ e ∷ cs))
-        → AreRanges (c ∷ d ∷ e ∷ cs) (cond b (range c e ∷ ranges_of cs) (range c c ∷ ranges_of (d ∷ e ∷ cs)))
-    go true is two one = subst (λ (n : ℕ). AreRanges (c ∷ n ∷ e ∷ cs) (range c e ∷ ranges_of cs)) (sym (equals d 45 is)) (AreRanges.two_ends two)
-    go false is two one = AreRanges.alone (λ g. not_dash g.0 g.1 g.2) one
+    go : (b : Bool) → (d == 45) ≡ b → AreGlobRanges cs (ranges_of cs) → AreGlobRanges (d ∷ e ∷ cs) (ranges_of (d ∷ e ∷ cs))
+        → AreGlobRanges (c ∷ d ∷ e ∷ cs) (cond b (glob_range c e ∷ ranges_of cs) (glob_range c c ∷ ranges_of (d ∷ e ∷ cs)))
+    go true is two one = subst (λ (n : ℕ). AreGlobRanges (c ∷ n ∷ e ∷ cs) (glob_range c e ∷ ranges_of cs)) (sym (equals d 45 is)) (AreGlobRanges.two_ends two)
+    go false is two one = AreGlobRanges.alone (λ g. not_dash g.0 g.1 g.2) one
       where
         not_dash : (last : ℕ) (more : List ℕ) → d ∷ e ∷ cs ≡ 45 ∷ last ∷ more → ⊥
         not_dash last more same = let dash : d ≡ 45 = cc in absurd (grind (arith, nat_tests))
 
-ranges_complete : (cs : List ℕ) (ranges : List CharRange) → AreRanges cs ranges → ranges_of cs ≡ ranges
-ranges_complete _ _ AreRanges.none = refl
-ranges_complete _ _ (AreRanges.two_ends {first} {last} {cs} {ranges} inner) = ap (λ (l : List CharRange). range first last ∷ l) (ranges_complete cs ranges inner)
-ranges_complete _ _ (AreRanges.alone {c} {cs} {ranges} apart inner) = go cs apart (ranges_complete cs ranges inner)
+ranges_complete : (cs : List ℕ) (ranges : List CharRange) → AreGlobRanges cs ranges → ranges_of cs ≡ ranges
+ranges_complete _ _ AreGlobRanges.none = refl
+ranges_complete _ _ (AreGlobRanges.two_ends {first} {last} {cs} {ranges} inner) = ap (λ (l : List CharRange). glob_range first last ∷ l) (ranges_complete cs ranges inner)
+ranges_complete _ _ (AreGlobRanges.alone {c} {cs} {ranges} apart inner) = go cs apart (ranges_complete cs ranges inner)
   where
-    go : (cs : List ℕ) → (GoesOn cs → ⊥) → ranges_of cs ≡ ranges → ranges_of (c ∷ cs) ≡ range c c ∷ ranges
-    go [] apart ih = ap (λ (l : List CharRange). range c c ∷ l) ih
-    go (d ∷ []) apart ih = ap (λ (l : List CharRange). range c c ∷ l) ih
+    go : (cs : List ℕ) → (GoesOnAsRange cs → ⊥) → ranges_of cs ≡ ranges → ranges_of (c ∷ cs) ≡ glob_range c c ∷ ranges
+    go [] apart ih = ap (λ (l : List CharRange). glob_range c c ∷ l) ih
+    go (d ∷ []) apart ih = ap (λ (l : List CharRange). glob_range c c ∷ l) ih
     go (d ∷ e ∷ more) apart ih = at (d == 45) refl
       where
-        at : (b : Bool) → (d == 45) ≡ b → cond b (range c e ∷ ranges_of more) (range c c ∷ ranges_of (d ∷ e ∷ more)) ≡ range c c ∷ ranges
+        at : (b : Bool) → (d == 45) ≡ b → cond b (glob_range c e ∷ ranges_of more) (glob_range c c ∷ ranges_of (d ∷ e ∷ more)) ≡ glob_range c c ∷ ranges
         at true is = absurd (apart (e, more, ap (λ (n : ℕ). n ∷ e ∷ more) (equals d 45 is)))
-        at false is = ap (λ (l : List CharRange). range c c ∷ l) ih
+        at false is = ap (λ (l : List CharRange). glob_range c c ∷ l) ih
 
 head_is : (c d : ℕ) (cs more : List ℕ) → c ∷ cs ≡ d ∷ more → c ≡ d
 head_is c d cs more e = cc
 
-class_sound : (cs : List ℕ) → IsClass cs (class_of cs)
-class_sound [] = IsClass.these (λ c more e. absurd cc) AreRanges.none
+class_sound : (cs : List ℕ) → IsGlobClass cs (class_of cs)
+class_sound [] = IsGlobClass.these (λ c more e. absurd cc) AreGlobRanges.none
 class_sound (c ∷ cs) = go (is_negation c) refl
   where
-    go : (b : Bool) → is_negation c ≡ b → IsClass (c ∷ cs) (cond b (record { negated = true; ranges = ranges_of cs }) (record { negated = false; ranges = ranges_of (c ∷ cs) }))
-    go true is = IsClass.others is (ranges_sound cs)
-    go false is = IsClass.these (λ d more e. let same : c ≡ d = head_is c d cs more e in subst (λ (n : ℕ). is_negation n ≡ false) same is) (ranges_sound (c ∷ cs))
+    go : (b : Bool) → is_negation c ≡ b → IsGlobClass (c ∷ cs) (cond b (record { negated = true; ranges = ranges_of cs }) (record { negated = false; ranges = ranges_of (c ∷ cs) }))
+    go true is = IsGlobClass.others is (ranges_sound cs)
+    go false is = IsGlobClass.these (λ d more e. let same : c ≡ d = head_is c d cs more e in subst (λ (n : ℕ). is_negation n ≡ false) same is) (ranges_sound (c ∷ cs))
 
-class_complete : (cs : List ℕ) (class : CharClass) → IsClass cs class → class_of cs ≡ class
-class_complete _ _ (IsClass.others {c} {cs} {ranges} is all) = rw is (ap (λ (l : List CharRange). record { negated = true; ranges = l }) (ranges_complete cs ranges all))
-class_complete _ _ (IsClass.these {cs} {ranges} apart all) = go cs apart (ranges_complete cs ranges all)
+class_complete : (cs : List ℕ) (class : CharClass) → IsGlobClass cs class → class_of cs ≡ class
+class_complete _ _ (IsGlobClass.others {c} {cs} {ranges} is all) = rw is (ap (λ (l : List CharRange). record { negated = true; ranges = l }) (ranges_complete cs ranges all))
+class_complete _ _ (IsGlobClass.these {cs} {ranges} apart all) = go cs apart (ranges_complete cs ranges all)
   where
     go : (cs : List ℕ) → ((c : ℕ) (more : List ℕ) → cs ≡ c ∷ more → is_negation c ≡ false) → ranges_of cs ≡ ranges → class_of cs ≡ record { negated = false; ranges = ranges }
     go [] apart e = ap (λ (l : List CharRange). record { negated = false; ranges = l }) e
@@ -85,19 +85,19 @@ cut (c ∷ cs) = go (is_close c) refl (cut cs)
 
 -- what is left of a text that spells a glob, or that a class leaves open
 abbrev Told : List ℕ → Option (List ℕ) → Type 0
-Told cs None = Spells cs (pieces_from None cs)
-Told cs (Some rest) = (prefix : List ℕ) × (glob : List GlobPiece) × (inside : List ℕ) × (cs ≡ prefix ++ 91 ∷ inside) × (rest ≡ 91 ∷ inside) × Spells prefix glob × NonePass is_close inside
+Told cs None = SpellsGlob cs (pieces_from None cs)
+Told cs (Some rest) = (prefix : List ℕ) × (glob : List GlobPiece) × (inside : List ℕ) × (cs ≡ prefix ++ 91 ∷ inside) × (rest ≡ 91 ∷ inside) × SpellsGlob prefix glob × NonePass is_close inside
 
-plain_spells : (c : ℕ) (cs : List ℕ) (pieces : List GlobPiece) → is_open c ≡ false → Spells cs pieces → Spells (c ∷ cs) (plain_piece c ∷ pieces)
+plain_spells : (c : ℕ) (cs : List ℕ) (pieces : List GlobPiece) → is_open c ≡ false → SpellsGlob cs pieces → SpellsGlob (c ∷ cs) (plain_piece c ∷ pieces)
 plain_spells c cs pieces apart later = go (c == 42) (c == 63) refl refl
   where
-    go : (p q : Bool) → (c == 42) ≡ p → (c == 63) ≡ q → Spells (c ∷ cs) (cond p Star (cond q AnyChar (Literal c)) ∷ pieces)
-    go true q ep eq = subst (λ (n : ℕ). Spells (n ∷ cs) (Star ∷ pieces)) (sym (equals c 42 ep)) (Spells.star later)
-    go false true ep eq = subst (λ (n : ℕ). Spells (n ∷ cs) (AnyChar ∷ pieces)) (sym (equals c 63 eq)) (Spells.any later)
-    go false false ep eq = Spells.literal (rw (ep, eq, apart) refl) later
+    go : (p q : Bool) → (c == 42) ≡ p → (c == 63) ≡ q → SpellsGlob (c ∷ cs) (cond p Star (cond q AnyChar (Literal c)) ∷ pieces)
+    go true q ep eq = subst (λ (n : ℕ). SpellsGlob (n ∷ cs) (Star ∷ pieces)) (sym (equals c 42 ep)) (SpellsGlob.star later)
+    go false true ep eq = subst (λ (n : ℕ). SpellsGlob (n ∷ cs) (AnyChar ∷ pieces)) (sym (equals c 63 eq)) (SpellsGlob.any later)
+    go false false ep eq = SpellsGlob.literal (rw (ep, eq, apart) refl) later
 
 told : (n : ℕ) (cs : List ℕ) → length cs ≤ n → Told cs (unclosed_class None cs)
-told n [] le = Spells.nothing
+told n [] le = SpellsGlob.nothing
 told zero (c ∷ cs) le = absurd (omega (arith, le))
 told (suc n) (c ∷ cs) le = go (λ rest less. told n rest less) (is_open c) refl
   where
@@ -108,14 +108,14 @@ told (suc n) (c ∷ cs) le = go (λ rest less. told n rest less) (is_open c) ref
     class : (inside rest : List ℕ) → c ≡ 91 → cs ≡ inside ++ 93 ∷ rest → NonePass is_close inside → (o : Option (List ℕ)) → Told rest o → Told (c ∷ cs) o
     class inside rest is e none None later =
         let pieces : pieces_from None (91 ∷ cs) ≡ Class (class_of inside) ∷ pieces_from None rest = ap (pieces_from (Some [])) e ∙ class_piece [] inside rest none in
-        rw (is, pieces) (Spells.class inside rest (class_of inside) none (class_sound inside) e later)
+        rw (is, pieces) (SpellsGlob.class inside rest (class_of inside) none (class_sound inside) e later)
     class inside rest is e none (Some left) (prefix, glob, after, parts, same, spelled, never) = (
       91 ∷ (inside ++ 93 ∷ prefix),
       Class (class_of inside) ∷ glob,
       after,
       rw (is, e, parts) (ap (λ (l : List ℕ). 91 ∷ l) (sym (append_assoc inside (93 ∷ prefix) (91 ∷ after)))),
       same,
-      Spells.class inside prefix (class_of inside) none (class_sound inside) refl spelled,
+      SpellsGlob.class inside prefix (class_of inside) none (class_sound inside) refl spelled,
       never,
     )
 
@@ -125,7 +125,7 @@ told (suc n) (c ∷ cs) le = go (λ rest less. told n rest less) (is_open c) ref
         let same : unclosed_class (Some (c ∷ cs)) cs ≡ unclosed_class None rest = ap (unclosed_class (Some (c ∷ cs))) e ∙ closes (c ∷ cs) inside rest none in
         subst (Told (c ∷ cs)) (sym same) (class inside rest is e none (unclosed_class None rest) (ih rest less))
     by_cut ih is (Cut.open_ none) =
-        subst (Told (c ∷ cs)) (sym (stays_unclosed (c ∷ cs) cs none)) ([], [], cs, ap (λ (m : ℕ). m ∷ cs) is, ap (λ (m : ℕ). m ∷ cs) is, Spells.nothing, none)
+        subst (Told (c ∷ cs)) (sym (stays_unclosed (c ∷ cs) cs none)) ([], [], cs, ap (λ (m : ℕ). m ∷ cs) is, ap (λ (m : ℕ). m ∷ cs) is, SpellsGlob.nothing, none)
 
     go : ((rest : List ℕ) → length rest ≤ n → Told rest (unclosed_class None rest)) → (b : Bool) → is_open c ≡ b → Told (c ∷ cs) (unclosed_class (cond b (Some (c ∷ cs)) None) cs)
     go ih true is = by_cut ih (equals c 91 is) (cut cs)
@@ -138,17 +138,17 @@ IsRead cs glob = (unclosed_class None cs ≡ None) × (pieces_from None cs ≡ g
 plain_read : (c : ℕ) (cs : List ℕ) (glob : List GlobPiece) → is_open c ≡ false → IsRead cs glob → IsRead (c ∷ cs) (plain_piece c ∷ glob)
 plain_read c cs glob apart (ended, pieces) = (rw apart ended, rw apart (ap (λ (l : List GlobPiece). plain_piece c ∷ l) pieces))
 
-complete : (cs : List ℕ) (glob : List GlobPiece) → Spells cs glob → IsRead cs glob
-complete _ _ Spells.nothing = (refl, refl)
-complete _ _ (Spells.star {cs} {pieces} later) = plain_read 42 cs pieces refl (complete cs pieces later)
-complete _ _ (Spells.any {cs} {pieces} later) = plain_read 63 cs pieces refl (complete cs pieces later)
-complete _ _ (Spells.literal {c} {cs} {pieces} plain later) =
+complete : (cs : List ℕ) (glob : List GlobPiece) → SpellsGlob cs glob → IsRead cs glob
+complete _ _ SpellsGlob.nothing = (refl, refl)
+complete _ _ (SpellsGlob.star {cs} {pieces} later) = plain_read 42 cs pieces refl (complete cs pieces later)
+complete _ _ (SpellsGlob.any {cs} {pieces} later) = plain_read 63 cs pieces refl (complete cs pieces later)
+complete _ _ (SpellsGlob.literal {c} {cs} {pieces} plain later) =
     let star : (c == 42) ≡ false = grind (arith, nat_tests) in
     let any : (c == 63) ≡ false = grind (arith, nat_tests) in
     let open_ : is_open c ≡ false = grind (arith, nat_tests) in
     let piece : plain_piece c ≡ Literal c = rw (star, any) refl in
     subst (λ (p : GlobPiece). IsRead (c ∷ cs) (p ∷ pieces)) piece (plain_read c cs pieces open_ (complete cs pieces later))
-complete _ _ (Spells.class {cs} {pieces} inside rest class none is e later) =
+complete _ _ (SpellsGlob.class {cs} {pieces} inside rest class none is e later) =
     let ih = complete rest pieces later in (
       ap (unclosed_class (Some (91 ∷ cs))) e ∙ closes (91 ∷ cs) inside rest none ∙ ih.0,
       ap (pieces_from (Some [])) e ∙ class_piece [] inside rest none ∙ ap (λ (k : CharClass). Class k ∷ pieces_from None rest) (class_complete inside class is)
@@ -162,7 +162,7 @@ encode_append (x ∷ xs) ys = ap (λ (l : List ℕ). encode x ++ l) (encode_appe
 -- ---- what a reading says
 
 abbrev Answers : List ℕ → Result (List GlobPiece) GlobFault → Type 0
-Answers cs (Ok glob) = Spells cs glob
+Answers cs (Ok glob) = SpellsGlob cs glob
 Answers cs (Err NoMemory) = ⊥
 Answers cs (Err (OpenClass place)) = IsOpen place cs
 
@@ -177,7 +177,7 @@ answered text u = go (unclosed_class None (chars text)) (told (length (chars tex
         in
         record { prefix = prefix; glob = glob; inside = inside; parts = parts; spelled = spelled; none = none; here = omega (arith, whole) }
 
-is_only : (text : List ℕ) (glob : List GlobPiece) → Spells (chars text) glob → glob_of text ≡ Ok glob
+is_only : (text : List ℕ) (glob : List GlobPiece) → SpellsGlob (chars text) glob → glob_of text ≡ Ok glob
 is_only text glob spelled =
     let read = complete (chars text) glob spelled in
     ap (λ (o : Option (List ℕ)). unless_unclosed o text) read.0 ∙ ap (λ (l : List GlobPiece). Ok l) read.1
@@ -188,22 +188,22 @@ done glob = Ok glob
 abbrev failed : GlobFault → Result (List GlobPiece) GlobFault
 failed fault = Err fault
 
-spelled_is : (text : List ℕ) (read glob : List GlobPiece) → IsUtf8 text → glob_of text ≡ Ok read → Spells (chars text) glob ↔ glob ≡ read
+spelled_is : (text : List ℕ) (read glob : List GlobPiece) → IsUtf8 text → glob_of text ≡ Ok read → SpellsGlob (chars text) glob ↔ glob ≡ read
 spelled_is text read glob u e = (
   λ s. let both : done glob ≡ done read = sym (is_only text glob s) ∙ e in cc,
   λ same. rw same (subst (Answers (chars text)) e (answered text u)),
 )
 
-fault_is : (text : List ℕ) (e : GlobFault) → IsUtf8 text → (e ≢ NoMemory → glob_of text ≡ Err e) → IsFault e (chars text)
+fault_is : (text : List ℕ) (e : GlobFault) → IsUtf8 text → (e ≢ NoMemory → glob_of text ≡ Err e) → IsGlobFault e (chars text)
 fault_is text NoMemory u h = tt
 fault_is text (OpenClass place) u h =
     let e : glob_of text ≡ Err (OpenClass place) = h (λ same. absurd cc) in
     (subst (Answers (chars text)) e (answered text u), λ glob s. let both : done glob ≡ failed (OpenClass place) = sym (is_only text glob s) ∙ e in absurd cc)
 
-pub spelled_read : (text : List ℕ) (r : Result (List GlobPiece) GlobFault) → IsUtf8 text → IfOk r (λ g. glob_of text ≡ Ok g) → IfOk r (λ g. (glob : List GlobPiece) → Spells (chars text) glob ↔ glob ≡ g)
+pub spelled_read : (text : List ℕ) (r : Result (List GlobPiece) GlobFault) → IsUtf8 text → IfOk r (λ g. glob_of text ≡ Ok g) → IfOk r (λ g. (glob : List GlobPiece) → SpellsGlob (chars text) glob ↔ glob ≡ g)
 spelled_read text (Ok g) u e = λ glob. spelled_is text g glob u e
 spelled_read text (Err fault) u e = tt
 
-pub fault_read : (text : List ℕ) (r : Result (List GlobPiece) GlobFault) → IsUtf8 text → IfErr r (λ e. e ≢ NoMemory → glob_of text ≡ Err e) → IfErr r (λ e. IsFault e (chars text))
+pub fault_read : (text : List ℕ) (r : Result (List GlobPiece) GlobFault) → IsUtf8 text → IfErr r (λ e. e ≢ NoMemory → glob_of text ≡ Err e) → IfErr r (λ e. IsGlobFault e (chars text))
 fault_read text (Ok g) u e = tt
 fault_read text (Err fault) u e = fault_is text fault u e

@@ -7,19 +7,19 @@ use Rattle.glob_rules.specs.declared.piece.GlobPiece.{GlobPiece}
 use Rattle.glob_rules.specs.declared.piece.GlobPiece.TheVariants.{Star, AnyChar, Literal, Class}
 
 -- a range has both its ends
-abbrev pub in_range : ℕ → CharRange → Bool
-in_range c range = nat_le range.first c && nat_le c range.last
+abbrev pub in_glob_range : ℕ → CharRange → Bool
+in_glob_range c range = nat_le range.first c && nat_le c range.last
 
 -- a class has the characters of its ranges; a negated one all others
-abbrev pub in_class : ℕ → CharClass → Bool
-in_class c class = if class.negated then not (list_any (in_range c) class.ranges) else list_any (in_range c) class.ranges
+abbrev pub in_glob_class : ℕ → CharClass → Bool
+in_glob_class c class = if class.negated then not (list_any (in_glob_range c) class.ranges) else list_any (in_glob_range c) class.ranges
 
 -- whether a piece stands for one character, and for this one
 abbrev pub stands_for : GlobPiece → ℕ → Bool
 stands_for Star c = false
 stands_for AnyChar c = true
 stands_for (Literal d) c = c == d
-stands_for (Class class) c = in_class c class
+stands_for (Class class) c = in_glob_class c class
 
 -- the piece is a star
 abbrev pub is_star : GlobPiece → Bool

@@ -25,15 +25,15 @@ abbrev pub plain_piece : ℕ → GlobPiece
 plain_piece c = if c == 42 then Star else (if c == 63 then AnyChar else Literal c)
 
 -- the range of characters from the one to the other
-abbrev pub range : ℕ → ℕ → CharRange
-range first last = record { first = first; last = last }
+abbrev pub glob_range : ℕ → ℕ → CharRange
+glob_range first last = record { first = first; last = last }
 
 -- a character, `-` and another one are a range; any other character is a range of its own
 abbrev pub ranges_of : List ℕ → List CharRange
 ranges_of [] = []
-ranges_of (c ∷ []) = range c c ∷ []
-ranges_of (c ∷ d ∷ []) = range c c ∷ range d d ∷ []
-ranges_of (c ∷ d ∷ e ∷ cs) = if d == 45 then range c e ∷ ranges_of cs else range c c ∷ ranges_of (d ∷ e ∷ cs)
+ranges_of (c ∷ []) = glob_range c c ∷ []
+ranges_of (c ∷ d ∷ []) = glob_range c c ∷ glob_range d d ∷ []
+ranges_of (c ∷ d ∷ e ∷ cs) = if d == 45 then glob_range c e ∷ ranges_of cs else glob_range c c ∷ ranges_of (d ∷ e ∷ cs)
 
 -- what stands between `[` and `]`
 abbrev pub class_of : List ℕ → CharClass

@@ -7,35 +7,35 @@ use Rattle.glob_rules.specs.declared.piece.CharRange.{CharRange}
 use Rattle.glob_rules.specs.declared.piece.CharClass.{CharClass}
 use Rattle.glob_rules.specs.declared.piece.GlobPiece.{GlobPiece}
 use Rattle.glob_rules.specs.declared.piece.GlobPiece.TheVariants.{Star, AnyChar, Literal, Class}
-use Rattle.glob_rules.specs.Reading.{is_close, is_negation, range}
+use Rattle.glob_rules.specs.Reading.{is_close, is_negation, glob_range}
 
 -- `*`, `?` and `[` don't stand for themselves
-abbrev pub is_special : ℕ → Bool
-is_special c = c == 42 || (c == 63 || c == 91)
+abbrev pub is_glob_special : ℕ → Bool
+is_glob_special c = c == 42 || (c == 63 || c == 91)
 
 -- `-` and a character after it
-abbrev pub GoesOn : List ℕ → Type 0
-GoesOn cs = (last : ℕ) × (more : List ℕ) × (cs ≡ 45 ∷ last ∷ more)
+abbrev pub GoesOnAsRange : List ℕ → Type 0
+GoesOnAsRange cs = (last : ℕ) × (more : List ℕ) × (cs ≡ 45 ∷ last ∷ more)
 
 -- Characters spell ranges: `a-z` is one range, and a character with which no range begins is a range of its own.
-pub data AreRanges : List ℕ → List CharRange → Type 0 where
-  none : AreRanges [] []
-  two_ends : {first last : ℕ} {cs : List ℕ} {ranges : List CharRange} → AreRanges cs ranges → AreRanges (first ∷ 45 ∷ last ∷ cs) (range first last ∷ ranges)
-  alone : {c : ℕ} {cs : List ℕ} {ranges : List CharRange} → (GoesOn cs → ⊥) → AreRanges cs ranges → AreRanges (c ∷ cs) (range c c ∷ ranges)
+pub data AreGlobRanges : List ℕ → List CharRange → Type 0 where
+  none : AreGlobRanges [] []
+  two_ends : {first last : ℕ} {cs : List ℕ} {ranges : List CharRange} → AreGlobRanges cs ranges → AreGlobRanges (first ∷ 45 ∷ last ∷ cs) (glob_range first last ∷ ranges)
+  alone : {c : ℕ} {cs : List ℕ} {ranges : List CharRange} → (GoesOnAsRange cs → ⊥) → AreGlobRanges cs ranges → AreGlobRanges (c ∷ cs) (glob_range c c ∷ ranges)
 
 -- What stands between `[` and `]` spells a class: with `!` or `^` before the ranges it is that of all other characters.
-pub data IsClass : List ℕ → CharClass → Type 0 where
-  others : {c : ℕ} {cs : List ℕ} {ranges : List CharRange} → is_negation c ≡ true → AreRanges cs ranges → IsClass (c ∷ cs) (record { negated = true; ranges = ranges })
-  these : {cs : List ℕ} {ranges : List CharRange} → ((c : ℕ) (more : List ℕ) → cs ≡ c ∷ more → is_negation c ≡ false) → AreRanges cs ranges → IsClass cs (record { negated = false; ranges = ranges })
+pub data IsGlobClass : List ℕ → CharClass → Type 0 where
+  others : {c : ℕ} {cs : List ℕ} {ranges : List CharRange} → is_negation c ≡ true → AreGlobRanges cs ranges → IsGlobClass (c ∷ cs) (record { negated = true; ranges = ranges })
+  these : {cs : List ℕ} {ranges : List CharRange} → ((c : ℕ) (more : List ℕ) → cs ≡ c ∷ more → is_negation c ≡ false) → AreGlobRanges cs ranges → IsGlobClass cs (record { negated = false; ranges = ranges })
 
 -- The characters of a text spell a glob, piece after piece. No `]` stands within a class.
-pub data Spells : List ℕ → List GlobPiece → Type 0 where
-  nothing : Spells [] []
-  star : {cs : List ℕ} {pieces : List GlobPiece} → Spells cs pieces → Spells (42 ∷ cs) (Star ∷ pieces)
-  any : {cs : List ℕ} {pieces : List GlobPiece} → Spells cs pieces → Spells (63 ∷ cs) (AnyChar ∷ pieces)
-  literal : {c : ℕ} {cs : List ℕ} {pieces : List GlobPiece} → is_special c ≡ false → Spells cs pieces → Spells (c ∷ cs) (Literal c ∷ pieces)
-  class : {cs : List ℕ} {pieces : List GlobPiece} (inside rest : List ℕ) (class : CharClass) → NonePass is_close inside → IsClass inside class → cs ≡ inside ++ 93 ∷ rest → Spells rest pieces
-      → Spells (91 ∷ cs) (Class class ∷ pieces)
+pub data SpellsGlob : List ℕ → List GlobPiece → Type 0 where
+  nothing : SpellsGlob [] []
+  star : {cs : List ℕ} {pieces : List GlobPiece} → SpellsGlob cs pieces → SpellsGlob (42 ∷ cs) (Star ∷ pieces)
+  any : {cs : List ℕ} {pieces : List GlobPiece} → SpellsGlob cs pieces → SpellsGlob (63 ∷ cs) (AnyChar ∷ pieces)
+  literal : {c : ℕ} {cs : List ℕ} {pieces : List GlobPiece} → is_glob_special c ≡ false → SpellsGlob cs pieces → SpellsGlob (c ∷ cs) (Literal c ∷ pieces)
+  class : {cs : List ℕ} {pieces : List GlobPiece} (inside rest : List ℕ) (class : CharClass) → NonePass is_close inside → IsGlobClass inside class → cs ≡ inside ++ 93 ∷ rest → SpellsGlob rest pieces
+      → SpellsGlob (91 ∷ cs) (Class class ∷ pieces)
 
 -- a glob, and then a `[` that no `]` closes, at this place: the number of bytes before it
 pub record IsOpen (place : ℕ) (cs : List ℕ) : Type 0 where
@@ -43,11 +43,11 @@ pub record IsOpen (place : ℕ) (cs : List ℕ) : Type 0 where
   pub glob : List GlobPiece
   pub inside : List ℕ
   pub parts : cs ≡ prefix ++ 91 ∷ inside
-  pub spelled : Spells prefix glob
+  pub spelled : SpellsGlob prefix glob
   pub none : NonePass is_close inside
   pub here : place ≡ length (encode_utf8_all prefix)
 
 -- the characters spell no glob, since a class is open at this place
-abbrev pub IsFault : GlobFault → List ℕ → Type 0
-IsFault NoMemory cs = Unit {0}
-IsFault (OpenClass place) cs = IsOpen place cs × ((glob : List GlobPiece) → Spells cs glob → ⊥)
+abbrev pub IsGlobFault : GlobFault → List ℕ → Type 0
+IsGlobFault NoMemory cs = Unit {0}
+IsGlobFault (OpenClass place) cs = IsOpen place cs × ((glob : List GlobPiece) → SpellsGlob cs glob → ⊥)

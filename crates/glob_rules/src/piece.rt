@@ -1,7 +1,7 @@
 //! What a glob is made of.
 ghost use Rattle.std.specs.Prelude.{◌≡◌};
 ghost use Rattle.std.specs.List.{list_any};
-ghost use Rattle.glob_rules.specs.Globs.{in_range, in_class, stands_for, is_star};
+ghost use Rattle.glob_rules.specs.Globs.{in_glob_range, in_glob_class, stands_for, is_star};
 
 use sp_base::Items;
 
@@ -30,19 +30,19 @@ pub enum GlobPiece {
 }
 
 fn is_in_range(c: char, range: &CharRange) -> bool
-    ensures { result ≡ in_range c range.now }
+    ensures { result ≡ in_glob_range c range.now }
 {
     range.first <= c && c <= range.last
 }
 
 fn is_in_ranges(c: char, ranges: &[CharRange]) -> bool
-    ensures { result ≡ list_any (in_range c) ranges.now }
+    ensures { result ≡ list_any (in_glob_range c) ranges.now }
 {
     ranges.iter().any(|range| is_in_range(c, range))
 }
 
 fn is_in_class(c: char, class: &CharClass) -> bool
-    ensures { result ≡ in_class c class.now }
+    ensures { result ≡ in_glob_class c class.now }
 {
     if class.negated {
         !is_in_ranges(c, class.ranges.as_slice())

@@ -2,7 +2,7 @@
 ghost use Rattle.std.specs.Prelude.{◌≡◌, ◌≢◌, ◌≤◌, ◌↔◌, ◌∷◌, ◌++◌, List, IfOk, IfErr, IfSome, MatchOption, Ok, Err, length};
 ghost use Rattle.std.specs.Str.{chars, NonePass};
 ghost use Rattle.glob_rules.specs.Reading as spec;
-ghost use Rattle.glob_rules.specs.Spelling.{Spells, IsFault};
+ghost use Rattle.glob_rules.specs.Spelling.{SpellsGlob, IsGlobFault};
 ghost use Rattle.glob_rules.specs.declared.piece.GlobPiece.{GlobPiece};
 
 use crate::chars::first_char;
@@ -18,8 +18,8 @@ impl Glob {
     pub fn read(alloc: Global, text: &str) -> Result<Glob, GlobFault>
         ensures ok { IfOk result (λ g. spec.glob_of text.now ≡ Ok g) }
         ensures err { IfErr result (λ e. e ≢ GlobFault.NoMemory → spec.glob_of text.now ≡ Err e) }
-        ensures spelled { IfOk result (λ g. (glob : List GlobPiece) → Spells (chars text.now) glob ↔ glob ≡ g) }
-        ensures fault { IfErr result (λ e. IsFault e (chars text.now)) }
+        ensures spelled { IfOk result (λ g. (glob : List GlobPiece) → SpellsGlob (chars text.now) glob ↔ glob ≡ g) }
+        ensures fault { IfErr result (λ e. IsGlobFault e (chars text.now)) }
     {
         pieces_of(alloc, text)
     }

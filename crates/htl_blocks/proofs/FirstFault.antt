@@ -8,7 +8,7 @@ use Rattle.htl_text.specs.declared.piece.TemplatePiece.TheVariants as piece
 use Rattle.htl_text.specs.declared.fault.TextFault.{TextFault}
 use Rattle.htl_text.specs.declared.fault.TextFault.TheVariants as text_fault
 use Rattle.htl_text.specs.declared.quotes.Quotes.TheVariants as quotes
-use Rattle.htl_text.specs.Template.{opens_expression, escapes, value_at, closed_value, read_value, closing, with_plain, before, with_expression, template_pieces, template_of, template_at, read_from, fault_at}
+use Rattle.htl_text.specs.Template.{opens_expression, escapes, value_at, closed_value, read_value, closing, with_plain, before, with_expression, template_pieces, template_of, template_at, read_from_place, fault_at}
 use Rattle.htl_blocks.specs.declared.fault.BlockFault.{BlockFault}
 use Rattle.htl_blocks.specs.declared.fault.BlockFault.TheVariants as fault
 use Rattle.htl_blocks.specs.declared.attribute.Attributes.{Attributes}
@@ -18,9 +18,9 @@ use Rattle.htl_blocks.specs.declared.block.Tag.{Tag}
 use Rattle.htl_blocks.specs.ElementText.{ElementText}
 use Rattle.htl_blocks.specs.Markup.{parts}
 use Rattle.htl_blocks.specs.Attributes.{tag_attributes}
-use Rattle.htl_blocks.specs.Reading.{◌then◌, told_at, run_of, after_run, text_block, run_blocks, element_cut, tag_of, known_tag, start_tag, element, blocks_read, content_within, blocks_of}
+use Rattle.htl_blocks.specs.Reading.{◌then◌, told_at, run_of, after_text_run, text_block, run_blocks, element_cut, tag_of, known_tag, start_tag, element, blocks_read, content_within, blocks_of}
 use Rattle.htl_blocks.specs.Laws.{HasNoBlock, bytes_of}
-use Rattle.htl_blocks.specs.Spelling.{text_of, FirstTag, Element, FaultIn, text_fault_place, fault_place, text_fault_kind, fault_kind, ComesFirst, IsFirstFault}
+use Rattle.htl_blocks.specs.Spelling.{whole_text, FirstTag, Element, FaultIn, text_fault_place, block_fault_place, text_fault_kind, fault_kind, ComesFirst, IsFirstFault}
 use Rattle.htl_blocks.specs.Spelling as spelling
 use Rattle.htl_blocks.proofs.Turns.{within_is, element_is, element_open, element_tag_fails, element_content_fails}
 use Rattle.htl_blocks.proofs.Split.{cut_of, cut_only, cut_says, Cuts, first_tag, run_plain, run_tag, length_text}
@@ -95,7 +95,7 @@ text_fault_stands place t f e = go (template_of t) refl e
     moved (text_fault.BadExpr n) w = record { from = omega arith; below = omega (arith, w) }
     moved text_fault.NoMemory w = absurd w
 
-    go : (r : Result (List TemplatePiece) TextFault) → template_of t ≡ r → read_from place r ≡ Err f → Stands place (length t) f
+    go : (r : Result (List TemplatePiece) TextFault) → template_of t ≡ r → read_from_place place r ≡ Err f → Stands place (length t) f
     go (Ok ps) q h = absurd cc
     go (Err g) q h = let same : fault_at place g ≡ f = cc in subst (Stands place (length t)) same (moved g (template_fault t g q))
 
@@ -112,16 +112,16 @@ told_place place t f e = go f (template_fault t f e)
 
 -- a fault stands in a text
 pub record Lies (place len : ℕ) (f : BlockFault) : Type 0 where
-  pub from : place ≤ fault_place f
-  pub below : fault_place f < place + len
+  pub from : place ≤ block_fault_place f
+  pub below : block_fault_place f < place + len
 
-at_tag : (t : List ℕ) (x : FirstTag t) (place : ℕ) (f : BlockFault) → fault_place f ≡ place + bytes_of x.before → Lies place (length t) f
+at_tag : (t : List ℕ) (x : FirstTag t) (place : ℕ) (f : BlockFault) → block_fault_place f ≡ place + bytes_of x.before → Lies place (length t) f
 at_tag t x place f e = let some = tag_nonempty t x in let size = first_size t x in record { from = omega (arith, e); below = omega (arith, e, some, size) }
 
 pub fault_lies : (levels place : ℕ) (t : List ℕ) (f : BlockFault) → FaultIn levels place t f → Lies place (length t) f
 fault_lies levels place t _ (spelling.of_text {f = f} h e) = let s = text_fault_stands place t f e in record { from = s.from; below = s.below }
 fault_lies levels place t _ (spelling.of_leading_text {f = f} x e) =
-    let s = text_fault_stands place (text_of x.before) f e in
+    let s = text_fault_stands place (whole_text x.before) f e in
     let size = first_size t x in
     let len = length_text x.before in
     let below = s.below in
@@ -131,7 +131,7 @@ fault_lies levels place t _ (spelling.bad_block x n) = at_tag t x place (fault.B
 fault_lies _ place t _ (spelling.too_deep x) = at_tag t x place (fault.TooDeep (place + bytes_of x.before)) refl
 fault_lies levels place t _ (spelling.of_start_tag {kept = kept} {f = f} x a e) = at_tag t x place (fault.Text (told_at (place + bytes_of x.before) f)) (told_place (place + bytes_of x.before) kept f e)
 fault_lies _ place t f (spelling.in_content {levels = levels} x y d) =
-    let ih = fault_lies levels ((place + bytes_of x.before) + length x.tag) (text_of y.inner) f d in
+    let ih = fault_lies levels ((place + bytes_of x.before) + length x.tag) (whole_text y.inner) f d in
     let z = sizes t x y in
     let all = z.all in
     let len = length_text y.inner in
@@ -139,7 +139,7 @@ fault_lies _ place t f (spelling.in_content {levels = levels} x y d) =
     let below = ih.below in
     record { from = omega (arith, from); below = omega (arith, below, all, len) }
 fault_lies levels place t f (spelling.after_element x y d) =
-    let ih = fault_lies levels ((((place + bytes_of x.before) + length x.tag) + bytes_of y.inner) + length y.end_tag) (text_of y.after) f d in
+    let ih = fault_lies levels ((((place + bytes_of x.before) + length x.tag) + bytes_of y.inner) + length y.end_tag) (whole_text y.after) f d in
     let z = sizes t x y in
     let all = z.all in
     let len = length_text y.after in
@@ -189,20 +189,20 @@ tag_fails levels place tag f e = go levels refl (tag_attributes tag) refl e
     go (suc n) l (Some a) s h = read n l a s (template_of a.1) refl (rw not_zero at h)
 
 -- a tag's fault stands at the tag
-tag_fault_place : (levels place : ℕ) (tag : List ℕ) (f : BlockFault) → tag_of levels place tag ≡ Err f → fault_place f ≤ place
+tag_fault_place : (levels place : ℕ) (tag : List ℕ) (f : BlockFault) → tag_of levels place tag ≡ Err f → block_fault_place f ≤ place
 tag_fault_place levels place tag f e = go (tag_fails levels place tag f e)
   where
-    go : TagFails levels place tag f → fault_place f ≤ place
-    go (inl x) = let same = ap fault_place (sym x.1) in omega (arith, same)
-    go (inr (inl x)) = let same = ap fault_place (sym x.1) in omega (arith, same)
-    go (inr (inr x)) = let same = ap fault_place (sym x.5) in let there = told_place place x.1 x.2 x.4 in omega (arith, same, there)
+    go : TagFails levels place tag f → block_fault_place f ≤ place
+    go (inl x) = let same = ap block_fault_place (sym x.1) in omega (arith, same)
+    go (inr (inl x)) = let same = ap block_fault_place (sym x.1) in omega (arith, same)
+    go (inr (inr x)) = let same = ap block_fault_place (sym x.5) in let there = told_place place x.1 x.2 x.4 in omega (arith, same, there)
 
 -- the faults of content that was read stand in it
 abbrev InsideFault : ℕ → Type 0
 InsideFault levels = (l : ℕ) → levels ≡ suc l → (place end : ℕ) (u : List ℕ) (f : BlockFault) → end ≡ place + length u → content_within levels end u ≡ Err f → FaultIn l place u f
 
 -- where the content of an element ends
-inside_end : (t : List ℕ) (x : FirstTag t) (y : Element x.tag x.rest) (place end : ℕ) → end ≡ place + length t → (end - length (text_of y.after)) - length y.end_tag ≡ ((place + bytes_of x.before) + length x.tag) + length (text_of y.inner)
+inside_end : (t : List ℕ) (x : FirstTag t) (y : Element x.tag x.rest) (place end : ℕ) → end ≡ place + length t → (end - length (whole_text y.after)) - length y.end_tag ≡ ((place + bytes_of x.before) + length x.tag) + length (whole_text y.inner)
 inside_end t x y place end e =
     let z = sizes t x y in
     let all = z.all in
@@ -242,17 +242,17 @@ element_fails levels inner end u f e = cut_case (then_err (element_cut (end - le
     cut_case (inr x) = tag_case x.0 x.1 (then_err (tag_of levels (end - length u) x.0.tag) _ f x.2)
 
 -- the fault of an element that was not read
-element_fault : (levels place end : ℕ) (t : List ℕ) (x : FirstTag t) (f : BlockFault) → InsideFault levels → end ≡ place + length t → element levels (content_within levels) end (after_run t) ≡ Err f → FaultIn levels place t f
-element_fault levels place end t x f inside e h = go (element_fails levels (content_within levels) end (after_run t) f h)
+element_fault : (levels place end : ℕ) (t : List ℕ) (x : FirstTag t) (f : BlockFault) → InsideFault levels → end ≡ place + length t → element levels (content_within levels) end (after_text_run t) ≡ Err f → FaultIn levels place t f
+element_fault levels place end t x f inside e h = go (element_fails levels (content_within levels) end (after_text_run t) f h)
   where
     at : ℕ
-    at = end - length (after_run t)
+    at = end - length (after_text_run t)
 
     at_is : at ≡ place + bytes_of x.before
     at_is = after_place t x place end e
 
-    says : Cuts at x.tag x.rest (element_cut at (after_run t))
-    says = cut_says at (after_run t) x.tag x.rest (first_parts t x) x.block
+    says : Cuts at x.tag x.rest (element_cut at (after_text_run t))
+    says = cut_says at (after_text_run t) x.tag x.rest (first_parts t x) x.block
 
     of_tag : (n : ℕ) → n ≡ place + bytes_of x.before → TagFails levels n x.tag f → FaultIn levels place t f
     of_tag n q (inl w) = subst (FaultIn levels place t) (ap fault.BadBlock (sym q) ∙ w.1) (spelling.bad_block x w.0)
@@ -263,11 +263,11 @@ element_fault levels place end t x f inside e h = go (element_fails levels (cont
     in_content cut w tag a c =
         let y = w.0 in
         let s = tag_found levels at x.tag tag (ap (λ (k : ElementText). tag_of levels at k.tag) (sym w.1) ∙ a) in
-        let c_is : content_within levels ((end - length (text_of y.after)) - length y.end_tag) (text_of y.inner) ≡ Err f = ap (λ (k : ElementText). content_within levels ((end - length k.rest) - length k.end_tag) k.inside) (sym w.1) ∙ c in
-        let there = inside s.level s.more ((place + bytes_of x.before) + length x.tag) ((end - length (text_of y.after)) - length y.end_tag) (text_of y.inner) f (inside_end t x y place end e) c_is in
+        let c_is : content_within levels ((end - length (whole_text y.after)) - length y.end_tag) (whole_text y.inner) ≡ Err f = ap (λ (k : ElementText). content_within levels ((end - length k.rest) - length k.end_tag) k.inside) (sym w.1) ∙ c in
+        let there = inside s.level s.more ((place + bytes_of x.before) + length x.tag) ((end - length (whole_text y.after)) - length y.end_tag) (whole_text y.inner) f (inside_end t x y place end e) c_is in
         subst (λ (l : ℕ). FaultIn l place t f) (sym s.more) (spelling.in_content x y there)
 
-    go : ElementFails levels (content_within levels) end (after_run t) f → FaultIn levels place t f
+    go : ElementFails levels (content_within levels) end (after_text_run t) f → FaultIn levels place t f
     go (inl c) =
         let w = subst (Cuts at x.tag x.rest) c says in
         subst (FaultIn levels place t) (ap fault.OpenTag (sym at_is) ∙ sym w.0) (spelling.open_tag x w.1)
@@ -293,10 +293,10 @@ fault_turns levels place end (suc n) found t f inside e le h =
         let r = run_fault place t g (ap (λ (k : ℕ). run_blocks k t) (sym here) ∙ ap (run_blocks (end - length t)) (sym (run_plain t plain).0) ∙ q) in
         subst (FaultIn levels place t) (r.2 ∙ same) (spelling.of_text plain r.1)
     of_run g q same (inr x) =
-        let r = run_fault place (text_of x.before) g (ap (λ (k : ℕ). run_blocks k (text_of x.before)) (sym here) ∙ ap (run_blocks (end - length t)) (sym (run_tag t x).0) ∙ q) in
+        let r = run_fault place (whole_text x.before) g (ap (λ (k : ℕ). run_blocks k (whole_text x.before)) (sym here) ∙ ap (run_blocks (end - length t)) (sym (run_tag t x).0) ∙ q) in
         subst (FaultIn levels place t) (r.2 ∙ same) (spelling.of_leading_text x r.1)
 
-    at_tag : (ws : List Block) → run_blocks (end - length t) (run_of t) ≡ Ok ws → (x : FirstTag t) → IH → (r : Result (Block × List ℕ) BlockFault) → element levels (content_within levels) end (after_run t) ≡ r → FaultIn levels place t f
+    at_tag : (ws : List Block) → run_blocks (end - length t) (run_of t) ≡ Ok ws → (x : FirstTag t) → IH → (r : Result (Block × List ℕ) BlockFault) → element levels (content_within levels) end (after_text_run t) ≡ r → FaultIn levels place t f
     at_tag ws q x ih (Err g) c =
         let fails = step_one_fails (element levels (content_within levels) end) end n found ws t g q (first_some t x) c in
         let same : g ≡ f = cc in
@@ -309,12 +309,12 @@ fault_turns levels place end (suc n) found t f inside e le h =
         let size = length_text o.y.after in
         let read = sym (step_more (element levels (content_within levels) end) end n found ws t p.1 p.0 q (first_some t x) c) ∙ h in
         let read_after = subst (λ (u : List ℕ). blocks_read (element levels (content_within levels) end) end n ((found ++ ws) ++ p.0 ∷ []) u ≡ Err f) (sym o.rest_is) read in
-        spelling.after_element x o.y (ih ((((place + bytes_of x.before) + length x.tag) + bytes_of o.y.inner) + length o.y.end_tag) ((found ++ ws) ++ p.0 ∷ []) (text_of o.y.after) (omega (arith, e, all, size)) (omega (arith, some, all, size, le)) read_after)
+        spelling.after_element x o.y (ih ((((place + bytes_of x.before) + length x.tag) + bytes_of o.y.inner) + length o.y.end_tag) ((found ++ ws) ++ p.0 ∷ []) (whole_text o.y.after) (omega (arith, e, all, size)) (omega (arith, some, all, size, le)) read_after)
 
     go : (r : Result (List Block) BlockFault) → run_blocks (end - length t) (run_of t) ≡ r → HasNoBlock (parts t) ⊎ FirstTag t → IH → FaultIn levels place t f
     go (Err g) q first ih = let fails = step_run_fails (element levels (content_within levels) end) end n found t g q in of_run g q (cc) first
     go (Ok ws) q (inl plain) ih = absurd (let ends = step_end (element levels (content_within levels) end) end n found ws t q (run_plain t plain).1 in cc)
-    go (Ok ws) q (inr x) ih = at_tag ws q x ih (element levels (content_within levels) end (after_run t)) refl
+    go (Ok ws) q (inr x) ih = at_tag ws q x ih (element levels (content_within levels) end (after_text_run t)) refl
 
 fault_within : (levels : ℕ) → InsideFault levels
 fault_within zero l q place end u f e h = absurd cc
@@ -341,7 +341,7 @@ abbrev TurnTold : (levels end n : ℕ) (found : List Block) (t : List ℕ) → B
 TurnTold levels end n found t g = Told (List Block) (blocks_read (element levels (content_within levels) end) end (suc n) found t) g
 
 -- the text before a tag has no fault, or one that comes before those at and after the tag
-past_run : (levels place end n : ℕ) (found : List Block) (t : List ℕ) (x : FirstTag t) (g : BlockFault) → end ≡ place + length t → place + bytes_of x.before ≤ fault_place g
+past_run : (levels place end n : ℕ) (found : List Block) (t : List ℕ) (x : FirstTag t) (g : BlockFault) → end ≡ place + length t → place + bytes_of x.before ≤ block_fault_place g
     → ((ws : List Block) → run_blocks (end - length t) (run_of t) ≡ Ok ws → TurnTold levels end n found t g) → TurnTold levels end n found t g
 past_run levels place end n found t x g e le next = go (run_blocks (end - length t) (run_of t)) refl
   where
@@ -351,32 +351,32 @@ past_run levels place end n found t x g e le next = go (run_blocks (end - length
     go : (r : Result (List Block) BlockFault) → run_blocks (end - length t) (run_of t) ≡ r → TurnTold levels end n found t g
     go (Ok ws) q = next ws q
     go (Err f) q =
-        let r = run_fault place (text_of x.before) f (ap (λ (k : ℕ). run_blocks k (text_of x.before)) (sym here) ∙ ap (run_blocks (end - length t)) (sym (run_tag t x).0) ∙ q) in
-        let s = text_fault_stands place (text_of x.before) r.0 r.1 in
+        let r = run_fault place (whole_text x.before) f (ap (λ (k : ℕ). run_blocks k (whole_text x.before)) (sym here) ∙ ap (run_blocks (end - length t)) (sym (run_tag t x).0) ∙ q) in
+        let s = text_fault_stands place (whole_text x.before) r.0 r.1 in
         let below = s.below in
-        let same : text_fault_place r.0 ≡ fault_place f = ap fault_place r.2 in
+        let same : text_fault_place r.0 ≡ block_fault_place f = ap block_fault_place r.2 in
         let len = length_text x.before in
         record { f = f; fails = step_run_fails (element levels (content_within levels) end) end n found t f q; first = inl (omega (arith, below, same, len, le)) }
 
 -- an element that fails ends the turn
-of_element : (levels end n : ℕ) (found ws : List Block) (t : List ℕ) (x : FirstTag t) (g : BlockFault) → run_blocks (end - length t) (run_of t) ≡ Ok ws → Told (Block × List ℕ) (element levels (content_within levels) end (after_run t)) g → TurnTold levels end n found t g
+of_element : (levels end n : ℕ) (found ws : List Block) (t : List ℕ) (x : FirstTag t) (g : BlockFault) → run_blocks (end - length t) (run_of t) ≡ Ok ws → Told (Block × List ℕ) (element levels (content_within levels) end (after_text_run t)) g → TurnTold levels end n found t g
 of_element levels end n found ws t x g q o = record { f = o.f; fails = step_one_fails (element levels (content_within levels) end) end n found ws t o.f q (first_some t x) o.fails; first = o.first }
 
 -- a fault of the tag itself: only that the tag is open comes before it
-at_the_tag : (levels place end : ℕ) (t : List ℕ) (x : FirstTag t) (g : BlockFault) → end ≡ place + length t → fault_place g ≡ place + bytes_of x.before → 1 ≤ fault_kind g
-    → Told Tag (tag_of levels (end - length (after_run t)) x.tag) g → Told (Block × List ℕ) (element levels (content_within levels) end (after_run t)) g
-at_the_tag levels place end t x g e there kind o = go (element_cut (end - length (after_run t)) (after_run t)) refl (cut_says (end - length (after_run t)) (after_run t) x.tag x.rest (first_parts t x) x.block)
+at_the_tag : (levels place end : ℕ) (t : List ℕ) (x : FirstTag t) (g : BlockFault) → end ≡ place + length t → block_fault_place g ≡ place + bytes_of x.before → 1 ≤ fault_kind g
+    → Told Tag (tag_of levels (end - length (after_text_run t)) x.tag) g → Told (Block × List ℕ) (element levels (content_within levels) end (after_text_run t)) g
+at_the_tag levels place end t x g e there kind o = go (element_cut (end - length (after_text_run t)) (after_text_run t)) refl (cut_says (end - length (after_text_run t)) (after_text_run t) x.tag x.rest (first_parts t x) x.block)
   where
-    at_is : end - length (after_run t) ≡ place + bytes_of x.before
+    at_is : end - length (after_text_run t) ≡ place + bytes_of x.before
     at_is = after_place t x place end e
 
-    go : (r : Result ElementText BlockFault) → element_cut (end - length (after_run t)) (after_run t) ≡ r → Cuts (end - length (after_run t)) x.tag x.rest r → Told (Block × List ℕ) (element levels (content_within levels) end (after_run t)) g
+    go : (r : Result ElementText BlockFault) → element_cut (end - length (after_text_run t)) (after_text_run t) ≡ r → Cuts (end - length (after_text_run t)) x.tag x.rest r → Told (Block × List ℕ) (element levels (content_within levels) end (after_text_run t)) g
     go (Err f) c w =
-        let place_is : fault_place f ≡ end - length (after_run t) = ap fault_place w.0 in
+        let place_is : block_fault_place f ≡ end - length (after_text_run t) = ap block_fault_place w.0 in
         let kind_is : fault_kind f ≡ 0 = ap fault_kind w.0 in
-        record { f = f; fails = element_open levels (content_within levels) end (after_run t) (end - length (after_run t)) f refl c; first = inr (place_is ∙ at_is ∙ sym there, omega (arith, kind_is, kind)) }
+        record { f = f; fails = element_open levels (content_within levels) end (after_text_run t) (end - length (after_text_run t)) f refl c; first = inr (place_is ∙ at_is ∙ sym there, omega (arith, kind_is, kind)) }
     go (Ok cut) c w =
-        record { f = o.f; fails = element_tag_fails levels (content_within levels) end (after_run t) (end - length (after_run t)) cut o.f refl c (ap (λ (k : ElementText). tag_of levels (end - length (after_run t)) k.tag) w.1 ∙ o.fails); first = o.first }
+        record { f = o.f; fails = element_tag_fails levels (content_within levels) end (after_text_run t) (end - length (after_text_run t)) cut o.f refl c (ap (λ (k : ElementText). tag_of levels (end - length (after_text_run t)) k.tag) w.1 ∙ o.fails); first = o.first }
 
 tag_none : (levels place : ℕ) (tag : List ℕ) → tag_attributes tag ≡ None → tag_of levels place tag ≡ Err (fault.BadBlock place)
 unfolding tag_of
@@ -404,66 +404,66 @@ start_told zero place at tag kept a f same e q =
     record { f = fault.TooDeep at; fails = tag_deep at tag a kept e; first = inr (same ∙ sym there, omega (arith, kind)) }
 start_told (suc levels) place at tag kept a f same e q =
     let alike : fault.Text (told_at at f) ≡ fault.Text (told_at place f) = ap (λ (n : ℕ). fault.Text (told_at n f)) same in
-    record { f = fault.Text (told_at at f); fails = tag_start levels at tag a kept f e q; first = inr (ap fault_place alike, let kinds = ap fault_kind alike in omega (arith, kinds)) }
+    record { f = fault.Text (told_at at f); fails = tag_start levels at tag a kept f e q; first = inr (ap block_fault_place alike, let kinds = ap fault_kind alike in omega (arith, kinds)) }
 
 -- a fault after the tag: a fault of the tag comes before it
-past_tag : (levels place end n : ℕ) (found : List Block) (t : List ℕ) (x : FirstTag t) (y : Element x.tag x.rest) (g : BlockFault) → end ≡ place + length t → place + bytes_of x.before < fault_place g
-    → ((ws : List Block) → run_blocks (end - length t) (run_of t) ≡ Ok ws → (tag : Tag) → tag_of levels (end - length (after_run t)) x.tag ≡ Ok tag → TurnTold levels end n found t g) → TurnTold levels end n found t g
-past_tag levels place end n found t x y g e lt next = past_run levels place end n found t x g e (omega (arith, lt)) (λ (ws : List Block) (q : run_blocks (end - length t) (run_of t) ≡ Ok ws). go ws q (tag_of levels (end - length (after_run t)) x.tag) refl)
+past_tag : (levels place end n : ℕ) (found : List Block) (t : List ℕ) (x : FirstTag t) (y : Element x.tag x.rest) (g : BlockFault) → end ≡ place + length t → place + bytes_of x.before < block_fault_place g
+    → ((ws : List Block) → run_blocks (end - length t) (run_of t) ≡ Ok ws → (tag : Tag) → tag_of levels (end - length (after_text_run t)) x.tag ≡ Ok tag → TurnTold levels end n found t g) → TurnTold levels end n found t g
+past_tag levels place end n found t x y g e lt next = past_run levels place end n found t x g e (omega (arith, lt)) (λ (ws : List Block) (q : run_blocks (end - length t) (run_of t) ≡ Ok ws). go ws q (tag_of levels (end - length (after_text_run t)) x.tag) refl)
   where
-    at_is : end - length (after_run t) ≡ place + bytes_of x.before
+    at_is : end - length (after_text_run t) ≡ place + bytes_of x.before
     at_is = after_place t x place end e
 
-    go : (ws : List Block) → run_blocks (end - length t) (run_of t) ≡ Ok ws → (r : Result Tag BlockFault) → tag_of levels (end - length (after_run t)) x.tag ≡ r → TurnTold levels end n found t g
+    go : (ws : List Block) → run_blocks (end - length t) (run_of t) ≡ Ok ws → (r : Result Tag BlockFault) → tag_of levels (end - length (after_text_run t)) x.tag ≡ r → TurnTold levels end n found t g
     go ws q (Ok tag) h = next ws q tag h
     go ws q (Err f) h =
-        let low = tag_fault_place levels (end - length (after_run t)) x.tag f h in
+        let low = tag_fault_place levels (end - length (after_text_run t)) x.tag f h in
         of_element levels end n found ws t x g q (record {
           f = f;
-          fails = element_tag_fails levels (content_within levels) end (after_run t) (end - length (after_run t)) (cut_of x.tag x.rest y) f refl (cut_only (end - length (after_run t)) (after_run t) x.tag x.rest (first_parts t x) x.block y) h;
+          fails = element_tag_fails levels (content_within levels) end (after_text_run t) (end - length (after_text_run t)) (cut_of x.tag x.rest y) f refl (cut_only (end - length (after_text_run t)) (after_text_run t) x.tag x.rest (first_parts t x) x.block y) h;
           first = inl (omega (arith, low, at_is, lt));
         })
 
 -- a fault of the content ends the element
-content_fails : (levels end : ℕ) (t : List ℕ) (x : FirstTag t) (y : Element x.tag x.rest) (tag : Tag) (f : BlockFault) → tag_of levels (end - length (after_run t)) x.tag ≡ Ok tag → content_within levels ((end - length (text_of y.after)) - length y.end_tag) (text_of y.inner) ≡ Err f → element levels (content_within levels) end (after_run t) ≡ Err f
+content_fails : (levels end : ℕ) (t : List ℕ) (x : FirstTag t) (y : Element x.tag x.rest) (tag : Tag) (f : BlockFault) → tag_of levels (end - length (after_text_run t)) x.tag ≡ Ok tag → content_within levels ((end - length (whole_text y.after)) - length y.end_tag) (whole_text y.inner) ≡ Err f → element levels (content_within levels) end (after_text_run t) ≡ Err f
 content_fails levels end t x y tag f a c =
-    element_content_fails levels (content_within levels) end (after_run t) (end - length (after_run t)) ((end - length (text_of y.after)) - length y.end_tag) (cut_of x.tag x.rest y) tag f refl refl (cut_only (end - length (after_run t)) (after_run t) x.tag x.rest (first_parts t x) x.block y) a c
+    element_content_fails levels (content_within levels) end (after_text_run t) (end - length (after_text_run t)) ((end - length (whole_text y.after)) - length y.end_tag) (cut_of x.tag x.rest y) tag f refl refl (cut_only (end - length (after_text_run t)) (after_text_run t) x.tag x.rest (first_parts t x) x.block y) a c
 
 -- an element without its end tag
-open_told : (levels place end : ℕ) (t : List ℕ) (x : FirstTag t) → end ≡ place + length t → (Element x.tag x.rest → ⊥) → Told (Block × List ℕ) (element levels (content_within levels) end (after_run t)) (fault.OpenTag (place + bytes_of x.before))
-open_told levels place end t x e none = go (element_cut (end - length (after_run t)) (after_run t)) refl (cut_says (end - length (after_run t)) (after_run t) x.tag x.rest (first_parts t x) x.block)
+open_told : (levels place end : ℕ) (t : List ℕ) (x : FirstTag t) → end ≡ place + length t → (Element x.tag x.rest → ⊥) → Told (Block × List ℕ) (element levels (content_within levels) end (after_text_run t)) (fault.OpenTag (place + bytes_of x.before))
+open_told levels place end t x e none = go (element_cut (end - length (after_text_run t)) (after_text_run t)) refl (cut_says (end - length (after_text_run t)) (after_text_run t) x.tag x.rest (first_parts t x) x.block)
   where
-    go : (r : Result ElementText BlockFault) → element_cut (end - length (after_run t)) (after_run t) ≡ r → Cuts (end - length (after_run t)) x.tag x.rest r → Told (Block × List ℕ) (element levels (content_within levels) end (after_run t)) (fault.OpenTag (place + bytes_of x.before))
+    go : (r : Result ElementText BlockFault) → element_cut (end - length (after_text_run t)) (after_text_run t) ≡ r → Cuts (end - length (after_text_run t)) x.tag x.rest r → Told (Block × List ℕ) (element levels (content_within levels) end (after_text_run t)) (fault.OpenTag (place + bytes_of x.before))
     go (Ok cut) c w = absurd (none w.0)
     go (Err f) c w =
         let kind_is : fault_kind f ≡ 0 = ap fault_kind w.0 in
-        record { f = f; fails = element_open levels (content_within levels) end (after_run t) (end - length (after_run t)) f refl c; first = inr (ap fault_place w.0 ∙ after_place t x place end e, omega (arith, kind_is)) }
+        record { f = f; fails = element_open levels (content_within levels) end (after_text_run t) (end - length (after_text_run t)) f refl c; first = inr (ap block_fault_place w.0 ∙ after_place t x place end e, omega (arith, kind_is)) }
 
 -- a fault within content, or one of the content that comes before it
-content_told : (levels end : ℕ) (t : List ℕ) (x : FirstTag t) (y : Element x.tag x.rest) (tag : Tag) (g : BlockFault) → tag_of (suc levels) (end - length (after_run t)) x.tag ≡ Ok tag
-    → Told (List Block) (content_within (suc levels) ((end - length (text_of y.after)) - length y.end_tag) (text_of y.inner)) g → Told (Block × List ℕ) (element (suc levels) (content_within (suc levels)) end (after_run t)) g
+content_told : (levels end : ℕ) (t : List ℕ) (x : FirstTag t) (y : Element x.tag x.rest) (tag : Tag) (g : BlockFault) → tag_of (suc levels) (end - length (after_text_run t)) x.tag ≡ Ok tag
+    → Told (List Block) (content_within (suc levels) ((end - length (whole_text y.after)) - length y.end_tag) (whole_text y.inner)) g → Told (Block × List ℕ) (element (suc levels) (content_within (suc levels)) end (after_text_run t)) g
 content_told levels end t x y tag g a o = record { f = o.f; fails = content_fails (suc levels) end t x y tag o.f a o.fails; first = o.first }
 
 -- a fault after an element, or one of its content
-after_told : (levels place end n : ℕ) (found ws : List Block) (t : List ℕ) (x : FirstTag t) (y : Element x.tag x.rest) (tag : Tag) (g : BlockFault) → end ≡ place + length t → run_blocks (end - length t) (run_of t) ≡ Ok ws → tag_of levels (end - length (after_run t)) x.tag ≡ Ok tag
-    → (((place + bytes_of x.before) + length x.tag) + bytes_of y.inner) + length y.end_tag ≤ fault_place g
-    → ((found_too : List Block) → Told (List Block) (blocks_read (element levels (content_within levels) end) end n found_too (text_of y.after)) g)
+after_told : (levels place end n : ℕ) (found ws : List Block) (t : List ℕ) (x : FirstTag t) (y : Element x.tag x.rest) (tag : Tag) (g : BlockFault) → end ≡ place + length t → run_blocks (end - length t) (run_of t) ≡ Ok ws → tag_of levels (end - length (after_text_run t)) x.tag ≡ Ok tag
+    → (((place + bytes_of x.before) + length x.tag) + bytes_of y.inner) + length y.end_tag ≤ block_fault_place g
+    → ((found_too : List Block) → Told (List Block) (blocks_read (element levels (content_within levels) end) end n found_too (whole_text y.after)) g)
     → TurnTold levels end n found t g
-after_told levels place end n found ws t x y tag g e q a le later = go (content_within levels ((end - length (text_of y.after)) - length y.end_tag) (text_of y.inner)) refl
+after_told levels place end n found ws t x y tag g e q a le later = go (content_within levels ((end - length (whole_text y.after)) - length y.end_tag) (whole_text y.inner)) refl
   where
     says : TagSays levels x.tag tag
-    says = tag_found levels (end - length (after_run t)) x.tag tag a
+    says = tag_found levels (end - length (after_text_run t)) x.tag tag a
 
-    go : (r : Result (List Block) BlockFault) → content_within levels ((end - length (text_of y.after)) - length y.end_tag) (text_of y.inner) ≡ r → TurnTold levels end n found t g
+    go : (r : Result (List Block) BlockFault) → content_within levels ((end - length (whole_text y.after)) - length y.end_tag) (whole_text y.inner) ≡ r → TurnTold levels end n found t g
     go (Err f) c =
-        let there = fault_within levels says.level says.more ((place + bytes_of x.before) + length x.tag) ((end - length (text_of y.after)) - length y.end_tag) (text_of y.inner) f (inside_end t x y place end e) c in
-        let lies = fault_lies says.level ((place + bytes_of x.before) + length x.tag) (text_of y.inner) f there in
+        let there = fault_within levels says.level says.more ((place + bytes_of x.before) + length x.tag) ((end - length (whole_text y.after)) - length y.end_tag) (whole_text y.inner) f (inside_end t x y place end e) c in
+        let lies = fault_lies says.level ((place + bytes_of x.before) + length x.tag) (whole_text y.inner) f there in
         let below = lies.below in
         let len = length_text y.inner in
         of_element levels end n found ws t x g q (record { f = f; fails = content_fails levels end t x y tag f a c; first = inl (omega (arith, below, len, le)) })
     go (Ok content) c =
-        let one_is = element_is levels (content_within levels) end (after_run t) (end - length (after_run t)) ((end - length (text_of y.after)) - length y.end_tag) (cut_of x.tag x.rest y) tag content refl refl (cut_only (end - length (after_run t)) (after_run t) x.tag x.rest (first_parts t x) x.block y) a c in
-        let step = step_more (element levels (content_within levels) end) end n found ws t (text_of y.after) (block.Element tag content y.end_tag) q (first_some t x) one_is in
+        let one_is = element_is levels (content_within levels) end (after_text_run t) (end - length (after_text_run t)) ((end - length (whole_text y.after)) - length y.end_tag) (cut_of x.tag x.rest y) tag content refl refl (cut_only (end - length (after_text_run t)) (after_text_run t) x.tag x.rest (first_parts t x) x.block y) a c in
+        let step = step_more (element levels (content_within levels) end) end n found ws t (whole_text y.after) (block.Element tag content y.end_tag) q (first_some t x) one_is in
         let o = later ((found ++ ws) ++ block.Element tag content y.end_tag ∷ []) in
         record { f = o.f; fails = step ∙ o.fails; first = o.first }
 
@@ -474,39 +474,39 @@ first_turns levels place t _ (spelling.of_text {f = f} h b) end n found e le =
     record { f = fault.Text f; fails = step_run_fails (element levels (content_within levels) end) end n found t (fault.Text f) (ap (run_blocks (end - length t)) (run_plain t h).0 ∙ ap (λ (k : ℕ). run_blocks k t) here ∙ fails); first = inr (refl, omega arith) }
 first_turns levels place t _ (spelling.of_leading_text {f = f} x b) end n found e le =
     let here : end - length t ≡ place = omega (arith, e) in
-    let fails = run_fails place (text_of x.before) f b in
-    record { f = fault.Text f; fails = step_run_fails (element levels (content_within levels) end) end n found t (fault.Text f) (ap (run_blocks (end - length t)) (run_tag t x).0 ∙ ap (λ (k : ℕ). run_blocks k (text_of x.before)) here ∙ fails); first = inr (refl, omega arith) }
+    let fails = run_fails place (whole_text x.before) f b in
+    record { f = fault.Text f; fails = step_run_fails (element levels (content_within levels) end) end n found t (fault.Text f) (ap (run_blocks (end - length t)) (run_tag t x).0 ∙ ap (λ (k : ℕ). run_blocks k (whole_text x.before)) here ∙ fails); first = inr (refl, omega arith) }
 first_turns levels place t _ (spelling.open_tag x none) end n found e le =
     past_run levels place end n found t x (fault.OpenTag (place + bytes_of x.before)) e (omega arith)
     (λ (ws : List Block) (q : run_blocks (end - length t) (run_of t) ≡ Ok ws). of_element levels end n found ws t x (fault.OpenTag (place + bytes_of x.before)) q (open_told levels place end t x e none))
 first_turns levels place t _ (spelling.bad_block x none) end n found e le =
     past_run levels place end n found t x (fault.BadBlock (place + bytes_of x.before)) e (omega arith)
     (λ (ws : List Block) (q : run_blocks (end - length t) (run_of t) ≡ Ok ws). of_element levels end n found ws t x (fault.BadBlock (place + bytes_of x.before)) q
-    (at_the_tag levels place end t x (fault.BadBlock (place + bytes_of x.before)) e refl (omega arith) (record { f = fault.BadBlock (end - length (after_run t)); fails = tag_none levels (end - length (after_run t)) x.tag none; first = inr (after_place t x place end e, omega arith) })))
+    (at_the_tag levels place end t x (fault.BadBlock (place + bytes_of x.before)) e refl (omega arith) (record { f = fault.BadBlock (end - length (after_text_run t)); fails = tag_none levels (end - length (after_text_run t)) x.tag none; first = inr (after_place t x place end e, omega arith) })))
 first_turns _ place t _ (spelling.too_deep x) end n found e le =
     past_run zero place end n found t x (fault.TooDeep (place + bytes_of x.before)) e (omega arith)
     (λ (ws : List Block) (q : run_blocks (end - length t) (run_of t) ≡ Ok ws). of_element zero end n found ws t x (fault.TooDeep (place + bytes_of x.before)) q
-    (at_the_tag zero place end t x (fault.TooDeep (place + bytes_of x.before)) e refl (omega arith) (too_deep_told (place + bytes_of x.before) (end - length (after_run t)) x.tag (after_place t x place end e))))
+    (at_the_tag zero place end t x (fault.TooDeep (place + bytes_of x.before)) e refl (omega arith) (too_deep_told (place + bytes_of x.before) (end - length (after_text_run t)) x.tag (after_place t x place end e))))
 first_turns levels place t _ (spelling.of_start_tag {kept = kept} {a = a} {f = f} x s b) end n found e le =
     let there = told_place (place + bytes_of x.before) kept f b in
     let kind = text_kind (place + bytes_of x.before) f in
     past_run levels place end n found t x (fault.Text (told_at (place + bytes_of x.before) f)) e (omega (arith, there))
     (λ (ws : List Block) (q : run_blocks (end - length t) (run_of t) ≡ Ok ws). of_element levels end n found ws t x (fault.Text (told_at (place + bytes_of x.before) f)) q
-    (at_the_tag levels place end t x (fault.Text (told_at (place + bytes_of x.before) f)) e there (omega (arith, kind)) (start_told levels (place + bytes_of x.before) (end - length (after_run t)) x.tag kept a f (after_place t x place end e) s b)))
+    (at_the_tag levels place end t x (fault.Text (told_at (place + bytes_of x.before) f)) e there (omega (arith, kind)) (start_told levels (place + bytes_of x.before) (end - length (after_text_run t)) x.tag kept a f (after_place t x place end e) s b)))
 first_turns _ place t g (spelling.in_content {levels = levels} x y d) end n found e le =
-    let lies = fault_lies levels ((place + bytes_of x.before) + length x.tag) (text_of y.inner) g d in
+    let lies = fault_lies levels ((place + bytes_of x.before) + length x.tag) (whole_text y.inner) g d in
     let from = lies.from in
     let below = lies.below in
     let some = tag_nonempty t x in
-    let at : ℕ = (end - length (text_of y.after)) - length y.end_tag in
-    let len : suc (length (text_of y.inner) - 1) ≡ length (text_of y.inner) = omega (arith, from, below) in
-    let ih = first_turns levels ((place + bytes_of x.before) + length x.tag) (text_of y.inner) g d ((end - length (text_of y.after)) - length y.end_tag) (length (text_of y.inner) - 1) [] (inside_end t x y place end e) (omega (arith, len)) in
-    let whole = subst (λ (k : ℕ). Told (List Block) (blocks_read (element levels (content_within levels) ((end - length (text_of y.after)) - length y.end_tag)) ((end - length (text_of y.after)) - length y.end_tag) k [] (text_of y.inner)) g) len ih in
-    let inside : Told (List Block) (content_within (suc levels) ((end - length (text_of y.after)) - length y.end_tag) (text_of y.inner)) g = record { f = whole.f; fails = within_is levels ((end - length (text_of y.after)) - length y.end_tag) (text_of y.inner) ∙ whole.fails; first = whole.first } in
+    let at : ℕ = (end - length (whole_text y.after)) - length y.end_tag in
+    let len : suc (length (whole_text y.inner) - 1) ≡ length (whole_text y.inner) = omega (arith, from, below) in
+    let ih = first_turns levels ((place + bytes_of x.before) + length x.tag) (whole_text y.inner) g d ((end - length (whole_text y.after)) - length y.end_tag) (length (whole_text y.inner) - 1) [] (inside_end t x y place end e) (omega (arith, len)) in
+    let whole = subst (λ (k : ℕ). Told (List Block) (blocks_read (element levels (content_within levels) ((end - length (whole_text y.after)) - length y.end_tag)) ((end - length (whole_text y.after)) - length y.end_tag) k [] (whole_text y.inner)) g) len ih in
+    let inside : Told (List Block) (content_within (suc levels) ((end - length (whole_text y.after)) - length y.end_tag) (whole_text y.inner)) g = record { f = whole.f; fails = within_is levels ((end - length (whole_text y.after)) - length y.end_tag) (whole_text y.inner) ∙ whole.fails; first = whole.first } in
     past_tag (suc levels) place end n found t x y g e (omega (arith, from, some))
-    (λ (ws : List Block) (q : run_blocks (end - length t) (run_of t) ≡ Ok ws) (tag : Tag) (a : tag_of (suc levels) (end - length (after_run t)) x.tag ≡ Ok tag). of_element (suc levels) end n found ws t x g q (content_told levels end t x y tag g a inside))
+    (λ (ws : List Block) (q : run_blocks (end - length t) (run_of t) ≡ Ok ws) (tag : Tag) (a : tag_of (suc levels) (end - length (after_text_run t)) x.tag ≡ Ok tag). of_element (suc levels) end n found ws t x g q (content_told levels end t x y tag g a inside))
 first_turns levels place t g (spelling.after_element x y d) end n found e le =
-    let lies = fault_lies levels ((((place + bytes_of x.before) + length x.tag) + bytes_of y.inner) + length y.end_tag) (text_of y.after) g d in
+    let lies = fault_lies levels ((((place + bytes_of x.before) + length x.tag) + bytes_of y.inner) + length y.end_tag) (whole_text y.after) g d in
     let from = lies.from in
     let below = lies.below in
     let z = sizes t x y in
@@ -514,12 +514,12 @@ first_turns levels place t g (spelling.after_element x y d) end n found e le =
     let all = z.all in
     let size = length_text y.after in
     let more : suc (n - 1) ≡ n = omega (arith, from, below, some, all, size, le) in
-    let ih : (found_too : List Block) → Told (List Block) (blocks_read (element levels (content_within levels) end) end (suc (n - 1)) found_too (text_of y.after)) g
-    = λ found_too. first_turns levels ((((place + bytes_of x.before) + length x.tag) + bytes_of y.inner) + length y.end_tag) (text_of y.after) g d end (n - 1) found_too (omega (arith, e, all, size)) (omega (arith, some, all, size, le, more)) in
-    let later : (found_too : List Block) → Told (List Block) (blocks_read (element levels (content_within levels) end) end n found_too (text_of y.after)) g
-    = λ found_too. subst (λ (k : ℕ). Told (List Block) (blocks_read (element levels (content_within levels) end) end k found_too (text_of y.after)) g) more (ih found_too) in
+    let ih : (found_too : List Block) → Told (List Block) (blocks_read (element levels (content_within levels) end) end (suc (n - 1)) found_too (whole_text y.after)) g
+    = λ found_too. first_turns levels ((((place + bytes_of x.before) + length x.tag) + bytes_of y.inner) + length y.end_tag) (whole_text y.after) g d end (n - 1) found_too (omega (arith, e, all, size)) (omega (arith, some, all, size, le, more)) in
+    let later : (found_too : List Block) → Told (List Block) (blocks_read (element levels (content_within levels) end) end n found_too (whole_text y.after)) g
+    = λ found_too. subst (λ (k : ℕ). Told (List Block) (blocks_read (element levels (content_within levels) end) end k found_too (whole_text y.after)) g) more (ih found_too) in
     past_tag levels place end n found t x y g e (omega (arith, from, some))
-    (λ (ws : List Block) (q : run_blocks (end - length t) (run_of t) ≡ Ok ws) (tag : Tag) (a : tag_of levels (end - length (after_run t)) x.tag ≡ Ok tag). after_told levels place end n found ws t x y tag g e q a from later)
+    (λ (ws : List Block) (q : run_blocks (end - length t) (run_of t) ≡ Ok ws) (tag : Tag) (a : tag_of levels (end - length (after_text_run t)) x.tag ≡ Ok tag). after_told levels place end n found ws t x y tag g e q a from later)
 
 -- ---- the fault of a whole script
 
@@ -553,7 +553,7 @@ fault_by (suc (suc (suc (suc zero)))) n = fault.Text (text_fault.BadExpr n)
 fault_by (suc (suc (suc (suc (suc zero))))) n = fault.Text text_fault.NoMemory
 fault_by (suc (suc (suc (suc (suc (suc k)))))) n = fault.NoMemory
 
-by_kind : (f : BlockFault) → fault_by (fault_kind f) (fault_place f) ≡ f
+by_kind : (f : BlockFault) → fault_by (fault_kind f) (block_fault_place f) ≡ f
 by_kind (fault.OpenTag n) = refl
 by_kind (fault.BadBlock n) = refl
 by_kind (fault.TooDeep n) = refl
@@ -570,7 +570,7 @@ both_first f g (inr a) (inr b) =
     let x = a.1 in
     let y = b.1 in
     let kinds : fault_kind f ≡ fault_kind g = omega (arith, x, y) in
-    sym (by_kind f) ∙ ap (λ (k : ℕ). fault_by k (fault_place f)) kinds ∙ ap (fault_by (fault_kind g)) a.0 ∙ by_kind g
+    sym (by_kind f) ∙ ap (λ (k : ℕ). fault_by k (block_fault_place f)) kinds ∙ ap (fault_by (fault_kind g)) a.0 ∙ by_kind g
 
 -- the first fault is told
 pub first_is_told : (t : List ℕ) (f : BlockFault) → IsFirstFault 32 t f → blocks_of t ≡ Err f

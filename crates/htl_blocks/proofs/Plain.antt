@@ -6,13 +6,13 @@ use Rattle.std.proofs.lemmas.List.{length-take-le}
 use Rattle.htl_text.specs.declared.fault.TextFault.{TextFault}
 use Rattle.htl_text.specs.declared.fault.TextFault.TheVariants as text
 use Rattle.htl_text.specs.declared.piece.TemplatePiece.{TemplatePiece}
-use Rattle.htl_text.specs.Template.{template_of, template_at, read_from, fault_at}
+use Rattle.htl_text.specs.Template.{template_of, template_at, read_from_place, fault_at}
 use Rattle.htl_blocks.specs.declared.fault.BlockFault.{BlockFault}
 use Rattle.htl_blocks.specs.declared.fault.BlockFault.TheVariants as fault
 use Rattle.htl_blocks.specs.declared.block.Block.{Block}
 use Rattle.htl_blocks.specs.Markup.{part_len, parts, parts_after}
 use Rattle.htl_blocks.specs.Attributes.{is_block_tag}
-use Rattle.htl_blocks.specs.Reading.{◌then◌, run_len, run_of, after_run, text_block, run_blocks, with_blocks, element, blocks_read, content_within, blocks_of}
+use Rattle.htl_blocks.specs.Reading.{◌then◌, run_len, run_of, after_text_run, text_block, run_blocks, with_blocks, element, blocks_read, content_within, blocks_of}
 use Rattle.htl_blocks.specs.Laws.{HasNoBlock}
 use Rattle.htl_blocks.specs.Laws as laws
 use Rattle.htl_blocks.proofs.Tags.{part_within}
@@ -39,7 +39,7 @@ drop_all (c ∷ t) = drop_all t
 
 -- the text is one run
 read_plain : (one : List ℕ → Result (Block × List ℕ) BlockFault) (end turns : ℕ) (t : List ℕ) → HasNoBlock (parts t) → blocks_read one end (suc turns) [] t ≡ (with_blocks [] (run_blocks (end - length t) t) then λ found. Ok found)
-unfolding blocks_read run_of after_run
+unfolding blocks_read run_of after_text_run
 read_plain one end turns t x =
     let sum = no_block_run 0 t (omega arith) x in
     let all : run_len (parts t) ≡ length t = omega (arith, sum) in
@@ -50,7 +50,7 @@ same_fault (text.Unclosed n) = ap text.Unclosed (let none : 0 + n ≡ n = omega 
 same_fault (text.BadExpr n) = ap text.BadExpr (let none : 0 + n ≡ n = omega arith in none)
 same_fault text.NoMemory = refl
 
-as_text : (r : Result (List TemplatePiece) TextFault) → (with_blocks [] (text_block (read_from 0 r)) then λ found. Ok found) ≡ text_block r
+as_text : (r : Result (List TemplatePiece) TextFault) → (with_blocks [] (text_block (read_from_place 0 r)) then λ found. Ok found) ≡ text_block r
 as_text (Ok ps) = refl
 as_text (Err f) = ap (λ (g : TextFault). Err (fault.Text g)) (same_fault f)
 

@@ -12,16 +12,16 @@ use Rattle.htl_blocks.specs.declared.keeping.Keeping.{Keeping}
 use Rattle.htl_blocks.specs.declared.keeping.Keeping.TheVariants as keep
 use Rattle.htl_blocks.specs.declared.run_fault.RunFault.{RunFault}
 use Rattle.htl_blocks.specs.declared.run_fault.RunFault.TheVariants.{TooLong, TooMany, NoMemory}
-use Rattle.htl_blocks.specs.Parts.{Part, Byte, text_parts, part_text, text_of, is_inclusion, inclusions, rounds}
-use Rattle.htl_blocks.specs.Pieces.{inclusion_count, piece_len, piece_parts, pieces_parts, puts_in, text_len, with_text}
+use Rattle.htl_blocks.specs.Parts.{Part, Byte, text_parts, part_text, text_of_parts, is_inclusion, inclusions, rounds}
+use Rattle.htl_blocks.specs.Pieces.{inclusion_count, piece_len, piece_parts, pieces_parts, puts_in, text_len, with_text_piece}
 use Rattle.htl_blocks.specs.Refused.{most_inclusions}
-use Rattle.htl_blocks.specs.Sheets.{SheetText, IsOver, Stops, Wrote, kept, kept_part, with_parts}
+use Rattle.htl_blocks.specs.Sheets.{SheetText, IsOverLimit, Stops, WroteParts, kept, kept_part, with_parts}
 use Rattle.htl_blocks.proofs.SheetLemmas.{count-append, over_more, with_none}
 use Rattle.htl_blocks.proofs.Bounded.{included_with}
 
 -- ---- texts as parts
 
-pub text_of_text : (t : List ℕ) → text_of (text_parts t) ≡ t
+pub text_of_text : (t : List ℕ) → text_of_parts (text_parts t) ≡ t
 text_of_text [] = refl
 text_of_text (c ∷ t) = ap (λ (more : List ℕ). c ∷ more) (text_of_text t)
 
@@ -54,49 +54,49 @@ text_written scope k ps tail more new n e =
     (ap (λ (t : List ℕ). ps ++ text_parts t) e ∙ ap (λ (t : List Part). ps ++ t) (map-append Byte tail more) ∙ sym (append_assoc ps (text_parts tail) (text_parts more)) ∙ ap (λ (t : List Part). (ps ++ text_parts tail) ++ t) (sym (kept_text k more)))
     ∙ ap (made ((ps ++ text_parts tail) ++ kept k (text_parts more))) (let none = no_rounds more in let same : n ≡ n + rounds (text_parts more) = omega (arith, none) in same)
 
-pub text_over : (scope : Bindings) (k : Keeping) (ps : List Part) (tail more : List ℕ) (n : ℕ) → most_rendered_bytes < length (tail ++ more) → IsOver TooLong (with_parts (sheet_of scope k ps tail n) (text_parts more))
+pub text_over : (scope : Bindings) (k : Keeping) (ps : List Part) (tail more : List ℕ) (n : ℕ) → most_rendered_bytes < length (tail ++ more) → IsOverLimit TooLong (with_parts (sheet_of scope k ps tail n) (text_parts more))
 text_over scope k ps tail more n h =
-    let whole = ap (length {A = ℕ}) (flat_map-append part_text (ps ++ text_parts tail) (kept k (text_parts more)) ∙ ap (λ (t : List ℕ). t ++ text_of (kept k (text_parts more))) (flat_map-append part_text ps (text_parts tail))) in
-    let last = ap (λ (q : List Part). length (text_of q)) (kept_text k more) in
+    let whole = ap (length {A = ℕ}) (flat_map-append part_text (ps ++ text_parts tail) (kept k (text_parts more)) ∙ ap (λ (t : List ℕ). t ++ text_of_parts (kept k (text_parts more))) (flat_map-append part_text ps (text_parts tail))) in
+    let last = ap (λ (q : List Part). length (text_of_parts q)) (kept_text k more) in
     let a = ap (length {A = ℕ}) (text_of_text more) in
     let b = ap (length {A = ℕ}) (text_of_text tail) in
-    let one = length-append (text_of ps ++ text_of (text_parts tail)) (text_of (kept k (text_parts more))) in
-    let two = length-append (text_of ps) (text_of (text_parts tail)) in
+    let one = length-append (text_of_parts ps ++ text_of_parts (text_parts tail)) (text_of_parts (kept k (text_parts more))) in
+    let two = length-append (text_of_parts ps) (text_of_parts (text_parts tail)) in
     let three = length-append tail more in
     omega (arith, h, whole, last, a, b, one, two, three)
 
 -- a text is written after the others, or is too long beside them
 pub text_result : {A : Type 0} (r : Result A RunFault) (old : SheetText) (scope : Bindings) (k : Keeping) (ps : List Part) (tail more new : List ℕ) (n : ℕ) → sheet_of scope k ps tail n ≡ old
     → OnOk r (new ≡ tail ++ more) → IfErr r (λ f. f ≢ NoMemory → (f ≡ TooLong) × (most_rendered_bytes < length (tail ++ more)))
-    → Wrote r old (sheet_of scope k ps new n) (text_parts more)
+    → WroteParts r old (sheet_of scope k ps new n) (text_parts more)
 text_result (Ok x) old scope k ps tail more new n view ok err = text_written scope k ps tail more new n ok ∙ ap (λ (s : SheetText). with_parts s (text_parts more)) view
 text_result (Err f) old scope k ps tail more new n view ok err = λ ne.
     let both = err ne in
-    let over = subst (λ (g : RunFault). IsOver g (with_parts (sheet_of scope k ps tail n) (text_parts more))) (sym both.0) (text_over scope k ps tail more n both.1) in
-    subst (λ (s : SheetText). IsOver f (with_parts s (text_parts more))) view over
+    let over = subst (λ (g : RunFault). IsOverLimit g (with_parts (sheet_of scope k ps tail n) (text_parts more))) (sym both.0) (text_over scope k ps tail more n both.1) in
+    subst (λ (s : SheetText). IsOverLimit f (with_parts s (text_parts more))) view over
 
 -- the same, where what it is written for is found out anew
 pub template_result : {A : Type 0} (r : Result A RunFault) (old : SheetText) (scope after : Bindings) (k : Keeping) (pieces : List Piece) (tail more new : List ℕ) (n : ℕ)
     → sheet_of scope k (pieces_parts scope pieces) tail n ≡ old → after ≡ scope
     → OnOk r (new ≡ tail ++ more) → IfErr r (λ f. f ≢ NoMemory → (f ≡ TooLong) × (most_rendered_bytes < length (tail ++ more)))
-    → Wrote r old (sheet_of after k (pieces_parts after pieces) new n) (text_parts more)
+    → WroteParts r old (sheet_of after k (pieces_parts after pieces) new n) (text_parts more)
 template_result r old scope after k pieces tail more new n view same ok err =
-    subst (λ (s : Bindings). Wrote r old (sheet_of s k (pieces_parts s pieces) new n) (text_parts more)) (sym same)
+    subst (λ (s : Bindings). WroteParts r old (sheet_of s k (pieces_parts s pieces) new n) (text_parts more)) (sym same)
     (text_result r old scope k (pieces_parts scope pieces) tail more new n view ok err)
 
 -- ---- pieces
 
-one_len : (scope : Bindings) (p : Piece) → length (text_of (piece_parts scope p)) ≡ text_len (p ∷ [])
+one_len : (scope : Bindings) (p : Piece) → length (text_of_parts (piece_parts scope p)) ≡ text_len (p ∷ [])
 one_len scope (piece.Text t) = ap (length {A = ℕ}) (text_of_text t) ∙ sym (zero-add (length t))
 one_len scope (piece.Script name frame) = refl
 one_len scope (piece.Resource name) = refl
 
 -- a text has the bytes of its pieces
-pub text_len_is : (scope : Bindings) (pieces : List Piece) → length (text_of (pieces_parts scope pieces)) ≡ text_len pieces
+pub text_len_is : (scope : Bindings) (pieces : List Piece) → length (text_of_parts (pieces_parts scope pieces)) ≡ text_len pieces
 text_len_is scope [] = refl
 text_len_is scope (p ∷ ps) =
     let both = ap (length {A = ℕ}) (flat_map-append part_text (piece_parts scope p) (pieces_parts scope ps)) in
-    let lens = length-append (text_of (piece_parts scope p)) (text_of (pieces_parts scope ps)) in
+    let lens = length-append (text_of_parts (piece_parts scope p)) (text_of_parts (pieces_parts scope ps)) in
     let whole = sum_by-append piece_len (p ∷ []) ps in
     let more = text_len_is scope ps in let one = one_len scope p in
     omega (arith, both, lens, whole, more, one)
@@ -116,7 +116,7 @@ inclusions_are scope (p ∷ ps) =
     omega (arith, both, whole, more, one)
 
 -- a text more
-pub text_more_parts : (scope : Bindings) (ps : List Piece) (t : List ℕ) → pieces_parts scope (with_text ps t) ≡ pieces_parts scope ps ++ text_parts t
+pub text_more_parts : (scope : Bindings) (ps : List Piece) (t : List ℕ) → pieces_parts scope (with_text_piece ps t) ≡ pieces_parts scope ps ++ text_parts t
 text_more_parts scope ps [] = sym (append-nil (pieces_parts scope ps))
 text_more_parts scope ps (c ∷ t) =
     flat_map-append (piece_parts scope) ps (piece.Text (c ∷ t) ∷ []) ∙ ap (λ (q : List Part). pieces_parts scope ps ++ q) (append-nil (text_parts (c ∷ t)))
@@ -153,10 +153,10 @@ not_kept s scope p h is =
     sym (with_none s) ∙ ap (λ (q : List Part). made (s.parts ++ q) (s.rounds + 0)) (sym nothing) ∙ ap (λ (n : ℕ). made (s.parts ++ kept s.keeping (piece_parts scope p)) (s.rounds + n)) (sym (no_round_in scope p h))
 
 -- the text after the pieces is too long
-pub tail_over : (scope : Bindings) (k : Keeping) (ps : List Piece) (tail : List ℕ) (n : ℕ) → most_rendered_bytes < text_len ps + length tail → IsOver TooLong (sheet_of scope k (pieces_parts scope ps) tail n)
+pub tail_over : (scope : Bindings) (k : Keeping) (ps : List Piece) (tail : List ℕ) (n : ℕ) → most_rendered_bytes < text_len ps + length tail → IsOverLimit TooLong (sheet_of scope k (pieces_parts scope ps) tail n)
 tail_over scope k ps tail n h =
     let both = ap (length {A = ℕ}) (flat_map-append part_text (pieces_parts scope ps) (text_parts tail)) in
-    let lens = length-append (text_of (pieces_parts scope ps)) (text_of (text_parts tail)) in
+    let lens = length-append (text_of_parts (pieces_parts scope ps)) (text_of_parts (text_parts tail)) in
     let itself = ap (length {A = ℕ}) (text_of_text tail) in
     let len = text_len_is scope ps in
     omega (arith, h, both, lens, itself, len)
@@ -167,14 +167,14 @@ pub text_stops : (f : RunFault) (old : SheetText) (scope : Bindings) (k : Keepin
 text_stops f old scope k ps tail n new more view h = λ ne.
     let both = h ne in
     let over = over_more TooLong (sheet_of scope k (pieces_parts scope ps) tail n) more (tail_over scope k ps tail n both.1) in
-    let here = subst (λ (g : RunFault). IsOver g (with_parts (sheet_of scope k (pieces_parts scope ps) tail n) more)) (sym both.0) over in
-    subst (λ (s : SheetText). IsOver f (with_parts s more)) view here
+    let here = subst (λ (g : RunFault). IsOverLimit g (with_parts (sheet_of scope k (pieces_parts scope ps) tail n) more)) (sym both.0) over in
+    subst (λ (s : SheetText). IsOverLimit f (with_parts s more)) view here
 
 -- a piece is put in after the text before it, or there are too many
 pub inclusion_result : {A : Type 0} (r : Result A RunFault) (old : SheetText) (scope : Bindings) (k : Keeping) (ps mid new : List Piece) (p : Piece) (tail : List ℕ) (n : ℕ)
-    → sheet_of scope k (pieces_parts scope ps) tail n ≡ old → k ≡ keep.All → puts_in p ≡ true → mid ≡ with_text ps tail
+    → sheet_of scope k (pieces_parts scope ps) tail n ≡ old → k ≡ keep.All → puts_in p ≡ true → mid ≡ with_text_piece ps tail
     → OnOk r (new ≡ mid ++ p ∷ []) → IfErr r (λ f. f ≢ NoMemory → (f ≡ TooMany) × (most_inclusions ≤ inclusion_count mid))
-    → Wrote r old (sheet_of scope k (pieces_parts scope new) [] n) (piece_parts scope p)
+    → WroteParts r old (sheet_of scope k (pieces_parts scope new) [] n) (piece_parts scope p)
 inclusion_result (Ok x) old scope k ps mid new p tail n view all h is ok err =
     let made : List Part → ℕ → SheetText = λ parts count. record { scope = scope; keeping = k; parts = parts; rounds = count } in
     let before = pieces_parts scope ps ++ text_parts tail in
@@ -197,17 +197,17 @@ inclusion_result (Err f) old scope k ps mid new p tail n view all h is ok err = 
     let there = ap inclusion_count is ∙ included_with ps tail in
     let enough = both.1 in
     let over : most_inclusions < inclusions (before ++ kept k (piece_parts scope p)) = omega (arith, whole, parts, none, one, here, there, enough) in
-    let here = subst (λ (g : RunFault). IsOver g (with_parts (sheet_of scope k (pieces_parts scope ps) tail n) (piece_parts scope p))) (sym both.0) (inr over) in
-    subst (λ (s : SheetText). IsOver f (with_parts s (piece_parts scope p))) view here
+    let here = subst (λ (g : RunFault). IsOverLimit g (with_parts (sheet_of scope k (pieces_parts scope ps) tail n) (piece_parts scope p))) (sym both.0) (inr over) in
+    subst (λ (s : SheetText). IsOverLimit f (with_parts s (piece_parts scope p))) view here
 
 -- ---- the end
 
 -- what the pieces stand for, with the last text
-pub finished_parts : (scope here : Bindings) (ps new : List Piece) (tail : List ℕ) → here ≡ scope → new ≡ with_text ps tail → pieces_parts here new ≡ pieces_parts scope ps ++ text_parts tail
+pub finished_parts : (scope here : Bindings) (ps new : List Piece) (tail : List ℕ) → here ≡ scope → new ≡ with_text_piece ps tail → pieces_parts here new ≡ pieces_parts scope ps ++ text_parts tail
 finished_parts scope here ps new tail same is = ap (λ (s : Bindings). pieces_parts s new) same ∙ ap (pieces_parts scope) is ∙ text_more_parts scope ps tail
 
 -- they are within the limits
-pub finished_text : (scope : Bindings) (ps : List Piece) → text_len ps ≤ most_rendered_bytes → length (text_of (pieces_parts scope ps)) ≤ most_rendered_bytes
+pub finished_text : (scope : Bindings) (ps : List Piece) → text_len ps ≤ most_rendered_bytes → length (text_of_parts (pieces_parts scope ps)) ≤ most_rendered_bytes
 finished_text scope ps h = let is = text_len_is scope ps in omega (arith, is, h)
 
 pub finished_inclusions : (scope : Bindings) (ps : List Piece) → inclusion_count ps ≤ most_inclusions → inclusions (pieces_parts scope ps) ≤ most_inclusions
@@ -215,8 +215,8 @@ finished_inclusions scope ps h = let is = inclusions_are scope ps in omega (arit
 
 -- the last text is too long
 pub finished_over : (f : RunFault) (old : SheetText) (scope : Bindings) (k : Keeping) (ps : List Piece) (tail : List ℕ) (n : ℕ) → sheet_of scope k (pieces_parts scope ps) tail n ≡ old
-    → (f ≢ NoMemory → (f ≡ TooLong) × (most_rendered_bytes < text_len ps + length tail)) → f ≢ NoMemory → IsOver f old
+    → (f ≢ NoMemory → (f ≡ TooLong) × (most_rendered_bytes < text_len ps + length tail)) → f ≢ NoMemory → IsOverLimit f old
 finished_over f old scope k ps tail n view h ne =
     let both = h ne in
-    let here = subst (λ (g : RunFault). IsOver g (sheet_of scope k (pieces_parts scope ps) tail n)) (sym both.0) (tail_over scope k ps tail n both.1) in
-    subst (λ (s : SheetText). IsOver f s) view here
+    let here = subst (λ (g : RunFault). IsOverLimit g (sheet_of scope k (pieces_parts scope ps) tail n)) (sym both.0) (tail_over scope k ps tail n both.1) in
+    subst (λ (s : SheetText). IsOverLimit f s) view here

@@ -4,7 +4,7 @@ use Rattle.std.proofs.lemmas.Bool.Decides.{nat_tests}
 use Rattle.sp_base.specs.Bytes.{begins_with_byte}
 use Rattle.htl_text.specs.declared.piece.TemplatePiece.{TemplatePiece}
 use Rattle.htl_text.specs.declared.fault.TextFault.{TextFault}
-use Rattle.htl_text.specs.Template.{template_of, read_from}
+use Rattle.htl_text.specs.Template.{template_of, read_from_place}
 use Rattle.htl_blocks.specs.declared.fault.BlockFault.{BlockFault}
 use Rattle.htl_blocks.specs.declared.attribute.Attributes.{Attributes}
 use Rattle.htl_blocks.specs.declared.block.Block.{Block}
@@ -13,10 +13,10 @@ use Rattle.htl_blocks.specs.declared.block.Tag.{Tag}
 use Rattle.htl_blocks.specs.ElementText.{ElementText}
 use Rattle.htl_blocks.specs.Markup.{parts, parts_after, begins_tag}
 use Rattle.htl_blocks.specs.Attributes.{is_block_tag, tag_attributes}
-use Rattle.htl_blocks.specs.Reading.{◌then◌, run_of, after_run, text_block, run_blocks, to_element, element_cut, tag_of, known_tag, start_tag, element, blocks_read, content_within, blocks_of}
+use Rattle.htl_blocks.specs.Reading.{◌then◌, run_of, after_text_run, text_block, run_blocks, to_element, element_cut, tag_of, known_tag, start_tag, element, blocks_read, content_within, blocks_of}
 use Rattle.htl_blocks.specs.Laws.{HasNoBlock, bytes_of}
 use Rattle.htl_blocks.specs.Laws as laws
-use Rattle.htl_blocks.specs.Spelling.{text_of, FirstTag, Element, SpellsText, SpellsBlocks}
+use Rattle.htl_blocks.specs.Spelling.{whole_text, FirstTag, Element, SpellsText, SpellsBlocks}
 use Rattle.htl_blocks.specs.Spelling as spelling
 use Rattle.htl_blocks.proofs.Turns.{within_is, element_is}
 use Rattle.htl_blocks.proofs.Split.{cut_of, cut_only, cut_says, Cuts, first_tag, run_plain, run_tag, parts_suffix, length_parts, length_text, head_part}
@@ -33,7 +33,7 @@ unfolding run_blocks
 run_found place [] ws e = let same : [] ≡ ws = cc in subst (λ (bs : List Block). SpellsText [] bs) same spelling.no_text
 run_found place (c ∷ t) ws e = go (template_of (c ∷ t)) refl e
   where
-    go : (r : Result (List TemplatePiece) TextFault) → template_of (c ∷ t) ≡ r → text_block (read_from place r) ≡ Ok ws → SpellsText (c ∷ t) ws
+    go : (r : Result (List TemplatePiece) TextFault) → template_of (c ∷ t) ≡ r → text_block (read_from_place place r) ≡ Ok ws → SpellsText (c ∷ t) ws
     go (Ok ps) a b = let same : block.Text ps ∷ [] ≡ ws = cc in subst (λ (bs : List Block). SpellsText (c ∷ t) bs) same (spelling.template a)
     go (Err f) a b = absurd cc
 
@@ -47,16 +47,16 @@ no_parts = laws.none
 
 -- ---- one turn
 
-pub step_more : (one : List ℕ → Result (Block × List ℕ) BlockFault) (end turns : ℕ) (found ws : List Block) (t later : List ℕ) (b : Block) → run_blocks (end - length t) (run_of t) ≡ Ok ws → 0 < length (after_run t) → one (after_run t) ≡ Ok (b, later)
+pub step_more : (one : List ℕ → Result (Block × List ℕ) BlockFault) (end turns : ℕ) (found ws : List Block) (t later : List ℕ) (b : Block) → run_blocks (end - length t) (run_of t) ≡ Ok ws → 0 < length (after_text_run t) → one (after_text_run t) ≡ Ok (b, later)
     → blocks_read one end (suc turns) found t ≡ blocks_read one end turns ((found ++ ws) ++ b ∷ []) later
 unfolding blocks_read
-step_more one end turns found ws t later b run some e = rw run (next (after_run t) some e)
+step_more one end turns found ws t later b run some e = rw run (next (after_text_run t) some e)
   where
     next : (u : List ℕ) → 0 < length u → one u ≡ Ok (b, later) → to_element one (blocks_read one end turns) (found ++ ws) u ≡ blocks_read one end turns ((found ++ ws) ++ b ∷ []) later
     next [] s x = absurd (omega (arith, s))
     next (c ∷ u) s x = rw x refl
 
-pub step_end : (one : List ℕ → Result (Block × List ℕ) BlockFault) (end turns : ℕ) (found ws : List Block) (t : List ℕ) → run_blocks (end - length t) (run_of t) ≡ Ok ws → after_run t ≡ []
+pub step_end : (one : List ℕ → Result (Block × List ℕ) BlockFault) (end turns : ℕ) (found ws : List Block) (t : List ℕ) → run_blocks (end - length t) (run_of t) ≡ Ok ws → after_text_run t ≡ []
     → blocks_read one end (suc turns) found t ≡ Ok (found ++ ws)
 unfolding blocks_read
 step_end one end turns found ws t run none = rw (run, none) refl
@@ -65,10 +65,10 @@ pub step_run_fails : (one : List ℕ → Result (Block × List ℕ) BlockFault) 
 unfolding blocks_read
 step_run_fails one end turns found t f run = rw run refl
 
-pub step_one_fails : (one : List ℕ → Result (Block × List ℕ) BlockFault) (end turns : ℕ) (found ws : List Block) (t : List ℕ) (f : BlockFault) → run_blocks (end - length t) (run_of t) ≡ Ok ws → 0 < length (after_run t) → one (after_run t) ≡ Err f
+pub step_one_fails : (one : List ℕ → Result (Block × List ℕ) BlockFault) (end turns : ℕ) (found ws : List Block) (t : List ℕ) (f : BlockFault) → run_blocks (end - length t) (run_of t) ≡ Ok ws → 0 < length (after_text_run t) → one (after_text_run t) ≡ Err f
     → blocks_read one end (suc turns) found t ≡ Err f
 unfolding blocks_read
-step_one_fails one end turns found ws t f run some e = rw run (next (after_run t) some e)
+step_one_fails one end turns found ws t f run some e = rw run (next (after_text_run t) some e)
   where
     next : (u : List ℕ) → 0 < length u → one u ≡ Err f → to_element one (blocks_read one end turns) (found ++ ws) u ≡ Err f
     next [] s x = absurd (omega (arith, s))
@@ -93,11 +93,11 @@ closed_size tag _ _ _ _ (spelling.by_end_tag {inner = inner} {after = after} {en
     both [] = let same : length end_tag + bytes_of after ≡ 0 + (length end_tag + bytes_of after) = omega arith in same
     both (p ∷ a) = let ih = both a in omega (arith, ih)
 
-pub first_parts : (t : List ℕ) (x : FirstTag t) → parts (after_run t) ≡ x.tag ∷ x.rest
+pub first_parts : (t : List ℕ) (x : FirstTag t) → parts (after_text_run t) ≡ x.tag ∷ x.rest
 first_parts t x = ap parts (run_tag t x).1 ∙ parts_suffix x.before (x.tag ∷ x.rest) t x.split
 
-pub first_some : (t : List ℕ) (x : FirstTag t) → 0 < length (after_run t)
-first_some t x = (head_part (after_run t) x.tag x.rest (first_parts t x)).0
+pub first_some : (t : List ℕ) (x : FirstTag t) → 0 < length (after_text_run t)
+first_some t x = (head_part (after_text_run t) x.tag x.rest (first_parts t x)).0
 
 block_nonempty : (tag : List ℕ) → is_block_tag tag ≡ true → 1 ≤ length tag
 unfolding is_block_tag begins_tag begins_with_byte
@@ -117,10 +117,10 @@ sizes t x y =
     record { tag_some = tag_nonempty t x; all = omega (arith, all, rest) }
 
 -- the text after a block tag is after its first byte
-pub after_place : (t : List ℕ) (x : FirstTag t) (place end : ℕ) → end ≡ place + length t → end - length (after_run t) ≡ place + bytes_of x.before
+pub after_place : (t : List ℕ) (x : FirstTag t) (place end : ℕ) → end ≡ place + length t → end - length (after_text_run t) ≡ place + bytes_of x.before
 after_place t x place end e =
     let all = first_size t x in
-    let size : length (after_run t) ≡ length x.tag + bytes_of x.rest = ap length (run_tag t x).1 ∙ length_text (x.tag ∷ x.rest) in
+    let size : length (after_text_run t) ≡ length x.tag + bytes_of x.rest = ap length (run_tag t x).1 ∙ length_text (x.tag ∷ x.rest) in
     omega (arith, all, size, e)
 
 -- ---- the tag of an element
@@ -169,27 +169,27 @@ spelled_turns levels t bs (spelling.no_element h s) end turns found le = plain t
         let r = run_plain t h in
         step_end (element levels (content_within levels) end) end turns found bs t (ap (run_blocks (end - length t)) r.0 ∙ run_only (end - length t) t bs s) r.1
 spelled_turns _ t _ (spelling.element {levels = levels} {kept = kept} {words = words} {content = content} {more = more} {a = a} {start = start} x y s ea es c m) end turns found le =
-    go turns le (λ (at : ℕ). spelled_turns levels (text_of y.inner) content c at (length (text_of y.inner)) [] (omega arith)) (λ (n : ℕ) (found_too : List Block) (l : length (text_of y.after) ≤ n). spelled_turns (suc levels) (text_of y.after) more m end n found_too l)
+    go turns le (λ (at : ℕ). spelled_turns levels (whole_text y.inner) content c at (length (whole_text y.inner)) [] (omega arith)) (λ (n : ℕ) (found_too : List Block) (l : length (whole_text y.after) ≤ n). spelled_turns (suc levels) (whole_text y.after) more m end n found_too l)
   where
     at : ℕ
-    at = (end - length (text_of y.after)) - length y.end_tag
+    at = (end - length (whole_text y.after)) - length y.end_tag
 
     b : Block
     b = block.Element (record { attributes = a; start = start }) content y.end_tag
 
     run : run_blocks (end - length t) (run_of t) ≡ Ok words
-    run = ap (run_blocks (end - length t)) (run_tag t x).0 ∙ run_only (end - length t) (text_of x.before) words s
+    run = ap (run_blocks (end - length t)) (run_tag t x).0 ∙ run_only (end - length t) (whole_text x.before) words s
 
-    one_is : content_within (suc levels) at (text_of y.inner) ≡ Ok content → element (suc levels) (content_within (suc levels)) end (after_run t) ≡ Ok (b, text_of y.after)
+    one_is : content_within (suc levels) at (whole_text y.inner) ≡ Ok content → element (suc levels) (content_within (suc levels)) end (after_text_run t) ≡ Ok (b, whole_text y.after)
     one_is e =
-        element_is (suc levels) (content_within (suc levels)) end (after_run t) (end - length (after_run t)) at (cut_of x.tag x.rest y) (record { attributes = a; start = start }) content refl refl
-        (cut_only (end - length (after_run t)) (after_run t) x.tag x.rest (first_parts t x) x.block y)
-        (tag_only levels (end - length (after_run t)) x.tag kept a start ea es)
+        element_is (suc levels) (content_within (suc levels)) end (after_text_run t) (end - length (after_text_run t)) at (cut_of x.tag x.rest y) (record { attributes = a; start = start }) content refl refl
+        (cut_only (end - length (after_text_run t)) (after_text_run t) x.tag x.rest (first_parts t x) x.block y)
+        (tag_only levels (end - length (after_text_run t)) x.tag kept a start ea es)
         e
 
     go : (turns : ℕ) → length t ≤ turns
-        → ((at : ℕ) → blocks_read (element levels (content_within levels) at) at (length (text_of y.inner)) [] (text_of y.inner) ≡ Ok ([] ++ content))
-        → ((n : ℕ) (found_too : List Block) → length (text_of y.after) ≤ n → blocks_read (element (suc levels) (content_within (suc levels)) end) end n found_too (text_of y.after) ≡ Ok (found_too ++ more))
+        → ((at : ℕ) → blocks_read (element levels (content_within levels) at) at (length (whole_text y.inner)) [] (whole_text y.inner) ≡ Ok ([] ++ content))
+        → ((n : ℕ) (found_too : List Block) → length (whole_text y.after) ≤ n → blocks_read (element (suc levels) (content_within (suc levels)) end) end n found_too (whole_text y.after) ≡ Ok (found_too ++ more))
         → blocks_read (element (suc levels) (content_within (suc levels)) end) end turns found t ≡ Ok (found ++ (words ++ b ∷ more))
     go zero le inside later = absurd (let z = sizes t x y in let some = z.tag_some in let all = z.all in omega (arith, some, all, le))
     go (suc n) le inside later =
@@ -197,7 +197,7 @@ spelled_turns _ t _ (spelling.element {levels = levels} {kept = kept} {words = w
         let some = z.tag_some in
         let all = z.all in
         let size = length_text y.after in
-        step_more (element (suc levels) (content_within (suc levels)) end) end n found words t (text_of y.after) b run (first_some t x) (one_is (within_is levels at (text_of y.inner) ∙ inside at))
+        step_more (element (suc levels) (content_within (suc levels)) end) end n found words t (whole_text y.after) b run (first_some t x) (one_is (within_is levels at (whole_text y.inner) ∙ inside at))
         ∙ later n ((found ++ words) ++ b ∷ []) (omega (arith, some, all, size, le))
         ∙ ap Ok (append_assoc (found ++ words) (b ∷ []) more ∙ append_assoc found words (b ∷ more))
 
@@ -252,29 +252,29 @@ pub record OneSays (levels : ℕ) (t : List ℕ) (x : FirstTag t) (b : Block) (l
   pub content : List Block
   pub at : ℕ
   pub says : TagSays levels x.tag tag
-  pub content_is : content_within levels at (text_of y.inner) ≡ Ok content
+  pub content_is : content_within levels at (whole_text y.inner) ≡ Ok content
   pub block_is : block.Element tag content y.end_tag ≡ b
-  pub rest_is : text_of y.after ≡ later
+  pub rest_is : whole_text y.after ≡ later
 
-pub one_says : (levels end : ℕ) (t : List ℕ) (x : FirstTag t) (b : Block) (later : List ℕ) → element levels (content_within levels) end (after_run t) ≡ Ok (b, later) → OneSays levels t x b later
+pub one_says : (levels end : ℕ) (t : List ℕ) (x : FirstTag t) (b : Block) (later : List ℕ) → element levels (content_within levels) end (after_text_run t) ≡ Ok (b, later) → OneSays levels t x b later
 one_says levels end t x b later e =
-    let z = element_says levels (content_within levels) end (after_run t) b later e in
-    let w = subst (λ (r : Result ElementText BlockFault). Cuts (end - length (after_run t)) x.tag x.rest r) z.cut_is (cut_says (end - length (after_run t)) (after_run t) x.tag x.rest (first_parts t x) x.block) in
+    let z = element_says levels (content_within levels) end (after_text_run t) b later e in
+    let w = subst (λ (r : Result ElementText BlockFault). Cuts (end - length (after_text_run t)) x.tag x.rest r) z.cut_is (cut_says (end - length (after_text_run t)) (after_text_run t) x.tag x.rest (first_parts t x) x.block) in
     record {
       y = w.0;
       tag = z.tag;
       content = z.content;
       at = (end - length z.cut.rest) - length z.cut.end_tag;
-      says = tag_found levels (end - length (after_run t)) x.tag z.tag (ap (λ (c : ElementText). tag_of levels (end - length (after_run t)) c.tag) (sym w.1) ∙ z.tag_is);
+      says = tag_found levels (end - length (after_text_run t)) x.tag z.tag (ap (λ (c : ElementText). tag_of levels (end - length (after_text_run t)) c.tag) (sym w.1) ∙ z.tag_is);
       content_is = ap (λ (c : ElementText). content_within levels ((end - length z.cut.rest) - length z.cut.end_tag) c.inside) (sym w.1) ∙ z.content_is;
       block_is = ap (λ (c : ElementText). block.Element z.tag z.content c.end_tag) (sym w.1) ∙ z.block_is;
       rest_is = ap (λ (c : ElementText). c.rest) (sym w.1) ∙ z.rest_is;
     }
 
-with_element : (levels : ℕ) (found ws : List Block) (t : List ℕ) (x : FirstTag t) (b : Block) (later : List ℕ) (bs : List Block) → Inside levels → SpellsText (text_of x.before) ws → OneSays levels t x b later → Found levels ((found ++ ws) ++ b ∷ []) later bs → Found levels found t bs
+with_element : (levels : ℕ) (found ws : List Block) (t : List ℕ) (x : FirstTag t) (b : Block) (later : List ℕ) (bs : List Block) → Inside levels → SpellsText (whole_text x.before) ws → OneSays levels t x b later → Found levels ((found ++ ws) ++ b ∷ []) later bs → Found levels found t bs
 with_element levels found ws t x b later bs inside s o rest =
-    let spelled = inside o.says.level o.says.more o.at (text_of o.y.inner) o.content o.content_is in
-    let after = subst (λ (n : ℕ). SpellsBlocks n (text_of o.y.after) rest.more) o.says.more (subst (λ (u : List ℕ). SpellsBlocks levels u rest.more) (sym o.rest_is) rest.spells) in
+    let spelled = inside o.says.level o.says.more o.at (whole_text o.y.inner) o.content o.content_is in
+    let after = subst (λ (n : ℕ). SpellsBlocks n (whole_text o.y.after) rest.more) o.says.more (subst (λ (u : List ℕ). SpellsBlocks levels u rest.more) (sym o.rest_is) rest.spells) in
     let whole = spelling.element x o.y s o.says.says o.says.reads spelled after in
     record {
       more = ws ++ b ∷ rest.more;
@@ -298,7 +298,7 @@ found_turns levels end (suc n) found t bs inside le e =
     one = element levels (content_within levels) end
 
     at_tag : (ws : List Block) → run_blocks (end - length t) (run_of t) ≡ Ok ws → (x : FirstTag t) → ((found_too : List Block) (u : List ℕ) → length u ≤ n → blocks_read (element levels (content_within levels) end) end n found_too u ≡ Ok bs → Found levels found_too u bs)
-        → (r : Result (Block × List ℕ) BlockFault) → element levels (content_within levels) end (after_run t) ≡ r → Found levels found t bs
+        → (r : Result (Block × List ℕ) BlockFault) → element levels (content_within levels) end (after_text_run t) ≡ r → Found levels found t bs
     at_tag ws q x ih (Err f) h = absurd (let fails = step_one_fails (element levels (content_within levels) end) end n found ws t f q (first_some t x) h in cc)
     at_tag ws q x ih (Ok p) h =
         let o = one_says levels end t x p.0 p.1 h in
@@ -307,7 +307,7 @@ found_turns levels end (suc n) found t bs inside le e =
         let all = z.all in
         let size : length p.1 ≡ bytes_of o.y.after = ap length (sym o.rest_is) ∙ length_text o.y.after in
         let read = sym (step_more (element levels (content_within levels) end) end n found ws t p.1 p.0 q (first_some t x) h) ∙ e in
-        with_element levels found ws t x p.0 p.1 bs inside (run_found (end - length t) (text_of x.before) ws (ap (run_blocks (end - length t)) (sym (run_tag t x).0) ∙ q)) o (ih ((found ++ ws) ++ p.0 ∷ []) p.1 (omega (arith, some, all, size, le)) read)
+        with_element levels found ws t x p.0 p.1 bs inside (run_found (end - length t) (whole_text x.before) ws (ap (run_blocks (end - length t)) (sym (run_tag t x).0) ∙ q)) o (ih ((found ++ ws) ++ p.0 ∷ []) p.1 (omega (arith, some, all, size, le)) read)
 
     go : (r : Result (List Block) BlockFault) → run_blocks (end - length t) (run_of t) ≡ r → HasNoBlock (parts t) ⊎ FirstTag t
         → ((found_too : List Block) (u : List ℕ) → length u ≤ n → blocks_read (element levels (content_within levels) end) end n found_too u ≡ Ok bs → Found levels found_too u bs)
@@ -317,7 +317,7 @@ found_turns levels end (suc n) found t bs inside le e =
         let r = run_plain t h in
         let ends = step_end (element levels (content_within levels) end) end n found ws t q r.1 in
         record { more = ws; all = cc; spells = spelling.no_element h (run_found (end - length t) t ws (ap (run_blocks (end - length t)) (sym r.0) ∙ q)) }
-    go (Ok ws) q (inr x) ih = at_tag ws q x ih (element levels (content_within levels) end (after_run t)) refl
+    go (Ok ws) q (inr x) ih = at_tag ws q x ih (element levels (content_within levels) end (after_text_run t)) refl
 
 -- the content within so many levels is what it spells
 read_within : (levels : ℕ) → Inside levels

@@ -7,12 +7,12 @@ use Rattle.htl_blocks.specs.declared.quoting.Quoting.TheVariants.{Outside}
 use Rattle.htl_blocks.specs.declared.fault.BlockFault.{BlockFault}
 use Rattle.htl_blocks.specs.declared.fault.BlockFault.TheVariants as fault
 use Rattle.htl_blocks.specs.ElementText.{ElementText}
-use Rattle.htl_blocks.specs.Markup.{quoting_step, ends_tag, tag_end, ended_len, tag_len, is_ended, begins_tag, part_len, parts, parts_after, tag_name, has_no_content, inside_len}
+use Rattle.htl_blocks.specs.Markup.{markup_quoting_step, ends_tag, tag_end, ended_len, tag_len, is_ended, begins_tag, part_len, parts, parts_after, tag_name, has_no_content, inside_len}
 use Rattle.htl_blocks.specs.Attributes.{is_block_tag}
-use Rattle.htl_blocks.specs.Reading.{run_len, run_of, after_run, cut_at, cut_after, element_cut}
+use Rattle.htl_blocks.specs.Reading.{run_len, run_of, after_text_run, cut_at, cut_after, element_cut}
 use Rattle.htl_blocks.specs.Laws.{HasNoBlock, Balanced, Closes, bytes_of}
 use Rattle.htl_blocks.specs.Laws as laws
-use Rattle.htl_blocks.specs.Spelling.{text_of, FirstTag, Closed, Element}
+use Rattle.htl_blocks.specs.Spelling.{whole_text, FirstTag, Closed, Element}
 use Rattle.htl_blocks.specs.Spelling as spelling
 use Rattle.htl_blocks.proofs.Tags.{and_left, and_right, tag_end_at}
 use Rattle.htl_blocks.proofs.Parts.{parts_step}
@@ -29,13 +29,13 @@ pub drop_front : (a b : List ℕ) → drop (length a) (a ++ b) ≡ b
 drop_front [] b = refl
 drop_front (c ∷ a) b = drop_front a b
 
-pub text_of_both : (a b : List (List ℕ)) → text_of (a ++ b) ≡ text_of a ++ text_of b
+pub text_of_both : (a b : List (List ℕ)) → whole_text (a ++ b) ≡ whole_text a ++ whole_text b
 text_of_both [] b = refl
-text_of_both (p ∷ a) b = ap (λ (t : List ℕ). p ++ t) (text_of_both a b) ∙ sym (append_assoc p (text_of a) (text_of b))
+text_of_both (p ∷ a) b = ap (λ (t : List ℕ). p ++ t) (text_of_both a b) ∙ sym (append_assoc p (whole_text a) (whole_text b))
 
-pub length_text : (ps : List (List ℕ)) → length (text_of ps) ≡ bytes_of ps
+pub length_text : (ps : List (List ℕ)) → length (whole_text ps) ≡ bytes_of ps
 length_text [] = refl
-length_text (p ∷ ps) = length-append p (text_of ps) ∙ ap (λ (n : ℕ). length p + n) (length_text ps)
+length_text (p ∷ ps) = length-append p (whole_text ps) ∙ ap (λ (n : ℕ). length p + n) (length_text ps)
 
 parts_none : parts [] ≡ []
 unfolding parts_after
@@ -47,21 +47,21 @@ head_part [] p qs e = absurd (let none = parts_none in cc)
 head_part (c ∷ t) p qs e = let first = parts_step (c ∷ t) (omega arith) in (omega arith, cc, cc)
 
 -- the parts from a place on are those of the text from there on
-pub parts_suffix : (ps qs : List (List ℕ)) (t : List ℕ) → parts t ≡ ps ++ qs → parts (text_of qs) ≡ qs
-parts_suffix [] qs t e = ap parts (ap text_of (sym e) ∙ parts_whole t) ∙ e
+pub parts_suffix : (ps qs : List (List ℕ)) (t : List ℕ) → parts t ≡ ps ++ qs → parts (whole_text qs) ≡ qs
+parts_suffix [] qs t e = ap parts (ap whole_text (sym e) ∙ parts_whole t) ∙ e
 parts_suffix (p ∷ ps) qs t e = parts_suffix ps qs (drop (part_len t) t) (head_part t p (ps ++ qs) e).2
 
-pub text_split : (ps qs : List (List ℕ)) (t : List ℕ) → parts t ≡ ps ++ qs → t ≡ text_of ps ++ text_of qs
-text_split ps qs t e = sym (parts_whole t) ∙ ap text_of e ∙ text_of_both ps qs
+pub text_split : (ps qs : List (List ℕ)) (t : List ℕ) → parts t ≡ ps ++ qs → t ≡ whole_text ps ++ whole_text qs
+text_split ps qs t e = sym (parts_whole t) ∙ ap whole_text e ∙ text_of_both ps qs
 
-pub take_parts : (ps qs : List (List ℕ)) (t : List ℕ) → parts t ≡ ps ++ qs → take (bytes_of ps) t ≡ text_of ps
-take_parts ps qs t e = ap (take (bytes_of ps)) (text_split ps qs t e) ∙ ap (λ (n : ℕ). take n (text_of ps ++ text_of qs)) (sym (length_text ps)) ∙ take_front (text_of ps) (text_of qs)
+pub take_parts : (ps qs : List (List ℕ)) (t : List ℕ) → parts t ≡ ps ++ qs → take (bytes_of ps) t ≡ whole_text ps
+take_parts ps qs t e = ap (take (bytes_of ps)) (text_split ps qs t e) ∙ ap (λ (n : ℕ). take n (whole_text ps ++ whole_text qs)) (sym (length_text ps)) ∙ take_front (whole_text ps) (whole_text qs)
 
-pub drop_parts : (ps qs : List (List ℕ)) (t : List ℕ) → parts t ≡ ps ++ qs → drop (bytes_of ps) t ≡ text_of qs
-drop_parts ps qs t e = ap (drop (bytes_of ps)) (text_split ps qs t e) ∙ ap (λ (n : ℕ). drop n (text_of ps ++ text_of qs)) (sym (length_text ps)) ∙ drop_front (text_of ps) (text_of qs)
+pub drop_parts : (ps qs : List (List ℕ)) (t : List ℕ) → parts t ≡ ps ++ qs → drop (bytes_of ps) t ≡ whole_text qs
+drop_parts ps qs t e = ap (drop (bytes_of ps)) (text_split ps qs t e) ∙ ap (λ (n : ℕ). drop n (whole_text ps ++ whole_text qs)) (sym (length_text ps)) ∙ drop_front (whole_text ps) (whole_text qs)
 
 pub length_parts : (ps qs : List (List ℕ)) (t : List ℕ) → parts t ≡ ps ++ qs → length t ≡ bytes_of ps + bytes_of qs
-length_parts ps qs t e = ap length (text_split ps qs t e) ∙ length-append (text_of ps) (text_of qs) ∙ ap (λ (n : ℕ). n + length (text_of qs)) (length_text ps) ∙ ap (λ (n : ℕ). bytes_of ps + n) (length_text qs)
+length_parts ps qs t e = ap length (text_split ps qs t e) ∙ length-append (whole_text ps) (whole_text qs) ∙ ap (λ (n : ℕ). n + length (whole_text qs)) (length_text ps) ∙ ap (λ (n : ℕ). bytes_of ps + n) (length_text qs)
 
 -- ---- the first block tag
 
@@ -75,8 +75,8 @@ unfolding run_len
 run_to _ tag rest laws.none b = rw b refl
 run_to _ tag rest (laws.part {p = p} {more = ps} e x) b = rw e (ap (λ (n : ℕ). length p + n) (run_to ps tag rest x b))
 
-pub run_plain : (t : List ℕ) → HasNoBlock (parts t) → (run_of t ≡ t) × (after_run t ≡ [])
-unfolding run_of after_run
+pub run_plain : (t : List ℕ) → HasNoBlock (parts t) → (run_of t ≡ t) × (after_text_run t ≡ [])
+unfolding run_of after_text_run
 run_plain t x =
     let all = run_all (parts t) x in
     let size : length t ≡ bytes_of (parts t) = sym (ap length (parts_whole t)) ∙ length_text (parts t) in
@@ -88,8 +88,8 @@ run_plain t x =
     append_none [] = refl
     append_none (c ∷ a) = ap (λ (b : List ℕ). c ∷ b) (append_none a)
 
-pub run_tag : (t : List ℕ) (x : FirstTag t) → (run_of t ≡ text_of x.before) × (after_run t ≡ text_of (x.tag ∷ x.rest))
-unfolding run_of after_run
+pub run_tag : (t : List ℕ) (x : FirstTag t) → (run_of t ≡ whole_text x.before) × (after_text_run t ≡ whole_text (x.tag ∷ x.rest))
+unfolding run_of after_text_run
 run_tag t x =
     let e : run_len (parts t) ≡ bytes_of x.before = ap run_len x.split ∙ run_to x.before x.tag x.rest x.plain x.block in
     (rw e (take_parts x.before (x.tag ∷ x.rest) t x.split), rw e (drop_parts x.before (x.tag ∷ x.rest) t x.split))
@@ -134,16 +134,16 @@ part_is_tag u h = rw h refl
 end_within : (quoting : Quoting) (n : ℕ) (t : List ℕ) (m : ℕ) → tag_end quoting n t ≡ Some m → tag_end quoting n (take (suc (m - n)) t) ≡ Some m
 unfolding tag_end
 end_within quoting n [] m h = absurd cc
-end_within quoting n (c ∷ t) m h = go (ends_tag quoting c) refl h (end_within (quoting_step quoting c) (n + 1) t m)
+end_within quoting n (c ∷ t) m h = go (ends_tag quoting c) refl h (end_within (markup_quoting_step quoting c) (n + 1) t m)
   where
-    later : n + 1 ≤ m → tag_end (quoting_step quoting c) (n + 1) (take (suc (m - (n + 1))) t) ≡ Some m → tag_end (quoting_step quoting c) (n + 1) (take (m - n) t) ≡ Some m
+    later : n + 1 ≤ m → tag_end (markup_quoting_step quoting c) (n + 1) (take (suc (m - (n + 1))) t) ≡ Some m → tag_end (markup_quoting_step quoting c) (n + 1) (take (m - n) t) ≡ Some m
     later le x = let same : m - n ≡ suc (m - (n + 1)) = omega (arith, le) in rw same x
 
-    go : (b : Bool) → ends_tag quoting c ≡ b → cond b (Some n) (tag_end (quoting_step quoting c) (n + 1) t) ≡ Some m
-        → (tag_end (quoting_step quoting c) (n + 1) t ≡ Some m → tag_end (quoting_step quoting c) (n + 1) (take (suc (m - (n + 1))) t) ≡ Some m)
-        → cond (ends_tag quoting c) (Some n) (tag_end (quoting_step quoting c) (n + 1) (take (m - n) t)) ≡ Some m
+    go : (b : Bool) → ends_tag quoting c ≡ b → cond b (Some n) (tag_end (markup_quoting_step quoting c) (n + 1) t) ≡ Some m
+        → (tag_end (markup_quoting_step quoting c) (n + 1) t ≡ Some m → tag_end (markup_quoting_step quoting c) (n + 1) (take (suc (m - (n + 1))) t) ≡ Some m)
+        → cond (ends_tag quoting c) (Some n) (tag_end (markup_quoting_step quoting c) (n + 1) (take (m - n) t)) ≡ Some m
     go true e x ih = rw e x
-    go false e x ih = rw e (later (tag_end_at (quoting_step quoting c) (n + 1) t m x).0 (ih x))
+    go false e x ih = rw e (later (tag_end_at (markup_quoting_step quoting c) (n + 1) t m x).0 (ih x))
 
 take_all : (t : List ℕ) → take (length t) t ≡ t
 take_all [] = refl
@@ -167,8 +167,8 @@ ended_same u = go (tag_end Outside 0 u) refl
 pub record IsTag (u tag : List ℕ) (rest : List (List ℕ)) : Type 0 where
   pub some : 0 < length u
   pub tag_is : take (tag_len u) u ≡ tag
-  pub rest_is : drop (tag_len u) u ≡ text_of rest
-  pub rest_parts : parts (text_of rest) ≡ rest
+  pub rest_is : drop (tag_len u) u ≡ whole_text rest
+  pub rest_parts : parts (whole_text rest) ≡ rest
   pub ended : is_ended u ≡ is_ended tag
 
 pub tag_of_parts : (u tag : List ℕ) (rest : List (List ℕ)) → parts u ≡ tag ∷ rest → is_block_tag tag ≡ true → IsTag u tag rest
@@ -180,28 +180,28 @@ tag_of_parts u tag rest e b =
     record {
       some = h.0;
       tag_is = front;
-      rest_is = ap (λ (n : ℕ). drop n u) (sym len) ∙ sym (parts_whole (drop (part_len u) u)) ∙ ap text_of h.2;
+      rest_is = ap (λ (n : ℕ). drop n u) (sym len) ∙ sym (parts_whole (drop (part_len u) u)) ∙ ap whole_text h.2;
       rest_parts = parts_suffix (tag ∷ []) rest u e;
       ended = sym (ended_same u) ∙ ap is_ended front;
     }
 
 -- an element's parts as texts
 abbrev pub cut_of : (tag : List ℕ) (rest : List (List ℕ)) → Element tag rest → ElementText
-cut_of tag rest y = record { tag = tag; inside = text_of y.inner; end_tag = y.end_tag; rest = text_of y.after }
+cut_of tag rest y = record { tag = tag; inside = whole_text y.inner; end_tag = y.end_tag; rest = whole_text y.after }
 
 cut_open : (place : ℕ) (tag : List ℕ) (r : List ℕ) (n : ℕ) (inner more : List (List ℕ)) (end_tag : List ℕ) → parts r ≡ inner ++ end_tag ∷ more → bytes_of inner ≡ n
-    → cut_at place tag r (Some n) ≡ Ok (record { tag = tag; inside = text_of inner; end_tag = end_tag; rest = text_of more })
+    → cut_at place tag r (Some n) ≡ Ok (record { tag = tag; inside = whole_text inner; end_tag = end_tag; rest = whole_text more })
 cut_open place tag r n inner more end_tag e size =
-    let before : take n r ≡ text_of inner = ap (λ (k : ℕ). take k r) (sym size) ∙ take_parts inner (end_tag ∷ more) r e in
-    let behind : drop n r ≡ text_of (end_tag ∷ more) = ap (λ (k : ℕ). drop k r) (sym size) ∙ drop_parts inner (end_tag ∷ more) r e in
-    let h = head_part (text_of (end_tag ∷ more)) end_tag more (parts_suffix inner (end_tag ∷ more) r e) in
-    let left : drop (part_len (text_of (end_tag ∷ more))) (text_of (end_tag ∷ more)) ≡ text_of more = sym (parts_whole (drop (part_len (text_of (end_tag ∷ more))) (text_of (end_tag ∷ more)))) ∙ ap text_of h.2 in
+    let before : take n r ≡ whole_text inner = ap (λ (k : ℕ). take k r) (sym size) ∙ take_parts inner (end_tag ∷ more) r e in
+    let behind : drop n r ≡ whole_text (end_tag ∷ more) = ap (λ (k : ℕ). drop k r) (sym size) ∙ drop_parts inner (end_tag ∷ more) r e in
+    let h = head_part (whole_text (end_tag ∷ more)) end_tag more (parts_suffix inner (end_tag ∷ more) r e) in
+    let left : drop (part_len (whole_text (end_tag ∷ more))) (whole_text (end_tag ∷ more)) ≡ whole_text more = sym (parts_whole (drop (part_len (whole_text (end_tag ∷ more))) (whole_text (end_tag ∷ more)))) ∙ ap whole_text h.2 in
     let end_is = h.1 in
     rw (before, behind, ← end_is, left) refl
 
 closed_cut : (place : ℕ) (tag r : List ℕ) (rest inner after : List (List ℕ)) (end_tag : List ℕ) → parts r ≡ rest → Closed tag rest inner end_tag after
-    → cut_after place tag r ≡ Ok (record { tag = tag; inside = text_of inner; end_tag = end_tag; rest = text_of after })
-closed_cut place tag r rest _ _ _ e (spelling.without_content h) = let same : r ≡ text_of rest = sym (parts_whole r) ∙ ap text_of e in rw (h, same) refl
+    → cut_after place tag r ≡ Ok (record { tag = tag; inside = whole_text inner; end_tag = end_tag; rest = whole_text after })
+closed_cut place tag r rest _ _ _ e (spelling.without_content h) = let same : r ≡ whole_text rest = sym (parts_whole r) ∙ ap whole_text e in rw (h, same) refl
 closed_cut place tag r _ _ _ _ e (spelling.by_end_tag {inner = inner} {after = after} {end_tag = end_tag} h b c) =
     let found = balanced_is_found (tag_name tag) (parts r) (bytes_of inner) (record { inner = inner; end_tag = end_tag; more = after; split = e; balanced = b; closed = c; place = refl }) in
     rw (h, found) (cut_open place tag r (bytes_of inner) inner after end_tag e refl)
@@ -212,7 +212,7 @@ unfolding element_cut
 cut_only place u tag rest e b y =
     let x = tag_of_parts u tag rest e b in
     let is_whole : is_ended u ≡ true = x.ended ∙ y.ended in
-    rw (is_whole, x.tag_is, x.rest_is) (closed_cut place tag (text_of rest) rest y.inner y.after y.end_tag x.rest_parts y.closed)
+    rw (is_whole, x.tag_is, x.rest_is) (closed_cut place tag (whole_text rest) rest y.inner y.after y.end_tag x.rest_parts y.closed)
 
 -- what was cut, or why nothing was
 abbrev pub Cuts : ℕ → List ℕ → List (List ℕ) → Result ElementText BlockFault → Type 0
@@ -229,7 +229,7 @@ cut_found place tag r rest e ended = go (has_no_content tag) refl (inside_len (t
 
     go : (b : Bool) → has_no_content tag ≡ b → (o : Option ℕ) → inside_len (tag_name tag) 0 0 (parts r) ≡ o → Cuts place tag rest (cond b (Ok (record { tag = tag; inside = []; end_tag = []; rest = r })) (cut_at place tag r o))
     go true h o n =
-        let same : r ≡ text_of rest = sym (parts_whole r) ∙ ap text_of e in
+        let same : r ≡ whole_text rest = sym (parts_whole r) ∙ ap whole_text e in
         (record { inner = []; end_tag = []; after = rest; ended = ended; closed = spelling.without_content h }, rw same refl)
     go false h None n = (refl, λ y. none_closed y.inner y.after y.end_tag rest h e n y.closed)
     go false h (Some m) n =
@@ -247,5 +247,5 @@ cut_says place u tag rest e b = go (is_ended u) refl
     x = tag_of_parts u tag rest e b
 
     go : (a : Bool) → is_ended u ≡ a → Cuts place tag rest (cond a (cut_after place (take (tag_len u) u) (drop (tag_len u) u)) (Err (fault.OpenTag place)))
-    go true h = rw (x.tag_is, x.rest_is) (cut_found place tag (text_of rest) rest x.rest_parts (sym x.ended ∙ h))
+    go true h = rw (x.tag_is, x.rest_is) (cut_found place tag (whole_text rest) rest x.rest_parts (sym x.ended ∙ h))
     go false h = (refl, λ y. let ended = y.ended in let same = x.ended in absurd cc)

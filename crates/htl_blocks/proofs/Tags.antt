@@ -8,7 +8,7 @@ use Rattle.sp_base.specs.Bytes.{begins_with_byte}
 use Rattle.htl_syntax.specs.Tokens.{begins, is_blank, is_quote, is_letter}
 use Rattle.htl_blocks.specs.declared.quoting.Quoting.{Quoting}
 use Rattle.htl_blocks.specs.declared.quoting.Quoting.TheVariants.{Outside, Within}
-use Rattle.htl_blocks.specs.Markup.{quoting_step, ends_tag, tag_end, ended_len, tag_len, begins_tag, begins_end_tag, ends_after_name, name_len, part_len}
+use Rattle.htl_blocks.specs.Markup.{markup_quoting_step, ends_tag, tag_end, ended_len, tag_len, begins_tag, begins_end_tag, ends_after_name, name_len, part_len}
 use Rattle.htl_blocks.specs.Attributes.{begins_statement, statement_place, mark_at}
 
 pub and_left : (a b : Bool) → (a && b) ≡ true → a ≡ true
@@ -35,14 +35,14 @@ quote_ascii c h = grind (arith, nat_tests)
 pub tag_end_at : (quoting : Quoting) (n : ℕ) (t : List ℕ) (m : ℕ) → tag_end quoting n t ≡ Some m → (n ≤ m) × (m - n < length t) × (slice_index t (m - n) ≡ 62)
 unfolding tag_end
 tag_end_at quoting n [] m h = absurd cc
-tag_end_at quoting n (c ∷ t) m h = go (ends_tag quoting c) refl h (tag_end_at (quoting_step quoting c) (n + 1) t m)
+tag_end_at quoting n (c ∷ t) m h = go (ends_tag quoting c) refl h (tag_end_at (markup_quoting_step quoting c) (n + 1) t m)
   where
     found : (q : Quoting) → ends_tag q c ≡ true → c ≡ 62
     found Outside e = search rules
     found (Within mark) e = absurd cc
 
-    go : (b : Bool) → ends_tag quoting c ≡ b → cond b (Some n) (tag_end (quoting_step quoting c) (n + 1) t) ≡ Some m
-        → (tag_end (quoting_step quoting c) (n + 1) t ≡ Some m → (n + 1 ≤ m) × (m - (n + 1) < length t) × (slice_index t (m - (n + 1)) ≡ 62))
+    go : (b : Bool) → ends_tag quoting c ≡ b → cond b (Some n) (tag_end (markup_quoting_step quoting c) (n + 1) t) ≡ Some m
+        → (tag_end (markup_quoting_step quoting c) (n + 1) t ≡ Some m → (n + 1 ≤ m) × (m - (n + 1) < length t) × (slice_index t (m - (n + 1)) ≡ 62))
         → (n ≤ m) × (m - n < length (c ∷ t)) × (slice_index (c ∷ t) (m - n) ≡ 62)
     go true e h' ih = let same : n ≡ m = cc in let none : m - n ≡ 0 = omega (arith, same) in (omega (arith, same), omega (arith, none), rw none (found quoting e))
     go false e h' ih = let x = ih h' in let more : m - n ≡ suc (m - (n + 1)) = omega (arith, x.0) in (omega (arith, x.0), omega (arith, more, x.1), rw more x.2)
@@ -56,10 +56,10 @@ blank_first (Within mark) c t e = absurd cc
 pub statement_at : (quoting : Quoting) (n : ℕ) (t : List ℕ) (m : ℕ) → statement_place quoting n t ≡ Some m → (n ≤ m) × (m - n < length t) × (slice_index t (m - n) < 128)
 unfolding statement_place begins_statement
 statement_at quoting n [] m h = absurd cc
-statement_at quoting n (c ∷ t) m h = go (begins_statement quoting c t) refl h (statement_at (quoting_step quoting c) (n + 1) t m)
+statement_at quoting n (c ∷ t) m h = go (begins_statement quoting c t) refl h (statement_at (markup_quoting_step quoting c) (n + 1) t m)
   where
-    go : (b : Bool) → begins_statement quoting c t ≡ b → cond b (Some n) (statement_place (quoting_step quoting c) (n + 1) t) ≡ Some m
-        → (statement_place (quoting_step quoting c) (n + 1) t ≡ Some m → (n + 1 ≤ m) × (m - (n + 1) < length t) × (slice_index t (m - (n + 1)) < 128))
+    go : (b : Bool) → begins_statement quoting c t ≡ b → cond b (Some n) (statement_place (markup_quoting_step quoting c) (n + 1) t) ≡ Some m
+        → (statement_place (markup_quoting_step quoting c) (n + 1) t ≡ Some m → (n + 1 ≤ m) × (m - (n + 1) < length t) × (slice_index t (m - (n + 1)) < 128))
         → (n ≤ m) × (m - n < length (c ∷ t)) × (slice_index (c ∷ t) (m - n) < 128)
     go true e h' ih = let same : n ≡ m = cc in let none : m - n ≡ 0 = omega (arith, same) in (omega (arith, same), omega (arith, none), rw none (blank_first quoting c t e))
     go false e h' ih = let x = ih h' in let more : m - n ≡ suc (m - (n + 1)) = omega (arith, x.0) in (omega (arith, x.0), omega (arith, more, x.1), rw more x.2)

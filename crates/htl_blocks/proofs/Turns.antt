@@ -10,12 +10,12 @@ use Rattle.htl_blocks.specs.declared.quoting.Quoting.TheVariants.{Outside}
 use Rattle.htl_blocks.proofs.Tags.{full}
 use Rattle.htl_blocks.proofs.Runs.{drop_one_more}
 use Rattle.htl_blocks.specs.Attributes.{statement_place, end_trimmed, tag_attributes, attributes_read, statement_split, with_known, attribute_of, after_attribute}
-use Rattle.htl_blocks.specs.Reading.{run_of, after_run, run_blocks, with_blocks, to_element, blocks_read, element, element_cut, tag_of, known_tag, content_within}
+use Rattle.htl_blocks.specs.Reading.{run_of, after_text_run, run_blocks, with_blocks, to_element, blocks_read, element, element_cut, tag_of, known_tag, content_within}
 
 -- ---- blocks
 
 -- a turn reads a run and an element
-pub blocks_more : (one : List ℕ → Result (Block × List ℕ) BlockFault) (end all turn : ℕ) (found new : List Block) (rest run tag later : List ℕ) (b : Block) → turn < all → Ok new ≡ with_blocks found (run_blocks (end - length rest) run) → run ≡ run_of rest → tag ≡ after_run rest → eqb (length tag) 0 ≡ false → one tag ≡ Ok (b, later)
+pub blocks_more : (one : List ℕ → Result (Block × List ℕ) BlockFault) (end all turn : ℕ) (found new : List Block) (rest run tag later : List ℕ) (b : Block) → turn < all → Ok new ≡ with_blocks found (run_blocks (end - length rest) run) → run ≡ run_of rest → tag ≡ after_text_run rest → eqb (length tag) 0 ≡ false → one tag ≡ Ok (b, later)
     → blocks_read one end (all - turn) found rest ≡ blocks_read one end (all - (turn + 1)) (new ++ b ∷ []) later
 unfolding blocks_read
 blocks_more one end all turn found new rest run tag later b lt pushed er et some e =
@@ -27,7 +27,7 @@ blocks_more one end all turn found new rest run tag later b lt pushed er et some
     next (c ∷ t) s x = rw x refl
 
 -- the last turn reads a run
-pub blocks_end : (one : List ℕ → Result (Block × List ℕ) BlockFault) (end all turn : ℕ) (found new : List Block) (rest run tag : List ℕ) → turn < all → Ok new ≡ with_blocks found (run_blocks (end - length rest) run) → run ≡ run_of rest → tag ≡ after_run rest → eqb (length tag) 0 ≡ true
+pub blocks_end : (one : List ℕ → Result (Block × List ℕ) BlockFault) (end all turn : ℕ) (found new : List Block) (rest run tag : List ℕ) → turn < all → Ok new ≡ with_blocks found (run_blocks (end - length rest) run) → run ≡ run_of rest → tag ≡ after_text_run rest → eqb (length tag) 0 ≡ true
     → blocks_read one end (all - turn) found rest ≡ Ok new
 unfolding blocks_read
 blocks_end one end all turn found new rest run tag lt pushed er et none =
@@ -47,7 +47,7 @@ blocks_run_fails one end all turn found rest run f lt e er =
     rw (more, ← er, e) refl
 
 -- a turn that meets a fault of an element
-pub blocks_one_fails : (one : List ℕ → Result (Block × List ℕ) BlockFault) (end all turn : ℕ) (found new : List Block) (rest run tag : List ℕ) (f : BlockFault) → turn < all → Ok new ≡ with_blocks found (run_blocks (end - length rest) run) → run ≡ run_of rest → tag ≡ after_run rest → eqb (length tag) 0 ≡ false → one tag ≡ Err f
+pub blocks_one_fails : (one : List ℕ → Result (Block × List ℕ) BlockFault) (end all turn : ℕ) (found new : List Block) (rest run tag : List ℕ) (f : BlockFault) → turn < all → Ok new ≡ with_blocks found (run_blocks (end - length rest) run) → run ≡ run_of rest → tag ≡ after_text_run rest → eqb (length tag) 0 ≡ false → one tag ≡ Err f
     → blocks_read one end (all - turn) found rest ≡ Err f
 unfolding blocks_read
 blocks_one_fails one end all turn found new rest run tag f lt pushed er et some e =

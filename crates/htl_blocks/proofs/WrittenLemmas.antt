@@ -17,7 +17,7 @@ use Rattle.htl_blocks.specs.Pieces.{item_of, items_in, with_round, within}
 use Rattle.htl_blocks.specs.declared.piece.Round.{Round as RoundOf}
 use Rattle.htl_blocks.specs.declared.run_fault.RunFault.{RunFault}
 use Rattle.htl_blocks.specs.declared.keeping.Keeping.{Keeping}
-use Rattle.htl_blocks.specs.Sheets.{SheetText, empty_sheet, with_parts, Stops, Wrote}
+use Rattle.htl_blocks.specs.Sheets.{SheetText, empty_sheet, with_parts, Stops, WroteParts}
 use Rattle.htl_blocks.specs.Written.{round_parts, statement_value, tag_parts}
 use Rattle.htl_blocks.proofs.SheetLemmas.{after, stopped, with_both, with_none}
 
@@ -49,18 +49,18 @@ pub same_scope : (s mid : SheetText) (ps : List Part) → mid ≡ with_parts s p
 same_scope s mid ps e = ap (λ (m : SheetText). m.scope) e
 
 -- what is written where nothing was written before
-pub at_once : {A : Type 0} (r : Result A RunFault) (s0 s1 s2 : SheetText) (vars : List (List ℕ × List ℕ)) (ps : Bindings → List Part) → s1 ≡ s0 → Wrote r s1 s2 (ps (with_vars s1.scope vars)) → Wrote r s0 s2 (ps (with_vars s0.scope vars))
-at_once r s0 s1 s2 vars ps e w = subst (λ (m : SheetText). Wrote r m s2 (ps (with_vars m.scope vars))) e w
+pub at_once : {A : Type 0} (r : Result A RunFault) (s0 s1 s2 : SheetText) (vars : List (List ℕ × List ℕ)) (ps : Bindings → List Part) → s1 ≡ s0 → WroteParts r s1 s2 (ps (with_vars s1.scope vars)) → WroteParts r s0 s2 (ps (with_vars s0.scope vars))
+at_once r s0 s1 s2 vars ps e w = subst (λ (m : SheetText). WroteParts r m s2 (ps (with_vars m.scope vars))) e w
 
 -- what a second step writes for the variables of the first
-pub second : {A : Type 0} (r : Result A RunFault) (s0 s1 s2 : SheetText) (vars : List (List ℕ × List ℕ)) (a : List Part) (b : Bindings → List Part) → s1 ≡ with_parts s0 a → Wrote r s1 s2 (b (with_vars s1.scope vars))
-    → Wrote r s0 s2 (a ++ b (with_vars s0.scope vars))
+pub second : {A : Type 0} (r : Result A RunFault) (s0 s1 s2 : SheetText) (vars : List (List ℕ × List ℕ)) (a : List Part) (b : Bindings → List Part) → s1 ≡ with_parts s0 a → WroteParts r s1 s2 (b (with_vars s1.scope vars))
+    → WroteParts r s0 s2 (a ++ b (with_vars s0.scope vars))
 second r s0 s1 s2 vars a b e w =
-    after r s0 s1 s2 a (b (with_vars s0.scope vars)) e (subst (λ (scope : Bindings). Wrote r s1 s2 (b (with_vars scope vars))) (same_scope s0 s1 a e) w)
+    after r s0 s1 s2 a (b (with_vars s0.scope vars)) e (subst (λ (scope : Bindings). WroteParts r s1 s2 (b (with_vars scope vars))) (same_scope s0 s1 a e) w)
 
 -- an element in its tags
 pub wrapped : {A : Type 0} (r : Result A RunFault) (s0 s1 s2 s3 : SheetText) (vars : List (List ℕ × List ℕ)) (a c : List Part) (b : Bindings → List Part) → s1 ≡ with_parts s0 a → s2 ≡ with_parts s1 (b (with_vars s1.scope vars))
-    → Wrote r s2 s3 c → Wrote r s0 s3 (a ++ (b (with_vars s0.scope vars) ++ c))
+    → WroteParts r s2 s3 c → WroteParts r s0 s3 (a ++ (b (with_vars s0.scope vars) ++ c))
 wrapped r s0 s1 s2 s3 vars a c b e f w =
     second r s0 s1 s3 vars a (λ (scope : Bindings). b scope ++ c) e (after r s1 s2 s3 (b (with_vars s1.scope vars)) c f w)
 
@@ -71,7 +71,7 @@ stopped_inside f s0 s1 s2 vars a c b e w =
     second {A = ℕ} (Err f) s0 s1 s2 vars a (λ (scope : Bindings). b scope ++ c) e (stopped f s1 s2 s2 (b (with_vars s1.scope vars)) c w)
 
 -- a tag where the tags stand
-pub tag_stands : {A : Type 0} (r : Result A RunFault) (old new : SheetText) (keeps : Bool) (t : List ℕ) → keeps ≡ true → Wrote r old new (text_parts t) → Wrote r old new (tag_parts keeps t)
+pub tag_stands : {A : Type 0} (r : Result A RunFault) (old new : SheetText) (keeps : Bool) (t : List ℕ) → keeps ≡ true → WroteParts r old new (text_parts t) → WroteParts r old new (tag_parts keeps t)
 tag_stands r old new true t e w = w
 tag_stands r old new false t e w = absurd (false≢true e)
 
@@ -97,12 +97,12 @@ inner_place scope rounds inner one vars item outer more is =
 
 -- an element in its tags, or without them
 pub in_tags : {A : Type 0} (r : Result A RunFault) (s0 s1 s2 s3 s4 : SheetText) (vars : List (List ℕ × List ℕ)) (keeps : Bool) (stand : Bindings → Bool) (start : Bindings → List ℕ) (end_tag : List ℕ) (b : Bindings → List Part)
-    → s1 ≡ s0 → keeps ≡ stand (with_vars s0.scope vars) → s2 ≡ with_parts s1 (tag_parts keeps (start (with_vars s1.scope vars))) → s3 ≡ with_parts s2 (b (with_vars s2.scope vars)) → Wrote r s3 s4 (tag_parts keeps end_tag)
-    → Wrote r s0 s4 (tag_parts (stand (with_vars s0.scope vars)) (start (with_vars s0.scope vars)) ++ (b (with_vars s0.scope vars) ++ tag_parts (stand (with_vars s0.scope vars)) end_tag))
+    → s1 ≡ s0 → keeps ≡ stand (with_vars s0.scope vars) → s2 ≡ with_parts s1 (tag_parts keeps (start (with_vars s1.scope vars))) → s3 ≡ with_parts s2 (b (with_vars s2.scope vars)) → WroteParts r s3 s4 (tag_parts keeps end_tag)
+    → WroteParts r s0 s4 (tag_parts (stand (with_vars s0.scope vars)) (start (with_vars s0.scope vars)) ++ (b (with_vars s0.scope vars) ++ tag_parts (stand (with_vars s0.scope vars)) end_tag))
 in_tags r s0 s1 s2 s3 s4 vars keeps stand start end_tag b same is opened filled closed =
     let scope0 = with_vars s0.scope vars in
     let opened0 = subst (λ (s : SheetText). s2 ≡ with_parts s (tag_parts keeps (start (with_vars s.scope vars)))) same opened in
-    subst (λ (k : Bool). Wrote r s0 s4 (tag_parts k (start scope0) ++ (b scope0 ++ tag_parts k end_tag))) is
+    subst (λ (k : Bool). WroteParts r s0 s4 (tag_parts k (start scope0) ++ (b scope0 ++ tag_parts k end_tag))) is
     (wrapped r s0 s2 s3 s4 vars (tag_parts keeps (start scope0)) (tag_parts keeps end_tag) b opened0 filled closed)
 
 -- its start tag isn't written
@@ -129,9 +129,9 @@ inside_stops f s0 s1 s2 s3 vars keeps stand start end_tag b same is opened fille
 
 -- a round
 pub round_written : {A : Type 0} (r : Result A RunFault) (old mid new : SheetText) (inside : Bindings → List Part) (vars inner : List (List ℕ × List ℕ)) (name item : List ℕ)
-    → mid ≡ with_parts old (Round ∷ []) → inner ≡ (name, item) ∷ vars → Wrote r mid new (inside (with_vars mid.scope inner)) → Wrote r old new (round_parts name inside (with_vars old.scope vars) item)
+    → mid ≡ with_parts old (Round ∷ []) → inner ≡ (name, item) ∷ vars → WroteParts r mid new (inside (with_vars mid.scope inner)) → WroteParts r old new (round_parts name inside (with_vars old.scope vars) item)
 round_written r old mid new inside vars inner name item begun is w =
-    subst (λ (v : List (List ℕ × List ℕ)). Wrote r old new (Round ∷ inside (with_vars old.scope v))) is (second r old mid new inner (Round ∷ []) inside begun w)
+    subst (λ (v : List (List ℕ × List ℕ)). WroteParts r old new (Round ∷ inside (with_vars old.scope v))) is (second r old mid new inner (Round ∷ []) inside begun w)
 
 -- an item is there
 pub item_there : {X : Type 0} (xs : List X) (i : ℕ) → i < length xs → None ≡ slice_get xs i → ⊥
@@ -153,9 +153,9 @@ outer_place scope here rounds vars same none seen = ap (within here) none ∙ sa
 
 -- what is written on an empty sheet for what a scope sees
 pub from_empty : {A : Type 0} (r : Result A RunFault) (s0 s1 : SheetText) (scope : Bindings) (what : Keeping) (vars : List (List ℕ × List ℕ)) (g : Bindings → List Part)
-    → s0 ≡ empty_sheet scope what → with_vars scope vars ≡ scope → Wrote r s0 s1 (g (with_vars s0.scope vars)) → Wrote r (empty_sheet scope what) s1 (g scope)
+    → s0 ≡ empty_sheet scope what → with_vars scope vars ≡ scope → WroteParts r s0 s1 (g (with_vars s0.scope vars)) → WroteParts r (empty_sheet scope what) s1 (g scope)
 from_empty r s0 s1 scope what vars g empty seen w =
-    subst (λ (s : Bindings). Wrote r (empty_sheet scope what) s1 (g s)) seen (subst (λ (s : SheetText). Wrote r s s1 (g (with_vars s.scope vars))) empty w)
+    subst (λ (s : Bindings). WroteParts r (empty_sheet scope what) s1 (g s)) seen (subst (λ (s : SheetText). WroteParts r s s1 (g (with_vars s.scope vars))) empty w)
 
 -- one round more
 pub rounds_more : (scope : Bindings) (rounds : List RoundOf) (i : ℕ) (d one : RoundOf) (vars more : List (List ℕ × List ℕ)) → i < length rounds → one ≡ get_or rounds i d

@@ -16,7 +16,7 @@ use Rattle.htl_blocks.specs.declared.attribute.Body.TheVariants as body
 use Rattle.htl_blocks.specs.declared.attribute.Unwrap.TheVariants as unwrap
 use Rattle.htl_blocks.specs.declared.statement.Statement.{Statement}
 use Rattle.htl_blocks.specs.declared.statement.Statement.TheVariants as statement
-use Rattle.htl_blocks.specs.Markup.{begins_tag, quoting_step, run_bytes}
+use Rattle.htl_blocks.specs.Markup.{begins_tag, markup_quoting_step, run_bytes}
 use Rattle.htl_blocks.specs.declared.byte_run.ByteRun.TheVariants as run
 
 -- what the names of block statements begin with
@@ -31,7 +31,7 @@ begins_statement (Within mark) c t = false
 -- the place of the blank before the first block statement of a tag, where this text begins at place n
 unfoldable pub statement_place : Quoting → ℕ → List ℕ → Option ℕ
 statement_place quoting n [] = None
-statement_place quoting n (c ∷ t) = if begins_statement quoting c t then Some n else statement_place (quoting_step quoting c) (n + 1) t
+statement_place quoting n (c ∷ t) = if begins_statement quoting c t then Some n else statement_place (markup_quoting_step quoting c) (n + 1) t
 
 -- a part of a script that is a tag with a block statement
 unfoldable pub is_block_tag : List ℕ → Bool
@@ -136,21 +136,13 @@ with_read_value s (Some v) = Some (with_value s v)
 
 -- without a value, or with an empty one, only unwrap stands
 abbrev pub without_value : Statement → Option Attribute
-without_value statement.Test = None
-without_value (statement.List name) = None
-without_value statement.Text = None
-without_value statement.Include = None
-without_value statement.Resource = None
 without_value statement.Unwrap = Some (attribute.Unwrap unwrap.Always)
+without_value _ = None
 
 -- whether a statement is unwrap
 abbrev pub unwraps : Statement → Bool
-unwraps statement.Test = false
-unwraps (statement.List name) = false
-unwraps statement.Text = false
-unwraps statement.Include = false
-unwraps statement.Resource = false
 unwraps statement.Unwrap = true
+unwraps _ = false
 
 -- a statement with a value in quotes; unwrap with an empty one has none
 abbrev pub quoted_attribute : Statement → List ℕ → Option Attribute

@@ -38,9 +38,9 @@ unfoldable pub begins_tag : List ℕ → Bool
 begins_tag t = begins_with_byte 60 t && begins is_letter (drop 1 t)
 
 -- where the next byte of a tag stands: a quote mark opens quotes, and the same mark closes them
-abbrev pub quoting_step : Quoting → ℕ → Quoting
-quoting_step Outside c = if is_quote c then Within c else Outside
-quoting_step (Within mark) c = if c == mark then Outside else Within mark
+abbrev pub markup_quoting_step : Quoting → ℕ → Quoting
+markup_quoting_step Outside c = if is_quote c then Within c else Outside
+markup_quoting_step (Within mark) c = if c == mark then Outside else Within mark
 
 -- a ">" outside quotes ends a tag
 abbrev pub ends_tag : Quoting → ℕ → Bool
@@ -50,7 +50,7 @@ ends_tag (Within mark) c = false
 -- the place of the first byte that ends a tag, where this text begins at place n
 unfoldable pub tag_end : Quoting → ℕ → List ℕ → Option ℕ
 tag_end quoting n [] = None
-tag_end quoting n (c ∷ t) = if ends_tag quoting c then Some n else tag_end (quoting_step quoting c) (n + 1) t
+tag_end quoting n (c ∷ t) = if ends_tag quoting c then Some n else tag_end (markup_quoting_step quoting c) (n + 1) t
 
 -- the bytes up to and with the ">" at a place; all of them, where there is none
 abbrev pub ended_len : List ℕ → Option ℕ → ℕ

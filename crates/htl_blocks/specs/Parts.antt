@@ -1,13 +1,14 @@
 -- What a script writes where it stands: bytes, and the texts that are put in there from elsewhere.
 use Rattle.std.specs.Prelude.{ℕ, Bool, true, false, List, [], ◌∷◌, map}
 use Rattle.std.specs.List.{flat_map, count_by}
+use Rattle.sp_base.specs.Texts.{Pairs}
 
 -- a byte; a round, in which the content of a list stands for one item, and which writes nothing by itself; the text of the script of this
 -- name, with the variables of the place; the text of the resource of this name
 pub data Part : Type 0 where
   Byte : ℕ → Part
   Round : Part
-  Script : List ℕ → List (List ℕ × List ℕ) → Part
+  Script : List ℕ → Pairs → Part
   Resource : List ℕ → Part
 
 -- the bytes of a text
@@ -22,8 +23,8 @@ part_text (Script name vars) = []
 part_text (Resource name) = []
 
 -- the text that is written beside what is put in
-abbrev pub text_of : List Part → List ℕ
-text_of ps = flat_map part_text ps
+abbrev pub text_of_parts : List Part → List ℕ
+text_of_parts ps = flat_map part_text ps
 
 -- whether a part is put in from elsewhere
 abbrev pub is_inclusion : Part → Bool

@@ -8,7 +8,7 @@ use Rattle.htl_expr.specs.Value.{list_in}
 use Rattle.htl_blocks.specs.declared.piece.Round.{Round}
 use Rattle.htl_blocks.specs.declared.piece.Piece.{Piece}
 use Rattle.htl_blocks.specs.declared.piece.Piece.TheVariants as piece
-use Rattle.htl_blocks.specs.Parts.{Part, text_parts, inclusions, rounds, text_of}
+use Rattle.htl_blocks.specs.Parts.{Part, text_parts, inclusions, rounds, text_of_parts}
 use Rattle.htl_blocks.specs.Parts as part
 use Rattle.htl_blocks.specs.Written.{statement_value, with_variable}
 use Rattle.htl_blocks.specs.Refused.{most_inclusions, most_rounds}
@@ -41,9 +41,9 @@ abbrev pub pieces_parts : Bindings → List Piece → List Part
 pieces_parts scope pieces = flat_map (piece_parts scope) pieces
 
 -- pieces with a text after them, which is no piece where it is empty
-abbrev pub with_text : List Piece → List ℕ → List Piece
-with_text pieces [] = pieces
-with_text pieces (c ∷ t) = pieces ++ piece.Text (c ∷ t) ∷ []
+abbrev pub with_text_piece : List Piece → List ℕ → List Piece
+with_text_piece pieces [] = pieces
+with_text_piece pieces (c ∷ t) = pieces ++ piece.Text (c ∷ t) ∷ []
 
 -- how many bytes of text a piece has
 abbrev pub piece_len : Piece → ℕ
@@ -77,4 +77,4 @@ StandsForParts scope kept parts text = (text.scope ≡ scope) × (text.parts ≡
 
 -- nothing of it is above its limit
 abbrev pub IsWithinLimits : ScriptText → Type 0
-IsWithinLimits text = (length (text_of text.parts) ≤ most_rendered_bytes) × (inclusions text.parts ≤ most_inclusions) × (text.rounds ≤ most_rounds)
+IsWithinLimits text = (length (text_of_parts text.parts) ≤ most_rendered_bytes) × (inclusions text.parts ≤ most_inclusions) × (text.rounds ≤ most_rounds)

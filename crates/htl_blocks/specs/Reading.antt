@@ -35,8 +35,8 @@ unfoldable pub run_of : List ℕ → List ℕ
 run_of t = take (run_len (parts t)) t
 
 -- the text from the first block tag on
-unfoldable pub after_run : List ℕ → List ℕ
-after_run t = drop (run_len (parts t)) t
+unfoldable pub after_text_run : List ℕ → List ℕ
+after_text_run t = drop (run_len (parts t)) t
 
 -- a template's fault, told at this place
 abbrev pub told_at : ℕ → TextFault → TextFault
@@ -109,7 +109,7 @@ unfoldable pub blocks_read : (List ℕ → Result (Block × List ℕ) BlockFault
 blocks_read one end zero found t = Ok found
 blocks_read one end (suc turns) found t =
     with_blocks found (run_blocks (end - length t) (run_of t)) then λ found_too.
-    to_element one (blocks_read one end turns) found_too (after_run t)
+    to_element one (blocks_read one end turns) found_too (after_text_run t)
 
 -- What is read inside an element where so many levels may nest, its own among them. Where none may, the element is too deep, and nothing inside it is read.
 unfoldable pub content_within : ℕ → ℕ → List ℕ → Result (List Block) BlockFault

@@ -7,7 +7,7 @@ use Rattle.htl_blocks.specs.declared.keeping.Keeping.{Keeping}
 use Rattle.htl_blocks.specs.declared.keeping.Keeping.TheVariants as keep
 use Rattle.htl_blocks.specs.declared.run_fault.RunFault.{RunFault}
 use Rattle.htl_blocks.specs.declared.run_fault.RunFault.TheVariants.{TooLong, TooMany, NoMemory}
-use Rattle.htl_blocks.specs.Parts.{Part, text_of, text_parts, part_text, seen_part, inclusions, rounds}
+use Rattle.htl_blocks.specs.Parts.{Part, text_of_parts, text_parts, part_text, seen_part, inclusions, rounds}
 use Rattle.htl_blocks.specs.Refused.{most_inclusions, most_rounds}
 
 -- what it is written for, what is kept, the parts that were kept, and how many rounds there were
@@ -35,20 +35,20 @@ abbrev pub with_parts : SheetText → List Part → SheetText
 with_parts s ps = record { scope = s.scope; keeping = s.keeping; parts = s.parts ++ kept s.keeping ps; rounds = s.rounds + rounds ps }
 
 -- a limit is passed
-abbrev pub IsOver : RunFault → SheetText → Type 0
-IsOver TooLong s = most_rendered_bytes < length (text_of s.parts)
-IsOver TooMany s = (most_rounds < s.rounds) ⊎ (most_inclusions < inclusions s.parts)
-IsOver NoMemory s = Unit {0}
+abbrev pub IsOverLimit : RunFault → SheetText → Type 0
+IsOverLimit TooLong s = most_rendered_bytes < length (text_of_parts s.parts)
+IsOverLimit TooMany s = (most_rounds < s.rounds) ⊎ (most_inclusions < inclusions s.parts)
+IsOverLimit NoMemory s = Unit {0}
 
 -- with parts more a limit is passed
 abbrev pub Stops : RunFault → SheetText → List Part → Type 0
-Stops f old ps = f ≢ NoMemory → IsOver f (with_parts old ps)
+Stops f old ps = f ≢ NoMemory → IsOverLimit f (with_parts old ps)
 
 -- parts are written, or with them a limit is passed
-abbrev pub Wrote : {A : Type 0} → Result A RunFault → SheetText → SheetText → List Part → Type 0
-Wrote (Ok _) old new ps = new ≡ with_parts old ps
-Wrote (Err f) old new ps = Stops f old ps
+abbrev pub WroteParts : {A : Type 0} → Result A RunFault → SheetText → SheetText → List Part → Type 0
+WroteParts (Ok _) old new ps = new ≡ with_parts old ps
+WroteParts (Err f) old new ps = Stops f old ps
 
 -- a text is too long, unless memory lacks
-abbrev pub RunFailsAsTooLong : List ℕ → RunFault → Type 0
-RunFailsAsTooLong text f = f ≢ NoMemory → (f ≡ TooLong) × (most_rendered_bytes < length text)
+abbrev pub RunFailsAsTooLongIfMemory : List ℕ → RunFault → Type 0
+RunFailsAsTooLongIfMemory text f = f ≢ NoMemory → (f ≡ TooLong) × (most_rendered_bytes < length text)

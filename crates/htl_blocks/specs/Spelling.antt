@@ -18,8 +18,8 @@ use Rattle.htl_blocks.specs.Reading.{told_at}
 use Rattle.htl_blocks.specs.Laws.{HasNoBlock, Balanced, bytes_of}
 
 -- the text that parts are together
-abbrev pub text_of : List Text → List ℕ
-text_of ps = flat_map (λ (p : List ℕ). p) ps
+abbrev pub whole_text : List Text → List ℕ
+whole_text ps = flat_map (λ (p : List ℕ). p) ps
 
 -- the first block tag of a text, with the parts before it and those after it
 pub record FirstTag (t : List ℕ) : Type 0 where
@@ -52,11 +52,11 @@ pub data SpellsText : List ℕ → List Block → Type 0 where
 pub data SpellsBlocks : ℕ → List ℕ → List Block → Type 0 where
   no_element : {levels : ℕ} {t : List ℕ} {bs : List Block} → HasNoBlock (parts t) → SpellsText t bs → SpellsBlocks levels t bs
   element : {levels : ℕ} {t kept : List ℕ} {words content more : List Block} {a : Attributes} {start : List TemplatePiece} (x : FirstTag t) (y : Element x.tag x.rest)
-      → SpellsText (text_of x.before) words
+      → SpellsText (whole_text x.before) words
       → tag_attributes x.tag ≡ Some (a, kept)
       → template_of kept ≡ Ok start
-      → SpellsBlocks levels (text_of y.inner) content
-      → SpellsBlocks (suc levels) (text_of y.after) more
+      → SpellsBlocks levels (whole_text y.inner) content
+      → SpellsBlocks (suc levels) (whole_text y.after) more
       → SpellsBlocks (suc levels) t (words ++ block.Element (record { attributes = a; start = start }) content y.end_tag ∷ more)
 
 -- ---- faults
@@ -64,13 +64,13 @@ pub data SpellsBlocks : ℕ → List ℕ → List Block → Type 0 where
 -- the faults that stand in a text, whichever is told, where elements may nest so deep; the text begins at a place of the whole
 pub data FaultIn : ℕ → ℕ → List ℕ → BlockFault → Type 0 where
   of_text : {levels place : ℕ} {t : List ℕ} {f : TextFault} → HasNoBlock (parts t) → template_at place t ≡ Err f → FaultIn levels place t (fault.Text f)
-  of_leading_text : {levels place : ℕ} {t : List ℕ} {f : TextFault} (x : FirstTag t) → template_at place (text_of x.before) ≡ Err f → FaultIn levels place t (fault.Text f)
+  of_leading_text : {levels place : ℕ} {t : List ℕ} {f : TextFault} (x : FirstTag t) → template_at place (whole_text x.before) ≡ Err f → FaultIn levels place t (fault.Text f)
   open_tag : {levels place : ℕ} {t : List ℕ} (x : FirstTag t) → (Element x.tag x.rest → ⊥) → FaultIn levels place t (fault.OpenTag (place + bytes_of x.before))
   bad_block : {levels place : ℕ} {t : List ℕ} (x : FirstTag t) → tag_attributes x.tag ≡ None → FaultIn levels place t (fault.BadBlock (place + bytes_of x.before))
   too_deep : {place : ℕ} {t : List ℕ} (x : FirstTag t) → FaultIn zero place t (fault.TooDeep (place + bytes_of x.before))
   of_start_tag : {levels place : ℕ} {t kept : List ℕ} {a : Attributes} {f : TextFault} (x : FirstTag t) → tag_attributes x.tag ≡ Some (a, kept) → template_of kept ≡ Err f → FaultIn levels place t (fault.Text (told_at (place + bytes_of x.before) f))
-  in_content : {levels place : ℕ} {t : List ℕ} {f : BlockFault} (x : FirstTag t) (y : Element x.tag x.rest) → FaultIn levels ((place + bytes_of x.before) + length x.tag) (text_of y.inner) f → FaultIn (suc levels) place t f
-  after_element : {levels place : ℕ} {t : List ℕ} {f : BlockFault} (x : FirstTag t) (y : Element x.tag x.rest) → FaultIn levels ((((place + bytes_of x.before) + length x.tag) + bytes_of y.inner) + length y.end_tag) (text_of y.after) f → FaultIn levels place t f
+  in_content : {levels place : ℕ} {t : List ℕ} {f : BlockFault} (x : FirstTag t) (y : Element x.tag x.rest) → FaultIn levels ((place + bytes_of x.before) + length x.tag) (whole_text y.inner) f → FaultIn (suc levels) place t f
+  after_element : {levels place : ℕ} {t : List ℕ} {f : BlockFault} (x : FirstTag t) (y : Element x.tag x.rest) → FaultIn levels ((((place + bytes_of x.before) + length x.tag) + bytes_of y.inner) + length y.end_tag) (whole_text y.after) f → FaultIn levels place t f
 
 -- the place of a template's fault
 abbrev pub text_fault_place : TextFault → ℕ
@@ -79,12 +79,12 @@ text_fault_place (text_fault.BadExpr n) = n
 text_fault_place text_fault.NoMemory = 0
 
 -- the place of a fault
-abbrev pub fault_place : BlockFault → ℕ
-fault_place (fault.OpenTag n) = n
-fault_place (fault.BadBlock n) = n
-fault_place (fault.TooDeep n) = n
-fault_place (fault.Text f) = text_fault_place f
-fault_place fault.NoMemory = 0
+abbrev pub block_fault_place : BlockFault → ℕ
+block_fault_place (fault.OpenTag n) = n
+block_fault_place (fault.BadBlock n) = n
+block_fault_place (fault.TooDeep n) = n
+block_fault_place (fault.Text f) = text_fault_place f
+block_fault_place fault.NoMemory = 0
 
 -- the kinds of a template's fault, of which one text has one alone
 abbrev pub text_fault_kind : TextFault → ℕ
@@ -102,7 +102,7 @@ fault_kind fault.NoMemory = 6
 
 -- a fault stands at an earlier place than another, or at the same place and no later in the order of kinds
 abbrev pub ComesFirst : BlockFault → BlockFault → Type 0
-ComesFirst f g = (fault_place f < fault_place g) ⊎ ((fault_place f ≡ fault_place g) × (fault_kind f ≤ fault_kind g))
+ComesFirst f g = (block_fault_place f < block_fault_place g) ⊎ ((block_fault_place f ≡ block_fault_place g) × (fault_kind f ≤ fault_kind g))
 
 -- the fault of a text that comes before all others in it
 pub record IsFirstFault (levels : ℕ) (t : List ℕ) (f : BlockFault) : Type 0 where

@@ -1,6 +1,7 @@
 -- What the laws of elements suppose.
 use Rattle.std.specs.Prelude.{◌≡◌, true, List, false, ℕ, [], None, ◌++◌, Some, ◌∷◌}
 use Rattle.std.specs.List.{flat_map}
+use Rattle.sp_base.specs.Texts.{Text}
 use Rattle.htl_expr.specs.Bindings.{Bindings}
 use Rattle.htl_expr.specs.Value.{list_in}
 use Rattle.htl_blocks.specs.declared.block.Tag.{Tag}
@@ -22,18 +23,18 @@ abbrev pub IsLeftOutIfUntrue : Bindings → Tag → List Block → List ℕ → 
 IsLeftOutIfUntrue scope tag content end_tag = passes scope tag.attributes.test ≡ false → block_parts (Element tag content end_tag) scope ≡ []
 
 -- of an element that is unwrapped, and has neither a list nor a body, the content stands
-abbrev pub IsItsContentIfUnwrapped : Bindings → Tag → List Block → List ℕ → Type 0
-IsItsContentIfUnwrapped scope tag content end_tag = passes scope tag.attributes.test ≡ true → tag.attributes.list ≡ None → tag.attributes.body ≡ None → keeps_tags scope tag.attributes.unwrap ≡ false
+abbrev pub IsItsContentIfUnwrappedWithoutListOrBody : Bindings → Tag → List Block → List ℕ → Type 0
+IsItsContentIfUnwrappedWithoutListOrBody scope tag content end_tag = passes scope tag.attributes.test ≡ true → tag.attributes.list ≡ None → tag.attributes.body ≡ None → keeps_tags scope tag.attributes.unwrap ≡ false
     → block_parts (Element tag content end_tag) scope ≡ blocks_parts scope content
 
 -- of the tag stands what its template writes, which is its text without the statements
-abbrev pub IsWrittenWholeIfInTags : Bindings → Tag → List Block → List ℕ → Type 0
-IsWrittenWholeIfInTags scope tag content end_tag = StandsInTags scope tag → tag.attributes.list ≡ None → tag.attributes.body ≡ None
+abbrev pub IsWrittenWholeIfInTagsWithoutListOrBody : Bindings → Tag → List Block → List ℕ → Type 0
+IsWrittenWholeIfInTagsWithoutListOrBody scope tag content end_tag = StandsInTags scope tag → tag.attributes.list ≡ None → tag.attributes.body ≡ None
     → block_parts (Element tag content end_tag) scope ≡ text_parts (template_output scope tag.start) ++ (blocks_parts scope content ++ text_parts end_tag)
 
 -- the content of an element stands between its tags once for each item of its list, with the item as the variable
 abbrev pub ListElementsWriteEachItem : Type 0
-ListElementsWriteEachItem = (scope : Bindings) (tag : Tag) (content : List Block) (end_tag name : List ℕ) (list : List TemplatePiece) (item : List ℕ) (items : List (List ℕ))
+ListElementsWriteEachItem = (scope : Bindings) (tag : Tag) (content : List Block) (end_tag name : List ℕ) (list : List TemplatePiece) (item : List ℕ) (items : List Text)
     → StandsInTags scope tag → tag.attributes.body ≡ None → tag.attributes.list ≡ Some (name, list) → list_in (statement_value scope list) ≡ Some (item ∷ items)
     → block_parts (Element tag content end_tag) scope ≡ text_parts (template_output scope tag.start) ++ (flat_map (λ one. Round ∷ blocks_parts (with_variable scope name one) content) (item ∷ items) ++ text_parts end_tag)
 

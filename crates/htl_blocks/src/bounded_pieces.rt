@@ -2,7 +2,7 @@
 
 ghost use Rattle.std.specs.Prelude.{◌≡◌, ◌≢◌, ◌≤◌, ◌<◌, ◌+◌, ◌∷◌, [], ◌++◌, true, IfErr, OnOk, OnErr, length, string_bytes};
 ghost use Rattle.sp_base.specs.Limits.{most_rendered_bytes};
-ghost use Rattle.htl_blocks.specs.Pieces.{inclusion_count, puts_in, text_len, with_text};
+ghost use Rattle.htl_blocks.specs.Pieces.{inclusion_count, puts_in, text_len, with_text_piece};
 ghost use Rattle.htl_blocks.specs.Refused.{most_inclusions};
 
 use crate::piece::Piece;
@@ -55,7 +55,7 @@ impl<'a> BoundedPieces<'a> {
     /// Adds a text, where it isn't empty and there is room for it.
     #[tactic(auto, using(crate::proofs::Bounded::nothing_more, crate::proofs::Bounded::text_more, crate::proofs::Bounded::text_len_more, crate::proofs::Bounded::same_included))]
     pub fn push_text(&mut self, text: String) -> Result<(), RunFault>
-        ensures ok { OnOk result (self.new ≡ with_text self.old (string_bytes text)) }
+        ensures ok { OnOk result (self.new ≡ with_text_piece self.old (string_bytes text)) }
         ensures err { OnErr result (self.new ≡ self.old) }
         ensures fault { IfErr result (λ f. f ≢ RunFault.NoMemory → (f ≡ RunFault.TooLong) × (most_rendered_bytes < text_len self.old + length (string_bytes text))) }
     {

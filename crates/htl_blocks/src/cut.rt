@@ -38,10 +38,10 @@ fn run_len(text: &[u8]) -> usize
 }
 
 /// The text before the first block tag, and the text from there on.
-#[tactic(auto, unfolding(crate::specs::Reading::run_of, crate::specs::Reading::after_run))]
+#[tactic(auto, unfolding(crate::specs::Reading::run_of, crate::specs::Reading::after_text_run))]
 pub fn run(text: &str) -> (&str, &str)
     ensures run { result.0.now ≡ reading.run_of text.now }
-    ensures rest { result.1.now ≡ reading.after_run text.now }
+    ensures rest { result.1.now ≡ reading.after_text_run text.now }
 {
     text.split_at(run_len(text.as_bytes()))
 }

@@ -3,7 +3,7 @@
 ghost use Rattle.std.specs.Prelude.{◌≡◌, ◌≢◌, IfOk, IfErr};
 ghost use Rattle.htl_blocks.specs.Parts.{seen};
 ghost use Rattle.htl_blocks.specs.Refused.{Fits, IsRefused};
-ghost use Rattle.htl_blocks.specs.Sheets.{IsOver, empty_sheet, kept, with_parts};
+ghost use Rattle.htl_blocks.specs.Sheets.{IsOverLimit, empty_sheet, kept, with_parts};
 ghost use Rattle.htl_blocks.specs.Written.{blocks_parts};
 ghost use Rattle.htl_blocks.specs.Pieces.{IsWithinLimits, StandsForParts};
 
@@ -27,7 +27,7 @@ fn filled<'a>(
     all: &'a [Block],
 ) -> Result<Sheet<'a>, RunFault>
     ensures ok { IfOk result (λ sheet. sheet ≡ with_parts (empty_sheet scope.now keeping) (blocks_parts scope.now all.now)) }
-    ensures err { IfErr result (λ f. f ≢ RunFault.NoMemory → IsOver f (with_parts (empty_sheet scope.now keeping) (blocks_parts scope.now all.now))) }
+    ensures err { IfErr result (λ f. f ≢ RunFault.NoMemory → IsOverLimit f (with_parts (empty_sheet scope.now keeping) (blocks_parts scope.now all.now))) }
 {
     let mut sheet = Sheet::new(alloc, scope, keeping);
     let frame = Frame::outer(alloc);
@@ -48,7 +48,7 @@ fn written<'a>(
 ) -> Result<PieceList<'a>, RunFault>
     ensures parts { IfOk result (StandsForParts scope.now (kept keeping) (blocks_parts scope.now all.now)) }
     ensures fits { IfOk result IsWithinLimits }
-    ensures err { IfErr result (λ f. f ≢ RunFault.NoMemory → IsOver f (with_parts (empty_sheet scope.now keeping) (blocks_parts scope.now all.now))) }
+    ensures err { IfErr result (λ f. f ≢ RunFault.NoMemory → IsOverLimit f (with_parts (empty_sheet scope.now keeping) (blocks_parts scope.now all.now))) }
 {
     let sheet = filled(alloc, scope, keeping, all)?;
     finished(sheet, scope)
@@ -56,7 +56,7 @@ fn written<'a>(
 
 // The fault where there is too much but maybe not too much text.
 fn fault_beside<'a>(alloc: Global, scope: &Scope<'a>, all: &'a [Block]) -> RunFault
-    requires { IsOver RunFault.TooMany (with_parts (empty_sheet scope.now Keeping.All) (blocks_parts scope.now all.now)) }
+    requires { IsOverLimit RunFault.TooMany (with_parts (empty_sheet scope.now Keeping.All) (blocks_parts scope.now all.now)) }
     ensures { result ≢ RunFault.NoMemory → IsRefused result (blocks_parts scope.now all.now) }
 {
     let Err(fault) = written(alloc, scope, Keeping::TextAlone, all) else {

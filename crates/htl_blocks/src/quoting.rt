@@ -15,7 +15,7 @@ pub enum Quoting {
 }
 
 pub fn step(quoting: Quoting, c: u8) -> Quoting
-    ensures { result ≡ spec.quoting_step quoting c }
+    ensures { result ≡ spec.markup_quoting_step quoting c }
 {
     match quoting {
         Quoting::Outside => {

@@ -78,7 +78,7 @@ fn push_template<'v, 'a: 'v>(
     template: &'v Template,
 ) -> Result<(), RunFault>
     ensures ok { OnOk result (string_bytes text.new ≡ string_bytes text.old ++ template_output (with_vars of.old (vars_of vars.now)) template.now) }
-    ensures err { IfErr result (spec.RunFailsAsTooLong (string_bytes text.old ++ template_output (with_vars of.old (vars_of vars.now)) template.now)) }
+    ensures err { IfErr result (spec.RunFailsAsTooLongIfMemory (string_bytes text.old ++ template_output (with_vars of.old (vars_of vars.now)) template.now)) }
     ensures resource { of.new ≡ of.old }
 {
     match template.write(text, alloc, of, vars) {
@@ -103,14 +103,14 @@ impl<'a> Sheet<'a> {
 
     /// Writes a text.
     pub fn push(&mut self, text: &str) -> Result<(), RunFault>
-        ensures { spec.Wrote result self.old self.new (part.text_parts text.now) }
+        ensures { spec.WroteParts result self.old self.new (part.text_parts text.now) }
     {
         push_within(&mut self.tail, text)
     }
 
     /// Begins a round.
     pub fn begin_round(&mut self) -> Result<(), RunFault>
-        ensures { spec.Wrote result self.old self.new (part.Round ∷ []) }
+        ensures { spec.WroteParts result self.old self.new (part.Round ∷ []) }
     {
         if self.rounds >= MOST_ROUNDS {
             return Err(RunFault::TooMany);
@@ -123,7 +123,7 @@ impl<'a> Sheet<'a> {
     fn include_kept(&mut self, alloc: Global, piece: Piece<'a>) -> Result<(), RunFault>
         requires piece { puts_in piece ≡ true }
         requires keeping { self.old.keeping ≡ Keeping.All }
-        ensures { spec.Wrote result self.old self.new (piece_parts self.old.scope piece.entry) }
+        ensures { spec.WroteParts result self.old self.new (piece_parts self.old.scope piece.entry) }
     {
         let text = mem::replace(&mut self.tail, String::new(alloc));
         self.pieces.push_text(text)?;
@@ -134,7 +134,7 @@ impl<'a> Sheet<'a> {
     #[tactic(auto, using(crate::proofs::SheetSteps::not_kept))]
     fn include(&mut self, alloc: Global, piece: Piece<'a>) -> Result<(), RunFault>
         requires { puts_in piece ≡ true }
-        ensures { spec.Wrote result self.old self.new (piece_parts self.old.scope piece.entry) }
+        ensures { spec.WroteParts result self.old self.new (piece_parts self.old.scope piece.entry) }
     {
         match self.keeping {
             Keeping::TextAlone => Ok(()),
@@ -150,7 +150,7 @@ pub fn write<'v, 'a: 'v>(
     vars: &'v Variables<'v>,
     template: &'v Template,
 ) -> Result<(), RunFault>
-    ensures { spec.Wrote result sheet.old sheet.new (part.text_parts (template_output (with_vars sheet.old.scope (vars_of vars.now)) template.now)) }
+    ensures { spec.WroteParts result sheet.old sheet.new (part.text_parts (template_output (with_vars sheet.old.scope (vars_of vars.now)) template.now)) }
 {
     push_template(&mut sheet.tail, alloc, &mut sheet.of, vars, template)
 }
@@ -163,7 +163,7 @@ pub fn include_script<'v, 'a: 'v>(
     value: &'v Template,
 ) -> Result<(), RunFault>
     requires { IsPlaceIn sheet.old.scope place.now }
-    ensures { spec.Wrote result sheet.old sheet.new (script_for_place sheet.old.scope place.now value.now) }
+    ensures { spec.WroteParts result sheet.old sheet.new (script_for_place sheet.old.scope place.now value.now) }
 {
     let name = name(alloc, &mut sheet.of, place.vars, value)?;
     let frame = place.frame.duplicate(alloc)?;
@@ -177,7 +177,7 @@ pub fn include_resource<'v, 'a: 'v>(
     vars: &'v Variables<'v>,
     value: &'v Template,
 ) -> Result<(), RunFault>
-    ensures { spec.Wrote result sheet.old sheet.new (part.Resource (written.statement_name (with_vars sheet.old.scope (vars_of vars.now)) value.now) ∷ []) }
+    ensures { spec.WroteParts result sheet.old sheet.new (part.Resource (written.statement_name (with_vars sheet.old.scope (vars_of vars.now)) value.now) ∷ []) }
 {
     let name = name(alloc, &mut sheet.of, vars, value)?;
     sheet.include(alloc, Piece::Resource(name))
@@ -240,7 +240,7 @@ fn list_of<'a>(scope: &Scope<'a>, pieces: BoundedPieces<'a>, rounds: usize) -> P
     ensures scope { result.scope ≡ scope.now }
     ensures parts { result.parts ≡ pieces_parts scope.now pieces.entry }
     ensures rounds { result.rounds ≡ rounds }
-    ensures text { length (part.text_of result.parts) ≤ most_rendered_bytes }
+    ensures text { length (part.text_of_parts result.parts) ≤ most_rendered_bytes }
     ensures inclusions { part.inclusions result.parts ≤ most_inclusions }
 {
     let all = pieces.into_pieces();
@@ -256,7 +256,7 @@ pub fn finished<'a>(sheet: Sheet<'a>, scope: &Scope<'a>) -> Result<PieceList<'a>
     requires { scope.now ≡ sheet.scope }
     ensures parts { IfOk result (λ l. (l.scope ≡ sheet.entry.scope) × (l.parts ≡ sheet.entry.parts) × (l.rounds ≡ sheet.entry.rounds)) }
     ensures fits { IfOk result IsWithinLimits }
-    ensures err { IfErr result (λ f. f ≢ RunFault.NoMemory → spec.IsOver f sheet.entry) }
+    ensures err { IfErr result (λ f. f ≢ RunFault.NoMemory → spec.IsOverLimit f sheet.entry) }
 {
     let Sheet {
         of: _,

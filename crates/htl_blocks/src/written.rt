@@ -5,7 +5,7 @@ ghost use Rattle.htl_expr.specs.Bindings.{with_vars};
 ghost use Rattle.htl_expr.specs.Variables.{vars_of};
 ghost use Rattle.htl_text.specs.Template.{template_output};
 ghost use Rattle.htl_blocks.specs.Places.{HasItems, IsPlaceIn, seen_at};
-ghost use Rattle.htl_blocks.specs.Sheets.{Wrote};
+ghost use Rattle.htl_blocks.specs.Sheets.{WroteParts};
 ghost use Rattle.htl_blocks.specs.Written as spec;
 ghost use Rattle.htl_blocks.specs.PlaceParts.{element_for_place, element_for_items, element_for_list, element_once, round_for_place, rounds_for_place};
 
@@ -31,7 +31,7 @@ fn open_tag<'v, 'a: 'v>(
     keeps: bool,
     start: &'v Template,
 ) -> Result<(), RunFault>
-    ensures { Wrote result sheet.old sheet.new (spec.tag_parts keeps (template_output (with_vars sheet.old.scope (vars_of vars.now)) start.now)) }
+    ensures { WroteParts result sheet.old sheet.new (spec.tag_parts keeps (template_output (with_vars sheet.old.scope (vars_of vars.now)) start.now)) }
 {
     if keeps {
         write(sheet, alloc, vars, start)
@@ -43,7 +43,7 @@ fn open_tag<'v, 'a: 'v>(
 /// An end tag, where the tags stand.
 #[tactic(auto, using(crate::proofs::WrittenLemmas::tag_stands, crate::proofs::WrittenLemmas::no_tag))]
 fn close_tag(sheet: &mut Sheet, keeps: bool, end_tag: &str) -> Result<(), RunFault>
-    ensures { Wrote result sheet.old sheet.new (spec.tag_parts keeps end_tag.now) }
+    ensures { WroteParts result sheet.old sheet.new (spec.tag_parts keeps end_tag.now) }
 {
     if keeps { sheet.push(end_tag) } else { Ok(()) }
 }
@@ -58,7 +58,7 @@ fn inside<'v, 'a: 'v>(
     content: &'a [Block],
 ) -> Result<(), RunFault>
     requires { IsPlaceIn sheet.old.scope place.now }
-    ensures { Wrote result sheet.old sheet.new (spec.body_parts body.now (λ scope. spec.blocks_parts scope content.now) (seen_at sheet.old.scope place.now)) }
+    ensures { WroteParts result sheet.old sheet.new (spec.body_parts body.now (λ scope. spec.blocks_parts scope content.now) (seen_at sheet.old.scope place.now)) }
 {
     match body {
         None => blocks(sheet, alloc, place, content),
@@ -81,7 +81,7 @@ fn round<'v, 'a: 'v>(
     requires place { IsPlaceIn sheet.old.scope place.now }
     requires items { HasItems (seen_at sheet.old.scope place.now) repetition.now }
     requires index { index < length repetition.now.items }
-    ensures { Wrote result sheet.old sheet.new (round_for_place sheet.old.scope place.now content.now repetition.now index) }
+    ensures { WroteParts result sheet.old sheet.new (round_for_place sheet.old.scope place.now content.now repetition.now index) }
 {
     let Some(item) = repetition.items.item(alloc, index)? else {
         return Ok(());
@@ -114,7 +114,7 @@ fn rounds<'v, 'a: 'v>(
 ) -> Result<(), RunFault>
     requires place { IsPlaceIn sheet.old.scope place.now }
     requires items { HasItems (seen_at sheet.old.scope place.now) repetition.now }
-    ensures { Wrote result sheet.old sheet.new (rounds_for_place sheet.old.scope place.now content.now repetition.now) }
+    ensures { WroteParts result sheet.old sheet.new (rounds_for_place sheet.old.scope place.now content.now repetition.now) }
 {
     for index in 0..repetition.items.len() {
         round(sheet, alloc, place, content, repetition, index)?;
@@ -132,7 +132,7 @@ fn once<'v, 'a: 'v>(
     content: &'a [Block],
 ) -> Result<(), RunFault>
     requires { IsPlaceIn sheet.old.scope place.now }
-    ensures { Wrote result sheet.old sheet.new (element_once sheet.old.scope place.now tags.now content.now) }
+    ensures { WroteParts result sheet.old sheet.new (element_once sheet.old.scope place.now tags.now content.now) }
 {
     let start = tags.start;
     let keeps = keeps_tags(sheet, alloc, place.vars, &start.attributes.unwrap)?;
@@ -153,7 +153,7 @@ fn for_items<'v, 'a: 'v>(
 ) -> Result<(), RunFault>
     requires place { IsPlaceIn sheet.old.scope place.now }
     requires items { HasItems (seen_at sheet.old.scope place.now) repetition.now }
-    ensures { Wrote result sheet.old sheet.new (element_for_items sheet.old.scope place.now tags.now content.now repetition.now) }
+    ensures { WroteParts result sheet.old sheet.new (element_for_items sheet.old.scope place.now tags.now content.now repetition.now) }
 {
     if repetition.items.len() == 0 {
         return Ok(());
@@ -176,7 +176,7 @@ fn repeated<'v, 'a: 'v>(
     list: &'a (TextBuf, Template),
 ) -> Result<(), RunFault>
     requires { IsPlaceIn sheet.old.scope place.now }
-    ensures { Wrote result sheet.old sheet.new (element_for_list sheet.old.scope place.now tags.now content.now list.now) }
+    ensures { WroteParts result sheet.old sheet.new (element_for_list sheet.old.scope place.now tags.now content.now list.now) }
 {
     let Some(items) = listed(sheet, alloc, place.vars, &list.1)? else {
         return Ok(());
@@ -200,7 +200,7 @@ fn element<'v, 'a: 'v>(
     content: &'a [Block],
 ) -> Result<(), RunFault>
     requires { IsPlaceIn sheet.old.scope place.now }
-    ensures { Wrote result sheet.old sheet.new (element_for_place sheet.old.scope place.now tags.now content.now) }
+    ensures { WroteParts result sheet.old sheet.new (element_for_place sheet.old.scope place.now tags.now content.now) }
 {
     let start = tags.start;
     if !passes(sheet, alloc, place.vars, &start.attributes.test)? {
@@ -221,7 +221,7 @@ fn block<'v, 'a: 'v>(
     one: &'a Block,
 ) -> Result<(), RunFault>
     requires { IsPlaceIn sheet.old.scope place.now }
-    ensures { Wrote result sheet.old sheet.new (spec.block_parts one.now (seen_at sheet.old.scope place.now)) }
+    ensures { WroteParts result sheet.old sheet.new (spec.block_parts one.now (seen_at sheet.old.scope place.now)) }
 {
     match one {
         Block::Text(template) => write(sheet, alloc, place.vars, template),
@@ -244,7 +244,7 @@ pub fn blocks<'v, 'a: 'v>(
     all: &'a [Block],
 ) -> Result<(), RunFault>
     requires { IsPlaceIn sheet.old.scope place.now }
-    ensures { Wrote result sheet.old sheet.new (spec.blocks_parts (seen_at sheet.old.scope place.now) all.now) }
+    ensures { WroteParts result sheet.old sheet.new (spec.blocks_parts (seen_at sheet.old.scope place.now) all.now) }
 {
     for one in all {
         block(sheet, alloc, place, one)?;

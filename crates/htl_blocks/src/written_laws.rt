@@ -10,7 +10,7 @@ ghost use Rattle.htl_blocks.specs.declared.block.Block.{Block};
 ghost use Rattle.htl_blocks.specs.declared.block.Block.TheVariants.{Text};
 ghost use Rattle.htl_blocks.specs.Parts.{text_parts};
 ghost use Rattle.htl_blocks.specs.Written.{block_parts};
-ghost use Rattle.htl_blocks.specs.WrittenLaws.{IsLeftOutIfUntrue, IsItsContentIfUnwrapped, IsWrittenWholeIfInTags, ListElementsWriteEachItem, ElementsWithoutListAreLeftOut, ElementsWithoutItemsAreLeftOut, TextsStandInTags, ScriptsStandInTags, ResourcesStandInTags};
+ghost use Rattle.htl_blocks.specs.WrittenLaws.{IsLeftOutIfUntrue, IsItsContentIfUnwrappedWithoutListOrBody, IsWrittenWholeIfInTagsWithoutListOrBody, ListElementsWriteEachItem, ElementsWithoutListAreLeftOut, ElementsWithoutItemsAreLeftOut, TextsStandInTags, ScriptsStandInTags, ResourcesStandInTags};
 
 /// An element whose test is false is left out.
 pub fn a_false_test_leaves_the_element_out()
@@ -38,12 +38,12 @@ pub fn a_body_stands_in_place_of_the_content()
 
 /// Unwrapping leaves the tags out and keeps the content.
 pub fn unwrapping_keeps_the_content()
-    ensures { (scope : Bindings) (tag : Tag) (content : List Block) (end_tag : List ℕ) → IsItsContentIfUnwrapped scope tag content end_tag }
+    ensures { (scope : Bindings) (tag : Tag) (content : List Block) (end_tag : List ℕ) → IsItsContentIfUnwrappedWithoutListOrBody scope tag content end_tag }
 {}
 
 /// Of a tag stands what its template writes, which is its text without the statements: they themselves don't show.
 pub fn statements_dont_show()
-    ensures { (scope : Bindings) (tag : Tag) (content : List Block) (end_tag : List ℕ) → IsWrittenWholeIfInTags scope tag content end_tag }
+    ensures { (scope : Bindings) (tag : Tag) (content : List Block) (end_tag : List ℕ) → IsWrittenWholeIfInTagsWithoutListOrBody scope tag content end_tag }
 {}
 
 /// A template writes its own text.

@@ -32,5 +32,5 @@ abbrev pub IsWrittenWithin : ℕ → List ℕ → List ℕ → List ℕ → Type
 IsWrittenWithin most old more new = (new ≡ old ++ more) × (length new ≤ most)
 
 -- it would go beyond the limit, unless memory lacks
-abbrev pub WriteFailsAsTooLong : ℕ → List ℕ → WriteFault → Type 0
-WriteFailsAsTooLong most text f = f ≢ NoMemory → (f ≡ TooLong) × (most < length text)
+abbrev pub WriteFailsAsTooLongIfMemory : ℕ → List ℕ → WriteFault → Type 0
+WriteFailsAsTooLongIfMemory most text f = f ≢ NoMemory → (f ≡ TooLong) × (most < length text)

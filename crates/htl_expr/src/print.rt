@@ -5,7 +5,7 @@ ghost use Rattle.htl_expr.specs.Lent.{out_of_lent, plain_item, IsOperand, plain_
 ghost use Rattle.htl_expr.specs.Print as spec;
 ghost use Rattle.htl_expr.specs.Value.{plain_text, print};
 ghost use Rattle.htl_expr.specs.Variables.{seen_by};
-ghost use Rattle.htl_expr.specs.Writing.{Wrote, WroteAs, WriteFailsAsTooLong, IsWrittenWithin};
+ghost use Rattle.htl_expr.specs.Writing.{Wrote, WroteAs, WriteFailsAsTooLongIfMemory, IsWrittenWithin};
 
 use crate::empty_join::push_joined;
 use crate::escape::{Writing, push};
@@ -187,7 +187,7 @@ impl Expr {
         most: usize,
     ) -> Result<(), WriteFault>
         ensures ok { OnOk result (IsWrittenWithin most (string_bytes text.old) (print (seen_by of.old vars.now) self.now) (string_bytes text.new)) }
-        ensures err { IfErr result (WriteFailsAsTooLong most (string_bytes text.old ++ print (seen_by of.old vars.now) self.now)) }
+        ensures err { IfErr result (WriteFailsAsTooLongIfMemory most (string_bytes text.old ++ print (seen_by of.old vars.now) self.now)) }
         // A text that isn't written whole isn't written in part.
         ensures kept { OnErr result (string_bytes text.new ≡ string_bytes text.old) }
         ensures resource { of.new ≡ of.old }

@@ -3,7 +3,7 @@
 ghost use Rattle.std.specs.Prelude.{◌≡◌, ◌≤◌, IfOk, IfErr, length};
 ghost use Rattle.htl_expr.specs.Value as spec;
 ghost use Rattle.htl_expr.specs.Variables.{seen_by};
-ghost use Rattle.htl_expr.specs.Writing.{WriteFailsAsTooLong};
+ghost use Rattle.htl_expr.specs.Writing.{WriteFailsAsTooLongIfMemory};
 
 use crate::escape::Writing;
 use crate::evaluation::Evaluation;
@@ -59,7 +59,7 @@ impl Expr {
         most: usize,
     ) -> Result<TextBuf, WriteFault>
         ensures ok { IfOk result (λ text. (text ≡ spec.plain_text (seen_by of.old vars.now) self.now) × (length text ≤ most)) }
-        ensures err { IfErr result (WriteFailsAsTooLong most (spec.plain_text (seen_by of.old vars.now) self.now)) }
+        ensures err { IfErr result (WriteFailsAsTooLongIfMemory most (spec.plain_text (seen_by of.old vars.now) self.now)) }
         ensures resource { of.new ≡ of.old }
     {
         let mut text = String::new(alloc);

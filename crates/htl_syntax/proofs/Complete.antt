@@ -10,7 +10,7 @@ use Rattle.htl_syntax.specs.declared.reader.Nested.{Nested}
 use Rattle.htl_syntax.specs.declared.reader.Nested.TheVariants as nested
 use Rattle.htl_syntax.specs.Tokens.{Outcome, done, begins, is_first, is_quote}
 use Rattle.htl_syntax.specs.Read as spec
-use Rattle.htl_syntax.specs.Grammar.{Byte, NameToken, String, Number, Sign, Compares, Separator, And, Or, Comma, Separates, Part, part_of, Choice, Either, Both, Compare, Operand, Atom, Start, Items, Reads, More, Access, Accesses}
+use Rattle.htl_syntax.specs.Grammar.{Byte, NameToken, String, Number, Sign, Compares, Separator, And, Or, Comma, Separates, GrammarPart, part_of, Choice, Either, Both, Compare, Operand, Atom, Start, Items, Reads, More, Access, Accesses}
 use Rattle.htl_syntax.specs.Grammar as g
 use Rattle.htl_syntax.proofs.Sound.{byte_of}
 use Rattle.htl_syntax.proofs.TokensRead.{eqb_is}
@@ -20,7 +20,7 @@ abbrev NoAccess : List ℕ → Type 0
 NoAccess r = spec.access_at r ≡ false
 
 -- the text does not go on with a token that would make the part longer
-abbrev pub Stops : Part → List ℕ → Type 0
+abbrev pub Stops : GrammarPart → List ℕ → Type 0
 Stops Start r = Unit {0}
 Stops Atom r = NoAccess r
 Stops Operand r = NoAccess r
@@ -46,7 +46,7 @@ separates-short Or s r o = again.operator-short 124 124 s r o
 separates-short Comma s r o = again.byte-short 44 s r o
 
 mutual
-  pub reads-short : (part : Part) (depth : ℕ) (s : List ℕ) (e : ExprNode) (r : List ℕ) → Reads part depth s e r → length r ≤ length s
+  pub reads-short : (part : GrammarPart) (depth : ℕ) (s : List ℕ) (e : ExprNode) (r : List ℕ) → Reads part depth s e r → length r ≤ length s
   reads-short _ _ _ _ _ (g.string w) = again.string-short _ _ _ w
   reads-short _ _ _ _ _ (g.number w) = again.number-short _ _ _ w
   reads-short _ _ _ _ _ (g.name w o) = again.name-short _ _ _ _ w
@@ -116,7 +116,7 @@ pub record Strange (d : ℕ) : Type 0 where
   pub round : eqb 40 d ≡ false
   pub square : eqb 91 d ≡ false
 
-start_at : (d : ℕ) (part : Part) (depth : ℕ) (s : List ℕ) (e : ExprNode) (r : List ℕ) → Strange d → part ≡ Start → Reads part depth s e r → begins_with_byte d s ≡ false
+start_at : (d : ℕ) (part : GrammarPart) (depth : ℕ) (s : List ℕ) (e : ExprNode) (r : List ℕ) → Strange d → part ≡ Start → Reads part depth s e r → begins_with_byte d s ≡ false
 start_at d _ _ s _ _ x eq (g.string w) = again.not_at is_quote d s (again.string_begins _ _ _ w) x.quote
 start_at d _ _ s _ _ x eq (g.number w) = number_not_at d s _ _ x.minus x.digit w
 start_at d _ _ s _ _ x eq (g.name w o) = again.not_at is_first d s w.first x.first
@@ -144,7 +144,7 @@ strange_close = record { quote = refl; minus = refl; digit = refl; first = refl;
 atom_at : (depth : ℕ) (s : List ℕ) (e : ExprNode) (r : List ℕ) → Reads Atom depth s e r → begins_with_byte 33 s ≡ false
 atom_at depth s _ r (g.atom x fs) = start_at 33 _ _ _ _ _ strange_not refl x
 
-abbrev pub NotItems : Part → Type 0
+abbrev pub NotItems : GrammarPart → Type 0
 NotItems Items = ⊥
 NotItems _ = Unit {0}
 
@@ -158,7 +158,7 @@ foreign_close = record { strange = strange_close; mark = refl }
 pub foreign_options : Foreign 64
 foreign_options = record { strange = record { quote = refl; minus = refl; digit = refl; first = refl; round = refl; square = refl }; mark = refl }
 
-pub part_at : (d : ℕ) (part : Part) (depth : ℕ) (s : List ℕ) (e : ExprNode) (r : List ℕ) → Foreign d → Reads part depth s e r → NotItems part → begins_with_byte d s ≡ false
+pub part_at : (d : ℕ) (part : GrammarPart) (depth : ℕ) (s : List ℕ) (e : ExprNode) (r : List ℕ) → Foreign d → Reads part depth s e r → NotItems part → begins_with_byte d s ≡ false
 part_at d _ depth s _ r x (g.string w) ni = start_at d Start depth s _ r x.strange refl (g.string w)
 part_at d _ depth s _ r x (g.number w) ni = start_at d Start depth s _ r x.strange refl (g.number w)
 part_at d _ depth s _ r x (g.name w o) ni = start_at d Start depth s _ r x.strange refl (g.name w o)
@@ -194,7 +194,7 @@ byte_some : (c : ℕ) (s r : List ℕ) → Byte c s r → eqb (length s) 0 ≡ f
 byte_some c s r b = rw b.parts (begins_some (λ c. true) (c ∷ b.after) (first_passes c b.after))
 
 -- a part that is no list of items has a first byte
-pub part_some : (part : Part) (depth : ℕ) (s : List ℕ) (e : ExprNode) (r : List ℕ) → Reads part depth s e r → NotItems part → eqb (length s) 0 ≡ false
+pub part_some : (part : GrammarPart) (depth : ℕ) (s : List ℕ) (e : ExprNode) (r : List ℕ) → Reads part depth s e r → NotItems part → eqb (length s) 0 ≡ false
 part_some _ depth s _ r (g.string w) ni = begins_some is_quote s (again.string_begins _ _ _ w)
 part_some _ depth s _ r (g.number w) ni = sign_some s w.negative w.inside w.sign w.first
 part_some _ depth s _ r (g.name w o) ni = begins_some is_first s w.first
@@ -337,7 +337,7 @@ chain_turn sep item k found s r1 r2 r e es o x y =
 -- ---- the whole
 
 -- the function that reads a part
-abbrev pub parse : Part → ℕ → List ℕ → Outcome ExprNode
+abbrev pub parse : GrammarPart → ℕ → List ℕ → Outcome ExprNode
 parse Choice depth = spec.choice depth (spec.nesting depth)
 parse Either depth = spec.either depth (spec.nesting depth)
 parse Both depth = spec.both depth (spec.nesting depth)
@@ -411,7 +411,7 @@ next_stops : (sep : Separator) (depth : ℕ) (s : List ℕ) (es : List ExprNode)
 next_stops sep depth s es r b m = more_stops (Stops (part_of sep)) sep depth s es r (separates_stops sep) (after_stops sep r b) m
 
 mutual
-  pub complete : (part : Part) (depth : ℕ) (s : List ℕ) (e : ExprNode) (r : List ℕ) → Reads part depth s e r → Stops part r → parse part depth s ≡ Ok (e, r)
+  pub complete : (part : GrammarPart) (depth : ℕ) (s : List ℕ) (e : ExprNode) (r : List ℕ) → Reads part depth s e r → Stops part r → parse part depth s ≡ Ok (e, r)
   complete _ depth s _ r (g.string w) st =
       leaf_start depth (spec.nesting depth) s (again.not_at is_quote 40 s (again.string_begins _ _ _ w) refl) (again.not_at is_quote 91 s (again.string_begins _ _ _ w) refl) ∙ string_leaf depth s _ r w
   complete _ depth s _ r (g.number w) st =

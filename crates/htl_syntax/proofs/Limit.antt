@@ -12,7 +12,7 @@ use Rattle.htl_syntax.specs.declared.expression.ExprFault.TheVariants.{NoMemory}
 use Rattle.htl_syntax.specs.Tokens.{begins}
 use Rattle.htl_syntax.specs.Read.{expression_read}
 use Rattle.htl_syntax.specs.Grammar.{nesting_limit, WholeWithin}
-use Rattle.htl_syntax.specs.Fault.{nests, SameHead, Agree, HasNone, HasSome, MayGoOn, colon_letter, passes, takes_colon, fault_place, IsExpressionFault}
+use Rattle.htl_syntax.specs.Fault.{nests, SameHead, Agree, HasNone, HasSome, MayGoOn, colon_letter, passes_colon, takes_colon, fault_place, IsExpressionFault}
 use Rattle.htl_syntax.proofs.WholeRead.{read_sound}
 use Rattle.htl_syntax.proofs.WholeAgain.{read_again}
 use Rattle.htl_syntax.proofs.LocalOptions.{failed}
@@ -150,10 +150,10 @@ same_takes levels s place m = go (expression_read levels u) refl
     u : List ℕ
     u = take place s ++ colon_letter
 
-    go : (o : Result Expression ExprStop) → expression_read levels u ≡ o → passes (expression_read (suc levels) u) ≡ passes (expression_read levels u)
-    go (Ok e) r = ap passes (deeper_ok levels u e r ∙ sym r)
+    go : (o : Result Expression ExprStop) → expression_read levels u ≡ o → passes_colon (expression_read (suc levels) u) ≡ passes_colon (expression_read levels u)
+    go (Ok e) r = ap passes_colon (deeper_ok levels u e r ∙ sym r)
     go (Err Memory) r = absurd ((failed levels Memory u r).left)
-    go (Err (Unexpected k)) r = ap passes (deeper_unexpected levels u k r ∙ sym r)
+    go (Err (Unexpected k)) r = ap passes_colon (deeper_unexpected levels u k r ∙ sym r)
     go (Err (TooDeep k)) r = absurd (letter_not_deep levels s place m k r)
 
 same_place : (more levels : ℕ) (s : List ℕ) (left : ℕ) → expression_read levels s ≡ Err (Unexpected left) → fault_place (up more levels) s (length s - left) ≡ fault_place levels s (length s - left)

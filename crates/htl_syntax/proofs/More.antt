@@ -8,7 +8,7 @@ use Rattle.htl_syntax.specs.declared.stop.ExprStop.TheVariants.{Memory, Unexpect
 use Rattle.htl_syntax.specs.declared.expression.Expression.{Expression}
 use Rattle.htl_syntax.specs.Read.{expression_read}
 use Rattle.htl_syntax.specs.Grammar.{WholeWithin}
-use Rattle.htl_syntax.specs.Fault.{colon_letter, passes, takes_colon, fault_place, MayGoOn}
+use Rattle.htl_syntax.specs.Fault.{colon_letter, passes_colon, takes_colon, fault_place, MayGoOn}
 use Rattle.htl_syntax.proofs.TokensRead.{eqb_is}
 use Rattle.htl_syntax.proofs.WholeRead.{read_sound}
 use Rattle.htl_syntax.proofs.StuckWhole.{stopped}
@@ -50,7 +50,7 @@ module _ (levels : ℕ) where
   whole_letter p e w = record { more = 98 ∷ []; tree = e; whole = subst (λ (l : List ℕ). WholeWithin levels l e) (sym (append_assoc p (58 ∷ []) (98 ∷ []))) w }
 
   -- reading passed the colon
-  passed : (p : List ℕ) (r : Result Expression ExprStop) → expression_read levels (p ++ colon_letter) ≡ r → passes r ≡ true → Begun (p ++ 58 ∷ [])
+  passed : (p : List ℕ) (r : Result Expression ExprStop) → expression_read levels (p ++ colon_letter) ≡ r → passes_colon r ≡ true → Begun (p ++ 58 ∷ [])
   passed p (Ok e) r-is h = whole_letter p e (read_sound levels (p ++ colon_letter) e r-is)
   passed p (Err Memory) r-is h = absurd cc
   passed p (Err (Unexpected zero)) r-is h = with_letter p (more_here (p ++ colon_letter) 0 r-is)

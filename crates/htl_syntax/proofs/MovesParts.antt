@@ -3,7 +3,7 @@ use Rattle.std.proofs.Common.{ℕ, suc, List, [], ◌∷◌}
 use Rattle.htl_syntax.specs.declared.node.ExprNode.{ExprNode}
 use Rattle.htl_syntax.specs.declared.node.ExprNode.TheVariants as expr_node
 use Rattle.htl_syntax.specs.declared.tokens.NameKind.TheVariants.{Name, Field}
-use Rattle.htl_syntax.specs.Grammar.{Byte, Separator, And, Or, Comma, Separates, Part, part_of, Choice, Either, Both, Compare, Operand, Atom, Start, Items, Reads, More, Access, Accesses}
+use Rattle.htl_syntax.specs.Grammar.{Byte, Separator, And, Or, Comma, Separates, GrammarPart, part_of, Choice, Either, Both, Compare, Operand, Atom, Start, Items, Reads, More, Access, Accesses}
 use Rattle.htl_syntax.specs.Grammar as g
 use Rattle.htl_syntax.proofs.Moves.{Moves, Steps, Then, moves_of, moves_map, moves_then, steps_then, none_moves}
 use Rattle.htl_syntax.proofs.MovesTokens.{byte_steps, operator_steps, compares_steps, ComparesOf, string_steps, StringOf, name_moves, NameTokenOf, number_moves, NumberOf}
@@ -14,7 +14,7 @@ AccessOf depth f s r = Access depth s f r
 abbrev pub AccessesOf : ℕ → List (List ℕ) → List ℕ → List ℕ → Type 0
 AccessesOf depth fs s r = Accesses depth s fs r
 
-abbrev pub ReadsOf : Part → ℕ → ExprNode → List ℕ → List ℕ → Type 0
+abbrev pub ReadsOf : GrammarPart → ℕ → ExprNode → List ℕ → List ℕ → Type 0
 ReadsOf part depth e s r = Reads part depth s e r
 
 abbrev pub MoreOf : Separator → ℕ → List ExprNode → List ℕ → List ℕ → Type 0
@@ -41,7 +41,7 @@ separates_steps Or s r o = operator_steps 124 124 s r o
 separates_steps Comma s r o = byte_steps 44 s r o
 
 mutual
-  pub reads_moves : (part : Part) (depth : ℕ) (s : List ℕ) (e : ExprNode) (r : List ℕ) → Reads part depth s e r → Moves (ReadsOf part depth e) s r
+  pub reads_moves : (part : GrammarPart) (depth : ℕ) (s : List ℕ) (e : ExprNode) (r : List ℕ) → Reads part depth s e r → Moves (ReadsOf part depth e) s r
   reads_moves _ depth s e r (g.string {w = w} x) = moves_of (StringOf w) (ReadsOf Start depth _) s r (λ s' r' q. g.string q) (string_steps s w r x)
   reads_moves _ depth s e r (g.number {k = k} x) = moves_map (NumberOf k) (ReadsOf Start depth _) s r (λ s' r' q. g.number q) (number_moves s k r x)
   reads_moves _ depth s e r (g.name {w = w} x o) = moves_map (NameTokenOf Name w) (ReadsOf Start depth _) s r (λ s' r' q. g.name q o) (name_moves Name s w r x)

@@ -10,7 +10,7 @@ use Rattle.htl_syntax.specs.declared.tokens.NameKind.TheVariants.{Field}
 use Rattle.htl_syntax.specs.Tokens.{begins, goes_on, is_letter, is_word_byte}
 use Rattle.htl_syntax.specs.Read.{expression_read}
 use Rattle.htl_syntax.specs.Grammar.{WholeWithin}
-use Rattle.htl_syntax.specs.Fault.{nests, SameHead, Agree, HasNone, colon_letter, passes, takes_colon, fault_place}
+use Rattle.htl_syntax.specs.Fault.{nests, SameHead, Agree, HasNone, colon_letter, passes_colon, takes_colon, fault_place}
 use Rattle.htl_syntax.proofs.TokensRead.{eqb_is, byte_at}
 use Rattle.htl_syntax.proofs.Unique.{only_err}
 use Rattle.htl_syntax.proofs.Local.{Same, same_after, head_in, IsAt, moved}
@@ -64,7 +64,7 @@ module _ (levels : ℕ) where
       absurd cc
   deep_rest leading begin (c ∷ d ∷ rest) e n = omega arith
 
-  rest_len : (leading : List ℕ) (d : ExprStop) (begin rest : List ℕ) → leading ++ colon_letter ≡ begin ++ rest → IsAt d rest → passes (Err d) ≡ false → 2 ≤ length rest
+  rest_len : (leading : List ℕ) (d : ExprStop) (begin rest : List ℕ) → leading ++ colon_letter ≡ begin ++ rest → IsAt d rest → passes_colon (Err d) ≡ false → 2 ≤ length rest
   rest_len leading Memory begin rest e i p = absurd i
   rest_len leading (Unexpected left) begin rest e i p = rw i (grind (arith, nat_tests))
   rest_len leading (TooDeep left) begin rest e i p = deep_rest leading begin rest e i.1
@@ -72,14 +72,14 @@ module _ (levels : ℕ) where
   colon_refused : (leading z : List ℕ) → takes_colon levels leading ≡ false → begins_with_byte 58 z ≡ true → IsRefused (leading ++ z)
   colon_refused leading z alone at = go (expression_read levels (leading ++ colon_letter)) refl alone
     where
-      by_fault : (d : ExprStop) → Left levels d (leading ++ colon_letter) → passes (Err d) ≡ false → IsRefused (leading ++ z)
+      by_fault : (d : ExprStop) → Left levels d (leading ++ colon_letter) → passes_colon (Err d) ≡ false → IsRefused (leading ++ z)
       by_fault d k p =
           let q = part leading colon_letter k.leading k.rest k.parts (rest_len leading d k.leading k.rest k.parts k.left p) in
           let near : Same k.rest (q.middle ++ z) = subst (λ (t : List ℕ). Same t (q.middle ++ z)) (sym q.rest_is) (head_in q.middle colon_letter z (colon_same z at)) in
           let parts : leading ++ z ≡ k.leading ++ (q.middle ++ z) = ap (λ (t : List ℕ). t ++ z) q.prefix_is ∙ append_assoc k.leading q.middle z in
           (moved d (length (q.middle ++ z)), ap (expression_read levels) parts ∙ k.same (q.middle ++ z) near)
 
-      go : (o : Result Expression ExprStop) → expression_read levels (leading ++ colon_letter) ≡ o → passes o ≡ false → IsRefused (leading ++ z)
+      go : (o : Result Expression ExprStop) → expression_read levels (leading ++ colon_letter) ≡ o → passes_colon o ≡ false → IsRefused (leading ++ z)
       go (Ok e) r p = absurd cc
       go (Err d) r p = by_fault d (failed levels d (leading ++ colon_letter) r) p
 

@@ -9,18 +9,18 @@ use Rattle.htl_syntax.specs.declared.reader.Nested.{Nested}
 use Rattle.htl_syntax.specs.declared.reader.Nested.TheVariants as nested
 use Rattle.htl_syntax.specs.Tokens.{Outcome, ◌>>=◌, blanks_skipped, begins, expect, string, signed_number, read_name, is_quote}
 use Rattle.htl_syntax.specs.Read as spec
-use Rattle.htl_syntax.specs.Grammar.{Byte, Separator, And, Or, Comma, Separates, Part, part_of, Choice, Either, Both, Compare, Operand, Atom, Start, Items, Reads, More, Access, Accesses}
+use Rattle.htl_syntax.specs.Grammar.{Byte, Separator, And, Or, Comma, Separates, GrammarPart, part_of, Choice, Either, Both, Compare, Operand, Atom, Start, Items, Reads, More, Access, Accesses}
 use Rattle.htl_syntax.specs.Grammar as g
 use Rattle.htl_syntax.proofs.Tools.{bind_ok, chosen, ok_is}
 use Rattle.htl_syntax.proofs.TokensRead.{byte, expect_sound, second_sound, name_sound, string_sound, number_sound, comparison_sound}
 
-abbrev pub Gave : Part → ℕ → List ℕ → ExprNode × List ℕ → Type 0
+abbrev pub Gave : GrammarPart → ℕ → List ℕ → ExprNode × List ℕ → Type 0
 Gave part depth s p = Reads part depth s p.0 p.1
 
-abbrev pub Sound : Part → ℕ → (List ℕ → Outcome ExprNode) → Type 0
+abbrev pub Sound : GrammarPart → ℕ → (List ℕ → Outcome ExprNode) → Type 0
 Sound part depth f = (s : List ℕ) (p : ExprNode × List ℕ) → f s ≡ Ok p → Gave part depth s p
 
-abbrev pub part_inside : Nested → Part
+abbrev pub part_inside : Nested → GrammarPart
 part_inside nested.Choice = Choice
 part_inside nested.Operand = Operand
 part_inside nested.Items = Items

@@ -8,7 +8,7 @@ use Rattle.htl_syntax.specs.declared.reader.Nested.{Nested}
 use Rattle.htl_syntax.specs.declared.reader.Nested.TheVariants as nested
 use Rattle.htl_syntax.specs.Tokens.{Outcome, ◌>>=◌, blanks_skipped, begins, expect, goes_on}
 use Rattle.htl_syntax.specs.Read as spec
-use Rattle.htl_syntax.specs.Grammar.{Byte, And, Or, Comma, Part, Choice, Either, Both, Compare, Operand, Atom, Start, Items, Reads}
+use Rattle.htl_syntax.specs.Grammar.{Byte, And, Or, Comma, GrammarPart, Choice, Either, Both, Compare, Operand, Atom, Start, Items, Reads}
 use Rattle.htl_syntax.specs.Grammar as g
 use Rattle.htl_syntax.proofs.Tools.{chosen}
 use Rattle.htl_syntax.proofs.TokensRead.{byte, comparison_sound}
@@ -42,7 +42,7 @@ not_stuck (suc d) s k at q = stuck_map (Then (Byte 33) (SomePart Operand d)) (So
 
 -- ---- brackets
 
-module _ (begin close : ℕ) (inside : Part) (close_plain : (z : List ℕ) → Plain (close ∷ z)) (make : (d : ℕ) (s r : List ℕ) → Then (Byte begin) (Then (SomePart inside d) (Byte close)) s r → SomePart Start (suc d) s r) where
+module _ (begin close : ℕ) (inside : GrammarPart) (close_plain : (z : List ℕ) → Plain (close ∷ z)) (make : (d : ℕ) (s r : List ℕ) → Then (Byte begin) (Then (SomePart inside d) (Byte close)) s r → SomePart Start (suc d) s r) where
   -- a bracket is open
   opened : (d : ℕ) (s : List ℕ) (k : ℕ) → begins_with_byte begin s ≡ true → Stuck (Then (SomePart inside d) (Byte close)) (blanks_skipped (drop 1 s)) k → Stuck (SomePart Start (suc d)) s k
   opened d s k at q = stuck_map (Then (Byte begin) (Then (SomePart inside d) (Byte close))) (SomePart Start (suc d)) s k (make d) (deep_late begin s k (Then (SomePart inside d) (Byte close)) at q).stuck

@@ -7,7 +7,7 @@ use Rattle.htl_syntax.specs.declared.node.ExprNode.TheVariants as expr_node
 use Rattle.htl_syntax.specs.declared.tokens.NameKind.TheVariants.{Name}
 use Rattle.htl_syntax.specs.Tokens.{Outcome, ◌>>=◌, blanks_skipped, begins, goes_on, is_quote, is_first, expect, read_name, signed_number, string}
 use Rattle.htl_syntax.specs.Read as spec
-use Rattle.htl_syntax.specs.Grammar.{Byte, NameToken, Separator, And, Or, Comma, Separates, Part, part_of, Choice, Either, Both, Compare, Operand, Atom, Start, Reads, More, Access, Accesses}
+use Rattle.htl_syntax.specs.Grammar.{Byte, NameToken, Separator, And, Or, Comma, Separates, GrammarPart, part_of, Choice, Either, Both, Compare, Operand, Atom, Start, Reads, More, Access, Accesses}
 use Rattle.htl_syntax.specs.Grammar as g
 use Rattle.htl_syntax.proofs.Tools.{chosen}
 use Rattle.htl_syntax.proofs.TokensRead.{byte, name_sound, string_sound}
@@ -113,13 +113,13 @@ accesses_stuck depth (suc fuel) found t d k e a = elim (chosen (spec.access_at t
 
 -- ---- one operand
 
-abbrev pub SomePart : Part → ℕ → List ℕ → List ℕ → Type 0
+abbrev pub SomePart : GrammarPart → ℕ → List ℕ → List ℕ → Type 0
 SomePart part depth s r = (e : ExprNode) × Reads part depth s e r
 
-abbrev pub Sticks : Part → ℕ → (List ℕ → Outcome ExprNode) → Type 0
+abbrev pub Sticks : GrammarPart → ℕ → (List ℕ → Outcome ExprNode) → Type 0
 Sticks part depth f = (s : List ℕ) (d : ExprStop) (k : ℕ) → f s ≡ Err d → At d k → Stuck (SomePart part depth) s k
 
-pub moves_some : (part : Part) (depth : ℕ) (s : List ℕ) (e : ExprNode) (r : List ℕ) → Reads part depth s e r → Moves (SomePart part depth) s r
+pub moves_some : (part : GrammarPart) (depth : ℕ) (s : List ℕ) (e : ExprNode) (r : List ℕ) → Reads part depth s e r → Moves (SomePart part depth) s r
 moves_some part depth s e r x = moves_map (ReadsOf part depth e) (SomePart part depth) s r (λ s' r' y. (e, y)) (reads_moves part depth s e r x)
 
 pub start_atom : (depth : ℕ) (s r : List ℕ) → SomePart Start depth s r → SomePart Atom depth s r

@@ -1,4 +1,4 @@
--- What a text is read as, and the place where it leaves the grammar (`docs/htl/EXPRESSIONS.md`, "Faults"). `colon_letter`, `passes`, `takes_colon` and `fault_place` are needed by `expression_of` and private functions alone.
+-- What a text is read as, and the place where it leaves the grammar (`docs/htl/EXPRESSIONS.md`, "Faults"). `colon_letter`, `passes_colon`, `takes_colon` and `fault_place` are needed by `expression_of` and private functions alone.
 use Rattle.std.specs.Prelude.{◌≡◌, ℕ, suc, ◌+◌, ◌-◌, ◌≤◌, Bool, true, false, nat_le, ◌&&◌, ◌||◌, ◌==◌, if◌then◌else◌, List, [], ◌∷◌, ◌++◌, length, take, drop, Result, Ok, Err}
 use Rattle.sp_base.specs.Bytes.{begins_with_byte}
 use Rattle.htl_syntax.specs.declared.stop.ExprStop.{ExprStop}
@@ -15,15 +15,15 @@ abbrev pub colon_letter : List ℕ
 colon_letter = 58 ∷ 98 ∷ []
 
 -- whether reading passes the colon, where a colon and a letter stand at the end
-abbrev pub passes : Result Expression ExprStop → Bool
-passes (Ok e) = true
-passes (Err stop.Memory) = false
-passes (Err (stop.Unexpected left)) = nat_le left 1
-passes (Err (stop.TooDeep left)) = false
+abbrev pub passes_colon : Result Expression ExprStop → Bool
+passes_colon (Ok e) = true
+passes_colon (Err stop.Memory) = false
+passes_colon (Err (stop.Unexpected left)) = nat_le left 1
+passes_colon (Err (stop.TooDeep left)) = false
 
 -- whether a colon after a text may belong to a field's name, where `levels` levels may nest
 abbrev pub takes_colon : ℕ → List ℕ → Bool
-takes_colon levels t = passes (expression_read levels (t ++ colon_letter))
+takes_colon levels t = passes_colon (expression_read levels (t ++ colon_letter))
 
 -- where a colon may belong to a field's name, the byte after it is the one that doesn't fit
 abbrev pub fault_place : ℕ → List ℕ → ℕ → ℕ
@@ -91,5 +91,5 @@ IsExpressionFault (Unexpected place) s = MayGoOn nesting_limit s place × ((leve
 IsExpressionFault (TooDeep place) s = MayGoOn nesting_limit s place × (HasNone nesting_limit s place × (HasSome (suc nesting_limit) s place × (begins nests (drop place s) ≡ true)))
 
 -- faults of a text are one
-abbrev pub AreOneFault : List ℕ → ExprFault → ExprFault → Type 0
-AreOneFault text f g = IsExpressionFault f text → IsExpressionFault g text → f ≡ g
+abbrev pub AreOneFaultIfBothAre : List ℕ → ExprFault → ExprFault → Type 0
+AreOneFaultIfBothAre text f g = IsExpressionFault f text → IsExpressionFault g text → f ≡ g

@@ -121,18 +121,18 @@ Separates Or s r = Operator 124 124 s r
 Separates Comma s r = Byte 44 s r
 
 -- the parts of an expression, from the loosest to the tightest; items stand in a list literal
-pub data Part : Type 0 where
-  Choice : Part
-  Either : Part
-  Both : Part
-  Compare : Part
-  Operand : Part
-  Atom : Part
-  Start : Part
-  Items : Part
+pub data GrammarPart : Type 0 where
+  Choice : GrammarPart
+  Either : GrammarPart
+  Both : GrammarPart
+  Compare : GrammarPart
+  Operand : GrammarPart
+  Atom : GrammarPart
+  Start : GrammarPart
+  Items : GrammarPart
 
 -- the parts that a separator stands between
-abbrev pub part_of : Separator → Part
+abbrev pub part_of : Separator → GrammarPart
 part_of And = Compare
 part_of Or = Both
 part_of Comma = Choice
@@ -140,7 +140,7 @@ part_of Comma = Choice
 -- `Reads part depth text tree rest`: the text begins with the part, which stands for the tree, and the rest is what is left after it;
 -- `depth` more levels may nest. `More` reads the items after the first, each with its separator before it.
 mutual
-  pub data Reads : Part → ℕ → List ℕ → ExprNode → List ℕ → Type 0 where
+  pub data Reads : GrammarPart → ℕ → List ℕ → ExprNode → List ℕ → Type 0 where
     string : {depth : ℕ} {s w r : List ℕ} → String s w r → Reads Start depth s (expr_node.Text w) r
     number : {depth : ℕ} {s : List ℕ} {k : ℤ} {r : List ℕ} → Number s k r → Reads Start depth s (expr_node.Long k) r
     name : {depth : ℕ} {s w r : List ℕ} → NameToken Name s w r → object_of w ≡ None → Reads Start depth s (word_node w) r

@@ -4,7 +4,7 @@ ghost use Rattle.std.specs.Prelude.{◌≡◌, ◌≢◌, ◌≤◌, ℕ, List, 
 ghost use Rattle.htl_syntax.specs.declared.expression.Expression.{Expression};
 ghost use Rattle.htl_syntax.specs.declared.expression.ExprFault.{ExprFault};
 ghost use Rattle.htl_syntax.specs.Grammar.{Whole, WholeWithin};
-ghost use Rattle.htl_syntax.specs.Fault.{expression_of, IsExpressionFault, AreOneFault};
+ghost use Rattle.htl_syntax.specs.Fault.{expression_of, IsExpressionFault, AreOneFaultIfBothAre};
 
 /// The reading from left to right, by which templates are defined, is the grammar: a text is read as an expression exactly where the
 /// grammar has it as that one, and the place of a fault is the first byte with which no expression goes on. It lacks no memory.
@@ -19,5 +19,5 @@ pub fn the_reading_is_the_grammar()
 /// unexpected exactly where none would with any number of levels.
 pub fn too_deep_is_the_limit()
     ensures deeper { (levels deeper : ℕ) (text : List ℕ) (e : Expression) → levels ≤ deeper → WholeWithin levels text e → WholeWithin deeper text e }
-    ensures one { (text : List ℕ) (f g : ExprFault) → f ≢ ExprFault.NoMemory → g ≢ ExprFault.NoMemory → AreOneFault text f g }
+    ensures one { (text : List ℕ) (f g : ExprFault) → f ≢ ExprFault.NoMemory → g ≢ ExprFault.NoMemory → AreOneFaultIfBothAre text f g }
 {}

@@ -102,13 +102,13 @@ fault_at place (BadExpr n) = BadExpr (place + n)
 fault_at place NoMemory = NoMemory
 
 -- what is read of a text that begins at a place of another
-abbrev pub read_from : ℕ → Result (List TemplatePiece) TextFault → Result (List TemplatePiece) TextFault
-read_from place (Ok ps) = Ok ps
-read_from place (Err fault) = Err (fault_at place fault)
+abbrev pub read_from_place : ℕ → Result (List TemplatePiece) TextFault → Result (List TemplatePiece) TextFault
+read_from_place place (Ok ps) = Ok ps
+read_from_place place (Err fault) = Err (fault_at place fault)
 
 -- what a text is read as that begins at a place of another: its pieces, or its first fault
 abbrev pub template_at : ℕ → List ℕ → Result (List TemplatePiece) TextFault
-template_at place t = read_from place (template_of t)
+template_at place t = read_from_place place (template_of t)
 
 -- how many bytes stand before the next "${"
 unfoldable pub opening_len : List ℕ → ℕ
@@ -140,5 +140,5 @@ abbrev pub Appends : List ℕ → List ℕ → List ℕ → Type 0
 Appends old more new = (new ≡ old ++ more) × (length new ≤ most_rendered_bytes)
 
 -- it would go beyond the limit, unless memory lacks
-abbrev pub RenderFailsAsTooLong : List ℕ → RenderFault → Type 0
-RenderFailsAsTooLong text f = f ≢ render_fault.NoMemory → (f ≡ render_fault.TooLong) × (most_rendered_bytes < length text)
+abbrev pub RenderFailsAsTooLongIfMemory : List ℕ → RenderFault → Type 0
+RenderFailsAsTooLongIfMemory text f = f ≢ render_fault.NoMemory → (f ≡ render_fault.TooLong) × (most_rendered_bytes < length text)

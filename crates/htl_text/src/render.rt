@@ -16,7 +16,7 @@ use std::alloc::Global;
 fn push_plain(text: &mut String, plain: &str) -> Result<(), RenderFault>
     requires { length (string_bytes text.old) ≤ most_rendered_bytes }
     ensures ok { OnOk result (spec.Appends (string_bytes text.old) plain.now (string_bytes text.new)) }
-    ensures err { IfErr result (spec.RenderFailsAsTooLong (string_bytes text.old ++ plain.now)) }
+    ensures err { IfErr result (spec.RenderFailsAsTooLongIfMemory (string_bytes text.old ++ plain.now)) }
 {
     if plain.len() > MOST_RENDERED_BYTES - text.as_str().len() {
         return Err(RenderFault::TooLong);
@@ -35,7 +35,7 @@ fn push_piece<'v, 'a: 'v>(
 ) -> Result<(), RenderFault>
     requires { length (string_bytes text.old) ≤ most_rendered_bytes }
     ensures ok { OnOk result (spec.Appends (string_bytes text.old) (spec.piece_text (with_vars of.old (vars_of vars.now)) piece.now) (string_bytes text.new)) }
-    ensures err { IfErr result (spec.RenderFailsAsTooLong (string_bytes text.old ++ spec.piece_text (with_vars of.old (vars_of vars.now)) piece.now)) }
+    ensures err { IfErr result (spec.RenderFailsAsTooLongIfMemory (string_bytes text.old ++ spec.piece_text (with_vars of.old (vars_of vars.now)) piece.now)) }
     ensures resource { of.new ≡ of.old }
 {
     match piece {
@@ -65,7 +65,7 @@ impl Template {
         vars: &'v Variables<'v>,
     ) -> Result<(), RenderFault>
         ensures ok { OnOk result (spec.Appends (string_bytes text.old) (spec.template_output (with_vars of.old (vars_of vars.now)) self.now) (string_bytes text.new)) }
-        ensures err { IfErr result (spec.RenderFailsAsTooLong (string_bytes text.old ++ spec.template_output (with_vars of.old (vars_of vars.now)) self.now)) }
+        ensures err { IfErr result (spec.RenderFailsAsTooLongIfMemory (string_bytes text.old ++ spec.template_output (with_vars of.old (vars_of vars.now)) self.now)) }
         ensures resource { of.new ≡ of.old }
     {
         if text.as_str().len() > MOST_RENDERED_BYTES {
@@ -83,7 +83,7 @@ impl Template {
     /// The text that the template writes for a resource, where it has at most 4,194,304 bytes.
     pub fn render<'a>(&'a self, alloc: Global, scope: &Scope<'a>) -> Result<TextBuf, RenderFault>
         ensures ok { IfOk result (λ text. (text ≡ spec.template_output scope.now self.now) × (length text ≤ most_rendered_bytes)) }
-        ensures err { IfErr result (spec.RenderFailsAsTooLong (spec.template_output scope.now self.now)) }
+        ensures err { IfErr result (spec.RenderFailsAsTooLongIfMemory (spec.template_output scope.now self.now)) }
     {
         let mut text = String::new(alloc);
         let mut resource = Evaluation::of(alloc, scope);

@@ -14,7 +14,7 @@ use Rattle.http_front.specs.declared.turn.Turn.{Turn}
 use Rattle.http_front.specs.declared.turn.Turn.TheVariants.{Continue, Whole}
 use Rattle.http_front.specs.Heads.{head_fault, parts_of}
 use Rattle.http_front.specs.OpenEnds.{BeginsWithTurns, EndsInSpoiltTarget, LeavesEndOpen}
-use Rattle.http_front.specs.Turns.{AwaitsBody, AwaitsHead, BeginsRefused, BeginsWithRequest, Breaks, End, HasNoHead, SpellsTurns, Stops, Waits, longest_head, window}
+use Rattle.http_front.specs.Turns.{AwaitsBody, AwaitsHead, BeginsRefused, BeginsWithRequest, Breaks, End, HasNoHead, SpellsTurns, StopsIn, Waits, longest_head, window}
 use Rattle.http_front.proofs.TurnLemmas.{has_head, never_none, not_awaited, not_refused, request_same}
 
 -- ---- a target that no bytes can save
@@ -98,20 +98,20 @@ none_one s f g (inl x) (inr y) = inr (spoilt_target s y.1.0.1 x.1)
 none_one s f g (inr x) (inl y) = inr (spoilt_target s x.1.0.1 y.1)
 none_one s f g (inr x) (inr y) = inl (x.0 ∙ sym y.0)
 
-waits_breaks : (s : List ℕ) (f : InFault) → Stops s Waits → Stops s (Breaks f) → EndsInSpoiltTarget s
+waits_breaks : (s : List ℕ) (f : InFault) → StopsIn s Waits → StopsIn s (Breaks f) → EndsInSpoiltTarget s
 waits_breaks s f (inl awaits) (inl refused) = absurd (refused_awaited s f refused awaits.0.0)
 waits_breaks s f (inl awaits) (inr (inl never)) = spoilt_target s awaits.0.1 never.1
 waits_breaks s f (inl awaits) (inr (inr long)) = absurd (omega (arith, awaits.1, long.1.1))
 waits_breaks s f (inr body) (inl refused) = absurd (body_refused s f body refused)
 waits_breaks s f (inr body) (inr none) = absurd (body_none s f body none)
 
-breaks_breaks : (s : List ℕ) (f g : InFault) → Stops s (Breaks f) → Stops s (Breaks g) → (f ≡ g) ⊎ EndsInSpoiltTarget s
+breaks_breaks : (s : List ℕ) (f g : InFault) → StopsIn s (Breaks f) → StopsIn s (Breaks g) → (f ≡ g) ⊎ EndsInSpoiltTarget s
 breaks_breaks s f g (inl x) (inl y) = inl (refused_one s f g x y)
 breaks_breaks s f g (inl x) (inr y) = absurd (refused_none s f g x y)
 breaks_breaks s f g (inr x) (inl y) = absurd (refused_none s g f y x)
 breaks_breaks s f g (inr x) (inr y) = none_one s f g x y
 
-stops_one : (s : List ℕ) (e f : End) → Stops s e → Stops s f → (e ≡ f) ⊎ EndsInSpoiltTarget s
+stops_one : (s : List ℕ) (e f : End) → StopsIn s e → StopsIn s f → (e ≡ f) ⊎ EndsInSpoiltTarget s
 stops_one s Waits Waits x y = inl refl
 stops_one s Waits (Breaks g) x y = inr (waits_breaks s g x y)
 stops_one s (Breaks f) Waits x y = inr (waits_breaks s f y x)
@@ -168,7 +168,7 @@ bad_here s x = inl (refl, never_head s x)
 abbrev IsEndLeftOpen : List ℕ → End → Type 0
 IsEndLeftOpen s end = (end ≡ Breaks BadHead) ⊎ (((end ≡ Waits) × (length s < longest_head)) ⊎ ((end ≡ Breaks LongHead) × (longest_head ≤ length s)))
 
-only_here : (s : List ℕ) (end : End) → EndsInSpoiltTarget s → Stops s end → IsEndLeftOpen s end
+only_here : (s : List ℕ) (end : End) → EndsInSpoiltTarget s → StopsIn s end → IsEndLeftOpen s end
 only_here s Waits x (inl awaits) = inr (inl (refl, awaits.1))
 only_here s Waits x (inr body) = absurd (body_none s BadHead body (bad_here s x))
 only_here s (Breaks f) x (inl refused) = absurd (refused_none s f BadHead refused (bad_here s x))
@@ -176,16 +176,16 @@ only_here s (Breaks f) x (inr (inl never)) = inl (ap Breaks never.0)
 only_here s (Breaks f) x (inr (inr long)) = inr (inr (ap Breaks long.0, long.1.1))
 
 -- what ends what comes after the turns ends the stream
-spells_after : (s last : List ℕ) (turns : List Turn) (end : End) → BeginsWithTurns s turns last → Stops last end → SpellsTurns s turns end
-spells_after s last [] end x stops = subst (λ t. Stops t end) (sym x) stops
+spells_after : (s last : List ℕ) (turns : List Turn) (end : End) → BeginsWithTurns s turns last → StopsIn last end → SpellsTurns s turns end
+spells_after s last [] end x stops = subst (λ t. StopsIn t end) (sym x) stops
 spells_after s last (Whole r ∷ turns) end x stops = (x.0, x.1, spells_after x.0 last turns end x.2 stops)
 spells_after s last (Continue ∷ []) end x stops = absurd x
 spells_after s last (Continue ∷ Continue ∷ turns) end x stops = absurd x
 spells_after s last (Continue ∷ Whole r ∷ turns) end x stops = (x.0, x.1, spells_after x.0 last turns end x.2 stops)
 
 -- and the other way round
-stops_after : (s last : List ℕ) (turns : List Turn) (end : End) → BeginsWithTurns s turns last → SpellsTurns s turns end → Stops last end
-stops_after s last [] end x y = subst (λ t. Stops t end) x y
+stops_after : (s last : List ℕ) (turns : List Turn) (end : End) → BeginsWithTurns s turns last → SpellsTurns s turns end → StopsIn last end
+stops_after s last [] end x y = subst (λ t. StopsIn t end) x y
 stops_after s last (Whole r ∷ turns) end x y =
     stops_after x.0 last turns end x.2 (subst (λ rest. SpellsTurns rest turns end) (rest_one s false r y.0 x.0 y.1 x.1) y.2)
 stops_after s last (Continue ∷ []) end x y = absurd x

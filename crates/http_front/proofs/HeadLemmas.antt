@@ -16,7 +16,7 @@ use Rattle.http_front.specs.declared.target.Target.{Target}
 use Rattle.sp_base.specs.Requests.{Request, request_line}
 use Rattle.http_front.specs.LentHeads.{is_closing_field, is_closing_by_name}
 use Rattle.http_header.specs.FieldName.{IsFieldName}
-use Rattle.http_front.specs.Heads.{Asked, asks_to_close, lower_case_field, asked_host, body_length, has_transfer_coding, first_refusal, asked_of, asked_with, length_or_fault, HeadParts, heads, closes_connection, request_with, awaits_continue, Asks, within_limit, longest_body, most_fields}
+use Rattle.http_front.specs.Heads.{AskedFields, asks_to_close, lower_case_field, asked_host, body_length, has_transfer_coding, first_refusal, asked_of, asked_with, length_or_fault, HeadParts, heads, closes_connection, request_with, awaits_continue, Asks, within_limit, longest_body, most_fields}
 use Rattle.std.specs.Prelude.{◌==◌, ◌||◌, ◌&&◌}
 use Rattle.http1.specs.declared.fields.KnownFields.{KnownFields}
 use Rattle.http1.specs.Text.{eq_ignore_case}
@@ -126,7 +126,7 @@ unfolding known_fields eq_ignore_case
 known_close value known e = ap (λ k. k.close) e ∙ ap (has_option (codes "close")) (append-nil (elements value))
 
 -- what a head asks for, from what was read of it
-pub asks : (p : HeadParts) (target : List ℕ) (fields : List (List ℕ × List ℕ)) (asked : Asked) → target ≡ p.target → fields ≡ heads p → first_refusal p.minor target fields ≡ None
+pub asks : (p : HeadParts) (target : List ℕ) (fields : List (List ℕ × List ℕ)) (asked : AskedFields) → target ≡ p.target → fields ≡ heads p → first_refusal p.minor target fields ≡ None
     → asked_of p.minor target fields ≡ Some asked → (request : Request) (await : Bool)
     → request ≡ request_with p.method (request_line p.method p.target p.minor) p.minor asked fields (is_closing_by_name p.minor fields)
     → await ≡ awaits_continue p.minor asked.body_length fields → Asks p (record { request = request; body_length = asked.body_length; awaits_continue = await })

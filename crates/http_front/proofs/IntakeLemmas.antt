@@ -12,8 +12,8 @@ use Rattle.http_front.specs.declared.intake.Phase.{Phase}
 use Rattle.http_front.specs.declared.intake.Phase.TheVariants.{Heading, Body, Failed}
 use Rattle.http_front.specs.declared.turn.Turn.{Turn}
 use Rattle.http_front.specs.declared.turn.Turn.TheVariants.{Continue, Whole}
-use Rattle.http_front.specs.Turns.{End, Waits, Breaks, longest_head, BeginsAsking, BeginsRefused, HasBody, with_body, AwaitsHead, HasNoHead, Stops, BeginsWithRequest, SpellsTurns}
-use Rattle.http_front.specs.Intakes.{TurnsFollow, Continues, Ends, IntakeLeads, Keeps, LeadsBy, RemainderSpells, Stands, Tells, rest_of}
+use Rattle.http_front.specs.Turns.{End, Waits, Breaks, longest_head, BeginsAsking, BeginsRefused, HasBody, with_body, AwaitsHead, HasNoHead, StopsIn, BeginsWithRequest, SpellsTurns}
+use Rattle.http_front.specs.Intakes.{TurnsFollow, Continues, EndsIfStoodFor, IntakeLeads, KeepsIfStoodFor, LeadsByTurn, RemainderSpells, Stands, TellsIfStoodFor, rest_of}
 use Rattle.http_front.proofs.TurnLemmas.{begins_append, never_grows, window_full}
 
 append_nil : {A : Type 0} (xs : List A) → xs ++ [] ≡ xs
@@ -38,7 +38,7 @@ no_head_stays s more fault none = ⊎_elim
     none
 
 -- a fault stays, whatever comes
-pub fault_stays : (s more : List ℕ) (fault : InFault) → BeginsRefused s fault ⊎ HasNoHead s fault → Stops (s ++ more) (Breaks fault)
+pub fault_stays : (s more : List ℕ) (fault : InFault) → BeginsRefused s fault ⊎ HasNoHead s fault → StopsIn (s ++ more) (Breaks fault)
 fault_stays s more fault stops = ⊎_elim (λ refused. inl (refused_stays s more fault refused)) (λ none. inr (no_head_stays s more fault none)) stops
 
 -- ---- after a head
@@ -56,7 +56,7 @@ asked s more a r (Whole request ∷ turns) end b is f = (f.0, request_begins s m
 -- any other head isn't
 not_asked : (s more : List ℕ) (a : AskedHead) (r : List ℕ) (turns : List Turn) (end : End) → BeginsAsking s a r → a.awaits_continue ≡ false → TurnsFollow a (r ++ more) turns end → SpellsTurns (s ++ more) turns end
 not_asked s more a r [] end b is f =
-    subst (Stops (s ++ more)) (sym f.1) (inr (record { asked = a; rest = r ++ more; begins = asking_stays s more a r b; unasked = is; short = f.0 }))
+    subst (StopsIn (s ++ more)) (sym f.1) (inr (record { asked = a; rest = r ++ more; begins = asking_stays s more a r b; unasked = is; short = f.0 }))
 not_asked s more a r (Continue ∷ turns) end b is f = absurd f
 not_asked s more a r (Whole request ∷ turns) end b is f = (f.0, request_begins s more a r false request f.0 b is f.1, f.2)
 
@@ -84,7 +84,7 @@ pub leads_failed : (old : Intake) (rest : List ℕ) (fault : InFault) → old.ph
     → (more : List ℕ) (turns : List Turn) (end : End) → Continues (Failed fault) (rest ++ more) turns end → RemainderSpells old more turns end
 leads_failed old rest fault heading stops = λ more turns end l.
     subst (λ p. Continues p (rest_of old ++ more) turns end) (sym heading)
-    (subst (λ ts. SpellsTurns (rest_of old ++ more) ts end) (sym l.0) (subst (Stops (rest_of old ++ more)) (sym l.1) (fault_stays (rest_of old) more fault stops)))
+    (subst (λ ts. SpellsTurns (rest_of old ++ more) ts end) (sym l.0) (subst (StopsIn (rest_of old ++ more)) (sym l.1) (fault_stays (rest_of old) more fault stops)))
 
 pub stands_failed : (old : Intake) (fault : InFault) → old.phase ≡ Heading → BeginsRefused (rest_of old) fault ⊎ HasNoHead (rest_of old) fault → Stands old (Breaks fault)
 stands_failed old fault heading stops = subst (λ p. Continues p (rest_of old ++ []) [] (Breaks fault)) (sym heading) (fault_stays (rest_of old) [] fault stops)
@@ -92,7 +92,7 @@ stands_failed old fault heading stops = subst (λ p. Continues p (rest_of old ++
 pub stands_waiting : (old : Intake) → old.phase ≡ Heading → AwaitsHead (rest_of old) → length (rest_of old) < longest_head → Stands old Waits
 stands_waiting old heading awaits short =
     subst (λ p. Continues p (rest_of old ++ []) [] Waits) (sym heading)
-    (subst (λ s. Stops s Waits) (sym (append_nil (rest_of old))) (inl (awaits, short)))
+    (subst (λ s. StopsIn s Waits) (sym (append_nil (rest_of old))) (inl (awaits, short)))
 
 pub leads_asked : (old : Intake) (rest : List ℕ) (a : AskedHead) (len : ℕ) → old.phase ≡ Heading → rest ≡ drop len (rest_of old) → BeginsAsking (rest_of old) a (drop len (rest_of old))
     → a.awaits_continue ≡ true → (more : List ℕ) (turns : List Turn) (end : End) → Continues (Body a) (rest ++ more) turns end → RemainderSpells old more (Continue ∷ turns) end
@@ -116,33 +116,33 @@ leads_body old phase rest a request body heading is fits made = λ more turns en
 
 -- ---- one call, from its steps
 
-pub ends : (i : Intake) (end : End) → Stands i end → Ends i end
+pub ends : (i : Intake) (end : End) → Stands i end → EndsIfStoodFor i end
 ends i end stands = λ stream told for.
     subst (λ s. SpellsTurns s told end) (append_nil stream) (subst (λ ts. SpellsTurns (stream ++ []) ts end) (append_nil told) (for [] [] end stands))
 
-pub keeps : (old new : Intake) → IntakeLeads old new → Keeps old new
+pub keeps : (old new : Intake) → IntakeLeads old new → KeepsIfStoodFor old new
 keeps old new leads = λ stream told for more turns end l. for more turns end (leads more turns end l)
 
-pub tells : (old new : Intake) (turn : Turn) → LeadsBy old new turn → Tells old new turn
+pub tells : (old new : Intake) (turn : Turn) → LeadsByTurn old new turn → TellsIfStoodFor old new turn
 tells old new turn leads = λ stream told for more turns end l.
     subst (λ ts. SpellsTurns (stream ++ more) ts end) (sym (append_assoc told (turn ∷ []) turns)) (for more (turn ∷ turns) end (leads more turns end l))
 
 -- after a step that told nothing
-pub tells_after : (old mid new : Intake) (r : Result (Option Turn) InFault) → IntakeLeads old mid → IfOk r (λ o. IfSome o (LeadsBy mid new)) → IfOk r (λ o. IfSome o (Tells old new))
+pub tells_after : (old mid new : Intake) (r : Result (Option Turn) InFault) → IntakeLeads old mid → IfOk r (λ o. IfSome o (LeadsByTurn mid new)) → IfOk r (λ o. IfSome o (TellsIfStoodFor old new))
 tells_after old mid new (Ok (Some turn)) leads by = tells old new turn (λ more turns end l. leads more (turn ∷ turns) end (by more turns end l))
 tells_after old mid new (Ok None) leads by = tt
 tells_after old mid new (Err e) leads by = tt
 
-pub ends_after : (old mid new : Intake) (r : Result (Option Turn) InFault) → IntakeLeads old mid → IfOk r (λ o. IfNone o ((new ≡ mid) × Stands mid Waits)) → IfOk r (λ o. IfNone o (Ends old Waits))
+pub ends_after : (old mid new : Intake) (r : Result (Option Turn) InFault) → IntakeLeads old mid → IfOk r (λ o. IfNone o ((new ≡ mid) × Stands mid Waits)) → IfOk r (λ o. IfNone o (EndsIfStoodFor old Waits))
 ends_after old mid new (Ok (Some turn)) leads waits = tt
 ends_after old mid new (Ok None) leads waits = ends old Waits (leads [] [] Waits waits.1)
 ends_after old mid new (Err e) leads waits = tt
 
-pub keeps_after : (old mid new : Intake) (r : Result (Option Turn) InFault) → IntakeLeads old mid → IfOk r (λ o. IfNone o ((new ≡ mid) × Stands mid Waits)) → IfOk r (λ o. IfNone o (Keeps old new))
+pub keeps_after : (old mid new : Intake) (r : Result (Option Turn) InFault) → IntakeLeads old mid → IfOk r (λ o. IfNone o ((new ≡ mid) × Stands mid Waits)) → IfOk r (λ o. IfNone o (KeepsIfStoodFor old new))
 keeps_after old mid new (Ok (Some turn)) leads waits = tt
 keeps_after old mid new (Ok None) leads waits = keeps old new (subst (IntakeLeads old) (sym waits.0) leads)
 keeps_after old mid new (Err e) leads waits = tt
 
-pub keeps_failed : (old mid new : Intake) (r : Result (Option Turn) InFault) → IntakeLeads old mid → IfErr r (λ fault. (new ≡ mid) × (fault ≡ NoMemory)) → OnErr r (Keeps old new)
+pub keeps_failed : (old mid new : Intake) (r : Result (Option Turn) InFault) → IntakeLeads old mid → IfErr r (λ fault. (new ≡ mid) × (fault ≡ NoMemory)) → OnErr r (KeepsIfStoodFor old new)
 keeps_failed old mid new (Ok o) leads failed = tt
 keeps_failed old mid new (Err e) leads failed = keeps old new (subst (IntakeLeads old) (sym failed.0) leads)

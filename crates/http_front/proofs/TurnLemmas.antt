@@ -10,7 +10,7 @@ use Rattle.http_front.specs.declared.head.AskedHead.{AskedHead}
 use Rattle.http_front.specs.declared.turn.Turn.{Turn}
 use Rattle.http_front.specs.declared.turn.Turn.TheVariants.{Continue, Whole}
 use Rattle.http_front.specs.Heads.{HeadParts, parts_of, head_fault, Asks, head_with}
-use Rattle.http_front.specs.Turns.{End, Waits, Breaks, longest_head, window, BeginsWith, BeginsAsking, BeginsRefused, HasBody, with_body, Stops, BeginsWithRequest, AwaitsAskedBody, SpellsTurns}
+use Rattle.http_front.specs.Turns.{End, Waits, Breaks, longest_head, window, BeginsWith, BeginsAsking, BeginsRefused, HasBody, with_body, StopsIn, BeginsWithRequest, AwaitsAskedBody, SpellsTurns}
 
 -- ---- lists
 
@@ -112,7 +112,7 @@ pub record Short (a : AskedHead) (bytes : List ℕ) : Type 0 where
   pub unasked : a.awaits_continue ≡ false
   pub short : length bytes < a.body_length
 
-pub stops_short : (s more : List ℕ) (a : AskedHead) (r : List ℕ) (end : End) → BeginsAsking s a r → Stops (s ++ more) end → Short a (r ++ more)
+pub stops_short : (s more : List ℕ) (a : AskedHead) (r : List ℕ) (end : End) → BeginsAsking s a r → StopsIn (s ++ more) end → Short a (r ++ more)
 stops_short s more a r Waits x stops = ⊎_elim
     (λ awaits. absurd (not_awaited s more a r x awaits.0.0))
     (λ body.
@@ -137,7 +137,7 @@ whole_long a bytes request rest more body short =
     let size = ap length body.joined ∙ length-append body.body rest in
     omega (arith, size, length-append bytes more, body.whole, short)
 
-pub request_stays : (s more : List ℕ) (awaits : Bool) (request : Request) (rest : List ℕ) (end : End) → BeginsWithRequest s awaits request rest → Stops (s ++ more) end → ⊥
+pub request_stays : (s more : List ℕ) (awaits : Bool) (request : Request) (rest : List ℕ) (end : End) → BeginsWithRequest s awaits request rest → StopsIn (s ++ more) end → ⊥
 request_stays s more awaits request rest end b stops =
     whole_long b.asked b.bytes request rest more b.body (stops_short s more b.asked b.bytes end b.begins stops).short
 

@@ -14,6 +14,7 @@ use Rattle.http1.specs.Text.{eq_ignore_case}
 use Rattle.http1.specs.Fields.{elements_named, has_option}
 use Rattle.sp_base.specs.Requests.{Request, request_line}
 use Rattle.sp_base.specs.Fields.{field_of}
+use Rattle.sp_base.specs.Texts.{Pairs}
 use Rattle.http_front.specs.declared.fault.InFault.{InFault}
 use Rattle.http_front.specs.declared.fault.InFault.TheVariants.{BadHead, ManyHeaders, BadTarget, NoLength, BadLength, LongBody}
 use Rattle.http_front.specs.declared.head.AskedHead.{AskedHead}
@@ -26,7 +27,7 @@ pub record HeadParts : Type 0 where
   pub method : List ℕ
   pub target : List ℕ
   pub minor : ℕ
-  pub fields : List (List ℕ × List ℕ)
+  pub fields : Pairs
 
 -- the parts of a head that was parsed
 abbrev pub parts_of : RequestHead → HeadParts
@@ -37,27 +38,27 @@ abbrev pub lower_case_field : List ℕ × List ℕ → List ℕ × List ℕ
 lower_case_field field = (str_to_ascii_lowercase field.0, field.1)
 
 -- all fields, with their names in lower case
-abbrev pub heads : HeadParts → List (List ℕ × List ℕ)
+abbrev pub heads : HeadParts → Pairs
 heads p = map lower_case_field p.fields
 
 -- two fields have the name
-abbrev pub is_repeated : List ℕ → List (List ℕ × List ℕ) → Bool
+abbrev pub is_repeated : List ℕ → Pairs → Bool
 is_repeated name fields = nat_lt 1 (count_by (λ field. pointwise nat_eq field.0 name) fields)
 
 -- the value of a field that may stand once, or none where it doesn't stand
-abbrev pub once_in : {A : Type 0} → List ℕ → (Option (List ℕ) → Option A) → List (List ℕ × List ℕ) → Option A
+abbrev pub once_in : {A : Type 0} → List ℕ → (Option (List ℕ) → Option A) → Pairs → Option A
 once_in name reading fields = if is_repeated name fields then None else reading (field_of fields name)
 
 -- the host and the port that the Host field names (RFC 9110, section 7.2)
-abbrev pub asked_host : ℕ → List (List ℕ × List ℕ) → Option (List ℕ × ℕ)
+abbrev pub asked_host : ℕ → Pairs → Option (List ℕ × ℕ)
 asked_host minor fields = once_in (codes "host") (host_of minor) fields
 
 -- the length that Content-Length tells (RFC 9110, section 8.6)
-abbrev pub body_length : List (List ℕ × List ℕ) → Option ℕ
+abbrev pub body_length : Pairs → Option ℕ
 body_length fields = once_in (codes "content-length") length_of fields
 
 -- a body whose length Content-Length doesn't tell (RFC 9112, section 6.1)
-abbrev pub has_transfer_coding : List (List ℕ × List ℕ) → Bool
+abbrev pub has_transfer_coding : Pairs → Bool
 has_transfer_coding fields = is_some (field_of fields (codes "transfer-encoding"))
 
 -- the most fields of a head, and the most bytes of a body
@@ -69,7 +70,7 @@ abbrev pub longest_body : ℕ
 longest_body = 8388608
 
 -- what may be wrong with a head: the first that is decides
-abbrev pub refusals : ℕ → List ℕ → List (List ℕ × List ℕ) → List (Bool × InFault)
+abbrev pub refusals : ℕ → List ℕ → Pairs → List (Bool × InFault)
 refusals minor target fields =
     (is_none (asked_host minor fields), BadHead)
     ∷ (nat_lt most_fields (length fields), ManyHeaders)
@@ -80,7 +81,7 @@ refusals minor target fields =
     ∷ []
 
 -- the fault of the first of these that applies
-unfoldable pub first_refusal : ℕ → List ℕ → List (List ℕ × List ℕ) → Option InFault
+unfoldable pub first_refusal : ℕ → List ℕ → Pairs → Option InFault
 first_refusal minor target fields = option_map (λ refusal. refusal.1) (find (λ refusal. refusal.0) (refusals minor target fields))
 
 -- the fault of a head, if it has one
@@ -88,26 +89,26 @@ abbrev pub head_fault : HeadParts → Option InFault
 head_fault p = first_refusal p.minor p.target (heads p)
 
 -- what a head asks for, where host, target and length can be read
-pub record Asked : Type 0 where
+pub record AskedFields : Type 0 where
   pub host : List ℕ
   pub port : ℕ
   pub target : Target
   pub body_length : ℕ
 
 -- the same, of these
-abbrev pub asked_with : List ℕ × ℕ → Target → ℕ → Asked
+abbrev pub asked_with : List ℕ × ℕ → Target → ℕ → AskedFields
 asked_with host target n = record { host = host.0; port = host.1; target = target; body_length = n }
 
 -- what a head asks for, where its host, its target and its length can be read
-unfoldable pub asked_of : ℕ → List ℕ → List (List ℕ × List ℕ) → Option Asked
+unfoldable pub asked_of : ℕ → List ℕ → Pairs → Option AskedFields
 asked_of minor target fields = option_and_then (λ host. option_and_then (λ read. option_map (asked_with host read) (body_length fields)) (target_of target)) (asked_host minor fields)
 
 -- a Connection field has the option `close` (RFC 9110, section 7.6.1)
-abbrev pub asks_to_close : List (List ℕ × List ℕ) → Bool
+abbrev pub asks_to_close : Pairs → Bool
 asks_to_close fields = has_option (codes "close") (elements_named (codes "connection") fields)
 
 -- the connection closes after the answer: the request is of HTTP/1.0, or it asks for that (RFC 9112, section 9.3)
-abbrev pub is_closing : ℕ → List (List ℕ × List ℕ) → Bool
+abbrev pub is_closing : ℕ → Pairs → Bool
 is_closing minor fields = (minor == 0) || asks_to_close fields
 
 -- the same of the parts of a head
@@ -120,11 +121,11 @@ is_continue None = false
 is_continue (Some value) = eq_ignore_case value (codes "100-continue")
 
 -- a sender of HTTP/1.1 waits with its body for 100 Continue
-abbrev pub awaits_continue : ℕ → ℕ → List (List ℕ × List ℕ) → Bool
+abbrev pub awaits_continue : ℕ → ℕ → Pairs → Bool
 awaits_continue minor n fields = (minor == 1) && (nat_lt 0 n && is_continue (field_of fields (codes "expect")))
 
 -- the request that a head with these parts asks for, without its body
-abbrev pub request_with : List ℕ → List ℕ → ℕ → Asked → List (List ℕ × List ℕ) → Bool → Request
+abbrev pub request_with : List ℕ → List ℕ → ℕ → AskedFields → Pairs → Bool → Request
 request_with method line minor asked fields close = record {
   method = method;
   line = line;
@@ -140,7 +141,7 @@ request_with method line minor asked fields close = record {
 }
 
 -- the head with what it asks for
-abbrev pub head_with : HeadParts → Asked → AskedHead
+abbrev pub head_with : HeadParts → AskedFields → AskedHead
 head_with p asked = record {
   request = request_with p.method (request_line p.method p.target p.minor) p.minor asked (heads p) (closes_connection p);
   body_length = asked.body_length;
@@ -150,7 +151,7 @@ head_with p asked = record {
 -- nothing is wrong with a head, and this is what it asks for
 pub record Asks (p : HeadParts) (head : AskedHead) : Type 0 where
   pub faultless : head_fault p ≡ None
-  pub asked : Asked
+  pub asked : AskedFields
   pub asked_is : asked_of p.minor p.target (heads p) ≡ Some asked
   pub head_is : head ≡ head_with p asked
 
@@ -183,5 +184,5 @@ within_limit None = Err BadLength
 within_limit (Some n) = if nat_lt longest_body n then Err LongBody else Ok n
 
 -- the length of the body, or why it isn't read
-unfoldable pub length_or_fault : List (List ℕ × List ℕ) → Result ℕ InFault
+unfoldable pub length_or_fault : Pairs → Result ℕ InFault
 length_or_fault fields = if has_transfer_coding fields then Err NoLength else within_limit (body_length fields)

@@ -1,5 +1,5 @@
 -- What an intake has still to tell of the bytes that it has been given, and which stream it stands for.
--- `IntakeLeads`, `LeadsBy`, `IsBody`, `Advances` and `IsAtHead` are needed by private functions and proofs alone.
+-- `IntakeLeads`, `LeadsByTurn`, `IsBody`, `Advances` and `IsAtHead` are needed by private functions and proofs alone.
 use Rattle.std.specs.Prelude.{◌≡◌, ◌<◌, ◌+◌, ◌*◌, ◌++◌, ◌≤◌, ℕ, List, [], ◌∷◌, Option, Some, None, length, drop}
 use Rattle.http_front.specs.declared.fault.InFault.{InFault}
 use Rattle.http_front.specs.declared.head.AskedHead.{AskedHead}
@@ -50,20 +50,20 @@ told_fault i = fault_in i.phase
 -- ---- what one call leads to
 
 -- the intake stands for what it stood for
-abbrev pub Keeps : Intake → Intake → Type 0
-Keeps old new = (stream : List ℕ) (told : List Turn) → StandsFor old stream told → StandsFor new stream told
+abbrev pub KeepsIfStoodFor : Intake → Intake → Type 0
+KeepsIfStoodFor old new = (stream : List ℕ) (told : List Turn) → StandsFor old stream told → StandsFor new stream told
 
 -- one turn more has been told of what it stood for
-abbrev pub Tells : Intake → Intake → Turn → Type 0
-Tells old new turn = (stream : List ℕ) (told : List Turn) → StandsFor old stream told → StandsFor new stream (told ++ turn ∷ [])
+abbrev pub TellsIfStoodFor : Intake → Intake → Turn → Type 0
+TellsIfStoodFor old new turn = (stream : List ℕ) (told : List Turn) → StandsFor old stream told → StandsFor new stream (told ++ turn ∷ [])
 
 -- these bytes more have come of what it stood for
-abbrev pub Grows : Intake → Intake → List ℕ → Type 0
-Grows old new piece = (stream : List ℕ) (told : List Turn) → StandsFor old stream told → StandsFor new (stream ++ piece) told
+abbrev pub GrowsIfStoodFor : Intake → Intake → List ℕ → Type 0
+GrowsIfStoodFor old new piece = (stream : List ℕ) (told : List Turn) → StandsFor old stream told → StandsFor new (stream ++ piece) told
 
 -- the turns of what it stood for are all told, and end so
-abbrev pub Ends : Intake → End → Type 0
-Ends i end = (stream : List ℕ) (told : List Turn) → StandsFor i stream told → SpellsTurns stream told end
+abbrev pub EndsIfStoodFor : Intake → End → Type 0
+EndsIfStoodFor i end = (stream : List ℕ) (told : List Turn) → StandsFor i stream told → SpellsTurns stream told end
 
 -- a number that falls with each turn
 abbrev pub phase_weight : Phase → ℕ
@@ -82,8 +82,8 @@ abbrev pub IntakeLeads : Intake → Intake → Type 0
 IntakeLeads old new = (more : List ℕ) (turns : List Turn) (end : End) → RemainderSpells new more turns end → RemainderSpells old more turns end
 
 -- what was left of the old one is this turn, and then what is left of the new one
-abbrev pub LeadsBy : Intake → Intake → Turn → Type 0
-LeadsBy old new turn = (more : List ℕ) (turns : List Turn) (end : End) → RemainderSpells new more turns end → RemainderSpells old more (turn ∷ turns) end
+abbrev pub LeadsByTurn : Intake → Intake → Turn → Type 0
+LeadsByTurn old new turn = (more : List ℕ) (turns : List Turn) (end : End) → RemainderSpells new more turns end → RemainderSpells old more (turn ∷ turns) end
 
 -- nothing is left
 abbrev pub Stands : Intake → End → Type 0
@@ -97,7 +97,7 @@ IsBody (Failed fault) = ⊥
 
 -- the next head has been read, or there is none yet
 abbrev pub Advances : Intake → Intake → Advance → Type 0
-Advances old new Asked = LeadsBy old new Continue × (weight new < weight old)
+Advances old new Asked = LeadsByTurn old new Continue × (weight new < weight old)
 Advances old new Ready = IntakeLeads old new × IsBody new.phase × (weight new ≤ weight old)
 Advances old new Waiting = IntakeLeads old new × Stands old Waits
 

@@ -70,9 +70,9 @@ abbrev pub HasNoHead : List ℕ → InFault → Type 0
 HasNoHead stream fault = ((fault ≡ BadHead) × NeverHasRequest (window stream)) ⊎ ((fault ≡ LongHead) × (AwaitsHead stream × (longest_head ≤ length stream)))
 
 -- no turn is there, and so the stream ends
-abbrev pub Stops : List ℕ → End → Type 0
-Stops stream Waits = (AwaitsHead stream × (length stream < longest_head)) ⊎ AwaitsBody stream
-Stops stream (Breaks fault) = BeginsRefused stream fault ⊎ HasNoHead stream fault
+abbrev pub StopsIn : List ℕ → End → Type 0
+StopsIn stream Waits = (AwaitsHead stream × (length stream < longest_head)) ⊎ AwaitsBody stream
+StopsIn stream (Breaks fault) = BeginsRefused stream fault ⊎ HasNoHead stream fault
 
 -- the stream begins with a whole request, whose sender waits for 100 Continue or doesn't, and rest comes after it
 pub record BeginsWithRequest (stream : List ℕ) (awaits : Bool) (request : Request) (rest : List ℕ) : Type 0 where
@@ -93,7 +93,7 @@ pub record AwaitsAskedBody (stream : List ℕ) : Type 0 where
 -- The stream spells these turns, and ends so: whole requests, each after a Continue where its sender waits for one, and after them
 -- the bytes of no whole request.
 abbrev pub SpellsTurns : List ℕ → List Turn → End → Type 0
-SpellsTurns stream [] end = Stops stream end
+SpellsTurns stream [] end = StopsIn stream end
 SpellsTurns stream (Whole request ∷ turns) end = (rest : List ℕ) × BeginsWithRequest stream false request rest × SpellsTurns rest turns end
 SpellsTurns stream (Continue ∷ []) end = AwaitsAskedBody stream × (end ≡ Waits)
 SpellsTurns stream (Continue ∷ Continue ∷ turns) end = ⊥

@@ -49,7 +49,7 @@ impl Intake {
     ghost use Rattle.http_front.specs.declared.fault.InFault.{InFault};
     ghost use Rattle.http_front.specs.declared.fault.InFault.TheVariants.{NoMemory};
     ghost use Rattle.http_front.specs.Turns.{Waits, Breaks};
-    ghost use Rattle.http_front.specs.Intakes.{StandsFor, Grows, Keeps, Tells, Ends, weight, told_fault, rest_of, IntakeLeads, LeadsBy, Stands, IsBody, IsAtHead, Advances};
+    ghost use Rattle.http_front.specs.Intakes.{StandsFor, GrowsIfStoodFor, KeepsIfStoodFor, TellsIfStoodFor, EndsIfStoodFor, weight, told_fault, rest_of, IntakeLeads, LeadsByTurn, Stands, IsBody, IsAtHead, Advances};
 
     pub fn new(alloc: Global) -> Mem<Intake>
         ensures { IfOk result (λ intake. StandsFor intake [] []) }
@@ -64,8 +64,8 @@ impl Intake {
 
     /// Takes the next bytes of the stream.
     pub fn feed(&mut self, piece: &[u8]) -> Mem<()>
-        ensures ok { OnOk result (Grows self.old self.new piece.now) }
-        ensures err { OnErr result (Keeps self.old self.new) }
+        ensures ok { OnOk result (GrowsIfStoodFor self.old self.new piece.now) }
+        ensures err { OnErr result (KeepsIfStoodFor self.old self.new) }
     {
         self.drop_taken();
         self.buffer.extend_from_slice(piece)?;
@@ -89,11 +89,11 @@ impl Intake {
     /// The next turn of the stream; none where no whole one is there yet. After a fault other than out of memory it answers that
     /// fault again, whatever comes.
     pub fn next(&mut self, alloc: Global) -> Result<Option<Turn>, InFault>
-        ensures turn { IfOk result (λ o. IfSome o (Tells self.old self.new)) }
-        ensures waits { IfOk result (λ o. IfNone o (Ends self.old Waits)) }
-        ensures kept { IfOk result (λ o. IfNone o (Keeps self.old self.new)) }
-        ensures breaks { IfErr result (λ fault. fault ≢ NoMemory → Ends self.old (Breaks fault)) }
-        ensures err { OnErr result (Keeps self.old self.new) }
+        ensures turn { IfOk result (λ o. IfSome o (TellsIfStoodFor self.old self.new)) }
+        ensures waits { IfOk result (λ o. IfNone o (EndsIfStoodFor self.old Waits)) }
+        ensures kept { IfOk result (λ o. IfNone o (KeepsIfStoodFor self.old self.new)) }
+        ensures breaks { IfErr result (λ fault. fault ≢ NoMemory → EndsIfStoodFor self.old (Breaks fault)) }
+        ensures err { OnErr result (KeepsIfStoodFor self.old self.new) }
         ensures latched { IfErr result (λ fault. fault ≢ NoMemory → told_fault self.new ≡ Some fault) }
         ensures again { (fault : InFault) → told_fault self.old ≡ Some fault → result ≡ Err fault }
         ensures less { IfOk result (λ o. OnSome o (weight self.new < weight self.old)) }
@@ -146,7 +146,7 @@ impl Intake {
     // The request whose head was read, once its body is whole.
     fn take_body(&mut self, alloc: Global) -> Result<Option<Turn>, InFault>
         requires { IsBody self.old.phase }
-        ensures turn { IfOk result (λ o. IfSome o (LeadsBy self.old self.new)) }
+        ensures turn { IfOk result (λ o. IfSome o (LeadsByTurn self.old self.new)) }
         ensures less { IfOk result (λ o. OnSome o (weight self.new < weight self.old)) }
         ensures waits { IfOk result (λ o. IfNone o ((self.new ≡ self.old) × Stands self.old Waits)) }
         ensures err { IfErr result (λ fault. (self.new ≡ self.old) × (fault ≡ NoMemory)) }

@@ -17,7 +17,7 @@ use Rattle.cache_files.specs.Changes.{KeepsPages}
 use Rattle.cache_files.specs.Pages.{page_at, page_body_name}
 use Rattle.stat_files.specs.Stamps.{stamp_at}
 use Rattle.docroot_changes.specs.Changes.{IsStampFolder, Told, count_names}
-use Rattle.invalidation.specs.Slices.{IsBehind, IsHandlePage, IsListedPage, IsSlice, IsTakenFor, IsTakenFrom, Progress, SliceLeft, SliceLooked, SliceRemoves, files_taken, folders_of, is_passed, is_to_look_at, most_added, place_or_start, slice_names, stamps_written}
+use Rattle.invalidation.specs.Slices.{IsBehindPlace, IsHandlePage, IsListedPage, IsSlice, IsTakenFor, IsTakenFrom, Progress, SliceLeft, SliceLooked, SliceRemoves, files_taken, folders_of, is_passed, is_to_look_at, most_added, place_or_start, slice_names, stamps_written}
 use Rattle.invalidation.specs.Walks.{AreTouched, IsBegun, IsTakenFirst, SliceChange, TakesFiles, Walked, WalkedOn, handle_files, purge_step_of}
 use Rattle.invalidation.specs.declared.place.Place.{Place}
 use Rattle.invalidation.specs.declared.purge.Purge.{Purge}
@@ -144,7 +144,7 @@ walked_touched : (level : ℕ) (inv : Invalidation) (stamp : Stamp) (place : Opt
 walked_touched level inv stamp place seen old mid new now laws after walked f ok has = stamp_left inv seen mid new laws (as_listed inv seen seen mid new (omega arith) walked.takes) f ∙ after.touched f ok has
 
 walked_gone : (level : ℕ) (inv : Invalidation) (stamp : Stamp) (place : Option Place) (seen : ℕ) (old mid new : Files) (now : Place) → NameLaws inv → After level inv stamp place old mid → Walked (deleted_prefixes inv) (place_or_start place) now seen mid new
-    → (key : PageKey) → IsPageKey key → deletes inv key ≡ true → IsBehind inv (Some now) key → page_at new key ≡ None
+    → (key : PageKey) → IsPageKey key → deletes inv key ≡ true → IsBehindPlace inv (Some now) key → page_at new key ≡ None
 walked_gone level inv stamp place seen old mid new now laws after walked key page del behind =
     let still = λ (none : page_at mid key ≡ None). ⊎_elim (λ e. e ∙ none) (λ w. w.1) (page_left inv seen mid new laws (as_listed inv seen seen mid new (omega arith) walked.takes) key page) in
     ⊎_elim (λ path. still (after.gone key page del (inl path)))

@@ -66,11 +66,11 @@ touched_one apart old folder stamp may set = record {
       let is : other ≡ folder = sym ok.docroot.0 ∙ apart other folder ok.bytes may.bytes same ∙ may.docroot.0 in
       inr (subst (λ f. Contains (folder ∷ []) f) (sym is) (first folder), ap (stamp_at (files_with_stamp old folder stamp)) is ∙ set.here))
       (λ differ. inl (set.beside.stamps other ok (λ e. differ (ap stat_name e)))) (same_or_other (stat_name other) (stat_name folder));
-  files = λ name. written old folder (stat_text stamp.epoch stamp.count) name (eq_by_cmp by_name name (stat_name folder)) refl;
+  files = λ name. written old folder (stat_text stamp) name (eq_by_cmp by_name name (stat_name folder)) refl;
   number = set.beside.number;
   order = set.order;
   names = set.names;
-  loses = kept_file old (stat_name folder) (stat_text stamp.epoch stamp.count);
+  loses = kept_file old (stat_name folder) (stat_text stamp);
 }
 
 pub touches_none : (folders : List Segments) (most : ℕ) (stamp : Stamp) (files : Files) → Touches folders most stamp files files

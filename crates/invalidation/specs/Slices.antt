@@ -37,12 +37,12 @@ abbrev pub level_of : Purge → ℕ
 level_of purge = purge.level
 
 -- the stamp that the folders get
-abbrev pub stamp_of : Purge → Stamp
-stamp_of purge = purge.stamp
+abbrev pub purge_stamp : Purge → Stamp
+purge_stamp purge = purge.stamp
 
 -- how far it is among the names of the files, once it has begun
-abbrev pub place_of : Purge → Option Place
-place_of purge = purge.place
+abbrev pub purge_place : Purge → Option Place
+purge_place purge = purge.place
 
 -- it has made its first slice
 abbrev pub HasBegun : Purge → Type 0
@@ -84,9 +84,9 @@ abbrev pub names_written : Purge → Files → Files → ℕ
 names_written purge old new = count_names (λ name. is_to_look_at (deleted_prefixes purge.inv) purge.place name && not (is_some (file_at old name))) new
 
 -- the page stands behind the place of a flush that has begun: it is the one at the handle, or the name of its body was looked at
-abbrev pub IsBehind : Invalidation → Option Place → PageKey → Type 0
-IsBehind inv None key = ⊥
-IsBehind inv (Some place) key = (page_path key ≡ handle_of inv) ⊎ IsTrue (is_passed (deleted_prefixes inv) place (body_name key.folder key.file))
+abbrev pub IsBehindPlace : Invalidation → Option Place → PageKey → Type 0
+IsBehindPlace inv None key = ⊥
+IsBehindPlace inv (Some place) key = (page_path key ≡ handle_of inv) ⊎ IsTrue (is_passed (deleted_prefixes inv) place (body_name key.folder key.file))
 
 -- ---- how far a flush is
 
@@ -96,7 +96,7 @@ AllTouched purge stat = (folder : Segments) → IsStampFolder folder → Contain
 
 -- no page that it deletes stands behind its place
 abbrev pub BehindGone : Purge → (PageKey → Option Page) → Type 0
-BehindGone purge page = (key : PageKey) → IsPageKey key → deletes purge.inv key ≡ true → IsBehind purge.inv purge.place key → page key ≡ None
+BehindGone purge page = (key : PageKey) → IsPageKey key → deletes purge.inv key ≡ true → IsBehindPlace purge.inv purge.place key → page key ≡ None
 
 -- no page that it deletes is there
 abbrev pub AllGone : Purge → (PageKey → Option Page) → Type 0
@@ -152,7 +152,7 @@ IsStatOf folders name = (folder : Segments) × (Contains folders folder × (name
 -- each file is as it was, or has a name of which the first holds, and is gone, or one of which the second holds, and holds the stamp
 abbrev pub ChangesFiles : (IsTaken IsStamped : Text → Type 0) → Stamp → Files → Files → Type 0
 ChangesFiles IsTaken IsStamped stamp old new = (name : Text) → (file_at new name ≡ file_at old name)
-    ⊎ ((IsTaken name × (file_at new name ≡ None)) ⊎ (IsStamped name × (file_at new name ≡ Some (stat_text stamp.epoch stamp.count))))
+    ⊎ ((IsTaken name × (file_at new name ≡ None)) ⊎ (IsStamped name × (file_at new name ≡ Some (stat_text stamp))))
 
 -- whichever names are counted, at most so many files fewer have one of them
 abbrev pub LosesNames : ℕ → Files → Files → Type 0

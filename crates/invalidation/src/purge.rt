@@ -3,7 +3,7 @@ ghost use Rattle.std.specs.Prelude.{◌≡◌, None, OnOk, Some};
 ghost use Rattle.docroot_format.specs.Faults.{HasFileCause};
 ghost use Rattle.docroot_changes.specs.Changes.{Told};
 ghost use Rattle.docroot_changes.specs.DocrootCalls.{MakesDocrootCalls};
-ghost use Rattle.invalidation.specs.Slices.{HasSliceCause, IsSamePurge, IsSlice, inv_of, level_of, place_of, place_or_start, stamp_of};
+ghost use Rattle.invalidation.specs.Slices.{HasSliceCause, IsSamePurge, IsSlice, inv_of, level_of, purge_place, place_or_start, purge_stamp};
 ghost use Rattle.invalidation.specs.Walks.{IsBegun, purge_step_of, BeginsSlice};
 
 use crate::opening::open;
@@ -44,8 +44,8 @@ impl Purge {
     pub fn begin(level: usize, inv: Invalidation, stamp: Stamp) -> Purge
         ensures level { level_of result ≡ level }
         ensures inv { inv_of result ≡ inv }
-        ensures stamp { stamp_of result ≡ stamp }
-        ensures place { place_of result ≡ None }
+        ensures stamp { purge_stamp result ≡ stamp }
+        ensures place { purge_place result ≡ None }
     {
         Purge {
             level,

@@ -143,7 +143,7 @@ impl Connection {
     }
 
     // What follows an answer begins a request only where nothing else came with what was asked, and all of it came.
-    fn answered(&mut self) {
+    fn note_answer(&mut self) {
         self.known = match self.known {
             Known::Asked(Some(0)) => Known::Answered,
             _ => Known::Nothing,
@@ -190,12 +190,12 @@ impl OpenRequests {
     }
 
     /// Takes note of an answer that was sent.
-    pub fn answered(&mut self, conn: u32, answer: &[u8]) {
+    pub fn note_answer(&mut self, conn: u32, answer: &[u8]) {
         if answer.starts_with(INTERIM) {
             return;
         }
         if let Some(connection) = self.connections.get_mut(conn as usize) {
-            connection.answered();
+            connection.note_answer();
         }
     }
 

@@ -109,7 +109,7 @@ impl<R: Eprint + Files + Env + Drop> Report<R> {
     }
 
     /// Tells how serving ended.
-    pub(crate) fn ended(&self, status: u8) {
+    pub(crate) fn end(&self, status: u8) {
         let _ = eprintln!(self.rt; "sling_dispatch: ended with status {status}");
     }
 }

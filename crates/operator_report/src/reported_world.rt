@@ -52,11 +52,11 @@ impl<'a, W: World + Drop, L: Words + Drop, R: Eprint + Files + Env + Drop> Repor
     }
 
     /// The world in it, once it was told how serving ended, where it began.
-    pub fn ended(self, status: u8) -> W
+    pub fn end(self, status: u8) -> W
         ensures { result ≡ self.entry.world }
     {
         if self.was_asked {
-            self.report.ended(status);
+            self.report.end(status);
         }
         self.world
     }
@@ -75,7 +75,7 @@ impl<'a, W: World + Drop, L: Words + Drop, R: Eprint + Files + Env + Drop> Repor
         ensures { self.new.world ≡ self.old.world }
     {
         self.report.answer(conn, answer, &self.open);
-        self.open.answered(conn, answer);
+        self.open.note_answer(conn, answer);
     }
 
     // Looks at what came.

@@ -33,13 +33,9 @@ is_connected log c = open_after_all c false log
 
 -- whether an entry is the end of a connection
 abbrev pub ends_connection : ℕ → WorldEntry → Bool
-ends_connection c (Came (Opened d peer)) = false
-ends_connection c (Came (Piece d bytes)) = false
 ends_connection c (Came (Gone d)) = d == c
-ends_connection c (Came Quiet) = false
-ends_connection c (Sent d bytes) = false
-ends_connection c (Unsent d) = false
 ends_connection c (Shut d) = d == c
+ends_connection c _ = false
 
 -- An opening of a connection stands in the log, and no end of it after that.
 pub record HasOpening (log : List WorldEntry) (c : ℕ) : Type 0 where

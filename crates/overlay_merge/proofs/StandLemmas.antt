@@ -8,7 +8,7 @@ use Rattle.std.proofs.lemmas.List.Elements.{filter-append}
 use Rattle.std.proofs.lemmas.Map.Keys.{IsDistinct-IsPermutation}
 use Rattle.overlay_merge.specs.Hiding.{merged_from}
 use Rattle.overlay_merge.specs.Kids.{has_text, names_after_move}
-use Rattle.overlay_merge.specs.Moves.{AreDistinct, IsNotMoved, KidsAreDistinct, StandsBefore, without_name}
+use Rattle.overlay_merge.specs.Moves.{AreDistinct, IsNotMoved, UnmovedKidsAreDistinct, StandsBefore, without_name}
 use Rattle.overlay_merge.proofs.KidLemmas.{are_nodes_merged}
 use Rattle.overlay_merge.proofs.LawLemmas.{moved-reorders}
 use Rattle.overlay_merge.proofs.MoveLemmas.{but, but_none, moved_at, moved_none, moved_nowhere, moved_same, self}
@@ -84,7 +84,7 @@ not_moved name (Some other) names (inl same) = moved_same name other names same
 not_moved name (Some other) names (inr (inl none)) = moved_none name other names none
 not_moved name (Some other) names (inr (inr none)) = moved_nowhere name other names none
 
-pub kids_differ : KidsAreDistinct
+pub kids_differ : UnmovedKidsAreDistinct
 kids_differ tree path good = distinct_there tree path (merged_from tree path) good.shape (are_nodes_merged tree path)
 
 pub still_differ : (name : List ℕ) (wish : Option (List ℕ)) (names : List (List ℕ)) → AreDistinct names → AreDistinct (names_after_move name wish names)

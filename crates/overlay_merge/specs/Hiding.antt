@@ -4,12 +4,12 @@ use Rattle.std.specs.List.{list_any}
 use Rattle.std.specs.Option.{option_map_or}
 use Rattle.std.specs.Cmp.Lexicographic.{pointwise}
 use Rattle.std.specs.FinMap.Entries.{find}
-use Rattle.sp_base.specs.Texts.{Segments}
+use Rattle.sp_base.specs.Texts.{Segments, Properties}
 use Rattle.sp_base.specs.Names.{by_name}
 use Rattle.sp_base.specs.Paths.{is_path}
 use Rattle.sp_base.specs.Properties.{value_texts}
 use Rattle.sp_base.specs.declared.value.Value.{Value}
-use Rattle.sp_base.specs.declared.value.Value.TheVariants.{Text, Long, Truth, Texts, Longs, Truths}
+use Rattle.sp_base.specs.declared.value.Value.TheVariants.{Truth}
 use Rattle.resource_tree.specs.Content.{Content, node_at}
 use Rattle.resource_tree.specs.Seen.{Resource, res_at}
 use Rattle.overlay_merge.specs.declared.layers.Layer.{Layer}
@@ -19,13 +19,8 @@ use Rattle.overlay_merge.specs.Layers.{layers_of}
 
 -- the one truth value true
 abbrev pub is_value_true : Option Value → Bool
-is_value_true None = false
-is_value_true (Some (Text t)) = false
-is_value_true (Some (Long n)) = false
 is_value_true (Some (Truth b)) = b
-is_value_true (Some (Texts ts)) = false
-is_value_true (Some (Longs ns)) = false
-is_value_true (Some (Truths bs)) = false
+is_value_true _ = false
 
 -- a text stands for a name where it is that name, and `*` stands for each name
 abbrev pub text_stands_for : List ℕ → List ℕ → Bool
@@ -36,11 +31,11 @@ abbrev pub lists_name : Option Value → List ℕ → Bool
 lists_name value name = list_any (text_stands_for name) (value_texts value)
 
 -- whether properties hide their resource
-abbrev pub hides_resource : List (List ℕ × Value) → Bool
+abbrev pub hides_resource : Properties → Bool
 hides_resource props = is_value_true (find by_name (codes "sling:hideResource") props)
 
 -- whether properties hide a kid of their resource
-abbrev pub hides_kid : List ℕ → List (List ℕ × Value) → Bool
+abbrev pub hides_kid : List ℕ → Properties → Bool
 hides_kid name props = lists_name (find by_name (codes "sling:hideChildren") props) name
 
 -- whether the node at a path hides its resource

@@ -55,12 +55,12 @@ abbrev pub names_like : List ℕ → List Text → List Text
 names_like name names = if has_text names name then name ∷ [] else []
 
 -- the same resource without its kids but for that of one name
-abbrev pub with_kid : List ℕ → Resource → Resource
-with_kid name res = record res { kids = names_like name res.kids }
+abbrev pub with_only_kid : List ℕ → Resource → Resource
+with_only_kid name res = record res { kids = names_like name res.kids }
 
 -- what is seen at a path, where resources are merged without its kids but for that of one name
 unfoldable pub merged_with_kid : Content → Segments → List ℕ → Option Resource
-merged_with_kid tree path name = if is_merged_path path then option_map (with_kid name) (merged_resource tree path) else merged_resource tree path
+merged_with_kid tree path name = if is_merged_path path then option_map (with_only_kid name) (merged_resource tree path) else merged_resource tree path
 
 -- where one layer alone is a node and it isn't cut, the resource is that node without the four names that steer the merging
 abbrev pub OnlyLayersAreShown : Type 0

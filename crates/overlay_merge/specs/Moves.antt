@@ -31,8 +31,8 @@ pub record IsMovable (names : List Text) (name other : Text) : Type 0 where
   pub named : has_text names other ≡ true
 
 -- all names but this one are as before, in their order
-abbrev pub KeepsOthers : Text → List Text → List Text → Type 0
-KeepsOthers name old new = without_name name new ≡ without_name name old
+abbrev pub KeepsOtherNames : Text → List Text → List Text → Type 0
+KeepsOtherNames name old new = without_name name new ≡ without_name name old
 
 -- a name isn't moved: it wishes nothing, names itself, isn't there, or what it names isn't
 abbrev pub IsNotMoved : List Text → Text → Option Text → Type 0
@@ -40,5 +40,5 @@ IsNotMoved names name None = Unit {0}
 IsNotMoved names name (Some other) = (pointwise nat_eq name other ≡ true) ⊎ ((has_text names name ≡ false) ⊎ (has_text names other ≡ false))
 
 -- in a good tree no kid of a merged resource is there twice before the first is moved
-abbrev pub KidsAreDistinct : Type 0
-KidsAreDistinct = (tree : Content) (path : Segments) → IsGood tree → AreDistinct (kids_there tree path (all_kids (merged_from tree path)))
+abbrev pub UnmovedKidsAreDistinct : Type 0
+UnmovedKidsAreDistinct = (tree : Content) (path : Segments) → IsGood tree → AreDistinct (kids_there tree path (all_kids (merged_from tree path)))

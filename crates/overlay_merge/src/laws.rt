@@ -13,7 +13,7 @@ ghost use Rattle.overlay_merge.specs.Cut.{HidesNothing, IsOfLayer, LayerIsCut, N
 ghost use Rattle.overlay_merge.specs.Kids.{all_kids, layers_kids, kids_there, SomeLayerHasKid, GivesKid, IsKidMerged};
 ghost use Rattle.overlay_merge.specs.Kids.{names_after_move};
 ghost use Rattle.overlay_merge.specs.Layers.{layer_below, override_layers};
-ghost use Rattle.overlay_merge.specs.Moves.{AreDistinct, IsMovable, IsNotMoved, KeepsOthers, KidsAreDistinct, StandsBefore};
+ghost use Rattle.overlay_merge.specs.Moves.{AreDistinct, IsMovable, IsNotMoved, KeepsOtherNames, UnmovedKidsAreDistinct, StandsBefore};
 ghost use Rattle.overlay_merge.specs.Steps.{AreLayerSteps, AreTheLayersIfSteps, IsBelow};
 ghost use Rattle.overlay_merge.specs.Merged.{has_resource, merged_resource, OnlyLayersAreShown, OnlyLayersKeepTheirKids, PropertiesAreOfLayers, KidsAreOfLayers, ListsKid};
 
@@ -78,8 +78,8 @@ pub fn the_layers_of_an_override_are_determined()
 /// (`stays`). In a good tree no name is twice among the kids that are ordered (`kids`), nor after a move (`after`).
 pub fn a_moved_kid_stands_before_the_one_it_names()
     ensures directly { (name other : Text) (names : List Text) → IsMovable names name other → StandsBefore (names_after_move name (Some other) names) name other }
-    ensures others { (name other : Text) (names : List Text) → IsMovable names name other → KeepsOthers name names (names_after_move name (Some other) names) }
+    ensures others { (name other : Text) (names : List Text) → IsMovable names name other → KeepsOtherNames name names (names_after_move name (Some other) names) }
     ensures stays { (name : Text) (wish : Option Text) (names : List Text) → IsNotMoved names name wish → names_after_move name wish names ≡ names }
-    ensures kids { KidsAreDistinct }
+    ensures kids { UnmovedKidsAreDistinct }
     ensures after { (name : Text) (wish : Option Text) (names : List Text) → AreDistinct names → AreDistinct (names_after_move name wish names) }
 {}

@@ -2,7 +2,7 @@
 ghost use Rattle.std.specs.Prelude.{◌≡◌, IfOk, not, filter, option_map};
 ghost use Rattle.overlay_merge.specs.Hiding.{merged_from};
 ghost use Rattle.overlay_merge.specs.Roots.{is_name_of_root};
-ghost use Rattle.overlay_merge.specs.Merged.{has_resource, kids_in, merge, merged_resource, merged_alone, merged_with_kid, unmerged_resource, with_kid, without_kids};
+ghost use Rattle.overlay_merge.specs.Merged.{has_resource, kids_in, merge, merged_resource, merged_alone, merged_with_kid, unmerged_resource, with_only_kid, without_kids};
 
 use crate::kids::{kids_like, kids_of};
 use crate::merged_resources::merged_from;
@@ -99,7 +99,7 @@ fn merge_with_kid<'a>(
     path: &Path,
     name: &str,
 ) -> Mem<Option<Res<'a>>>
-    ensures { IfOk result (λ o. o ≡ option_map (with_kid name.now) (merge tree.now path.now (merged_from tree.now path.now))) }
+    ensures { IfOk result (λ o. o ≡ option_map (with_only_kid name.now) (merge tree.now path.now (merged_from tree.now path.now))) }
 {
     let layers = merged_from(alloc, tree, path)?;
     if layers.is_empty() {

@@ -8,7 +8,7 @@ use Rattle.cover_rules.specs.Pages.{IsPageKey}
 use Rattle.cover_rules.specs.declared.invalidation.Invalidation.{Invalidation}
 use Rattle.cover_rules.specs.declared.page.PageKey.{PageKey}
 use Rattle.cover_rules.specs.declared.stamp.Stamp.{Stamp}
-use Rattle.cache_files.specs.Pages.{head_at, known_at, page_at, page_body_name, page_of, page_under}
+use Rattle.cache_files.specs.Pages.{head_at, known_at, page_at, page_body_name, plain_page, page_under}
 use Rattle.cache_files.specs.declared.head_note.HeadNote.{HeadNote}
 use Rattle.cache_files.specs.declared.page.Page.{Page}
 use Rattle.stat_files.specs.Stamps.{stamp_at}
@@ -136,10 +136,10 @@ no_body head = none_after (λ h. option_and_then (page_under h) None) (λ h. ref
 body_is : (head : HeadNote) (bytes : Text) (page : Page) → page_under head bytes ≡ Some page → page.answer.body ≡ bytes
 body_is head bytes page e = by (length bytes == head.length) e
   where
-    by : (b : Bool) → (if b then Some (page_of head.stamp head.kind bytes) else None) ≡ Some page → page.answer.body ≡ bytes
+    by : (b : Bool) → (if b then Some (plain_page head.stamp head.kind bytes) else None) ≡ Some page → page.answer.body ≡ bytes
     by true e = sym (ap (λ (p : Page). p.answer.body) (one e))
       where
-        one : Some (page_of head.stamp head.kind bytes) ≡ Some page → page_of head.stamp head.kind bytes ≡ page
+        one : Some (plain_page head.stamp head.kind bytes) ≡ Some page → plain_page head.stamp head.kind bytes ≡ page
         one e = cc e
     by false e = absurd (none_some page e)
 

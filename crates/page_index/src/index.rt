@@ -1,7 +1,7 @@
 //! The index.
 ghost use Rattle.std.specs.Prelude.{◌≡◌, ◌⊎◌, ◌≤◌, [], Contains, IfOk, IfSome, None, OnErr, OnOk, Some, true, length, option_copied, option_map};
 ghost use Rattle.sp_base.specs.Texts.{Segments};
-ghost use Rattle.page_index.specs.Effects.{ForgetsCovered, ForgetsPage, ForgetsStamp, IsBare, SetsPage, SetsStamp, PagesStayOrFall};
+ghost use Rattle.page_index.specs.Effects.{ForgetsCovered, ForgetsPage, IsBare, SetsPage, SetsStamp, PagesStayOrFall};
 ghost use Rattle.page_index.specs.Held.{after_hit, fresh_note, has_room, weight_of};
 ghost use Rattle.page_index.specs.Held as held;
 ghost use Rattle.page_index.specs.Limits.{longest_kept, most_bytes, most_notes};
@@ -124,7 +124,7 @@ impl PageIndex {
     }
 
     /// Lets the note of a page that is asked for stay longer than those that aren't.
-    pub fn asked(&mut self, key: &PageKey) -> Mem<()>
+    pub fn note_asked(&mut self, key: &PageKey) -> Mem<()>
         ensures ok { OnOk result (SetsPage key.now longest_kept (page_noted self.old key.now) self.old self.new) }
         ensures err { OnErr result (SetsPage key.now longest_kept None self.old self.new) }
     {
@@ -152,13 +152,6 @@ impl PageIndex {
         ensures { ForgetsPage key.now self.old self.new }
     {
         drop(self.take(key));
-    }
-
-    /// Forgets a folder's stamp. It takes no memory.
-    pub fn forget_stat(&mut self, folder: &Path)
-        ensures { ForgetsStamp folder.now self.old self.new }
-    {
-        self.stamps.forget(folder);
     }
 
     /// Forgets all. It takes no memory.

@@ -2,7 +2,7 @@
 use Rattle.std.specs.Prelude.{◌≡◌, ◌<◌, ◌^◌, ℕ, Bool, true, false, List, IsTrue, IfErr}
 use Rattle.sp_base.specs.Texts.{Segments}
 use Rattle.resource_tree.specs.declared.faults.TreeFault.{TreeFault}
-use Rattle.resource_tree.specs.declared.faults.TreeFault.TheVariants.{NoSuch, RootFixed, IntoItself, Exists, Taken, NoSibling, TooDeep, FullTree, NoMemory as NoMemoryOfTree}
+use Rattle.resource_tree.specs.declared.faults.TreeFault.TheVariants.{NoMemory as NoMemoryOfTree}
 use Rattle.resource_tree.specs.Content.{Content, IsGood}
 use Rattle.post_plan.specs.declared.operation.Op.{Op}
 use Rattle.post_plan.specs.declared.operation.NameWish.TheVariants.{Hint}
@@ -18,15 +18,8 @@ OperationsKeepContentGood = (op : Op) (tree : Content) → IsTrue (names_paths o
 
 -- whether a tree's fault is that memory ran out
 abbrev pub is_tree_out_of_memory : TreeFault → Bool
-is_tree_out_of_memory (NoSuch path) = false
-is_tree_out_of_memory RootFixed = false
-is_tree_out_of_memory IntoItself = false
-is_tree_out_of_memory (Exists path) = false
-is_tree_out_of_memory (Taken path) = false
-is_tree_out_of_memory NoSibling = false
-is_tree_out_of_memory TooDeep = false
-is_tree_out_of_memory FullTree = false
 is_tree_out_of_memory NoMemoryOfTree = true
+is_tree_out_of_memory _ = false
 
 -- a fault that is no cause of the content's or the form's
 abbrev pub is_post_out_of_memory : ApplyFault → Bool

@@ -21,7 +21,7 @@ use Rattle.post_apply.specs.Carries.{bring, carry_at, carry_node}
 use Rattle.post_apply.specs.Names.{name_given}
 use Rattle.post_apply.specs.Posting.{PostEffect, PostedNode, carry, modify_outcome, modify, modify_at, post_outcome, remove, posted_node, posted_node_of}
 use Rattle.post_laws.specs.Laws.{IsAsBefore, LeavesWhatIsApart}
-use Rattle.post_laws.specs.Places.{IsApart, IsApartFrom, goal_path, places_of, set_path, source_path}
+use Rattle.post_laws.specs.Places.{IsApart, IsApartFrom, goal_path, places_named, set_path, source_path}
 use Rattle.post_laws.proofs.StepLemmas.{all_both, all_of_map, all_split, any_is, deep_is, followed, for_each, full_spot, okay, weaker, when}
 use Rattle.post_laws.proofs.ApartLemmas.{Keeps, Stays, chained, kept_bring, kept_carry_node, kept_deleted, kept_on_way, kept_placed, kept_removed, kept_way, turns}
 
@@ -62,7 +62,7 @@ module _ (tree : Content) (q : List (List ℕ)) (good : IsGood tree) where
 
   -- ---- a change of a node
 
-  change_kept : (op : ModifyOp) (at : PostedNode) → IsApartFrom tree q (places_of at.node (Modify op)) → Remains at.content → Leaves (modify_outcome op at)
+  change_kept : (op : ModifyOp) (at : PostedNode) → IsApartFrom tree q (places_named at.node (Modify op)) → Remains at.content → Leaves (modify_outcome op at)
   change_kept op at apart stays =
       let node = at.node in
       let one = all_split Clear (map (full_path node) op.deletes) _ apart.1 in
@@ -112,21 +112,21 @@ module _ (tree : Content) (q : List (List ℕ)) (good : IsGood tree) where
   by_modify : (op : ModifyOp) → IfOk (modify op tree) (Untouched (Modify op))
   by_modify op =
       followed Begins (Untouched (Modify op)) (posted_node_of op.target op.fresh tree) (modify_at op) (begun op.target op.fresh) (λ at is.
-      let Free : Type 0 = IsApartFrom tree q (places_of at.node (Modify op)) in
+      let Free : Type 0 = IsApartFrom tree q (places_named at.node (Modify op)) in
       followed (λ (t : Content). Free → IsAsBefore tree q t) (Untouched (Modify op)) (modify_outcome op at) _
       (when (IsAsBefore tree q) Free (modify_outcome op at) (λ free. just_same (modify_outcome op at) (change_kept op at free (is free.0))))
       (λ t h. h))
 
   by_remove : (path : List (List ℕ)) → IfOk (remove path tree) (Untouched (Delete path))
   by_remove path =
-      let Free : Type 0 = IsApartFrom tree q (places_of path (Delete path)) in
+      let Free : Type 0 = IsApartFrom tree q (places_named path (Delete path)) in
       followed (λ (t : Content). Free → IsAsBefore tree q t) (Untouched (Delete path)) (removal_outcome tree path) _
       (when (IsAsBefore tree q) Free (removal_outcome tree path) (λ free. just_same (removal_outcome tree path) (kept_removed tree q tree path free.0 (refl, λ n there_. there_))))
       (λ t h. h)
 
   by_copy : (op : CarryOp) → IfOk (carry false op tree) (Untouched (Copy op))
   by_copy op =
-      let Free : Type 0 = IsApartFrom tree q (places_of op.to (Copy op)) in
+      let Free : Type 0 = IsApartFrom tree q (places_named op.to (Copy op)) in
       let there = carry_node false op.replace op.from op.to tree in
       followed (λ (t : Content). Free → IsAsBefore tree q t) (Untouched (Copy op)) there _
       (when (IsAsBefore tree q) Free there (λ free. just_same there (kept_carry_node tree q false op.replace op.from op.to tree (λ e. absurd (false≢true e)) free.0 (refl, λ n there_. there_))))
@@ -134,7 +134,7 @@ module _ (tree : Content) (q : List (List ℕ)) (good : IsGood tree) where
 
   by_move : (op : CarryOp) → IfOk (carry true op tree) (Untouched (Move op))
   by_move op =
-      let Free : Type 0 = IsApartFrom tree q (places_of op.to (Move op)) in
+      let Free : Type 0 = IsApartFrom tree q (places_named op.to (Move op)) in
       let there = carry_node true op.replace op.from op.to tree in
       followed (λ (t : Content). Free → IsAsBefore tree q t) (Untouched (Move op)) there _
       (when (IsAsBefore tree q) Free there (λ free. just_same there (kept_carry_node tree q true op.replace op.from op.to tree (λ _. free.0) free.1.0 (refl, λ n there_. there_))))

@@ -35,14 +35,14 @@ use Rattle.post_apply.specs.Names.{name_given}
 use Rattle.post_apply.specs.Posting.{PostEffect, PostedNode, content_placed, modify_at, modify_outcome, post_outcome, posted_node, posted_node_of}
 use Rattle.post_laws.specs.Places.{goal_path, set_path}
 use Rattle.post_laws.specs.Laws.{IsGoneUnlessNamed}
-use Rattle.post_laws.specs.Decided.{IsBeside, IsGone, IsNamedNoMore}
+use Rattle.post_laws.specs.Decided.{IsBeside, HasNothingAt, IsNamedNoMore}
 use Rattle.post_laws.proofs.StepLemmas.{all_of_map, all_split, any_is, beside_part, by_test, followed, for_each, full_spot, okay, refused, unless_begun, unless_holds, when}
 use Rattle.post_laws.proofs.PropertyLemmas.{first_clear, lost, none_there, not_root, not_self, not_the_root, nothing_free, parent_clear, prop_changed, prop_cleared, prop_cleared_own, prop_created, prop_put, prop_removed}
 
 module _ (path : List (List ℕ)) where
   -- a content in which nothing is at the path
   abbrev Gone : Content → Type 0
-  Gone t = IsGone path t
+  Gone t = HasNothingAt path t
 
   -- a content in which not both a node and a property are at the path
   abbrev OneKind : Content → Type 0
@@ -313,6 +313,6 @@ gone_after op tree before later spot good are =
     let Q : PostEffect → Type 0 = IsGoneUnlessNamed op spot in
     followed Begins Q (posted_node_of op.target op.fresh tree) (modify_at op) (begun op.target op.fresh tree good) (λ at one.
     let path : List (List ℕ) = full_path at.node spot in
-    followed (λ (t : Content). IsNamedNoMore at.node path op → IsGone path t) Q (modify_outcome op at) _
-    (when (IsGone path) (IsNamedNoMore at.node path op) (modify_outcome op at) (λ named. gone_in_change path op at before later spot are refl named (one path)))
+    followed (λ (t : Content). IsNamedNoMore at.node path op → HasNothingAt path t) Q (modify_outcome op at) _
+    (when (HasNothingAt path) (IsNamedNoMore at.node path op) (modify_outcome op at) (λ named. gone_in_change path op at before later spot are refl named (one path)))
     (λ t h. h))

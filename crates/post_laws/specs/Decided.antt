@@ -26,7 +26,7 @@ pub record HasItsValue (node : Segments) (set : PropSet) (after : Content) : Typ
 -- ---- a removal
 
 -- neither a node nor a property is at a path
-pub record IsGone (path : Segments) (after : Content) : Type 0 where
+pub record HasNothingAt (path : Segments) (after : Content) : Type 0 where
   pub no_node : node_at after path ≡ None
   pub no_property : property_at after path ≡ None
 

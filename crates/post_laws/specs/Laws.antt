@@ -9,8 +9,8 @@ use Rattle.post_plan.specs.declared.operation.Op.{Op}
 use Rattle.post_plan.specs.declared.operation.Op.TheVariants.{Modify}
 use Rattle.post_plan.specs.Spots.{full_path}
 use Rattle.post_apply.specs.Posting.{PostEffect, post_outcome}
-use Rattle.post_laws.specs.Places.{IsApartFrom, places_of, set_path}
-use Rattle.post_laws.specs.Decided.{HasItsValue, IsGone, IsNamedNoMore, is_set_at}
+use Rattle.post_laws.specs.Places.{IsApartFrom, places_named, set_path}
+use Rattle.post_laws.specs.Decided.{HasItsValue, HasNothingAt, IsNamedNoMore, is_set_at}
 
 -- the node at a path is as before: with the same properties and the same kids in their order, and none where none was
 abbrev pub IsAsBefore : Content → Segments → Content → Type 0
@@ -18,7 +18,7 @@ IsAsBefore tree path after = node_at after path ≡ node_at tree path
 
 -- what an operation leaves as it was: a path that is apart from all its places
 abbrev pub LeavesWhatIsApart : Op → Content → Segments → PostEffect → Type 0
-LeavesWhatIsApart op tree path done = IsApartFrom tree path (places_of done.report.path op) → IsAsBefore tree path done.content
+LeavesWhatIsApart op tree path done = IsApartFrom tree path (places_named done.report.path op) → IsAsBefore tree path done.content
 
 -- so does each operation that isn't refused, in the content of a tree
 abbrev pub OperationsLeaveWhatIsApart : Type 0
@@ -35,7 +35,7 @@ LastValuesStay = (op : ModifyOp) (tree : Content) (before later : List PropSet) 
 
 -- nothing is where something was taken away, unless a move, a copy or a value names that place, or one above or under it
 abbrev pub IsGoneUnlessNamed : ModifyOp → Spot → PostEffect → Type 0
-IsGoneUnlessNamed op spot done = IsNamedNoMore done.report.path (full_path done.report.path spot) op → IsGone (full_path done.report.path spot) done.content
+IsGoneUnlessNamed op spot done = IsNamedNoMore done.report.path (full_path done.report.path spot) op → HasNothingAt (full_path done.report.path spot) done.content
 
 -- so it is with each removal of a change that isn't refused, in the content of a tree
 abbrev pub RemovalsStayUnlessNamed : Type 0

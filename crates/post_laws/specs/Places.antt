@@ -33,12 +33,12 @@ places_of_change node op = node ∷ (map (full_path node) op.deletes
     ++ (map (goal_path node) op.moves ++ (map (goal_path node) op.copies ++ map (set_path node) op.sets))))
 
 -- the places of an operation, where this is the node that it makes or modifies. What is copied is none of them: it stays as it is.
-abbrev pub places_of : Segments → Op → List Segments
-places_of node (Nop target) = []
-places_of node (Delete target) = target ∷ []
-places_of node (Copy op) = op.to ∷ []
-places_of node (Move op) = op.from ∷ op.to ∷ []
-places_of node (Modify op) = places_of_change node op
+abbrev pub places_named : Segments → Op → List Segments
+places_named node (Nop target) = []
+places_named node (Delete target) = target ∷ []
+places_named node (Copy op) = op.to ∷ []
+places_named node (Move op) = op.from ∷ op.to ∷ []
+places_named node (Modify op) = places_of_change node op
 
 -- ---- what is apart from them
 

@@ -6,7 +6,7 @@ use Rattle.std.proofs.lemmas.Bool.Decides.{nat_tests}
 use Rattle.std.specs.Char.{is_ascii_alphanumeric, to_ascii_lowercase}
 use Rattle.std.specs.List.{list_all, flat_map}
 use Rattle.post_plan.specs.NewNames.{name_bytes, or_node, made_name, longest_made}
-use Rattle.post_plan.specs.MadeNames.{NameRun, run_bytes, run_name, is_run, is_other_byte, are_apart, alternate, AreRunsOf, HasRuns, is_made_byte, HasTwoMarks}
+use Rattle.post_plan.specs.MadeNames.{NameRun, bytes_of_run, run_name, is_run, is_other_byte, are_apart, alternate, AreRunsOf, HasRuns, is_made_byte, HasTwoMarks}
 
 -- ---- runs
 
@@ -62,17 +62,17 @@ later_alternate : (run : NameRun) (runs : List NameRun) → alternate (run ∷ r
 later_alternate run [] e = refl
 later_alternate run (next ∷ more) e = (and_parts (are_apart run next) (alternate (next ∷ more)) e).1
 
-runs_read : (run : Bool) (runs : List NameRun) → list_all is_run runs ≡ true → alternate runs ≡ true → goes_on run runs ≡ true → name_bytes run (flat_map run_bytes runs) ≡ flat_map run_name runs
+runs_read : (run : Bool) (runs : List NameRun) → list_all is_run runs ≡ true → alternate runs ≡ true → goes_on run runs ≡ true → name_bytes run (flat_map bytes_of_run runs) ≡ flat_map run_name runs
 unfolding name_bytes
 runs_read true [] e apart on = refl
 runs_read false [] e apart on = refl
 runs_read run (NameRun.Kept bs ∷ runs) e apart on =
     let both = and_parts (is_run (NameRun.Kept bs)) (list_all is_run runs) e in
-    kept_begins run bs (flat_map run_bytes runs) both.0 ∙ ap (λ (s : List ℕ). map to_ascii_lowercase bs ++ s) (runs_read false runs both.1 (later_alternate (NameRun.Kept bs) runs apart) (after_kept runs))
+    kept_begins run bs (flat_map bytes_of_run runs) both.0 ∙ ap (λ (s : List ℕ). map to_ascii_lowercase bs ++ s) (runs_read false runs both.1 (later_alternate (NameRun.Kept bs) runs apart) (after_kept runs))
 runs_read true (NameRun.Other bs ∷ runs) e apart on = absurd cc
 runs_read false (NameRun.Other bs ∷ runs) e apart on =
     let both = and_parts (is_run (NameRun.Other bs)) (list_all is_run runs) e in
-    other_begins bs (flat_map run_bytes runs) both.0 ∙ ap (λ (s : List ℕ). 95 ∷ s) (runs_read true runs both.1 (later_alternate (NameRun.Other bs) runs apart) (after_other bs runs apart))
+    other_begins bs (flat_map bytes_of_run runs) both.0 ∙ ap (λ (s : List ℕ). 95 ∷ s) (runs_read true runs both.1 (later_alternate (NameRun.Other bs) runs apart) (after_other bs runs apart))
 
 pub name_of_runs : (word : List ℕ) (runs : List NameRun) → AreRunsOf word runs → made_name word ≡ or_node (take longest_made (flat_map run_name runs))
 name_of_runs word runs are =
@@ -97,10 +97,10 @@ more_other b bs is e = and_from (nat_lt 0 (suc (length bs))) (list_all is_other_
 with_byte : (b : ℕ) (word : List ℕ) (runs : List NameRun) → AreRunsOf word runs → HasRuns (b ∷ word)
 with_byte b word runs are = go (is_ascii_alphanumeric b) refl runs are.spells are.each are.apart
   where
-    spelled : (runs : List NameRun) → flat_map run_bytes runs ≡ word → b ∷ flat_map run_bytes runs ≡ b ∷ word
+    spelled : (runs : List NameRun) → flat_map bytes_of_run runs ≡ word → b ∷ flat_map bytes_of_run runs ≡ b ∷ word
     spelled runs e = ap (λ (s : List ℕ). b ∷ s) e
 
-    go : (x : Bool) → is_ascii_alphanumeric b ≡ x → (runs : List NameRun) → flat_map run_bytes runs ≡ word → list_all is_run runs ≡ true → alternate runs ≡ true → HasRuns (b ∷ word)
+    go : (x : Bool) → is_ascii_alphanumeric b ≡ x → (runs : List NameRun) → flat_map bytes_of_run runs ≡ word → list_all is_run runs ≡ true → alternate runs ≡ true → HasRuns (b ∷ word)
     go true is [] e each apart = (NameRun.Kept (b ∷ []) ∷ [], record { spells = spelled [] e; each = and_from (is_run (NameRun.Kept (b ∷ []))) true (one_kept b is) refl; apart = refl })
     go false is [] e each apart = (NameRun.Other (b ∷ []) ∷ [], record { spells = spelled [] e; each = and_from (is_run (NameRun.Other (b ∷ []))) true (one_other b is) refl; apart = refl })
     go true is (NameRun.Kept bs ∷ []) e each apart =

@@ -4,7 +4,7 @@ use Rattle.std.specs.Prelude.{◌==◌, ◌&&◌, ℕ, Bool, true, false, not, i
 use Rattle.std.specs.List.{cons_option, filter_map, list_any}
 use Rattle.std.specs.Str.{bytes_eq}
 use Rattle.std.specs.Cmp.Lexicographic.{pointwise}
-use Rattle.sp_base.specs.Texts.{Segments, Text}
+use Rattle.sp_base.specs.Texts.{Segments, Text, Pairs}
 use Rattle.sp_base.specs.Bytes.{first_text}
 use Rattle.sp_base.specs.declared.hint.Hint.{Hint}
 use Rattle.post_plan.specs.declared.suffix.Suffix.{Suffix}
@@ -33,11 +33,11 @@ abbrev pub parameter_entry : Segments → List ℕ × List ℕ → Option Entry
 parameter_entry node p = entry_by (spot_of node (path_text p.0)) (parameter_suffix p.0) p.1
 
 -- the entries of the content parameters, where `marked` says whether any name is marked
-abbrev pub entries_where : Segments → Bool → List (List ℕ × List ℕ) → List Entry
+abbrev pub entries_where : Segments → Bool → Pairs → List Entry
 entries_where node marked pairs = filter_map (parameter_entry node) (content_where marked pairs)
 
 -- the content parameters of a form, seen from a node
-abbrev pub entries : Segments → List (List ℕ × List ℕ) → List Entry
+abbrev pub entries : Segments → Pairs → List Entry
 entries node pairs = entries_where node (any_marked pairs) pairs
 
 -- whether two suffixes are the same
@@ -96,7 +96,7 @@ abbrev pub words_at : Spot → Suffix → List Entry → List Text
 words_at spot suffix es = map (λ e. e.word) (filter (is_of_spot spot suffix) es)
 
 -- its own words, or those of the parameter that `@ValueFrom` names
-abbrev pub words_or_source : Option (List ℕ) → List (List ℕ × List ℕ) → List Text → List Text
+abbrev pub words_or_source : Option (List ℕ) → Pairs → List Text → List Text
 words_or_source None pairs own = own
 words_or_source (Some name) pairs own = words_of name pairs
 
@@ -127,11 +127,11 @@ words_or_defaults [] words = words
 words_or_defaults (default ∷ more) words = if is_one_blank words then default ∷ more else words
 
 -- the words that a spot is given: its own, or those of the parameter that `@ValueFrom` names
-abbrev pub given_words : List (List ℕ × List ℕ) → List Entry → Spot → List Text
+abbrev pub given_words : Pairs → List Entry → Spot → List Text
 given_words pairs es spot = words_or_source (first_text (words_at spot ValueFrom es)) pairs (words_at spot Plain es)
 
 -- the words that a spot is set to
-abbrev pub set_words : List (List ℕ × List ℕ) → List Entry → Spot → List Text
+abbrev pub set_words : Pairs → List Entry → Spot → List Text
 set_words pairs es spot = words_or_defaults (words_at spot DefaultValue es)
     (without_blanks (is_word_true (first_text (words_at spot IgnoreBlanks es)))
     (given_words pairs es spot))
@@ -146,11 +146,11 @@ abbrev pub hint_at : List Entry → Spot → Option Hint
 hint_at es spot = option_and_then hint_of (first_text (words_at spot TypeHint es))
 
 -- what sets a spot, by all parameters and entries
-abbrev pub set_of : List (List ℕ × List ℕ) → List Entry → Spot → Option PropSet
+abbrev pub set_of : Pairs → List Entry → Spot → Option PropSet
 set_of pairs es spot = set_by spot (hint_at es spot) (set_words pairs es spot)
 
 -- the properties that are set, each at the place of the first parameter that names it
-abbrev pub sets : List (List ℕ × List ℕ) → List Entry → List PropSet
+abbrev pub sets : Pairs → List Entry → List PropSet
 sets pairs es = filter_map (set_of pairs es) (distinct (map (λ e. e.spot) es))
 
 -- whether any of these names a spot
@@ -158,10 +158,10 @@ abbrev pub is_spot_named : Spot → List Entry → Bool
 is_spot_named spot es = list_any (λ e. same_spot e.spot spot) es
 
 -- what a parameter sets, where those before it don't name its spot
-abbrev pub set_here : List (List ℕ × List ℕ) → List Entry → List Entry → Entry → Option PropSet
+abbrev pub set_here : Pairs → List Entry → List Entry → Entry → Option PropSet
 set_here pairs es before e = if is_spot_named e.spot before then None else set_of pairs es e.spot
 
 -- the properties that later parameters set, where these stand before them
-unfoldable pub sets_from : List (List ℕ × List ℕ) → List Entry → List Entry → List Entry → List PropSet
+unfoldable pub sets_from : Pairs → List Entry → List Entry → List Entry → List PropSet
 sets_from pairs es before [] = []
 sets_from pairs es before (e ∷ later) = cons_option (set_here pairs es before e) (sets_from pairs es (before ++ e ∷ []) later)

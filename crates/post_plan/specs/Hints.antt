@@ -5,8 +5,9 @@ use Rattle.std.specs.Str.{bytes_eq}
 use Rattle.sp_base.specs.declared.hint.Hint.{Hint}
 use Rattle.sp_base.specs.declared.hint.HintKind.{HintKind}
 use Rattle.sp_base.specs.declared.hint.HintKind.TheVariants.{Text, Long, Truth}
+use Rattle.sp_base.specs.Texts.{Pairs}
 use Rattle.post_plan.specs.declared.suffix.Suffix.{Suffix}
-use Rattle.post_plan.specs.declared.suffix.Suffix.TheVariants.{Plain, TypeHint, DefaultValue, Delete, MoveFrom, CopyFrom, ValueFrom, IgnoreBlanks}
+use Rattle.post_plan.specs.declared.suffix.Suffix.TheVariants.{TypeHint}
 use Rattle.post_plan.specs.declared.fault.PlanFault.{PlanFault}
 use Rattle.post_plan.specs.declared.fault.PlanFault.TheVariants.{BadHint}
 use Rattle.post_plan.specs.Parameters.{parameter_suffix, any_marked, content_where}
@@ -33,23 +34,17 @@ hint_of word = if ends_with nat_eq word (codes "[]") then hint_by true (hint_kin
 -- whether the suffix is unknown, or is `@TypeHint` and its word names no hint
 abbrev pub is_bad_word : Option Suffix → List ℕ → Bool
 is_bad_word None word = true
-is_bad_word (Some Plain) word = false
 is_bad_word (Some TypeHint) word = is_none (hint_of word)
-is_bad_word (Some DefaultValue) word = false
-is_bad_word (Some Delete) word = false
-is_bad_word (Some MoveFrom) word = false
-is_bad_word (Some CopyFrom) word = false
-is_bad_word (Some ValueFrom) word = false
-is_bad_word (Some IgnoreBlanks) word = false
+is_bad_word _ word = false
 
 -- the name of the first content parameter with an unknown suffix or an unknown type hint
-abbrev pub bad_hint_where : Bool → List (List ℕ × List ℕ) → Option (List ℕ)
+abbrev pub bad_hint_where : Bool → Pairs → Option (List ℕ)
 bad_hint_where marked pairs = option_map (λ p. p.0) (find (λ p. is_bad_word (parameter_suffix p.0) p.1) (content_where marked pairs))
 
 -- the same among all parameters
-abbrev pub bad_hint : List (List ℕ × List ℕ) → Option (List ℕ)
+abbrev pub bad_hint : Pairs → Option (List ℕ)
 bad_hint pairs = bad_hint_where (any_marked pairs) pairs
 
 -- that parameter as a fault
-abbrev pub hint_fault : List (List ℕ × List ℕ) → Option PlanFault
+abbrev pub hint_fault : Pairs → Option PlanFault
 hint_fault pairs = option_map BadHint (bad_hint pairs)

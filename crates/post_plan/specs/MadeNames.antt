@@ -9,9 +9,9 @@ pub data NameRun : Type 0 where
   Other : List ℕ → NameRun
 
 -- the bytes of a run
-abbrev pub run_bytes : NameRun → List ℕ
-run_bytes (Kept bytes) = bytes
-run_bytes (Other bytes) = bytes
+abbrev pub bytes_of_run : NameRun → List ℕ
+bytes_of_run (Kept bytes) = bytes
+bytes_of_run (Other bytes) = bytes
 
 -- what stands for it in a made name: its letters in lower case and its digits, or one `_`
 abbrev pub run_name : NameRun → List ℕ
@@ -42,7 +42,7 @@ alternate (run ∷ next ∷ more) = are_apart run next && alternate (next ∷ mo
 
 -- the runs of a word, as long as they are
 pub record AreRunsOf (word : List ℕ) (runs : List NameRun) : Type 0 where
-  pub spells : flat_map run_bytes runs ≡ word
+  pub spells : flat_map bytes_of_run runs ≡ word
   pub each : list_all is_run runs ≡ true
   pub apart : alternate runs ≡ true
 

@@ -2,7 +2,7 @@
 use Rattle.std.specs.Prelude.{◌==◌, ℕ, Bool, true, false, not, if◌then◌else◌, List, [], ◌∷◌, Option, Some, None, unwrap_or, codes, length, take}
 use Rattle.std.specs.List.{find}
 use Rattle.std.specs.Char.{is_ascii_alphanumeric, to_ascii_lowercase}
-use Rattle.sp_base.specs.Texts.{Text}
+use Rattle.sp_base.specs.Texts.{Text, Pairs}
 use Rattle.post_plan.specs.declared.operation.NameWish.{NameWish}
 use Rattle.post_plan.specs.declared.operation.NameWish.TheVariants.{Exact, Hint}
 use Rattle.post_plan.specs.Parameters.{first_word, words_of}
@@ -30,30 +30,30 @@ abbrev pub sources : List Text
 sources = codes "title" ∷ codes "jcr:title" ∷ codes "name" ∷ codes "description" ∷ codes "jcr:description" ∷ codes "abstract" ∷ codes "text" ∷ codes "jcr:text" ∷ []
 
 -- the first word of a name that isn't empty
-abbrev pub full_word : List ℕ → List (List ℕ × List ℕ) → Option (List ℕ)
+abbrev pub full_word : List ℕ → Pairs → Option (List ℕ)
 full_word name pairs = find (λ word. not (length word == 0)) (words_of name pairs)
 
 -- the first word, not empty, of the first of these names that has one
-unfoldable pub source_in : List Text → List (List ℕ × List ℕ) → List ℕ
+unfoldable pub source_in : List Text → Pairs → List ℕ
 source_in [] pairs = []
 source_in (name ∷ names) pairs = unwrap_or (full_word name pairs) (source_in names pairs)
 
 -- the word that a name is made from where no hint of it is given
-abbrev pub first_source : List (List ℕ × List ℕ) → List ℕ
+abbrev pub first_source : Pairs → List ℕ
 first_source pairs = source_in sources pairs
 
 -- the name made from the hint, where one is given, else from the sources
-abbrev pub hinted_wish : Option (List ℕ) → List (List ℕ × List ℕ) → NameWish
+abbrev pub hinted_wish : Option (List ℕ) → Pairs → NameWish
 hinted_wish (Some word) pairs = Hint (made_name word)
 hinted_wish None pairs = Hint (made_name (first_source pairs))
 
 -- the name itself, where it is given, else one that is made
-abbrev pub name_wish : Option (List ℕ) → List (List ℕ × List ℕ) → NameWish
+abbrev pub name_wish : Option (List ℕ) → Pairs → NameWish
 name_wish (Some word) pairs = Exact word
 name_wish None pairs = hinted_wish (first_word (codes ":nameHint") pairs) pairs
 
 -- the name of a new node: `:name`, else one made from `:nameHint`, else from the first word, not empty, of the sources
-abbrev pub wish_of : List (List ℕ × List ℕ) → NameWish
+abbrev pub wish_of : Pairs → NameWish
 wish_of pairs = name_wish (first_word (codes ":name") pairs) pairs
 
 -- the text of a wished name, be it given or made

@@ -1,7 +1,7 @@
 -- What an operation names: paths, each of segments that a path may have and of at most 64.
-use Rattle.std.specs.Prelude.{◌≡◌, ◌&&◌, ℕ, Bool, IsTrue, List, Ok}
+use Rattle.std.specs.Prelude.{◌≡◌, ◌&&◌, Bool, IsTrue, Ok}
 use Rattle.std.specs.List.{list_all}
-use Rattle.sp_base.specs.Texts.{Segments}
+use Rattle.sp_base.specs.Texts.{Segments, Pairs}
 use Rattle.sp_base.specs.Paths.{is_path}
 use Rattle.post_plan.specs.declared.spot.Spot.{Spot}
 use Rattle.post_plan.specs.declared.spot.Carry.{Carry}
@@ -42,4 +42,4 @@ names_paths (Modify op) = modify_has_paths op
 
 -- what a form asks for at a path names paths alone
 abbrev pub AsksForPaths : Type 0
-AsksForPaths = (target : Segments) (star : Bool) (pairs : List (List ℕ × List ℕ)) (op : Op) → IsTrue (is_path target) → plan_of target star pairs ≡ Ok op → IsTrue (names_paths op)
+AsksForPaths = (target : Segments) (star : Bool) (pairs : Pairs) (op : Op) → IsTrue (is_path target) → plan_of target star pairs ≡ Ok op → IsTrue (names_paths op)

@@ -2,17 +2,17 @@
 use Rattle.std.specs.Prelude.{◌==◌, ◌&&◌, ◌||◌, ℕ, Bool, not, nat_eq, if◌then◌else◌, List, [], ◌∷◌, Option, Some, None, codes, map, filter}
 use Rattle.std.specs.List.{list_any, starts_with, before_last, after_last}
 use Rattle.std.specs.Str.{bytes_eq}
-use Rattle.sp_base.specs.Texts.{Text}
+use Rattle.sp_base.specs.Texts.{Text, Pairs}
 use Rattle.post_plan.specs.declared.suffix.Suffix.{Suffix}
 use Rattle.post_plan.specs.declared.suffix.Suffix.TheVariants.{Plain, TypeHint, DefaultValue, Delete, MoveFrom, CopyFrom, ValueFrom, IgnoreBlanks}
 
 -- the word of the first parameter of this name
-abbrev pub first_word : List ℕ → List (List ℕ × List ℕ) → Option (List ℕ)
+abbrev pub first_word : List ℕ → Pairs → Option (List ℕ)
 first_word name [] = None
 first_word name (p ∷ more) = if bytes_eq p.0 name then Some p.1 else first_word name more
 
 -- all words of the parameters of this name
-abbrev pub words_of : List ℕ → List (List ℕ × List ℕ) → List Text
+abbrev pub words_of : List ℕ → Pairs → List Text
 words_of name pairs = map (λ p. p.1) (filter (λ p. bytes_eq p.0 name) pairs)
 
 -- a parameter that steers the operation and is no content
@@ -24,7 +24,7 @@ abbrev pub is_marked : List ℕ → Bool
 is_marked name = starts_with nat_eq name (codes "./")
 
 -- whether any parameter's name is marked
-abbrev pub any_marked : List (List ℕ × List ℕ) → Bool
+abbrev pub any_marked : Pairs → Bool
 any_marked pairs = list_any (λ p. is_marked p.0) pairs
 
 -- where any name is marked, only names that are marked, climb or are absolute are content
@@ -32,7 +32,7 @@ abbrev pub is_content : Bool → List ℕ → Bool
 is_content marked name = not (is_control name) && (not marked || (is_marked name || (starts_with nat_eq name (codes "../") || starts_with nat_eq name (codes "/"))))
 
 -- the parameters that are content, where some are marked or none is
-abbrev pub content_where : Bool → List (List ℕ × List ℕ) → List (List ℕ × List ℕ)
+abbrev pub content_where : Bool → Pairs → Pairs
 content_where marked pairs = filter (λ p. is_content marked p.0) pairs
 
 -- the byte `@`, which begins a suffix

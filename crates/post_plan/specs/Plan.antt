@@ -3,7 +3,7 @@ use Rattle.std.specs.Prelude.{◌==◌, ◌&&◌, ◌||◌, ◌^◌, ℕ, Bool, 
 use Rattle.std.specs.List.{starts_with}
 use Rattle.std.specs.Str.{bytes_eq, all_ascii_digits}
 use Rattle.std.specs.Str.Parse.{digits_value}
-use Rattle.sp_base.specs.Texts.{Segments}
+use Rattle.sp_base.specs.Texts.{Segments, Pairs}
 use Rattle.form_input.specs.Multipart.{first_some}
 use Rattle.sp_base.specs.Paths.{seg_ok, text_of}
 use Rattle.resource_tree.specs.declared.places.Place.{Place}
@@ -14,7 +14,7 @@ use Rattle.post_plan.specs.declared.fault.PlanFault.TheVariants.{BadOperation, N
 use Rattle.post_plan.specs.declared.verb.Verb.{Verb}
 use Rattle.post_plan.specs.declared.verb.Verb.TheVariants.{Modify, Delete, Copy, Move, Nop}
 use Rattle.post_plan.specs.declared.suffix.Suffix.{Suffix}
-use Rattle.post_plan.specs.declared.suffix.Suffix.TheVariants.{Plain, TypeHint, DefaultValue, Delete as DeleteSuffix, MoveFrom, CopyFrom, ValueFrom, IgnoreBlanks}
+use Rattle.post_plan.specs.declared.suffix.Suffix.TheVariants.{MoveFrom, CopyFrom}
 use Rattle.post_plan.specs.declared.operation.Op.{Op}
 use Rattle.post_plan.specs.declared.operation.Op.TheVariants.{Modify as ModifyOperation, Delete as DeleteOperation, Copy as CopyOperation, Move as MoveOperation, Nop as NopOperation}
 use Rattle.post_plan.specs.declared.operation.ModifyOp.{ModifyOp}
@@ -39,33 +39,26 @@ verb_by None = Some Modify
 verb_by (Some word) = verb_named word
 
 -- what the parameters ask for
-abbrev pub verb_of : List (List ℕ × List ℕ) → Option Verb
+abbrev pub verb_of : Pairs → Option Verb
 verb_of pairs = verb_by (first_word (codes ":operation") pairs)
 
 -- whether that copies or moves the node
 abbrev pub carries_node : Option Verb → Bool
-carries_node None = false
-carries_node (Some Modify) = false
-carries_node (Some Delete) = false
 carries_node (Some Copy) = true
 carries_node (Some Move) = true
-carries_node (Some Nop) = false
+carries_node _ = false
 
 -- whether that changes the node
 abbrev pub is_modify : Option Verb → Bool
-is_modify None = false
 is_modify (Some Modify) = true
-is_modify (Some Delete) = false
-is_modify (Some Copy) = false
-is_modify (Some Move) = false
-is_modify (Some Nop) = false
+is_modify _ = false
 
 -- the word of `:dest`, or an empty one
-abbrev pub dest_word : List (List ℕ × List ℕ) → List ℕ
+abbrev pub dest_word : Pairs → List ℕ
 dest_word pairs = unwrap_or (first_word (codes ":dest") pairs) []
 
 -- whether `:replace` is `true`
-abbrev pub replaces : List (List ℕ × List ℕ) → Bool
+abbrev pub replaces : Pairs → Bool
 replaces pairs = bytes_eq (unwrap_or (first_word (codes ":replace") pairs) []) (codes "true")
 
 -- decimal digits without a leading zero
@@ -102,7 +95,7 @@ place_by None = None
 place_by (Some word) = place_named word
 
 -- the place that the parameters ask for
-abbrev pub order_place : List (List ℕ × List ℕ) → Option Place
+abbrev pub order_place : Pairs → Option Place
 order_place pairs = place_by (first_word (codes ":order") pairs)
 
 -- whether a word is there that names no place
@@ -111,24 +104,18 @@ is_bad_order None = false
 is_bad_order (Some word) = is_none (place_named word)
 
 -- the name of the new node, where one is wished and nothing but a change is asked for
-abbrev pub fresh_wish : Bool → List (List ℕ × List ℕ) → Option NameWish
+abbrev pub fresh_wish : Bool → Pairs → Option NameWish
 fresh_wish star pairs = if star && is_modify (verb_of pairs) then Some (wish_of pairs) else None
 
 -- the node that names are relative to: the target, or the new node under it
-abbrev pub relative_node : Segments → Bool → List (List ℕ × List ℕ) → Segments
+abbrev pub relative_node : Segments → Bool → Pairs → Segments
 relative_node target star pairs = under target (option_map wished_name (fresh_wish star pairs))
 
 -- whether the parameter's word names what is copied or moved
 abbrev pub names_source : Option Suffix → Bool
-names_source None = false
-names_source (Some Plain) = false
-names_source (Some TypeHint) = false
-names_source (Some DefaultValue) = false
-names_source (Some DeleteSuffix) = false
 names_source (Some MoveFrom) = true
 names_source (Some CopyFrom) = true
-names_source (Some ValueFrom) = false
-names_source (Some IgnoreBlanks) = false
+names_source _ = false
 
 -- the text of a content parameter that names nothing that may be changed: its name's path, else its source
 abbrev pub bad_entry : Segments → List ℕ × List ℕ → Option (List ℕ)
@@ -136,7 +123,7 @@ bad_entry node p = if is_none (spot_of node (path_text p.0)) then Some (path_tex
     else (if names_source (parameter_suffix p.0) && is_none (spot_of node p.1) then Some p.1 else None)
 
 -- the goal of a copy or a move is no path
-abbrev pub is_bad_dest : Segments → List (List ℕ × List ℕ) → Bool
+abbrev pub is_bad_dest : Segments → Pairs → Bool
 is_bad_dest target pairs = carries_node (verb_of pairs) && is_none (goal_of target (dest_word pairs))
 
 -- the name of a new node is none that a path may have
@@ -150,7 +137,7 @@ bad_text node bad_dest bad_name marked p = if bytes_eq p.0 (codes ":dest") then 
     else (if bytes_eq p.0 (codes ":name") then (if bad_name then Some p.1 else None) else (if is_content marked p.0 then bad_entry node p else None))
 
 -- the first bad text of parameters
-unfoldable pub first_bad : (List ℕ × List ℕ → Option (List ℕ)) → List (List ℕ × List ℕ) → Option (List ℕ)
+unfoldable pub first_bad : (List ℕ × List ℕ → Option (List ℕ)) → Pairs → Option (List ℕ)
 first_bad bad [] = None
 first_bad bad (p ∷ more) = first_some (bad p) (first_bad bad more)
 
@@ -159,7 +146,7 @@ abbrev pub if_fault : Bool → PlanFault → Option PlanFault
 if_fault bad fault = if bad then Some fault else None
 
 -- the node itself stands first, then the parameters in their order
-abbrev pub path_fault : Segments → Bool → List (List ℕ × List ℕ) → Option PlanFault
+abbrev pub path_fault : Segments → Bool → Pairs → Option PlanFault
 path_fault target star pairs = if is_merged_path (relative_node target star pairs) then Some (BadPath (text_of (relative_node target star pairs)))
     else option_map BadPath (first_bad (bad_text (relative_node target star pairs) (is_bad_dest target pairs) (is_bad_wish (fresh_wish star pairs)) (any_marked pairs)) pairs)
 
@@ -170,7 +157,7 @@ first_plan_fault (None ∷ more) = first_plan_fault more
 first_plan_fault (Some fault ∷ more) = Some fault
 
 -- the faults in the order of their kinds
-abbrev pub faults : Segments → Bool → List (List ℕ × List ℕ) → List (Option PlanFault)
+abbrev pub faults : Segments → Bool → Pairs → List (Option PlanFault)
 faults target star pairs = if_fault (is_none (verb_of pairs)) BadOperation
     ∷ if_fault (carries_node (verb_of pairs) && length (dest_word pairs) == 0) NoDest
     ∷ if_fault (is_bad_order (first_word (codes ":order") pairs)) BadOrder
@@ -178,7 +165,7 @@ faults target star pairs = if_fault (is_none (verb_of pairs)) BadOperation
     ∷ path_fault target star pairs ∷ []
 
 -- the change of a node that entries ask for
-abbrev pub modify_of : Segments → Bool → List (List ℕ × List ℕ) → List Entry → Segments → ModifyOp
+abbrev pub modify_of : Segments → Bool → Pairs → List Entry → Segments → ModifyOp
 modify_of target star pairs es node = record {
   target = target;
   fresh = fresh_wish star pairs;
@@ -190,15 +177,15 @@ modify_of target star pairs es node = record {
 }
 
 -- the change of the target, or of a new node under it, that the parameters ask for
-abbrev pub modification : Segments → Bool → List (List ℕ × List ℕ) → ModifyOp
+abbrev pub modification : Segments → Bool → Pairs → ModifyOp
 modification target star pairs = modify_of target star pairs (entries (relative_node target star pairs) pairs) (relative_node target star pairs)
 
 -- the copy or the move of the target that the parameters ask for
-abbrev pub carry_operation : Segments → List (List ℕ × List ℕ) → CarryOp
+abbrev pub carry_operation : Segments → Pairs → CarryOp
 carry_operation target pairs = record { from = target; to = unwrap_or (goal_of target (dest_word pairs)) []; replace = replaces pairs }
 
 -- the operation that the parameters ask for
-abbrev pub operation_by : Option Verb → Segments → Bool → List (List ℕ × List ℕ) → Op
+abbrev pub operation_by : Option Verb → Segments → Bool → Pairs → Op
 operation_by None target star pairs = NopOperation target
 operation_by (Some Modify) target star pairs = ModifyOperation (modification target star pairs)
 operation_by (Some Delete) target star pairs = DeleteOperation target
@@ -212,5 +199,5 @@ operation_unless_fault (Some fault) operation = Err fault
 operation_unless_fault None operation = Ok operation
 
 -- the operation that a form asks for at a target; `star` asks for a new node under the target
-abbrev pub plan_of : Segments → Bool → List (List ℕ × List ℕ) → Result Op PlanFault
+abbrev pub plan_of : Segments → Bool → Pairs → Result Op PlanFault
 plan_of target star pairs = operation_unless_fault (first_plan_fault (faults target star pairs)) (operation_by (verb_of pairs) target star pairs)

@@ -9,6 +9,7 @@ use Rattle.json.specs.Print.{print}
 use Rattle.json.specs.Written.{Written}
 use Rattle.sp_base.specs.declared.value.Value.{Value}
 use Rattle.sp_base.specs.declared.value.Value.TheVariants.{Text, Long, Truth, Texts, Longs, Truths}
+use Rattle.sp_base.specs.Texts.{Properties}
 
 -- the items of an array, each by the same rule
 abbrev pub items_of : {A : Type 0} → (A → Json) → List A → Items
@@ -43,16 +44,16 @@ has_longs (Longs ns) = list_all fits_i64 ns
 has_longs (Truths bs) = true
 
 -- the properties as members, before further members
-abbrev pub members_before : List (List ℕ × Value) → Members → Members
+abbrev pub members_before : Properties → Members → Members
 members_before [] ms = ms
 members_before ((name, value) ∷ props) ms = member name (json_of_value value) (members_before props ms)
 
 -- the compact text of an object with these properties and nothing else
-unfoldable pub properties_text : List (List ℕ × Value) → List ℕ
+unfoldable pub properties_text : Properties → List ℕ
 properties_text props = print (json_tokens (object (members_before props no_members)))
 
 -- the tokens of the properties as members
-abbrev pub property_tokens : List (List ℕ × Value) → List Token
+abbrev pub property_tokens : Properties → List Token
 property_tokens [] = []
 property_tokens ((name, value) ∷ props) = (Token.key name ∷ json_tokens (json_of_value value)) ++ property_tokens props
 

@@ -32,7 +32,7 @@ use Rattle.publisher.specs.Cases.{IsAnswer, ReadsByDefault, ReadsByScript, Reads
 use Rattle.publisher.specs.Depths.{depth_of}
 use Rattle.publisher.specs.Errors.{answer_with_body}
 use Rattle.publisher.specs.Readings.{reading_in}
-use Rattle.publisher.specs.Rendering.{answer_by, answer_to_request, default_answer, file_representation, is_bare, is_json, is_post, is_read, json_kind, json_representation, json_to_depth, mapped_answer, mapping, mark_of, posted_answer, representation_of, resource_answer, script_at, script_for, script_representation, seen_resources, split_answer, with_text}
+use Rattle.publisher.specs.Rendering.{answer_by, answer_to_request, default_answer, file_representation, is_bare, is_json, is_post, is_read, json_kind, json_representation, json_to_depth, mapped_answer, mapping, mark_of, posted_answer, representation_of, resource_answer, script_there, script_for, script_representation, seen_resources, split_answer, script_with_text}
 use Rattle.publisher.proofs.PostLemmas.{post_is}
 use Rattle.publisher.proofs.RenderingLemmas.{read_is}
 use Rattle.publisher.proofs.ScriptLaw.{found_first}
@@ -109,14 +109,14 @@ page-case tree ask s res text reads (Ok blocks) is = by_script res text blocks r
 page-case tree ask s res text reads (Err fault) is = refused_script res text reads (λ blocks spells. let read = s.spelled_only text blocks spells in cc) refl
 
 text-case : (tree : Content) (ask : Ask) → Searches tree ask → (parts : Parts) (res : Resource) → ReadsResource tree ask parts res → (script : List (List ℕ)) → IsFirstScript tree (chain_of tree res.props) parts script
-    → (text : Option (List ℕ)) → script_text tree script ≡ text → IsAnswer tree ask (answer_by (option_map (with_text script) text) tree parts res)
+    → (text : Option (List ℕ)) → script_text tree script ≡ text → IsAnswer tree ask (answer_by (option_map (script_with_text script) text) tree parts res)
 text-case tree ask s parts res reads script first None none = absurd (no-text (is_script_name (name_of script)) (is_some (node_at tree script)) (script_text tree script) none first.candidate.script)
 text-case tree ask s parts res reads script first (Some text) some =
     page-case tree ask s res text (record { parts = parts; resource = reads; script = script; first = first; text_is = some }) (blocks_of text) refl
 
 script-case : (tree : Content) (ask : Ask) → Searches tree ask → (parts : Parts) (res : Resource) → ReadsResource tree ask parts res → (found : Option (List (List ℕ)))
     → IfSome found (IsFirstScript tree (chain_of tree res.props) parts) → IfNone found (HasNoCandidate tree (chain_of tree res.props) parts)
-    → IsAnswer tree ask (answer_by (option_and_then (script_at tree) found) tree parts res)
+    → IsAnswer tree ask (answer_by (option_and_then (script_there tree) found) tree parts res)
 script-case tree ask s parts res reads (Some script) first none = text-case tree ask s parts res reads script first (script_text tree script) refl
 script-case tree ask s parts res reads None first none = default-case tree ask s parts res (record { resource = reads; none = none }) (is_json parts.extension) refl
 
@@ -170,7 +170,7 @@ lost-is tree text None is split nowhere = refl
 lost-is tree text (Some parts) is split nowhere = absurd (nowhere split.at parts.path split.leads)
 
 resource-is : (tree : Content) (ask : Ask) → Searches tree ask → (parts : Parts) (res : Resource) → ReadsResource tree ask parts res
-    → answer_to_request tree ask ≡ answer_by (option_and_then (script_at tree) (search_result tree (chain_of tree res.props) parts)) tree parts res
+    → answer_to_request tree ask ≡ answer_by (option_and_then (script_there tree) (search_result tree (chain_of tree res.props) parts)) tree parts res
 unfolding script_for
 resource-is tree ask s parts res reads =
     text-is tree ask s reads.text reads.reads ∙ ap (split_answer tree) (s.split_only reads.text parts reads.split) ∙ ap (resource_answer tree parts) reads.seen
@@ -181,8 +181,8 @@ script-is tree ask s res text reads =
     let parts = reads.parts in
     let found = found_first tree (chain_of tree res.props) parts reads.script (search_result tree (chain_of tree res.props) parts) (s.one res parts) (s.first res parts) (s.none res parts) reads.first in
     resource-is tree ask s parts res reads.resource
-    ∙ ap (λ o. answer_by (option_and_then (script_at tree) o) tree parts res) found
-    ∙ ap (λ o. answer_by (option_map (with_text reads.script) o) tree parts res) reads.text_is
+    ∙ ap (λ o. answer_by (option_and_then (script_there tree) o) tree parts res) found
+    ∙ ap (λ o. answer_by (option_map (script_with_text reads.script) o) tree parts res) reads.text_is
 
 none-found : (tree : Content) (res : Resource) (parts : Parts) (found : Option (List (List ℕ))) → IfSome found (IsFirstScript tree (chain_of tree res.props) parts) → HasNoCandidate tree (chain_of tree res.props) parts → found ≡ None
 none-found tree res parts None first none = refl
@@ -191,7 +191,7 @@ none-found tree res parts (Some script) first none = absurd (none script first.k
 default-is : (tree : Content) (ask : Ask) → Searches tree ask → (parts : Parts) (res : Resource) → ReadsByDefault tree ask parts res → answer_to_request tree ask ≡ default_answer (seen_resources tree) parts res
 default-is tree ask s parts res reads =
     resource-is tree ask s parts res reads.resource
-    ∙ ap (λ o. answer_by (option_and_then (script_at tree) o) tree parts res) (none-found tree res parts (search_result tree (chain_of tree res.props) parts) (s.first res parts) reads.none)
+    ∙ ap (λ o. answer_by (option_and_then (script_there tree) o) tree parts res) (none-found tree res parts (search_result tree (chain_of tree res.props) parts) (s.first res parts) reads.none)
 
 json-asked : (tree : Content) (parts : Parts) (res : Resource) → is_json parts.extension ≡ true → default_answer (seen_resources tree) parts res ≡ json_to_depth (seen_resources tree) res (depth_of parts.selectors)
 json-asked tree parts res is = ap (λ b. if b then json_to_depth (seen_resources tree) res (depth_of parts.selectors) else (if is_bare parts then file_representation res (stream_of (seen_resources tree) res) else error_answer 404)) is

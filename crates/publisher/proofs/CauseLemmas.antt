@@ -6,7 +6,7 @@ use Rattle.resource_tree.specs.Content.{Content}
 use Rattle.resource_tree.specs.declared.faults.TreeFault.{TreeFault}
 use Rattle.resource_tree.specs.declared.faults.TreeFault.TheVariants.{NoSuch, RootFixed, IntoItself, Exists, Taken, NoSibling, TooDeep, FullTree, NoMemory as NoMemoryOfTree}
 use Rattle.form_input.specs.Forms.{form_of}
-use Rattle.form_input.specs.FormLaws.{FormsAreRefusedForCauses, form_wants_memory}
+use Rattle.form_input.specs.FormLaws.{FormsAreRefusedForCauses, is_form_out_of_memory}
 use Rattle.form_input.specs.declared.fault.FormFault.{FormFault}
 use Rattle.form_input.specs.declared.fault.FormFault.TheVariants.{WrongKind, NoBoundary, BadPart, TooMany, NoMemory as NoMemoryOfForm}
 use Rattle.post_plan.specs.declared.operation.Op.{Op}
@@ -50,14 +50,14 @@ target_cause None = refl
 
 -- ---- forms
 
-form_cause : (fault : FormFault) → form_wants_memory fault ≡ false → is_cause (of_form fault) ≡ true
+form_cause : (fault : FormFault) → is_form_out_of_memory fault ≡ false → is_cause (of_form fault) ≡ true
 form_cause WrongKind e = refl
 form_cause NoBoundary e = refl
 form_cause (BadPart place) e = refl
 form_cause TooMany e = refl
 form_cause NoMemoryOfForm e = absurd cc
 
-read_cause : (r : Result (List (List ℕ × List ℕ)) FormFault) → IfErr r (λ (e : FormFault). form_wants_memory e ≡ false) → IfErr r (λ (e : FormFault). is_cause (of_form e) ≡ true)
+read_cause : (r : Result (List (List ℕ × List ℕ)) FormFault) → IfErr r (λ (e : FormFault). is_form_out_of_memory e ≡ false) → IfErr r (λ (e : FormFault). is_cause (of_form e) ≡ true)
 read_cause (Ok pairs) was = tt
 read_cause (Err fault) was = form_cause fault was
 

@@ -19,8 +19,9 @@ use Rattle.resource_tree.specs.Patches.{PatchEntries, left_by, patching_at}
 use Rattle.resource_tree.specs.declared.nodes.Node.{Node}
 use Rattle.resource_tree.specs.declared.patch.PatchNode.{PatchNode}
 use Rattle.script_rank.specs.Ranking.{node_of, script_text}
+use Rattle.script_rank.specs.Noting.{text_path}
 use Rattle.publisher.specs.declared.templates.Reading.{Reading}
-use Rattle.publisher.specs.Kept.{AreAmong, AreReadings, AreUnpatched, KeptReadings, reading_at, text_path}
+use Rattle.publisher.specs.Kept.{AreAmong, AreReadings, AreUnpatched, KeptReadings, reading_at}
 use Rattle.publisher.specs.Readings.{reading_of}
 
 -- ---- paths

@@ -4,7 +4,7 @@ use Rattle.std.proofs.Common.{◌≡◌, ◌⊎◌, nat_lt, nat_le, ◌≢◌, �
 use Rattle.std.proofs.lemmas.List.Sums.{sum_by-append}
 use Rattle.sp_base.specs.Limits.{most_rendered_bytes}
 use Rattle.sp_base.specs.Texts.{Text}
-use Rattle.htl_blocks.specs.Parts.{Part, Byte, Round, Script, Resource, inclusions, is_inclusion, is_round, rounds, seen, text_of, text_parts}
+use Rattle.htl_blocks.specs.Parts.{Part, Byte, Round, Script, Resource, inclusions, is_inclusion, is_round, rounds, seen, text_of_parts, text_parts}
 use Rattle.htl_blocks.specs.Refused.{most_inclusions, most_rounds}
 use Rattle.publisher.specs.declared.page_fault.PageFault.{PageFault}
 use Rattle.publisher.specs.declared.page_fault.PageFault.TheVariants.{NoMemory}
@@ -120,7 +120,7 @@ passed_before a b (inr (inr (inr often))) = inr (inr (inr (omega (arith, often))
 
 -- a page has the text, the contents of lists and the inclusions of its parts at least
 pub record HasAtLeast (ps : List Part) (page : Page) : Type 0 where
-  pub text : length (text_of ps) ≤ length page.text
+  pub text : length (text_of_parts ps) ≤ length page.text
   pub included : inclusions ps ≤ page.inclusions
   pub repeated : rounds ps ≤ page.rounds
 

@@ -16,7 +16,7 @@ use Rattle.htl_blocks.specs.Parts.{Part, Script, Resource as ResourcePart, round
 use Rattle.publisher.specs.declared.page_fault.PageFault.{PageFault}
 use Rattle.publisher.specs.declared.page_fault.PageFault.TheVariants.{NoMemory}
 use Rattle.publisher.specs.Gathering.{Gathered, IsPassed, PassLimits}
-use Rattle.publisher.specs.Pages.{Page, Place, blank, html_parts, included_resource, included_script, inclusion, joined, one_inclusion, parts_page, path_named, put_in, resource_by, rounds_page, shown_resource, too_deep, written_by_script, written_page}
+use Rattle.publisher.specs.Pages.{Page, Place, blank, html_parts, included_resource, included_script, inclusion, joined, one_inclusion, parts_page, path_named, put_in, resource_by, rounds_page, written_resource, too_deep, written_by_script, written_page}
 use Rattle.publisher.proofs.PageLemmas.{after, joined_assoc, joined_blank, parts_append, parts_pass, passed_before, passed_more, resource_is, rounds_apart, script_is, stopped}
 
 -- ---- the blocks of a script
@@ -110,15 +110,15 @@ script_step tree n place name vars folder o some same named =
     ∙ ap (λ (q : Option Segments). written_page (inclusion tree (n - 1)) (included_script tree place vars q)) (sym (named ∙ ap (λ (f : Segments). path_named f name) same))
 
 -- a resource is shown by its properties and its path
-shown_without_kids : (tree : Content) (o : Option Resource) → shown_resource tree (option_map without_kids o) ≡ shown_resource tree o
+shown_without_kids : (tree : Content) (o : Option Resource) → written_resource tree (option_map without_kids o) ≡ written_resource tree o
 shown_without_kids tree None = refl
 shown_without_kids tree (Some res) = refl
 
-shown_alone : (tree : Content) (path : Segments) → shown_resource tree (merged_resource tree path) ≡ shown_resource tree (merged_alone tree path)
+shown_alone : (tree : Content) (path : Segments) → written_resource tree (merged_resource tree path) ≡ written_resource tree (merged_alone tree path)
 unfolding merged_alone
 shown_alone tree path = by (is_merged_path path) refl
   where
-    by : (b : Bool) → is_merged_path path ≡ b → shown_resource tree (merged_resource tree path) ≡ shown_resource tree (if b then option_map without_kids (merged_resource tree path) else merged_resource tree path)
+    by : (b : Bool) → is_merged_path path ≡ b → written_resource tree (merged_resource tree path) ≡ written_resource tree (if b then option_map without_kids (merged_resource tree path) else merged_resource tree path)
     by true is = sym (shown_without_kids tree (merged_resource tree path))
     by false is = refl
 
@@ -127,10 +127,10 @@ pub resource_step : (tree : Content) (n : ℕ) (place : Place) (name : Text) (o 
 resource_step tree n place name o some named =
     one_deeper tree n place (ResourcePart name) some ∙ ap (λ (q : Option Segments). written_page (inclusion tree (n - 1)) (included_resource tree q)) (sym named)
 
-pub shown_step : (tree : Content) (path : Segments) (o : Option Resource) → o ≡ merged_alone tree path → included_resource tree (Some path) ≡ shown_resource tree o
-shown_step tree path o seen_is = shown_alone tree path ∙ ap (shown_resource tree) (sym seen_is)
+pub shown_step : (tree : Content) (path : Segments) (o : Option Resource) → o ≡ merged_alone tree path → included_resource tree (Some path) ≡ written_resource tree o
+shown_step tree path o seen_is = shown_alone tree path ∙ ap (written_resource tree) (sym seen_is)
 
-pub by_step : (tree : Content) (res : Resource) (o : Option Segments) → o ≡ first_script tree (chain_of tree res.props) (html_parts res.path) → shown_resource tree (Some res) ≡ resource_by tree res o
+pub by_step : (tree : Content) (res : Resource) (o : Option Segments) → o ≡ first_script tree (chain_of tree res.props) (html_parts res.path) → written_resource tree (Some res) ≡ resource_by tree res o
 by_step tree res o first = ap (resource_by tree res) (sym first)
 
 -- what a script writes at the place of a resource

@@ -13,7 +13,7 @@ use Rattle.sp_base.specs.declared.answer.Answer.{Answer}
 use Rattle.resource_tree.specs.Content.{Content}
 use Rattle.resource_tree.specs.Seen.{Resource, Seen}
 use Rattle.overlay_merge.specs.Roots.{is_merged_path}
-use Rattle.overlay_merge.specs.Merged.{merged_resource, merged_alone, merged_with_kid, names_like, with_kid, without_kids}
+use Rattle.overlay_merge.specs.Merged.{merged_resource, merged_alone, merged_with_kid, names_like, with_only_kid, without_kids}
 use Rattle.url_split.specs.declared.decompose.Parts.{Parts}
 use Rattle.publisher.specs.declared.templates.Reading.{Reading}
 use Rattle.publisher.specs.declared.templates.Reading.TheVariants.{Parsed, Refused}
@@ -27,7 +27,7 @@ use Rattle.get_servlet.specs.Answers.{json_answer, levels_of}
 use Rattle.get_servlet.specs.Rendering.{json_text, kid_of_name, resource_json}
 use Rattle.get_servlet.specs.Streams.{kid_stream, stream_of}
 use Rattle.publisher.specs.Depths.{depth_of}
-use Rattle.publisher.specs.Rendering.{ScriptAt, answer_by, default_answer, file_representation, is_bare, is_json, json_representation, json_to_depth, resource_answer, script_at, script_for, script_representation, seen_resources, with_text}
+use Rattle.publisher.specs.Rendering.{ScriptAt, answer_by, default_answer, file_representation, is_bare, is_json, json_representation, json_to_depth, resource_answer, script_there, script_for, script_representation, seen_resources, script_with_text}
 use Rattle.publisher.specs.SeenAlone.{IsSeenAlone, answer_seen, is_of_no_level, seen_answer, shows_no_kid}
 
 -- the whole resource, of which the other is all but the kids
@@ -93,26 +93,26 @@ reading-same a b e = cc
 
 -- by the reading of the script
 pub read-written : (tree : Content) (parts : Parts) (res : Resource) (script : Segments) (text : Option (List ℕ)) (reading : Reading) → IsSeenAlone tree parts res → Some reading ≡ option_map reading_of text
-    → script_representation tree res script reading ≡ seen_answer (option_map (with_text script) text) tree parts
+    → script_representation tree res script reading ≡ seen_answer (option_map (script_with_text script) text) tree parts
 read-written tree parts res script None reading alone is = absurd (let no : ⊥ = cc in no)
 read-written tree parts res script (Some text) reading alone is =
-    ap (script_representation tree res script) (reading-same reading (reading_of text) is) ∙ written-whole tree parts res (with_text script text) alone
+    ap (script_representation tree res script) (reading-same reading (reading_of text) is) ∙ written-whole tree parts res (script_with_text script text) alone
 
 -- where there is no reading there is no script
-pub unread : (script : Segments) (text : Option (List ℕ)) → None ≡ option_map reading_of text → option_map (with_text script) text ≡ None
+pub unread : (script : Segments) (text : Option (List ℕ)) → None ≡ option_map reading_of text → option_map (script_with_text script) text ≡ None
 unread script None is = refl
 unread script (Some text) is = absurd (let no : ⊥ = cc in no)
 
 -- the script that was searched for by the properties is the resource's
 pub found-script : (tree : Content) (parts : Parts) (res : Resource) (props : List (List ℕ × Value)) (found : Option (List (List ℕ))) (script : List (List ℕ)) → props ≡ res.props → found ≡ first_script tree (chain_of tree props) parts → found ≡ Some script
-    → script_for tree parts res ≡ script_at tree script
+    → script_for tree parts res ≡ script_there tree script
 unfolding script_for
-found-script tree parts res props found script same value is = ap (option_and_then (script_at tree)) (ap (λ p. first_script tree (chain_of tree p) parts) (sym same) ∙ sym value ∙ is)
+found-script tree parts res props found script same value is = ap (option_and_then (script_there tree)) (ap (λ p. first_script tree (chain_of tree p) parts) (sym same) ∙ sym value ∙ is)
 
 pub found-none : (tree : Content) (parts : Parts) (res : Resource) (props : List (List ℕ × Value)) (found : Option (List (List ℕ))) → props ≡ res.props → found ≡ first_script tree (chain_of tree props) parts → found ≡ None
     → script_for tree parts res ≡ None
 unfolding script_for
-found-none tree parts res props found same value is = ap (option_and_then (script_at tree)) (ap (λ p. first_script tree (chain_of tree p) parts) (sym same) ∙ sym value ∙ is)
+found-none tree parts res props found same value is = ap (option_and_then (script_there tree)) (ap (λ p. first_script tree (chain_of tree p) parts) (sym same) ∙ sym value ∙ is)
 
 -- an answer that is one is the other
 pub answer-as : {E : Type 0} (r : Result Answer E) (a b : Answer) → a ≡ b → IfOk r (λ x. x ≡ a) → IfOk r (λ x. x ≡ b)
@@ -173,7 +173,7 @@ lists_like name names = by (list_any (pointwise nat_eq name) names) refl
     by true is = ap (λ b. list_any (pointwise nat_eq name) (cond b (name ∷ []) [])) is ∙ ap (λ t. t || false) (nat_list_eq_equiv.refl name) ∙ sym is
     by false is = ap (λ b. list_any (pointwise nat_eq name) (cond b (name ∷ []) [])) is ∙ sym is
 
-stream_like : (seen : Seen) (res : Resource) → stream_of seen (with_kid content_name res) ≡ stream_of seen res
+stream_like : (seen : Seen) (res : Resource) → stream_of seen (with_only_kid content_name res) ≡ stream_of seen res
 unfolding stream_of
 stream_like seen res = ap (λ b. if b then kid_stream (kid_of_name seen res.path content_name) else None) (lists_like content_name res.kids)
 
@@ -181,13 +181,13 @@ file_same : (res : Resource) (ks : List (List ℕ)) (stream : Option Stream) →
 file_same res ks None = refl
 file_same res ks (Some stream) = refl
 
-file_like : (seen : Seen) (parts : Parts) (res : Resource) → is_json parts.extension ≡ false → default_answer seen parts (with_kid content_name res) ≡ default_answer seen parts res
+file_like : (seen : Seen) (parts : Parts) (res : Resource) → is_json parts.extension ≡ false → default_answer seen parts (with_only_kid content_name res) ≡ default_answer seen parts res
 file_like seen parts res other =
-    ap (λ b. answered seen parts b (is_bare parts) (with_kid content_name res)) other
-    ∙ ap (λ a. if is_bare parts then a else error_answer 404) (file_same res (names_like content_name res.kids) (stream_of seen (with_kid content_name res)) ∙ ap (file_representation res) (stream_like seen res))
+    ap (λ b. answered seen parts b (is_bare parts) (with_only_kid content_name res)) other
+    ∙ ap (λ a. if is_bare parts then a else error_answer 404) (file_same res (names_like content_name res.kids) (stream_of seen (with_only_kid content_name res)) ∙ ap (file_representation res) (stream_like seen res))
     ∙ sym (ap (λ b. answered seen parts b (is_bare parts) res) other)
 
-seen_like : (seen : Option Resource) (tree : Content) (parts : Parts) → is_json parts.extension ≡ false → answer_seen None tree parts (option_map (with_kid content_name) seen) ≡ answer_seen None tree parts seen
+seen_like : (seen : Option Resource) (tree : Content) (parts : Parts) → is_json parts.extension ≡ false → answer_seen None tree parts (option_map (with_only_kid content_name) seen) ≡ answer_seen None tree parts seen
 seen_like None tree parts other = refl
 seen_like (Some res) tree parts other = file_like (seen_resources tree) parts res other
 
@@ -195,10 +195,10 @@ pub kid-shown : (tree : Content) (parts : Parts) → is_json parts.extension ≡
 unfolding merged_with_kid
 kid-shown tree parts other = by (is_merged_path parts.path) refl
   where
-    by : (b : Bool) → is_merged_path parts.path ≡ b → answer_seen None tree parts (if is_merged_path parts.path then option_map (with_kid content_name) (merged_resource tree parts.path) else merged_resource tree parts.path)
+    by : (b : Bool) → is_merged_path parts.path ≡ b → answer_seen None tree parts (if is_merged_path parts.path then option_map (with_only_kid content_name) (merged_resource tree parts.path) else merged_resource tree parts.path)
         ≡ answer_seen None tree parts (merged_resource tree parts.path)
-    by true is = ap (λ b. answer_seen None tree parts (if b then option_map (with_kid content_name) (merged_resource tree parts.path) else merged_resource tree parts.path)) is ∙ seen_like (merged_resource tree parts.path) tree parts other
-    by false is = ap (λ b. answer_seen None tree parts (if b then option_map (with_kid content_name) (merged_resource tree parts.path) else merged_resource tree parts.path)) is
+    by true is = ap (λ b. answer_seen None tree parts (if b then option_map (with_only_kid content_name) (merged_resource tree parts.path) else merged_resource tree parts.path)) is ∙ seen_like (merged_resource tree parts.path) tree parts other
+    by false is = ap (λ b. answer_seen None tree parts (if b then option_map (with_only_kid content_name) (merged_resource tree parts.path) else merged_resource tree parts.path)) is
 
 -- what is seen in place of another is answered as that
 pub answer-of : {E : Type 0} (r : Result (Option Resource) E) (tree : Content) (parts : Parts) (seen : Option Resource) → answer_seen None tree parts seen ≡ seen_answer None tree parts → IfOk r (λ o. o ≡ seen)

@@ -19,7 +19,7 @@ use Rattle.htl_blocks.specs.Reading.{most_nested_blocks}
 use Rattle.htl_blocks.specs.Spelling.{SpellsBlocks}
 use Rattle.publisher.specs.Cases.{ReadsByScript}
 use Rattle.publisher.specs.Errors.{redirect}
-use Rattle.publisher.specs.Pages.{bindings_at, page_of, place_of}
+use Rattle.publisher.specs.Pages.{bindings_at, page_of, place_for}
 use Rattle.publisher.specs.Rendering.{content_after_request, is_post, is_read, answer_to_request}
 
 -- each is a GET or a HEAD, of one path at one host and port
@@ -35,8 +35,8 @@ abbrev pub KeepsContentIfRefused : Content → Ask → Type 0
 KeepsContentIfRefused tree ask = (answer_to_request tree ask).status ≢ 200 → (answer_to_request tree ask).status ≢ 201 → content_after_request tree ask ≡ tree
 
 -- a representation that is answered has at most so many bytes
-abbrev pub FitsIfRead : Content → Ask → Type 0
-FitsIfRead tree ask = is_read ask.method ≡ true → (answer_to_request tree ask).status ≡ 200 → length (answer_to_request tree ask).body ≤ most_rendered_bytes
+abbrev pub FitsIfReadAndAnswered : Content → Ask → Type 0
+FitsIfReadAndAnswered tree ask = is_read ask.method ≡ true → (answer_to_request tree ask).status ≡ 200 → length (answer_to_request tree ask).body ≤ most_rendered_bytes
 
 -- where the path's text leads away, a GET, a HEAD or a POST is answered with a redirect
 abbrev pub IsRedirectIfAway : Content → Ask → ℕ → Text → Type 0
@@ -50,10 +50,10 @@ KeepsContentIfAway tree ask status target = IsMapped tree ask.host ask.port (tex
 -- a page that the script gives is what the blocks write that its text spells, with what is put in
 abbrev pub WritesPageIfSpelled : Content → Ask → Resource → Text → List Block → Type 0
 WritesPageIfSpelled tree ask res text blocks = (reads : ReadsByScript tree ask res text) → SpellsBlocks most_nested_blocks text blocks
-    → (answer_to_request tree ask).status ≡ 200 → (answer_to_request tree ask).body ≡ (page_of tree (place_of reads.script res) blocks).text
+    → (answer_to_request tree ask).status ≡ 200 → (answer_to_request tree ask).body ≡ (page_of tree (place_for reads.script res) blocks).text
 
 -- a page that a script without a block tag gives is what the pieces write that its text spells
 abbrev pub IsWrittenIfPlain : Content → Ask → Resource → Text → List TemplatePiece → Type 0
 IsWrittenIfPlain tree ask res text pieces = (reads : ReadsByScript tree ask res text) → 0 < length text → HasNoBlock (markup_parts text)
     → SpellsTemplate text pieces [] → (answer_to_request tree ask).status ≡ 200
-    → (answer_to_request tree ask).body ≡ template_output (bindings_at (place_of reads.script res) []) pieces
+    → (answer_to_request tree ask).body ≡ template_output (bindings_at (place_for reads.script res) []) pieces

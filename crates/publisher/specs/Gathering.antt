@@ -4,7 +4,7 @@ use Rattle.sp_base.specs.Limits.{most_rendered_bytes}
 use Rattle.sp_base.specs.Texts.{Pairs}
 use Rattle.htl_expr.specs.Bindings.{Bindings}
 use Rattle.htl_expr.specs.Variables.{vars_of}
-use Rattle.htl_blocks.specs.Parts.{Part, inclusions, rounds, text_of}
+use Rattle.htl_blocks.specs.Parts.{Part, inclusions, rounds, text_of_parts}
 use Rattle.htl_blocks.specs.Refused.{most_inclusions, most_rounds}
 use Rattle.publisher.specs.declared.page_fault.PageFault.{PageFault}
 use Rattle.publisher.specs.declared.page_fault.PageFault.TheVariants.{NoMemory}
@@ -37,7 +37,7 @@ IsPassed page = (page.is_deep ≡ true) ⊎ ((most_rendered_bytes < length page.
 
 -- a limit is passed by what stands in parts, whatever they put in
 abbrev pub PassLimits : List Part → Type 0
-PassLimits ps = (most_rendered_bytes < length (text_of ps)) ⊎ ((most_inclusions < inclusions ps) ⊎ (most_rounds < rounds ps))
+PassLimits ps = (most_rendered_bytes < length (text_of_parts ps)) ⊎ ((most_inclusions < inclusions ps) ⊎ (most_rounds < rounds ps))
 
 -- a page is gathered after another, or with it a limit is passed
 abbrev pub Gathered : {A : Type 0} → Result A PageFault → Page → Page → Page → Type 0

@@ -1,11 +1,12 @@
 -- What a publisher keeps beside its tree: the readings of scripts, and the indexes of mappings and of scripts. What is answered needs none of it: only private types and functions and proofs cite this.
-use Rattle.std.specs.Prelude.{◌≡◌, ◌⊎◌, Bool, false, List, Option, Some, None, IfSome, codes, option_map}
+use Rattle.std.specs.Prelude.{◌≡◌, ◌⊎◌, Bool, false, List, Option, Some, None, IfSome, option_map}
 use Rattle.std.specs.Map.{lookup}
 use Rattle.sp_base.specs.Texts.{Segments}
-use Rattle.resource_tree.specs.Content.{Content, kid, same_path}
+use Rattle.resource_tree.specs.Content.{Content, same_path}
 use Rattle.resource_tree.specs.Patches.{PatchEntries, entry_at}
 use Rattle.script_rank.specs.Ranking.{script_text}
 use Rattle.script_rank.specs.Index as script_index
+use Rattle.script_rank.specs.Noting.{text_path}
 use Rattle.url_maps.specs.Claims as map_index
 use Rattle.publisher.specs.declared.kept_index.Indexes.{Indexes}
 use Rattle.publisher.specs.declared.templates.Reading.{Reading}
@@ -27,10 +28,6 @@ AreReadings tree kept = (path : Segments) (reading : Reading) → reading_at kep
 -- no reading is kept that wasn't before
 abbrev pub AreAmong : KeptReadings → KeptReadings → Type 0
 AreAmong old new = (path : Segments) (reading : Reading) → reading_at new path ≡ Some reading → reading_at old path ≡ Some reading
-
--- where the text of a script stands
-abbrev pub text_path : Segments → Segments
-text_path path = kid path (codes "jcr:content")
 
 -- no reading is kept of a script at whose text a patch has something
 abbrev pub AreUnpatched : PatchEntries → KeptReadings → Type 0

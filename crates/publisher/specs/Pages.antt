@@ -1,7 +1,6 @@
 -- A page: what a script writes for a resource, with what the scripts and resources write that are put in, one in another
 -- (HTML Template Language specification 1.4, "Block Statements", include and resource).
-use Rattle.std.specs.Prelude.{ℕ, zero, suc, ◌+◌, Bool, true, false, nat_lt, nat_eq, ◌||◌, if◌then◌else◌, List, [], ◌∷◌, ◌++◌, codes, Option, Some, None, option_and_then}
-use Rattle.std.specs.List.{ends_with}
+use Rattle.std.specs.Prelude.{ℕ, zero, suc, ◌+◌, Bool, true, false, nat_lt, ◌||◌, if◌then◌else◌, List, [], ◌∷◌, ◌++◌, codes, Option, Some, None, option_and_then}
 use Rattle.std.specs.Result.{result_ok}
 use Rattle.sp_base.specs.Bytes.{begins_with_byte}
 use Rattle.sp_base.specs.Paths.{child_of, name_of, parent_of, path_of, text_of}
@@ -11,7 +10,7 @@ use Rattle.resource_tree.specs.Seen.{Resource}
 use Rattle.overlay_merge.specs.Merged.{merged_resource}
 use Rattle.url_split.specs.declared.decompose.Parts.{Parts}
 use Rattle.type_chain.specs.Chain.{chain_of, type_text}
-use Rattle.script_rank.specs.Ranking.{script_text}
+use Rattle.script_rank.specs.Ranking.{is_script_name, script_text}
 use Rattle.script_rank.specs.Search.{search_result as first_script}
 use Rattle.htl_expr.specs.Bindings.{Bindings}
 use Rattle.htl_blocks.specs.declared.block.Block.{Block}
@@ -29,8 +28,8 @@ pub record Place : Type 0 where
   pub props : Properties
 
 -- a script for a resource
-abbrev pub place_of : Segments → Resource → Place
-place_of script res = record { script = script; path = res.path; props = res.props }
+abbrev pub place_for : Segments → Resource → Place
+place_for script res = record { script = script; path = res.path; props = res.props }
 
 -- what the expressions of a place see, with variables
 abbrev pub bindings_at : Place → Pairs → Bindings
@@ -45,10 +44,6 @@ pub record Written : Type 0 where
 abbrev pub written_at : Place → Pairs → Option (List Block) → Option Written
 written_at place vars None = None
 written_at place vars (Some blocks) = Some (record { place = place; parts = blocks_parts (bindings_at place vars) blocks })
-
--- the name is one of a script
-abbrev pub is_script_name : Text → Bool
-is_script_name name = ends_with nat_eq name (codes ".html")
 
 -- the blocks of a text that has a reading
 abbrev pub readable_blocks : Text → Option (List Block)
@@ -80,17 +75,17 @@ html_parts path = record { path = path; selectors = []; extension = codes "html"
 -- a resource by a script, without variables
 abbrev pub resource_by : Content → Resource → Option Segments → Option Written
 resource_by tree res None = None
-resource_by tree res (Some script) = written_by_script tree (place_of script res) []
+resource_by tree res (Some script) = written_by_script tree (place_for script res) []
 
 -- what is seen at a path, by the script that ranks first for it with the extension html
-abbrev pub shown_resource : Content → Option Resource → Option Written
-shown_resource tree None = None
-shown_resource tree (Some res) = resource_by tree res (first_script tree (chain_of tree res.props) (html_parts res.path))
+abbrev pub written_resource : Content → Option Resource → Option Written
+written_resource tree None = None
+written_resource tree (Some res) = resource_by tree res (first_script tree (chain_of tree res.props) (html_parts res.path))
 
 -- the resource at a path
 abbrev pub included_resource : Content → Option Segments → Option Written
 included_resource tree None = None
-included_resource tree (Some path) = shown_resource tree (merged_resource tree path)
+included_resource tree (Some path) = written_resource tree (merged_resource tree path)
 
 -- What a part puts in at a place, if there is something to put in. A script's name is one below the folder of the script that names it, a
 -- resource's one below the resource.

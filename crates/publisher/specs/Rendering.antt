@@ -29,7 +29,7 @@ use Rattle.get_servlet.specs.Streams.{stream_of}
 use Rattle.publisher.specs.declared.templates.Reading.{Reading}
 use Rattle.publisher.specs.declared.templates.Reading.TheVariants.{Parsed, Refused}
 use Rattle.publisher.specs.Readings.{reading_of}
-use Rattle.publisher.specs.Pages.{Page, is_over, page_of, place_of}
+use Rattle.publisher.specs.Pages.{Page, is_over, page_of, place_for}
 use Rattle.error_answers.specs.Errors.{error_answer}
 use Rattle.publisher.specs.Errors.{answer_with_body, redirect}
 use Rattle.publisher.specs.Depths.{depth_of}
@@ -98,16 +98,16 @@ pub record ScriptAt : Type 0 where
   pub text : Text
 
 -- a path with a text
-abbrev pub with_text : Segments → Text → ScriptAt
-with_text path text = record { path = path; text = text }
+abbrev pub script_with_text : Segments → Text → ScriptAt
+script_with_text path text = record { path = path; text = text }
 
 -- the script at a path, if one is there
-abbrev pub script_at : Content → Segments → Option ScriptAt
-script_at tree path = option_map (with_text path) (script_text tree path)
+abbrev pub script_there : Content → Segments → Option ScriptAt
+script_there tree path = option_map (script_with_text path) (script_text tree path)
 
 -- the script that ranks first for a resource, if there is one
 unfoldable pub script_for : Content → Parts → Resource → Option ScriptAt
-script_for tree parts res = option_and_then (script_at tree) (first_script tree (chain_of tree res.props) parts)
+script_for tree parts res = option_and_then (script_there tree) (first_script tree (chain_of tree res.props) parts)
 
 -- the media type of a script's output
 abbrev pub html_kind : List ℕ
@@ -119,7 +119,7 @@ page_answer mark page = if is_over page then error_answer 500 else representatio
 
 -- the page that the script at a path writes for a resource; a text that has no reading is an error
 abbrev pub script_representation : Content → Resource → Segments → Reading → Answer
-script_representation tree res script (Parsed blocks) = page_answer (mark_of res) (page_of tree (place_of script res) blocks)
+script_representation tree res script (Parsed blocks) = page_answer (mark_of res) (page_of tree (place_for script res) blocks)
 script_representation tree res script Refused = error_answer 500
 
 -- what is seen at a path: the merged resource. Types and scripts are looked up among the tree's own nodes.

@@ -9,7 +9,7 @@ ghost use Rattle.resource_tree.specs.Seen.{Resource};
 ghost use Rattle.htl_text.specs.declared.piece.TemplatePiece.{TemplatePiece};
 ghost use Rattle.htl_blocks.specs.declared.block.Block.{Block};
 ghost use Rattle.error_answers.specs.Errors.{error_answer};
-ghost use Rattle.publisher.specs.AnswerLaws.{AreReadsOfOnePath, FitsIfRead, IsRedirectIfAway, KeepsContentIfAway, KeepsContentIfRefused};
+ghost use Rattle.publisher.specs.AnswerLaws.{AreReadsOfOnePath, FitsIfReadAndAnswered, IsRedirectIfAway, KeepsContentIfAway, KeepsContentIfRefused};
 ghost use Rattle.publisher.specs.AnswerLaws.{WritesPageIfSpelled, IsWrittenIfPlain};
 ghost use Rattle.publisher.specs.Cases.{IsAnswer};
 ghost use Rattle.publisher.specs.PostLaws.{PostsAreRefusedForCauses, RequestsKeepContentGood};
@@ -64,7 +64,7 @@ pub fn posts_are_refused_for_causes()
 
 /// A representation has at most 4,194,304 bytes. (That a 200 to a POST has no more either is a clause of `Publisher::answer`.)
 pub fn representations_fit()
-    ensures { (tree : Content) (ask : Ask) → FitsIfRead tree ask }
+    ensures { (tree : Content) (ask : Ask) → FitsIfReadAndAnswered tree ask }
 {}
 
 /// Every status has three digits at most, and none is 507 (Insufficient Storage): out of memory is no answer of the content.

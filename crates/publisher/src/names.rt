@@ -3,17 +3,10 @@
 ghost use Rattle.std.specs.Prelude.{◌≡◌, IfOk};
 ghost use Rattle.sp_base.specs.Paths.{child_of};
 ghost use Rattle.std.specs.Result.{result_ok};
-ghost use Rattle.publisher.specs.Pages.{is_script_name, path_named};
+ghost use Rattle.publisher.specs.Pages.{path_named};
 
 use sp_base::{Mem, NoMemory, Path, PathFault, begins_with_byte};
 use std::alloc::Global;
-
-/// Whether a name is one of a script.
-pub(crate) fn is_script_name(name: &str) -> bool
-    ensures { result ≡ is_script_name name.now }
-{
-    name.as_bytes().ends_with(b".html")
-}
 
 // The path with a name after it, where there is one.
 fn below(alloc: Global, folder: &Path, name: &str) -> Mem<Option<Path>>

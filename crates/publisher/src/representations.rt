@@ -5,7 +5,7 @@ ghost use Rattle.publisher.specs.Depths.{depth_of};
 ghost use Rattle.type_chain.specs.Chain.{chain_of};
 ghost use Rattle.script_rank.specs.Search.{search_result as first_script};
 ghost use Rattle.publisher.specs.Kept.{AreReadings};
-ghost use Rattle.publisher.specs.Rendering.{representation_of, json_representation, json_to_depth, file_representation, is_bare, default_answer, resource_answer, script_at, seen_resources};
+ghost use Rattle.publisher.specs.Rendering.{representation_of, json_representation, json_to_depth, file_representation, is_bare, default_answer, resource_answer, script_there, seen_resources};
 ghost use Rattle.publisher.specs.SeenAlone.{IsSeenAlone, answer_seen, seen_answer, shows_no_kid};
 
 use crate::choices::choices_text;
@@ -148,7 +148,7 @@ fn answer_by_script(
 ) -> Mem<Answer>
     requires kept { AreReadings tree.now templates.old }
     requires seen { IsSeenAlone tree.now parts.now res.now }
-    ensures answer { IfOk result (λ a. a ≡ seen_answer (script_at tree.now script) tree.now parts.now) }
+    ensures answer { IfOk result (λ a. a ≡ seen_answer (script_there tree.now script) tree.now parts.now) }
     ensures kept { AreReadings tree.now templates.new }
 {
     match reading_at(alloc, tree, templates, &script)? {

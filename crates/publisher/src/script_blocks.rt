@@ -5,10 +5,10 @@ ghost use Rattle.publisher.specs.Kept.{AreReadings};
 ghost use Rattle.publisher.specs.Pages.{script_blocks};
 ghost use Rattle.publisher.specs.Readings.{blocks_in};
 
-use crate::names::is_script_name;
 use crate::shared_blocks::SharedBlocks;
 use crate::templates::{Reading, Templates, reading_at};
 use resource_tree::Tree;
+use script_rank::is_script_name;
 use sp_base::{Mem, Path};
 use std::alloc::Global;
 

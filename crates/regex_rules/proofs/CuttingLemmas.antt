@@ -5,20 +5,20 @@ use Rattle.regex_rules.specs.declared.repeat.Repeat.{Repeat}
 use Rattle.regex_rules.specs.declared.repeat.Repeat.TheVariants.{Once, Optional, Any, AtLeastOnce}
 use Rattle.regex_rules.specs.declared.character.OneChar.{OneChar}
 use Rattle.regex_rules.specs.Trees.{Tree, Empty, Char, Bracket, Or}
-use Rattle.regex_rules.specs.Languages.{Texts, Cut, Times, Repeated, IsOne, is_one, Which, Last, Earlier, InRow, InLanguage, is_empty, is_one_text, is_cut, is_times, is_times_at_most, is_any_times, is_repeated, in_row, in_language}
+use Rattle.regex_rules.specs.Languages.{Texts, Cut, Times, Repeated, IsOne, is_one, Which, Last, Earlier, InRow, InLanguage, lacks_characters, is_one_text, is_cut_in_two, is_times, is_times_at_most, is_any_times, is_repetition, in_row, in_language}
 use Rattle.regex_rules.proofs.TextLemmas.{Says, says_or, says_and, says_iff, says_false, ends_empty, cons_is_some}
 
 -- a test says of each text whether it is in a set
 abbrev Tells : (List ℕ → Bool) → Texts → Type 0
 Tells p P = (cs : List ℕ) → Says (p cs) (P cs)
 
-tells_empty : Tells is_empty (λ cs. cs ≡ [])
+tells_empty : Tells lacks_characters (λ cs. cs ≡ [])
 tells_empty [] = (λ e. refl, λ e. refl)
 tells_empty (c ∷ cs) = says_false (cons_is_some c cs)
 
 tells_one : (one : OneChar) → Tells (is_one_text one) (IsOne one)
 tells_one one [] = says_false (λ s. cons_is_some s.0 [] (sym s.2))
-tells_one one (c ∷ cs) = says_iff (is_one one c && is_empty cs) (says_and (is_one one c) (is_empty cs) ((λ e. e), (λ e. e)) (tells_empty cs)) (there, back)
+tells_one one (c ∷ cs) = says_iff (is_one one c && lacks_characters cs) (says_and (is_one one c) (lacks_characters cs) ((λ e. e), (λ e. e)) (tells_empty cs)) (there, back)
   where
     there : (is_one one c ≡ true) × (cs ≡ []) → IsOne one (c ∷ cs)
     there (fits, none) = (c, fits, ap (λ (l : List ℕ). c ∷ l) none)
@@ -30,7 +30,7 @@ tells_one one (c ∷ cs) = says_iff (is_one one c && is_empty cs) (says_and (is_
 
 -- ---- cuttings
 
-tells_cut : {P Q : Texts} (p q : List ℕ → Bool) → Tells p P → Tells q Q → Tells (is_cut p q) (Cut P Q)
+tells_cut : {P Q : Texts} (p q : List ℕ → Bool) → Tells p P → Tells q Q → Tells (is_cut_in_two p q) (Cut P Q)
 tells_cut {P = P} {Q = Q} p q sp sq [] = says_iff (p [] && q []) (says_and (p []) (q []) (sp []) (sq [])) (there, back)
   where
     there : P [] × Q [] → Cut P Q []
@@ -39,8 +39,8 @@ tells_cut {P = P} {Q = Q} p q sp sq [] = says_iff (p [] && q []) (says_and (p []
     back : Cut P Q [] → P [] × Q []
     back (xs, ys, x, y, e) = let parts = ends_empty xs ys e in (subst P parts.0 x, subst Q parts.1 y)
 tells_cut {P = P} {Q = Q} p q sp sq (c ∷ cs) =
-    says_iff ((p [] && q (c ∷ cs)) || is_cut (λ part. p (c ∷ part)) q cs)
-    (says_or (p [] && q (c ∷ cs)) (is_cut (λ part. p (c ∷ part)) q cs) (says_and (p []) (q (c ∷ cs)) (sp []) (sq (c ∷ cs))) (tells_cut {P = λ part. P (c ∷ part)} {Q = Q} (λ part. p (c ∷ part)) q (λ part. sp (c ∷ part)) sq cs))
+    says_iff ((p [] && q (c ∷ cs)) || is_cut_in_two (λ part. p (c ∷ part)) q cs)
+    (says_or (p [] && q (c ∷ cs)) (is_cut_in_two (λ part. p (c ∷ part)) q cs) (says_and (p []) (q (c ∷ cs)) (sp []) (sq (c ∷ cs))) (tells_cut {P = λ part. P (c ∷ part)} {Q = Q} (λ part. p (c ∷ part)) q (λ part. sp (c ∷ part)) sq cs))
     (there, back)
   where
     there : (P [] × Q (c ∷ cs)) ⊎ Cut (λ part. P (c ∷ part)) Q cs → Cut P Q (c ∷ cs)
@@ -99,11 +99,11 @@ tells_any {P = P} p sp cs = (at_most_there p sp (length cs) cs, back)
     back : (number : ℕ) × Times number P cs → is_any_times p cs ≡ true
     back (number, t) = let few = few_parts P number cs t in at_most_back p sp few.0 few.1 (length cs) cs few.2 few.3
 
-tells_repeated : {P : Texts} (p : List ℕ → Bool) → Tells p P → (repeat : Repeat) → Tells (is_repeated repeat p) (Repeated repeat P)
+tells_repeated : {P : Texts} (p : List ℕ → Bool) → Tells p P → (repeat : Repeat) → Tells (is_repetition repeat p) (Repeated repeat P)
 tells_repeated p sp Once cs = sp cs
-tells_repeated p sp Optional cs = says_or (is_empty cs) (p cs) (tells_empty cs) (sp cs)
+tells_repeated p sp Optional cs = says_or (lacks_characters cs) (p cs) (tells_empty cs) (sp cs)
 tells_repeated p sp Any cs = tells_any p sp cs
-tells_repeated {P = P} p sp AtLeastOnce cs = says_iff (is_cut p (is_any_times p) cs) (tells_cut {P = P} {Q = λ ds. (number : ℕ) × Times number P ds} p (is_any_times p) sp (tells_any p sp) cs) (there, back)
+tells_repeated {P = P} p sp AtLeastOnce cs = says_iff (is_cut_in_two p (is_any_times p) cs) (tells_cut {P = P} {Q = λ ds. (number : ℕ) × Times number P ds} p (is_any_times p) sp (tells_any p sp) cs) (there, back)
   where
     there : Cut P (λ ds. (number : ℕ) × Times number P ds) cs → Repeated AtLeastOnce P cs
     there (xs, ys, x, (number, t), e) = (number, (xs, ys, x, t, e))
@@ -115,9 +115,9 @@ tells_repeated {P = P} p sp AtLeastOnce cs = says_iff (is_cut p (is_any_times p)
 
 tells_row : (which : Which) (tree : Tree) → Tells (in_row which tree) (InRow which tree)
 tells_row Last Empty cs = tells_empty cs
-tells_row Last (Char rows one repeat) cs = tells_cut {P = InRow Last rows} {Q = Repeated repeat (IsOne one)} (in_row Last rows) (is_repeated repeat (is_one_text one)) (tells_row Last rows) (tells_repeated (is_one_text one) (tells_one one) repeat) cs
+tells_row Last (Char rows one repeat) cs = tells_cut {P = InRow Last rows} {Q = Repeated repeat (IsOne one)} (in_row Last rows) (is_repetition repeat (is_one_text one)) (tells_row Last rows) (tells_repeated (is_one_text one) (tells_one one) repeat) cs
 tells_row Last (Bracket rows inner repeat) cs =
-    tells_cut {P = InRow Last rows} {Q = Repeated repeat (λ ds. InRow Earlier inner ds ⊎ InRow Last inner ds)} (in_row Last rows) (is_repeated repeat (λ part. in_row Earlier inner part || in_row Last inner part)) (tells_row Last rows)
+    tells_cut {P = InRow Last rows} {Q = Repeated repeat (λ ds. InRow Earlier inner ds ⊎ InRow Last inner ds)} (in_row Last rows) (is_repetition repeat (λ part. in_row Earlier inner part || in_row Last inner part)) (tells_row Last rows)
     (tells_repeated (λ part. in_row Earlier inner part || in_row Last inner part) (λ ds. says_or (in_row Earlier inner ds) (in_row Last inner ds) (tells_row Earlier inner ds) (tells_row Last inner ds)) repeat) cs
 tells_row Last (Or rows) cs = tells_empty cs
 tells_row Earlier Empty cs = says_false (λ s. s)

@@ -13,39 +13,39 @@ use Rattle.regex_rules.specs.declared.reader.Reader.{Reader}
 use Rattle.regex_rules.specs.declared.fault.PatternFault.{PatternFault}
 use Rattle.regex_rules.specs.declared.fault.PatternFault.TheVariants.{BadPattern, TooDeep}
 use Rattle.regex_rules.specs.Trees.{Tree, places_of}
-use Rattle.regex_rules.specs.Spelling.{Bounds, range, is_special, is_meant, is_reserved, IsMember, IsAnchor, IsWhole, IsPattern, strict, unlimited, free}
-use Rattle.regex_rules.specs.Faults.{GoesOn, GoesOnTo, GoesNowhere, place_after, IsFault, IsUnended}
-use Rattle.regex_rules.specs.Reading.{Step, with_repeat, in_mode, in_class, at_places, row_repeated, opened, special, in_a_row, class_first, class_next, class_goes_on, spanned, class_hyphen, class_last_escaped, step, step_in, may_end, finished, then_read, read_from, unread}
+use Rattle.regex_rules.specs.Spelling.{Bounds, range, is_special, is_meant, is_reserved, IsMember, IsAnchor, IsWholePattern, IsPattern, strict, unlimited, no_bounds}
+use Rattle.regex_rules.specs.Faults.{BeginsPattern, GoesOnTo, GoesNowhere, place_behind, IsFault, IsUnended}
+use Rattle.regex_rules.specs.Reading.{Step, with_repeat, in_mode, reader_in_class, at_places, row_repeated, opened, special, in_a_row, class_first, class_next, class_goes_on, spanned, class_hyphen, class_last_escaped, step, step_in, may_end, finished, then_read, read_from, unread}
 use Rattle.regex_rules.proofs.StandLemmas.{HoldsRow, row_goes_on, goes_on_before, row_whole}
 use Rattle.regex_rules.proofs.SoundLemmas.{equals, HoldsSome, HoldsMember, HoldsIn, Holds, Sound, begin_row, escape_sound, first_sound, begun_sound, member_sound, spanned_sound, hyphen_held, last_held, class_escape_sound, last_escape_sound, step_sound}
 use Rattle.regex_rules.proofs.LeadLemmas.{whole_read}
 
 -- ---- what is held goes on
 
-member_goes_on : (bounds : Bounds) (cs : List ℕ) (r : Reader) (c place : ℕ) → HoldsMember bounds cs r c place [] → GoesOn bounds cs
-member_goes_on bounds cs r c place h = goes_on_before bounds cs (93 ∷ []) (row_goes_on bounds (cs ++ 93 ∷ []) _ _ (member_sound bounds cs 93 (place_after cs) c place r refl h))
+member_goes_on : (bounds : Bounds) (cs : List ℕ) (r : Reader) (c place : ℕ) → HoldsMember bounds cs r c place [] → BeginsPattern bounds cs
+member_goes_on bounds cs r c place h = goes_on_before bounds cs (93 ∷ []) (row_goes_on bounds (cs ++ 93 ∷ []) _ _ (member_sound bounds cs 93 (place_behind cs) c place r refl h))
 
-hyphen_goes_on : (bounds : Bounds) (cs : List ℕ) (r : Reader) (c place : ℕ) → HoldsMember bounds cs r c place (45 ∷ []) → GoesOn bounds cs
+hyphen_goes_on : (bounds : Bounds) (cs : List ℕ) (r : Reader) (c place : ℕ) → HoldsMember bounds cs r c place (45 ∷ []) → BeginsPattern bounds cs
 hyphen_goes_on bounds cs r c place h = goes_on_before bounds cs (93 ∷ []) (row_goes_on bounds (cs ++ 93 ∷ []) _ _ (hyphen_held bounds cs r c place h))
 
-some_goes_on : (bounds : Bounds) (cs : List ℕ) (r : Reader) → HoldsSome bounds cs r.places r.depth r.negated r.ranges → GoesOn bounds cs
-some_goes_on bounds cs r h = goes_on_before bounds cs (93 ∷ []) (row_goes_on bounds (cs ++ 93 ∷ []) _ _ (spanned_sound bounds cs 93 (place_after cs) r refl h))
+some_goes_on : (bounds : Bounds) (cs : List ℕ) (r : Reader) → HoldsSome bounds cs r.places r.depth r.negated r.ranges → BeginsPattern bounds cs
+some_goes_on bounds cs r h = goes_on_before bounds cs (93 ∷ []) (row_goes_on bounds (cs ++ 93 ∷ []) _ _ (spanned_sound bounds cs 93 (place_behind cs) r refl h))
 
 -- without the `\` at its end
-before_escape : (cs : List ℕ) (r : Reader) (c place : ℕ) (h : HoldsMember strict cs r c place (45 ∷ 92 ∷ [])) → GoesOn strict (h.before ++ (h.own ++ 45 ∷ []))
+before_escape : (cs : List ℕ) (r : Reader) (c place : ℕ) (h : HoldsMember strict cs r c place (45 ∷ 92 ∷ [])) → BeginsPattern strict (h.before ++ (h.own ++ 45 ∷ []))
 before_escape cs r c place h = hyphen_goes_on strict (h.before ++ (h.own ++ 45 ∷ [])) r c place (record { before = h.before; own = h.own; class = h.class; member = h.member; here = h.here; parts = refl })
 
-held_goes_on : (m : Mode) (cs : List ℕ) (r : Reader) → HoldsIn strict m cs r → HoldsIn free m cs r → GoesOnTo cs
+held_goes_on : (m : Mode) (cs : List ℕ) (r : Reader) → HoldsIn strict m cs r → HoldsIn no_bounds m cs r → GoesOnTo cs
 held_goes_on mode.Begin cs r (none, places, depth) f = inl (row_goes_on strict cs r.places r.depth (begin_row strict cs r.places r.depth none places depth))
 held_goes_on mode.Row cs r row f = inl (row_goes_on strict cs r.places r.depth row)
 held_goes_on mode.Escape cs r (before, row, e) f = inl (goes_on_before strict cs (46 ∷ []) (row_goes_on strict (cs ++ 46 ∷ []) _ _ (escape_sound strict cs before 46 0 r row e)))
 held_goes_on mode.End cs r (before, row, none, e) f =
     let w = row_whole strict before (36 ∷ []) r.places (subst (λ (n : ℕ). HoldsRow strict before r.places n) none row) IsAnchor.present in
-    inl ([], w.0, subst (λ (l : List ℕ). IsWhole strict l w.0) (sym e ∙ sym (append-nil cs)) w.1)
+    inl ([], w.0, subst (λ (l : List ℕ). IsWholePattern strict l w.0) (sym e ∙ sym (append-nil cs)) w.1)
 held_goes_on mode.ClassBegin cs r (before, row, plain, none, e) f =
-    inl (goes_on_before strict cs (97 ∷ []) (member_goes_on strict (cs ++ 97 ∷ []) (in_mode r (mode.Member 97 (place_after cs))) 97 (place_after cs) (begun_sound strict cs before 97 (place_after cs) r refl row plain none e)))
+    inl (goes_on_before strict cs (97 ∷ []) (member_goes_on strict (cs ++ 97 ∷ []) (in_mode r (mode.Member 97 (place_behind cs))) 97 (place_behind cs) (begun_sound strict cs before 97 (place_behind cs) r refl row plain none e)))
 held_goes_on mode.ClassFirst cs r h f =
-    inl (goes_on_before strict cs (97 ∷ []) (member_goes_on strict (cs ++ 97 ∷ []) (in_mode r (mode.Member 97 (place_after cs))) 97 (place_after cs) (first_sound strict cs 97 (place_after cs) r refl h)))
+    inl (goes_on_before strict cs (97 ∷ []) (member_goes_on strict (cs ++ 97 ∷ []) (in_mode r (mode.Member 97 (place_behind cs))) 97 (place_behind cs) (first_sound strict cs 97 (place_behind cs) r refl h)))
 held_goes_on (mode.Member c place) cs r h f = inl (member_goes_on strict cs r c place h)
 held_goes_on (mode.Hyphen c place) cs r h f = inl (hyphen_goes_on strict cs r c place h)
 held_goes_on mode.Spanned cs r h f = inl (some_goes_on strict cs r h)
@@ -53,12 +53,12 @@ held_goes_on mode.LastHyphen cs r (before, h, e) f = inl (goes_on_before strict 
 held_goes_on (mode.MemberEscape place) cs r (before, h, p, e) f =
     inl (goes_on_before strict cs (93 ∷ []) (member_goes_on strict (cs ++ 93 ∷ []) (in_mode r (mode.Member 93 place)) 93 place (class_escape_sound strict cs before 93 0 place r h p e)))
 held_goes_on (mode.LastEscape c place) cs r h f =
-    let s = last_escape_sound free cs 93 0 c place r f in
+    let s = last_escape_sound no_bounds cs 93 0 c place r f in
     inr (
       h.before ++ (h.own ++ 45 ∷ []),
       h.parts ∙ ap (λ (l : List ℕ). h.before ++ l) (sym (append_assoc h.own (45 ∷ []) (92 ∷ []))) ∙ sym (append_assoc h.before (h.own ++ 45 ∷ []) (92 ∷ [])),
       before_escape cs r c place h,
-      goes_on_before free cs (93 ∷ []) (some_goes_on free (cs ++ 93 ∷ []) (in_class r r.negated (r.ranges ++ range c 93 ∷ []) mode.Spanned) s),
+      goes_on_before no_bounds cs (93 ∷ []) (some_goes_on no_bounds (cs ++ 93 ∷ []) (reader_in_class r r.negated (r.ranges ++ range c 93 ∷ []) mode.Spanned) s),
     )
 
 -- ---- what a step answers within each bounds
@@ -73,25 +73,25 @@ pub record Misorders (cs : List ℕ) (c place : ℕ) : Type 0 where
   pub begins : IsMember own first
   pub ends : IsMember other last
   pub order : nat_le first last ≡ false
-  pub goes_on : GoesOn strict (before ++ (own ++ (45 ∷ [])))
-  pub here : place ≡ place_after before
+  pub goes_on : BeginsPattern strict (before ++ (own ++ (45 ∷ [])))
+  pub here : place ≡ place_behind before
   pub parts : cs ++ c ∷ [] ≡ before ++ (own ++ (45 ∷ other))
 
 -- the answers of a step within strict bounds, within unlimited ones, and free
 pub data Agrees (cs : List ℕ) (c at : ℕ) : Step → Step → Step → Type 0 where
   goes : {r : Reader} → Agrees cs c at (Ok r) (Ok r) (Ok r)
   stray : Agrees cs c at (Err (BadPattern at)) (Err (BadPattern at)) (Err (BadPattern at))
-  deep : {r : Reader} → c ≡ 40 → r.mode ≡ mode.Row → GoesOn strict cs → Agrees cs c at (Err (TooDeep at)) (Ok r) (Ok r)
+  deep : {r : Reader} → c ≡ 40 → r.mode ≡ mode.Row → BeginsPattern strict cs → Agrees cs c at (Err (TooDeep at)) (Ok r) (Ok r)
   misordered : {r : Reader} {place : ℕ} → Misorders cs c place → r.mode ≡ mode.Spanned → Agrees cs c at (Err (BadPattern place)) (Err (BadPattern place)) (Ok r)
 
 cond3 : (Q : Step → Step → Step → Type 0) (b : Bool) (x y x' y' x'' y'' : Step) → (b ≡ true → Q x x' x'') → (b ≡ false → Q y y' y'') → Q (cond b x y) (cond b x' y') (cond b x'' y'')
 cond3 Q true x y x' y' x'' y'' f g = f refl
 cond3 Q false x y x' y' x'' y'' f g = g refl
 
-open_agrees : (cs : List ℕ) (c at : ℕ) (r : Reader) → GoesOn strict cs → (c == 40) ≡ true → Agrees cs c at (opened strict at r) (opened unlimited at r) (opened free at r)
+open_agrees : (cs : List ℕ) (c at : ℕ) (r : Reader) → BeginsPattern strict cs → (c == 40) ≡ true → Agrees cs c at (opened strict at r) (opened unlimited at r) (opened no_bounds at r)
 open_agrees cs c at r on e = go (strict.may_open r.depth)
   where
-    go : (b : Bool) → Agrees cs c at (cond b (Ok (at_places r (r.places ++ Open ∷ []) (r.depth + 1))) (Err (TooDeep at))) (opened unlimited at r) (opened free at r)
+    go : (b : Bool) → Agrees cs c at (cond b (Ok (at_places r (r.places ++ Open ∷ []) (r.depth + 1))) (Err (TooDeep at))) (opened unlimited at r) (opened no_bounds at r)
     go true = Agrees.goes
     go false = Agrees.deep (equals c 40 e) refl on
 
@@ -99,7 +99,7 @@ repeat_agrees : (cs : List ℕ) (c at : ℕ) (r : Reader) (o : Option (List Plac
 repeat_agrees cs c at r None = Agrees.stray
 repeat_agrees cs c at r (Some places) = Agrees.goes
 
-special_agrees : (cs : List ℕ) (c at : ℕ) (r : Reader) → GoesOn strict cs → Agrees cs c at (special strict at c r) (special unlimited at c r) (special free at c r)
+special_agrees : (cs : List ℕ) (c at : ℕ) (r : Reader) → BeginsPattern strict cs → Agrees cs c at (special strict at c r) (special unlimited at c r) (special no_bounds at c r)
 special_agrees cs c at r on =
     let Q = Agrees cs c at in
     cond3 Q (c == 46) _ _ _ _ _ _ (λ e. Agrees.goes) (λ n46. cond3 Q (c == 40) _ _ _ _ _ _ (λ e. open_agrees cs c at r on e) (λ n40.
@@ -108,7 +108,7 @@ special_agrees cs c at r on =
     cond3 Q (c == 63) _ _ _ _ _ _ (λ e. repeat_agrees cs c at r (with_repeat Optional r.places)) (λ n63. cond3 Q (c == 91) _ _ _ _ _ _ (λ e. Agrees.goes) (λ n91.
     cond3 Q (c == 92) _ _ _ _ _ _ (λ e. Agrees.goes) (λ n92. cond3 Q (c == 36) _ _ _ _ _ _ (λ e. cond3 Q (r.depth == 0) _ _ _ _ _ _ (λ z. Agrees.goes) (λ z. Agrees.stray)) (λ n36. Agrees.stray))))))))))
 
-row_agrees : (cs : List ℕ) (c at : ℕ) (r : Reader) → GoesOn strict cs → Agrees cs c at (in_a_row strict at c r) (in_a_row unlimited at c r) (in_a_row free at c r)
+row_agrees : (cs : List ℕ) (c at : ℕ) (r : Reader) → BeginsPattern strict cs → Agrees cs c at (in_a_row strict at c r) (in_a_row unlimited at c r) (in_a_row no_bounds at c r)
 row_agrees cs c at r on = cond3 (Agrees cs c at) (is_special c) _ _ _ _ _ _ (λ s. special_agrees cs c at r on) (λ plain. Agrees.goes)
 
 first_agrees : (cs : List ℕ) (c at : ℕ) (r : Reader) → Agrees cs c at (class_first at c r) (class_first at c r) (class_first at c r)
@@ -124,11 +124,11 @@ next_agrees cs c at r hyphen ranges =
     (λ plain. Agrees.goes)
 
 span_agrees : (cs : List ℕ) (c at first place last : ℕ) (r : Reader) → (nat_le first last ≡ false → Misorders cs c place)
-    → Agrees cs c at (spanned strict first place last r) (spanned unlimited first place last r) (spanned free first place last r)
+    → Agrees cs c at (spanned strict first place last r) (spanned unlimited first place last r) (spanned no_bounds first place last r)
 span_agrees cs c at first place last r f = go (nat_le first last) refl
   where
     go : (b : Bool) → nat_le first last ≡ b
-        → Agrees cs c at (cond b (class_goes_on r (r.ranges ++ range first last ∷ []) mode.Spanned) (Err (BadPattern place))) (cond b (class_goes_on r (r.ranges ++ range first last ∷ []) mode.Spanned) (Err (BadPattern place))) (spanned free first place last r)
+        → Agrees cs c at (cond b (class_goes_on r (r.ranges ++ range first last ∷ []) mode.Spanned) (Err (BadPattern place))) (cond b (class_goes_on r (r.ranges ++ range first last ∷ []) mode.Spanned) (Err (BadPattern place))) (spanned no_bounds first place last r)
     go true e = Agrees.goes
     go false e = Agrees.misordered (f e) refl
 
@@ -136,7 +136,7 @@ hyphen_part : (before own more : List ℕ) (c : ℕ) (cs : List ℕ) → cs ≡ 
 hyphen_part before own more c cs e = ap (λ (l : List ℕ). l ++ c ∷ []) e ∙ append_assoc before (own ++ more) (c ∷ []) ∙ ap (λ (l : List ℕ). before ++ l) (append_assoc own more (c ∷ []))
 
 hyphen_agrees : (cs : List ℕ) (c at first place : ℕ) (r : Reader) → HoldsMember strict cs r first place (45 ∷ [])
-    → Agrees cs c at (class_hyphen strict at c first place r) (class_hyphen unlimited at c first place r) (class_hyphen free at c first place r)
+    → Agrees cs c at (class_hyphen strict at c first place r) (class_hyphen unlimited at c first place r) (class_hyphen no_bounds at c first place r)
 hyphen_agrees cs c at first place r h =
     let Q = Agrees cs c at in
     cond3 Q (is_reserved c) _ _ _ _ _ _ (λ s. cond3 Q (c == 93) _ _ _ _ _ _ (λ e. Agrees.goes) (λ n93. cond3 Q (c == 92) _ _ _ _ _ _ (λ e. Agrees.goes) (λ n92. Agrees.stray))) (λ plain.
@@ -149,13 +149,13 @@ hyphen_agrees cs c at first place r h =
       begins = h.member;
       ends = IsMember.itself plain;
       order = order;
-      goes_on = subst (GoesOn strict) h.parts (hyphen_goes_on strict cs r first place h);
+      goes_on = subst (BeginsPattern strict) h.parts (hyphen_goes_on strict cs r first place h);
       here = h.here;
       parts = hyphen_part h.before h.own (45 ∷ []) c cs h.parts;
     }))
 
 last_agrees : (cs : List ℕ) (c at first place : ℕ) (r : Reader) → HoldsMember strict cs r first place (45 ∷ 92 ∷ [])
-    → Agrees cs c at (class_last_escaped strict at c first place r) (class_last_escaped unlimited at c first place r) (class_last_escaped free at c first place r)
+    → Agrees cs c at (class_last_escaped strict at c first place r) (class_last_escaped unlimited at c first place r) (class_last_escaped no_bounds at c first place r)
 last_agrees cs c at first place r h =
     let Q = Agrees cs c at in
     cond3 Q (is_reserved c) _ _ _ _ _ _ (λ s.
@@ -173,7 +173,7 @@ last_agrees cs c at first place r h =
       parts = hyphen_part h.before h.own (45 ∷ 92 ∷ []) c cs h.parts;
     })) (λ n. Agrees.stray)
 
-step_agrees : (m : Mode) (cs : List ℕ) (c at : ℕ) (r : Reader) → HoldsIn strict m cs r → Agrees cs c at (step_in strict m at c r) (step_in unlimited m at c r) (step_in free m at c r)
+step_agrees : (m : Mode) (cs : List ℕ) (c at : ℕ) (r : Reader) → HoldsIn strict m cs r → Agrees cs c at (step_in strict m at c r) (step_in unlimited m at c r) (step_in no_bounds m at c r)
 step_agrees mode.Begin cs c at r (none, places, depth) =
     cond3 (Agrees cs c at) (c == 94) _ _ _ _ _ _ (λ e. Agrees.goes) (λ n. row_agrees cs c at r (row_goes_on strict cs r.places r.depth (begin_row strict cs r.places r.depth none places depth)))
 step_agrees mode.Row cs c at r h = row_agrees cs c at r (row_goes_on strict cs r.places r.depth h)
@@ -192,13 +192,13 @@ step_agrees (mode.LastEscape first place) cs c at r h = last_agrees cs c at firs
 
 -- what is known of a reading between two characters
 record Told (cs : List ℕ) (at : ℕ) (r : Reader) : Type 0 where
-  pub here : at ≡ place_after cs
+  pub here : at ≡ place_behind cs
   pub holds : Holds strict cs r
   pub holds_unlimited : Holds unlimited cs r
-  pub holds_free : Holds free cs r
+  pub holds_free : Holds no_bounds cs r
   pub reads : (rest : List ℕ) → read_from strict 0 unread (cs ++ rest) ≡ read_from strict at r rest
   pub reads_unlimited : (rest : List ℕ) → read_from unlimited 0 unread (cs ++ rest) ≡ read_from unlimited at r rest
-  pub reads_free : (rest : List ℕ) → read_from free 0 unread (cs ++ rest) ≡ read_from free at r rest
+  pub reads_free : (rest : List ℕ) → read_from no_bounds 0 unread (cs ++ rest) ≡ read_from no_bounds at r rest
 
 -- what an answer says of a text
 abbrev pub Says : List ℕ → Result (List Place) PatternFault → Type 0
@@ -209,9 +209,9 @@ bytes_append : (xs ys : List ℕ) → encode_utf8_all (xs ++ ys) ≡ encode_utf8
 bytes_append [] ys = refl
 bytes_append (x ∷ xs) ys = ap (λ (l : List ℕ). encode_utf8 x ++ l) (bytes_append xs ys) ∙ sym (append_assoc (encode_utf8 x) (encode_utf8_all xs) (encode_utf8_all ys))
 
-place_next : (cs : List ℕ) (c : ℕ) → place_after (cs ++ c ∷ []) ≡ place_after cs + length (encode_utf8 c)
+place_next : (cs : List ℕ) (c : ℕ) → place_behind (cs ++ c ∷ []) ≡ place_behind cs + length (encode_utf8 c)
 place_next cs c =
-    ap length (bytes_append cs (c ∷ [])) ∙ length-append (encode_utf8_all cs) (encode_utf8 c ++ []) ∙ ap (λ (l : List ℕ). place_after cs + length l) (append-nil (encode_utf8 c))
+    ap length (bytes_append cs (c ∷ [])) ∙ length-append (encode_utf8_all cs) (encode_utf8 c ++ []) ∙ ap (λ (l : List ℕ). place_behind cs + length l) (append-nil (encode_utf8 c))
 
 pub one_read_from : (bounds : Bounds) (at : ℕ) (r : Reader) (c : ℕ) (rest : List ℕ) (s : Step) → step bounds at c r ≡ s
     → read_from bounds at r (c ∷ rest) ≡ then_read (λ next. read_from bounds (at + length (encode_utf8 c)) next rest) s
@@ -226,19 +226,19 @@ reads_on : (bounds : Bounds) (cs : List ℕ) (c at : ℕ) (r next : Reader) → 
     → (rest : List ℕ) → read_from bounds 0 unread (cs ++ c ∷ [] ++ rest) ≡ read_from bounds (at + length (encode_utf8 c)) next rest
 reads_on bounds cs c at r next reads e rest = ap (read_from bounds 0 unread) (append_assoc cs (c ∷ []) rest) ∙ reads (c ∷ rest) ∙ one_read_from bounds at r c rest (Ok next) e
 
-held_next : (bounds : Bounds) (cs : List ℕ) (c at : ℕ) (r next : Reader) → at ≡ place_after cs → Holds bounds cs r → step bounds at c r ≡ Ok next → Holds bounds (cs ++ c ∷ []) next
+held_next : (bounds : Bounds) (cs : List ℕ) (c at : ℕ) (r next : Reader) → at ≡ place_behind cs → Holds bounds cs r → step bounds at c r ≡ Ok next → Holds bounds (cs ++ c ∷ []) next
 held_next bounds cs c at r next here h e = subst (Sound bounds cs c) e (step_sound bounds r.mode cs c at r here h)
 
-told_next : (cs : List ℕ) (c at : ℕ) (r next : Reader) → Told cs at r → step strict at c r ≡ Ok next → step unlimited at c r ≡ Ok next → step free at c r ≡ Ok next
+told_next : (cs : List ℕ) (c at : ℕ) (r next : Reader) → Told cs at r → step strict at c r ≡ Ok next → step unlimited at c r ≡ Ok next → step no_bounds at c r ≡ Ok next
     → Told (cs ++ c ∷ []) (at + length (encode_utf8 c)) next
 told_next cs c at r next t s u f = record {
   here = ap (λ (n : ℕ). n + length (encode_utf8 c)) t.here ∙ sym (place_next cs c);
   holds = held_next strict cs c at r next t.here t.holds s;
   holds_unlimited = held_next unlimited cs c at r next t.here t.holds_unlimited u;
-  holds_free = held_next free cs c at r next t.here t.holds_free f;
+  holds_free = held_next no_bounds cs c at r next t.here t.holds_free f;
   reads = reads_on strict cs c at r next t.reads s;
   reads_unlimited = reads_on unlimited cs c at r next t.reads_unlimited u;
-  reads_free = reads_on free cs c at r next t.reads_free f;
+  reads_free = reads_on no_bounds cs c at r next t.reads_free f;
 }
 
 told_first : Told [] 0 unread
@@ -263,7 +263,7 @@ unended : (cs : List ℕ) (at : ℕ) (r : Reader) → Told cs at r → finished 
 unended cs at r t e = record {
   goes_on = held_goes_on r.mode cs r t.holds t.holds_free;
   none = λ tree whole. ok_not_err (places_of tree) (BadPattern at)
-      (sym (whole_read free cs tree whole) ∙ ap (read_from free 0 unread) (sym (append-nil cs)) ∙ t.reads_free [] ∙ end_read_from free at r ∙ e);
+      (sym (whole_read no_bounds cs tree whole) ∙ ap (read_from no_bounds 0 unread) (sym (append-nil cs)) ∙ t.reads_free [] ∙ end_read_from no_bounds at r ∙ e);
   here = t.here;
 }
 
@@ -275,13 +275,13 @@ ends_in : (m : Mode) (cs : List ℕ) (r : Reader) → may_end m ≡ true → r.d
 ends_in mode.Begin cs r may none (e, places, depth) = ends_row cs r.places (subst (λ (n : ℕ). HoldsRow strict cs r.places n) none (begin_row strict cs r.places r.depth e places depth))
   where
     ends_row : (ds : List ℕ) (places : List Place) → HoldsRow strict ds places 0 → Ends ds places
-    ends_row ds places h = let w = row_whole strict ds [] places h IsAnchor.absent in (w.0, subst (λ (l : List ℕ). IsWhole strict l w.0) (append-nil ds) w.1, w.2)
+    ends_row ds places h = let w = row_whole strict ds [] places h IsAnchor.absent in (w.0, subst (λ (l : List ℕ). IsWholePattern strict l w.0) (append-nil ds) w.1, w.2)
 ends_in mode.Row cs r may none h =
     let w = row_whole strict cs [] r.places (subst (λ (n : ℕ). HoldsRow strict cs r.places n) none h) IsAnchor.absent in
-    (w.0, subst (λ (l : List ℕ). IsWhole strict l w.0) (append-nil cs) w.1, w.2)
+    (w.0, subst (λ (l : List ℕ). IsWholePattern strict l w.0) (append-nil cs) w.1, w.2)
 ends_in mode.End cs r may none (before, row, z, e) =
     let w = row_whole strict before (36 ∷ []) r.places (subst (λ (n : ℕ). HoldsRow strict before r.places n) none row) IsAnchor.present in
-    (w.0, subst (λ (l : List ℕ). IsWhole strict l w.0) (sym e) w.1, w.2)
+    (w.0, subst (λ (l : List ℕ). IsWholePattern strict l w.0) (sym e) w.1, w.2)
 ends_in mode.Escape cs r may none h = absurd cc
 ends_in mode.ClassBegin cs r may none h = absurd cc
 ends_in mode.ClassFirst cs r may none h = absurd cc
@@ -300,18 +300,18 @@ told_end cs at r t = go (may_end r.mode) refl (r.depth == 0) refl
     go true may false some = rw (may, some) (inl (unended cs at r t (rw (may, some) refl)))
     go false may z is = rw may (inl (unended cs at r t (rw may refl)))
 
-stray_told : (cs after : List ℕ) (c at : ℕ) (r : Reader) → Told cs at r → step free at c r ≡ Err (BadPattern at) → IsFault (BadPattern at) (cs ++ c ∷ after)
+stray_told : (cs after : List ℕ) (c at : ℕ) (r : Reader) → Told cs at r → step no_bounds at c r ≡ Err (BadPattern at) → IsFault (BadPattern at) (cs ++ c ∷ after)
 stray_told cs after c at r t f = inr (inl (record {
   before = cs;
   c = c;
   after = after;
   parts = refl;
   goes_on = held_goes_on r.mode cs r t.holds t.holds_free;
-  none = nowhere free cs c at r (BadPattern at) t.reads_free f;
+  none = nowhere no_bounds cs c at r (BadPattern at) t.reads_free f;
   here = t.here;
 }))
 
-deep_told : (cs after : List ℕ) (c at : ℕ) (r next : Reader) → Told cs at r → c ≡ 40 → next.mode ≡ mode.Row → GoesOn strict cs → step strict at c r ≡ Err (TooDeep at) → step unlimited at c r ≡ Ok next
+deep_told : (cs after : List ℕ) (c at : ℕ) (r next : Reader) → Told cs at r → c ≡ 40 → next.mode ≡ mode.Row → BeginsPattern strict cs → step strict at c r ≡ Err (TooDeep at) → step unlimited at c r ≡ Ok next
     → IsFault (TooDeep at) (cs ++ c ∷ after)
 deep_told cs after c at r next t e row on s u =
     let same : cs ++ c ∷ [] ≡ cs ++ 40 ∷ [] = ap (λ (d : ℕ). cs ++ d ∷ []) e in
@@ -321,7 +321,7 @@ deep_told cs after c at r next t e row on s u =
       after = after;
       parts = ap (λ (d : ℕ). cs ++ d ∷ after) e;
       goes_on = on;
-      loose = subst (GoesOn unlimited) same (row_goes_on unlimited (cs ++ c ∷ []) next.places next.depth held);
+      loose = subst (BeginsPattern unlimited) same (row_goes_on unlimited (cs ++ c ∷ []) next.places next.depth held);
       none = subst (GoesNowhere strict) same (nowhere strict cs c at r (TooDeep at) t.reads s);
       here = t.here;
     }
@@ -329,10 +329,10 @@ deep_told cs after c at r next t e row on s u =
 above : (first last : ℕ) → nat_le first last ≡ false → nat_lt last first ≡ true
 above first last h = grind (arith, nat_tests)
 
-misordered_told : (cs after : List ℕ) (c at place : ℕ) (r next : Reader) → Told cs at r → Misorders cs c place → next.mode ≡ mode.Spanned → step strict at c r ≡ Err (BadPattern place) → step free at c r ≡ Ok next
+misordered_told : (cs after : List ℕ) (c at place : ℕ) (r next : Reader) → Told cs at r → Misorders cs c place → next.mode ≡ mode.Spanned → step strict at c r ≡ Err (BadPattern place) → step no_bounds at c r ≡ Ok next
     → IsFault (BadPattern place) (cs ++ c ∷ after)
 misordered_told cs after c at place r next t m past s f =
-    let held : HoldsSome free (cs ++ c ∷ []) next.places next.depth next.negated next.ranges = subst (λ (k : Mode). HoldsIn free k (cs ++ c ∷ []) next) past (held_next free cs c at r next t.here t.holds_free f) in
+    let held : HoldsSome no_bounds (cs ++ c ∷ []) next.places next.depth next.negated next.ranges = subst (λ (k : Mode). HoldsIn no_bounds k (cs ++ c ∷ []) next) past (held_next no_bounds cs c at r next t.here t.holds_free f) in
     inr (inr (record {
       before = m.before;
       member = m.own;
@@ -346,7 +346,7 @@ misordered_told cs after c at place r next t m past s f =
       last = m.ends;
       order = above m.first m.last m.order;
       goes_on = m.goes_on;
-      loose = subst (GoesOn free) m.parts (some_goes_on free (cs ++ c ∷ []) next held);
+      loose = subst (BeginsPattern no_bounds) m.parts (some_goes_on no_bounds (cs ++ c ∷ []) next held);
       none = subst (GoesNowhere strict) m.parts (nowhere strict cs c at r (BadPattern place) t.reads s);
       here = m.here;
     }))
@@ -354,9 +354,9 @@ misordered_told cs after c at place r next t m past s f =
 told : (rest cs : List ℕ) (at : ℕ) (r : Reader) → Told cs at r → Says (cs ++ rest) (read_from strict at r rest)
 told [] cs at r t = subst (λ (l : List ℕ). Says l (read_from strict at r [])) (sym (append-nil cs)) (subst (Says cs) (sym (end_read_from strict at r)) (told_end cs at r t))
 told (c ∷ rest) cs at r t =
-    subst (Says (cs ++ c ∷ rest)) (sym (one_read_from strict at r c rest (step strict at c r) refl)) (go (told rest) (step strict at c r) (step unlimited at c r) (step free at c r) refl refl refl (step_agrees r.mode cs c at r t.holds))
+    subst (Says (cs ++ c ∷ rest)) (sym (one_read_from strict at r c rest (step strict at c r) refl)) (go (told rest) (step strict at c r) (step unlimited at c r) (step no_bounds at c r) refl refl refl (step_agrees r.mode cs c at r t.holds))
   where
-    go : ((ds : List ℕ) (n : ℕ) (k : Reader) → Told ds n k → Says (ds ++ rest) (read_from strict n k rest)) → (s u f : Step) → step strict at c r ≡ s → step unlimited at c r ≡ u → step free at c r ≡ f
+    go : ((ds : List ℕ) (n : ℕ) (k : Reader) → Told ds n k → Says (ds ++ rest) (read_from strict n k rest)) → (s u f : Step) → step strict at c r ≡ s → step unlimited at c r ≡ u → step no_bounds at c r ≡ f
         → Agrees cs c at s u f → Says (cs ++ c ∷ rest) (then_read (λ next. read_from strict (at + length (encode_utf8 c)) next rest) s)
     go ih _ _ _ s u f (Agrees.goes {r = next}) =
         subst (λ (l : List ℕ). Says l (read_from strict (at + length (encode_utf8 c)) next rest)) (append_assoc cs (c ∷ []) rest) (ih (cs ++ c ∷ []) (at + length (encode_utf8 c)) next (told_next cs c at r next t s u f))

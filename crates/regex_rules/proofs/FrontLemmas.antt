@@ -12,7 +12,7 @@ use Rattle.regex_rules.specs.Trees.{Tree, tree_of, places_of}
 use Rattle.regex_rules.specs.Languages.{InLanguage}
 use Rattle.regex_rules.specs.Fronts.{IsFront, IsLastFront, may_cut}
 use Rattle.regex_rules.specs.Off.{AreOff}
-use Rattle.regex_rules.specs.Walks.{walked, at, begun, answer_of, takes_nothing}
+use Rattle.regex_rules.specs.Walks.{walked, at, begun, walk_answer, takes_nothing}
 use Rattle.regex_rules.proofs.TextLemmas.{Says}
 use Rattle.regex_rules.proofs.MatchLemmas.{Matched, begin_matched, more_matched}
 use Rattle.regex_rules.proofs.LostLemmas.{lost_matched}
@@ -150,7 +150,7 @@ module _ (places : List Place) (olds : List Bool) (answer enters : Bool) (text r
 
   pub more_walked : (c : ℕ) (left : List ℕ) (found : Option ℕ) → places_of (tree_of places) ≡ places → rest ≡ encode_utf8 c ++ left → chars rest ≡ c ∷ chars left
       → found ≡ cond ((answer && nat_le from (length text - length rest)) && may_cut rest) (Some (length text - length rest)) last
-      → (next_olds : List Bool) (next_answer : Bool) → next_olds ≡ (walked c places olds (at (begun enters) [] [])).marks → next_answer ≡ answer_of (walked c places olds (at (begun enters) [] []))
+      → (next_olds : List Bool) (next_answer : Bool) → next_olds ≡ (walked c places olds (at (begun enters) [] [])).marks → next_answer ≡ walk_answer (walked c places olds (at (begun enters) [] []))
       → Walked places next_olds next_answer false text left from found
   more_walked c left found held parts more is next_olds next_answer olds_are answer_is =
       let place = length text - length rest in

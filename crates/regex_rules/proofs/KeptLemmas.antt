@@ -12,7 +12,7 @@ use Rattle.regex_rules.specs.declared.place.Place.{Place}
 use Rattle.regex_rules.specs.Trees.{Tree, places_of, tree_of}
 use Rattle.regex_rules.specs.Languages.{InLanguage, in_language}
 use Rattle.regex_rules.specs.Positions.{Has, bit_of, count, either, rows_at, Follows, Takes}
-use Rattle.regex_rules.specs.Linkings.{linked, linking_at, begun, unlinked, stood, takers_of, nothing_taken, ones, IsTable}
+use Rattle.regex_rules.specs.Linkings.{linked, linking_at, begun_rows, unlinked, stood, takers_of, nothing_taken, ones, IsTable}
 use Rattle.regex_rules.proofs.TextLemmas.{Whole, Says, says_false}
 use Rattle.regex_rules.proofs.MatchLemmas.{snoc_is_some}
 use Rattle.regex_rules.proofs.CuttingLemmas.{tells_language}
@@ -36,10 +36,10 @@ module _ (places : List Place) (held : places_of (tree_of places) ≡ places) wh
   pub count_of : ones places ≡ count (tree_of places)
   count_of = ap ones (sym held) ∙ ones_of (tree_of places)
 
-  all_linked : (sets : List ℕ) → linked places (linking_at sets begun [] 1) ≡ linking_at (table (tree_of places) 0 sets) (rows_of (tree_of places) 0) [] (bit_of (0 + count (tree_of places)))
+  all_linked : (sets : List ℕ) → linked places (linking_at sets begun_rows [] 1) ≡ linking_at (table (tree_of places) 0 sets) (rows_of (tree_of places) 0) [] (bit_of (0 + count (tree_of places)))
   all_linked sets =
-      ap (λ (ps : List Place). linked ps (linking_at sets begun [] 1)) (sym held ∙ sym (append-nil (places_of (tree_of places))))
-      ∙ ap (λ (b : ℕ). linked (places_of (tree_of places) ++ []) (linking_at sets begun [] b)) (sym bit_first)
+      ap (λ (ps : List Place). linked ps (linking_at sets begun_rows [] 1)) (sym held ∙ sym (append-nil (places_of (tree_of places))))
+      ∙ ap (λ (b : ℕ). linked (places_of (tree_of places) ++ []) (linking_at sets begun_rows [] b)) (sym bit_first)
       ∙ links (tree_of places) 0 sets [] []
       ∙ none_linked (linking_at (table (tree_of places) 0 sets) (rows_of (tree_of places) 0) [] (bit_of (0 + count (tree_of places))))
 

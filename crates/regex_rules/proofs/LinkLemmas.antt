@@ -12,7 +12,7 @@ use Rattle.regex_rules.specs.declared.place.Place.TheVariants.{One, Open, Bar, C
 use Rattle.regex_rules.specs.Trees.{Tree, Empty, Char, Bracket, Or, places_of}
 use Rattle.regex_rules.specs.Languages.{is_one, may_go_on, Last, Earlier}
 use Rattle.regex_rules.specs.Positions.{Has, bit_of, count, one_at, row_at, rows_at, Joins, Follows, Takes}
-use Rattle.regex_rules.specs.Linkings.{next_bit, link, join, begun, linking_at, past, linked, stand, stood, ones}
+use Rattle.regex_rules.specs.Linkings.{next_bit, link, join, begun_rows, linking_at, past, linked, stand, stood, ones}
 use Rattle.regex_rules.proofs.TextLemmas.{iff_then, iff_or}
 use Rattle.regex_rules.proofs.WalkLemmas.{item_at, drop_past}
 use Rattle.regex_rules.proofs.BitLemmas.{has_if, has_only}
@@ -54,20 +54,20 @@ abbrev pub rows_of : Tree → ℕ → Rows
 rows_of tree n = record { earlier = row_at Earlier tree n; row = row_at Last tree n }
 
 pub links : (tree : Tree) (n : ℕ) (sets : List ℕ) (places : List Place) (around : List Rows)
-    → linked (places_of tree ++ places) (linking_at sets begun around (bit_of n)) ≡ linked places (linking_at (table tree n sets) (rows_of tree n) around (bit_of (n + count tree)))
-links Empty n sets places around = ap (λ (m : ℕ). linked places (linking_at sets begun around (bit_of m))) (sym (add-zero n))
+    → linked (places_of tree ++ places) (linking_at sets begun_rows around (bit_of n)) ≡ linked places (linking_at (table tree n sets) (rows_of tree n) around (bit_of (n + count tree)))
+links Empty n sets places around = ap (λ (m : ℕ). linked places (linking_at sets begun_rows around (bit_of m))) (sym (add-zero n))
 links (Char rows one repeat) n sets places around =
     let m = n + count rows in
     let same : suc m ≡ n + suc (count rows) = omega arith in
     let bit : next_bit (bit_of m) ≡ bit_of (n + suc (count rows)) = bit_after m ∙ ap bit_of same in
-    ap (λ (ps : List Place). linked ps (linking_at sets begun around (bit_of n))) (append_assoc (places_of rows) (One one repeat ∷ []) places)
+    ap (λ (ps : List Place). linked ps (linking_at sets begun_rows around (bit_of n))) (append_assoc (places_of rows) (One one repeat ∷ []) places)
     ∙ links rows n sets (One one repeat ∷ places) around
     ∙ one_linked (One one repeat) places (linking_at (table rows n sets) (rows_of rows n) around (bit_of m))
     ∙ ap (λ (b : ℕ). linked places (linking_at (table (Char rows one repeat) n sets) (rows_of (Char rows one repeat) n) around b)) bit
 links (Bracket rows inner repeat) n sets places around =
     let m = n + count rows in
     let sum : m + count inner ≡ n + (count rows + count inner) = omega arith in
-    ap (λ (ps : List Place). linked ps (linking_at sets begun around (bit_of n)))
+    ap (λ (ps : List Place). linked ps (linking_at sets begun_rows around (bit_of n)))
     (append_assoc (places_of rows) (Open ∷ places_of inner ++ (Close repeat ∷ [])) places ∙ ap (λ (ps : List Place). places_of rows ++ (Open ∷ ps)) (append_assoc (places_of inner) (Close repeat ∷ []) places))
     ∙ links rows n sets (Open ∷ (places_of inner ++ (Close repeat ∷ places))) around
     ∙ one_linked Open (places_of inner ++ (Close repeat ∷ places)) (linking_at (table rows n sets) (rows_of rows n) around (bit_of m))
@@ -75,7 +75,7 @@ links (Bracket rows inner repeat) n sets places around =
     ∙ one_linked (Close repeat) places (linking_at (table inner m (table rows n sets)) (rows_of inner m) (rows_of rows n ∷ around) (bit_of (m + count inner)))
     ∙ ap (λ (k : ℕ). linked places (linking_at (table (Bracket rows inner repeat) n sets) (rows_of (Bracket rows inner repeat) n) around (bit_of k))) sum
 links (Or rows) n sets places around =
-    ap (λ (ps : List Place). linked ps (linking_at sets begun around (bit_of n))) (append_assoc (places_of rows) (Bar ∷ []) places)
+    ap (λ (ps : List Place). linked ps (linking_at sets begun_rows around (bit_of n))) (append_assoc (places_of rows) (Bar ∷ []) places)
     ∙ links rows n sets (Bar ∷ places) around
     ∙ one_linked Bar places (linking_at (table rows n sets) (rows_of rows n) around (bit_of (n + count rows)))
 

@@ -9,7 +9,7 @@ use Rattle.regex_rules.specs.declared.level.Frame.{Frame}
 use Rattle.regex_rules.specs.declared.walk.Walk.{Walk}
 use Rattle.regex_rules.specs.Trees.{tree_of, places_of}
 use Rattle.regex_rules.specs.Languages.{InLanguage, is_one, may_lack, may_go_on}
-use Rattle.regex_rules.specs.Walks.{walked, at, begun, answer_of, takes_nothing, past_place, past_piece}
+use Rattle.regex_rules.specs.Walks.{walked, at, begun, walk_answer, takes_nothing, past_place, past_piece}
 use Rattle.regex_rules.specs.Off.{AreOff}
 use Rattle.regex_rules.proofs.TextLemmas.{Says, says_false}
 use Rattle.regex_rules.proofs.OffLemmas.{off_append, off_set}
@@ -106,11 +106,11 @@ pub lost_matched : (places : List Place) (olds : List Bool) (answer : Bool) (tex
 lost_matched places olds answer text [] c held off m inside =
     let walk = walked c places olds (at (begun false) [] []) in
     let lost = lost_step c places olds off in
-    let yes : answer_of walk ≡ true = (end_matched places walk.marks (answer_of walk) false text (more_matched places olds answer false text [] c held m)).1 inside in
+    let yes : walk_answer walk ≡ true = (end_matched places walk.marks (walk_answer walk) false text (more_matched places olds answer false text [] c held m)).1 inside in
     true≢false (sym yes ∙ none_or walk.level.earlier_arrives walk.level.arrives lost.still.earlier lost.still.arrives)
 lost_matched places olds answer text (d ∷ rest) c held off m inside =
     let walk = walked c places olds (at (begun false) [] []) in
-    lost_matched places walk.marks (answer_of walk) text rest d held (lost_step c places olds off).off (more_matched places olds answer false text (d ∷ rest) c held m) inside
+    lost_matched places walk.marks (walk_answer walk) text rest d held (lost_step c places olds off).off (more_matched places olds answer false text (d ∷ rest) c held m) inside
 
 -- the same where the rest begins with a character
 pub none_goes_on : (places : List Place) (olds : List Bool) (answer : Bool) (text rest later : List ℕ) (c : ℕ) → places_of (tree_of places) ≡ places → AreOff olds
@@ -131,11 +131,11 @@ nothing_matched places olds text (Ok answer) held off none is =
 nothing_matched places olds text (Err e) held off none is = tt
 
 pub begins_with : (places : List Place) (olds news : List Bool) (answer : Bool) (text rest : List ℕ) (c : ℕ) → places_of (tree_of places) ≡ places → olds ≡ replicate (length places) false → text ≡ c ∷ rest
-    → news ≡ (walked c places olds (at (begun true) [] [])).marks → answer ≡ answer_of (walked c places olds (at (begun true) [] [])) → Matched places news answer false text rest
+    → news ≡ (walked c places olds (at (begun true) [] [])).marks → answer ≡ walk_answer (walked c places olds (at (begun true) [] [])) → Matched places news answer false text rest
 begins_with places olds news answer text rest c held off some marks is =
     let none = replicate (length places) false in
     let first = takes_nothing (walked 0 places none (at (begun true) [] [])) in
     let walk = walked c places none (at (begun true) [] []) in
     let m = more_matched places none first true text rest c held (subst (λ (l : List ℕ). Matched places none first true text l) some (begin_matched places text held)) in
     subst (λ (o : List Bool). Matched places o answer false text rest) (sym (marks ∙ ap (λ (o : List Bool). (walked c places o (at (begun true) [] [])).marks) off))
-    (subst (λ (b : Bool). Matched places walk.marks b false text rest) (sym (is ∙ ap (λ (o : List Bool). answer_of (walked c places o (at (begun true) [] []))) off)) m)
+    (subst (λ (b : Bool). Matched places walk.marks b false text rest) (sym (is ∙ ap (λ (o : List Bool). walk_answer (walked c places o (at (begun true) [] []))) off)) m)

@@ -7,7 +7,7 @@ use Rattle.regex_rules.specs.declared.place.Place.TheVariants.{One, Open, Bar, C
 use Rattle.regex_rules.specs.declared.walk.Walk.{Walk}
 use Rattle.regex_rules.specs.Trees.{Tree, Empty, Char, Bracket, Or, places_of, tree_of}
 use Rattle.regex_rules.specs.Languages.{Texts, InRow, Last, Earlier, InLanguage}
-use Rattle.regex_rules.specs.Walks.{walked, at, begun, answer_of, takes_nothing}
+use Rattle.regex_rules.specs.Walks.{walked, at, begun, walk_answer, takes_nothing}
 use Rattle.regex_rules.proofs.TextLemmas.{Reach, Whole, Says, says_or, says_iff, says_false, reach_nothing, reach_or, ends_empty, cons_is_some}
 use Rattle.regex_rules.proofs.WalkLemmas.{no_places}
 use Rattle.regex_rules.proofs.MarkLemmas.{Right, Steps, steps}
@@ -90,7 +90,7 @@ begin_matched places text held =
 
 pub more_matched : (places : List Place) (olds : List Bool) (answer enters : Bool) (text rest : List ℕ) (c : ℕ) → places_of (tree_of places) ≡ places
     → Matched places olds answer enters text (c ∷ rest)
-    → Matched places (walked c places olds (at (begun enters) [] [])).marks (answer_of (walked c places olds (at (begun enters) [] []))) false text rest
+    → Matched places (walked c places olds (at (begun enters) [] [])).marks (walk_answer (walked c places olds (at (begun enters) [] []))) false text rest
 more_matched places olds answer enters text rest c held m =
     let tree = tree_of places in
     let v : List ℕ = m.w ++ c ∷ [] in
@@ -106,7 +106,7 @@ more_matched places olds answer enters text rest c held m =
       w = v;
       parts = m.parts ∙ sym (append_assoc m.w (c ∷ []) rest);
       right = subst (λ (k : Walk). Right Whole tree k.marks v) (sym same) s.right;
-      answers = subst (λ (k : Walk). Says (answer_of k) (InLanguage tree v)) (sym same) answers;
+      answers = subst (λ (k : Walk). Says (walk_answer k) (InLanguage tree v)) (sym same) answers;
       begins = says_false (snoc_is_some m.w c);
     }
 

@@ -7,8 +7,8 @@ use Rattle.regex_rules.specs.declared.repeat.Repeat.TheVariants.{Once, Optional,
 use Rattle.regex_rules.specs.declared.place.Place.{Place}
 use Rattle.regex_rules.specs.declared.place.Place.TheVariants.{One, Open, Bar, Close}
 use Rattle.regex_rules.specs.Trees.{Tree, Empty, Char, Bracket, Or, places_of}
-use Rattle.regex_rules.specs.Spelling.{Bounds, SpellsOne, sign_of, Spells, IsAnchor, IsWhole}
-use Rattle.regex_rules.specs.Faults.{GoesOn}
+use Rattle.regex_rules.specs.Spelling.{Bounds, SpellsOne, sign_of, Spells, IsAnchor, IsWholePattern}
+use Rattle.regex_rules.specs.Faults.{BeginsPattern}
 use Rattle.regex_rules.specs.Reading.{with_repeat, before_place}
 use Rattle.regex_rules.proofs.LeadLemmas.{one_again, close_again}
 
@@ -159,7 +159,7 @@ pub record HoldsRow (bounds : Bounds) (cs : List ℕ) (places : List Place) (dep
   pub parts : cs ≡ begin ++ body
   pub stands : Stands bounds depth body places rows
 
-pub row_goes_on : (bounds : Bounds) (cs : List ℕ) (places : List Place) (depth : ℕ) → HoldsRow bounds cs places depth → GoesOn bounds cs
+pub row_goes_on : (bounds : Bounds) (cs : List ℕ) (places : List Place) (depth : ℕ) → HoldsRow bounds cs places depth → BeginsPattern bounds cs
 row_goes_on bounds cs places depth h =
     let on = stands_goes_on bounds depth h.body places h.rows h.stands in (
       on.0,
@@ -176,8 +176,8 @@ row_goes_on bounds cs places depth h =
     )
 
 -- a beginning of what goes on does
-pub goes_on_before : (bounds : Bounds) (cs own : List ℕ) → GoesOn bounds (cs ++ own) → GoesOn bounds cs
-goes_on_before bounds cs own (more, tree, whole) = (own ++ more, tree, subst (λ (l : List ℕ). IsWhole bounds l tree) (append_assoc cs own more) whole)
+pub goes_on_before : (bounds : Bounds) (cs own : List ℕ) → BeginsPattern bounds (cs ++ own) → BeginsPattern bounds cs
+goes_on_before bounds cs own (more, tree, whole) = (own ++ more, tree, subst (λ (l : List ℕ). IsWholePattern bounds l tree) (append_assoc cs own more) whole)
 
 pub row_more : (bounds : Bounds) (cs own : List ℕ) (places : List Place) (depth : ℕ) (one : OneChar) → HoldsRow bounds cs places depth → SpellsOne bounds own one
     → HoldsRow bounds (cs ++ own) (places ++ One one Once ∷ []) depth
@@ -241,7 +241,7 @@ pub row_begins : (bounds : Bounds) (begin : List ℕ) → IsAnchor 94 begin → 
 row_begins bounds begin anchor = record { begin = begin; body = []; rows = Empty; anchor = anchor; parts = sym (append-nil begin); stands = Stands.bottom Spells.nothing refl }
 
 -- a whole text
-pub row_whole : (bounds : Bounds) (cs end : List ℕ) (places : List Place) → HoldsRow bounds cs places 0 → IsAnchor 36 end → (tree : Tree) × IsWhole bounds (cs ++ end) tree × (places ≡ places_of tree)
+pub row_whole : (bounds : Bounds) (cs end : List ℕ) (places : List Place) → HoldsRow bounds cs places 0 → IsAnchor 36 end → (tree : Tree) × IsWholePattern bounds (cs ++ end) tree × (places ≡ places_of tree)
 row_whole bounds cs end places h ends =
     let s = stands_spelled bounds h.body places h.rows h.stands in
     (h.rows, record { begin = h.begin; rows = h.body; end = end; begins = h.anchor; spelled = s.0; ends = ends; parts = ap (λ (l : List ℕ). l ++ end) h.parts ∙ append_assoc h.begin h.body end }, s.1)

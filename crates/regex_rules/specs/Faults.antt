@@ -3,29 +3,29 @@ use Rattle.std.specs.Prelude.{◌≡◌, ℕ, nat_lt, true, List, [], ◌∷◌,
 use Rattle.regex_rules.specs.declared.fault.PatternFault.{PatternFault}
 use Rattle.regex_rules.specs.declared.fault.PatternFault.TheVariants.{BadPattern, TooDeep, NoMemory}
 use Rattle.regex_rules.specs.Trees.{Tree}
-use Rattle.regex_rules.specs.Spelling.{Bounds, IsWhole, IsMember, strict, unlimited, free}
+use Rattle.regex_rules.specs.Spelling.{Bounds, IsWholePattern, IsMember, strict, unlimited, no_bounds}
 
 -- some pattern within these bounds begins with the characters
-abbrev pub GoesOn : Bounds → List ℕ → Type 0
-GoesOn bounds cs = (more : List ℕ) × (tree : Tree) × IsWhole bounds (cs ++ more) tree
+abbrev pub BeginsPattern : Bounds → List ℕ → Type 0
+BeginsPattern bounds cs = (more : List ℕ) × (tree : Tree) × IsWholePattern bounds (cs ++ more) tree
 
 -- none does
 abbrev pub GoesNowhere : Bounds → List ℕ → Type 0
-GoesNowhere bounds cs = (more : List ℕ) (tree : Tree) → IsWhole bounds (cs ++ more) tree → ⊥
+GoesNowhere bounds cs = (more : List ℕ) (tree : Tree) → IsWholePattern bounds (cs ++ more) tree → ⊥
 
 -- the place after these characters: the number of their bytes
-abbrev pub place_after : List ℕ → ℕ
-place_after cs = length (encode_utf8_all cs)
+abbrev pub place_behind : List ℕ → ℕ
+place_behind cs = length (encode_utf8_all cs)
 
 -- The characters begin a pattern, or they do up to a `\` at their end which the grammar knows: after `[z-\` only a range in the wrong order goes on.
 abbrev pub GoesOnTo : List ℕ → Type 0
-GoesOnTo cs = GoesOn strict cs ⊎ ((begin : List ℕ) × (cs ≡ begin ++ 92 ∷ []) × GoesOn strict begin × GoesOn free cs)
+GoesOnTo cs = BeginsPattern strict cs ⊎ ((begin : List ℕ) × (cs ≡ begin ++ 92 ∷ []) × BeginsPattern strict begin × BeginsPattern no_bounds cs)
 
 -- The text begins a pattern and is none: the place is its end.
 pub record IsUnended (place : ℕ) (cs : List ℕ) : Type 0 where
   pub goes_on : GoesOnTo cs
-  pub none : (tree : Tree) → IsWhole free cs tree → ⊥
-  pub here : place ≡ place_after cs
+  pub none : (tree : Tree) → IsWholePattern no_bounds cs tree → ⊥
+  pub here : place ≡ place_behind cs
 
 -- Up to the place the text begins a pattern; with the character there it begins nothing that the grammar knows.
 pub record IsStray (place : ℕ) (cs : List ℕ) : Type 0 where
@@ -34,8 +34,8 @@ pub record IsStray (place : ℕ) (cs : List ℕ) : Type 0 where
   pub after : List ℕ
   pub parts : cs ≡ before ++ c ∷ after
   pub goes_on : GoesOnTo before
-  pub none : GoesNowhere free (before ++ c ∷ [])
-  pub here : place ≡ place_after before
+  pub none : GoesNowhere no_bounds (before ++ c ∷ [])
+  pub here : place ≡ place_behind before
 
 -- A range that begins at the place is in the wrong order: up to its second character the text begins a pattern, with that one it begins one only if ranges may have any order.
 pub record IsMisordered (place : ℕ) (cs : List ℕ) : Type 0 where
@@ -49,20 +49,20 @@ pub record IsMisordered (place : ℕ) (cs : List ℕ) : Type 0 where
   pub first : IsMember member c
   pub last : IsMember other d
   pub order : nat_lt d c ≡ true
-  pub goes_on : GoesOn strict (before ++ (member ++ (45 ∷ [])))
-  pub loose : GoesOn free (before ++ (member ++ (45 ∷ other)))
+  pub goes_on : BeginsPattern strict (before ++ (member ++ (45 ∷ [])))
+  pub loose : BeginsPattern no_bounds (before ++ (member ++ (45 ∷ other)))
   pub none : GoesNowhere strict (before ++ (member ++ (45 ∷ other)))
-  pub here : place ≡ place_after before
+  pub here : place ≡ place_behind before
 
 -- Up to the place the text begins a pattern; with the `(` there it begins one only if brackets may nest deeper.
 pub record IsTooDeep (place : ℕ) (cs : List ℕ) : Type 0 where
   pub before : List ℕ
   pub after : List ℕ
   pub parts : cs ≡ before ++ 40 ∷ after
-  pub goes_on : GoesOn strict before
-  pub loose : GoesOn unlimited (before ++ 40 ∷ [])
+  pub goes_on : BeginsPattern strict before
+  pub loose : BeginsPattern unlimited (before ++ 40 ∷ [])
   pub none : GoesNowhere strict (before ++ 40 ∷ [])
-  pub here : place ≡ place_after before
+  pub here : place ≡ place_behind before
 
 -- Why the characters are no pattern, and where.
 abbrev pub IsFault : PatternFault → List ℕ → Type 0

@@ -69,24 +69,24 @@ InLanguage tree cs = InRow Earlier tree cs ⊎ InRow Last tree cs
 -- ---- the same as tests, which try every cutting of a text
 
 -- a text without a character
-abbrev pub is_empty : List ℕ → Bool
-is_empty [] = true
-is_empty (c ∷ cs) = false
+abbrev pub lacks_characters : List ℕ → Bool
+lacks_characters [] = true
+lacks_characters (c ∷ cs) = false
 
 -- one character of this kind
 abbrev pub is_one_text : OneChar → List ℕ → Bool
 is_one_text one [] = false
-is_one_text one (c ∷ cs) = is_one one c && is_empty cs
+is_one_text one (c ∷ cs) = is_one one c && lacks_characters cs
 
 -- the text can be cut in two: the first part is empty, or it begins with the first character
-abbrev pub is_cut : (List ℕ → Bool) → (List ℕ → Bool) → List ℕ → Bool
-is_cut first second [] = first [] && second []
-is_cut first second (c ∷ cs) = (first [] && second (c ∷ cs)) || is_cut (λ part. first (c ∷ part)) second cs
+abbrev pub is_cut_in_two : (List ℕ → Bool) → (List ℕ → Bool) → List ℕ → Bool
+is_cut_in_two first second [] = first [] && second []
+is_cut_in_two first second (c ∷ cs) = (first [] && second (c ∷ cs)) || is_cut_in_two (λ part. first (c ∷ part)) second cs
 
 -- into this number of parts
 abbrev pub is_times : ℕ → (List ℕ → Bool) → List ℕ → Bool
-is_times zero part cs = is_empty cs
-is_times (suc number) part cs = is_cut part (is_times number part) cs
+is_times zero part cs = lacks_characters cs
+is_times (suc number) part cs = is_cut_in_two part (is_times number part) cs
 
 -- into this number of parts at most
 abbrev pub is_times_at_most : ℕ → (List ℕ → Bool) → List ℕ → Bool
@@ -97,17 +97,17 @@ is_times_at_most (suc number) part cs = is_times (suc number) part cs || is_time
 abbrev pub is_any_times : (List ℕ → Bool) → List ℕ → Bool
 is_any_times part cs = is_times_at_most (length cs) part cs
 
-abbrev pub is_repeated : Repeat → (List ℕ → Bool) → List ℕ → Bool
-is_repeated Once part cs = part cs
-is_repeated Optional part cs = is_empty cs || part cs
-is_repeated Any part cs = is_any_times part cs
-is_repeated AtLeastOnce part cs = is_cut part (is_any_times part) cs
+abbrev pub is_repetition : Repeat → (List ℕ → Bool) → List ℕ → Bool
+is_repetition Once part cs = part cs
+is_repetition Optional part cs = lacks_characters cs || part cs
+is_repetition Any part cs = is_any_times part cs
+is_repetition AtLeastOnce part cs = is_cut_in_two part (is_any_times part) cs
 
 abbrev pub in_row : Which → Tree → List ℕ → Bool
-in_row Last Empty cs = is_empty cs
-in_row Last (Char rows one repeat) cs = is_cut (in_row Last rows) (is_repeated repeat (is_one_text one)) cs
-in_row Last (Bracket rows inner repeat) cs = is_cut (in_row Last rows) (is_repeated repeat (λ part. in_row Earlier inner part || in_row Last inner part)) cs
-in_row Last (Or rows) cs = is_empty cs
+in_row Last Empty cs = lacks_characters cs
+in_row Last (Char rows one repeat) cs = is_cut_in_two (in_row Last rows) (is_repetition repeat (is_one_text one)) cs
+in_row Last (Bracket rows inner repeat) cs = is_cut_in_two (in_row Last rows) (is_repetition repeat (λ part. in_row Earlier inner part || in_row Last inner part)) cs
+in_row Last (Or rows) cs = lacks_characters cs
 in_row Earlier Empty cs = false
 in_row Earlier (Char rows one repeat) cs = in_row Earlier rows cs
 in_row Earlier (Bracket rows inner repeat) cs = in_row Earlier rows cs

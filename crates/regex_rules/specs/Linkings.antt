@@ -28,24 +28,24 @@ join repeat row next sets = link row.last next.first (if may_go_on repeat then l
 -- ---- over the places
 
 -- rows at their beginning
-abbrev pub begun : Rows
-begun = record { earlier = no_rows; row = empty_row }
+abbrev pub begun_rows : Rows
+begun_rows = record { earlier = no_rows; row = empty_row }
 
 -- what may come after each character so far, the innermost open rows and those around them, and the bit of the next character
 abbrev pub linking_at : List ℕ → Rows → List Rows → ℕ → Linking
 linking_at follow rows around bit = record { follow = follow; rows = rows; around = around; bit = bit }
 
 -- the last row goes on with a piece
-abbrev pub added : Piece → Repeat → List ℕ → Rows → List Rows → ℕ → Linking
-added one repeat follow rows around bit = linking_at (join repeat rows.row one follow) (record { earlier = rows.earlier; row = followed rows.row (so_often repeat one) }) around bit
+abbrev pub piece_added : Piece → Repeat → List ℕ → Rows → List Rows → ℕ → Linking
+piece_added one repeat follow rows around bit = linking_at (join repeat rows.row one follow) (record { earlier = rows.earlier; row = followed rows.row (so_often repeat one) }) around bit
 
 abbrev pub closed : Repeat → Linking → List Rows → Linking
 closed repeat self [] = self
-closed repeat self (outer ∷ around) = added (either self.rows.earlier self.rows.row) repeat self.follow outer around self.bit
+closed repeat self (outer ∷ around) = piece_added (either self.rows.earlier self.rows.row) repeat self.follow outer around self.bit
 
 -- past one character
 abbrev pub linked_past_one : Repeat → Linking → Linking
-linked_past_one repeat self = added (piece_of self.bit self.bit false) repeat self.follow self.rows self.around (next_bit self.bit)
+linked_past_one repeat self = piece_added (piece_of self.bit self.bit false) repeat self.follow self.rows self.around (next_bit self.bit)
 
 -- past a bar: the innermost open rows begin another one
 abbrev pub linked_past_bar : Linking → Linking
@@ -54,7 +54,7 @@ linked_past_bar self = linking_at self.follow (record { earlier = either self.ro
 -- past one place
 abbrev pub past : Place → Linking → Linking
 past (One one repeat) self = linked_past_one repeat self
-past Open self = linking_at self.follow begun (self.rows ∷ self.around) self.bit
+past Open self = linking_at self.follow begun_rows (self.rows ∷ self.around) self.bit
 past Bar self = linked_past_bar self
 past (Close repeat) self = closed repeat self self.around
 
@@ -97,7 +97,7 @@ ones (Close repeat ∷ places) = ones places
 
 -- before the first of this number of characters
 abbrev pub unlinked : ℕ → Linking
-unlinked number = linking_at (replicate number 0) begun [] 1
+unlinked number = linking_at (replicate number 0) begun_rows [] 1
 
 -- The table of a pattern with these places, which has at most 64 characters.
 pub record IsTable (places : List Place) (table : Positions) : Type 0 where

@@ -40,11 +40,11 @@ abbrev pub Step : Type 0
 Step = Result Reader PatternFault
 
 -- among the pieces of a row within so many brackets
-abbrev pub in_row : List Place → ℕ → Reader
-in_row places depth = record { places = places; depth = depth; negated = false; ranges = []; mode = mode.Row }
+abbrev pub reader_in_row : List Place → ℕ → Reader
+reader_in_row places depth = record { places = places; depth = depth; negated = false; ranges = []; mode = mode.Row }
 
-abbrev pub in_class : Reader → Bool → List CharRange → Mode → Reader
-in_class reader negated ranges place = record { places = reader.places; depth = reader.depth; negated = negated; ranges = ranges; mode = place }
+abbrev pub reader_in_class : Reader → Bool → List CharRange → Mode → Reader
+reader_in_class reader negated ranges place = record { places = reader.places; depth = reader.depth; negated = negated; ranges = ranges; mode = place }
 
 abbrev pub in_mode : Reader → Mode → Reader
 in_mode reader place = record { places = reader.places; depth = reader.depth; negated = reader.negated; ranges = reader.ranges; mode = place }
@@ -62,8 +62,8 @@ row_repeated at reader (Some places) = Ok (at_places reader places reader.depth)
 abbrev pub opened : Bounds → ℕ → Reader → Step
 opened bounds at reader = if bounds.may_open reader.depth then Ok (at_places reader (reader.places ++ Open ∷ []) (reader.depth + 1)) else Err (TooDeep at)
 
-abbrev pub closed : ℕ → Reader → Step
-closed at reader = if reader.depth == 0 then Err (BadPattern at) else Ok (at_places reader (reader.places ++ Close Once ∷ []) (reader.depth - 1))
+abbrev pub bracket_closed : ℕ → Reader → Step
+bracket_closed at reader = if reader.depth == 0 then Err (BadPattern at) else Ok (at_places reader (reader.places ++ Close Once ∷ []) (reader.depth - 1))
 
 abbrev pub ended : ℕ → Reader → Step
 ended at reader = if reader.depth == 0 then Ok (in_mode reader mode.End) else Err (BadPattern at)
@@ -73,12 +73,12 @@ abbrev pub special : Bounds → ℕ → ℕ → Reader → Step
 special bounds at c reader =
     if c == 46 then Ok (with_place reader (One AnyButNewline Once))
     else (if c == 40 then opened bounds at reader
-    else (if c == 41 then closed at reader
+    else (if c == 41 then bracket_closed at reader
     else (if c == 124 then Ok (with_place reader Bar)
     else (if c == 42 then row_repeated at reader (with_repeat Any reader.places)
     else (if c == 43 then row_repeated at reader (with_repeat AtLeastOnce reader.places)
     else (if c == 63 then row_repeated at reader (with_repeat Optional reader.places)
-    else (if c == 91 then Ok (in_class reader false [] mode.ClassBegin)
+    else (if c == 91 then Ok (reader_in_class reader false [] mode.ClassBegin)
     else (if c == 92 then Ok (in_mode reader mode.Escape)
     else (if c == 36 then ended at reader
     else Err (BadPattern at))))))))))
@@ -91,11 +91,11 @@ escaped at c reader = if is_meant c then Ok (with_place reader (One (Literal c) 
 
 -- past the `]` of a class with these ranges
 abbrev pub class_closed : Reader → List CharRange → Step
-class_closed reader ranges = Ok (in_row (reader.places ++ One (Class (record { negated = reader.negated; ranges = ranges })) Once ∷ []) reader.depth)
+class_closed reader ranges = Ok (reader_in_row (reader.places ++ One (Class (record { negated = reader.negated; ranges = ranges })) Once ∷ []) reader.depth)
 
 -- a class with these ranges, further on
 abbrev pub class_goes_on : Reader → List CharRange → Mode → Step
-class_goes_on reader ranges place = Ok (in_class reader reader.negated ranges place)
+class_goes_on reader ranges place = Ok (reader_in_class reader reader.negated ranges place)
 
 -- where a class has nothing yet
 abbrev pub class_first : ℕ → ℕ → Reader → Step
@@ -104,7 +104,7 @@ class_first at c reader =
     else Ok (in_mode reader (mode.Member c at))
 
 abbrev pub class_begun : ℕ → ℕ → Reader → Step
-class_begun at c reader = if c == 94 then Ok (in_class reader true [] mode.ClassFirst) else class_first at c reader
+class_begun at c reader = if c == 94 then Ok (reader_in_class reader true [] mode.ClassFirst) else class_first at c reader
 
 -- where another character or range may begin, with these ranges before it, and after what a `-` means
 abbrev pub class_next : ℕ → ℕ → Reader → List CharRange → Step → Step

@@ -49,9 +49,9 @@ pub data AreRanges (bounds : Bounds) : List ℕ → List CharRange → Type 0 wh
       → bounds.may_span c d ≡ true → cs ≡ before ++ (member ++ (45 ∷ other)) → AreRanges bounds cs (ranges ++ range c d ∷ [])
 
 -- a `-` before the `]` is itself
-pub data IsTail : List ℕ → List CharRange → Type 0 where
-  nothing : IsTail [] []
-  hyphen : IsTail (45 ∷ []) (range 45 45 ∷ [])
+pub data IsClassTail : List ℕ → List CharRange → Type 0 where
+  nothing : IsClassTail [] []
+  hyphen : IsClassTail (45 ∷ []) (range 45 45 ∷ [])
 
 -- `^` negates
 pub data IsNegation : List ℕ → Bool → Type 0 where
@@ -68,7 +68,7 @@ pub record IsClass (bounds : Bounds) (cs : List ℕ) (class : CharClass) : Type 
   pub negation : IsNegation sign class.negated
   pub spelled : AreRanges bounds items ranges
   pub some : (items ≡ []) → ⊥
-  pub ends : IsTail tail hyphens
+  pub ends : IsClassTail tail hyphens
   pub all : class.ranges ≡ ranges ++ hyphens
   pub parts : cs ≡ 91 ∷ sign ++ (items ++ (tail ++ (93 ∷ [])))
 
@@ -101,7 +101,7 @@ pub data IsAnchor (sign : ℕ) : List ℕ → Type 0 where
   present : IsAnchor sign (sign ∷ [])
 
 -- the characters of a whole text spell a pattern
-pub record IsWhole (bounds : Bounds) (cs : List ℕ) (tree : Tree) : Type 0 where
+pub record IsWholePattern (bounds : Bounds) (cs : List ℕ) (tree : Tree) : Type 0 where
   pub begin : List ℕ
   pub rows : List ℕ
   pub end : List ℕ
@@ -119,9 +119,9 @@ abbrev pub unlimited : Bounds
 unlimited = record { may_open = λ depth. true; may_span = nat_le }
 
 -- the grammar alone
-abbrev pub free : Bounds
-free = record { may_open = λ depth. true; may_span = λ first last. true }
+abbrev pub no_bounds : Bounds
+no_bounds = record { may_open = λ depth. true; may_span = λ first last. true }
 
 -- The characters of a text are a pattern with this tree.
 abbrev pub IsPattern : List ℕ → Tree → Type 0
-IsPattern cs tree = IsWhole strict cs tree
+IsPattern cs tree = IsWholePattern strict cs tree

@@ -84,8 +84,8 @@ walked c (place ∷ places) [] walk = walk
 walked c (place ∷ places) (old ∷ olds) walk = walked c places olds (past_place c place old walk)
 
 -- whether the walk ends at the end of a row
-abbrev pub answer_of : Walk → Bool
-answer_of walk = walk.level.earlier_arrives || walk.level.arrives
+abbrev pub walk_answer : Walk → Bool
+walk_answer walk = walk.level.earlier_arrives || walk.level.arrives
 
 -- whether a row may take nothing
 abbrev pub takes_nothing : Walk → Bool

@@ -19,7 +19,7 @@ fn is_reserved(c: char) -> bool
 
 impl Reader {
     fn add_range(&mut self, first: char, last: char) -> Result<(), PatternFault>
-        ensures ok { OnOk result (self.new ≡ spec.in_class self.old self.old.negated (self.old.ranges ++ range first last ∷ []) self.old.mode) }
+        ensures ok { OnOk result (self.new ≡ spec.reader_in_class self.old self.old.negated (self.old.ranges ++ range first last ∷ []) self.old.mode) }
         ensures err { IfErr result (λ e. e ≡ PatternFault.NoMemory) }
     {
         self.ranges.push(CharRange { first, last })?;

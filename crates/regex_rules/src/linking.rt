@@ -85,8 +85,8 @@ pub(crate) struct Rows {
     pub(crate) row: Piece,
 }
 
-fn begun() -> Rows
-    ensures { result ≡ spec.begun }
+fn begun_rows() -> Rows
+    ensures { result ≡ spec.begun_rows }
 {
     Rows {
         earlier: no_rows(),
@@ -111,7 +111,7 @@ impl Linking {
     {
         Ok(Linking {
             follow: FollowTable::new(alloc, number)?,
-            rows: begun(),
+            rows: begun_rows(),
             around: OpenRows::new(alloc),
             bit: 1,
         })
@@ -119,7 +119,7 @@ impl Linking {
 
     // The last row goes on with this piece.
     fn add(&mut self, piece: Piece, repeat: Repeat)
-        ensures { self.new ≡ spec.added piece repeat self.old.follow self.old.rows self.old.around self.old.bit }
+        ensures { self.new ≡ spec.piece_added piece repeat self.old.follow self.old.rows self.old.around self.old.bit }
     {
         if repeat.may_go_on() {
             self.follow.link(piece.last, piece.first);
@@ -141,10 +141,10 @@ impl Linking {
     }
 
     fn pass_open(&mut self) -> Mem<()>
-        ensures { OnOk result (self.new ≡ spec.linking_at self.old.follow spec.begun (self.old.rows ∷ self.old.around) self.old.bit) }
+        ensures { OnOk result (self.new ≡ spec.linking_at self.old.follow spec.begun_rows (self.old.rows ∷ self.old.around) self.old.bit) }
     {
         self.around.push(self.rows)?;
-        self.rows = begun();
+        self.rows = begun_rows();
         Ok(())
     }
 

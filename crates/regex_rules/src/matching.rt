@@ -49,7 +49,7 @@ impl Sets {
 
     // Takes one more character of the text: whether the text is now at the end of a row.
     pub(crate) fn take(&mut self, c: char, places: &[Place], enters: bool) -> Mem<bool>
-        ensures answer { IfOk result (λ answer. answer ≡ spec.answer_of (spec.walked c places.now self.old.olds (spec.at (spec.begun enters) [] []))) }
+        ensures answer { IfOk result (λ answer. answer ≡ spec.walk_answer (spec.walked c places.now self.old.olds (spec.at (spec.begun enters) [] []))) }
         ensures marks { OnOk result (self.new.olds ≡ (spec.walked c places.now self.old.olds (spec.at (spec.begun enters) [] [])).marks) }
     {
         self.walk.go(c, places, self.olds.as_slice(), enters)?;

@@ -85,8 +85,8 @@ impl Reader {
     }
 
     fn close(&mut self, at: usize) -> Result<(), PatternFault>
-        ensures ok { OnOk result (spec.closed at self.old ≡ Ok self.new) }
-        ensures err { IfErr result (λ e. e ≢ PatternFault.NoMemory → spec.closed at self.old ≡ Err e) }
+        ensures ok { OnOk result (spec.bracket_closed at self.old ≡ Ok self.new) }
+        ensures err { IfErr result (λ e. e ≢ PatternFault.NoMemory → spec.bracket_closed at self.old ≡ Err e) }
     {
         if self.depth == 0 {
             return Err(PatternFault::BadPattern(at));
@@ -108,7 +108,7 @@ impl Reader {
     }
 
     fn begin_class(&mut self, alloc: Global)
-        ensures { self.new ≡ spec.in_class self.old false [] modes.ClassBegin }
+        ensures { self.new ≡ spec.reader_in_class self.old false [] modes.ClassBegin }
     {
         self.negated = false;
         self.ranges = Items::new(alloc);

@@ -58,7 +58,7 @@ fn push_notes(alloc: Global, notes: &mut NoteList) -> Mem<()> {
     let sent = ByteBuf::of(alloc, b"\"\x00\xff\\")?;
     notes.push(Note::Sent(ConnectionId::new(3), SentBytes::whole(alloc, sent)))?;
     push_flush_notes(alloc, notes)?;
-    notes.push(Note::Dry)
+    notes.push(Note::OutOfMemory)
 }
 
 // A flush of a node of which the name begins with a namespace, a slice that left more to do, and how it ended.

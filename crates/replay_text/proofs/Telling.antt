@@ -4,7 +4,7 @@ use Rattle.std.specs.Prelude.{flat_map}
 use Rattle.std.specs.Fmt.{decimal}
 use Rattle.run_events.specs.declared.note.Failure.TheVariants.{Disk}
 use Rattle.run_events.specs.declared.note.Note.{Note}
-use Rattle.run_events.specs.declared.note.Note.TheVariants.{Answer as answered, Ask, Hit, Local, Flush, Sliced, Done, Failed, Rendered, Kept, Unkept, Passed, Lost, Sent, Shut, Refused, Idle, Up, Down, Hurt, Dry}
+use Rattle.run_events.specs.declared.note.Note.TheVariants.{Answer as answered, Ask, Hit, Local, Flush, Sliced, Done, Failed, Rendered, Kept, Unkept, Passed, Lost, Sent, Shut, Refused, Idle, Up, Down, Hurt, OutOfMemory}
 use Rattle.replay_text.specs.Transcript.{note_line, note_text, event_text, told_notes, transcript_from, transcript, IsWritable, AreWritable, EventsAreWritable}
 use Rattle.replay_text.proofs.HandleLaws.{HandlesTell}
 use Rattle.replay_text.proofs.NoteLines.{last_number, one_answer, one_ask, one_flush, one_local, one_page, one_rendered, one_sent}
@@ -83,7 +83,7 @@ one_line keys handles (Up m) (Up n) r s p q e =
     let x = last_number m n r s p q (ap (drop 3) e) in (ap (λ v. Up v) x.0, x.1)
 one_line keys handles Down Down r s p q e = (refl, ap (drop 5) e)
 one_line keys handles Hurt Hurt r s p q e = (refl, ap (drop 5) e)
-one_line keys handles Dry Dry r s p q e = (refl, ap (drop 4) e)
+one_line keys handles OutOfMemory OutOfMemory r s p q e = (refl, ap (drop 4) e)
 one_line keys handles m n r s p q e = absurd (omega (arith, ap (λ t. get_or t 0 0) e, ap (λ t. get_or t 2 0) e))
 
 one_note : KeysTell → HandlesTell → (m n : Note) (r s : List ℕ) → IsLined m → IsLined n → line_text m ++ r ≡ line_text n ++ s → (m ≡ n) × (r ≡ s)
@@ -115,7 +115,7 @@ note_begins Idle r p = omega arith
 note_begins (Up epoch) r p = omega arith
 note_begins Down r p = omega arith
 note_begins Hurt r p = omega arith
-note_begins Dry r p = omega arith
+note_begins OutOfMemory r p = omega arith
 
 not_both : (n : Note) (text rest : List ℕ) → IsLined n → Ends text → text ≡ line_text n ++ rest → ⊥
 not_both n text rest p ends e = absurd (omega (arith, ends, note_begins n rest p, ap (λ t. get_or t 0 0) e))

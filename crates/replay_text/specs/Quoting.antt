@@ -5,6 +5,7 @@ use Rattle.std.specs.Prelude.{◌≡◌, ◌≢◌, ◌≤◌, ◌<◌, ◌&&◌
 use Rattle.sp_base.specs.Bytes.{AreBytes, is_printable_ascii}
 use Rattle.sp_outside.specs.declared.mem_disk.Way.{Way}
 use Rattle.cover_rules.specs.declared.invalidation.Action.{Action}
+use Rattle.connections.specs.Ids.{ConnectionId}
 use Rattle.replay_text.specs.Transcript.{quoted_byte, quotation, IsConnectionNumber}
 use Rattle.replay_text.specs.EventLines.{is_target, IsFlightText, IsCallNumber, flight_text, flushed_text, way_text}
 use Rattle.replay_text.specs.declared.event_line.Flight.{Flight}
@@ -52,19 +53,19 @@ IsNoDirect line = (target : List ℕ) → IsTrue (is_target target) → line ≢
 
 -- a word, a connection, and visible bytes
 abbrev pub IsNoTargetOf : List ℕ → List ℕ → Type 0
-IsNoTargetOf word line = (c : ℕ) (target : List ℕ) → IsConnectionNumber c → IsTrue (is_target target) → line ≢ connection_text word c target
+IsNoTargetOf word line = (c : ConnectionId) (target : List ℕ) → IsConnectionNumber c → IsTrue (is_target target) → line ≢ connection_text word c target
 
 -- `close` and a connection
 abbrev pub IsNoClose : List ℕ → Type 0
-IsNoClose line = (c : ℕ) → IsConnectionNumber c → line ≢ codes "close " ++ decimal c
+IsNoClose line = (c : ConnectionId) → IsConnectionNumber c → line ≢ codes "close " ++ decimal c
 
 -- `bytes`, a connection, and some bytes in quotes
 abbrev pub IsNoBytes : List ℕ → Type 0
-IsNoBytes line = (c : ℕ) (bytes : List ℕ) → IsConnectionNumber c → AreBytes bytes → bytes ≢ [] → line ≢ connection_text (codes "bytes ") c (quotation bytes)
+IsNoBytes line = (c : ConnectionId) (bytes : List ℕ) → IsConnectionNumber c → AreBytes bytes → bytes ≢ [] → line ≢ connection_text (codes "bytes ") c (quotation bytes)
 
 -- `post`, a connection, a target, and bytes in quotes
 abbrev pub IsNoPost : List ℕ → Type 0
-IsNoPost line = (c : ℕ) (target body : List ℕ) → IsConnectionNumber c → IsTrue (is_target target) → AreBytes body
+IsNoPost line = (c : ConnectionId) (target body : List ℕ) → IsConnectionNumber c → IsTrue (is_target target) → AreBytes body
     → line ≢ connection_text (codes "post ") c (target ++ 32 ∷ quotation body)
 
 -- an action, a handle and a scope
@@ -73,7 +74,7 @@ IsNoFlushed text = (action : Action) (handle : List ℕ) (only : Bool) → IsTru
 
 -- `flush`, a connection, and these
 abbrev pub IsNoFlush : List ℕ → Type 0
-IsNoFlush line = (c : ℕ) (action : Action) (handle : List ℕ) (only : Bool) → IsConnectionNumber c → IsTrue (is_target handle)
+IsNoFlush line = (c : ConnectionId) (action : Action) (handle : List ℕ) (only : Bool) → IsConnectionNumber c → IsTrue (is_target handle)
     → line ≢ connection_text (codes "flush ") c (flushed_text action handle only)
 
 -- a word, the number of a call, and what it leaves

@@ -11,9 +11,10 @@ use Rattle.cover_rules.specs.declared.page.PageKey.{PageKey}
 use Rattle.cover_rules.specs.declared.invalidation.Invalidation.{Invalidation}
 use Rattle.cover_rules.specs.declared.invalidation.Action.{Action}
 use Rattle.cover_rules.specs.declared.invalidation.Action.TheVariants.{Activate, Deactivate, Delete}
+use Rattle.connections.specs.Ids.{ConnectionId}
 use Rattle.run_events.specs.declared.note.Failure.TheVariants.{Disk}
 use Rattle.run_events.specs.declared.note.Note.{Note}
-use Rattle.run_events.specs.declared.note.Note.TheVariants.{Answer as answered, Ask, Hit, Local, Flush, Sliced, Done, Failed, Rendered, Kept, Unkept, Passed, Lost, Sent, Shut, Refused, Idle, Up, Down, Hurt, Dry}
+use Rattle.run_events.specs.declared.note.Note.TheVariants.{Answer as answered, Ask, Hit, Local, Flush, Sliced, Done, Failed, Rendered, Kept, Unkept, Passed, Lost, Sent, Shut, Refused, Idle, Up, Down, Hurt, OutOfMemory}
 use Rattle.run_events.specs.Named.{IsPage, IsHandle}
 
 -- a hexadecimal digit, in lower case
@@ -68,7 +69,7 @@ abbrev pub invalidation_text : Invalidation → List ℕ
 invalidation_text inv = action_text inv.action ++ codes " " ++ quotation (text_of (mangled_segs inv.handle)) ++ codes " " ++ scope_word inv.only
 
 -- the line of bytes that are handed to a connection
-abbrev pub sent_line : ℕ → List ℕ → List ℕ
+abbrev pub sent_line : ConnectionId → List ℕ → List ℕ
 sent_line connection bytes = codes "sent " ++ decimal connection ++ codes " " ++ quotation bytes
 
 -- The line of a note, without its newline: flights, flushes and connections stand there by their numbers. A slice that left more to do
@@ -94,7 +95,7 @@ note_line Idle = codes "none"
 note_line (Up epoch) = codes "up " ++ decimal epoch
 note_line Down = codes "down"
 note_line Hurt = codes "hurt"
-note_line Dry = codes "dry"
+note_line OutOfMemory = codes "dry"
 
 -- the line of a note, where it has one
 abbrev pub note_text : Note → List ℕ
@@ -127,7 +128,7 @@ abbrev pub connection_numbers : ℕ
 connection_numbers = 4294967296
 
 -- numbers of connections have 32 bits
-abbrev pub IsConnectionNumber : ℕ → Type 0
+abbrev pub IsConnectionNumber : ConnectionId → Type 0
 IsConnectionNumber c = c < connection_numbers
 
 -- The numbers of the note fit, its key is one of a page, and its handle one of a request. Without the second two keys may have one text: a file `b/c.html` in

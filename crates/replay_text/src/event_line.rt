@@ -1,15 +1,16 @@
 //! The lines of events.
+use connections::{ConnectionId, FlightId};
 use cover_rules::Action;
 use sp_base::{ByteBuf, TextBuf};
 use sp_outside::Way;
 
 /// Which flight an event is about.
-#[derive(Clone, Copy, PartialEq, Eq, Debug, Drop)]
+#[derive(Drop)]
 pub enum Flight {
     /// The first that the event can be about.
     First,
     /// The one of this number, from 1.
-    Numbered(u64),
+    Numbered(FlightId),
 }
 
 /// What a line of a scenario asks for.
@@ -18,18 +19,18 @@ pub enum EventLine {
     /// A target is asked of the publisher, past the cache.
     Direct(TextBuf),
     /// A peer opens a connection.
-    Open(u32, TextBuf),
+    Open(ConnectionId, TextBuf),
     /// The peer of a connection closes it.
-    Close(u32),
+    Close(ConnectionId),
     /// Bytes come on a connection.
-    Bytes(u32, ByteBuf),
+    Bytes(ConnectionId, ByteBuf),
     /// A GET of a target comes on a connection.
-    Get(u32, TextBuf),
+    Get(ConnectionId, TextBuf),
     /// A POST to a target comes on a connection, with a form as its body.
-    Post(u32, TextBuf, ByteBuf),
+    Post(ConnectionId, TextBuf, ByteBuf),
     /// A POST comes on a connection that asks for an invalidation: what was done to the content at a handle, and whether no .stat file
     /// is touched.
-    Flush(u32, Action, TextBuf, bool),
+    Flush(ConnectionId, Action, TextBuf, bool),
     /// The answer of a flight is made.
     Render(Flight),
     /// The answer of a flight arrives.

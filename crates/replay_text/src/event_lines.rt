@@ -10,6 +10,7 @@ use crate::event_line::EventLine;
 use crate::event_reader::{after_word, connection, connection_after, first_word, flight_after};
 use crate::quoted::unquoted;
 use crate::targets::target;
+use connections::ConnectionId;
 use sp_base::{ByteBuf, Mem, TextBuf};
 use std::alloc::Global;
 
@@ -27,7 +28,7 @@ fn direct_line(alloc: Global, line: &[u8]) -> Mem<Option<EventLine>>
 }
 
 // A connection and a target after a word.
-fn target_after(alloc: Global, line: &[u8], word: &[u8]) -> Mem<Option<(u32, TextBuf)>>
+fn target_after(alloc: Global, line: &[u8], word: &[u8]) -> Mem<Option<(ConnectionId, TextBuf)>>
     ensures some { IfOk result (λ o. IfSome o (λ p. IsConnectionNumber p.0 × IsTrue (is_target p.1) × (line.now ≡ connection_text word.now p.0 p.1))) }
     ensures none { IfOk result (λ o. IfNone o (IsNoTargetOf word.now line.now)) }
 {

@@ -8,6 +8,7 @@ ghost use Rattle.replay_text.specs.Quoting.{not_blank, connection_text};
 
 use crate::event_line::Flight;
 use crate::lines::same;
+use connections::{ConnectionId, FlightId};
 use sp_base::Mem;
 use std::alloc::Global;
 use std::str;
@@ -48,7 +49,7 @@ pub fn number(alloc: Global, word: &[u8]) -> Mem<Option<u64>>
 }
 
 // The number of a connection that a word spells.
-pub fn connection(alloc: Global, word: &[u8]) -> Mem<Option<u32>>
+pub fn connection(alloc: Global, word: &[u8]) -> Mem<Option<ConnectionId>>
     ensures some { IfOk result (λ o. IfSome o (λ c. IsConnectionNumber c × (word.now ≡ decimal c))) }
     ensures none { IfOk result (λ o. IfNone o ((c : ℕ) → IsConnectionNumber c → word.now ≢ decimal c)) }
 {
@@ -56,7 +57,7 @@ pub fn connection(alloc: Global, word: &[u8]) -> Mem<Option<u32>>
         return Ok(None);
     };
     if n < CONNECTION_NUMBERS {
-        Ok(Some(n as u32))
+        Ok(Some(ConnectionId::new(n as u32)))
     } else {
         Ok(None)
     }
@@ -84,7 +85,7 @@ fn flight(alloc: Global, word: &[u8]) -> Mem<Option<Flight>>
     let Some(n) = number_from_one(alloc, word)? else {
         return Ok(None);
     };
-    Ok(Some(Flight::Numbered(n)))
+    Ok(Some(Flight::Numbered(FlightId::new(n))))
 }
 
 // The text after a word that begins it.
@@ -111,7 +112,7 @@ pub fn connection_after<'a>(
     alloc: Global,
     line: &'a [u8],
     word: &[u8],
-) -> Mem<Option<(u32, &'a [u8])>>
+) -> Mem<Option<(ConnectionId, &'a [u8])>>
     ensures some { IfOk result (λ o. IfSome o (λ p. IsConnectionNumber p.0 × (line.now ≡ connection_text word.now p.0 p.1.now))) }
     ensures none { IfOk result (λ o. IfNone o ((c : ℕ) (rest : List ℕ) → IsConnectionNumber c → line.now ≢ connection_text word.now c rest)) }
 {

@@ -236,7 +236,7 @@ fn push_note_line(alloc: Global, out: &mut Vec<u8>, note: &Note) -> Mem<()>
         Note::Up(epoch) => push_numbered(alloc, out, b"up ", *epoch),
         Note::Down => push(out, b"down"),
         Note::Hurt => push(out, b"hurt"),
-        Note::Dry => push(out, b"dry"),
+        Note::OutOfMemory => push(out, b"dry"),
     }
 }
 

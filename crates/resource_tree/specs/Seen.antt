@@ -1,14 +1,13 @@
 -- What a tree shows at a path: its node as it is.
-use Rattle.std.specs.Prelude.{ℕ, List, Option, option_map}
-use Rattle.sp_base.specs.Texts.{Segments, Text}
-use Rattle.sp_base.specs.declared.value.Value.{Value}
+use Rattle.std.specs.Prelude.{List, Option, option_map}
+use Rattle.sp_base.specs.Texts.{Segments, Text, Properties}
 use Rattle.resource_tree.specs.declared.nodes.Node.{Node}
 use Rattle.resource_tree.specs.Content.{Content, node_at}
 
 -- a node at its path, as it is shown: its properties in the order of their names, and the names of its kids in their order
 pub record Resource : Type 0 where
   pub path : Segments
-  pub props : List (List ℕ × Value)
+  pub props : Properties
   pub kids : List Text
 
 -- what is seen: the resource at a path, if there is one

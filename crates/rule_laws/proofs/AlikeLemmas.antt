@@ -9,7 +9,7 @@ use Rattle.any_config.specs.declared.farm.Filter.{Filter}
 use Rattle.any_config.specs.declared.farm.VirtualHost.{VirtualHost}
 use Rattle.any_config.specs.declared.farm_fault.FarmFault.TheVariants.{BadKind}
 use Rattle.any_config.specs.declared.node.AnyNode.{AnyNode, out-AnyNode}
-use Rattle.rule_laws.specs.Alike.{HaveAlike, AreGroupsOf, AreGroupsAlike, AreWordsAlike, HaveWordsAlike, rule_names, filter_names, AreEntriesAlike, HaveEntriesAlike, AreHostsAlike, AreCachesAlike, AreFarmsAlike, AreFarmListsAlike, AreReadAlike}
+use Rattle.rule_laws.specs.Alike.{HaveAlike, AreGroupsOf, AreGroupsAlike, AreWordsAlike, HaveWordsAlike, rule_names, filter_names, AreEntriesAlike, HaveEntriesAlike, AreHostsAlike, AreCachesAlike, AreFarmsAlike, AreFarmListsAlike, AreFilesAlike}
 use Rattle.rule_laws.proofs.MemberLemmas.{lacks_only, member_only}
 
 -- ---- steps
@@ -205,7 +205,7 @@ only_alike (m ∷ k ∷ ms) (n ∷ []) (inl all) = absurd all.1
 only_alike (m ∷ k ∷ ms) (n ∷ []) (inr several) = let one = several.1 in absurd (omega (arith, one))
 only_alike (m ∷ k ∷ ms) (n ∷ l ∷ others) alike = refl
 
-pub read_alike : (top other : AnyNode) → AreReadAlike top other → farm_of top ≡ farm_of other
+pub read_alike : (top other : AnyNode) → AreFilesAlike top other → farm_of top ≡ farm_of other
 unfolding farm_of only_farm
 read_alike top other alike =
     next_next (needed_group (codes "farms") (members_in (out-AnyNode top))) only_in farm_rows

@@ -89,7 +89,7 @@ abbrev pub AreFarmListsAlike : Members → Members → Type 0
 AreFarmListsAlike ms others = AllZip (AreEntriesAlike AreFarmsAlike (codes "farms")) ms others ⊎ ((1 < length ms) × (1 < length others))
 
 -- files
-pub record AreReadAlike (top other : AnyNode) : Type 0 where
+pub record AreFilesAlike (top other : AnyNode) : Type 0 where
   pub ms : Members
   pub others : Members
   pub first : IsGroup top ms

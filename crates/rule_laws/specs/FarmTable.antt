@@ -77,7 +77,7 @@ pub record HasGlob (ms : Members) (name : List ℕ) (glob : List GlobPiece) : Ty
   pub reads : glob_of text ≡ Ok glob
 
 -- the member of this name is a text in single quotes that this pattern reads
-pub record HasPattern (ms : Members) (name : List ℕ) (pattern : List Place) : Type 0 where
+pub record HasPatternMember (ms : Members) (name : List ℕ) (pattern : List Place) : Type 0 where
   pub text : List ℕ
   pub quoted : HasQuoted ms name text
   pub reads : pattern_of text ≡ Ok pattern
@@ -86,7 +86,7 @@ pub record HasPattern (ms : Members) (name : List ℕ) (pattern : List Place) : 
 pub data HasTest (ms : Members) (name : List ℕ) : Option Test → Type 0 where
   Lacks : LacksMember ms name → HasTest ms name None
   ByGlob : {glob : List GlobPiece} → HasGlob ms name glob → HasTest ms name (Some (test.Glob glob))
-  ByPattern : {pattern : List Place} → HasPattern ms name pattern → HasTest ms name (Some (test.Pattern pattern))
+  ByPattern : {pattern : List Place} → HasPatternMember ms name pattern → HasTest ms name (Some (test.Pattern pattern))
 
 -- an entry of a list of rules: a group with `/type` and `/glob`
 pub record IsRuleEntry (m : List ℕ × AnyNode) (rule : Rule) : Type 0 where

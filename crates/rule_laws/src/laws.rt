@@ -7,7 +7,7 @@ ghost use Rattle.any_config.specs.declared.farm_fault.FarmFault.{FarmFault};
 ghost use Rattle.any_config.specs.declared.node.AnyNode.{AnyNode};
 ghost use Rattle.cover_rules.specs.Coverage.{touched_of};
 ghost use Rattle.cover_rules.specs.declared.invalidation.Invalidation.{Invalidation};
-ghost use Rattle.rule_laws.specs.Alike.{AreReadAlike};
+ghost use Rattle.rule_laws.specs.Alike.{AreFilesAlike};
 ghost use Rattle.rule_laws.specs.FarmFaults.{IsFarmFault};
 ghost use Rattle.rule_laws.specs.FarmTable.{IsFarmOf};
 ghost use Rattle.rule_laws.specs.Numbers.{IsWritten};
@@ -36,7 +36,7 @@ pub fn a_number_is_its_digits()
 /// fault. Of each name that is looked for in a group its first member counts, and any others are passed over; entries count in turn, whatever
 /// their names.
 pub fn other_members_change_nothing()
-    ensures { (top other : AnyNode) → AreReadAlike top other → farm_of top ≡ farm_of other }
+    ensures { (top other : AnyNode) → AreFilesAlike top other → farm_of top ≡ farm_of other }
 {}
 
 /// An invalidation touches exactly the folders above the handle, from the document root down to the level, as far as pages can lie in them,

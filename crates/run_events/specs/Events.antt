@@ -19,7 +19,7 @@ use Rattle.run_events.specs.declared.step.Pick.TheVariants.{Number, First}
 use Rattle.run_events.specs.declared.step.Step.{Step}
 use Rattle.run_events.specs.declared.step.Step.TheVariants.{Opened, Piece, Gone, Direct, Render, Deliver, Lose, Purge, Restart}
 use Rattle.run_events.specs.declared.note.Note.{Note}
-use Rattle.run_events.specs.declared.note.Note.TheVariants.{Answer as answered, Rendered, Kept, Unkept, Passed, Lost, Refused, Idle, Hurt, Dry}
+use Rattle.run_events.specs.declared.note.Note.TheVariants.{Answer as answered, Rendered, Kept, Unkept, Passed, Lost, Refused, Idle, Hurt, OutOfMemory}
 use Rattle.run_events.specs.Publishers.{direct_answer}
 use Rattle.run_events.specs.States.{RunState}
 use Rattle.run_events.specs.Points.{call_conditions, key_of}
@@ -37,9 +37,9 @@ pub record Event : Type 0 where
   pub turns : List Turn
   pub ends : End
 
--- the notes that name what an event ran under: `Hurt` where the disk failed, and then `Dry` where memory ran out
+-- the notes that name what an event ran under: `Hurt` where the disk failed, and then `OutOfMemory` where memory ran out
 abbrev pub condition_notes : Conditions → List Note
-condition_notes m = (if m.disk_failed then Hurt ∷ [] else []) ++ (if m.out_of_memory then Dry ∷ [] else [])
+condition_notes m = (if m.disk_failed then Hurt ∷ [] else []) ++ (if m.out_of_memory then OutOfMemory ∷ [] else [])
 
 -- the notes of an event: those that name what it ran under are last
 abbrev pub notes_of : Event → List Note

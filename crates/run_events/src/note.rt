@@ -59,7 +59,7 @@ pub enum Note {
     /// The disk failed.
     Hurt,
     /// Memory ran out.
-    Dry,
+    OutOfMemory,
 }
 
 pub type NoteList = Items<Note>;

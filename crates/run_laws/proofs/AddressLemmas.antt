@@ -14,7 +14,7 @@ use Rattle.run_events.specs.declared.step.Step.TheVariants as step
 use Rattle.run_events.specs.States.{RunState}
 use Rattle.run_events.specs.Moves.{GivesDue, GivesNext, due_if_open, due_of_connection, state_after_note, state_after_notes}
 use Rattle.run_events.specs.Events.{Event, HappensBy, going, most_connections, state_after_going, state_after_opening, state_before_notes}
-use Rattle.run_laws.specs.Addressed.{AddsNoConnection, AreAddressed, IsAddressed, IsThereOrOpened, LeavesSession, opened_by_step}
+use Rattle.run_laws.specs.Addressed.{AddsNoConnection, AreAddressed, IsAddressed, WasThereOrOpenedIfThere, LeavesSession, opened_by_step}
 use Rattle.run_laws.proofs.CountLemmas.{note-there, there-map}
 use Rattle.run_laws.proofs.EachNoteLemmas.{AllIn, IsOfEach, step-all}
 use Rattle.run_laws.proofs.FormLemmas.{IsLandingNote, IsRequestNote, IsSliceNote, slice-form, treated-form}
@@ -82,7 +82,7 @@ gone-there connection c q some = ⊎_elim
     (λ apart. sym (ap is_some (update_apart connection c None q (λ e. apart (sym e)))) ∙ some)
     (cases_eq c q)
 
-opened-there : (w : RunState) (c : ℕ) (peer : List ℕ) (at : Option Connection) → IsThereOrOpened (step.Opened c peer) w (state_after_opening w c peer at)
+opened-there : (w : RunState) (c : ℕ) (peer : List ℕ) (at : Option Connection) → WasThereOrOpenedIfThere (step.Opened c peer) w (state_after_opening w c peer at)
 opened-there w c peer (Some k) q some = inl some
 opened-there w c peer None q some = by_room (nat_le most_connections w.connection_count) some
   where
@@ -100,7 +100,7 @@ going-there : (w : RunState) (c : ℕ) (at : Option Connection) (q : ℕ) → Is
 going-there w c None q some = some
 going-there w c (Some k) q some = gone-there w.connection c q some
 
-pub begun-there : (w : RunState) (e : Event) (s : Step) → IsThereOrOpened s w (state_before_notes w e s)
+pub begun-there : (w : RunState) (e : Event) (s : Step) → WasThereOrOpenedIfThere s w (state_before_notes w e s)
 begun-there w e (step.Opened c peer) = opened-there w c peer (w.connection c)
 begun-there w e (step.Piece c bytes) = λ q some. inl (sym (there-map w.connection c (with_piece bytes e.turns e.ends) q) ∙ some)
 begun-there w e (step.Gone c) = λ q some. inl (going-there w c (w.connection c) q some)

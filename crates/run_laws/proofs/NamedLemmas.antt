@@ -24,7 +24,7 @@ use Rattle.run_events.specs.declared.conditions.Conditions.{Conditions}
 use Rattle.run_events.specs.declared.flying.Flying.{Flying}
 use Rattle.run_events.specs.declared.flying.Flushing.{Flushing}
 use Rattle.run_events.specs.declared.note.Note.{Note}
-use Rattle.run_events.specs.declared.note.Note.TheVariants.{Answer as answered, Ask as asked, Hit, Local, Flush, Sliced, Done, Failed, Rendered, Kept, Unkept, Passed, Lost, Sent, Shut, Refused, Idle, Up, Down, Hurt, Dry}
+use Rattle.run_events.specs.declared.note.Note.TheVariants.{Answer as answered, Ask as asked, Hit, Local, Flush, Sliced, Done, Failed, Rendered, Kept, Unkept, Passed, Lost, Sent, Shut, Refused, Idle, Up, Down, Hurt, OutOfMemory}
 use Rattle.run_events.specs.declared.step.Step.{Step}
 use Rattle.run_events.specs.declared.step.Step.TheVariants as step
 use Rattle.run_events.specs.Points.{AnswersFlush, AnswersInvalidation, BeginsFlush, IsFirstPoint, is_full_of_flushes, key_of, peer_of, points}
@@ -45,7 +45,7 @@ both-named (note ∷ a) b first second = (first.0, both-named a b first.1 second
 conditions-named : (m : Conditions) → NamePages (condition_notes m)
 conditions-named m = by_both m.disk_failed m.out_of_memory
   where
-    by_both : (a b : Bool) → NamePages ((if a then Hurt ∷ [] else []) ++ (if b then Dry ∷ [] else []))
+    by_both : (a b : Bool) → NamePages ((if a then Hurt ∷ [] else []) ++ (if b then OutOfMemory ∷ [] else []))
     by_both true true = (tt, (tt, tt))
     by_both true false = (tt, tt)
     by_both false true = (tt, tt)
@@ -282,7 +282,7 @@ plain-named w Idle is named = record { names = tt; state = named }
 plain-named w (Up epoch) is named = record { names = tt; state = rest-named w (Up epoch) tt named }
 plain-named w Down is named = record { names = tt; state = rest-named w Down tt named }
 plain-named w Hurt is named = record { names = tt; state = named }
-plain-named w Dry is named = record { names = tt; state = named }
+plain-named w OutOfMemory is named = record { names = tt; state = named }
 
 slice-named : (w : RunState) (v : ℕ) (note : Note) → IsSliceNote v note → Named w → NoteNamed w note
 slice-named w v note (inl done) named = rw done (plain-named w (Done v) tt named)

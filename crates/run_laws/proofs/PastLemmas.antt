@@ -12,7 +12,7 @@ use Rattle.connections.specs.declared.awaited.Awaited.{Awaited}
 use Rattle.connections.specs.Slots.{Response, Slot, interim_slot}
 use Rattle.connections.specs.Connections.{Connection, Due, Send, with_due_continue, after_turn, with_piece, fresh, next_turn, with_end, with_sent, with_slot}
 use Rattle.connections.specs.Connections as model
-use Rattle.connections.specs.Histories.{Follows, IsAtRest, IsMove, Ending, Move, Shut as ShutMove, Sent as SentMove, Piece as PieceMove, Treatment, after_all, sendings}
+use Rattle.connections.specs.Histories.{AreMovesOf, IsAtRest, IsMove, Ending, Move, Shut as ShutMove, Sent as SentMove, Piece as PieceMove, Treatment, after_all, sendings}
 use Rattle.connections.specs.Histories as history
 use Rattle.connections.specs.declared.sending.Sending.{Sending}
 
@@ -120,7 +120,7 @@ nothing-spelled = inl ((none-yet, may-begin), omega arith)
 pub record Past (d : Connection) (came : List ℕ) (sent : List Sending) : Type 0 where
   pub peer : List ℕ
   pub moves : List Move
-  pub follows : Follows (fresh peer) moves
+  pub follows : AreMovesOf (fresh peer) moves
   pub is : after_all (fresh peer) moves ≡ d
   pub sent_is : sendings moves ≡ sent
   pub spells : SpellsTurns d.stream d.turns d.ends
@@ -131,7 +131,7 @@ pub record Past (d : Connection) (came : List ℕ) (sent : List Sending) : Type 
 pub past-fresh : (peer : List ℕ) → Past (fresh peer) [] []
 past-fresh peer = record { peer = peer; moves = []; follows = tt; is = refl; sent_is = refl; spells = nothing-spelled; unread = []; came_is = refl; read = λ e. refl }
 
-follows-push : (c : Connection) (moves : List Move) (move : Move) → Follows c moves → IsMove (after_all c moves) move → Follows c (moves ++ move ∷ [])
+follows-push : (c : Connection) (moves : List Move) (move : Move) → AreMovesOf c moves → IsMove (after_all c moves) move → AreMovesOf c (moves ++ move ∷ [])
 follows-push c [] move follows may = (may, tt)
 follows-push c (first ∷ moves) move follows may = (follows.0, follows-push (history.connection_after_move c first) moves move follows.1 may)
 

@@ -22,7 +22,7 @@ use Rattle.http_front.specs.declared.target.Target.{Target}
 use Rattle.http_front.specs.declared.turn.Turn.{Turn}
 use Rattle.http_front.specs.declared.turn.Turn.TheVariants.{Continue, Whole}
 use Rattle.http_front.specs.Targets.{begins_with_slash, path_bytes, path_of_bytes, target_of, utf8_text, with_path, without_slash}
-use Rattle.http_front.specs.Heads.{Asked, HeadParts, asked_host, asked_of, asked_with, body_length, heads, parts_of}
+use Rattle.http_front.specs.Heads.{AskedFields, HeadParts, asked_host, asked_of, asked_with, body_length, heads, parts_of}
 use Rattle.http_front.specs.Turns.{BeginsWithRequest, End, SpellsTurns}
 use Rattle.run_events.specs.Named.{IsPage, IsHandle}
 
@@ -77,15 +77,15 @@ target-path reads bytes target e = by_slash (begins_with_slash bytes) e
     by_slash true e = mapped-path reads bytes (path_of_bytes (path_bytes bytes)) target refl e
     by_slash false e = absurd (let never : ⊥ = cc in never)
 
-asked-target : (host : Option (List ℕ × ℕ)) (target : Option Target) (n : Option ℕ) (asked : Asked)
+asked-target : (host : Option (List ℕ × ℕ)) (target : Option Target) (n : Option ℕ) (asked : AskedFields)
     → option_and_then (λ h. option_and_then (λ read. option_map (asked_with h read) n) target) host ≡ Some asked → target ≡ Some asked.target
 asked-target None target n asked e = absurd (let never : ⊥ = cc in never)
 asked-target (Some h) None n asked e = absurd (let never : ⊥ = cc in never)
 asked-target (Some h) (Some t) None asked e = absurd (let never : ⊥ = cc in never)
 asked-target (Some h) (Some t) (Some n) asked e =
-    let same : asked_with h t n ≡ asked = cc (e) in ap (λ (a : Asked). Some a.target) same
+    let same : asked_with h t n ≡ asked = cc (e) in ap (λ (a : AskedFields). Some a.target) same
 
-head-target : (p : HeadParts) (asked : Asked) → asked_of p.minor p.target (heads p) ≡ Some asked → target_of p.target ≡ Some asked.target
+head-target : (p : HeadParts) (asked : AskedFields) → asked_of p.minor p.target (heads p) ≡ Some asked → target_of p.target ≡ Some asked.target
 unfolding asked_of
 head-target p asked e = asked-target (asked_host p.minor (heads p)) (target_of p.target) (body_length (heads p)) asked e
 

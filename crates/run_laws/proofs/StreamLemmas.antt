@@ -6,7 +6,7 @@ use Rattle.http_front.specs.declared.turn.Turn.{Turn}
 use Rattle.connections.specs.Slots.{Slot, is_answered}
 use Rattle.connections.specs.Connections.{Close, Connection, Due, Nothing, Refuse, Send, Treat, due_at_end, due_at_slot, due_at_turn, due_without_sending, fresh, next_turn}
 use Rattle.connections.specs.Connections as model
-use Rattle.connections.specs.Histories.{AnswersRun, AreAllTreated, AreOfTurns, Follows, HaveNoSendingOutOfMemory, IsAtRest, Move, after_all, sendings, some_closes}
+use Rattle.connections.specs.Histories.{AnswersRun, AreAllTreated, AreOfTurns, AreMovesOf, HaveNoSendingOutOfMemory, IsAtRest, Move, after_all, sendings, some_closes}
 use Rattle.connections.specs.declared.sending.Sending.{Sending}
 use Rattle.run_events.specs.Events.{Event, Run, state_after_events}
 use Rattle.run_laws.specs.Histories.{AnswersStream, AnswersWhatCame, HasReadAll, came_since_opened, sent_since_opened}
@@ -19,10 +19,10 @@ use Rattle.run_laws.proofs.TurnLemmas.{Beginnings, no-more}
 
 -- the laws of one connection
 abbrev pub InOrder : Type 0
-InOrder = (peer : List ℕ) (moves : List Move) → Follows (fresh peer) moves → ((slot : Slot) → model.due (after_all (fresh peer) moves) ≢ Send slot) → AnswersRun (after_all (fresh peer) moves).slots (sendings moves)
+InOrder = (peer : List ℕ) (moves : List Move) → AreMovesOf (fresh peer) moves → ((slot : Slot) → model.due (after_all (fresh peer) moves) ≢ Send slot) → AnswersRun (after_all (fresh peer) moves).slots (sendings moves)
 
 abbrev pub OfTurns : Type 0
-OfTurns = (peer : List ℕ) (moves : List Move) → Follows (fresh peer) moves → AreOfTurns (after_all (fresh peer) moves).turns (after_all (fresh peer) moves).ends (after_all (fresh peer) moves).slots
+OfTurns = (peer : List ℕ) (moves : List Move) → AreMovesOf (fresh peer) moves → AreOfTurns (after_all (fresh peer) moves).turns (after_all (fresh peer) moves).ends (after_all (fresh peer) moves).slots
 
 pub answers-past : InOrder → (d : Connection) (came : List ℕ) (sent : List Sending) → Past d came sent → ((slot : Slot) → model.due d ≡ Send slot → ⊥) → AnswersRun d.slots sent
 answers-past law d came sent past still =
@@ -34,7 +34,7 @@ turns-past law d came sent past = subst (λ (x : Connection). AreOfTurns x.turns
 
 -- each turn is treated
 abbrev pub EachTreated : Type 0
-EachTreated = (peer : List ℕ) (moves : List Move) → Follows (fresh peer) moves → IsAtRest (model.due (after_all (fresh peer) moves)) → some_closes (after_all (fresh peer) moves).slots ≡ false → HaveNoSendingOutOfMemory (sendings moves)
+EachTreated = (peer : List ℕ) (moves : List Move) → AreMovesOf (fresh peer) moves → IsAtRest (model.due (after_all (fresh peer) moves)) → some_closes (after_all (fresh peer) moves).slots ≡ false → HaveNoSendingOutOfMemory (sendings moves)
     → AreAllTreated (after_all (fresh peer) moves).turns (after_all (fresh peer) moves).ends (after_all (fresh peer) moves).slots
 
 pub treated-past : EachTreated → (d : Connection) (came : List ℕ) (sent : List Sending) → Past d came sent → IsAtRest (model.due d) → some_closes d.slots ≡ false → HaveNoSendingOutOfMemory sent → AreAllTreated d.turns d.ends d.slots

@@ -31,8 +31,8 @@ AreAddressed step w [] = Unit {0}
 AreAddressed step w (note ∷ notes) = IsAddressed step w note × AreAddressed step (state_after_note w note) notes
 
 -- the connection is there before the step's notes only where it was before, or the step opens it
-abbrev pub IsThereOrOpened : Step → RunState → RunState → Type 0
-IsThereOrOpened step before after = (c : ConnectionId) → IsSome (after.connection c) → IsSome (before.connection c) ⊎ (opened_by_step step ≡ Some c)
+abbrev pub WasThereOrOpenedIfThere : Step → RunState → RunState → Type 0
+WasThereOrOpenedIfThere step before after = (c : ConnectionId) → IsSome (after.connection c) → IsSome (before.connection c) ⊎ (opened_by_step step ≡ Some c)
 
 -- no connection is there that wasn't before
 abbrev pub AddsNoConnection : RunState → RunState → Type 0

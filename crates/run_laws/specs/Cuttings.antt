@@ -43,7 +43,7 @@ CuttingsAgree = (p q : Start) (a b : List Event) (c d : ConnectionId) (more : Li
     → came_since_opened d b ≡ came_since_opened c a ++ more → AreCutAlike (came_since_opened c a) more (sent_since_opened c a) (sent_since_opened d b)
 
 -- where the same bytes came on two open connections that aren't closing, in one run or in two, the same turns were read of both
-abbrev pub SameStreamsHaveSameTurns : Type 0
-SameStreamsHaveSameTurns = (p q : Start) (a b : List Event) (c d : ConnectionId) (x y : Connection) → Run (start_of p) a → Run (start_of q) b
+abbrev pub SameStreamsHaveSameTurnsIfNeitherCloses : Type 0
+SameStreamsHaveSameTurnsIfNeitherCloses = (p q : Start) (a b : List Event) (c d : ConnectionId) (x y : Connection) → Run (start_of p) a → Run (start_of q) b
     → (state_after_events (start_of p) a).connection c ≡ Some x → (state_after_events (start_of q) b).connection d ≡ Some y → x.closing ≡ false → y.closing ≡ false
     → came_since_opened c a ≡ came_since_opened d b → x.turns ≡ y.turns

@@ -5,7 +5,7 @@ ghost use Rattle.run_events.specs.Events.{Event, Happens, Run, after_event, note
 ghost use Rattle.run_events.specs.States.{AreConnectionsCounted, AreFlightsRising, RunState, Start, start_of};
 ghost use Rattle.connections.specs.Histories.{AnswersRun, AreOfTurns};
 ghost use Rattle.connections.specs.Ids.{ConnectionId};
-ghost use Rattle.run_laws.specs.Cuttings.{CuttingsAgree, SameStreamsHaveSameTurns};
+ghost use Rattle.run_laws.specs.Cuttings.{CuttingsAgree, SameStreamsHaveSameTurnsIfNeitherCloses};
 ghost use Rattle.run_laws.specs.Determined.{RunsWithMemoryAreOne, StreamsWithMemoryEndAlike};
 ghost use Rattle.run_laws.specs.Histories.{HasReadAll, came_since_opened, sent_since_opened, OfOpenConnections, AnswersItsStream};
 ghost use Rattle.run_laws.specs.Named.{EventsNamePages};
@@ -119,7 +119,7 @@ pub fn connections_are_answered_in_order()
 /// How a stream was cut into pieces changes no request: where the same bytes came on two open connections that aren't closing, in
 /// one run or in two, the same turns are treated on both.
 pub fn a_cutting_changes_no_turn()
-    ensures { SameStreamsHaveSameTurns }
+    ensures { SameStreamsHaveSameTurnsIfNeitherCloses }
 {
     connections_are_answered_in_order();
     the_turns_of_a_beginning();

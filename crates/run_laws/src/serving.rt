@@ -9,7 +9,7 @@ ghost use Rattle.run_events.specs.declared.step.Step.TheVariants.{Gone};
 ghost use Rattle.run_events.specs.Events.{Event, Happens, Run, after_event, state_after_events, state_before_notes};
 ghost use Rattle.run_events.specs.Moves.{state_after_note};
 ghost use Rattle.run_events.specs.States.{RunState, Start, start_of};
-ghost use Rattle.run_laws.specs.Addressed.{AddsNoConnection, AreAddressed, IsThereOrOpened, LeavesSession};
+ghost use Rattle.run_laws.specs.Addressed.{AddsNoConnection, AreAddressed, WasThereOrOpenedIfThere, LeavesSession};
 ghost use Rattle.run_laws.specs.Rounds.{AreUnrendered, BringsBytes, HasNothingDue, LandsTheFirst, LeavesFlights, LeavesUnrendered, RendersTheFirst, TreatsNoTurn};
 
 /// Nothing is due when a run begins (`start`), and where nothing was due before an event nothing is after it (`event`), nor after a
@@ -46,7 +46,7 @@ pub fn rounds_take_flights_out_of_the_air()
 /// before, or the step opens it (`begun`); no note brings one (`brings`), and one that is shut isn't there any more (`shut`).
 pub fn notes_are_of_connections_that_are_there()
     ensures notes { (w : RunState) (e : Event) → Happens w e → LeavesSession e.step → AreAddressed e.step (state_before_notes w e e.step) e.body }
-    ensures begun { (w : RunState) (e : Event) → IsThereOrOpened e.step w (state_before_notes w e e.step) }
+    ensures begun { (w : RunState) (e : Event) → WasThereOrOpenedIfThere e.step w (state_before_notes w e e.step) }
     ensures brings { (w : RunState) (note : Note) → AddsNoConnection w (state_after_note w note) }
     ensures shut { (w : RunState) (c : ConnectionId) → (state_after_note w (Shut c)).connection c ≡ None }
 {}

@@ -11,6 +11,7 @@ use Rattle.sp_base.specs.Texts.{Segments}
 use Rattle.sp_base.specs.Paths.{path_or_fault, child_of, fault_of, has_slash, is_dots, is_empty, is_long, is_path, is_under, path_of, pieces, seg_ok, text_of, unless_fault}
 use Rattle.sp_base.specs.declared.path.PathFault.{PathFault}
 use Rattle.sp_base.specs.declared.path.PathFault.TheVariants.{EmptySegment}
+use Rattle.url_split.specs.Split.{known_one}
 use Rattle.resource_tree.specs.Content.{Content, IsTree, kid, name_of, node_at, same_path}
 use Rattle.resource_tree.specs.declared.nodes.Node.{Node}
 use Rattle.resource_tree.proofs.PathLemmas.{path_from_same}
@@ -19,7 +20,7 @@ use Rattle.type_chain.specs.ScriptPlaces.{has_kids}
 use Rattle.script_rank.specs.Index.{has_path}
 use Rattle.script_rank.specs.Ranking.{is_script, is_script_name}
 use Rattle.script_rank.specs.Search.{script_at, script_in}
-use Rattle.script_rank.specs.ScriptPlaceSearch.{has_under, path_if, script_below}
+use Rattle.script_rank.specs.ScriptPlaceSearch.{has_under, script_below}
 
 -- ---- segments without slashes
 
@@ -90,7 +91,7 @@ root_none tree name = ap (λ t. script_in tree (if t then Ok [] else Err EmptySe
 
 -- ---- the script at a place by a spelling that begins with a slash
 
-in_tree : (tree : Content) (r : Result (List (List ℕ)) PathFault) → path_if (is_script tree) r ≡ script_in tree r
+in_tree : (tree : Content) (r : Result (List (List ℕ)) PathFault) → known_one (is_script tree) r ≡ script_in tree r
 in_tree tree (Ok path) = refl
 in_tree tree (Err e) = refl
 
@@ -98,7 +99,7 @@ pub script_same : (tree : Content) (place : List (List ℕ)) (name : List ℕ) �
 unfolding script_below script_at
 script_same tree [] name lack = sym (root_none tree (name ++ codes ".html"))
 script_same tree (seg ∷ segs) name lack =
-    ap (λ t. if t then None else path_if (is_script tree) (child_of (seg ∷ segs) (name ++ codes ".html"))) (not_zero (length (seg ∷ segs)) (omega arith))
+    ap (λ t. if t then None else known_one (is_script tree) (child_of (seg ∷ segs) (name ++ codes ".html"))) (not_zero (length (seg ∷ segs)) (omega arith))
     ∙ in_tree tree (child_of (seg ∷ segs) (name ++ codes ".html")) ∙ ap (script_in tree) (sym (reads_below seg segs (name ++ codes ".html") lack))
 
 -- ---- no script is below a place

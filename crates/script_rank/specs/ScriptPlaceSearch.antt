@@ -1,16 +1,16 @@
 -- What the code does at the script places alone, by a test that tells the paths of scripts, which gives the same as the search at each place. Only the
 -- code and its proofs cite this.
-use Rattle.std.specs.Prelude.{◌≡◌, ◌==◌, ◌++◌, ◌∷◌, [], ℕ, Bool, true, if◌then◌else◌, List, Option, Some, None, Result, Ok, Err, codes, drop, flat_map, length, slice_index}
+use Rattle.std.specs.Prelude.{◌≡◌, ◌==◌, ◌++◌, ◌∷◌, [], ℕ, Bool, true, if◌then◌else◌, List, Option, None, codes, drop, flat_map, length, slice_index}
 use Rattle.std.specs.List.{list_all, list_any}
 use Rattle.sp_base.specs.Texts.{Segments}
 use Rattle.sp_base.specs.Paths.{child_of, is_path, is_under}
-use Rattle.sp_base.specs.declared.path.PathFault.{PathFault}
 use Rattle.resource_tree.specs.Content.{name_of}
 use Rattle.type_chain.specs.Chain.{first_of}
 use Rattle.type_chain.specs.Types.{places}
 use Rattle.type_chain.specs.declared.script_places.ScriptPlace.{ScriptPlace}
 use Rattle.type_chain.specs.declared.type_name.TypeName.{TypeName}
 use Rattle.url_split.specs.declared.decompose.Parts.{Parts}
+use Rattle.url_split.specs.Split.{known_one}
 use Rattle.script_rank.specs.declared.naming.Naming.{Naming}
 use Rattle.script_rank.specs.declared.naming.Naming.TheVariants.{SelectorsAndExtension, Selectors, LabelAndExtension, Extension, Label, Method}
 use Rattle.script_rank.specs.Ranking.{after_slashes, spellings}
@@ -25,15 +25,10 @@ spelling_with parts label Extension mark = 47 ∷ parts.extension
 spelling_with parts label Label mark = 47 ∷ label
 spelling_with parts label Method mark = codes "/GET"
 
--- the path, where the test tells a script's
-abbrev pub path_if : (Segments → Bool) → Result Segments PathFault → Option Segments
-path_if tells (Ok path) = if tells path then Some path else None
-path_if tells (Err e) = None
-
 -- the script below a place, which is not the root, by a slash and a name
 unfoldable pub script_below : (Segments → Bool) → Segments → List ℕ → Option Segments
 script_below tells place text = if length place == 0 then None
-    else (if slice_index text 0 == 47 then path_if tells (child_of place (drop 1 text)) else None)
+    else (if slice_index text 0 == 47 then known_one tells (child_of place (drop 1 text)) else None)
 
 -- the script at a script place that a spelling names
 abbrev pub script_named : (Segments → Bool) → Segments → List ℕ → Option Segments

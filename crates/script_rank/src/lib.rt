@@ -21,3 +21,4 @@ pub use laws::{
 pub use naming::Naming;
 pub use ranking::{first_script, script_of};
 pub use script::script_text;
+pub use texts::is_script_name;

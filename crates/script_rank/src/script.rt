@@ -1,8 +1,9 @@
 //! Scripts, and their texts.
 ghost use Rattle.std.specs.Prelude.{◌≡◌, ◌==◌, true, false, drop, IfOk, IfSome, IfNone, option_copied, slice_index};
 ghost use Rattle.sp_base.specs.Paths.{child_of};
+ghost use Rattle.url_split.specs.Split.{known_one};
 ghost use Rattle.script_rank.specs.Ranking.{script_text};
-ghost use Rattle.script_rank.specs.ScriptPlaceSearch.{path_if, script_below};
+ghost use Rattle.script_rank.specs.ScriptPlaceSearch.{script_below};
 
 use crate::lookup::Scripts;
 use resource_tree::Tree;
@@ -37,7 +38,7 @@ fn after_slash(text: &str) -> Option<&str>
 
 // The script of this name below a place.
 fn script_in<S: Scripts>(alloc: Global, scripts: &S, place: &Path, name: &str) -> Mem<Option<Path>>
-    ensures { IfOk result (λ o. o ≡ path_if (S.tells scripts.now) (child_of place.now name.now)) }
+    ensures { IfOk result (λ o. o ≡ known_one (S.tells scripts.now) (child_of place.now name.now)) }
 {
     let path = match place.child(alloc, name) {
         Ok(path) => path,

@@ -8,7 +8,7 @@ use sp_base::{Mem, Path};
 use std::alloc::Global;
 
 /// Whether a name may be a script's.
-pub(crate) fn is_script_name(name: &str) -> bool
+pub fn is_script_name(name: &str) -> bool
     ensures { result ≡ is_script_name name.now }
 {
     name.as_bytes().ends_with(b".html")

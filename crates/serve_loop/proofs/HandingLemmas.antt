@@ -40,7 +40,7 @@ note_is_told told note.Idle h = nothing_is_told told
 note_is_told told (note.Up e) h = nothing_is_told told
 note_is_told told note.Down h = nothing_is_told told
 note_is_told told note.Hurt h = nothing_is_told told
-note_is_told told note.Dry h = nothing_is_told told
+note_is_told told note.OutOfMemory h = nothing_is_told told
 
 -- the notes name open connections, where the log is told
 abbrev pub AreOfOpenIn : Option (List WorldEntry) → List Note → Type 0

@@ -48,7 +48,7 @@ note_brings_none note.Idle = refl
 note_brings_none (note.Up e) = refl
 note_brings_none note.Down = refl
 note_brings_none note.Hurt = refl
-note_brings_none note.Dry = refl
+note_brings_none note.OutOfMemory = refl
 
 notes_bring_none : (notes : List Note) → NoneCame (entries_of_notes notes)
 notes_bring_none [] = refl

@@ -17,7 +17,7 @@ use Rattle.run_events.specs.declared.step.Step.TheVariants.{Opened, Piece, Gone,
 use Rattle.run_events.specs.States.{RunState}
 use Rattle.run_events.specs.Moves.{state_after_note, state_after_notes}
 use Rattle.run_events.specs.Events.{Event, Happens, HappensBy, after_event, condition_notes, going, most_connections, notes_of, opening, state_after_opening, state_before_notes}
-use Rattle.run_laws.specs.Addressed.{AddsNoConnection, AreAddressed, IsAddressed, IsThereOrOpened, LeavesSession, opened_by_step}
+use Rattle.run_laws.specs.Addressed.{AddsNoConnection, AreAddressed, IsAddressed, WasThereOrOpenedIfThere, LeavesSession, opened_by_step}
 use Rattle.serve_loop.specs.Turns.{IsFailedAt, entries_of_note, entries_of_notes}
 use Rattle.serve_loop.specs.Hands.{AreOfOpen, IsOfOpen}
 use Rattle.serve_loop.specs.Served.{HasOpenConnections}
@@ -28,7 +28,7 @@ use Rattle.serve_loop.proofs.HandingLemmas.{AreOfOpenIn}
 -- what is so of the notes of each event
 pub record NoteLaws : Type 0 where
   pub notes : (w : RunState) (e : Event) → Happens w e → LeavesSession e.step → AreAddressed e.step (state_before_notes w e e.step) e.body
-  pub begun : (w : RunState) (e : Event) → IsThereOrOpened e.step w (state_before_notes w e e.step)
+  pub begun : (w : RunState) (e : Event) → WasThereOrOpenedIfThere e.step w (state_before_notes w e e.step)
   pub brings : (w : RunState) (n : Note) → AddsNoConnection w (state_after_note w n)
   pub shut : (w : RunState) (c : ConnectionId) → (state_after_note w (note.Shut c)).connection c ≡ None
 
@@ -76,7 +76,7 @@ open_after_note laws step u log note.Idle none a h = (tt, still_open log u u (λ
 open_after_note laws step u log (note.Up e) none a h = (tt, still_open log u (state_after_note u (note.Up e)) (laws.brings u (note.Up e)) h)
 open_after_note laws step u log note.Down none a h = (tt, still_open log u (state_after_note u note.Down) (laws.brings u note.Down) h)
 open_after_note laws step u log note.Hurt none a h = (tt, still_open log u u (λ c there. there) h)
-open_after_note laws step u log note.Dry none a h = (tt, still_open log u u (λ c there. there) h)
+open_after_note laws step u log note.OutOfMemory none a h = (tt, still_open log u u (λ c there. there) h)
 
 -- ---- several
 
@@ -130,25 +130,25 @@ of_open_append : (log : List WorldEntry) (one two : List Note) → AreOfOpen log
 of_open_append log [] two h k = k log
 of_open_append log (n ∷ one) two h k = (h.0, of_open_append (log ++ entries_of_note n) one two h.1 k)
 
-conditions_of_open : (a b : Bool) (log : List WorldEntry) → AreOfOpen log ((if a then note.Hurt ∷ [] else []) ++ (if b then note.Dry ∷ [] else []))
+conditions_of_open : (a b : Bool) (log : List WorldEntry) → AreOfOpen log ((if a then note.Hurt ∷ [] else []) ++ (if b then note.OutOfMemory ∷ [] else []))
 conditions_of_open true true log = (tt, (tt, tt))
 conditions_of_open true false log = (tt, tt)
 conditions_of_open false true log = (tt, tt)
 conditions_of_open false false log = tt
 
-conditions_tell_nothing : (a b : Bool) → entries_of_notes ((if a then note.Hurt ∷ [] else []) ++ (if b then note.Dry ∷ [] else [])) ≡ []
+conditions_tell_nothing : (a b : Bool) → entries_of_notes ((if a then note.Hurt ∷ [] else []) ++ (if b then note.OutOfMemory ∷ [] else [])) ≡ []
 conditions_tell_nothing true true = refl
 conditions_tell_nothing true false = refl
 conditions_tell_nothing false true = refl
 conditions_tell_nothing false false = refl
 
-conditions_do_nothing : (a b : Bool) (u : RunState) → state_after_notes u ((if a then note.Hurt ∷ [] else []) ++ (if b then note.Dry ∷ [] else [])) ≡ u
+conditions_do_nothing : (a b : Bool) (u : RunState) → state_after_notes u ((if a then note.Hurt ∷ [] else []) ++ (if b then note.OutOfMemory ∷ [] else [])) ≡ u
 conditions_do_nothing true true u = refl
 conditions_do_nothing true false u = refl
 conditions_do_nothing false true u = refl
 conditions_do_nothing false false u = refl
 
-conditions_are_addressed : (a b : Bool) (step : Step) (u : RunState) → AreAddressed step u ((if a then note.Hurt ∷ [] else []) ++ (if b then note.Dry ∷ [] else []))
+conditions_are_addressed : (a b : Bool) (step : Step) (u : RunState) → AreAddressed step u ((if a then note.Hurt ∷ [] else []) ++ (if b then note.OutOfMemory ∷ [] else []))
 conditions_are_addressed true true step u = (tt, (tt, tt))
 conditions_are_addressed true false step u = (tt, tt)
 conditions_are_addressed false true step u = (tt, tt)
@@ -233,7 +233,7 @@ something_is_sent : (before : List Note) (c : ConnectionId) (bytes : List ℕ) (
 something_is_sent [] c bytes later h = false≢true (sym h.0)
 something_is_sent (n ∷ before) c bytes later h = something_is_sent before c bytes later h.1
 
-conditions_send_nothing : (a b : Bool) → SendNothing ((if a then note.Hurt ∷ [] else []) ++ (if b then note.Dry ∷ [] else []))
+conditions_send_nothing : (a b : Bool) → SendNothing ((if a then note.Hurt ∷ [] else []) ++ (if b then note.OutOfMemory ∷ [] else []))
 conditions_send_nothing true true = (refl, (refl, tt))
 conditions_send_nothing true false = (refl, tt)
 conditions_send_nothing false true = (refl, tt)

@@ -55,7 +55,7 @@ note_is_sent note.Idle = refl
 note_is_sent (note.Up e) = refl
 note_is_sent note.Down = refl
 note_is_sent note.Hurt = refl
-note_is_sent note.Dry = refl
+note_is_sent note.OutOfMemory = refl
 
 notes_are_sent : (notes : List Note) → count_unsent (entries_of_notes notes) ≡ 0
 notes_are_sent [] = refl

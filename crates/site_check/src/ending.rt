@@ -1,6 +1,6 @@
 //! How a check ends.
 ghost use Rattle.std.specs.Prelude.{◌≡◌};
-ghost use Rattle.site_check.specs.Endings.{ending_status};
+ghost use Rattle.site_check.specs.Endings.{check_status};
 
 /// How a check ends, which its status says.
 #[derive(Clone, Copy, PartialEq, Eq, Drop)]
@@ -22,7 +22,7 @@ pub enum CheckEnding {
 
 impl CheckEnding {
     pub fn status(self) -> u8
-        ensures { result ≡ ending_status self }
+        ensures { result ≡ check_status self }
     {
         match self {
             CheckEnding::Fine => 0,

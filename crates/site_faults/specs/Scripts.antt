@@ -2,13 +2,13 @@
 -- first in it.
 use Rattle.std.specs.Prelude.{◌≡◌, ◌+◌, ◌&&◌, ◌||◌, ℕ, Bool, false, if◌then◌else◌, nat_eq, nat_le, List, Option, Some, None, option_and_then, Result, Ok, Err, codes, drop, length, slice_get}
 use Rattle.std.specs.Cmp.Lexicographic.{pointwise}
-use Rattle.std.specs.List.{ends_with, starts_with}
+use Rattle.std.specs.List.{starts_with}
 use Rattle.std.specs.List.Sorted.{IsStrictlySortedBy}
 use Rattle.std.specs.Map.{lookup, keys_of}
 use Rattle.sp_base.specs.Texts.{Segments}
 use Rattle.sp_base.specs.Paths.{by_path, name_of}
 use Rattle.resource_tree.specs.Content.{Content, same_path}
-use Rattle.script_rank.specs.Ranking.{is_script, script_text}
+use Rattle.script_rank.specs.Ranking.{is_script, is_script_name, script_text}
 use Rattle.htl_syntax.specs.Fault.{expression_of}
 use Rattle.htl_syntax.specs.declared.expression.Expression.{Expression}
 use Rattle.htl_syntax.specs.declared.expression.ExprFault.{ExprFault}
@@ -75,7 +75,7 @@ is_search_top (Some top) = pointwise nat_eq top (codes "apps") || pointwise nat_
 
 -- whether a path is that of a script of a type: it is below a search path, and its name ends in `.html`
 abbrev pub is_script_path : Segments → Bool
-is_script_path path = is_search_top (slice_get path 0) && ends_with nat_eq (name_of path) (codes ".html")
+is_script_path path = is_search_top (slice_get path 0) && is_script_name (name_of path)
 
 -- what is wrong with the script at a path, where one is there whose text has no reading
 abbrev pub script_fault_at : Content → Segments → Option ScriptFault

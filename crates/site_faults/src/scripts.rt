@@ -6,7 +6,7 @@ ghost use Rattle.site_faults.specs.Telling.{Tells};
 
 use crate::script_fault::{ScriptFault, text_fault};
 use resource_tree::Tree;
-use script_rank::script_text;
+use script_rank::{is_script_name, script_text};
 use sp_base::{Mem, Path};
 use std::alloc::Global;
 use std::collections::BTreeMap;
@@ -18,7 +18,7 @@ pub type ScriptFaults = BTreeMap<Path, ScriptFault>;
 pub fn is_script_path(path: &Path) -> bool
     ensures { result ≡ spec.is_script_path path.now }
 {
-    is_search_top(path.seg(0)) && path.name().as_bytes().ends_with(b".html")
+    is_search_top(path.seg(0)) && is_script_name(path.name())
 }
 
 // Whether this is the first segment of a search path.

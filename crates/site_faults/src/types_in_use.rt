@@ -1,12 +1,11 @@
 //! Scripts that no type of the content reaches, and types that no script renders.
-ghost use Rattle.std.specs.Prelude.{◌≡◌, ◌&&◌, IfOk, codes, is_some, nat_eq};
-ghost use Rattle.std.specs.List.{ends_with};
+ghost use Rattle.std.specs.Prelude.{◌≡◌, ◌&&◌, IfOk, is_some};
 ghost use Rattle.sp_base.specs.Paths.{name_of};
-ghost use Rattle.script_rank.specs.Ranking.{script_text};
+ghost use Rattle.script_rank.specs.Ranking.{is_script_name, script_text};
 
 use crate::scripts::is_script_path;
 use resource_tree::{Node, Tree};
-use script_rank::script_text;
+use script_rank::{is_script_name, script_text};
 use sp_base::{Mem, Path, TextBuf};
 use std::alloc::Global;
 use std::collections::BTreeMap;
@@ -27,9 +26,9 @@ fn add(set: &mut PathSet, alloc: Global, path: &Path) -> Mem<()> {
 
 // Whether the node at a path is a script, wherever it stands: a type may be rooted anywhere.
 fn has_script(alloc: Global, tree: &Tree, path: &Path) -> Mem<bool>
-    ensures { IfOk result (λ has. has ≡ (ends_with nat_eq (name_of path.now) (codes ".html") && is_some (script_text tree.now path.now))) }
+    ensures { IfOk result (λ has. has ≡ (is_script_name (name_of path.now) && is_some (script_text tree.now path.now))) }
 {
-    Ok(path.name().as_bytes().ends_with(b".html") && script_text(alloc, tree, path)?.is_some())
+    Ok(is_script_name(path.name()) && script_text(alloc, tree, path)?.is_some())
 }
 
 fn add_places(set: &mut PathSet, alloc: Global, places: &ScriptPlaceList) -> Mem<()> {

@@ -9,7 +9,7 @@ use Rattle.std.proofs.Math.Seq.{take-length}
 use Rattle.run_events.specs.declared.note.Note.{Note}
 use Rattle.run_events.specs.Events.{Event, notes_of}
 use Rattle.sling_dispatch.specs.declared.summary.Counts.{Counts}
-use Rattle.sling_dispatch.specs.Summaries.{counts, counts_of, plus, is_ask, is_hit, is_kept, is_passed_note, is_unkept, is_lost, is_flush_note, is_done, is_failed, is_hurt, is_dry, sent_size}
+use Rattle.sling_dispatch.specs.Summaries.{counts, counts_of, plus, is_ask, is_hit, is_kept_note, is_passed_note, is_unkept, is_lost, is_flush_note, is_done, is_failed, is_hurt, is_out_of_memory_note, sent_size}
 
 counted : (p : Note → Bool) (xs ys : List Note) → count_by p (xs ++ ys) ≡ count_by p xs + count_by p ys
 counted p xs ys = sum_by-append (λ x. cond (p x) 1 0) xs ys
@@ -21,7 +21,7 @@ counts_add m n xs ys = λ i.
       events = m + n;
       asks = counted is_ask xs ys i;
       hits = counted is_hit xs ys i;
-      kept = counted is_kept xs ys i;
+      kept = counted is_kept_note xs ys i;
       passed = counted is_passed_note xs ys i;
       unkept = counted is_unkept xs ys i;
       lost = counted is_lost xs ys i;
@@ -30,7 +30,7 @@ counts_add m n xs ys = λ i.
       failed = counted is_failed xs ys i;
       sent = sum_by-append sent_size xs ys i;
       hurt = counted is_hurt xs ys i;
-      dry = counted is_dry xs ys i;
+      dry = counted is_out_of_memory_note xs ys i;
     }
 
 sums : (a b c : ℕ) → (a + b) + c ≡ a + (b + c)

@@ -1,5 +1,6 @@
 -- An event of a front over the disk of a scenario, whatever the disk has counted.
 use Rattle.std.proofs.Common.{◌≡◌, ℕ, Bool, true, false, List, Option, if◌then◌else◌, refl, ◌∙◌, ap, subst, sym, arith, Some}
+use Rattle.run_laws.specs.Logs.{is_restart}
 use Rattle.sp_outside.specs.Files.{Files}
 use Rattle.resource_tree.specs.Content.{Content}
 use Rattle.run_events.specs.Events.{Extends, after_event}
@@ -10,7 +11,7 @@ use Rattle.run_events.specs.declared.step.Step.{Step}
 use Rattle.front.specs.Boards.{at_disk}
 use Rattle.front.specs.Fronts.{FrontStandsFor}
 use Rattle.front.specs.declared.board.Board.{Board}
-use Rattle.sling_dispatch.specs.Runs.{Arming, OneFailure, Unarmed, UntilRestart, arming_in, is_restart, sling_publisher}
+use Rattle.sling_dispatch.specs.Runs.{Arming, OneFailure, Unarmed, UntilRestart, arming_in, sling_publisher}
 use Rattle.sling_dispatch.specs.ScriptedDisks.{LeavesCount, arming_of_disk, disk_in, planned_count, disk_gone, files_of_disk}
 use Rattle.sling_dispatch.specs.ScriptedStates.{fault_count, FailingState, StoppedState}
 use Rattle.sling_dispatch.specs.declared.scripted_disk.ScriptedDisk.{ScriptedDisk}

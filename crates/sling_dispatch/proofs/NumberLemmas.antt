@@ -31,7 +31,7 @@ use Rattle.run_events.specs.declared.flying.Flushing.{Flushing}
 use Rattle.run_events.specs.declared.note.Failure.{Failure}
 use Rattle.run_events.specs.declared.note.Failure.TheVariants.{Disk, Memory, Restart as cut_off}
 use Rattle.run_events.specs.declared.note.Note.{Note}
-use Rattle.run_events.specs.declared.note.Note.TheVariants.{Answer as answered, Ask as asked, Hit, Local, Flush, Done, Failed, Rendered, Kept, Unkept, Passed, Lost, Sent, Shut, Refused, Idle, Up, Hurt, Dry}
+use Rattle.run_events.specs.declared.note.Note.TheVariants.{Answer as answered, Ask as asked, Hit, Local, Flush, Done, Failed, Rendered, Kept, Unkept, Passed, Lost, Sent, Shut, Refused, Idle, Up, Hurt, OutOfMemory}
 use Rattle.run_events.specs.declared.step.Pick.{Pick}
 use Rattle.run_events.specs.declared.step.Step.{Step}
 use Rattle.run_events.specs.declared.step.Step.TheVariants as step
@@ -80,7 +80,7 @@ both-fit (note ∷ a) b first second = (first.0, both-fit a b first.1 second)
 conditions-fit : (m : Conditions) → AllNumbersFit (condition_notes m)
 conditions-fit m = by_both m.disk_failed m.out_of_memory
   where
-    by_both : (a b : Bool) → AllNumbersFit ((if a then Hurt ∷ [] else []) ++ (if b then Dry ∷ [] else []))
+    by_both : (a b : Bool) → AllNumbersFit ((if a then Hurt ∷ [] else []) ++ (if b then OutOfMemory ∷ [] else []))
     by_both true true = (tt, (tt, tt))
     by_both true false = (tt, tt)
     by_both false true = (tt, tt)

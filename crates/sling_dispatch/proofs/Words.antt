@@ -3,7 +3,7 @@ use Rattle.std.proofs.Common.{◌≡◌, ◌+◌, ◌++◌, ◌∙◌, ℕ, List
 use Rattle.std.proofs.lemmas.List.{take_more}
 use Rattle.std.proofs.lemmas.Option.{slice_get_within, slice_get-get_or}
 use Rattle.sling_dispatch.specs.Endings.{IsDue, IsReplay, Means, AreWordsOf, ending_status}
-use Rattle.sling_dispatch.specs.Reports.{StreamReport, HasNotFailed, IsApart, IsUntouched, IsDiskUntouched, IsWorldUntouched, call_of}
+use Rattle.sling_dispatch.specs.Reports.{StreamReport, HasNotFailed, IsServingUntouched, IsUntouched, IsDiskUntouched, IsWorldUntouched, call_of}
 use Rattle.sling_dispatch.specs.Forms.{IsServe}
 use Rattle.sp_outside.specs.Calls.{Call}
 use Rattle.sp_outside.specs.Files.{Files}
@@ -34,7 +34,7 @@ some_words (Some all) = (all, refl)
 pub words_unread : (told : Option (List (List ℕ))) (source : StreamReport (List ℕ)) (inputs : StreamReport Files) (disk : DiskReport) (world : WorldReport) (sink : StreamReport (List ℕ)) (status : ℕ) (calls : Option (List Call))
     → status ≡ ending_status NoMemory → IsUntouched source → IsUntouched inputs → IsDiskUntouched disk → IsWorldUntouched world → sink.new ≡ sink.old
     → HasNotFailed sink → (words : List (List ℕ)) × AreWordsOf told words × (e : Ending) × (status ≡ ending_status e)
-    × Means (IsDue (call_of words source inputs disk world)) e sink × ((IsServe words → ⊥) → IsApart (call_of words source inputs disk world) × (calls ≡ calls))
+    × Means (IsDue (call_of words source inputs disk world)) e sink × ((IsServe words → ⊥) → IsServingUntouched (call_of words source inputs disk world) × (calls ≡ calls))
     × ((IsReplay words → ⊥) → IsUntouched source)
 words_unread told source inputs disk world sink status calls is source_is inputs_are disk_is world_is same not_failed =
     let w = some_words told in (

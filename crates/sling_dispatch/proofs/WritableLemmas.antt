@@ -6,7 +6,7 @@ use Rattle.resource_tree.specs.Content.{Content}
 use Rattle.error_answers.specs.Errors.{error_answer}
 use Rattle.publisher.specs.Rendering.{answer_to_request}
 use Rattle.run_events.specs.declared.note.Note.{Note}
-use Rattle.run_events.specs.declared.note.Note.TheVariants.{Answer as answered, Ask as asked, Hit, Local, Flush, Sliced, Done, Failed, Rendered, Kept, Unkept, Passed, Lost, Sent, Shut, Refused, Idle, Up, Down, Hurt, Dry}
+use Rattle.run_events.specs.declared.note.Note.TheVariants.{Answer as answered, Ask as asked, Hit, Local, Flush, Sliced, Done, Failed, Rendered, Kept, Unkept, Passed, Lost, Sent, Shut, Refused, Idle, Up, Down, Hurt, OutOfMemory}
 use Rattle.run_events.specs.declared.step.Step.{Step}
 use Rattle.run_events.specs.Events.{Event, Run, notes_of}
 use Rattle.run_events.specs.States.{Start, start_of}
@@ -43,7 +43,7 @@ note-writable Idle fits names = tt
 note-writable (Up epoch) fits names = fits
 note-writable Down fits names = tt
 note-writable Hurt fits names = tt
-note-writable Dry fits names = tt
+note-writable OutOfMemory fits names = tt
 
 notes-writable : (notes : List Note) → AllNumbersFit notes → NamePages notes → AreWritable notes
 notes-writable [] fits names = tt

@@ -1,7 +1,8 @@
 -- What a call of `run` made of the objects of the outside.
-use Rattle.std.specs.Prelude.{◌≡◌, ℕ, List, Option, map}
+use Rattle.std.specs.Prelude.{◌≡◌, ℕ, List, Option}
 use Rattle.std.specs.Borrow.{Bor}
 use Rattle.sp_base.specs.Texts.{Text}
+use Rattle.content_json.specs.FromTokens.{texts_in}
 use Rattle.sp_outside.specs.Files.{Files}
 use Rattle.sp_outside.specs.Causes.{Rose}
 use Rattle.serve_loop.specs.Served.{DiskReport, WorldReport, disk_over, world_over}
@@ -66,16 +67,12 @@ pub record IsWorldUntouched (world : WorldReport) : Type 0 where
   pub send_count : world.send_new ≡ world.send_old
 
 -- what only `serve` asks anything of is as before
-pub record IsApart (c : RunCall) : Type 0 where
+pub record IsServingUntouched (c : RunCall) : Type 0 where
   pub inputs : IsUntouched c.inputs
   pub disk : IsDiskUntouched c.disk
   pub world : IsWorldUntouched c.world
 
--- the words as texts
-abbrev pub word_texts : List (Bor (List ℕ)) → List Text
-word_texts words = map (λ word. word.now) words
-
 -- unless the words are those of `serve`, what only that asks anything of is as before
 abbrev pub IsApartUnlessServe : {S K I D W : Type 0} → List (Bor (List ℕ)) → (S → Option (List ℕ)) → (S → ℕ) → (I → Option Files) → (I → ℕ) → (D → Option Files) → (D → ℕ) → (W → Option (List WorldEntry)) → (W → ℕ) → (W → ℕ) → Outside S K I D W → Outside S K I D W → Type 0
 IsApartUnlessServe words left source_faults contents input_faults files disk_faults log next_faults send_faults old new =
-    (IsServe (word_texts words) → ⊥) → IsApart (call_over (word_texts words) left source_faults contents input_faults files disk_faults log next_faults send_faults old new)
+    (IsServe (texts_in words) → ⊥) → IsServingUntouched (call_over (texts_in words) left source_faults contents input_faults files disk_faults log next_faults send_faults old new)

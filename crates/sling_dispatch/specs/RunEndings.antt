@@ -8,7 +8,7 @@ use Rattle.sling_dispatch.specs.declared.ending.Ending.{Ending}
 use Rattle.sling_dispatch.specs.declared.outside.Outside.{Outside}
 use Rattle.sling_dispatch.specs.Endings.{Means, IsDue, IsReplay, AreWordsOf, ending_status}
 use Rattle.sling_dispatch.specs.Forms.{IsServe}
-use Rattle.sling_dispatch.specs.Reports.{IsApart, IsUntouched, report_over, call_over}
+use Rattle.sling_dispatch.specs.Reports.{IsServingUntouched, IsUntouched, report_over, call_over}
 
 -- the ending says of the sink what it means, where what may be written is due by what the call made of the other objects
 abbrev pub MeansWhatIsDue : {S K I D W : Type 0} → List Text → (S → Option (List ℕ)) → (S → ℕ) → (K → Option (List ℕ)) → (K → ℕ) → (I → Option Files) → (I → ℕ) → (D → Option Files) → (D → ℕ) → (W → Option (List WorldEntry)) → (W → ℕ) → (W → ℕ) → Outside S K I D W → Outside S K I D W → Ending → Type 0
@@ -28,6 +28,6 @@ abbrev pub CommandEndsAsIsDue : {S K I D W : Type 0} → Option (List Text) → 
 CommandEndsAsIsDue told left source_faults held sink_faults contents input_faults files disk_faults calls log next_faults send_faults old new status =
     (words : List Text) × AreWordsOf told words × (e : Ending) × (status ≡ ending_status e)
     × MeansWhatIsDue words left source_faults held sink_faults contents input_faults files disk_faults log next_faults send_faults old new e
-    × ((IsServe words → ⊥) → IsApart (call_over words left source_faults contents input_faults files disk_faults log next_faults send_faults old new)
+    × ((IsServe words → ⊥) → IsServingUntouched (call_over words left source_faults contents input_faults files disk_faults log next_faults send_faults old new)
     × (calls new.disk ≡ calls old.disk))
     × ((IsReplay words → ⊥) → IsUntouched (report_over left source_faults old.source new.source))

@@ -19,6 +19,7 @@ use Rattle.run_events.specs.declared.step.Step.{Step}
 use Rattle.run_events.specs.declared.step.Step.TheVariants.{Opened, Piece, Gone, Direct, Render, Deliver, Lose, Purge, Restart}
 use Rattle.sp_base.specs.Limits.{http_port}
 use Rattle.sp_base.specs.Texts.{Text}
+use Rattle.run_laws.specs.Logs.{is_restart}
 use Rattle.any_config.specs.declared.farm.Farm.{Farm}
 use Rattle.cover_rules.specs.declared.invalidation.Action.{Action}
 use Rattle.cache_log.specs.Entries.{Session}
@@ -102,11 +103,6 @@ abbrev pub arming_of : EventLine → Option Arming
 arming_of (line.Fail n way) = Some OneFailure
 arming_of (line.Stop n way) = Some UntilRestart
 arming_of _ = None
-
--- a restart
-abbrev pub is_restart : Step → Bool
-is_restart Restart = true
-is_restart _ = false
 
 -- how the disk may fail in an event of this step: a restart finds it running again
 abbrev pub arming_in : Arming → Step → Arming

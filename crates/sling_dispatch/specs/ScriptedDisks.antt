@@ -1,8 +1,9 @@
 -- Scaffolding: the disk of a scenario, for the private functions of the run and for proofs alone.
 use Rattle.std.specs.Prelude.{◌≡◌, ◌≢◌, ℕ, true, if◌then◌else◌}
+use Rattle.run_laws.specs.Logs.{is_restart}
 use Rattle.sp_outside.specs.Files.{Files}
 use Rattle.run_events.specs.declared.step.Step.{Step}
-use Rattle.sling_dispatch.specs.Runs.{Arming, Unarmed, OneFailure, UntilRestart, is_restart}
+use Rattle.sling_dispatch.specs.Runs.{Arming, Unarmed, OneFailure, UntilRestart}
 use Rattle.sling_dispatch.specs.declared.scripted_disk.ScriptedDisk.{ScriptedDisk}
 use Rattle.sling_dispatch.specs.declared.scripted_disk.ScriptedDisk.TheVariants.{Failing, Stopped}
 

@@ -110,18 +110,18 @@ ServedSessionsServeKeptPages = (c : RunCall) (words : ServeWords) (end : ServeEn
 -- ---- where nothing outside is in the way, the run is done, unless it ran out of memory
 
 -- a replay of a scenario whose content and farm have a reading
-abbrev pub UnhinderedReplaysAreDone : Type 0
-UnhinderedReplaysAreDone = (c : RunCall) (sink : StreamReport (List ℕ)) (bytes : List ℕ) (s : Scenario) (ending : Ending) → Means (IsDue c) ending sink
+abbrev pub UnhinderedReplaysAreDoneUnlessOutOfMemory : Type 0
+UnhinderedReplaysAreDoneUnlessOutOfMemory = (c : RunCall) (sink : StreamReport (List ℕ)) (bytes : List ℕ) (s : Scenario) (ending : Ending) → Means (IsDue c) ending sink
     → IsReplay c.words → c.source.old ≡ Some bytes → ReadsScenario bytes s → HasContent s → HasFarm s
     → c.source.faults_old < greatest_u64 → HasNotFailed c.source → sink.faults_old < greatest_u64 → HasNotFailed sink
     → (ending ≡ run_end.Done) ⊎ (ending ≡ run_end.NoMemory)
 
 -- serving over inputs, a document root and a world that let it
-abbrev pub UnhinderedServingIsDone : Type 0
-UnhinderedServingIsDone = (c : RunCall) (sink : StreamReport (List ℕ)) (words : ServeWords) (ending : Ending) → Means (IsDue c) ending sink → IsServable c words
+abbrev pub UnhinderedServingIsDoneUnlessOutOfMemory : Type 0
+UnhinderedServingIsDoneUnlessOutOfMemory = (c : RunCall) (sink : StreamReport (List ℕ)) (words : ServeWords) (ending : Ending) → Means (IsDue c) ending sink → IsServable c words
     → sink.faults_old < greatest_u64 → HasNotFailed sink → (ending ≡ run_end.Done) ⊎ (ending ≡ run_end.NoMemory)
 
 -- `scenario` and `soak`, but for a sink that failed
-abbrev pub NumberedRunsAreDoneUnlessTheSinkFailed : Type 0
-NumberedRunsAreDoneUnlessTheSinkFailed = (c : RunCall) (sink : StreamReport (List ℕ)) (ending : Ending) → Means (IsDue c) ending sink → AsksNumber c.words
+abbrev pub NumberedRunsAreDoneUnlessTheSinkFailedOrOutOfMemory : Type 0
+NumberedRunsAreDoneUnlessTheSinkFailedOrOutOfMemory = (c : RunCall) (sink : StreamReport (List ℕ)) (ending : Ending) → Means (IsDue c) ending sink → AsksNumber c.words
     → (ending ≡ run_end.Done) ⊎ ((ending ≡ run_end.NoMemory) ⊎ ((ending ≡ run_end.SinkFailed) × HasFailed sink))

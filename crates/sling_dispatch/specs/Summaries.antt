@@ -4,7 +4,7 @@ use Rattle.std.specs.Fmt.{decimal}
 use Rattle.std.specs.List.{count_by, sum_by}
 use Rattle.run_events.specs.Events.{Event, notes_of}
 use Rattle.run_events.specs.declared.note.Note.{Note}
-use Rattle.run_events.specs.declared.note.Note.TheVariants.{Ask, Hit, Flush, Done, Failed, Kept, Unkept, Passed, Lost, Sent, Hurt, Dry}
+use Rattle.run_events.specs.declared.note.Note.TheVariants.{Ask, Hit, Flush, Done, Failed, Kept, Unkept, Passed, Lost, Sent, Hurt, OutOfMemory}
 use Rattle.sling_dispatch.specs.declared.summary.Counts.{Counts}
 
 -- ---- kinds of notes
@@ -17,9 +17,9 @@ abbrev pub is_hit : Note → Bool
 is_hit (Hit c key) = true
 is_hit _ = false
 
-abbrev pub is_kept : Note → Bool
-is_kept (Kept number key) = true
-is_kept _ = false
+abbrev pub is_kept_note : Note → Bool
+is_kept_note (Kept number key) = true
+is_kept_note _ = false
 
 abbrev pub is_passed_note : Note → Bool
 is_passed_note (Passed number) = true
@@ -49,9 +49,9 @@ abbrev pub is_hurt : Note → Bool
 is_hurt Hurt = true
 is_hurt _ = false
 
-abbrev pub is_dry : Note → Bool
-is_dry Dry = true
-is_dry _ = false
+abbrev pub is_out_of_memory_note : Note → Bool
+is_out_of_memory_note OutOfMemory = true
+is_out_of_memory_note _ = false
 
 -- how many bytes a note sends
 abbrev pub sent_size : Note → ℕ
@@ -67,7 +67,7 @@ counts events notes =
       events = events;
       asks = count_by is_ask notes;
       hits = count_by is_hit notes;
-      kept = count_by is_kept notes;
+      kept = count_by is_kept_note notes;
       passed = count_by is_passed_note notes;
       unkept = count_by is_unkept notes;
       lost = count_by is_lost notes;
@@ -76,7 +76,7 @@ counts events notes =
       failed = count_by is_failed notes;
       sent = sum_by sent_size notes;
       hurt = count_by is_hurt notes;
-      dry = count_by is_dry notes;
+      dry = count_by is_out_of_memory_note notes;
     }
 
 -- the counts of both

@@ -8,7 +8,7 @@ ghost use Rattle.url_split.specs.declared.decompose.Parts as split;
 ghost use Rattle.url_split.specs.Split.{IsSplit};
 ghost use Rattle.dispatch_rules.specs.UrlParts.{stem};
 ghost use Rattle.sling_dispatch.specs.SessionLaws.{SessionHitsAreFresh, SessionLogsAreLegal, SessionRepliesInFlightAreNotStored, SessionsServeKeptPages, TranscriptsTellSessions};
-ghost use Rattle.sling_dispatch.specs.ServedLaws.{ServedHitsAreFresh, ServedLogsAreLegal, ServedRepliesInFlightAreNotStored, ServedSessionsGoOn, ServedSessionsLeaveLegalLogs, ServedSessionsServeKeptPages, SessionsAreServed, UnhinderedReplaysAreDone, UnhinderedServingIsDone, NumberedRunsAreDoneUnlessTheSinkFailed};
+ghost use Rattle.sling_dispatch.specs.ServedLaws.{ServedHitsAreFresh, ServedLogsAreLegal, ServedRepliesInFlightAreNotStored, ServedSessionsGoOn, ServedSessionsLeaveLegalLogs, ServedSessionsServeKeptPages, SessionsAreServed, UnhinderedReplaysAreDoneUnlessOutOfMemory, UnhinderedServingIsDoneUnlessOutOfMemory, NumberedRunsAreDoneUnlessTheSinkFailedOrOutOfMemory};
 ghost use Rattle.sling_dispatch.specs.SessionsWithMemory.{SessionsWithMemoryAreOne, UncachedTextsAreOne, UncachedScenariosAreOne};
 ghost use Rattle.sling_dispatch.specs.FilterParts.{SeesParts};
 ghost use Rattle.sling_dispatch.specs.Runs.{AreAnsweredAlikeIfOnePath};
@@ -32,9 +32,9 @@ pub fn spellings_are_answered_alike()
 /// number of the session is of its form and not at its end, and the inputs, what comes next and the sink didn't fail, nor the disk before the
 /// first turn. `scenario` and `soak`: the sink didn't fail.
 pub fn complete()
-    ensures replay { UnhinderedReplaysAreDone }
-    ensures serve { UnhinderedServingIsDone }
-    ensures numbered { NumberedRunsAreDoneUnlessTheSinkFailed }
+    ensures replay { UnhinderedReplaysAreDoneUnlessOutOfMemory }
+    ensures serve { UnhinderedServingIsDoneUnlessOutOfMemory }
+    ensures numbered { NumberedRunsAreDoneUnlessTheSinkFailedOrOutOfMemory }
 {
     one_reading();
 }

@@ -56,6 +56,6 @@ fn main(rt: HostRuntime) -> ExitCode {
         world: ReportedWorld::new(rt.alloc(), world, &words, &report),
     };
     let status = command(rt.alloc(), seeds, &words, &mut outside);
-    outside.world.ended(status).finish();
+    outside.world.end(status).finish();
     ExitCode::from(status)
 }

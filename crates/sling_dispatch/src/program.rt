@@ -1,5 +1,6 @@
 //! The run: what the words say is done, from the source, the inputs, the disk and the world to the sink.
 ghost use Rattle.std.specs.Prelude.{◌≡◌, ◌+◌};
+ghost use Rattle.content_json.specs.FromTokens.{texts_in};
 ghost use Rattle.replay_text.specs.Scenario.{longest_scenario};
 ghost use Rattle.docroot_changes.specs.DocrootCalls.{MakesDocrootCalls};
 ghost use Rattle.sling_dispatch.specs.Streams.{HasTaken};
@@ -7,7 +8,7 @@ ghost use Rattle.sling_dispatch.specs.Endings.{Means, IsReplay};
 ghost use Rattle.sling_dispatch.specs.Forms.{IsServe};
 ghost use Rattle.sling_dispatch.specs.RunEndings.{EndsAsIsDue, MeansWhatIsDue};
 ghost use Rattle.sling_dispatch.specs.InnerServing.{IsScenarioOr, IsSummaryOr, ReplaysSource};
-ghost use Rattle.sling_dispatch.specs.Reports.{IsUntouched, report_over, IsApartUnlessServe, word_texts};
+ghost use Rattle.sling_dispatch.specs.Reports.{IsUntouched, report_over, IsApartUnlessServe};
 
 use crate::ending::Ending;
 use crate::form::{Form, form_of};
@@ -34,12 +35,12 @@ pub fn run<S: Source, K: Sink, I: Inputs, D: Disk, W: World>(
     outside: &mut Outside<S, K, I, D, W>,
 ) -> u8
     ensures taken { HasTaken (longest_scenario + 1) (S.left outside.old.source) (S.left outside.new.source) }
-    ensures ending { EndsAsIsDue (word_texts words.now) S.left S.faults K.held K.faults I.contents I.faults D.files D.faults
+    ensures ending { EndsAsIsDue (texts_in words.now) S.left S.faults K.held K.faults I.contents I.faults D.files D.faults
         W.log W.next_faults W.send_faults outside.old outside.new result }
     ensures apart { IsApartUnlessServe words.now S.left S.faults I.contents I.faults D.files D.faults W.log W.next_faults W.send_faults outside.old outside.new }
     ensures calls { MakesDocrootCalls (D.calls outside.old.disk) (D.calls outside.new.disk) }
-    ensures uncalled { (IsServe (word_texts words.now) → ⊥) → D.calls outside.new.disk ≡ D.calls outside.old.disk }
-    ensures source { (IsReplay (word_texts words.now) → ⊥) → IsUntouched (report_over S.left S.faults outside.old.source outside.new.source) }
+    ensures uncalled { (IsServe (texts_in words.now) → ⊥) → D.calls outside.new.disk ≡ D.calls outside.old.disk }
+    ensures source { (IsReplay (texts_in words.now) → ⊥) → IsUntouched (report_over S.left S.faults outside.old.source outside.new.source) }
 {
     ending(alloc, seeds, words, outside).status()
 }
@@ -51,12 +52,12 @@ fn ending<S: Source, K: Sink, I: Inputs, D: Disk, W: World>(
     outside: &mut Outside<S, K, I, D, W>,
 ) -> Ending
     ensures taken { HasTaken (longest_scenario + 1) (S.left outside.old.source) (S.left outside.new.source) }
-    ensures ending { MeansWhatIsDue (word_texts words.now) S.left S.faults K.held K.faults I.contents I.faults D.files D.faults
+    ensures ending { MeansWhatIsDue (texts_in words.now) S.left S.faults K.held K.faults I.contents I.faults D.files D.faults
         W.log W.next_faults W.send_faults outside.old outside.new result }
     ensures apart { IsApartUnlessServe words.now S.left S.faults I.contents I.faults D.files D.faults W.log W.next_faults W.send_faults outside.old outside.new }
     ensures calls { MakesDocrootCalls (D.calls outside.old.disk) (D.calls outside.new.disk) }
-    ensures uncalled { (IsServe (word_texts words.now) → ⊥) → D.calls outside.new.disk ≡ D.calls outside.old.disk }
-    ensures source { (IsReplay (word_texts words.now) → ⊥) → IsUntouched (report_over S.left S.faults outside.old.source outside.new.source) }
+    ensures uncalled { (IsServe (texts_in words.now) → ⊥) → D.calls outside.new.disk ≡ D.calls outside.old.disk }
+    ensures source { (IsReplay (texts_in words.now) → ⊥) → IsUntouched (report_over S.left S.faults outside.old.source outside.new.source) }
 {
     docroot_calls_add_up();
     let Ok(asked) = form_of(alloc, words) else {

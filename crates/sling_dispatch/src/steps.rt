@@ -6,7 +6,7 @@ ghost use Rattle.sling_dispatch.specs.Fronts.{arming_of_task, step_of_task};
 ghost use Rattle.sling_dispatch.specs.Runs as runs;
 
 use any_config::Farm;
-use connections::{ConnectionId, FlightId};
+use connections::ConnectionId;
 use cover_rules::Action;
 use front::{Pick, Step};
 use replay_text::{EventLine, Flight};
@@ -46,8 +46,8 @@ pub fn task_of(alloc: Global, host: &[u8], line: EventLine) -> Mem<Task>
 {
     match line {
         EventLine::Direct(target) => Ok(Task::Step(Step::Direct(target))),
-        EventLine::Open(c, peer) => Ok(Task::Step(Step::Opened(ConnectionId::new(c), peer))),
-        EventLine::Close(c) => Ok(Task::Step(Step::Gone(ConnectionId::new(c)))),
+        EventLine::Open(c, peer) => Ok(Task::Step(Step::Opened(c, peer))),
+        EventLine::Close(c) => Ok(Task::Step(Step::Gone(c))),
         EventLine::Bytes(c, bytes) => Ok(piece(c, bytes)),
         EventLine::Get(c, target) => Ok(piece(c, get_bytes(alloc, host, target.text())?)),
         EventLine::Post(c, target, form) => {
@@ -69,11 +69,11 @@ pub fn task_of(alloc: Global, host: &[u8], line: EventLine) -> Mem<Task>
 }
 
 // Bytes come on a connection.
-fn piece(c: u32, bytes: ByteBuf) -> Task
+fn piece(c: ConnectionId, bytes: ByteBuf) -> Task
     ensures step { step_of_task result ≡ Some (model.Piece c bytes) }
     ensures arming { arming_of_task result ≡ None }
 {
-    Task::Step(Step::Piece(ConnectionId::new(c), bytes))
+    Task::Step(Step::Piece(c, bytes))
 }
 
 fn pick_of(flight: Flight) -> Pick
@@ -81,7 +81,7 @@ fn pick_of(flight: Flight) -> Pick
 {
     match flight {
         Flight::First => Pick::First,
-        Flight::Numbered(number) => Pick::Number(FlightId::new(number)),
+        Flight::Numbered(number) => Pick::Number(number),
     }
 }
 

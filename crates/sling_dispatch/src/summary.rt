@@ -85,7 +85,7 @@ impl Counts {
             Note::Failed(_, _) => add(&mut self.failed, 1),
             Note::Sent(_, bytes) => add(&mut self.sent, bytes.size()?),
             Note::Hurt => add(&mut self.hurt, 1),
-            Note::Dry => add(&mut self.dry, 1),
+            Note::OutOfMemory => add(&mut self.dry, 1),
             _ => Ok(()),
         }
     }

@@ -10,9 +10,9 @@ use Rattle.replay_text.specs.Lines.{AreLines, newlines, text_of_lines}
 use Rattle.replay_text.specs.Scenario.{HaveNoDot, IsBlock, IsScenario, ReadsScenario, SpellsScenario, act_lines, longest_scenario}
 use Rattle.replay_text.specs.declared.event_line.EventLine.{EventLine}
 use Rattle.replay_text.specs.declared.scenario.Scenario.{Scenario}
-use Rattle.soak_scenarios.specs.Drafts.{Draft, begun, with_text}
+use Rattle.soak_scenarios.specs.Drafts.{Draft, begun_draft, with_text}
 use Rattle.soak_scenarios.specs.Sites.{apps_member, content_line, farm_lines, folder_members, page_members, pages_order}
-use Rattle.soak_scenarios.specs.Soaks.{generated_text, head_text, with_blocks}
+use Rattle.soak_scenarios.specs.Soaks.{generated_text, scenario_head, with_drawn_blocks}
 use Rattle.soak_laws.proofs.Bytes.{both_true}
 use Rattle.soak_laws.proofs.Lines.{Drafted}
 use Rattle.soak_laws.proofs.Rounds.{blocks_drafted, le_by}
@@ -88,8 +88,8 @@ lines_end : (a : List (List ℕ)) → text_of_lines (a ++ codes "end" ∷ []) �
 lines_end [] = refl
 lines_end (line ∷ a) = ap (λ t. line ++ 10 ∷ t) (lines_end a) ∙ sym (append_assoc line (10 ∷ text_of_lines a) (codes "end\n"))
 
-head_then : (rest : List ℕ) → head_text ++ rest ≡ codes "scenario 1\ncontent\n" ++ (content_text ++ 10 ∷ (codes ".\nfarm\n" ++ (text_of_lines farm_block ++ (codes ".\n" ++ rest))))
-unfolding head_text
+head_then : (rest : List ℕ) → scenario_head ++ rest ≡ codes "scenario 1\ncontent\n" ++ (content_text ++ 10 ∷ (codes ".\nfarm\n" ++ (text_of_lines farm_block ++ (codes ".\n" ++ rest))))
+unfolding scenario_head
 head_then rest =
     ap (λ t. codes "scenario 1\ncontent\n" ++ t) (append_assoc content_line (codes ".\nfarm\n" ++ (farm_lines ++ codes ".\n")) rest
     ∙ ap (λ t. content_line ++ (codes ".\nfarm\n" ++ t)) (append_assoc farm_lines (codes ".\n") rest)
@@ -97,9 +97,9 @@ head_then rest =
     ∙ append_assoc content_text (10 ∷ []) (codes ".\nfarm\n" ++ (farm_lines ++ (codes ".\n" ++ rest)))
     ∙ ap (λ f. content_text ++ 10 ∷ (codes ".\nfarm\n" ++ (f ++ (codes ".\n" ++ rest)))) farm_is)
 
-head_short : length head_text ≤ 100000
-unfolding head_text content_line apps_member folder_members page_members pages_order farm_lines digits
-head_short = le_by (length head_text) 100000 refl
+head_short : length scenario_head ≤ 100000
+unfolding scenario_head content_line apps_member folder_members page_members pages_order farm_lines digits
+head_short = le_by (length scenario_head) 100000 refl
 
 -- the scenario of these acts
 abbrev pub scenario_of_acts : List EventLine → Scenario
@@ -113,20 +113,20 @@ drafted_spells lines d p = record {
   farm = (farm_block, farm_is_block, refl);
   acts = p.acts;
   acts_are = record { are = p.are; bytes_are = refl };
-  text_is = ap (λ t. t ++ codes "end\n") p.text_is ∙ append_assoc head_text (text_of_lines (map line_of p.acts)) (codes "end\n")
+  text_is = ap (λ t. t ++ codes "end\n") p.text_is ∙ append_assoc scenario_head (text_of_lines (map line_of p.acts)) (codes "end\n")
       ∙ head_then (text_of_lines (map line_of p.acts) ++ codes "end\n")
       ∙ ap (λ t. codes "scenario 1\ncontent\n" ++ (content_text ++ 10 ∷ (codes ".\nfarm\n" ++ t)))
       (ap (λ t. text_of_lines farm_block ++ (codes ".\n" ++ t)) (sym (lines_end (map line_of p.acts))) ∙ sym (lines_then farm_block (act_lines p.acts)));
 }
 
-begun_drafted : (number : ℕ) → Drafted 0 (with_text head_text (begun number))
-begun_drafted number = record { acts = []; are = tt; text_is = sym (append-nil head_text); short = omega arith }
+begun_drafted : (number : ℕ) → Drafted 0 (with_text scenario_head (begun_draft number))
+begun_drafted number = record { acts = []; are = tt; text_is = sym (append-nil scenario_head); short = omega arith }
 
 pub text_is_scenario : (number : ℕ) → (s : Scenario) × ReadsScenario (generated_text number) s
 unfolding generated_text
 text_is_scenario number =
-    let d = with_blocks 625 (with_text head_text (begun number)) in
-    let p = blocks_drafted 625 (with_text head_text (begun number)) (omega arith) (begun_drafted number) in
+    let d = with_drawn_blocks 625 (with_text scenario_head (begun_draft number)) in
+    let p = blocks_drafted 625 (with_text scenario_head (begun_draft number)) (omega arith) (begun_drafted number) in
     (scenario_of_acts p.acts, (drafted_spells (66 * 625) d p, omega (arith, p.short, head_short, length-append d.text (codes "end\n"))))
 
 -- so it is refused at no line

@@ -6,14 +6,14 @@ use Rattle.replay_text.specs.Lines.{text_of_lines}
 use Rattle.replay_text.specs.Scenario.{AreActs}
 use Rattle.replay_text.specs.declared.event_line.EventLine.{EventLine}
 use Rattle.soak_scenarios.specs.Drafts.{Draft, Piece, Words, Draw, drawn, given, with_draw, with_text, written}
-use Rattle.soak_scenarios.specs.Soaks.{head_text}
+use Rattle.soak_scenarios.specs.Soaks.{scenario_head}
 
 -- the text is the head and these acts' lines, of which there are at most so many, none longer than 127 bytes
 pub record Drafted (lines : ℕ) (d : Draft) : Type 0 where
   pub acts : List EventLine
   pub are : AreActs acts
-  pub text_is : d.text ≡ head_text ++ text_of_lines (map line_of acts)
-  pub short : length d.text ≤ length head_text + 128 * lines
+  pub text_is : d.text ≡ scenario_head ++ text_of_lines (map line_of acts)
+  pub short : length d.text ≤ length scenario_head + 128 * lines
 
 are_push : (acts : List EventLine) (act : EventLine) → AreActs acts → IsEventLine act → AreActs (acts ++ act ∷ [])
 are_push [] act are is = (is, tt)
@@ -29,8 +29,8 @@ pub line_more : (lines : ℕ) (d e : Draft) (act : EventLine) → Drafted lines 
 line_more lines d e act p is short told = record {
   acts = p.acts ++ act ∷ [];
   are = are_push p.acts act p.are is;
-  text_is = told ∙ ap (λ t. t ++ (line_of act ++ 10 ∷ [])) p.text_is ∙ append_assoc head_text (text_of_lines (map line_of p.acts)) (line_of act ++ 10 ∷ [])
-      ∙ ap (λ t. head_text ++ t) (sym (lines_push p.acts act));
+  text_is = told ∙ ap (λ t. t ++ (line_of act ++ 10 ∷ [])) p.text_is ∙ append_assoc scenario_head (text_of_lines (map line_of p.acts)) (line_of act ++ 10 ∷ [])
+      ∙ ap (λ t. scenario_head ++ t) (sym (lines_push p.acts act));
   short = omega (arith, p.short, short, ap length told, length-append d.text (line_of act ++ 10 ∷ []), length-append (line_of act) (10 ∷ []));
 }
 

@@ -15,7 +15,7 @@ use Rattle.replay_text.specs.declared.event_line.EventLine.{EventLine}
 use Rattle.replay_text.specs.declared.event_line.EventLine.TheVariants.{Open, Close, Get, Post, Flush, Render, Deliver, Lose, Purge, Restart, Fail}
 use Rattle.replay_text.specs.declared.event_line.Flight.TheVariants.{First}
 use Rattle.soak_scenarios.specs.Drafts.{Draft, Piece, Words, drawn, given, with_draw, with_text, written}
-use Rattle.soak_scenarios.specs.Soaks.{closing, flush_line, get_line, opening_text, post_line, seldom_line, usual_line, with_block, with_blocks, with_round, with_rounds, with_seldom_line}
+use Rattle.soak_scenarios.specs.Soaks.{closing_line, flush_line, get_line, opening_text, post_line, seldom_line, usual_line, with_block, with_drawn_blocks, with_drawn_round, with_rounds, with_seldom_line}
 use Rattle.soak_laws.proofs.Bytes.{bytes-append, bytes_by, bytes_of_digits, decimal_has_digits, quoted_around, visible-append, visible_digits}
 use Rattle.soak_laws.proofs.Lines.{Drafted, added, line_more, lines_room, pieces_add, same_text}
 
@@ -177,10 +177,10 @@ open_more lines block d low p =
     (omega (arith, word, peer, block_length block low, length-append (codes "open ") (decimal block ++ 32 ∷ codes "127.0.0.1"), length-append (decimal block) (32 ∷ codes "127.0.0.1")))
     (ap (λ t. d.text ++ (codes "open " ++ t)) (sym (append_assoc (decimal block) (32 ∷ codes "127.0.0.1") (10 ∷ []))))
 
-close_more : (lines block : ℕ) (d : Draft) → block < 1000 → Drafted lines d → Drafted (lines + 1) (with_text (closing block) d)
+close_more : (lines block : ℕ) (d : Draft) → block < 1000 → Drafted lines d → Drafted (lines + 1) (with_text (closing_line block) d)
 close_more lines block d low p =
     let word : length (codes "close ") ≡ 6 = refl in
-    line_more lines d (with_text (closing block) d) (Close block) p (omega (arith, low)) (omega (arith, word, block_length block low, length-append (codes "close ") (decimal block))) refl
+    line_more lines d (with_text (closing_line block) d) (Close block) p (omega (arith, low)) (omega (arith, word, block_length block low, length-append (codes "close ") (decimal block))) refl
 
 -- ---- rounds
 
@@ -209,7 +209,7 @@ seldom_drafted lines block draw d low p =
     (if_either (WritesTo lines d) (draw == 1) _ _ (one_line lines d (Words (codes "fail 2 new\n") ∷ []) (Fail 2 New) p (omega arith, omega arith) (le_by (length (line_of (Fail 2 New))) 127 refl) refl)
     (one_line lines d (Words (codes "purge\n") ∷ []) Purge p tt (le_by (length (line_of Purge)) 127 refl) refl))
 
-round_drafted : (lines block : ℕ) (d : Draft) → block < 1000 → Drafted lines d → Drafted (lines + 2) (with_round block d)
+round_drafted : (lines block : ℕ) (d : Draft) → block < 1000 → Drafted lines d → Drafted (lines + 2) (with_drawn_round block d)
 round_drafted lines block d low p =
     let first = same_text lines d (drawn d) refl p in
     let draw = given (drawn d) 16 in
@@ -221,17 +221,17 @@ rounds_drafted : (n lines block : ℕ) (d : Draft) → block < 1000 → Drafted 
 unfolding with_rounds
 rounds_drafted zero lines block d low p = lines_room lines (lines + 2 * zero) d (omega arith) p
 rounds_drafted (suc n) lines block d low p =
-    lines_room (lines + 2 * n + 2) (lines + 2 * suc n) (with_round block (with_rounds block n d)) (omega arith) (round_drafted (lines + 2 * n) block (with_rounds block n d) low (rounds_drafted n lines block d low p))
+    lines_room (lines + 2 * n + 2) (lines + 2 * suc n) (with_drawn_round block (with_rounds block n d)) (omega arith) (round_drafted (lines + 2 * n) block (with_rounds block n d) low (rounds_drafted n lines block d low p))
 
 block_drafted : (lines block : ℕ) (d : Draft) → block < 1000 → Drafted lines d → Drafted (lines + 66) (with_block block d)
 block_drafted lines block d low p =
     let opened = with_text (opening_text block) d in
     let played = with_rounds block 32 opened in
-    lines_room (lines + 1 + 2 * 32 + 1) (lines + 66) (with_text (closing block) played) (omega arith)
+    lines_room (lines + 1 + 2 * 32 + 1) (lines + 66) (with_text (closing_line block) played) (omega arith)
     (close_more (lines + 1 + 2 * 32) block played low (rounds_drafted 32 (lines + 1) block opened low (open_more lines block d low p)))
 
-pub blocks_drafted : (n : ℕ) (d : Draft) → n < 1000 → Drafted 0 d → Drafted (66 * n) (with_blocks n d)
-unfolding with_blocks
+pub blocks_drafted : (n : ℕ) (d : Draft) → n < 1000 → Drafted 0 d → Drafted (66 * n) (with_drawn_blocks n d)
+unfolding with_drawn_blocks
 blocks_drafted zero d low p = lines_room 0 (66 * zero) d (omega arith) p
 blocks_drafted (suc n) d low p =
-    lines_room (66 * n + 66) (66 * suc n) (with_block (suc n) (with_blocks n d)) (omega arith) (block_drafted (66 * n) (suc n) (with_blocks n d) low (blocks_drafted n d (omega (arith, low)) p))
+    lines_room (66 * n + 66) (66 * suc n) (with_block (suc n) (with_drawn_blocks n d)) (omega arith) (block_drafted (66 * n) (suc n) (with_drawn_blocks n d) low (blocks_drafted n d (omega (arith, low)) p))

@@ -8,8 +8,8 @@ pub record Draft : Type 0 where
   pub seed : ℕ
 
 -- nothing is written or drawn yet, and a number is the seed
-abbrev pub begun : ℕ → Draft
-begun number = record { text = []; seed = number }
+abbrev pub begun_draft : ℕ → Draft
+begun_draft number = record { text = []; seed = number }
 
 -- the seed after a draw (a linear congruential generator: Knuth, The Art of Computer Programming, volume 2, section 3.2.1)
 unfoldable pub seed_after : ℕ → ℕ

@@ -1,7 +1,7 @@
 -- The scenario of a number: its site, and blocks of events that are drawn from the number.
 use Rattle.std.specs.Prelude.{◌++◌, ◌==◌, ℕ, zero, suc, nat_le, if◌then◌else◌, List, [], ◌∷◌, codes}
 use Rattle.std.specs.Fmt.{decimal}
-use Rattle.soak_scenarios.specs.Drafts.{Draft, Piece, Words, Draw, begun, drawn, given, with_text, written}
+use Rattle.soak_scenarios.specs.Drafts.{Draft, Piece, Words, Draw, begun_draft, drawn, given, with_text, written}
 use Rattle.soak_scenarios.specs.Sites.{content_line, farm_lines}
 
 -- the connection of a block opens
@@ -9,8 +9,8 @@ abbrev pub opening_text : ℕ → List ℕ
 opening_text block = codes "open " ++ (decimal block ++ codes " 127.0.0.1\n")
 
 -- it closes
-abbrev pub closing : ℕ → List ℕ
-closing block = codes "close " ++ (decimal block ++ codes "\n")
+abbrev pub closing_line : ℕ → List ℕ
+closing_line block = codes "close " ++ (decimal block ++ codes "\n")
 
 -- a word, the connection of the block, and what follows, with the path of a page of the site that is drawn, its folder first
 abbrev pub on_page : List ℕ → ℕ → List ℕ → List Piece → List Piece
@@ -53,27 +53,27 @@ abbrev pub draft_with_line : ℕ → ℕ → Draft → Draft
 draft_with_line block draw draft = if draw == 15 then with_seldom_line block draft else written (usual_line block draw) draft
 
 -- a round of a block: a draw, and its line
-abbrev pub with_round : ℕ → Draft → Draft
-with_round block draft = draft_with_line block (given (drawn draft) 16) (drawn draft)
+abbrev pub with_drawn_round : ℕ → Draft → Draft
+with_drawn_round block draft = draft_with_line block (given (drawn draft) 16) (drawn draft)
 
 -- so many rounds of a block
 unfoldable pub with_rounds : ℕ → ℕ → Draft → Draft
 with_rounds block zero draft = draft
-with_rounds block (suc n) draft = with_round block (with_rounds block n draft)
+with_rounds block (suc n) draft = with_drawn_round block (with_rounds block n draft)
 
 -- a block: its connection opens, has 32 rounds, and closes
 abbrev pub with_block : ℕ → Draft → Draft
-with_block block draft = with_text (closing block) (with_rounds block 32 (with_text (opening_text block) draft))
+with_block block draft = with_text (closing_line block) (with_rounds block 32 (with_text (opening_text block) draft))
 
 -- so many blocks, numbered from 1
-unfoldable pub with_blocks : ℕ → Draft → Draft
-with_blocks zero draft = draft
-with_blocks (suc n) draft = with_block (suc n) (with_blocks n draft)
+unfoldable pub with_drawn_blocks : ℕ → Draft → Draft
+with_drawn_blocks zero draft = draft
+with_drawn_blocks (suc n) draft = with_block (suc n) (with_drawn_blocks n draft)
 
 -- the lines before the first block
-unfoldable pub head_text : List ℕ
-head_text = codes "scenario 1\ncontent\n" ++ (content_line ++ (codes ".\nfarm\n" ++ (farm_lines ++ codes ".\n")))
+unfoldable pub scenario_head : List ℕ
+scenario_head = codes "scenario 1\ncontent\n" ++ (content_line ++ (codes ".\nfarm\n" ++ (farm_lines ++ codes ".\n")))
 
 -- the scenario of a number, which is the first seed: the site, 625 blocks, and the end
 unfoldable pub generated_text : ℕ → List ℕ
-generated_text number = (with_blocks 625 (with_text head_text (begun number))).text ++ codes "end\n"
+generated_text number = (with_drawn_blocks 625 (with_text scenario_head (begun_draft number))).text ++ codes "end\n"

@@ -1,7 +1,7 @@
 //! A text that is written, with numbers that are drawn.
 ghost use Rattle.std.specs.Prelude.{◌≡◌, ◌<◌, OnOk};
 ghost use Rattle.std.specs.Fmt.{decimal};
-ghost use Rattle.soak_scenarios.specs.Drafts.{begun, drawn, given, seed_after, with_draw, with_text};
+ghost use Rattle.soak_scenarios.specs.Drafts.{begun_draft, drawn, given, seed_after, with_draw, with_text};
 
 use sp_base::Mem;
 use std::alloc::Global;
@@ -31,7 +31,7 @@ fn next(seed: u64) -> u64
 
 impl Draft {
     pub fn new(alloc: Global, number: u32) -> Draft
-        ensures { result ≡ begun number }
+        ensures { result ≡ begun_draft number }
     {
         Draft {
             text: Vec::new(alloc),

@@ -1,7 +1,7 @@
 //! The events of a block.
 ghost use Rattle.std.specs.Prelude.{◌≡◌, ◌<◌, [], OnOk};
 ghost use Rattle.soak_scenarios.specs.Drafts.{with_text, written};
-ghost use Rattle.soak_scenarios.specs.Soaks.{closing, flush_line, get_line, on_page, opening_text, post_line, seldom_line, usual_line, with_block, draft_with_line, with_round, with_rounds, with_seldom_line};
+ghost use Rattle.soak_scenarios.specs.Soaks.{closing_line, flush_line, get_line, on_page, opening_text, post_line, seldom_line, usual_line, with_block, draft_with_line, with_drawn_round, with_rounds, with_seldom_line};
 
 use crate::draft::Draft;
 use sp_base::Mem;
@@ -18,7 +18,7 @@ fn push_opening(alloc: Global, draft: &mut Draft, block: u64) -> Mem<()>
 }
 
 fn push_closing(alloc: Global, draft: &mut Draft, block: u64) -> Mem<()>
-    ensures { OnOk result (draft.new ≡ with_text (closing block) draft.old) }
+    ensures { OnOk result (draft.new ≡ with_text (closing_line block) draft.old) }
 {
     draft.push(b"close ")?;
     draft.push_number(alloc, block)?;
@@ -104,7 +104,7 @@ fn push_line(alloc: Global, draft: &mut Draft, block: u64, draw: u64) -> Mem<()>
 }
 
 fn push_round(alloc: Global, draft: &mut Draft, block: u64) -> Mem<()>
-    ensures { OnOk result (draft.new ≡ with_round block draft.old) }
+    ensures { OnOk result (draft.new ≡ with_drawn_round block draft.old) }
 {
     let draw = draft.draw(16);
     push_line(alloc, draft, block, draw)

@@ -1,6 +1,6 @@
 //! Makes a scenario from a number.
 ghost use Rattle.std.specs.Prelude.{◌≡◌, IfOk, OnOk};
-ghost use Rattle.soak_scenarios.specs.Soaks.{generated_text, with_blocks};
+ghost use Rattle.soak_scenarios.specs.Soaks.{generated_text, with_drawn_blocks};
 
 use crate::draft::Draft;
 use crate::rounds::push_block;
@@ -11,7 +11,7 @@ use std::alloc::Global;
 const BLOCKS: u64 = 625;
 
 fn push_blocks(alloc: Global, draft: &mut Draft, count: u64) -> Mem<()>
-    ensures { OnOk result (draft.new ≡ with_blocks count draft.old) }
+    ensures { OnOk result (draft.new ≡ with_drawn_blocks count draft.old) }
 {
     for before in 0..count {
         push_block(alloc, draft, before + 1)?;

@@ -2,7 +2,7 @@
 ghost use Rattle.std.specs.Prelude.{◌≡◌, OnOk, flat_map};
 ghost use Rattle.soak_scenarios.specs.Drafts.{with_text};
 ghost use Rattle.soak_scenarios.specs.Sites.{folder_member, page_member, pages, folders, content_line, farm_lines};
-ghost use Rattle.soak_scenarios.specs.Soaks.{head_text};
+ghost use Rattle.soak_scenarios.specs.Soaks.{scenario_head};
 
 use crate::draft::Draft;
 use sp_base::Mem;
@@ -92,7 +92,7 @@ fn push_content(alloc: Global, draft: &mut Draft) -> Mem<()>
 
 /// The lines before the first block.
 pub fn push_head(alloc: Global, draft: &mut Draft) -> Mem<()>
-    ensures { OnOk result (draft.new ≡ with_text head_text draft.old) }
+    ensures { OnOk result (draft.new ≡ with_text scenario_head draft.old) }
 {
     draft.push(b"scenario 1\ncontent\n")?;
     push_content(alloc, draft)?;

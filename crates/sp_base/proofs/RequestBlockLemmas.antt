@@ -13,7 +13,7 @@ use Rattle.sp_base.specs.declared.request.BlockEnds.{BlockEnds}
 use Rattle.sp_base.specs.declared.request.LentHead.{LentHead}
 use Rattle.sp_base.specs.Fields.{IsFieldWithin}
 use Rattle.sp_base.specs.Requests.{version_text}
-use Rattle.sp_base.specs.RequestBlocks.{host_in, query_in, ArePushed, IsLaidOut}
+use Rattle.sp_base.specs.RequestBlocks.{host_in_block, query_in, ArePushed, IsLaidOut}
 
 -- what stands between
 middle : (xs ys : List ℕ) → slice_range (xs ++ ys) (length xs) (length (xs ++ ys)) ≡ ys
@@ -88,7 +88,7 @@ pushed head one two three line hosted block query version ends a b c d v f g m l
     let method_is : take ends.method block ≡ method = ap (λ n. take n block) m ∙ front method _ block deep in
     let line_is : take ends.line block ≡ line = ap (λ n. take n block) l ∙ front line _ block whole in
     let host_long = longer line head.host.now hosted f in
-    let host_is : host_in block ends ≡ head.host.now =
+    let host_is : host_in_block block ends ≡ head.host.now =
     (λ i. slice_range block (l i) (h i)) ∙ ap (λ (b : List ℕ). slice_range b (length line) (length hosted)) g ∙ range_stays hosted query (length line) (length hosted) host_long (omega arith)
     ∙ between line head.host.now hosted f in
     let query_bytes : slice_range block ends.host ends.query ≡ query = (λ i. slice_range block (h i) (q i)) ∙ between hosted query block g in

@@ -3,9 +3,10 @@ use Rattle.std.specs.Prelude.{◌≤◌, ℕ, List, Option, option_map, nat_eq, 
 use Rattle.std.specs.List.{find}
 use Rattle.std.specs.Cmp.Lexicographic.{pointwise}
 use Rattle.sp_base.specs.declared.field.FieldPlace.{FieldPlace}
+use Rattle.sp_base.specs.Texts.{Pairs}
 
 -- the value of the first field of a name
-abbrev pub field_of : List (List ℕ × List ℕ) → List ℕ → Option (List ℕ)
+abbrev pub field_of : Pairs → List ℕ → Option (List ℕ)
 field_of fields name = option_map (λ field. field.1) (find (λ field. pointwise nat_eq field.0 name) fields)
 
 -- a field whose value stands at a place of the bytes (RFC 9110, section 5)

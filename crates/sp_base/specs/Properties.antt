@@ -4,6 +4,7 @@ use Rattle.std.specs.FinMap.Entries.{find}
 use Rattle.sp_base.specs.declared.value.Value.{Value}
 use Rattle.sp_base.specs.declared.value.Value.TheVariants.{Text, Long, Truth, Texts, Longs, Truths}
 use Rattle.sp_base.specs.Texts as texts
+use Rattle.sp_base.specs.Texts.{Properties}
 pub use Rattle.sp_base.specs.Names.{by_name}
 
 -- a value that is one text
@@ -26,5 +27,5 @@ value_texts (Some (Longs ns)) = []
 value_texts (Some (Truths bs)) = []
 
 -- the text under a name, where the value there is one
-unfoldable pub text_in : List (List ℕ × Value) → List ℕ → Option (List ℕ)
+unfoldable pub text_in : Properties → List ℕ → Option (List ℕ)
 text_in props name = option_and_then as_text (find by_name name props)

@@ -5,13 +5,14 @@ use Rattle.std.specs.Ordering.{is_lt}
 use Rattle.std.specs.FinMap.Entries.{below_all}
 use Rattle.sp_base.specs.declared.value.Value.{Value}
 use Rattle.sp_base.specs.Names.{by_name}
+use Rattle.sp_base.specs.Texts.{Properties}
 
 -- each name is before this one
-abbrev pub all_before : List ℕ → List (List ℕ × Value) → Type 0
+abbrev pub all_before : List ℕ → Properties → Type 0
 all_before name props = T (list_all (λ p. is_lt (by_name p.0 name)) props)
 
 -- the name stands at this place
-pub record IsAt (name : List ℕ) (props : List (List ℕ × Value)) (place : ℕ) : Type 0 where
+pub record IsAt (name : List ℕ) (props : Properties) (place : ℕ) : Type 0 where
   pub value : Value
   pub within : place < length props
   pub before : all_before name (take place props)
@@ -19,7 +20,7 @@ pub record IsAt (name : List ℕ) (props : List (List ℕ × Value)) (place : �
   pub item : (p : List ℕ × Value) → p ≡ slice_index_or props place p → p ≡ (name, value)
 
 -- the name stands nowhere, and would stand at this place
-pub record IsGap (name : List ℕ) (props : List (List ℕ × Value)) (place : ℕ) : Type 0 where
+pub record IsGap (name : List ℕ) (props : Properties) (place : ℕ) : Type 0 where
   pub within : place ≤ length props
   pub before : all_before name (take place props)
   pub remainder : T (below_all by_name name (drop place props))

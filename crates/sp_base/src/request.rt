@@ -63,7 +63,7 @@ impl Model for Req {
     ghost use Rattle.std.specs.Prelude.{map, take, drop};
     ghost use Rattle.sp_base.specs.Fields.{field_at};
     ghost use Rattle.sp_base.specs.Requests.{Request};
-    ghost use Rattle.sp_base.specs.RequestBlocks.{host_in, query_in, IsLaidOut};
+    ghost use Rattle.sp_base.specs.RequestBlocks.{host_in_block, query_in, IsLaidOut};
 
     ghost Value = { Request };
 
@@ -71,7 +71,7 @@ impl Model for Req {
       method = take r.ends.method r.block.items;
       line = take r.ends.line r.block.items;
       minor = r.minor;
-      host = host_in r.block.items r.ends;
+      host = host_in_block r.block.items r.ends;
       port = r.port;
       path = r.path;
       slash = r.slash;

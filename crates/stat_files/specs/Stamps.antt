@@ -1,5 +1,5 @@
 -- The stamps of folders, as the files of the docroot hold them (Adobe Dispatcher manual, "Invalidating Files by Folder Level").
-use Rattle.std.specs.Prelude.{◌≡◌, ◌≢◌, ◌⊎◌, ◌<◌, ◌≤◌, ℕ, Option, Some, None, option_and_then, option_map, ◌^◌}
+use Rattle.std.specs.Prelude.{◌≡◌, ◌≢◌, ◌⊎◌, ◌<◌, ◌≤◌, Option, Some, None, option_and_then, option_map, ◌^◌}
 use Rattle.sp_base.specs.Paths.{mangled_segs}
 use Rattle.sp_base.specs.Texts.{Segments, Text}
 use Rattle.std.specs.List.{AllByRecursion}
@@ -19,9 +19,9 @@ abbrev pub greatest_stamp : Stamp
 greatest_stamp = record { epoch = greatest_u64; count = greatest_u64 }
 
 -- a stamp that could be read, else the greatest
-abbrev pub stamp_or_greatest : Option (ℕ × ℕ) → Stamp
+abbrev pub stamp_or_greatest : Option Stamp → Stamp
 stamp_or_greatest None = greatest_stamp
-stamp_or_greatest (Some stamp) = record { epoch = stamp.0; count = stamp.1 }
+stamp_or_greatest (Some stamp) = stamp
 
 -- the stamp that the bytes of a .stat file stand for: bytes of another form stand for the greatest
 abbrev pub stamp_in : Text → Stamp
@@ -34,7 +34,7 @@ stamp_at files folder = option_map stamp_in (file_at files (stat_name folder))
 -- a folder's .stat file is of the form and holds this stamp, or it is of another form, and this is the greatest
 abbrev pub IsHeldOrGreatest : Files → Segments → Stamp → Type 0
 IsHeldOrGreatest files folder stamp =
-    (option_and_then stat_of (file_at files (stat_name folder)) ≡ Some (stamp.epoch, stamp.count))
+    (option_and_then stat_of (file_at files (stat_name folder)) ≡ Some stamp)
     ⊎ ((option_and_then stat_of (file_at files (stat_name folder)) ≡ None) × (stamp ≡ greatest_stamp))
 
 -- a stamp is the same as another or before it: by the session, then by the count
@@ -43,11 +43,11 @@ IsUpTo stamp last = (stamp.epoch < last.epoch) ⊎ ((stamp.epoch ≡ last.epoch)
 
 -- the files after a touch of a folder: it has this stamp
 abbrev pub files_with_stamp : Files → Segments → Stamp → Files
-files_with_stamp files folder stamp = with_file files (stat_name folder) (stat_text stamp.epoch stamp.count)
+files_with_stamp files folder stamp = with_file files (stat_name folder) (stat_text stamp)
 
 -- the same, where the disk tells its files
 abbrev pub told_with_stamp : Option Files → Segments → Stamp → Option Files
-told_with_stamp told folder stamp = told_with told (stat_name folder) (stat_text stamp.epoch stamp.count)
+told_with_stamp told folder stamp = told_with told (stat_name folder) (stat_text stamp)
 
 -- a touch that failed leaves these files
 abbrev pub LeftByTouch : Files → Files → Segments → Stamp → FileFault → Type 0
@@ -80,8 +80,8 @@ FailedTouchesLeaveOldOrNew = (files new : Files) (folder : Segments) (stamp : St
     → (new ≡ files) ⊎ ((fault ≡ disk_failed) × (new ≡ files_with_stamp files folder stamp))
 
 -- so its folder has the old stamp or the new one
-abbrev pub FailedTouchesLeaveAStamp : Type 0
-FailedTouchesLeaveAStamp = (files new : Files) (folder : Segments) (stamp : Stamp) (fault : FileFault) → stamp.epoch < 2 ^ 64 → stamp.count < 2 ^ 64
+abbrev pub FailedTouchesLeaveOldStampOrNew : Type 0
+FailedTouchesLeaveOldStampOrNew = (files new : Files) (folder : Segments) (stamp : Stamp) (fault : FileFault) → stamp.epoch < 2 ^ 64 → stamp.count < 2 ^ 64
     → LeftByTouch files new folder stamp fault → (stamp_at new folder ≡ stamp_at files folder) ⊎ (stamp_at new folder ≡ Some stamp)
 
 -- and each file but the folder's .stat file is as it was

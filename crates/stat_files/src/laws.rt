@@ -8,7 +8,7 @@ ghost use Rattle.sp_outside.specs.Files.{Files, with_file, without_file};
 ghost use Rattle.docroot_format.specs.Names.{stat_name};
 ghost use Rattle.cover_rules.specs.declared.stamp.Stamp.{Stamp};
 ghost use Rattle.stat_files.specs.Outdated.{is_older, outdates_page, ForeignStatsOutdate, MissingStatsOutdateNothing, TouchesElsewhereChangeNothing, TouchesOutdateUnlessOlder};
-ghost use Rattle.stat_files.specs.Stamps.{IsHeldOrGreatest, IsUpTo, greatest_stamp, stamp_at, stamp_or_greatest, IsReadBack, StampsAreApart, KeepsStamp, FailedTouchesKeepOthers, FailedTouchesLeaveOldOrNew, FailedTouchesLeaveAStamp, FailedTouchesKeepOtherFiles};
+ghost use Rattle.stat_files.specs.Stamps.{IsHeldOrGreatest, IsUpTo, greatest_stamp, stamp_at, stamp_or_greatest, IsReadBack, StampsAreApart, KeepsStamp, FailedTouchesKeepOthers, FailedTouchesLeaveOldOrNew, FailedTouchesLeaveOldStampOrNew, FailedTouchesKeepOtherFiles};
 
 use docroot_format::{names_are_apart, texts_are_read_back};
 use sp_outside::files_have_names;
@@ -83,7 +83,7 @@ pub fn a_touch_outdates_what_is_not_newer()
 /// A touch that failed leaves the old stamp or, where the disk failed, the new one; each other file, so each other stamp, is as it was.
 pub fn a_failed_touch_leaves_the_old_stamp_or_the_new()
     ensures whole { FailedTouchesLeaveOldOrNew }
-    ensures stamp { FailedTouchesLeaveAStamp }
+    ensures stamp { FailedTouchesLeaveOldStampOrNew }
     ensures others { FailedTouchesKeepOthers }
     ensures beside { FailedTouchesKeepOtherFiles }
 {

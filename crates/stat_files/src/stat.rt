@@ -27,10 +27,10 @@ pub fn touch<D: Disk>(
     ensures cause { HasFileCause (D.faults disk.old) (D.faults disk.new) result }
 
     // This call of the disk is made, and no other; or none, where memory runs out before it.
-    ensures made { IsOneCall (D.calls disk.old) (D.calls disk.new) (Put (name.stat_name folder.now) (text.stat_text stamp.epoch stamp.count)) result }
+    ensures made { IsOneCall (D.calls disk.old) (D.calls disk.new) (Put (name.stat_name folder.now) (text.stat_text stamp)) result }
 {
     let name = stat_name(alloc, folder)?;
-    let text = stat_text(stamp.epoch, stamp.count);
+    let text = stat_text(stamp);
     match disk.put(name.text(), text.as_str().as_bytes()) {
         Ok(()) => Ok(()),
         Err(fault) => Err(FileFault::from(fault)),
@@ -41,7 +41,7 @@ fn stamp_in(bytes: &[u8]) -> Stamp
     ensures { result ≡ stamp_in bytes.now }
 {
     match stat_in(bytes) {
-        Some((epoch, count)) => Stamp { epoch, count },
+        Some(stamp) => stamp,
         None => Stamp {
             epoch: u64::MAX,
             count: u64::MAX,

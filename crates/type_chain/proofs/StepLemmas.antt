@@ -10,7 +10,7 @@ use Rattle.type_chain.specs.declared.type_name.TypeName.{TypeName}
 use Rattle.type_chain.specs.Types.{same_type, type_of}
 use Rattle.type_chain.specs.Chain.{chain_of, default_type, has_type, line, line_from, own_super, own_types, super_of, super_text, super_type, type_text, with_default}
 use Rattle.type_chain.specs.ScriptPlaces.{only}
-use Rattle.type_chain.specs.Steps.{AreOwnTypes, AreSteps, super_after, unless_there}
+use Rattle.type_chain.specs.Steps.{AreOwnTypes, AreSteps, super_after, unless_type_there}
 use Rattle.type_chain.proofs.ChainLemmas.{fresh, fresh-none}
 
 same_Some : (a b : TypeName) → Some a ≡ Some b → a ≡ b
@@ -18,7 +18,7 @@ same_Some a b e = cc
 
 -- ---- the types up to the first repeat
 
-fresh-first : (seen types : List TypeName) → slice_get (fresh seen types) 0 ≡ unless_there seen (slice_get types 0)
+fresh-first : (seen types : List TypeName) → slice_get (fresh seen types) 0 ≡ unless_type_there seen (slice_get types 0)
 fresh-first seen [] = refl
 fresh-first seen (x ∷ types) =
     elim (has_type x seen) as (λ t. slice_get (cond t [] (x ∷ fresh (seen ++ x ∷ []) types)) 0 ≡ cond t None (Some x)) [
@@ -40,21 +40,21 @@ fresh-get seen (x ∷ types) (suc k) a e =
     ] e
 
 fresh-next : (seen types : List TypeName) (k : ℕ) (a : TypeName) → slice_get (fresh seen types) k ≡ Some a
-    → slice_get (fresh seen types) (suc k) ≡ unless_there (seen ++ take (suc k) (fresh seen types)) (slice_get types (suc k))
+    → slice_get (fresh seen types) (suc k) ≡ unless_type_there (seen ++ take (suc k) (fresh seen types)) (slice_get types (suc k))
 fresh-next seen [] k a e = absurd (cc)
 fresh-next seen (x ∷ types) zero a e =
     elim (has_type x seen) as (λ t. slice_get (cond t [] (x ∷ fresh (seen ++ x ∷ []) types)) zero ≡ Some a
-    → slice_get (cond t [] (x ∷ fresh (seen ++ x ∷ []) types)) 1 ≡ unless_there (seen ++ take 1 (cond t [] (x ∷ fresh (seen ++ x ∷ []) types))) (slice_get types zero)) [
+    → slice_get (cond t [] (x ∷ fresh (seen ++ x ∷ []) types)) 1 ≡ unless_type_there (seen ++ take 1 (cond t [] (x ∷ fresh (seen ++ x ∷ []) types))) (slice_get types zero)) [
       | true ↦ λ h. absurd (cc)
       | false ↦ λ h. fresh-first (seen ++ x ∷ []) types
     ] e
 fresh-next seen (x ∷ types) (suc k) a e =
     let rest = fresh (seen ++ x ∷ []) types in
     elim (has_type x seen) as (λ t. slice_get (cond t [] (x ∷ rest)) (suc k) ≡ Some a
-    → slice_get (cond t [] (x ∷ rest)) (suc (suc k)) ≡ unless_there (seen ++ take (suc (suc k)) (cond t [] (x ∷ rest))) (slice_get types (suc k))) [
+    → slice_get (cond t [] (x ∷ rest)) (suc (suc k)) ≡ unless_type_there (seen ++ take (suc (suc k)) (cond t [] (x ∷ rest))) (slice_get types (suc k))) [
       | true ↦ λ h. absurd (cc)
       | false ↦ λ h.
-          fresh-next (seen ++ x ∷ []) types k a h ∙ ap (λ ts. unless_there ts (slice_get types (suc k))) (append_assoc seen (x ∷ []) (take (suc k) rest))
+          fresh-next (seen ++ x ∷ []) types k a h ∙ ap (λ ts. unless_type_there ts (slice_get types (suc k))) (append_assoc seen (x ∷ []) (take (suc k) rest))
     ] e
 
 -- ---- the line of super types
@@ -93,11 +93,11 @@ from-next tree props (Some own) (suc k) a e =
 
 -- ---- the steps of a chain
 
-none_there : (o : Option TypeName) → unless_there [] o ≡ o
+none_there : (o : Option TypeName) → unless_type_there [] o ≡ o
 none_there None = refl
 none_there (Some type) = refl
 
-unless_cond : (b : Bool) (types : List TypeName) (o : Option TypeName) → unless_there types (cond b o None) ≡ cond b (unless_there types o) None
+unless_cond : (b : Bool) (types : List TypeName) (o : Option TypeName) → unless_type_there types (cond b o None) ≡ cond b (unless_type_there types o) None
 unless_cond true types o = refl
 unless_cond false types o = refl
 
@@ -112,10 +112,10 @@ module _ (tree : Content) (props : List (List ℕ × Value)) (own : Option TypeN
   first_step = fresh-first [] whole ∙ none_there (slice_get whole 0) ∙ from-first tree props own
 
   next_step : (k : ℕ) (type : TypeName) → slice_get (fresh [] whole) k ≡ Some type
-      → slice_get (fresh [] whole) (suc k) ≡ cond (nat_lt (suc k) 32) (unless_there (take (suc k) (fresh [] whole)) (super_after tree props own k type)) None
+      → slice_get (fresh [] whole) (suc k) ≡ cond (nat_lt (suc k) 32) (unless_type_there (take (suc k) (fresh [] whole)) (super_after tree props own k type)) None
   next_step k type e =
       let before = take (suc k) (fresh [] whole) in
-      fresh-next [] whole k type e ∙ ap (unless_there before) (from-next tree props own k type (fresh-get [] whole k type e))
+      fresh-next [] whole k type e ∙ ap (unless_type_there before) (from-next tree props own k type (fresh-get [] whole k type e))
       ∙ unless_cond (nat_lt (suc k) 32) before (super_after tree props own k type)
 
   pub steps_are : AreSteps tree props own (own_types tree props own)
@@ -126,7 +126,7 @@ module _ (tree : Content) (props : List (List ℕ × Value)) (own : Option TypeN
         next = λ k type e.
             let one : suc k ≡ k + 1 = omega arith in
             subst
-            (λ n. slice_get (fresh [] whole) n ≡ cond (nat_lt n 32) (unless_there (take n (fresh [] whole)) (super_after tree props own k type)) None)
+            (λ n. slice_get (fresh [] whole) n ≡ cond (nat_lt n 32) (unless_type_there (take n (fresh [] whole)) (super_after tree props own k type)) None)
             one (next_step k type e);
       })
 
@@ -149,10 +149,10 @@ module _ {tree : Content} {props : List (List ℕ × Value)} {own : Option TypeN
   next_same k None before e f more = get-none xs k e ∙ sym (get-none ys k f)
   next_same k (Some type) before e f more =
       let one : k + 1 ≡ suc k = omega arith in
-      let step = λ (zs : List TypeName) (n : ℕ). cond (nat_lt n 32) (unless_there (take n zs) (super_after tree props own k type)) None in
+      let step = λ (zs : List TypeName) (n : ℕ). cond (nat_lt n 32) (unless_type_there (take n zs) (super_after tree props own k type)) None in
       let this = subst (λ n. slice_get xs n ≡ step xs n) one (a.next k type e) in
       let that = subst (λ n. slice_get ys n ≡ step ys n) one (b.next k type f) in
-      this ∙ ap (λ ts. cond (nat_lt (suc k) 32) (unless_there ts (super_after tree props own k type)) None) more ∙ sym that
+      this ∙ ap (λ ts. cond (nat_lt (suc k) 32) (unless_type_there ts (super_after tree props own k type)) None) more ∙ sym that
 
   both_same : (k : ℕ) → (take k xs ≡ take k ys) × (slice_get xs k ≡ slice_get ys k)
   both_same zero = (refl, a.first ∙ sym b.first)
@@ -263,15 +263,15 @@ module _ (tree : Content) (props : List (List ℕ × Value)) where
 
   -- what follows a type of the chain other than the first and the default type
   next_own : (k : ℕ) (type : TypeName) → 0 < k → slice_get (chain_of tree props) k ≡ Some type → same_type type default_type ≡ false
-      → slice_get own_part (suc k) ≡ cond (nat_lt (suc k) 32) (unless_there (take (suc k) (chain_of tree props)) (super_type tree type)) None
+      → slice_get own_part (suc k) ≡ cond (nat_lt (suc k) 32) (unless_type_there (take (suc k) (chain_of tree props)) (super_type tree type)) None
   next_own k type more e apart =
       let own = type_of (type_text props) in
       let here = own_at k type e apart in
       let one : k + 1 ≡ suc k = omega arith in
       let step = (chain_steps tree props).next k type here in
-      subst (λ n. slice_get own_part n ≡ cond (nat_lt n 32) (unless_there (take n own_part) (super_after tree props own k type)) None) one step
-      ∙ ap (λ o. cond (nat_lt (suc k) 32) (unless_there (take (suc k) own_part) o) None) (after_more tree props own k type more)
-      ∙ ap (λ ts. cond (nat_lt (suc k) 32) (unless_there ts (super_type tree type)) None) (sym (chain_take k type here))
+      subst (λ n. slice_get own_part n ≡ cond (nat_lt n 32) (unless_type_there (take n own_part) (super_after tree props own k type)) None) one step
+      ∙ ap (λ o. cond (nat_lt (suc k) 32) (unless_type_there (take (suc k) own_part) o) None) (after_more tree props own k type more)
+      ∙ ap (λ ts. cond (nat_lt (suc k) 32) (unless_type_there ts (super_type tree type)) None) (sym (chain_take k type here))
 
 pub super_follows : (tree : Content) (props : List (List ℕ × Value)) (k : ℕ) (type next : TypeName) → 0 < k → k + 1 < 32 → slice_get (chain_of tree props) k ≡ Some type → same_type type default_type ≡ false
     → super_type tree type ≡ Some next → has_type next (take (k + 1) (chain_of tree props)) ≡ false → slice_get (chain_of tree props) (k + 1) ≡ Some next
@@ -279,19 +279,19 @@ super_follows tree props k type next more room e apart above new =
     let one : k + 1 ≡ suc k = omega arith in
     let fresh_one = subst (λ n. has_type next (take n (chain_of tree props)) ≡ false) one new in
     let less : suc k < 32 = omega (arith, room) in
-    let own = next_own tree props k type more e apart ∙ ap (λ t. cond t (unless_there (take (suc k) (chain_of tree props)) (super_type tree type)) None) (below (suc k) 32 less)
-    ∙ ap (unless_there (take (suc k) (chain_of tree props))) above ∙ ap (λ t. cond t None (Some next)) fresh_one in
+    let own = next_own tree props k type more e apart ∙ ap (λ t. cond t (unless_type_there (take (suc k) (chain_of tree props)) (super_type tree type)) None) (below (suc k) 32 less)
+    ∙ ap (unless_type_there (take (suc k) (chain_of tree props))) above ∙ ap (λ t. cond t None (Some next)) fresh_one in
     subst (λ n. slice_get (chain_of tree props) n ≡ Some next) (sym one) (chain_get tree props (suc k) next own)
 
 pub chain_ends : (tree : Content) (props : List (List ℕ × Value)) (k : ℕ) (type : TypeName) → 0 < k → slice_get (chain_of tree props) k ≡ Some type → same_type type default_type ≡ false
-    → (unless_there (take (k + 1) (chain_of tree props)) (super_type tree type) ≡ None) ⊎ (32 ≤ k + 1)
+    → (unless_type_there (take (k + 1) (chain_of tree props)) (super_type tree type) ≡ None) ⊎ (32 ≤ k + 1)
     → (slice_get (chain_of tree props) (k + 1) ≡ Some default_type) ⊎ (slice_get (chain_of tree props) (k + 1) ≡ None)
 chain_ends tree props k type more e apart ends =
     let one : k + 1 ≡ suc k = omega arith in
     let own = next_own tree props k type more e apart in
     let last : slice_get (own_types tree props (type_of (type_text props))) (suc k) ≡ None = ⊎_elim
-    (λ none. own ∙ ap (λ o. cond (nat_lt (suc k) 32) o None) (subst (λ n. unless_there (take n (chain_of tree props)) (super_type tree type) ≡ None) one none) ∙ cond_none (nat_lt (suc k) 32))
-    (λ full. let long : 32 ≤ suc k = omega (arith, full) in own ∙ ap (λ t. cond t (unless_there (take (suc k) (chain_of tree props)) (super_type tree type)) None) (not_below (suc k) 32 long))
+    (λ none. own ∙ ap (λ o. cond (nat_lt (suc k) 32) o None) (subst (λ n. unless_type_there (take n (chain_of tree props)) (super_type tree type) ≡ None) one none) ∙ cond_none (nat_lt (suc k) 32))
+    (λ full. let long : 32 ≤ suc k = omega (arith, full) in own ∙ ap (λ t. cond t (unless_type_there (take (suc k) (chain_of tree props)) (super_type tree type)) None) (not_below (suc k) 32 long))
     ends in
     subst (λ n. (slice_get (chain_of tree props) n ≡ Some default_type) ⊎ (slice_get (chain_of tree props) n ≡ None)) (sym one)
     (chain_end tree props k type (own_at tree props k type e apart) last)
@@ -304,10 +304,10 @@ typed_first tree props own next is above apart =
     let types = own_types tree props (type_of (type_text props)) in
     let here : slice_get types 0 ≡ Some own = (chain_steps tree props).first ∙ ap (λ o. option_or o (super_of tree props None)) is in
     let one : take 1 types ≡ own ∷ [] = take-next types 0 ∙ ap (λ ts. ts ++ only (slice_get types 0)) (take_zero types) ∙ ap only here in
-    let step : slice_get types 1 ≡ unless_there (take 1 types) (super_after tree props (type_of (type_text props)) 0 own) = (chain_steps tree props).next 0 own here in
+    let step : slice_get types 1 ≡ unless_type_there (take 1 types) (super_after tree props (type_of (type_text props)) 0 own) = (chain_steps tree props).next 0 own here in
     let new : has_type next (own ∷ []) ≡ false = or_false (same_type own next) ∙ apart in
     chain_get tree props 1 next
-    (step ∙ ap (λ o. unless_there (take 1 types) (super_after tree props o 0 own)) is ∙ ap (λ ts. unless_there ts (super_of tree props (Some own))) one ∙ ap (unless_there (own ∷ [])) above ∙ ap (λ t. cond t None (Some next)) new)
+    (step ∙ ap (λ o. unless_type_there (take 1 types) (super_after tree props o 0 own)) is ∙ ap (λ ts. unless_type_there ts (super_of tree props (Some own))) one ∙ ap (unless_type_there (own ∷ [])) above ∙ ap (λ t. cond t None (Some next)) new)
 
 pub untyped_first : (tree : Content) (props : List (List ℕ × Value)) (next : TypeName) → type_of (type_text props) ≡ None → super_of tree props None ≡ Some next → slice_get (chain_of tree props) 0 ≡ Some next
 untyped_first tree props next is above =

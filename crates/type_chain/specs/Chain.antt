@@ -4,17 +4,16 @@ use Rattle.std.specs.List.{before_first, list_any}
 use Rattle.std.specs.Option.{option_or}
 use Rattle.sp_base.specs.Texts.{Segments, Properties, Text}
 use Rattle.sp_base.specs.Properties.{text_in}
-use Rattle.sp_base.specs.declared.value.Value.{Value}
 use Rattle.resource_tree.specs.Content.{Content, node_at}
 use Rattle.type_chain.specs.declared.type_name.TypeName.{TypeName}
 use Rattle.type_chain.specs.Types.{make_type, type_of, same_type, places}
 
 -- the text of a resource's type: its text `sling:resourceType`, else its text `jcr:primaryType`, else `nt:unstructured`
-unfoldable pub type_text : List (List ℕ × Value) → List ℕ
+unfoldable pub type_text : Properties → List ℕ
 type_text props = unwrap_or (option_or (text_in props (codes "sling:resourceType")) (text_in props (codes "jcr:primaryType"))) (codes "nt:unstructured")
 
 -- the text `sling:resourceSuperType` of properties
-unfoldable pub own_super : List (List ℕ × Value) → Option (List ℕ)
+unfoldable pub own_super : Properties → Option (List ℕ)
 own_super props = text_in props (codes "sling:resourceSuperType")
 
 -- the text of the super type that the node at a path names
@@ -35,7 +34,7 @@ unfoldable pub super_type : Content → TypeName → Option TypeName
 super_type tree type = option_and_then type_of (super_text tree type)
 
 -- the super type of a resource with this type: its own text counts before those of the type's places
-unfoldable pub super_of : Content → List (List ℕ × Value) → Option TypeName → Option TypeName
+unfoldable pub super_of : Content → Properties → Option TypeName → Option TypeName
 super_of tree props own = option_and_then type_of (option_or (own_super props) (option_and_then (super_text tree) own))
 
 -- a type, its super type, the super type of that, and so on: n at most
@@ -71,12 +70,12 @@ abbrev pub with_default : List TypeName → List TypeName
 with_default types = if has_type default_type types then types else types ++ default_type ∷ []
 
 -- the types of a resource's chain before the default type
-abbrev pub own_types : Content → List (List ℕ × Value) → Option TypeName → List TypeName
+abbrev pub own_types : Content → Properties → Option TypeName → List TypeName
 own_types tree props own = until_repeat (line_from tree own (super_of tree props own))
 
 -- the chain of a resource with these properties: its types from its own to the last before a repeat, and then the default type, unless it is
 -- there
-unfoldable pub chain_of : Content → List (List ℕ × Value) → List TypeName
+unfoldable pub chain_of : Content → Properties → List TypeName
 chain_of tree props = with_default (own_types tree props (type_of (type_text props)))
 
 -- the chain has this type at this place

@@ -18,13 +18,14 @@ use Rattle.url_maps.specs.declared.pairs.PairKind.TheVariants.{Mapping, Pattern,
 use Rattle.url_maps.specs.Aliases.{IsAlias, has_alias}
 use Rattle.url_maps.specs.Answers.{alias_at, alias_with, answer_of, deciding_pair, earlier, earliest, is_without_pattern, map_answer, mapping_at, mapping_with, outcome, pair_at, pair_inside, pair_to, pair_with, sibling_with_alias, turn, vanity_at, vanity_nodes, vanity_with}
 use Rattle.url_maps.specs.Mappings.{IsPlain, has_match, mapping_of}
-use Rattle.url_maps.specs.Patterns.{Asked, asked_for, host_of}
+use Rattle.url_maps.specs.Patterns.{Asked, asked_for, node_of_host}
 use Rattle.url_maps.specs.PatternAnswers.{pattern_with}
 use Rattle.url_maps.specs.Pairs.{Applies, Decides, HasNoPair, IsPair, IsPairOf, goes_on_after_prefix}
-use Rattle.url_maps.specs.Search.{IsBest, IsFirstPath, IsMappingOf, IsMappingPair, IsOf, is_prefix_end, mapped_path}
+use Rattle.url_maps.specs.Search.{IsBest, IsFirstPath, IsMappingOf, IsMappingPair, IsOf, mapped_path}
 use Rattle.url_maps.specs.Turns.{IsMapped, Turns, leads, most_turns, text_after}
 use Rattle.url_maps.specs.VanityPaths.{has_vanity_path, vanity_page, vanity_cmp, with_slash}
 use Rattle.sp_base.specs.Properties.{value_texts}
+use Rattle.regex_rules.specs.Fronts.{may_cut}
 use Rattle.url_maps.proofs.LawLemmas.{alias_path}
 use Rattle.url_maps.proofs.MappingLemmas.{IsSpelled, no_node_pair, no_path_pair, no_plain_pair, pair_at_node}
 use Rattle.url_maps.proofs.PairLemmas.{best_alias, best_last, best_mapping, best_pattern, goes_on_cut, mapping_pair, none_best, none_of}
@@ -334,10 +335,10 @@ module _ (read : IsReadBack) (spelled : IsSpelled) (valid : (text : List ℕ) (p
 
   -- ---- the pair that decides
 
-  best_is : (asked : Option Asked) (prefix rest : List ℕ) → is_prefix_end rest ≡ true → IsBest tree asked prefix rest (pair_with tree asked prefix rest)
+  best_is : (asked : Option Asked) (prefix rest : List ℕ) → may_cut rest ≡ true → IsBest tree asked prefix rest (pair_with tree asked prefix rest)
   best_is asked prefix rest cut =
       let vanity = cond (goes_on_after_prefix VanityPath rest) (vanity_with tree prefix) None in
-      elim (mapping_with tree (host_of asked) prefix) as (λ o. IsOf Mapping tree asked prefix o → IsBest tree asked prefix rest (option_or o (option_or (pattern_with tree asked prefix) (option_or (alias_with tree prefix) vanity)))) [
+      elim (mapping_with tree (node_of_host asked) prefix) as (λ o. IsOf Mapping tree asked prefix o → IsBest tree asked prefix rest (option_or o (option_or (pattern_with tree asked prefix) (option_or (alias_with tree prefix) vanity)))) [
         | Some pair ↦ λ is. best_mapping tree asked prefix rest cut pair is
         | None ↦ λ no_mapping.
             elim (pattern_with tree asked prefix) as (λ o. IsOf Pattern tree asked prefix o → IsBest tree asked prefix rest (option_or o (option_or (alias_with tree prefix) vanity))) [
@@ -357,18 +358,18 @@ module _ (read : IsReadBack) (spelled : IsSpelled) (valid : (text : List ℕ) (p
                         (cases_Bool (goes_on_after_prefix VanityPath rest))
                   ] (alias_is prefix)
             ] (pattern_is tree good asked prefix)
-      ] (mapping_pair tree asked prefix (mapping_with tree (host_of asked) prefix) (mapping_is (host_of asked) prefix))
+      ] (mapping_pair tree asked prefix (mapping_with tree (node_of_host asked) prefix) (mapping_is (node_of_host asked) prefix))
 
   at_place : (asked : Option Asked) (text : List ℕ) (at : ℕ) → IsBest tree asked (take at text) (drop at text) (pair_at tree asked text at)
   at_place asked text at =
       let prefix = take at text in
       let rest = drop at text in
       ⊎_elim
-      (λ (cut : is_prefix_end rest ≡ true). subst (λ b. IsBest tree asked prefix rest (cond b (pair_with tree asked prefix rest) None)) (sym cut) (best_is asked prefix rest cut))
-      (λ (whole : is_prefix_end rest ≡ false).
+      (λ (cut : may_cut rest ≡ true). subst (λ b. IsBest tree asked prefix rest (cond b (pair_with tree asked prefix rest) None)) (sym cut) (best_is asked prefix rest cut))
+      (λ (whole : may_cut rest ≡ false).
       subst (λ b. IsBest tree asked prefix rest (cond b (pair_with tree asked prefix rest) None)) (sym whole)
       (λ other has goes. true≢false (sym (goes_on_cut other.kind rest goes) ∙ whole)))
-      (cases_Bool (is_prefix_end rest))
+      (cases_Bool (may_cut rest))
 
   -- what is decided
   abbrev IsDecision : Option Asked → List ℕ → Option (ℕ × Pair) → Type 0

@@ -27,7 +27,7 @@ use Rattle.url_maps.specs.Mappings.{mapping_of}
 use Rattle.url_maps.specs.Pairs.{Applies, IsPairOf, goes_on_after_prefix}
 use Rattle.url_maps.specs.Patterns.{Asked, GivesPair, HasPattern, IsFrontOf, IsLongestFront, IsPatternPair, mappings_path}
 use Rattle.url_maps.specs.PatternRows.{ArePatterns, HasRowOf, IsRowAt, IsRowOf, LeadsBy}
-use Rattle.url_maps.specs.Search.{HasNoneBeyond, IsMappingPair, IsOf, is_prefix_end}
+use Rattle.url_maps.specs.Search.{HasNoneBeyond, IsMappingPair, IsOf}
 use Rattle.url_maps.proofs.NameLemmas.{not_less, less_trans}
 use Rattle.url_maps.proofs.PatternLemmas.{kid_listed}
 use Rattle.url_maps.proofs.RowLemmas.{same_row}
@@ -155,11 +155,7 @@ module _ (rows : List PatternNode) (whole : List ℕ) (from : ℕ) where
     behind = λ k row j lt there front. first.behind k row j (omega (arith, lt, over)) there front;
   }
 
-cut_same : (text : List ℕ) → may_cut text ≡ true → is_prefix_end text ≡ true
-cut_same [] cut = refl
-cut_same (b ∷ rest) cut = cut
-
-cut_goes : (kind : PairKind) (text : List ℕ) → kind ≡ Pattern → is_prefix_end text ≡ true → goes_on_after_prefix kind text ≡ true
+cut_goes : (kind : PairKind) (text : List ℕ) → kind ≡ Pattern → may_cut text ≡ true → goes_on_after_prefix kind text ≡ true
 cut_goes kind [] is cut = refl
 cut_goes kind (b ∷ rest) is cut = ap (λ k. goes_on_after_prefix k (b ∷ rest)) is ∙ cut
 
@@ -276,7 +272,7 @@ module _ (tree : Content) (good : IsTree (node_at tree)) (rows : List PatternNod
         } in (
           refl,
           within,
-          cut_same (drop at asked.text) front.cut,
+          front.cut,
           record {
             name = best.row.now.name;
             gives = gives;

@@ -4,31 +4,32 @@ use Rattle.std.specs.Prelude.{◌||◌, ◌==◌}
 use Rattle.std.proofs.lemmas.Bool.{cases_Bool, eqb-true, true≢false, false≢true, cases_lt, cases_eq}
 use Rattle.std.proofs.lemmas.List.{length-take, get_or-take, take-take}
 use Rattle.std.proofs.Math.Seq.{drop-cons}
+use Rattle.regex_rules.specs.Fronts.{may_cut}
 use Rattle.resource_tree.specs.Content.{Content}
 use Rattle.url_maps.specs.declared.pairs.Pair.{Pair}
 use Rattle.url_maps.specs.declared.pairs.PairKind.{PairKind}
 use Rattle.url_maps.specs.declared.pairs.PairKind.TheVariants.{Mapping, Pattern, Alias, VanityPath}
-use Rattle.url_maps.specs.Patterns.{Asked, host_of}
+use Rattle.url_maps.specs.Patterns.{Asked, node_of_host}
 use Rattle.url_maps.specs.Pairs.{Applies, Decides, HasNoPair, IsPair, IsPairOf, goes_on_after_prefix, rank}
-use Rattle.url_maps.specs.Search.{HasNoneBeyond, IsBest, IsMappingOf, IsOf, is_prefix_end, is_separator}
+use Rattle.url_maps.specs.Search.{HasNoneBeyond, IsBest, IsMappingOf, IsOf, is_separator}
 
 -- ---- among the pairs with a prefix
 
-cut_goes_on : (kind : PairKind) (rest : List ℕ) → kind ≢ VanityPath → is_prefix_end rest ≡ true → goes_on_after_prefix kind rest ≡ true
+cut_goes_on : (kind : PairKind) (rest : List ℕ) → kind ≢ VanityPath → may_cut rest ≡ true → goes_on_after_prefix kind rest ≡ true
 cut_goes_on kind [] other cut = refl
 cut_goes_on Mapping (b ∷ rest) other cut = cut
 cut_goes_on Pattern (b ∷ rest) other cut = cut
 cut_goes_on Alias (b ∷ rest) other cut = cut
 cut_goes_on VanityPath (b ∷ rest) other cut = absurd (other refl)
 
-pub goes_on_cut : (kind : PairKind) (rest : List ℕ) → goes_on_after_prefix kind rest ≡ true → is_prefix_end rest ≡ true
+pub goes_on_cut : (kind : PairKind) (rest : List ℕ) → goes_on_after_prefix kind rest ≡ true → may_cut rest ≡ true
 goes_on_cut kind [] goes = refl
 goes_on_cut Mapping (b ∷ rest) goes = goes
 goes_on_cut Pattern (b ∷ rest) goes = goes
 goes_on_cut Alias (b ∷ rest) goes = goes
 goes_on_cut VanityPath (b ∷ rest) goes = ap (λ x. x || b == 47) goes
 
-module _ (tree : Content) (asked : Option Asked) (prefix rest : List ℕ) (cut : is_prefix_end rest ≡ true) where
+module _ (tree : Content) (asked : Option Asked) (prefix rest : List ℕ) (cut : may_cut rest ≡ true) where
   -- there is none of a kind
   abbrev pub HasNone : PairKind → Type 0
   HasNone kind = (pair : Pair) → pair.kind ≡ kind → IsPair tree asked prefix pair → ⊥
@@ -111,7 +112,7 @@ module _ (tree : Content) (asked : Option Asked) (prefix rest : List ℕ) (cut :
       (λ (v : other.kind ≡ VanityPath). ⊎_elim (λ none. none other v has) (λ slash. true≢false (sym goes ∙ ap (λ k. goes_on_after_prefix k rest) v ∙ slash)) no_vanity)
 
 -- a mapping of the host node is the pair of its kind
-pub mapping_pair : (tree : Content) (asked : Option Asked) (prefix : List ℕ) (o : Option Pair) → IsMappingOf tree (host_of asked) prefix o → IsOf Mapping tree asked prefix o
+pub mapping_pair : (tree : Content) (asked : Option Asked) (prefix : List ℕ) (o : Option Pair) → IsMappingOf tree (node_of_host asked) prefix o → IsOf Mapping tree asked prefix o
 mapping_pair tree asked prefix (Some pair) is = (is.0, subst (λ kind. IsPairOf kind tree asked prefix pair) (sym is.0) is.1)
 mapping_pair tree asked prefix None none = λ pair is has. none pair (subst (λ kind. IsPairOf kind tree asked prefix pair) is has)
 
@@ -121,7 +122,7 @@ slash_rest [] slash = absurd (false≢true slash)
 slash_rest (b ∷ rest) slash = let is : b ≡ 47 = eqb-true b 47 slash in ap (λ x. x == 46) is
 
 -- any other is one
-pub dot_rest : (rest : List ℕ) → is_prefix_end rest ≡ true → (get_or rest 0 0 == 47) ≡ false → goes_on_after_prefix VanityPath rest ≡ true
+pub dot_rest : (rest : List ℕ) → may_cut rest ≡ true → (get_or rest 0 0 == 47) ≡ false → goes_on_after_prefix VanityPath rest ≡ true
 dot_rest [] cut no_slash = refl
 dot_rest (b ∷ rest) cut no_slash =
     ⊎_elim (λ (dot : (b == 46) ≡ true). dot)
@@ -129,15 +130,15 @@ dot_rest (b ∷ rest) cut no_slash =
     (cases_Bool (b == 46))
 
 -- the last kind, where there is none of the others
-pub best_last : (tree : Content) (asked : Option Asked) (prefix rest : List ℕ) (cut : is_prefix_end rest ≡ true) (o : Option Pair) → HasNone tree asked prefix rest cut Mapping → HasNone tree asked prefix rest cut Pattern → HasNone tree asked prefix rest cut Alias → goes_on_after_prefix VanityPath rest ≡ true
+pub best_last : (tree : Content) (asked : Option Asked) (prefix rest : List ℕ) (cut : may_cut rest ≡ true) (o : Option Pair) → HasNone tree asked prefix rest cut Mapping → HasNone tree asked prefix rest cut Pattern → HasNone tree asked prefix rest cut Alias → goes_on_after_prefix VanityPath rest ≡ true
     → IsOf VanityPath tree None prefix o → IsBest tree asked prefix rest o
 best_last tree asked prefix rest cut (Some pair) no_mapping no_pattern no_alias dot is = best_vanity tree asked prefix rest cut pair no_mapping no_pattern no_alias dot is
 best_last tree asked prefix rest cut None no_mapping no_pattern no_alias dot is = none_best tree asked prefix rest cut no_mapping no_pattern no_alias (inl (none_of tree asked prefix rest cut VanityPath (λ e. cc) (λ e. cc) is))
 
 -- ---- in a turn, from the longest prefix down
 
-pub cut_at : (text : List ℕ) (k : ℕ) → k < length text → is_prefix_end (drop k text) ≡ is_separator (get_or text k 0)
-cut_at text k within = ap is_prefix_end (drop-cons text k 0 within)
+pub cut_at : (text : List ℕ) (k : ℕ) → k < length text → may_cut (drop k text) ≡ is_separator (get_or text k 0)
+cut_at text k within = ap may_cut (drop-cons text k 0 within)
 
 pub passed_prefix : (tree : Content) (asked : Option Asked) (text prefix : List ℕ) → prefix ≡ take (length prefix) text → IsBest tree asked prefix (drop (length prefix) text) None
     → HasNoneBeyond tree asked text (length prefix) → (k : ℕ) (pair : Pair) → length prefix ≤ k → Applies tree asked text k pair → ⊥
@@ -189,7 +190,7 @@ decides_here tree asked text prefix pair is within best beyond = record {
 pub shorter_prefix : (text prefix front : List ℕ) → prefix ≡ take (length prefix) text → front ≡ take (length front) prefix → length front < length prefix → front ≡ take (length front) text
 shorter_prefix text prefix front is cut less = cut ∙ ap (take (length front)) is ∙ take-take (length front) (length prefix) text (omega (arith, less))
 
-pub prefix_cut : (text prefix front : List ℕ) → prefix ≡ take (length prefix) text → length prefix ≤ length text → length front < length prefix → is_separator (get_or prefix (length front) 0) ≡ true → is_prefix_end (drop (length front) text) ≡ true
+pub prefix_cut : (text prefix front : List ℕ) → prefix ≡ take (length prefix) text → length prefix ≤ length text → length front < length prefix → is_separator (get_or prefix (length front) 0) ≡ true → may_cut (drop (length front) text) ≡ true
 prefix_cut text prefix front is within less separator =
     cut_at text (length front) (omega (arith, within, less)) ∙ ap is_separator (sym (ap (λ t. get_or t (length front) 0) is ∙ get_or-take (length prefix) text (length front) 0 less)) ∙ separator
 

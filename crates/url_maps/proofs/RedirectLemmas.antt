@@ -6,6 +6,7 @@ use Rattle.std.proofs.lemmas.Bool.{cases_Bool}
 use Rattle.sp_base.specs.Paths.{path_of}
 use Rattle.sp_base.specs.Properties.{text_in}
 use Rattle.sp_base.specs.declared.path.PathFault.{PathFault}
+use Rattle.regex_rules.specs.Fronts.{may_cut}
 use Rattle.resource_tree.specs.declared.nodes.Node.{Node}
 use Rattle.resource_tree.specs.Content.{Content, kid, node_at, prop_at}
 use Rattle.url_maps.specs.declared.answer.MapAnswer.{MapAnswer}
@@ -15,10 +16,10 @@ use Rattle.url_maps.specs.declared.pairs.PairKind.{PairKind}
 use Rattle.url_maps.specs.declared.pairs.PairKind.TheVariants.{Alias, VanityPath}
 use Rattle.url_maps.specs.Answers.{alias_at, alias_with, answer_of, deciding_pair, earliest, is_without_pattern, map_answer, mapping_at, mapping_with, outcome, pair_at, pair_inside, pair_to, pair_with, sibling_with_alias, turn, vanity_at, vanity_nodes, vanity_with}
 use Rattle.url_maps.specs.Mappings.{internal_target, is_redirect, mapping_of, redirect_status, redirect_target, status_in, mapping_status}
-use Rattle.url_maps.specs.Patterns.{Asked, asked_for, host_of, mappings_path}
+use Rattle.url_maps.specs.Patterns.{Asked, asked_for, node_of_host, mappings_path}
 use Rattle.url_maps.specs.PatternAnswers.{given_at, given_by, givers, has_front, least, pattern_pair, pattern_with}
 use Rattle.url_maps.specs.Pairs.{goes_on_after_prefix}
-use Rattle.url_maps.specs.Search.{is_prefix_end, mapped_path}
+use Rattle.url_maps.specs.Search.{mapped_path}
 use Rattle.url_maps.specs.Turns.{most_turns, text_after}
 use Rattle.url_maps.specs.VanityPaths.{vanity_page}
 use Rattle.url_maps.specs.Words.{mapping_number}
@@ -118,8 +119,8 @@ place_redirects tree asked text at =
     let prefix = take at text in
     let rest = drop at text in
     let vanity = cond (goes_on_after_prefix VanityPath rest) (vanity_with tree prefix) None in
-    either (is_prefix_end rest) (pair_with tree asked prefix rest)
-    (first_redirects (mapping_with tree (host_of asked) prefix) (option_or (pattern_with tree asked prefix) (option_or (alias_with tree prefix) vanity)) (mapping_redirects tree (host_of asked) prefix)
+    either (may_cut rest) (pair_with tree asked prefix rest)
+    (first_redirects (mapping_with tree (node_of_host asked) prefix) (option_or (pattern_with tree asked prefix) (option_or (alias_with tree prefix) vanity)) (mapping_redirects tree (node_of_host asked) prefix)
     (first_redirects (pattern_with tree asked prefix) (option_or (alias_with tree prefix) vanity) (pattern_redirects tree asked prefix)
     (first_redirects (alias_with tree prefix) vanity (alias_redirects tree (path_of prefix))
     (either (goes_on_after_prefix VanityPath rest) (vanity_with tree prefix) (vanity_redirects tree prefix (path_of prefix))))))

@@ -7,6 +7,7 @@ use Rattle.std.specs.Ordering.{is_lt}
 use Rattle.sp_base.specs.Texts.{Segments, Text}
 use Rattle.sp_base.specs.Paths.{parent_of, path_of, text_of}
 use Rattle.sp_base.specs.declared.path.PathFault.{PathFault}
+use Rattle.regex_rules.specs.Fronts.{may_cut}
 use Rattle.resource_tree.specs.Content.{Content, kid, name_of, node_at}
 use Rattle.resource_tree.specs.Changes.{kids_at}
 use Rattle.url_maps.specs.declared.answer.MapAnswer.{MapAnswer}
@@ -16,10 +17,10 @@ use Rattle.url_maps.specs.declared.pairs.PairKind.{PairKind}
 use Rattle.url_maps.specs.declared.pairs.PairKind.TheVariants.{Mapping, Alias, VanityPath}
 use Rattle.url_maps.specs.Aliases.{has_alias}
 use Rattle.url_maps.specs.Mappings.{has_match, mapping_of}
-use Rattle.url_maps.specs.Patterns.{Asked, asked_for, host_of}
+use Rattle.url_maps.specs.Patterns.{Asked, asked_for, node_of_host}
 use Rattle.url_maps.specs.PatternAnswers.{pattern_with}
 use Rattle.url_maps.specs.Pairs.{goes_on_after_prefix}
-use Rattle.url_maps.specs.Search.{is_prefix_end, mapped_path}
+use Rattle.url_maps.specs.Search.{mapped_path}
 use Rattle.url_maps.specs.Turns.{most_turns, text_after, IsMapped}
 use Rattle.url_maps.specs.VanityPaths.{has_vanity_path, vanity_page, vanity_cmp}
 
@@ -86,11 +87,11 @@ vanity_with tree prefix = vanity_at tree prefix (path_of prefix)
 
 -- among those with a prefix, before the rest of a text
 abbrev pub pair_with : Content → Option Asked → List ℕ → List ℕ → Option Pair
-pair_with tree asked prefix rest = option_or (mapping_with tree (host_of asked) prefix) (option_or (pattern_with tree asked prefix) (option_or (alias_with tree prefix) (if goes_on_after_prefix VanityPath rest then vanity_with tree prefix else None)))
+pair_with tree asked prefix rest = option_or (mapping_with tree (node_of_host asked) prefix) (option_or (pattern_with tree asked prefix) (option_or (alias_with tree prefix) (if goes_on_after_prefix VanityPath rest then vanity_with tree prefix else None)))
 
 -- among those whose prefix ends at a place of a text
 abbrev pub pair_at : Content → Option Asked → List ℕ → ℕ → Option Pair
-pair_at tree asked text at = if is_prefix_end (drop at text) then pair_with tree asked (take at text) (drop at text) else None
+pair_at tree asked text at = if may_cut (drop at text) then pair_with tree asked (take at text) (drop at text) else None
 
 -- among those whose prefix ends before a place: the one at the last place, and that place
 abbrev pub deciding_pair : Content → Option Asked → List ℕ → ℕ → Option (ℕ × Pair)

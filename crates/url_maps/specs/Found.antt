@@ -4,7 +4,7 @@ use Rattle.std.specs.Borrow.{Bor}
 use Rattle.std.specs.Ordering.{is_lt}
 use Rattle.std.specs.declared.cmp.Ordering.TheVariants.{Less}
 use Rattle.sp_base.specs.Names.{by_name}
-use Rattle.regex_rules.specs.Fronts.{IsFront, IsLastFront}
+use Rattle.regex_rules.specs.Fronts.{IsFront, IsLastFront, may_cut}
 use Rattle.regex_rules.specs.Trees.{tree_of}
 use Rattle.resource_tree.specs.Content.{Content}
 use Rattle.url_maps.specs.declared.fronts.PatternFront.{PatternFront}
@@ -15,7 +15,6 @@ use Rattle.url_maps.specs.declared.pairs.PairKind.TheVariants.{Pattern}
 use Rattle.url_maps.specs.Patterns.{Asked}
 use Rattle.url_maps.specs.PatternRows.{IsRowAt}
 use Rattle.url_maps.specs.Pairs.{IsPairOf}
-use Rattle.url_maps.specs.Search.{is_prefix_end}
 
 -- the text is the one that is asked for, if one is
 abbrev pub IsTextOf : Option Asked → List ℕ → Type 0
@@ -52,7 +51,7 @@ first_row (Some old) (Some at) row = if is_ahead at row.now.name old then Some (
 
 -- The longest prefix with which a pattern gives a pair for what is asked, at whose end the text may be cut, and that pair; or that there is none.
 abbrev pub IsLongestPair : Content → Option Asked → List ℕ → Option PatternFront → Type 0
-IsLongestPair tree asked text (Some found) = (found.pair.kind ≡ Pattern) × (found.at ≤ length text) × (is_prefix_end (drop found.at text) ≡ true) × IsPairOf Pattern tree asked (take found.at text) found.pair
+IsLongestPair tree asked text (Some found) = (found.pair.kind ≡ Pattern) × (found.at ≤ length text) × (may_cut (drop found.at text) ≡ true) × IsPairOf Pattern tree asked (take found.at text) found.pair
     × ((prefix : List ℕ) (pair : Pair) → IsPairOf Pattern tree asked prefix pair → length prefix ≤ found.at)
 IsLongestPair tree asked text None = (prefix : List ℕ) (pair : Pair) → IsPairOf Pattern tree asked prefix pair → ⊥
 

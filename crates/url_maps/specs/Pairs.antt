@@ -9,7 +9,7 @@ use Rattle.url_maps.specs.declared.pairs.PairKind.{PairKind}
 use Rattle.url_maps.specs.declared.pairs.PairKind.TheVariants.{Mapping, Pattern, Alias, VanityPath}
 use Rattle.url_maps.specs.Aliases.{IsAlias}
 use Rattle.url_maps.specs.Mappings.{IsMapping}
-use Rattle.url_maps.specs.Patterns.{Asked, IsPatternPair, host_of}
+use Rattle.url_maps.specs.Patterns.{Asked, IsPatternPair, node_of_host}
 use Rattle.url_maps.specs.VanityPaths.{IsVanityPath, vanity_page}
 
 -- a mapping of a host node, if there is one
@@ -38,7 +38,7 @@ pub record HasVanityPath (tree : Content) (prefix : List ℕ) (pair : Pair) : Ty
 
 -- the tree has the pair, as one of this kind, with the prefix
 abbrev pub IsPairOf : PairKind → Content → Option Asked → List ℕ → Pair → Type 0
-IsPairOf Mapping tree asked prefix pair = HasMapping tree (host_of asked) prefix pair
+IsPairOf Mapping tree asked prefix pair = HasMapping tree (node_of_host asked) prefix pair
 IsPairOf Pattern tree asked prefix pair = HasPatternPair tree asked prefix pair
 IsPairOf Alias tree asked prefix pair = HasAlias tree prefix pair
 IsPairOf VanityPath tree asked prefix pair = HasVanityPath tree prefix pair

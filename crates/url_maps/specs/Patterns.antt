@@ -24,8 +24,8 @@ abbrev pub asked_for : List ℕ → ℕ → List ℕ → Asked
 asked_for host port text = record { host_node = host_node_of host port; text = text }
 
 -- the host node, if mappings are asked for
-abbrev pub host_of : Option Asked → Option Segments
-host_of asked = option_map (λ a. a.host_node) asked
+abbrev pub node_of_host : Option Asked → Option Segments
+node_of_host asked = option_map (λ a. a.host_node) asked
 
 -- the node directly below which host nodes and nodes with a pattern are
 abbrev pub mappings_path : Segments

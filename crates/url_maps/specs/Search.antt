@@ -1,5 +1,5 @@
 -- What the functions of the search promise one another, and its words. A reader of the relation in Turns.antt needs none of it, and the
--- answer in Answers.antt `is_prefix_end` and `mapped_path` alone.
+-- answer in Answers.antt `mapped_path` alone.
 use Rattle.std.specs.Prelude.{◌≡◌, ◌≤◌, ◌<◌, ◌⊎◌, ◌&&◌, ◌||◌, ◌==◌, ◌++◌, ℕ, Bool, true, false, is_none, is_some, not, List, [], ◌∷◌, Option, Some, None, length, slice_index, take}
 use Rattle.std.specs.List.{list_any}
 use Rattle.std.specs.declared.cmp.Ordering.TheVariants.{Less}
@@ -40,11 +40,6 @@ is_free tree text = is_free_at tree (path_in text)
 pub record IsFirstPath (tree : Content) (paths : List Segments) (path : Segments) : Type 0 where
   pub among : list_any (same_path path) paths ≡ true
   pub first : (other : Segments) → list_any (same_path other) paths ≡ true → (other ≡ path) ⊎ (vanity_cmp tree path other ≡ Less)
-
--- the end of a text, or the rest from a dot or a slash on
-abbrev pub is_prefix_end : List ℕ → Bool
-is_prefix_end [] = true
-is_prefix_end (b ∷ rest) = b == 46 || b == 47
 
 -- no mapping's prefix in a text has more bytes
 abbrev pub HasNoMappingBeyond : Content → Option Segments → List ℕ → ℕ → Type 0

@@ -5,18 +5,13 @@ use Rattle.std.specs.Option.{option_map_or}
 use Rattle.sp_base.specs.Texts.{Segments}
 use Rattle.sp_base.specs.Properties.{value_texts}
 use Rattle.sp_base.specs.declared.value.Value.{Value}
-use Rattle.sp_base.specs.declared.value.Value.TheVariants.{Text, Long, Truth, Texts, Longs, Truths}
+use Rattle.sp_base.specs.declared.value.Value.TheVariants.{Long}
 use Rattle.resource_tree.specs.Content.{Content, node_at, prop_at}
 
 -- a value that is a number
 abbrev pub mapping_number : Option Value → Option ℤ
-mapping_number None = None
 mapping_number (Some (Long n)) = Some n
-mapping_number (Some (Text t)) = None
-mapping_number (Some (Texts ts)) = None
-mapping_number (Some (Truth b)) = None
-mapping_number (Some (Longs ns)) = None
-mapping_number (Some (Truths bs)) = None
+mapping_number _ = None
 
 -- whether a test holds for one of the texts under a name of the node at a path
 abbrev pub any_text_at : Content → Segments → List ℕ → (List ℕ → Bool) → Bool

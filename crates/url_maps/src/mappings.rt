@@ -2,7 +2,7 @@
 ghost use Rattle.std.specs.Prelude.{◌≡◌, ◌↔◌, IfOk, IsTrue, Some, option_and_then, option_copied};
 ghost use Rattle.sp_base.specs.Paths.{path_or_none};
 ghost use Rattle.url_maps.specs.Mappings.{IsPlain, has_match, redirect_status, mapping_status};
-ghost use Rattle.url_maps.specs.Patterns.{host_of};
+ghost use Rattle.url_maps.specs.Patterns.{node_of_host};
 ghost use Rattle.url_maps.specs.Search.{IsBeyond, IsMappingOf, IsMappingPair, mapped_path};
 
 use crate::asked::HostText;
@@ -24,8 +24,8 @@ pub(crate) fn mapping_within(
     reach: usize,
     prefix: &str,
 ) -> Mem<Option<Pair>>
-    requires { IsBeyond tree.now (host_of asked.now) prefix.now reach }
-    ensures { IfOk result (IsMappingOf tree.now (host_of asked.now) prefix.now) }
+    requires { IsBeyond tree.now (node_of_host asked.now) prefix.now reach }
+    ensures { IfOk result (IsMappingOf tree.now (node_of_host asked.now) prefix.now) }
 {
     // `len` says that nodes are at paths alone.
     let _ = tree.len();
@@ -40,7 +40,7 @@ pub(crate) fn mapping_within(
 
 // The path of the host node, if there is one.
 pub(crate) fn host_node_of(asked: &Option<HostText>) -> Option<&Path>
-    ensures { option_copied result ≡ option_and_then path_or_none (host_of asked.now) }
+    ensures { option_copied result ≡ option_and_then path_or_none (node_of_host asked.now) }
 {
     match asked {
         Some(asked) => asked.host_node(),

@@ -1,6 +1,6 @@
 // How far into a text the prefix of a mapping may reach.
 ghost use Rattle.std.specs.Prelude.{◌≡◌, ◌++◌, IfOk, Some};
-ghost use Rattle.url_maps.specs.Patterns.{host_of};
+ghost use Rattle.url_maps.specs.Patterns.{node_of_host};
 ghost use Rattle.url_maps.specs.Search.{HasNoMappingBeyond, IsBarredAt, is_passable};
 
 use crate::asked::HostText;
@@ -17,7 +17,7 @@ pub(crate) fn reach_of(
     asked: &Option<HostText>,
     text: &str,
 ) -> Mem<usize>
-    ensures { IfOk result (HasNoMappingBeyond tree.now (host_of asked.now) text.now) }
+    ensures { IfOk result (HasNoMappingBeyond tree.now (node_of_host asked.now) text.now) }
 {
     // `len` says that nodes are at paths alone.
     let _ = tree.len();

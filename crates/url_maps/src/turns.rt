@@ -1,10 +1,11 @@
 //! The turns in which a text is mapped.
 ghost use Rattle.std.specs.Prelude.{◌≡◌, ◌==◌, ◌++◌, true, IfOk, length, option_copied, slice_index};
+ghost use Rattle.regex_rules.specs.Fronts.{may_cut};
 ghost use Rattle.url_maps.specs.Answers.{map_answer};
 ghost use Rattle.url_maps.specs.Claims.{IsIndexOf};
 ghost use Rattle.url_maps.specs.Found.{IsLongestPair, IsTextOf, pair_if_at};
-ghost use Rattle.url_maps.specs.Patterns.{host_of};
-ghost use Rattle.url_maps.specs.Search.{HasNoMappingBeyond, IsBest, IsBeyond, IsLastSeparator, IsOf, IsShorter, IsTurn, is_prefix_end, is_separator};
+ghost use Rattle.url_maps.specs.Patterns.{node_of_host};
+ghost use Rattle.url_maps.specs.Search.{HasNoMappingBeyond, IsBest, IsBeyond, IsLastSeparator, IsOf, IsShorter, IsTurn, is_separator};
 ghost use Rattle.url_maps.specs.Turns.{IsMapped, target_ending};
 
 use crate::asked::HostText;
@@ -118,7 +119,7 @@ impl MapIndex {
         text: &str,
     ) -> Mem<Option<MappingStep>>
         requires index { IsIndexOf tree.now self.now }
-        requires reach { HasNoMappingBeyond tree.now (host_of asked.now) text.now known.now.reach }
+        requires reach { HasNoMappingBeyond tree.now (node_of_host asked.now) text.now known.now.reach }
         requires pattern { IsLongestPair tree.now asked.now text.now known.now.pattern }
         ensures { IfOk result (IsTurn tree.now asked.now text.now) }
     {
@@ -142,7 +143,7 @@ impl MapIndex {
     fn known(&self, alloc: Global, tree: &Tree, asked: &Option<HostText>, text: &str) -> Mem<Known>
         requires index { IsIndexOf tree.now self.now }
         requires text { IsTextOf asked.now text.now }
-        ensures reach { IfOk result (λ known. HasNoMappingBeyond tree.now (host_of asked.now) text.now known.reach) }
+        ensures reach { IfOk result (λ known. HasNoMappingBeyond tree.now (node_of_host asked.now) text.now known.reach) }
         ensures pattern { IfOk result (λ known. IsLongestPair tree.now asked.now text.now known.pattern) }
     {
         Ok(Known {
@@ -161,8 +162,8 @@ impl MapIndex {
         cut: &Cut,
     ) -> Mem<Option<Pair>>
         requires index { IsIndexOf tree.now self.now }
-        requires cut { is_prefix_end cut.now.rest.now ≡ true }
-        requires reach { IsBeyond tree.now (host_of asked.now) cut.now.prefix.now known.now.reach }
+        requires cut { may_cut cut.now.rest.now ≡ true }
+        requires reach { IsBeyond tree.now (node_of_host asked.now) cut.now.prefix.now known.now.reach }
         requires pattern { IsOf PairKind.Pattern tree.now asked.now cut.now.prefix.now (pair_if_at (length cut.now.prefix.now) known.now.pattern) }
         ensures { IfOk result (IsBest tree.now asked.now cut.now.prefix.now cut.now.rest.now) }
     {

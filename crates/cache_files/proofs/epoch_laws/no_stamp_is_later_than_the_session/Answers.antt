@@ -27,7 +27,7 @@ returns-clause-put c = λ files key stamp answer session before.
       epoch_head = apart.epoch_head key page;
     } in
     (put_states laws files key stamp answer _ names
-    (c.texts_are_read_back.ensures.head stamp.epoch stamp.count (length answer.body) answer.kind put.epoch put.count put.size put.storable.kind) small before).whole
+    (c.texts_are_read_back.ensures.head stamp (length answer.body) answer.kind put.epoch put.count put.size put.storable.kind) small before).whole
 
 pub returns-clause-dropped : goal.returns-clause-dropped
 returns-clause-dropped c = λ files key page before.
@@ -50,10 +50,10 @@ pub returns-clause-touched : goal.returns-clause-touched
 returns-clause-touched c = λ files folder stamp session before.
     let bytes = session.bytes in
     let name = stat_name folder in
-    let text = stat_text stamp.epoch stamp.count in
+    let text = stat_text stamp in
     let apart = c.names_are_apart.ensures in
-    stat_file files (with_file files name text) name text stamp.epoch stamp.count (λ other. c.files_have_names.ensures.beside files name other text)
-    (c.files_have_names.ensures.written files name text) (c.texts_are_read_back.ensures.stat stamp.epoch stamp.count session.epoch session.count) session.session
+    stat_file files (with_file files name text) name text stamp (λ other. c.files_have_names.ensures.beside files name other text)
+    (c.files_have_names.ensures.written files name text) (c.texts_are_read_back.ensures.stat stamp session.epoch session.count) session.session
     (λ key page e. apart.stat_head folder key bytes page (sym e)) (λ e. apart.epoch_stat folder bytes (sym e)) before
 
 pub returns-clause-removed : goal.returns-clause-removed
@@ -81,7 +81,7 @@ returns-clause-put_failed c = λ files new key stamp answer session left before.
       epoch_head = apart.epoch_head key page;
     } in
     let states = put_states laws files key stamp answer _ names
-    (c.texts_are_read_back.ensures.head stamp.epoch stamp.count (length answer.body) answer.kind put.epoch put.count put.size put.storable.kind) small before in
+    (c.texts_are_read_back.ensures.head stamp (length answer.body) answer.kind put.epoch put.count put.size put.storable.kind) small before in
     put_left HasNoLaterStamp files new key stamp answer before states.bare states.half states.whole left
 
 pub returns-clause-drop_failed : goal.returns-clause-drop_failed

@@ -15,7 +15,7 @@ use Rattle.docroot_changes.proofs.laws.what_a_touch_sets.Goals as goal
 pub returns-clause-stopped : goal.returns-clause-stopped
 returns-clause-stopped c = λ result before after folder stamp may epoch count stopped.
     let failed = c.a_failed_touch_leaves_the_old_stamp_or_the_new.ensures in
-    let text = stat_text stamp.epoch stamp.count in
+    let text = stat_text stamp in
     if_err result (IsLeftByFault before (told_with_stamp before folder stamp) after) (λ fault. Told (MayTouch folder stamp fault) before after)
     (λ fault left.
     told_touch (MayTouch folder stamp fault) before after folder stamp fault

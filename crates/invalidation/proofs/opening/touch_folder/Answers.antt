@@ -21,4 +21,4 @@ returns-clause-touched g c =
 pub returns-clause-calls : goal.returns-clause-calls
 returns-clause-calls g c =
     let stamp = c.args.stamp in
-    c.stamps_take_docroot_calls.ensures.touched c.touch.result (g.D.Disk.calls c.args.disk.now) (g.D.Disk.calls c.touch.new.disk) c.args.folder.now (stat_text stamp.epoch stamp.count) c.requires.path c.touch.ensures.made
+    c.stamps_take_docroot_calls.ensures.touched c.touch.result (g.D.Disk.calls c.args.disk.now) (g.D.Disk.calls c.touch.new.disk) c.args.folder.now (stat_text stamp) c.requires.path c.touch.ensures.made

@@ -16,22 +16,22 @@ left : (files new : Files) (name bytes : List ℕ) (fault : FileFault) → IsLef
 left files new name bytes fault h = ⊎_elim (λ same. inl (some_same new files same)) (λ w. inr (w.0, some_same new (with_file files name bytes) w.1)) h
 
 pub returns-clause-whole : goal.returns-clause-whole
-returns-clause-whole c = λ files new folder stamp fault h. left files new (stat_name folder) (stat_text stamp.epoch stamp.count) fault h
+returns-clause-whole c = λ files new folder stamp fault h. left files new (stat_name folder) (stat_text stamp) fault h
 
 pub returns-clause-stamp : goal.returns-clause-stamp
 returns-clause-stamp c = λ files new folder stamp fault epoch count h.
     ⊎_elim (λ same. inl (ap (λ f. stamp_at f folder) same))
     (λ w. inr (ap (λ f. stamp_at f folder) w.1 ∙ c.a_stamp_is_read_back.ensures files folder stamp epoch count))
-    (left files new (stat_name folder) (stat_text stamp.epoch stamp.count) fault h)
+    (left files new (stat_name folder) (stat_text stamp) fault h)
 
 pub returns-clause-others : goal.returns-clause-others
 returns-clause-others c = λ files new folder stamp fault text h other more differ.
     ⊎_elim (λ same. ap (λ f. stamp_at f other) same)
-    (λ w. ap (λ f. stamp_at f other) w.1 ∙ c.stamps_have_files_of_their_own.ensures.touched files folder (stat_text stamp.epoch stamp.count) text other more differ)
-    (left files new (stat_name folder) (stat_text stamp.epoch stamp.count) fault h)
+    (λ w. ap (λ f. stamp_at f other) w.1 ∙ c.stamps_have_files_of_their_own.ensures.touched files folder (stat_text stamp) text other more differ)
+    (left files new (stat_name folder) (stat_text stamp) fault h)
 
 pub returns-clause-beside : goal.returns-clause-beside
 returns-clause-beside c = λ files new folder stamp fault name h differ.
     ⊎_elim (λ same. ap (λ f. file_at f name) same)
-    (λ w. ap (λ f. file_at f name) w.1 ∙ c.files_have_names.ensures.beside files (stat_name folder) name (stat_text stamp.epoch stamp.count) differ)
-    (left files new (stat_name folder) (stat_text stamp.epoch stamp.count) fault h)
+    (λ w. ap (λ f. file_at f name) w.1 ∙ c.files_have_names.ensures.beside files (stat_name folder) name (stat_text stamp) differ)
+    (left files new (stat_name folder) (stat_text stamp) fault h)

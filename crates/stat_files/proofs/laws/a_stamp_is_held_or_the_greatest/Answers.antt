@@ -11,12 +11,12 @@ same : (stamp other : Stamp) → Some stamp ≡ Some other → stamp ≡ other
 same stamp other e = cc (e)
 
 -- by what the file reads as
-by_reading : (read : Option (ℕ × ℕ)) (stamp : Stamp) → stamp_or_greatest read ≡ stamp → (read ≡ Some (stamp.epoch, stamp.count)) ⊎ ((read ≡ None) × (stamp ≡ greatest_stamp))
+by_reading : (read : Option Stamp) (stamp : Stamp) → stamp_or_greatest read ≡ stamp → (read ≡ Some stamp) ⊎ ((read ≡ None) × (stamp ≡ greatest_stamp))
 by_reading None stamp e = inr (refl, sym e)
-by_reading (Some (epoch, count)) stamp e = inl (ap (λ (s : Stamp). let held : Option (ℕ × ℕ) = Some (s.epoch, s.count) in held) e)
+by_reading (Some held) stamp e = inl (ap Some e)
 
 by_file : (found : Option (List ℕ)) (stamp : Stamp) → option_map stamp_in found ≡ Some stamp
-    → (option_and_then stat_of found ≡ Some (stamp.epoch, stamp.count)) ⊎ ((option_and_then stat_of found ≡ None) × (stamp ≡ greatest_stamp))
+    → (option_and_then stat_of found ≡ Some stamp) ⊎ ((option_and_then stat_of found ≡ None) × (stamp ≡ greatest_stamp))
 by_file None stamp e = absurd cc
 by_file (Some bytes) stamp e = by_reading (stat_of bytes) stamp (same (stamp_in bytes) stamp e)
 

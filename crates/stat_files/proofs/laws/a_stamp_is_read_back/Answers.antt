@@ -7,5 +7,5 @@ use Rattle.stat_files.proofs.laws.a_stamp_is_read_back.Goals as goal
 
 pub returns : goal.returns
 returns c = λ files folder stamp epoch count.
-    ap (option_map stamp_in) (c.files_have_names.ensures.written files (stat_name folder) (stat_text stamp.epoch stamp.count))
-    ∙ ap (λ read. Some (stamp_or_greatest read)) (c.texts_are_read_back.ensures.stat stamp.epoch stamp.count epoch count)
+    ap (option_map stamp_in) (c.files_have_names.ensures.written files (stat_name folder) (stat_text stamp))
+    ∙ ap (λ read. Some (stamp_or_greatest read)) (c.texts_are_read_back.ensures.stat stamp epoch count)

@@ -14,5 +14,5 @@ returns-clause-touched c = λ level files key stamp page epoch count.
 pub returns-clause-beside : goal.returns-clause-beside
 returns-clause-beside c = λ level auto files key folder stamp page own more differ.
     ap (λ o. auto && outdates_page (option_map stamp_in o) page)
-    (c.files_have_names.ensures.beside files (stat_name folder) (stat_name (stat_folder level key)) (stat_text stamp.epoch stamp.count)
+    (c.files_have_names.ensures.beside files (stat_name folder) (stat_name (stat_folder level key)) (stat_text stamp)
     (λ e. differ (sym (c.names_are_apart.ensures.stats (stat_folder level key) folder (first_bytes (stat_depth_of level key) key.folder own.folder_bytes) more e))))

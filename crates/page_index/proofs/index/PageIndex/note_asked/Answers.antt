@@ -4,7 +4,7 @@ use Rattle.page_index.specs.Held.{held_note}
 use Rattle.page_index.specs.Limits.{longest_kept}
 use Rattle.page_index.specs.Notes.{page_noted}
 use Rattle.page_index.proofs.IndexLemmas.{forgotten_set, no_longer_than, none_lent, noted_older, on_err, on_ok, taken_older, taken_set, with_older}
-use Rattle.page_index.proofs.index.PageIndex.asked.Goals as goal
+use Rattle.page_index.proofs.index.PageIndex.note_asked.Goals as goal
 
 pub returns-in-Some-clause-ok : goal.returns-in-Some-clause-ok
 returns-in-Some-clause-ok c =

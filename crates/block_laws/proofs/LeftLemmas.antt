@@ -8,9 +8,9 @@ use Rattle.htl_syntax.specs.Tokens.{is_blank, is_quote}
 use Rattle.htl_blocks.specs.declared.attribute.Attribute.{Attribute}
 use Rattle.htl_blocks.specs.declared.quoting.Quoting.{Quoting}
 use Rattle.htl_blocks.specs.declared.quoting.Quoting.TheVariants.{Outside, Within}
-use Rattle.htl_blocks.specs.Markup.{begins_tag, quoting_step}
+use Rattle.htl_blocks.specs.Markup.{begins_tag, markup_quoting_step}
 use Rattle.htl_blocks.specs.Attributes.{begins_statement, is_block_tag, statement_prefix}
-use Rattle.htl_blocks.specs.Spelling.{text_of}
+use Rattle.htl_blocks.specs.Spelling.{whole_text}
 use Rattle.block_laws.specs.PartKinds.{quoting_after, HoldsOfNone}
 use Rattle.block_laws.specs.TagStatements.{AreBlanks, ArePiecesApart, goes_on_after_values, IsApart, IsCutAtStatement, SpellsTag}
 use Rattle.block_laws.proofs.Scans.{scan_none}
@@ -20,14 +20,14 @@ use Rattle.block_laws.proofs.TagLemmas.{statement_scans}
 
 after_both : (quoting : Quoting) (s t : Text) → quoting_after quoting (s ++ t) ≡ quoting_after (quoting_after quoting s) t
 after_both quoting [] t = refl
-after_both quoting (c ∷ s) t = after_both (quoting_step quoting c) s t
+after_both quoting (c ∷ s) t = after_both (markup_quoting_step quoting c) s t
 
 -- quotes are opened by quote marks
 abbrev AreQuotes : Quoting → Type 0
 AreQuotes Outside = Unit {0}
 AreQuotes (Within mark) = is_quote mark ≡ true
 
-step_quotes : (quoting : Quoting) (c : ℕ) → AreQuotes quoting → AreQuotes (quoting_step quoting c)
+step_quotes : (quoting : Quoting) (c : ℕ) → AreQuotes quoting → AreQuotes (markup_quoting_step quoting c)
 step_quotes Outside c are = go (is_quote c) refl
   where
     go : (b : Bool) → is_quote c ≡ b → AreQuotes (cond b (Within c) Outside)
@@ -41,7 +41,7 @@ step_quotes (Within mark) c are = go (eqb c mark)
 
 after_quotes : (quoting : Quoting) (s : Text) → AreQuotes quoting → AreQuotes (quoting_after quoting s)
 after_quotes quoting [] are = are
-after_quotes quoting (c ∷ s) are = after_quotes (quoting_step quoting c) s (step_quotes quoting c are)
+after_quotes quoting (c ∷ s) are = after_quotes (markup_quoting_step quoting c) s (step_quotes quoting c are)
 
 blank_no_quote : (c : ℕ) → is_blank c ≡ true → is_quote c ≡ false
 blank_no_quote c e = grind (arith, nat_tests)
@@ -53,7 +53,7 @@ blank_no_mark c mark e q = go (eqb c mark) refl
     go true is = let clash : true ≡ false = sym q ∙ ap is_quote (sym (eqb-true c mark is)) ∙ blank_no_quote c e in absurd cc
     go false is = refl
 
-blank_step : (quoting : Quoting) (c : ℕ) → AreQuotes quoting → is_blank c ≡ true → quoting_step quoting c ≡ quoting
+blank_step : (quoting : Quoting) (c : ℕ) → AreQuotes quoting → is_blank c ≡ true → markup_quoting_step quoting c ≡ quoting
 blank_step Outside c are e = rw (blank_no_quote c e) refl
 blank_step (Within mark) c are e = rw (blank_no_mark c mark e are) refl
 
@@ -108,19 +108,19 @@ no_other_statement Outside c s old new apart e = go (is_blank c && starts_with n
 
 other_later : (quoting : Quoting) (s old new : Text) → IsApart new → HoldsOfNone begins_statement quoting s old → HoldsOfNone begins_statement quoting s new
 other_later quoting [] old new apart none = tt
-other_later quoting (c ∷ s) old new apart none = (no_other_statement quoting c s old new apart none.0, other_later (quoting_step quoting c) s old new apart none.1)
+other_later quoting (c ∷ s) old new apart none = (no_other_statement quoting c s old new apart none.0, other_later (markup_quoting_step quoting c) s old new apart none.1)
 
 -- ---- two texts, one after the other
 
 front : (test : Quoting → ℕ → Text → Bool) (quoting : Quoting) (s t later : Text) → HoldsOfNone test quoting (s ++ t) later → HoldsOfNone test quoting s (t ++ later)
 front test quoting [] t later none = tt
-front test quoting (c ∷ s) t later none = (ap (test quoting c) (sym (append_assoc s t later)) ∙ none.0, front test (quoting_step quoting c) s t later none.1)
+front test quoting (c ∷ s) t later none = (ap (test quoting c) (sym (append_assoc s t later)) ∙ none.0, front test (markup_quoting_step quoting c) s t later none.1)
 
 joined : (test : Quoting → ℕ → Text → Bool) (quoting : Quoting) (s t : Text) → HoldsOfNone test quoting s t → HoldsOfNone test (quoting_after quoting s) t [] → HoldsOfNone test quoting (s ++ t) []
 joined test quoting [] t one two = two
-joined test quoting (c ∷ s) t one two = (ap (test quoting c) (append-nil (s ++ t)) ∙ one.0, joined test (quoting_step quoting c) s t one.1 two)
+joined test quoting (c ∷ s) t one two = (ap (test quoting c) (append-nil (s ++ t)) ∙ one.0, joined test (markup_quoting_step quoting c) s t one.1 two)
 
-apart_text : (pieces : List Text) → AllByRecursion IsApart pieces → IsApart (text_of pieces)
+apart_text : (pieces : List Text) → AllByRecursion IsApart pieces → IsApart (whole_text pieces)
 apart_text [] all = tt
 apart_text ([] ∷ pieces) all = apart_text pieces all.1
 apart_text ((c ∷ piece) ∷ pieces) all = all.0
@@ -129,19 +129,19 @@ fewer_apart : (pieces : List Text) → AllByRecursion IsApart pieces → ArePiec
 fewer_apart [] all = tt
 fewer_apart (piece ∷ pieces) all = all.1
 
-left_of : (t : Text) (pieces : List Text) (each : List Attribute) → SpellsTag t pieces each → ArePiecesApart pieces → HoldsOfNone begins_statement Outside (text_of pieces) []
+left_of : (t : Text) (pieces : List Text) (each : List Attribute) → SpellsTag t pieces each → ArePiecesApart pieces → HoldsOfNone begins_statement Outside (whole_text pieces) []
 left_of t _ _ (SpellsTag.Last none) apart = subst (λ (u : Text). HoldsOfNone begins_statement Outside u []) (sym (append-nil t)) none
 left_of t _ _ (SpellsTag.More {kept = kept} {from = from} {later = later} {pieces = pieces} {each = each} cut begins spelled) apart =
     let before = front begins_statement Outside kept cut.blanks (cut.blank ∷ from) cut.first in
-    let one = other_later Outside kept (cut.blanks ++ cut.blank ∷ from) (text_of pieces) (apart_text pieces apart) before in
+    let one = other_later Outside kept (cut.blanks ++ cut.blank ∷ from) (whole_text pieces) (apart_text pieces apart) before in
     let ih = left_of later pieces each spelled (fewer_apart pieces apart) in
-    let two = subst (λ (q : Quoting). HoldsOfNone begins_statement q (text_of pieces) []) (sym (kept_outside t kept from cut)) ih in
-    joined begins_statement Outside kept (text_of pieces) one two
+    let two = subst (λ (q : Quoting). HoldsOfNone begins_statement q (whole_text pieces) []) (sym (kept_outside t kept from cut)) ih in
+    joined begins_statement Outside kept (whole_text pieces) one two
 
-pub none_left : (tag : Text) (pieces : List Text) (each : List Attribute) → SpellsTag tag pieces each → ArePiecesApart pieces → is_block_tag (text_of pieces) ≡ false
+pub none_left : (tag : Text) (pieces : List Text) (each : List Attribute) → SpellsTag tag pieces each → ArePiecesApart pieces → is_block_tag (whole_text pieces) ≡ false
 unfolding is_block_tag
 none_left tag pieces each spelled apart =
-    let left = text_of pieces in
+    let left = whole_text pieces in
     let place = statement_scans Outside 0 left ∙ scan_none begins_statement Outside 0 left (left_of tag pieces each spelled apart) in
     ap (λ (o : Option ℕ). begins_tag left && not (is_none o)) place ∙ go (begins_tag left)
   where

@@ -9,8 +9,8 @@ use Rattle.htl_syntax.specs.Tokens.{begins, is_letter}
 use Rattle.htl_blocks.specs.declared.byte_run.ByteRun.TheVariants as run
 use Rattle.htl_blocks.specs.declared.quoting.Quoting.{Quoting}
 use Rattle.htl_blocks.specs.declared.quoting.Quoting.TheVariants.{Outside, Within}
-use Rattle.htl_blocks.specs.Markup.{begins_end_tag, begins_tag, ended_len, ends, ends_after_name, ends_tag, is_name_byte, name_len, part_len, parts, parts_after, quoting_step, run_bytes, tag_end, tag_len}
-use Rattle.htl_blocks.specs.Spelling.{text_of}
+use Rattle.htl_blocks.specs.Markup.{begins_end_tag, begins_tag, ended_len, ends, ends_after_name, ends_tag, is_name_byte, name_len, part_len, parts, parts_after, markup_quoting_step, run_bytes, tag_end, tag_len}
+use Rattle.htl_blocks.specs.Spelling.{whole_text}
 use Rattle.block_laws.specs.PartKinds.{quoting_after, HoldsOfNone, ends_tag_before, IsName, end_tag_of, BeginsNoEndTag, IsPart, AreParts}
 use Rattle.block_laws.proofs.Scans.{take_all, drop_all, cut_behind, scan, Finds, scan_finds, scan_is, scan_none, Run, run_found, run_is}
 
@@ -19,7 +19,7 @@ use Rattle.block_laws.proofs.Scans.{take_all, drop_all, cut_behind, scan, Finds,
 tag_end_scans : (quoting : Quoting) (n : ℕ) (t : Text) → tag_end quoting n t ≡ scan ends_tag_before quoting n t
 unfolding tag_end
 tag_end_scans quoting n [] = refl
-tag_end_scans quoting n (c ∷ t) = ap (λ (o : Option ℕ). cond (ends_tag quoting c) (Some n) o) (tag_end_scans (quoting_step quoting c) (n + 1) t)
+tag_end_scans quoting n (c ∷ t) = ap (λ (o : Option ℕ). cond (ends_tag quoting c) (Some n) o) (tag_end_scans (markup_quoting_step quoting c) (n + 1) t)
 
 end_is : (quoting : Quoting) (c : ℕ) → ends_tag quoting c ≡ true → (quoting ≡ Outside) × (c ≡ 62)
 end_is Outside c e = (refl, eqb-true c 62 e)
@@ -221,8 +221,8 @@ parts_none : parts [] ≡ []
 unfolding parts_after
 parts_none = refl
 
-each_within : (n : ℕ) (t : Text) → length t ≤ n → (text_of (parts t) ≡ t) × AreParts (parts t)
-each_within n [] h = subst (λ (ps : List Text). (text_of ps ≡ []) × AreParts ps) (sym parts_none) (refl, tt)
+each_within : (n : ℕ) (t : Text) → length t ≤ n → (whole_text (parts t) ≡ t) × AreParts (parts t)
+each_within n [] h = subst (λ (ps : List Text). (whole_text ps ≡ []) × AreParts ps) (sym parts_none) (refl, tt)
 each_within zero (c ∷ t) h = absurd (omega (arith, h))
 each_within (suc n) (c ∷ t) h =
     let k = part_len (c ∷ t) in
@@ -230,7 +230,7 @@ each_within (suc n) (c ∷ t) h =
     let one = nonzero k (c ∷ t) (is_part (take k (c ∷ t)) (drop k (c ∷ t)) first).1 in
     let left = length-drop k (c ∷ t) in
     let ih = each_within n (drop k (c ∷ t)) (omega (arith, h, one, left)) in
-    subst (λ (ps : List Text). (text_of ps ≡ c ∷ t) × AreParts ps) (sym (parts_step c t one))
+    subst (λ (ps : List Text). (whole_text ps ≡ c ∷ t) × AreParts ps) (sym (parts_step c t one))
     (ap (λ (u : Text). take k (c ∷ t) ++ u) ih.0 ∙ take-append-drop k (c ∷ t), (subst (IsPart (take k (c ∷ t))) (sym ih.0) first, ih.1))
 
 -- each part of a text is of a kind
@@ -244,8 +244,8 @@ step_with (c ∷ t) later part whole len some =
     parts_step c t (omega (arith, len, some)) ∙ ap (λ (p : Text). p ∷ parts (drop (part_len (c ∷ t)) (c ∷ t))) cut.0 ∙ ap (λ (u : Text). part ∷ parts u) cut.1
 
 -- parts of the kinds are those of their text
-pub only_parts : (ps : List Text) → AreParts ps → parts (text_of ps) ≡ ps
+pub only_parts : (ps : List Text) → AreParts ps → parts (whole_text ps) ≡ ps
 only_parts [] x = parts_none
 only_parts (part ∷ ps) x =
-    let k = is_part part (text_of ps) x.0 in
-    step_with (part ++ text_of ps) (text_of ps) part refl k.0 k.1 ∙ ap (λ (more : List Text). part ∷ more) (only_parts ps x.1)
+    let k = is_part part (whole_text ps) x.0 in
+    step_with (part ++ whole_text ps) (whole_text ps) part refl k.0 k.1 ∙ ap (λ (more : List Text). part ∷ more) (only_parts ps x.1)

@@ -5,7 +5,7 @@ use Rattle.std.proofs.Math.Seq.{take-append_seam, drop-append_seam}
 use Rattle.std.specs.List.{list_all, position_or_len}
 use Rattle.sp_base.specs.Texts.{Text}
 use Rattle.htl_blocks.specs.declared.quoting.Quoting.{Quoting}
-use Rattle.htl_blocks.specs.Markup.{quoting_step}
+use Rattle.htl_blocks.specs.Markup.{markup_quoting_step}
 use Rattle.block_laws.specs.PartKinds.{quoting_after, HoldsOfNone}
 use Rattle.block_laws.specs.TagStatements.{Stops}
 
@@ -29,7 +29,7 @@ cut_behind w later t n whole len =
 -- its place, where the text begins at place n
 abbrev pub scan : (Quoting → ℕ → Text → Bool) → Quoting → ℕ → Text → Option ℕ
 scan test quoting n [] = None
-scan test quoting n (c ∷ t) = cond (test quoting c t) (Some n) (scan test (quoting_step quoting c) (n + 1) t)
+scan test quoting n (c ∷ t) = cond (test quoting c t) (Some n) (scan test (markup_quoting_step quoting c) (n + 1) t)
 
 -- the byte, with those before it and what follows it
 pub record FirstIs (test : Quoting → ℕ → Text → Bool) (quoting : Quoting) (n : ℕ) (t : Text) (m : ℕ) : Type 0 where
@@ -47,9 +47,9 @@ Finds test quoting n t (Some m) = FirstIs test quoting n t m
 
 pub scan_finds : (test : Quoting → ℕ → Text → Bool) (quoting : Quoting) (n : ℕ) (t : Text) → Finds test quoting n t (scan test quoting n t)
 scan_finds test quoting n [] = tt
-scan_finds test quoting n (c ∷ t) = go (test quoting c t) refl (scan test (quoting_step quoting c) (n + 1) t) (scan_finds test (quoting_step quoting c) (n + 1) t)
+scan_finds test quoting n (c ∷ t) = go (test quoting c t) refl (scan test (markup_quoting_step quoting c) (n + 1) t) (scan_finds test (markup_quoting_step quoting c) (n + 1) t)
   where
-    go : (b : Bool) → test quoting c t ≡ b → (o : Option ℕ) → Finds test (quoting_step quoting c) (n + 1) t o → Finds test quoting n (c ∷ t) (cond b (Some n) o)
+    go : (b : Bool) → test quoting c t ≡ b → (o : Option ℕ) → Finds test (markup_quoting_step quoting c) (n + 1) t o → Finds test quoting n (c ∷ t) (cond b (Some n) o)
     go true e o x = let here : n ≡ n + 0 = omega arith in record { before = []; byte = c; later = t; whole = refl; place = here; none = tt; holds = e }
     go false e None x = (ap (test quoting c) (append-nil t) ∙ e, x)
     go false e (Some m) x =
@@ -62,13 +62,13 @@ pub scan_is : (test : Quoting → ℕ → Text → Bool) (quoting : Quoting) (n 
 scan_is test quoting n [] c later none holds = let here : n ≡ n + 0 = omega arith in rw holds (ap Some here)
 scan_is test quoting n (d ∷ before) c later none holds =
     let there : (n + 1) + length before ≡ n + suc (length before) = omega arith in
-    rw none.0 (scan_is test (quoting_step quoting d) (n + 1) before c later none.1 holds ∙ ap Some there)
+    rw none.0 (scan_is test (markup_quoting_step quoting d) (n + 1) before c later none.1 holds ∙ ap Some there)
 
 pub scan_none : (test : Quoting → ℕ → Text → Bool) (quoting : Quoting) (n : ℕ) (t : Text) → HoldsOfNone test quoting t [] → scan test quoting n t ≡ None
 scan_none test quoting n [] none = refl
 scan_none test quoting n (c ∷ t) none =
     let here : test quoting c t ≡ false = ap (test quoting c) (sym (append-nil t)) ∙ none.0 in
-    rw here (scan_none test (quoting_step quoting c) (n + 1) t none.1)
+    rw here (scan_none test (markup_quoting_step quoting c) (n + 1) t none.1)
 
 -- ---- runs
 

@@ -10,9 +10,9 @@ use Rattle.htl_blocks.specs.declared.attribute.Attributes.{Attributes}
 use Rattle.htl_blocks.specs.declared.quoting.Quoting.{Quoting}
 use Rattle.htl_blocks.specs.declared.quoting.Quoting.TheVariants.{Outside}
 use Rattle.htl_blocks.specs.declared.statement.Statement.{Statement}
-use Rattle.htl_blocks.specs.Markup.{quoting_step}
+use Rattle.htl_blocks.specs.Markup.{markup_quoting_step}
 use Rattle.htl_blocks.specs.Attributes.{added, after_attribute, attribute_of, attributes_read, begins_statement, end_trimmed, key_len, known_attribute, no_attributes, split_at_blank, statement_attribute, statement_of, statement_place, statement_split, tag_attributes, to_statement, unquoted, value_read, with_attribute, with_known, ValueText}
-use Rattle.htl_blocks.specs.Spelling.{text_of}
+use Rattle.htl_blocks.specs.Spelling.{whole_text}
 use Rattle.block_laws.specs.PartKinds.{quoting_after, HoldsOfNone}
 use Rattle.block_laws.specs.TagStatements.{is_key_byte, AreBlanks, HasValue, BeginsWith, EndsInNoBlank, IsCutAtStatement, SpellsTag, IsTagWith}
 use Rattle.block_laws.proofs.Scans.{cut_behind, scan, FirstIs, Finds, scan_finds, scan_is, scan_none, Run}
@@ -144,7 +144,7 @@ end_is (c ∷ kept) blanks all ends =
 pub statement_scans : (quoting : Quoting) (n : ℕ) (t : Text) → statement_place quoting n t ≡ scan begins_statement quoting n t
 unfolding statement_place
 statement_scans quoting n [] = refl
-statement_scans quoting n (c ∷ t) = ap (λ (o : Option ℕ). cond (begins_statement quoting c t) (Some n) o) (statement_scans (quoting_step quoting c) (n + 1) t)
+statement_scans quoting n (c ∷ t) = ap (λ (o : Option ℕ). cond (begins_statement quoting c t) (Some n) o) (statement_scans (markup_quoting_step quoting c) (n + 1) t)
 
 abbrev Splits : Text → Option (Text × Text) → Type 0
 Splits t None = HoldsOfNone begins_statement Outside t []
@@ -203,7 +203,7 @@ record ReadAs (found : Attributes) (kept t : Text) (a : Attributes) (all : Text)
   pieces : List Text
   each : List Attribute
   spelled : SpellsTag t pieces each
-  left : all ≡ kept ++ text_of pieces
+  left : all ≡ kept ++ whole_text pieces
   gathers : gathered (Some found) each ≡ Some a
 
 some_same : {X : Type 0} (x y : X) → Some x ≡ Some y → x ≡ y
@@ -231,7 +231,7 @@ tag_read (suc turns) found kept t a all h e = go (λ next front rest. tag_read t
         let one = begins_shorter x.1 b (after_attribute x.1) begins in
         let two = cut_shorter t x.0 x.1 cut in
         let ih = later next (kept ++ x.0) (after_attribute x.1) (omega (arith, h, one, two)) read in
-        record { pieces = x.0 ∷ ih.pieces; each = b ∷ ih.each; spelled = SpellsTag.More cut begins ih.spelled; left = ih.left ∙ append_assoc kept x.0 (text_of ih.pieces); gathers = ap (λ (o : Option Attributes). gathered o ih.each) with ∙ ih.gathers }
+        record { pieces = x.0 ∷ ih.pieces; each = b ∷ ih.each; spelled = SpellsTag.More cut begins ih.spelled; left = ih.left ∙ append_assoc kept x.0 (whole_text ih.pieces); gathers = ap (λ (o : Option Attributes). gathered o ih.each) with ∙ ih.gathers }
 
     add : Later → (x : Text × Text) (b : Attribute) → IsCutAtStatement t x.0 x.1 → attribute_of x.1 ≡ Some b → (o : Option Attributes) → with_attribute found b ≡ o
         → added (λ found_too rest. attributes_read turns found_too (kept ++ x.0) rest) (after_attribute x.1) o ≡ Some (a, all) → ReadAs found kept t a all
@@ -253,7 +253,7 @@ tag_found tag kept a e =
     record { pieces = x.pieces; each = x.each; spelled = x.spelled; once = each_once x.each a x.gathers; left = x.left }
 
 spelled_read : (turns : ℕ) (found : Attributes) (kept t : Text) (a : Attributes) (pieces : List Text) (each : List Attribute) → length t ≤ turns → SpellsTag t pieces each → gathered (Some found) each ≡ Some a
-    → attributes_read turns found kept t ≡ Some (a, kept ++ text_of pieces)
+    → attributes_read turns found kept t ≡ Some (a, kept ++ whole_text pieces)
 unfolding attributes_read
 spelled_read zero found kept t a _ _ h (SpellsTag.Last none) e =
     let same : found ≡ a = cc in
@@ -272,9 +272,9 @@ spelled_read (suc turns) found kept t a _ _ h (SpellsTag.More {kept = front} {fr
     ∙ ap (λ (u : Text). added (λ found_too rest. attributes_read turns found_too (kept ++ front) rest) u (with_attribute found b)) is.1
     ∙ go (with_attribute found b) e (λ next g. spelled_read turns next (kept ++ front) later a pieces each (omega (arith, h, one, two)) spelled g)
   where
-    go : (o : Option Attributes) → gathered o each ≡ Some a → ((next : Attributes) → gathered (Some next) each ≡ Some a → attributes_read turns next (kept ++ front) later ≡ Some (a, (kept ++ front) ++ text_of pieces)) → added (λ found_too rest. attributes_read turns found_too (kept ++ front) rest) later o ≡ Some (a, kept ++ (front ++ text_of pieces))
+    go : (o : Option Attributes) → gathered o each ≡ Some a → ((next : Attributes) → gathered (Some next) each ≡ Some a → attributes_read turns next (kept ++ front) later ≡ Some (a, (kept ++ front) ++ whole_text pieces)) → added (λ found_too rest. attributes_read turns found_too (kept ++ front) rest) later o ≡ Some (a, kept ++ (front ++ whole_text pieces))
     go None g rest = let clash : None ≡ Some a = sym (none_gathered each) ∙ g in absurd cc
-    go (Some next) g rest = rest next g ∙ ap (λ (u : Text). Some (a, u)) (append_assoc kept front (text_of pieces))
+    go (Some next) g rest = rest next g ∙ ap (λ (u : Text). Some (a, u)) (append_assoc kept front (whole_text pieces))
 
 pub tag_only : (tag kept : Text) (a : Attributes) → IsTagWith tag a kept → tag_attributes tag ≡ Some (a, kept)
 tag_only tag kept a x =

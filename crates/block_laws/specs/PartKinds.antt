@@ -5,18 +5,18 @@ use Rattle.sp_base.specs.Texts.{Text}
 use Rattle.htl_syntax.specs.Tokens.{begins, is_letter}
 use Rattle.htl_blocks.specs.declared.quoting.Quoting.{Quoting}
 use Rattle.htl_blocks.specs.declared.quoting.Quoting.TheVariants.{Outside}
-use Rattle.htl_blocks.specs.Markup.{begins_tag, ends_tag, is_name_byte, quoting_step}
-use Rattle.htl_blocks.specs.Spelling.{text_of}
+use Rattle.htl_blocks.specs.Markup.{begins_tag, ends_tag, is_name_byte, markup_quoting_step}
+use Rattle.htl_blocks.specs.Spelling.{whole_text}
 
 -- where the byte after these stands, outside quotes or within
 abbrev pub quoting_after : Quoting → Text → Quoting
 quoting_after quoting [] = quoting
-quoting_after quoting (c ∷ t) = quoting_after (quoting_step quoting c) t
+quoting_after quoting (c ∷ t) = quoting_after (markup_quoting_step quoting c) t
 
 -- of none of these bytes something holds that looks at where a byte stands, at the byte, and at what follows it
 abbrev pub HoldsOfNone : (Quoting → ℕ → Text → Bool) → Quoting → Text → Text → Type 0
 HoldsOfNone test quoting [] later = Unit {0}
-HoldsOfNone test quoting (c ∷ t) later = (test quoting c (t ++ later) ≡ false) × HoldsOfNone test (quoting_step quoting c) t later
+HoldsOfNone test quoting (c ∷ t) later = (test quoting c (t ++ later) ≡ false) × HoldsOfNone test (markup_quoting_step quoting c) t later
 
 -- a ">" outside quotes, whatever follows it
 abbrev pub ends_tag_before : Quoting → ℕ → Text → Bool
@@ -45,4 +45,4 @@ pub data IsPart (part later : Text) : Type 0 where
 -- each of these texts is a part, by those that follow it
 abbrev pub AreParts : List Text → Type 0
 AreParts [] = Unit {0}
-AreParts (part ∷ more) = IsPart part (text_of more) × AreParts more
+AreParts (part ∷ more) = IsPart part (whole_text more) × AreParts more

@@ -17,7 +17,7 @@ use Rattle.htl_blocks.specs.declared.statement.Statement.{Statement}
 use Rattle.htl_blocks.specs.declared.statement.Statement.TheVariants as statement
 use Rattle.htl_blocks.specs.Attributes.{begins_statement, is_block_tag, ValueText, none, quoted, is_variable, with_value, unwraps}
 use Rattle.htl_blocks.specs.Markup.{ends_key}
-use Rattle.htl_blocks.specs.Spelling.{text_of}
+use Rattle.htl_blocks.specs.Spelling.{whole_text}
 use Rattle.block_laws.specs.PartKinds.{quoting_after, HoldsOfNone}
 
 -- ---- one statement
@@ -142,7 +142,7 @@ pub record IsTagWith (tag : Text) (a : Attributes) (kept : Text) : Type 0 where
   pub each : List Attribute
   pub spelled : SpellsTag tag pieces each
   pub once : HasEachOnce each a
-  pub left : kept ≡ text_of pieces
+  pub left : kept ≡ whole_text pieces
 
 -- ---- what is left of it
 
@@ -162,4 +162,4 @@ ArePiecesApart (first ∷ pieces) = AllByRecursion IsApart pieces
 
 -- of a tag of which the pieces are apart no statement is left
 abbrev pub HasNoStatementLeftIfApart : Text → List Text → List Attribute → Type 0
-HasNoStatementLeftIfApart tag pieces each = SpellsTag tag pieces each → ArePiecesApart pieces → is_block_tag (text_of pieces) ≡ false
+HasNoStatementLeftIfApart tag pieces each = SpellsTag tag pieces each → ArePiecesApart pieces → is_block_tag (whole_text pieces) ≡ false

@@ -9,7 +9,7 @@ ghost use Rattle.htl_blocks.specs.declared.block.Tag.{Tag};
 ghost use Rattle.htl_blocks.specs.declared.block.Block.{Block};
 ghost use Rattle.htl_blocks.specs.Attributes.{tag_attributes};
 ghost use Rattle.htl_blocks.specs.Markup.{parts};
-ghost use Rattle.htl_blocks.specs.Spelling.{text_of};
+ghost use Rattle.htl_blocks.specs.Spelling.{whole_text};
 ghost use Rattle.block_laws.specs.PartKinds.{AreParts};
 ghost use Rattle.block_laws.specs.TagStatements.{HasNoStatementLeftIfApart, IsTagWith};
 ghost use Rattle.block_laws.specs.Together.{IsWrittenAsWithoutTestIfTrue, IsWrittenAsWithoutTagsIfUnwrapped, IsWrittenAsWithoutUnwrapIfFalse, ListsRepeatWhatStandsWithin, TextsStandAsContent, BodiesStandAsContent};
@@ -42,7 +42,7 @@ pub fn a_body_is_written_as_the_content()
 /// No text has other parts of these kinds (`only`).
 pub fn each_part_is_of_a_kind()
     ensures each { (t : Text) → AreParts (parts t) }
-    ensures only { (ps : List Text) → AreParts ps → parts (text_of ps) ≡ ps }
+    ensures only { (ps : List Text) → AreParts ps → parts (whole_text ps) ≡ ps }
 {}
 
 /// A tag has statements, and without them it is a text, exactly where it is that text in pieces, with the statements and the blanks before each

@@ -10,14 +10,14 @@ use Rattle.overlay_merge.specs.Merged.{merged_resource}
 use Rattle.type_chain.specs.Chain.{chain_of}
 use Rattle.type_chain.specs.declared.type_name.TypeName.{TypeName}
 use Rattle.url_split.specs.declared.decompose.Parts.{Parts}
-use Rattle.script_rank.specs.Ranking.{HasNoCandidate, IsFirstScript, script_text}
+use Rattle.script_rank.specs.Ranking.{HasNoCandidate, IsFirstScript, is_script_name, script_text}
 use Rattle.script_rank.specs.Search.{search_result as first_script}
 use Rattle.htl_blocks.specs.declared.block.Block.{Block}
 use Rattle.htl_blocks.specs.declared.fault.BlockFault.{BlockFault}
 use Rattle.htl_blocks.specs.Parts.{Part, Script, Resource as ResourcePart}
 use Rattle.htl_blocks.specs.Reading.{blocks_of, most_nested_blocks}
 use Rattle.htl_blocks.specs.Spelling.{SpellsBlocks}
-use Rattle.publisher.specs.Pages.{Place, html_parts, included_resource, included_script, inclusion, is_script_name, joined, one_inclusion, parts_page, path_named, place_of, put_in, readable_blocks, resource_by, script_blocks, shown_resource, written_at, written_page}
+use Rattle.publisher.specs.Pages.{Place, html_parts, included_resource, included_script, inclusion, joined, one_inclusion, parts_page, path_named, place_for, put_in, readable_blocks, resource_by, script_blocks, written_resource, written_at, written_page}
 use Rattle.publisher.proofs.PageLemmas.{resource_is, script_is}
 use Rattle.publisher.proofs.ScriptLaw.{found_first}
 use Rattle.page_laws.specs.Inclusions.{HasScript, ScriptsStandForTheSameResource, ResourcesStandByTheirFirstScript, NothingStandsForMissingScripts, NothingStandsForMissingResources, PagesOfOneIncludeAreThatScripts, PagesOfOneResourceAreThatResources}
@@ -86,8 +86,8 @@ first_is known tree res script first =
 
 pub resources_stand : Known → ResourcesStandByTheirFirstScript
 resources_stand known tree levels place name res script blocks x =
-    put_in_stands tree levels place (ResourcePart name) (place_of script res) [] blocks
-    (ap (included_resource tree) x.named ∙ ap (shown_resource tree) x.seen ∙ ap (resource_by tree res) (first_is known tree res script x.first) ∙ ap (written_at (place_of script res) []) (blocks_there known tree script blocks x.has))
+    put_in_stands tree levels place (ResourcePart name) (place_for script res) [] blocks
+    (ap (included_resource tree) x.named ∙ ap (written_resource tree) x.seen ∙ ap (resource_by tree res) (first_is known tree res script x.first) ∙ ap (written_at (place_for script res) []) (blocks_there known tree script blocks x.has))
 
 pub no_script_stands : Known → NothingStandsForMissingScripts
 no_script_stands known tree levels place name vars apart = nothing_stands tree levels place (Script name vars) (go (path_named (parent_of place.script) name) refl)
@@ -103,9 +103,9 @@ no_resource_stands known tree levels place name apart = nothing_stands tree leve
         → (o : Option Segments) → IfSome o (IsFirstScript tree (chain_of tree res.props) (html_parts res.path)) → resource_by tree res o ≡ None
     scripted path res is seen None first = refl
     scripted path res is seen (Some script) first =
-        ap (written_at (place_of script res) []) (none_there known tree script (λ blocks has. apart res script blocks (record { path = path; named = is; seen = seen; first = first; has = has })))
+        ap (written_at (place_for script res) []) (none_there known tree script (λ blocks has. apart res script blocks (record { path = path; named = is; seen = seen; first = first; has = has })))
 
-    shown : (path : Segments) → path_named place.path name ≡ Some path → (o : Option Resource) → merged_resource tree path ≡ o → shown_resource tree o ≡ None
+    shown : (path : Segments) → path_named place.path name ≡ Some path → (o : Option Resource) → merged_resource tree path ≡ o → written_resource tree o ≡ None
     shown path is None seen = refl
     shown path is (Some res) seen = scripted path res is seen (first_script tree (chain_of tree res.props) (html_parts res.path)) (known.first tree (chain_of tree res.props) (html_parts res.path))
 

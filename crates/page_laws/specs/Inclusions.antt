@@ -6,13 +6,13 @@ use Rattle.resource_tree.specs.Content.{Content}
 use Rattle.resource_tree.specs.Seen.{Resource}
 use Rattle.overlay_merge.specs.Merged.{merged_resource}
 use Rattle.type_chain.specs.Chain.{chain_of}
-use Rattle.script_rank.specs.Ranking.{IsFirstScript, script_text}
+use Rattle.script_rank.specs.Ranking.{IsFirstScript, is_script_name, script_text}
 use Rattle.htl_blocks.specs.declared.block.Block.{Block}
 use Rattle.htl_blocks.specs.Parts.{Script, Resource as ResourcePart}
 use Rattle.htl_blocks.specs.Reading.{most_nested_blocks}
 use Rattle.htl_blocks.specs.Spelling.{SpellsBlocks}
 use Rattle.htl_blocks.specs.Written.{blocks_parts}
-use Rattle.publisher.specs.Pages.{Page, Place, bindings_at, blank, html_parts, inclusion, is_script_name, joined, one_inclusion, page_of, parts_page, path_named, place_of}
+use Rattle.publisher.specs.Pages.{Page, Place, bindings_at, blank, html_parts, inclusion, joined, one_inclusion, page_of, parts_page, path_named, place_for}
 
 -- the script at a path: its name is one of a script, and its text spells these blocks
 pub record HasScript (tree : Content) (path : Segments) (blocks : List Block) : Type 0 where
@@ -46,7 +46,7 @@ ScriptsStandForTheSameResource = (tree : Content) (levels : ℕ) (place : Place)
 -- for a resource stands its page by its first script, without variables
 abbrev pub ResourcesStandByTheirFirstScript : Type 0
 ResourcesStandByTheirFirstScript = (tree : Content) (levels : ℕ) (place : Place) (name : Text) (res : Resource) (script : Segments) (blocks : List Block) → LeadsToResource tree place name res script blocks
-    → inclusion tree (suc levels) place (ResourcePart name) ≡ page_within tree levels (place_of script res) [] blocks
+    → inclusion tree (suc levels) place (ResourcePart name) ≡ page_within tree levels (place_for script res) [] blocks
 
 -- where a name leads to no script, nothing stands
 abbrev pub NothingStandsForMissingScripts : Type 0
@@ -68,4 +68,4 @@ PagesOfOneIncludeAreThatScripts = (tree : Content) (place : Place) (own : List B
 abbrev pub PagesOfOneResourceAreThatResources : Type 0
 PagesOfOneResourceAreThatResources = (tree : Content) (place : Place) (own : List Block) (name : Text) (res : Resource) (script : Segments) (blocks : List Block)
     → blocks_parts (bindings_at place []) own ≡ ResourcePart name ∷ [] → LeadsToResource tree place name res script blocks
-    → page_of tree place own ≡ joined one_inclusion (page_within tree 15 (place_of script res) [] blocks)
+    → page_of tree place own ≡ joined one_inclusion (page_within tree 15 (place_for script res) [] blocks)

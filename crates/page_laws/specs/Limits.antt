@@ -12,7 +12,7 @@ use Rattle.htl_blocks.specs.Refused.{most_inclusions, most_rounds}
 use Rattle.htl_blocks.specs.Spelling.{SpellsBlocks}
 use Rattle.htl_blocks.specs.Written.{blocks_parts}
 use Rattle.publisher.specs.Cases.{ReadsByScript}
-use Rattle.publisher.specs.Pages.{Place, Written, bindings_at, most_levels, page_of, place_of, put_in}
+use Rattle.publisher.specs.Pages.{Place, Written, bindings_at, most_levels, page_of, place_for, put_in}
 use Rattle.publisher.specs.Rendering.{answer_to_request}
 
 -- among parts something is to be put in, whether it is there or not
@@ -46,7 +46,7 @@ pub data PassesLimit (tree : Content) (place : Place) (blocks : List Block) : Ty
 -- a page by a script is answered 500 exactly where it passes a limit
 abbrev pub IsRefusedWhereItPassesALimit : Content → Ask → Resource → Text → List Block → Type 0
 IsRefusedWhereItPassesALimit tree ask res text blocks = (reads : ReadsByScript tree ask res text) → SpellsBlocks most_nested_blocks text blocks
-    → ((answer_to_request tree ask).status ≡ 500) ↔ PassesLimit tree (place_of reads.script res) blocks
+    → ((answer_to_request tree ask).status ≡ 500) ↔ PassesLimit tree (place_for reads.script res) blocks
 
 -- so it is with each page by a script
 abbrev pub PagesAreRefusedWhereTheyPassALimit : Type 0

@@ -43,7 +43,7 @@ by_path_total = lists_total nat_list_cmp_total
 same_self : (p : List (List ℕ)) → same_path p p ≡ true
 same_self p = (eq_by_cmp_equiv by_path_total).refl p
 
-same_one : (p q : List (List ℕ)) → same_path p q ≡ true → p ≡ q
+pub same_one : (p q : List (List ℕ)) → same_path p q ≡ true → p ≡ q
 same_one p q h = tells_apart exact_paths p q h
 
 -- ---- one script is forgotten
@@ -88,11 +88,11 @@ pub record Forgets (first : KeptReadings) (entries : PatchEntries) (kept : KeptR
 pub forgets_none : (kept : KeptReadings) → Forgets kept [] kept
 forgets_none kept = record { among = λ path reading e. e; clear = λ path reading e. refl }
 
-both_false : (a b : Bool) → a ≡ false → b ≡ false → (a || b) ≡ false
+pub both_false : (a b : Bool) → a ≡ false → b ≡ false → (a || b) ≡ false
 both_false true b e f = e
 both_false false b e f = f
 
-any_next : {X : Type 0} (test : X → Bool) (xs : List X) (i : ℕ) (x : X) → slice_get xs i ≡ Some x → list_any test (take (i + 1) xs) ≡ (list_any test (take i xs) || test x)
+pub any_next : {X : Type 0} (test : X → Bool) (xs : List X) (i : ℕ) (x : X) → slice_get xs i ≡ Some x → list_any test (take (i + 1) xs) ≡ (list_any test (take i xs) || test x)
 any_next test xs i x is = list_any_more test xs i x (slice_get_within xs i x is) ∙ ap (λ y. list_any test (take i xs) || test y) (get_or_from_slice_get xs i x x is)
 
 pub forgets_next : (first old new : KeptReadings) (patch : PatchEntries) (i : ℕ) (at : List (List ℕ)) (entry : PatchNode) → slice_get patch i ≡ Some (at, entry) → Forgets first (take i patch) old → AreAmong old new

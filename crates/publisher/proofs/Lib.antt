@@ -8,6 +8,7 @@ pub mod ScriptLaw
 pub mod KeptLemmas
 pub mod StatusLemmas
 pub mod ForgetLemmas
+pub mod FirstLemmas
 pub mod PostLemmas
 pub mod ReportLemmas
 pub mod SeenAloneLemmas

@@ -12,6 +12,8 @@ use Rattle.htl_blocks.specs.Written.{blocks_parts}
 use Rattle.error_answers.specs.Errors.{error_answer}
 use Rattle.publisher.specs.Errors.{answer_with_body}
 use Rattle.publisher.specs.Gathering.{IsPassed}
+use Rattle.publisher.specs.declared.waiting.Waiting.{Waiting}
+use Rattle.publisher.specs.Waits.{nothing}
 use Rattle.publisher.specs.Pages.{Page, Place, bindings_at, blank, inclusion, is_over, joined, most_levels, page_of, parts_page, place_for}
 use Rattle.publisher.specs.Rendering.{html_kind, page_answer, representation_of}
 use Rattle.publisher.proofs.PageLemmas.{blank_joined, not_over, over_or_long, too_long}
@@ -40,8 +42,9 @@ too_long_answer true mark text long = refl
 too_long_answer false mark text long = ap (λ (b : Bool). if b then answer_with_body 200 html_kind mark text else error_answer 500) (too_long most_rendered_bytes (length text) long)
 
 -- over them it is an error
-pub over_limits : (mark : Mark) (old page : Page) → old ≡ blank → IsPassed (joined old page) → error_answer 500 ≡ page_answer mark page
-over_limits mark old page none passed = by_limit (over_or_long page (subst IsPassed (ap (λ (p : Page). joined p page) none ∙ blank_joined page) passed))
+pub over_limits : (mark : Mark) (waiting : Waiting) (old page : Page) → waiting ≡ nothing → old ≡ blank → IsPassed waiting (joined old page) → error_answer 500 ≡ page_answer mark page
+over_limits mark waiting old page empty none passed =
+    by_limit (over_or_long page (subst (λ (w : Waiting). IsPassed w page) empty (subst (IsPassed waiting) (ap (λ (p : Page). joined p page) none ∙ blank_joined page) passed)))
   where
     by_limit : (is_over page ≡ true) ⊎ (most_rendered_bytes < length page.text) → error_answer 500 ≡ page_answer mark page
     by_limit (inl over) = sym (ap (λ (b : Bool). if b then error_answer 500 else representation_of html_kind mark page.text) over)

@@ -9,6 +9,8 @@ use Rattle.htl_blocks.specs.Refused.{most_inclusions, most_rounds}
 use Rattle.publisher.specs.declared.page_fault.PageFault.{PageFault}
 use Rattle.publisher.specs.declared.page_fault.PageFault.TheVariants.{NoMemory}
 use Rattle.publisher.specs.Pages.{Page, blank, is_over, joined, part_page, parts_page, one_inclusion, rounds_page, text_page}
+use Rattle.publisher.specs.declared.waiting.Waiting.{Waiting}
+use Rattle.publisher.specs.Waits.{nothing}
 use Rattle.publisher.specs.Gathering.{Gathered, IsPassed, PassLimits}
 
 pub page_same : (a b : Page) → a.text ≡ b.text → a.inclusions ≡ b.inclusions → a.rounds ≡ b.rounds → a.is_deep ≡ b.is_deep → a ≡ b
@@ -56,6 +58,15 @@ pub text_is : (put : Part → Page) (t : Text) → parts_page put (text_parts t)
 unfolding parts_page
 text_is put [] = refl
 text_is put (c ∷ t) = ap (joined (text_page (c ∷ []))) (text_is put t)
+
+-- the text of a text's parts
+pub text_back : (t : Text) → text_of_parts (text_parts t) ≡ t
+text_back [] = refl
+text_back (c ∷ t) = ap (λ (s : Text). c ∷ s) (text_back t)
+
+pub no_inclusion : (t : Text) → inclusions (text_parts t) ≡ 0
+no_inclusion [] = refl
+no_inclusion (c ∷ t) = sum_by-append (λ (p : Part). cond (is_inclusion p) 1 0) (Byte c ∷ []) (text_parts t) ∙ ap (λ (n : ℕ). 0 + n) (no_inclusion t)
 
 -- one part that puts something in
 pub script_is : (put : Part → Page) (name : Text) (vars : List (Text × Text)) → parts_page put (Script name vars ∷ []) ≡ joined one_inclusion (put (Script name vars))
@@ -105,18 +116,33 @@ or_true : (b : Bool) → (b || true) ≡ true
 or_true true = refl
 or_true false = refl
 
--- a limit that is passed stays passed
-pub passed_more : (a b : Page) → IsPassed a → IsPassed (joined a b)
-passed_more a b (inl deep) = inl (ap (λ d. d || b.is_deep) deep)
-passed_more a b (inr (inl long)) = let both = length-append a.text b.text in inr (inl (omega (arith, long, both)))
-passed_more a b (inr (inr (inl many))) = inr (inr (inl (omega (arith, many))))
-passed_more a b (inr (inr (inr often))) = inr (inr (inr (omega (arith, often))))
+-- A limit that is passed with what waits is passed with a page that has as much.
+pub passed_then : (w v : Waiting) (a b : Page) → v.text ≤ w.text + length b.text → v.inclusions ≤ w.inclusions + b.inclusions → IsPassed v a → IsPassed w (joined a b)
+passed_then w v a b text included (inl deep) = inl (ap (λ d. d || b.is_deep) deep)
+passed_then w v a b text included (inr (inl long)) = let both = length-append a.text b.text in inr (inl (omega (arith, long, both, text)))
+passed_then w v a b text included (inr (inr (inl many))) = inr (inr (inl (omega (arith, many, included))))
+passed_then w v a b text included (inr (inr (inr often))) = inr (inr (inr (omega (arith, often))))
 
-pub passed_before : (a b : Page) → IsPassed b → IsPassed (joined a b)
-passed_before a b (inl deep) = inl (ap (λ d. a.is_deep || d) deep ∙ or_true a.is_deep)
-passed_before a b (inr (inl long)) = let both = length-append a.text b.text in inr (inl (omega (arith, long, both)))
-passed_before a b (inr (inr (inl many))) = inr (inr (inl (omega (arith, many))))
-passed_before a b (inr (inr (inr often))) = inr (inr (inr (omega (arith, often))))
+-- so it stays passed
+pub passed_more : (w : Waiting) (a b : Page) → IsPassed w a → IsPassed w (joined a b)
+passed_more w a b passed = passed_then w w a b (omega arith) (omega arith) passed
+
+pub passed_before : (w : Waiting) (a b : Page) → IsPassed w b → IsPassed w (joined a b)
+passed_before w a b (inl deep) = inl (ap (λ d. a.is_deep || d) deep ∙ or_true a.is_deep)
+passed_before w a b (inr (inl long)) = let both = length-append a.text b.text in inr (inl (omega (arith, long, both)))
+passed_before w a b (inr (inr (inl many))) = inr (inr (inl (omega (arith, many))))
+passed_before w a b (inr (inr (inr often))) = inr (inr (inr (omega (arith, often))))
+
+-- what is passed where nothing waits is passed where something does
+pub passed_alone : (w : Waiting) (a : Page) → IsPassed nothing a → IsPassed w a
+passed_alone w a (inl deep) = inl deep
+passed_alone w a (inr (inl long)) = inr (inl (omega (arith, long)))
+passed_alone w a (inr (inr (inl many))) = inr (inr (inl (omega (arith, many))))
+passed_alone w a (inr (inr (inr often))) = inr (inr (inr often))
+
+pub gathered_alone : {A : Type 0} (w : Waiting) (r : Result A PageFault) (old new page : Page) → Gathered nothing r old new page → Gathered w r old new page
+gathered_alone w (Ok x) old new page is = is
+gathered_alone w (Err f) old new page is = λ known. passed_alone w (joined old page) (is known)
 
 -- a page has the text, the contents of lists and the inclusions of its parts at least
 pub record HasAtLeast (ps : List Part) (page : Page) : Type 0 where
@@ -147,13 +173,13 @@ has_at_least put (Resource name ∷ ps) = put_in (put (Resource name)) (has_at_l
     }
 
 -- parts that pass a limit make a page that does
-pub parts_pass : (put : Part → Page) (old : Page) (ps : List Part) → PassLimits ps → IsPassed (joined old (parts_page put ps))
-parts_pass put old ps h = passed_before old (parts_page put ps) (by_limit h)
+pub parts_pass : (w : Waiting) (put : Part → Page) (old : Page) (ps : List Part) → PassLimits ps → IsPassed w (joined old (parts_page put ps))
+parts_pass w put old ps h = passed_before w old (parts_page put ps) (by_limit h)
   where
     least : HasAtLeast ps (parts_page put ps)
     least = has_at_least put ps
 
-    by_limit : PassLimits ps → IsPassed (parts_page put ps)
+    by_limit : PassLimits ps → IsPassed w (parts_page put ps)
     by_limit (inl long) = let t = least.text in inr (inl (omega (arith, long, t)))
     by_limit (inr (inl many)) = let n = least.included in inr (inr (inl (omega (arith, many, n))))
     by_limit (inr (inr often)) = let n = least.repeated in inr (inr (inr (omega (arith, often, n))))
@@ -161,13 +187,13 @@ parts_pass put old ps h = passed_before old (parts_page put ps) (by_limit h)
 -- ---- one after another
 
 -- a page after one that was gathered
-pub after : {A : Type 0} (r : Result A PageFault) (old mid new a b : Page) → mid ≡ joined old a → Gathered r mid new b → Gathered r old new (joined a b)
-after (Ok x) old mid new a b is more = more ∙ ap (λ (p : Page). joined p b) is ∙ joined_assoc old a b
-after (Err f) old mid new a b is more = λ known. subst IsPassed (ap (λ (p : Page). joined p b) is ∙ joined_assoc old a b) (more known)
+pub after : {A : Type 0} (w : Waiting) (r : Result A PageFault) (old mid new a b : Page) → mid ≡ joined old a → Gathered w r mid new b → Gathered w r old new (joined a b)
+after w (Ok x) old mid new a b is more = more ∙ ap (λ (p : Page). joined p b) is ∙ joined_assoc old a b
+after w (Err f) old mid new a b is more = λ known. subst (IsPassed w) (ap (λ (p : Page). joined p b) is ∙ joined_assoc old a b) (more known)
 
 -- a limit that was passed before the last page
-pub stopped : (f : PageFault) (old a b : Page) → (f ≢ NoMemory → IsPassed (joined old a)) → f ≢ NoMemory → IsPassed (joined old (joined a b))
-stopped f old a b h known = subst IsPassed (joined_assoc old a b) (passed_more (joined old a) b (h known))
+pub stopped : (w : Waiting) (f : PageFault) (old a b : Page) → (f ≢ NoMemory → IsPassed nothing (joined old a)) → f ≢ NoMemory → IsPassed w (joined old (joined a b))
+stopped w f old a b h known = subst (IsPassed w) (joined_assoc old a b) (passed_more w (joined old a) b (passed_alone w (joined old a) (h known)))
 
 -- ---- the answer
 
@@ -190,11 +216,11 @@ not_over page included repeated deep =
     (or_both (nat_lt most_inclusions page.inclusions) (nat_lt most_rounds page.rounds) (above most_inclusions page.inclusions (nat_lt most_inclusions page.inclusions) refl included) (above most_rounds page.rounds (nat_lt most_rounds page.rounds) refl repeated))
 
 -- a page that passes a limit is over them, or its text is too long
-pub over_or_long : (page : Page) → IsPassed page → (is_over page ≡ true) ⊎ (most_rendered_bytes < length page.text)
+pub over_or_long : (page : Page) → IsPassed nothing page → (is_over page ≡ true) ⊎ (most_rendered_bytes < length page.text)
 over_or_long page (inl deep) = inl (ap (λ (b : Bool). b || (nat_lt most_inclusions page.inclusions || nat_lt most_rounds page.rounds)) deep)
-over_or_long page (inr (inl long)) = inr long
+over_or_long page (inr (inl long)) = inr (omega (arith, long))
 over_or_long page (inr (inr (inl many))) =
-    inl (ap (λ (b : Bool). page.is_deep || (b || nat_lt most_rounds page.rounds)) (below most_inclusions page.inclusions (nat_lt most_inclusions page.inclusions) refl many) ∙ or_true page.is_deep)
+    inl (ap (λ (b : Bool). page.is_deep || (b || nat_lt most_rounds page.rounds)) (below most_inclusions page.inclusions (nat_lt most_inclusions page.inclusions) refl (omega (arith, many))) ∙ or_true page.is_deep)
 over_or_long page (inr (inr (inr often))) =
     inl (ap (λ (b : Bool). page.is_deep || (nat_lt most_inclusions page.inclusions || b)) (below most_rounds page.rounds (nat_lt most_rounds page.rounds) refl often)
     ∙ ap (λ (b : Bool). page.is_deep || b) (or_true (nat_lt most_inclusions page.inclusions)) ∙ or_true page.is_deep)

@@ -1,9 +1,10 @@
 -- One step of putting a page together.
-use Rattle.std.proofs.Common.{inl, ◌≡◌, ◌≢◌, ◌≤◌, ◌<◌, ◌+◌, ◌-◌, ℕ, zero, suc, Bool, true, false, List, [], ◌∷◌, ◌++◌, Option, Some, None, Result, length, take, drop, get_or, refl, ap, sym, subst, ◌∙◌, arith, append-nil}
+use Rattle.std.proofs.Common.{inl, ◌≡◌, ◌≢◌, ◌≤◌, ◌<◌, ◌+◌, ◌-◌, ℕ, zero, suc, Bool, true, false, List, [], ◌∷◌, ◌++◌, Option, Some, None, Result, length, take, drop, get_or, refl, ap, sym, subst, ◌∙◌, arith, append-nil, length-append, cond}
 use Rattle.std.specs.Prelude.{if◌then◌else◌, option_map}
 use Rattle.std.specs.List.{flat_map}
 use Rattle.std.proofs.lemmas.List.{take_all, take_more, take-append-drop}
 use Rattle.std.proofs.lemmas.List.Concat.{flat_map-append}
+use Rattle.std.proofs.lemmas.List.Sums.{sum_by-append}
 use Rattle.sp_base.specs.Paths.{parent_of}
 use Rattle.sp_base.specs.Texts.{Pairs, Properties, Segments, Text}
 use Rattle.resource_tree.specs.Content.{Content}
@@ -12,12 +13,14 @@ use Rattle.overlay_merge.specs.Merged.{merged_alone, merged_resource, without_ki
 use Rattle.overlay_merge.specs.Roots.{is_merged_path}
 use Rattle.type_chain.specs.Chain.{chain_of}
 use Rattle.script_rank.specs.Search.{search_result as first_script}
-use Rattle.htl_blocks.specs.Parts.{Part, Script, Resource as ResourcePart, rounds, seen}
+use Rattle.htl_blocks.specs.Parts.{Part, Script, Resource as ResourcePart, inclusions, is_inclusion, part_text, rounds, seen, text_of_parts}
 use Rattle.publisher.specs.declared.page_fault.PageFault.{PageFault}
 use Rattle.publisher.specs.declared.page_fault.PageFault.TheVariants.{NoMemory}
+use Rattle.publisher.specs.declared.waiting.Waiting.{Waiting}
+use Rattle.publisher.specs.Waits.{IsLeastOf, IsSizeOf, nothing}
 use Rattle.publisher.specs.Gathering.{Gathered, IsPassed, PassLimits}
 use Rattle.publisher.specs.Pages.{Page, Place, blank, html_parts, included_resource, included_script, inclusion, joined, one_inclusion, parts_page, path_named, put_in, resource_by, rounds_page, written_resource, too_deep, written_by_script, written_page}
-use Rattle.publisher.proofs.PageLemmas.{after, joined_assoc, joined_blank, parts_append, parts_pass, passed_before, passed_more, resource_is, rounds_apart, script_is, stopped}
+use Rattle.publisher.proofs.PageLemmas.{after, has_at_least, joined_assoc, joined_blank, parts_append, parts_pass, passed_before, passed_then, resource_is, rounds_apart, script_is, stopped}
 
 -- ---- the blocks of a script
 
@@ -25,17 +28,29 @@ use Rattle.publisher.proofs.PageLemmas.{after, joined_assoc, joined_blank, parts
 counted_apart : (put : Part → Page) (ps parts : List Part) (n : ℕ) → parts ≡ seen ps → n ≡ rounds ps → joined (rounds_page n) (parts_page put parts) ≡ parts_page put ps
 counted_apart put ps parts n seen_is count = (λ i. joined (rounds_page (count i)) (parts_page put (seen_is i))) ∙ rounds_apart put ps
 
-pub blocks_written : {A : Type 0} (r : Result A PageFault) (put : Part → Page) (old mid new : Page) (ps parts : List Part) (n : ℕ) → parts ≡ seen ps → n ≡ rounds ps → mid ≡ joined old (rounds_page n)
-    → Gathered r mid new (parts_page put parts) → Gathered r old new (parts_page put ps)
-blocks_written r put old mid new ps parts n seen_is count counted more =
-    subst (Gathered r old new) (counted_apart put ps parts n seen_is count) (after r old mid new (rounds_page n) (parts_page put parts) counted more)
+pub blocks_written : {A : Type 0} (w : Waiting) (r : Result A PageFault) (put : Part → Page) (old mid new : Page) (ps parts : List Part) (n : ℕ) → parts ≡ seen ps → n ≡ rounds ps → mid ≡ joined old (rounds_page n)
+    → Gathered w r mid new (parts_page put parts) → Gathered w r old new (parts_page put ps)
+blocks_written w r put old mid new ps parts n seen_is count counted more =
+    subst (Gathered w r old new) (counted_apart put ps parts n seen_is count) (after w r old mid new (rounds_page n) (parts_page put parts) counted more)
 
-pub rounds_stop : (f : PageFault) (put : Part → Page) (old : Page) (ps : List Part) (n : ℕ) → n ≡ rounds ps → (f ≢ NoMemory → IsPassed (joined old (rounds_page n))) → f ≢ NoMemory → IsPassed (joined old (parts_page put ps))
-rounds_stop f put old ps n count h known =
-    subst (λ (p : Page). IsPassed (joined old p)) (counted_apart put ps (seen ps) n refl count) (stopped f old (rounds_page n) (parts_page put (seen ps)) h known)
+-- there is no room for what stands in them
+pub room_stop : (f : PageFault) (w v least : Waiting) (put : Part → Page) (old mid : Page) (ps parts : List Part) (n : ℕ) → parts ≡ seen ps → n ≡ rounds ps → mid ≡ joined old (rounds_page n) → IsLeastOf least parts
+    → v.text ≤ w.text + least.text → v.inclusions ≤ w.inclusions + least.inclusions → (f ≢ NoMemory → IsPassed v mid) → f ≢ NoMemory → IsPassed w (joined old (parts_page put ps))
+room_stop f w v least put old mid ps parts n seen_is count counted is text included h known =
+    let has = has_at_least put parts in
+    let enough = has.text in
+    let many = has.included in
+    let small = is.0 in
+    let few = is.1 in
+    let passed : IsPassed w (joined mid (parts_page put parts)) = passed_then w v mid (parts_page put parts) (omega (arith, text, small, enough)) (omega (arith, included, few, many)) (h known) in
+    subst (IsPassed w) (ap (λ (m : Page). joined m (parts_page put parts)) counted ∙ joined_assoc old (rounds_page n) (parts_page put parts) ∙ ap (joined old) (counted_apart put ps parts n seen_is count)) passed
 
-pub pieces_stop : (f : PageFault) (put : Part → Page) (old : Page) (ps : List Part) → (f ≢ NoMemory → PassLimits ps) → f ≢ NoMemory → IsPassed (joined old (parts_page put ps))
-pieces_stop f put old ps h known = parts_pass put old ps (h known)
+pub rounds_stop : (w : Waiting) (f : PageFault) (put : Part → Page) (old : Page) (ps : List Part) (n : ℕ) → n ≡ rounds ps → (f ≢ NoMemory → IsPassed nothing (joined old (rounds_page n))) → f ≢ NoMemory → IsPassed w (joined old (parts_page put ps))
+rounds_stop w f put old ps n count h known =
+    subst (λ (p : Page). IsPassed w (joined old p)) (counted_apart put ps (seen ps) n refl count) (stopped w f old (rounds_page n) (parts_page put (seen ps)) h known)
+
+pub pieces_stop : (w : Waiting) (f : PageFault) (put : Part → Page) (old : Page) (ps : List Part) → (f ≢ NoMemory → PassLimits ps) → f ≢ NoMemory → IsPassed w (joined old (parts_page put ps))
+pieces_stop w f put old ps h known = parts_pass w put old ps (h known)
 
 -- ---- one piece after another
 
@@ -54,34 +69,97 @@ pub each_more : {X : Type 0} (put : Part → Page) (g : X → List Part) (old mi
     → new ≡ joined mid (parts_page put (g x)) → new ≡ joined old (parts_page put (flat_map g (take (i + 1) xs)))
 each_more put g old mid new xs i d x lt is known e = e ∙ more_is put g old mid xs i d x lt is known
 
-pub each_stopped : {X : Type 0} (put : Part → Page) (g : X → List Part) (f : PageFault) (old mid : Page) (xs : List X) (i : ℕ) (d x : X) → i < length xs → x ≡ get_or xs i d
-    → mid ≡ joined old (parts_page put (flat_map g (take i xs))) → (f ≢ NoMemory → IsPassed (joined mid (parts_page put (g x)))) → f ≢ NoMemory → IsPassed (joined old (parts_page put (flat_map g xs)))
-each_stopped put g f old mid xs i d x lt is known h ne =
-    let first = parts_page put (flat_map g (take (i + 1) xs)) in
-    let rest = parts_page put (flat_map g (drop (i + 1) xs)) in
-    let here : IsPassed (joined old first) = subst IsPassed (more_is put g old mid xs i d x lt is known) (h ne) in
-    let whole : joined first rest ≡ parts_page put (flat_map g xs) =
-    sym (parts_append put (flat_map g (take (i + 1) xs)) (flat_map g (drop (i + 1) xs))) ∙ ap (parts_page put) (sym (flat_map-append g (take (i + 1) xs) (drop (i + 1) xs)) ∙ ap (flat_map g) (take-append-drop (i + 1) xs)) in
-    subst IsPassed (joined_assoc old first rest ∙ ap (joined old) whole) (passed_more (joined old first) rest here)
+-- how much stands in parts, one after another
+text_append : (ps qs : List Part) → length (text_of_parts (ps ++ qs)) ≡ length (text_of_parts ps) + length (text_of_parts qs)
+text_append ps qs = ap length (flat_map-append part_text ps qs) ∙ length-append (text_of_parts ps) (text_of_parts qs)
+
+inclusions_append : (ps qs : List Part) → inclusions (ps ++ qs) ≡ inclusions ps + inclusions qs
+inclusions_append ps qs = sum_by-append (λ (p : Part). cond (is_inclusion p) 1 0) ps qs
+
+all_are : {X : Type 0} (g : X → List Part) (xs : List X) (i : ℕ) → flat_map g (take i xs) ++ flat_map g (drop i xs) ≡ flat_map g xs
+all_are g xs i = sym (flat_map-append g (take i xs) (drop i xs)) ∙ ap (flat_map g) (take-append-drop i xs)
+
+-- so much is left of parts at most, where these are done
+pub record IsLeft (left : Waiting) (done all : List Part) : Type 0 where
+  pub text : left.text + length (text_of_parts done) ≤ length (text_of_parts all)
+  pub included : left.inclusions + inclusions done ≤ inclusions all
+
+pub all_left : (least : Waiting) (all : List Part) → IsLeastOf least all → IsLeft least [] all
+all_left least all is = let small = is.0 in let few = is.1 in record { text = omega (arith, small); included = omega (arith, few) }
+
+pub one_less : {X : Type 0} (g : X → List Part) (xs : List X) (i : ℕ) (d x : X) (left now new : Waiting) → i < length xs → x ≡ get_or xs i d → IsSizeOf now (g x) → new.text ≡ left.text - now.text → new.inclusions ≡ left.inclusions - now.inclusions
+    → IsLeft left (flat_map g (take i xs)) (flat_map g xs) → IsLeft new (flat_map g (take (i + 1) xs)) (flat_map g xs)
+one_less g xs i d x left now new lt is size text included known =
+    let more = one_more g xs i d x lt is in
+    let longer = sym (ap (λ (ps : List Part). length (text_of_parts ps)) more) ∙ text_append (flat_map g (take i xs)) (g x) in
+    let further = sym (ap inclusions more) ∙ inclusions_append (flat_map g (take i xs)) (g x) in
+    let rest = flat_map g (drop (i + 1) xs) in
+    let all_text = sym (ap (λ (ps : List Part). length (text_of_parts ps)) (all_are g xs (i + 1))) ∙ text_append (flat_map g (take (i + 1) xs)) rest in
+    let all_included = sym (ap inclusions (all_are g xs (i + 1))) ∙ inclusions_append (flat_map g (take (i + 1) xs)) rest in
+    let a = known.text in
+    let b = known.included in
+    let s = size.0 in
+    let t = size.1 in
+    record { text = omega (arith, longer, all_text, a, s, text); included = omega (arith, further, all_included, b, t, included) }
+
+pub each_stopped : {X : Type 0} (w v left : Waiting) (put : Part → Page) (g : X → List Part) (f : PageFault) (old mid : Page) (xs : List X) (i : ℕ) (d x : X) → i < length xs → x ≡ get_or xs i d
+    → mid ≡ joined old (parts_page put (flat_map g (take i xs))) → v.text ≤ w.text + left.text → v.inclusions ≤ w.inclusions + left.inclusions → IsLeft left (flat_map g (take (i + 1) xs)) (flat_map g xs)
+    → (f ≢ NoMemory → IsPassed v (joined mid (parts_page put (g x)))) → f ≢ NoMemory → IsPassed w (joined old (parts_page put (flat_map g xs)))
+each_stopped w v left put g f old mid xs i d x lt is known text included are_left h ne =
+    let done = flat_map g (take (i + 1) xs) in
+    let rest = flat_map g (drop (i + 1) xs) in
+    let here : IsPassed v (joined old (parts_page put done)) = subst (IsPassed v) (more_is put g old mid xs i d x lt is known) (h ne) in
+    let has = has_at_least put rest in
+    let enough = has.text in
+    let many = has.included in
+    let a = are_left.text in
+    let b = are_left.included in
+    let all_text = sym (ap (λ (ps : List Part). length (text_of_parts ps)) (all_are g xs (i + 1))) ∙ text_append done rest in
+    let all_included = sym (ap inclusions (all_are g xs (i + 1))) ∙ inclusions_append done rest in
+    let passed : IsPassed w (joined (joined old (parts_page put done)) (parts_page put rest)) =
+    passed_then w v (joined old (parts_page put done)) (parts_page put rest) (omega (arith, text, a, all_text, enough)) (omega (arith, included, b, all_included, many)) here in
+    let whole : joined (parts_page put done) (parts_page put rest) ≡ parts_page put (flat_map g xs) = sym (parts_append put done rest) ∙ ap (parts_page put) (all_are g xs (i + 1)) in
+    subst (IsPassed w) (joined_assoc old (parts_page put done) (parts_page put rest) ∙ ap (joined old) whole) passed
 
 pub each_done : {X : Type 0} (put : Part → Page) (g : X → List Part) (old new : Page) (xs : List X) (i : ℕ) → length xs ≤ i → new ≡ joined old (parts_page put (flat_map g (take i xs))) → new ≡ joined old (parts_page put (flat_map g xs))
 each_done {X} put g old new xs i le known = known ∙ ap (λ (ys : List X). joined old (parts_page put (flat_map g ys))) (take_all i xs le)
 
+-- the least that parts write, one after another
+pub least_more : {X : Type 0} (g : X → List Part) (xs : List X) (i : ℕ) (d x : X) (least now new : Waiting) → i < length xs → x ≡ get_or xs i d → IsSizeOf now (g x) → new.text ≤ least.text + now.text → new.inclusions ≤ least.inclusions + now.inclusions
+    → IsLeastOf least (flat_map g (take i xs)) → IsLeastOf new (flat_map g (take (i + 1) xs))
+least_more g xs i d x least now new lt is size text included known =
+    let more = one_more g xs i d x lt is in
+    let longer = sym (ap (λ (ps : List Part). length (text_of_parts ps)) more) ∙ text_append (flat_map g (take i xs)) (g x) in
+    let further = sym (ap inclusions more) ∙ inclusions_append (flat_map g (take i xs)) (g x) in
+    let a = known.0 in
+    let b = known.1 in
+    let s = size.0 in
+    let t = size.1 in
+    (omega (arith, longer, a, s, text), omega (arith, further, b, t, included))
+
+pub least_done : {X : Type 0} (g : X → List Part) (xs : List X) (i : ℕ) (least : Waiting) → length xs ≤ i → IsLeastOf least (flat_map g (take i xs)) → IsLeastOf least (flat_map g xs)
+least_done {X} g xs i least end known = subst (λ (ys : List X). IsLeastOf least (flat_map g ys)) (take_all i xs end) known
+
+-- what a page has of parts so far, and what is left of them
+pub record IsSoFar (put : Part → Page) (old page : Page) (left : Waiting) (done all : List Part) : Type 0 where
+  pub written : page ≡ joined old (parts_page put done)
+  pub remains : IsLeft left done all
+
 -- ---- a piece
 
-pub script_written : {A : Type 0} (r : Result A PageFault) (put : Part → Page) (old mid new : Page) (name : Text) (vars : Pairs) → mid ≡ joined old one_inclusion → Gathered r mid new (put (Script name vars))
-    → Gathered r old new (parts_page put (Script name vars ∷ []))
-script_written r put old mid new name vars counted more = subst (Gathered r old new) (sym (script_is put name vars)) (after r old mid new one_inclusion (put (Script name vars)) counted more)
+pub script_written : {A : Type 0} (w : Waiting) (r : Result A PageFault) (put : Part → Page) (old mid new : Page) (name : Text) (vars : Pairs) → mid ≡ joined old one_inclusion → Gathered w r mid new (put (Script name vars))
+    → Gathered w r old new (parts_page put (Script name vars ∷ []))
+script_written w r put old mid new name vars counted more = subst (Gathered w r old new) (sym (script_is put name vars)) (after w r old mid new one_inclusion (put (Script name vars)) counted more)
 
-pub resource_written : {A : Type 0} (r : Result A PageFault) (put : Part → Page) (old mid new : Page) (name : Text) → mid ≡ joined old one_inclusion → Gathered r mid new (put (ResourcePart name))
-    → Gathered r old new (parts_page put (ResourcePart name ∷ []))
-resource_written r put old mid new name counted more = subst (Gathered r old new) (sym (resource_is put name)) (after r old mid new one_inclusion (put (ResourcePart name)) counted more)
+pub resource_written : {A : Type 0} (w : Waiting) (r : Result A PageFault) (put : Part → Page) (old mid new : Page) (name : Text) → mid ≡ joined old one_inclusion → Gathered w r mid new (put (ResourcePart name))
+    → Gathered w r old new (parts_page put (ResourcePart name ∷ []))
+resource_written w r put old mid new name counted more = subst (Gathered w r old new) (sym (resource_is put name)) (after w r old mid new one_inclusion (put (ResourcePart name)) counted more)
 
-pub script_stopped : (f : PageFault) (put : Part → Page) (old : Page) (name : Text) (vars : Pairs) → (f ≢ NoMemory → IsPassed (joined old one_inclusion)) → f ≢ NoMemory → IsPassed (joined old (parts_page put (Script name vars ∷ [])))
-script_stopped f put old name vars h known = subst (λ (p : Page). IsPassed (joined old p)) (sym (script_is put name vars)) (stopped f old one_inclusion (put (Script name vars)) h known)
+pub script_stopped : (w : Waiting) (f : PageFault) (put : Part → Page) (old : Page) (name : Text) (vars : Pairs) → (f ≢ NoMemory → IsPassed nothing (joined old one_inclusion)) → f ≢ NoMemory → IsPassed w (joined old (parts_page put (Script name vars ∷ [])))
+script_stopped w f put old name vars h known = subst (λ (p : Page). IsPassed w (joined old p)) (sym (script_is put name vars)) (stopped w f old one_inclusion (put (Script name vars)) h known)
 
-pub resource_stopped : (f : PageFault) (put : Part → Page) (old : Page) (name : Text) → (f ≢ NoMemory → IsPassed (joined old one_inclusion)) → f ≢ NoMemory → IsPassed (joined old (parts_page put (ResourcePart name ∷ [])))
-resource_stopped f put old name h known = subst (λ (p : Page). IsPassed (joined old p)) (sym (resource_is put name)) (stopped f old one_inclusion (put (ResourcePart name)) h known)
+pub resource_stopped : (w : Waiting) (f : PageFault) (put : Part → Page) (old : Page) (name : Text) → (f ≢ NoMemory → IsPassed nothing (joined old one_inclusion)) → f ≢ NoMemory → IsPassed w (joined old (parts_page put (ResourcePart name ∷ [])))
+resource_stopped w f put old name h known = subst (λ (p : Page). IsPassed w (joined old p)) (sym (resource_is put name)) (stopped w f old one_inclusion (put (ResourcePart name)) h known)
 
 -- ---- what is put in
 
@@ -96,8 +174,8 @@ one_deeper tree zero place p some = absurd (some refl)
 one_deeper tree (suc n) place p some = let less : n ≡ suc n - 1 = omega arith in ap (λ m. written_page (inclusion tree m) (put_in tree place p)) less
 
 -- where something is too deep, a limit is passed
-pub deep_stops : (tree : Content) (n : ℕ) (place : Place) (p : Part) (old : Page) → n ≡ 0 → IsPassed (joined old (inclusion tree n place p))
-deep_stops tree n place p old none = passed_before old (inclusion tree n place p) (inl (ap (λ (q : Page). q.is_deep) (nothing_deeper tree n place p none)))
+pub deep_stops : (w : Waiting) (tree : Content) (n : ℕ) (place : Place) (p : Part) (old : Page) → n ≡ 0 → IsPassed w (joined old (inclusion tree n place p))
+deep_stops w tree n place p old none = passed_before w old (inclusion tree n place p) (inl (ap (λ (q : Page). q.is_deep) (nothing_deeper tree n place p none)))
 
 -- nothing stands where there is nothing to put in
 pub nothing_more : (old page : Page) → page ≡ blank → old ≡ joined old page
@@ -134,7 +212,7 @@ pub by_step : (tree : Content) (res : Resource) (o : Option Segments) → o ≡ 
 by_step tree res o first = ap (resource_by tree res) (sym first)
 
 -- what a script writes at the place of a resource
-pub written_for : {A : Type 0} (r : Result A PageFault) (put : Place → Part → Page) (tree : Content) (res : Resource) (script path : Segments) (props : Properties) (vars : Pairs) (old new : Page) → path ≡ res.path → props ≡ res.props → vars ≡ []
-    → Gathered r old new (written_page put (written_by_script tree (record { script = script; path = path; props = props }) vars)) → Gathered r old new (written_page put (resource_by tree res (Some script)))
-written_for r put tree res script path props vars old new path_is props_is none written =
-    subst (Gathered r old new) (λ i. written_page put (written_by_script tree (record { script = script; path = path_is i; props = props_is i }) (none i))) written
+pub written_for : {A : Type 0} (w : Waiting) (r : Result A PageFault) (put : Place → Part → Page) (tree : Content) (res : Resource) (script path : Segments) (props : Properties) (vars : Pairs) (old new : Page) → path ≡ res.path → props ≡ res.props → vars ≡ []
+    → Gathered w r old new (written_page put (written_by_script tree (record { script = script; path = path; props = props }) vars)) → Gathered w r old new (written_page put (resource_by tree res (Some script)))
+written_for w r put tree res script path props vars old new path_is props_is none written =
+    subst (Gathered w r old new) (λ i. written_page put (written_by_script tree (record { script = script; path = path_is i; props = props_is i }) (none i))) written

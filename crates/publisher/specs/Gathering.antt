@@ -1,14 +1,17 @@
 -- A page while it is gathered. Only proofs and private functions need this.
-use Rattle.std.specs.Prelude.{◌≡◌, ◌≢◌, ◌<◌, ◌⊎◌, true, List, Result, Ok, Err, length}
+use Rattle.std.specs.Prelude.{◌≡◌, ◌≢◌, ◌<◌, ◌+◌, ◌⊎◌, true, List, Result, Ok, Err, length}
 use Rattle.sp_base.specs.Limits.{most_rendered_bytes}
 use Rattle.sp_base.specs.Texts.{Pairs}
 use Rattle.htl_expr.specs.Bindings.{Bindings}
 use Rattle.htl_expr.specs.Variables.{vars_of}
+use Rattle.htl_blocks.specs.declared.block.Block.{Block}
 use Rattle.htl_blocks.specs.Parts.{Part, inclusions, rounds, text_of_parts}
 use Rattle.htl_blocks.specs.Refused.{most_inclusions, most_rounds}
+use Rattle.htl_blocks.specs.Written.{blocks_parts}
 use Rattle.publisher.specs.declared.page_fault.PageFault.{PageFault}
 use Rattle.publisher.specs.declared.page_fault.PageFault.TheVariants.{NoMemory}
 use Rattle.publisher.specs.declared.setting.Setting.{Setting}
+use Rattle.publisher.specs.declared.waiting.Waiting.{Waiting}
 use Rattle.publisher.specs.Pages.{Page, Place, bindings_at, inclusion, joined, written_by_script, written_page}
 
 -- the place of a setting
@@ -23,6 +26,10 @@ vars_in s = vars_of s.vars.now
 abbrev pub bindings_in : Setting → Bindings
 bindings_in s = bindings_at (place_in s) (vars_in s)
 
+-- the parts that blocks write in a setting
+abbrev pub blocks_in : Setting → List Block → List Part
+blocks_in s blocks = blocks_parts (bindings_in s) blocks
+
 -- what stands in a setting for a part that puts something in
 abbrev pub inclusion_in : Setting → Part → Page
 inclusion_in s = inclusion s.tree.now s.levels (place_in s)
@@ -31,15 +38,15 @@ inclusion_in s = inclusion s.tree.now s.levels (place_in s)
 abbrev pub script_page : Setting → Page
 script_page s = written_page (inclusion s.tree.now s.levels) (written_by_script s.tree.now (place_in s) (vars_in s))
 
--- a limit is passed
-abbrev pub IsPassed : Page → Type 0
-IsPassed page = (page.is_deep ≡ true) ⊎ ((most_rendered_bytes < length page.text) ⊎ ((most_inclusions < page.inclusions) ⊎ (most_rounds < page.rounds)))
+-- a limit is passed, what waits counted too
+abbrev pub IsPassed : Waiting → Page → Type 0
+IsPassed waiting page = (page.is_deep ≡ true) ⊎ ((most_rendered_bytes < length page.text + waiting.text) ⊎ ((most_inclusions < page.inclusions + waiting.inclusions) ⊎ (most_rounds < page.rounds)))
 
 -- a limit is passed by what stands in parts, whatever they put in
 abbrev pub PassLimits : List Part → Type 0
 PassLimits ps = (most_rendered_bytes < length (text_of_parts ps)) ⊎ ((most_inclusions < inclusions ps) ⊎ (most_rounds < rounds ps))
 
 -- a page is gathered after another, or with it a limit is passed
-abbrev pub Gathered : {A : Type 0} → Result A PageFault → Page → Page → Page → Type 0
-Gathered (Ok _) old new page = new ≡ joined old page
-Gathered (Err fault) old new page = fault ≢ NoMemory → IsPassed (joined old page)
+abbrev pub Gathered : {A : Type 0} → Waiting → Result A PageFault → Page → Page → Page → Type 0
+Gathered waiting (Ok _) old new page = new ≡ joined old page
+Gathered waiting (Err fault) old new page = fault ≢ NoMemory → IsPassed waiting (joined old page)

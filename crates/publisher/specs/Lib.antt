@@ -3,11 +3,13 @@ pub mod Depths
 pub mod Choices
 pub mod Readings
 pub mod Pages
+pub mod Waits
 pub mod Gathering
 pub mod Refusals
 pub mod Posting
 pub mod Rendering
 pub mod Kept
+pub mod FirstScripts
 pub mod SeenAlone
 pub mod PostLaws
 pub mod Cases

@@ -4,7 +4,8 @@ ghost use Rattle.sp_base.specs.Limits.{most_rendered_bytes};
 ghost use Rattle.publisher.specs.Rendering.{seen_resources, mapped_answer, mapping, text_answer, resource_answer, answer_to_request, content_after_request, is_post, is_read};
 
 use crate::errors::redirect;
-use crate::kept_index::{Indexes, first_script, mapped};
+use crate::first_scripts::{FirstScripts, first_script};
+use crate::kept_index::{Indexes, mapped};
 use crate::methods::{is_post, is_read};
 use crate::parts::parts_of;
 use crate::representations::resource_answer;
@@ -19,25 +20,27 @@ use std::marker::Model;
 use url_maps::MapAnswer;
 use url_split::Parts;
 
-/// A content tree, with the readings of its scripts and its indexes. Contracts see the tree, and whether the indexes are there: an answer
-/// makes them, and from then on they stay.
+/// A content tree, with the readings of its scripts, the scripts that were found to rank first, and its indexes. Contracts see the tree, and
+/// whether the indexes are there: an answer makes them, and from then on they stay.
 #[derive(Drop)]
 pub(crate) struct HeldContent {
     pub(crate) tree: Tree,
     pub(crate) templates: Templates,
+    pub(crate) firsts: FirstScripts,
     /// The indexes of the tree, made at the first answer.
     pub(crate) indexes: Option<Indexes>,
 }
 
 impl Model for HeldContent {
     ghost use Rattle.std.specs.Prelude.{is_some};
+    ghost use Rattle.publisher.specs.FirstScripts.{AreFirst};
     ghost use Rattle.publisher.specs.Kept.{AreIndexesFor, AreReadings, IndexedTree};
 
     ghost Value = { IndexedTree };
 
     ghost view = { λ s. record { tree = s.tree; is_indexed = is_some s.indexes } };
 
-    ghost invariant = { λ s. AreReadings s.tree s.templates × AreIndexesFor s.tree s.indexes };
+    ghost invariant = { λ s. AreReadings s.tree s.templates × (AreFirst s.tree s.firsts × AreIndexesFor s.tree s.indexes) };
 }
 
 impl HeldContent {
@@ -47,6 +50,7 @@ impl HeldContent {
         HeldContent {
             tree,
             templates: Templates::new(alloc, seeds),
+            firsts: FirstScripts::new(alloc, seeds),
             indexes: None,
         }
     }
@@ -119,7 +123,14 @@ impl HeldContent {
     {
         match merged_alone(alloc, &self.tree, &parts.path)? {
             Some(res) => {
-                let script = first_script(alloc, &self.tree, &self.indexes, res.props(), parts)?;
+                let script = first_script(
+                    alloc,
+                    &self.tree,
+                    &self.indexes,
+                    &mut self.firsts,
+                    res.props(),
+                    parts,
+                )?;
                 resource_answer(alloc, &self.tree, &mut self.templates, parts, &res, script)
             }
             None => error_answer(alloc, 404),

@@ -4,10 +4,12 @@ ghost use Rattle.resource_tree.specs.Content.{IsGood};
 ghost use Rattle.resource_tree.specs.Patches.{patching};
 ghost use Rattle.type_chain.specs.Chain.{chain_of};
 ghost use Rattle.script_rank.specs.Search.{search_result as first_script};
+ghost use Rattle.publisher.specs.FirstScripts.{AreFirst};
 ghost use Rattle.publisher.specs.Kept.{AreIndexesFor, AreIndexesOf, AreReadings};
 ghost use Rattle.publisher.specs.Rendering.{mapping};
 
 use crate::changes::put_over;
+use crate::first_scripts::FirstScripts;
 use crate::templates::Templates;
 use resource_tree::{Patch, Tree};
 use script_rank::{ScriptIndex, script_of};
@@ -58,7 +60,7 @@ pub(crate) fn mapped(
 }
 
 /// The script that ranks first for a resource with these properties. The index of scripts is asked, where it is there.
-pub(crate) fn first_script(
+pub(crate) fn script_by_index(
     alloc: Global,
     tree: &Tree,
     indexes: &Option<Indexes>,
@@ -77,26 +79,29 @@ pub(crate) fn first_script(
     }
 }
 
-/// Puts a patch over a tree, and keeps what of the readings and the indexes is still right.
-pub(crate) fn put_with_index(
+/// Puts a patch over a tree, and keeps what of the readings, the first scripts and the indexes is still right.
+pub(crate) fn put_with_indexes(
     alloc: Global,
     tree: &mut Tree,
     templates: &mut Templates,
+    firsts: &mut FirstScripts,
     indexes: &mut Option<Indexes>,
     patch: Patch,
 ) -> Mem<()>
     requires good { IsGood (patching tree.old patch) }
     requires indexes { AreIndexesFor tree.old indexes.old }
     requires readings { AreReadings tree.old templates.old }
+    requires firsts { AreFirst tree.old firsts.old }
     ensures ok { OnOk result (tree.new ≡ patching tree.old patch) }
     ensures unchanged { OnErr result (tree.new ≡ tree.old) }
     ensures right { AreIndexesFor tree.new indexes.new }
     ensures readings { AreReadings tree.new templates.new }
+    ensures firsts { AreFirst tree.new firsts.new }
     ensures made { OnOk result (IsTrue (is_some indexes.new)) }
     ensures kept { IsTrue (is_some indexes.old) → IsTrue (is_some indexes.new) }
 {
     let mut changed = indexes_of(alloc, tree, indexes.take())?;
-    let put = put_over(alloc, tree, templates, &mut changed, patch);
+    let put = put_over(alloc, tree, templates, firsts, &mut changed, patch);
     *indexes = Some(changed);
     put
 }

@@ -5,6 +5,7 @@ mod changes;
 mod choices;
 mod depths;
 mod errors;
+mod first_scripts;
 mod held_content;
 mod kept_index;
 mod laws;
@@ -26,6 +27,7 @@ mod setting;
 mod shared_blocks;
 mod targets;
 mod templates;
+mod waiting;
 
 pub use laws::{
     a_script_without_blocks_writes_its_pieces, a_script_writes_its_page,

@@ -1,12 +1,14 @@
 // The text of a page while it is put together.
 
-ghost use Rattle.std.specs.Prelude.{◌≡◌, ◌≤◌, ◌<◌, false, length, string_bytes};
+ghost use Rattle.std.specs.Prelude.{◌≡◌, ◌≢◌, ◌≤◌, ◌<◌, IfErr, false, length, string_bytes};
 ghost use Rattle.sp_base.specs.Limits.{most_rendered_bytes};
 ghost use Rattle.htl_blocks.specs.Refused.{most_inclusions, most_rounds};
-ghost use Rattle.publisher.specs.Gathering.{Gathered};
+ghost use Rattle.publisher.specs.Gathering.{Gathered, IsPassed};
+ghost use Rattle.publisher.specs.Waits.{nothing};
 ghost use Rattle.publisher.specs.Pages.{blank, one_inclusion, rounds_page, text_page};
 
 use crate::page_fault::PageFault;
+use crate::waiting::Waiting;
 use sp_base::{MOST_RENDERED_BYTES, TextBuf};
 use std::alloc::Global;
 use std::marker::Model;
@@ -49,9 +51,21 @@ impl PageText {
         }
     }
 
+    /// Refuses where there is no room for what waits.
+    pub(crate) fn needs_room(&self, waiting: Waiting) -> Result<(), PageFault>
+        ensures { IfErr result (λ f. f ≢ PageFault.NoMemory → IsPassed waiting self.now) }
+    {
+        if waiting.text > MOST_RENDERED_BYTES - self.text.as_str().len()
+            || waiting.inclusions > MOST_INCLUSIONS - self.inclusions
+        {
+            return Err(PageFault::Over);
+        }
+        Ok(())
+    }
+
     /// Writes a text.
     pub(crate) fn push(&mut self, text: &str) -> Result<(), PageFault>
-        ensures { Gathered result self.old self.new (text_page text.now) }
+        ensures { Gathered nothing result self.old self.new (text_page text.now) }
     {
         if text.len() > MOST_RENDERED_BYTES - self.text.as_str().len() {
             return Err(PageFault::Over);
@@ -62,7 +76,7 @@ impl PageText {
 
     /// Counts something that is to be put in.
     pub(crate) fn count_inclusion(&mut self) -> Result<(), PageFault>
-        ensures { Gathered result self.old self.new one_inclusion }
+        ensures { Gathered nothing result self.old self.new one_inclusion }
     {
         if self.inclusions >= MOST_INCLUSIONS {
             return Err(PageFault::Over);
@@ -73,7 +87,7 @@ impl PageText {
 
     /// Counts the contents of lists.
     pub(crate) fn count_rounds(&mut self, rounds: usize) -> Result<(), PageFault>
-        ensures { Gathered result self.old self.new (rounds_page rounds) }
+        ensures { Gathered nothing result self.old self.new (rounds_page rounds) }
     {
         if rounds > MOST_ROUNDS - self.rounds {
             return Err(PageFault::Over);

@@ -5,9 +5,10 @@ ghost use Rattle.htl_expr.specs.Variables.{vars_of};
 ghost use Rattle.htl_blocks.specs.Parts as part;
 ghost use Rattle.htl_blocks.specs.Pieces.{piece_parts};
 ghost use Rattle.htl_blocks.specs.Written.{blocks_parts};
-ghost use Rattle.publisher.specs.Gathering.{Gathered, PassLimits, bindings_in, inclusion_in, script_page};
+ghost use Rattle.publisher.specs.Gathering.{Gathered, PassLimits, blocks_in, inclusion_in, script_page};
 ghost use Rattle.publisher.specs.Kept.{AreReadings};
 ghost use Rattle.publisher.specs.Pages.{parts_page};
+ghost use Rattle.publisher.specs.Waits.{IsLeastOf};
 
 use crate::names::path_named;
 use crate::page_fault::PageFault;
@@ -16,6 +17,7 @@ use crate::ranking::html_script;
 use crate::script_blocks::script_blocks;
 use crate::setting::{Setting, scope_in};
 use crate::templates::Templates;
+use crate::waiting::{Waiting, least_of, size_of_piece};
 use htl_blocks::{Blocks, Piece, PieceList, RunFault};
 use htl_expr::{Scope, Variables};
 use overlay_merge::merged_alone;
@@ -50,13 +52,15 @@ pub(crate) fn write_blocks(
     blocks: &Blocks,
 ) -> Result<(), PageFault>
     requires kept { AreReadings setting.now.tree.now templates.old }
-    ensures page { Gathered result page.old page.new (parts_page (inclusion_in setting.now) (blocks_parts (bindings_in setting.now) blocks.now)) }
+    ensures page { Gathered setting.now.waiting result page.old page.new (parts_page (inclusion_in setting.now) (blocks_in setting.now blocks.now)) }
     ensures kept { AreReadings setting.now.tree.now templates.new }
 {
     let scope = scope_in(setting);
     let list = pieces(alloc, &scope, blocks)?;
     page.count_rounds(list.rounds())?;
-    write_pieces(page, alloc, templates, setting, &list)
+    let least = least_of(&list);
+    page.needs_room(setting.waiting.beside(least))?;
+    write_pieces(page, alloc, templates, setting, &list, least)
 }
 
 #[cycle(page)]
@@ -66,13 +70,26 @@ fn write_pieces(
     templates: &mut Templates,
     setting: &Setting,
     list: &PieceList,
+    least: Waiting,
 ) -> Result<(), PageFault>
     requires kept { AreReadings setting.now.tree.now templates.old }
-    ensures page { Gathered result page.old page.new (parts_page (inclusion_in setting.now) list.now.parts) }
+    requires least { IsLeastOf least list.now.parts }
+    ensures page { Gathered setting.now.waiting result page.old page.new (parts_page (inclusion_in setting.now) list.now.parts) }
     ensures kept { AreReadings setting.now.tree.now templates.new }
 {
+    let mut left = least;
     for piece in list.pieces() {
-        write_piece(page, alloc, templates, setting, list, piece)?;
+        left = left.without(size_of_piece(piece));
+        let inner = Setting {
+            tree: &*setting.tree,
+            script: &*setting.script,
+            path: &*setting.path,
+            props: &*setting.props,
+            vars: &*setting.vars,
+            levels: setting.levels,
+            waiting: setting.waiting.beside(left),
+        };
+        write_piece(page, alloc, templates, &inner, list, piece)?;
     }
     Ok(())
 }
@@ -87,7 +104,7 @@ fn write_piece<'l>(
     piece: &Piece<'l>,
 ) -> Result<(), PageFault>
     requires kept { AreReadings setting.now.tree.now templates.old }
-    ensures page { Gathered result page.old page.new (parts_page (inclusion_in setting.now) (piece_parts list.now.scope piece.now)) }
+    ensures page { Gathered setting.now.waiting result page.old page.new (parts_page (inclusion_in setting.now) (piece_parts list.now.scope piece.now)) }
     ensures kept { AreReadings setting.now.tree.now templates.new }
 {
     match piece {
@@ -117,7 +134,7 @@ fn include_script(
     vars: &Variables,
 ) -> Result<(), PageFault>
     requires kept { AreReadings setting.now.tree.now templates.old }
-    ensures page { Gathered result page.old page.new (inclusion_in setting.now (part.Script name.now (vars_of vars.now))) }
+    ensures page { Gathered setting.now.waiting result page.old page.new (inclusion_in setting.now (part.Script name.now (vars_of vars.now))) }
     ensures kept { AreReadings setting.now.tree.now templates.new }
 {
     if setting.levels == 0 {
@@ -134,6 +151,7 @@ fn include_script(
         props: &*setting.props,
         vars: &*vars,
         levels: setting.levels - 1,
+        waiting: setting.waiting,
     };
     write_script(page, alloc, templates, &inner)
 }
@@ -148,7 +166,7 @@ fn include_resource(
     name: &str,
 ) -> Result<(), PageFault>
     requires kept { AreReadings setting.now.tree.now templates.old }
-    ensures page { Gathered result page.old page.new (inclusion_in setting.now (part.Resource name.now)) }
+    ensures page { Gathered setting.now.waiting result page.old page.new (inclusion_in setting.now (part.Resource name.now)) }
     ensures kept { AreReadings setting.now.tree.now templates.new }
 {
     if setting.levels == 0 {
@@ -170,6 +188,7 @@ fn include_resource(
         props: res.props(),
         vars: &Variables::None,
         levels: setting.levels - 1,
+        waiting: setting.waiting,
     };
     write_script(page, alloc, templates, &inner)
 }
@@ -183,7 +202,7 @@ fn write_script(
     setting: &Setting,
 ) -> Result<(), PageFault>
     requires kept { AreReadings setting.now.tree.now templates.old }
-    ensures page { Gathered result page.old page.new (script_page setting.now) }
+    ensures page { Gathered setting.now.waiting result page.old page.new (script_page setting.now) }
     ensures kept { AreReadings setting.now.tree.now templates.new }
 {
     let Some(blocks) = script_blocks(alloc, setting.tree, templates, setting.script)? else {

@@ -8,7 +8,7 @@ ghost use Rattle.publisher.specs.Rendering.{mapping, posted_answer, posted_conte
 
 use crate::errors::redirect;
 use crate::held_content::HeldContent;
-use crate::kept_index::put_with_index;
+use crate::kept_index::put_with_indexes;
 use crate::posting::{planned, report_answer};
 use crate::refusal::Refusal;
 use error_answers::error_answer;
@@ -64,17 +64,18 @@ impl HeldContent {
         Ok(answer)
     }
 
-    // Puts a patch over the tree, and keeps what of the readings and the indexes is still right.
+    // Puts a patch over the tree, and keeps what of the readings, the first scripts and the indexes is still right.
     fn put(&mut self, alloc: Global, patch: Patch) -> Mem<()>
         requires { IsGood (patching self.old.tree patch) }
         ensures ok { OnOk result (self.new.tree ≡ patching self.old.tree patch) }
         ensures unchanged { OnErr result (self.new.tree ≡ self.old.tree) }
         ensures kept { IsTrue self.old.is_indexed → IsTrue self.new.is_indexed }
     {
-        put_with_index(
+        put_with_indexes(
             alloc,
             &mut self.tree,
             &mut self.templates,
+            &mut self.firsts,
             &mut self.indexes,
             patch,
         )

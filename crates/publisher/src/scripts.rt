@@ -11,6 +11,7 @@ use crate::pages::write_blocks;
 use crate::representations::representation_of;
 use crate::setting::Setting;
 use crate::templates::{Reading, Templates};
+use crate::waiting::Waiting;
 use error_answers::error_answer;
 use htl_blocks::Blocks;
 use htl_expr::Variables;
@@ -43,6 +44,7 @@ fn page_representation(
         props: res.props(),
         vars: &Variables::None,
         levels: MOST_LEVELS,
+        waiting: Waiting::nothing(),
     };
     let mut page = PageText::new(alloc);
     match write_blocks(&mut page, alloc, templates, &setting, blocks) {

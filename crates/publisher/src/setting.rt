@@ -3,13 +3,14 @@
 ghost use Rattle.std.specs.Prelude.{◌≡◌};
 ghost use Rattle.publisher.specs.Gathering.{bindings_in};
 
+use crate::waiting::Waiting;
 use htl_expr::{Scope, Variables};
 use resource_tree::Tree;
 use sp_base::{Path, PropList};
 use type_chain::type_text;
 
-/// What a script is written in: the tree, the script's path, the path and the properties of the resource, the variables, and how many
-/// scripts and resources may still stand one in another.
+/// What a script is written in: the tree, the script's path, the path and the properties of the resource, the variables, how many scripts and
+/// resources may still stand one in another, and what waits behind it.
 #[derive(Clone, Copy, Drop)]
 pub(crate) struct Setting<'p> {
     pub(crate) tree: &'p Tree,
@@ -18,6 +19,7 @@ pub(crate) struct Setting<'p> {
     pub(crate) props: &'p PropList,
     pub(crate) vars: &'p Variables<'p>,
     pub(crate) levels: usize,
+    pub(crate) waiting: Waiting,
 }
 
 /// What the expressions of the script see.

@@ -1,5 +1,5 @@
 // The change of an index by a patch of the tree.
-ghost use Rattle.std.specs.Prelude.{◌≡◌, ◌≤◌, ◌&&◌, ◌||◌, not, IfOk, OnOk, length};
+ghost use Rattle.std.specs.Prelude.{◌≡◌, ◌==◌, ◌≤◌, ◌&&◌, ◌||◌, not, IfOk, OnOk, length};
 ghost use Rattle.std.specs.List.Sorted.{IsStrictlySortedBy};
 ghost use Rattle.sp_base.specs.Paths.{by_path};
 ghost use Rattle.resource_tree.specs.Content.{node_at};
@@ -30,6 +30,15 @@ impl Model for ScriptChange {
     ghost Value = { ScriptPathsChange };
 
     ghost view = { λ c. record { added = c.added.items; gone = c.gone.items } };
+}
+
+impl ScriptChange {
+    /// Whether a patch changes no script's path.
+    pub fn is_none(&self) -> bool
+        ensures { result ≡ (length self.now.added == 0 && length self.now.gone == 0) }
+    {
+        self.added.is_empty() && self.gone.is_empty()
+    }
 }
 
 impl ScriptIndex {

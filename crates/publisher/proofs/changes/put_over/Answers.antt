@@ -3,6 +3,7 @@ use Rattle.std.specs.List.Sorted.{IsStrictlySortedBy}
 use Rattle.sp_base.specs.Paths.{by_path}
 use Rattle.resource_tree.specs.Content.{Content, IsGood}
 use Rattle.script_rank.specs.Index.{ScriptPaths, IsScriptIndexOf, has_path}
+use Rattle.publisher.specs.FirstScripts.{AreFirst}
 use Rattle.publisher.specs.Kept.{AreAmong, AreReadings, KeptReadings}
 use Rattle.publisher.proofs.ForgetLemmas.{still_readings}
 use Rattle.publisher.proofs.changes.put_over.Goals as goal
@@ -36,3 +37,11 @@ pub returns-in_err-apply-clause-kept : goal.returns-in_err-apply-clause-kept
 returns-in_err-apply-clause-kept c =
     subst (λ tree. AreReadings tree c.forget_patched.new.templates) (sym c.in_err-apply.ensures.unchanged)
     (left_readings c.args.tree.now c.args.templates.now c.forget_patched.new.templates c.requires.kept c.forget_patched.ensures.fewer)
+
+pub returns-clause-firsts : goal.returns-clause-firsts
+returns-clause-firsts c =
+    c.forget_firsts.ensures.after c.apply.new.self (subst IsGood (sym c.in_ok-apply.ensures.ok) c.requires.good) c.in_ok-apply.ensures.look_ups
+
+pub returns-in_err-apply-clause-firsts : goal.returns-in_err-apply-clause-firsts
+returns-in_err-apply-clause-firsts c =
+    subst (λ tree. AreFirst tree c.forget_firsts.new.firsts) (sym c.in_err-apply.ensures.unchanged) c.forget_firsts.ensures.before

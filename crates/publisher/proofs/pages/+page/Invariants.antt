@@ -1,8 +1,8 @@
-use Rattle.std.proofs.Common.{◌≡◌, ◌+◌, ◌*◌, take}
+use Rattle.std.proofs.Common.{◌+◌, ◌*◌, take}
 use Rattle.htl_blocks.specs.Pieces.{pieces_parts}
 use Rattle.publisher.specs.Gathering.{inclusion_in}
 use Rattle.publisher.specs.Kept.{AreReadings}
-use Rattle.publisher.specs.Pages.{joined, parts_page}
+use Rattle.publisher.proofs.PageSteps.{IsSoFar}
 use Rattle.publisher.proofs.pages.+page.Given as goal
 
 abbrev pub decreases-write_piece : goal.decreases-write_piece
@@ -25,4 +25,4 @@ decreases-include_resource l = 5 * l.setting.now.levels
 
 abbrev pub invariant-write_pieces-loop-piece : goal.invariant-write_pieces-loop-piece
 invariant-write_pieces-loop-piece l =
-    (l.page ≡ joined l.fn.page (parts_page (inclusion_in l.fn.setting) (pieces_parts l.fn.list.scope (take l.piece-index l.piece-items)))) × AreReadings l.fn.setting.tree.now l.templates
+    IsSoFar (inclusion_in l.fn.setting) l.fn.page l.page l.left (pieces_parts l.fn.list.scope (take l.piece-index l.piece-items)) (pieces_parts l.fn.list.scope l.piece-items) × AreReadings l.fn.setting.tree.now l.templates

@@ -24,5 +24,5 @@ returns-in-Err-Over-clause-answer c =
     let page = page_of c.args.tree.now (place_for c.args.script.now res) c.args.blocks.now in
     let is = page_is c.args.tree.now res c.args.script.now c.path.result.now c.props.result.now _ c.args.blocks.now _ refl c.path.ensures c.props.ensures none_are in
     answer-as c.error_answer.result _ _
-    (over_limits (mark_of res) c.new-page.result page c.new-page.ensures (subst (λ (p : Page). IsPassed (joined c.new-page.result p)) is (c.in-Err-Over.ensures.page (λ same. cc))))
+    (over_limits (mark_of res) c.nothing.result c.new-page.result page c.nothing.ensures c.new-page.ensures (subst (λ (p : Page). IsPassed c.nothing.result (joined c.new-page.result p)) is (c.in-Err-Over.ensures.page (λ same. cc))))
     c.error_answer.ensures

@@ -3,6 +3,7 @@ use Rattle.std.proofs.Common.{◌≡◌, ◌≤◌, ℕ, zero, suc, Bool, true, 
 use Rattle.std.specs.Str.{is_utf8}
 use Rattle.std.proofs.lemmas.Bool.Decides.{nat_tests}
 use Rattle.sp_base.specs.Bytes.{begins_with_byte}
+use Rattle.sp_base.proofs.ListLemmas.{cons_is_some}
 use Rattle.any_config.specs.declared.node.AnyNode.{AnyNode}
 use Rattle.any_config.specs.declared.node.AnyNode.TheVariants as node
 use Rattle.any_config.specs.declared.stop.AnyStop.{AnyStop}
@@ -201,12 +202,9 @@ members_end : (depth : ℕ) (t : List ℕ) (ms : Members) (r : List ℕ) → Are
 members_end _ _ _ _ (AreMembers.none {depth} {t} e) = e
 members_end _ _ _ _ (AreMembers.more {depth} {t} {r} {m} {ms} x n inside e h v g all) = members_end depth (comments_skipped inside) ms r all
 
-one_more : (c : ℕ) (r : List ℕ) → (length (c ∷ r) == 0) ≡ false
-one_more c r = grind (arith, nat_tests)
-
 at_brace : (c : ℕ) (r : List ℕ) → ends_members (c ∷ r) ≡ true → begins_with_byte 125 (c ∷ r) ≡ true
 unfolding ends_members
-at_brace c r e = sym (ap (λ (b : Bool). b || begins_with_byte 125 (c ∷ r)) (one_more c r)) ∙ e
+at_brace c r e = sym (ap (λ (b : Bool). b || begins_with_byte 125 (c ∷ r)) (cons_is_some c r)) ∙ e
 
 nothing_left : (r : List ℕ) → ends_members r ≡ true → begins_with_byte 125 r ≡ false → r ≡ []
 unfolding ends_members

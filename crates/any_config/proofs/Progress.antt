@@ -1,8 +1,9 @@
 -- Each part of a file takes a byte at least.
 use Rattle.std.proofs.Common.{◌≡◌, ◌<◌, ◌≤◌, ℕ, zero, suc, Bool, true, false, cond, not, ◌&&◌, ◌==◌, List, [], ◌∷◌, ◌++◌, take, drop, length, Ok, Err, Result, refl, ap, arith, length-drop}
 use Rattle.std.specs.Str.{is_utf8}
-use Rattle.std.proofs.lemmas.Bool.Decides.{nat_tests}
 use Rattle.sp_base.specs.Bytes.{begins_with_byte}
+use Rattle.sp_base.proofs.NatLemmas.{positive}
+use Rattle.sp_base.proofs.TextLemmas.{rest_after_byte}
 use Rattle.any_config.specs.declared.node.AnyNode.{AnyNode}
 use Rattle.any_config.specs.declared.node.AnyNode.TheVariants as node
 use Rattle.any_config.specs.declared.stop.AnyStop.{AnyStop}
@@ -37,11 +38,6 @@ pub skip_less : (t : List ℕ) → length (comments_skipped t) ≤ length t
 unfolding comments_skipped
 skip_less t = blanks_less false t
 
-at_tail : (c : ℕ) (t : List ℕ) → begins_with_byte c t ≡ true → length (drop 1 t) < length t
-unfolding begins_with_byte
-at_tail c [] h = absurd cc
-at_tail c (d ∷ t) h = omega arith
-
 pub name_less : (t : List ℕ) (x : List ℕ × List ℕ) → member_name t ≡ Ok x → length x.1 ≤ length t
 unfolding member_name
 name_less t x h = go (begins_with_byte 47 t) (run_len Name (drop 1 t) == 0) h
@@ -72,11 +68,8 @@ quoted_less mark t x at h = go (begins_with_byte mark (drop (run_len (Quoted mar
     go : (b : Bool) → cond b (Ok (quoted_node mark (take (run_len (Quoted mark) (drop 1 t)) (drop 1 t)), drop 1 (drop (run_len (Quoted mark) (drop 1 t)) (drop 1 t)))) (Err (BadQuote (length t))) ≡ Ok x → length x.1 < length t
     go true e =
         let same = ap (λ (y : AnyNode × List ℕ). length y.1) (ok_is _ x e) in
-        omega (arith, same, at_tail mark t at, length-drop 1 (drop (run_len (Quoted mark) (drop 1 t)) (drop 1 t)), length-drop (run_len (Quoted mark) (drop 1 t)) (drop 1 t))
+        omega (arith, same, rest_after_byte mark t at, length-drop 1 (drop (run_len (Quoted mark) (drop 1 t)) (drop 1 t)), length-drop (run_len (Quoted mark) (drop 1 t)) (drop 1 t))
     go false e = absurd cc
-
-positive : (n : ℕ) → (n == 0) ≡ false → 0 < n
-positive n h = grind (arith, nat_tests)
 
 plain_within : (t : List ℕ) → run_len Plain t ≤ length t
 unfolding run_len
@@ -142,7 +135,7 @@ opened_less inner takes t x h =
     go : (ms : Members × List ℕ) (b : Bool) → begins_with_byte 125 ms.1 ≡ b → length ms.1 ≤ length (comments_skipped (drop 1 t)) → cond b (Ok (node.Group ms.0, drop 1 ms.1)) (Err (Unclosed (length t))) ≡ Ok x → length x.1 < length t
     go ms true at le e =
         let same = ap (λ (z : AnyNode × List ℕ). length z.1) (ok_is _ x e) in
-        omega (arith, same, le, at_tail 125 ms.1 at, skip_less (drop 1 t), length-drop 1 t)
+        omega (arith, same, le, rest_after_byte 125 ms.1 at, skip_less (drop 1 t), length-drop 1 t)
     go ms false at le e = absurd cc
 
 pub group_takes : (depth : ℕ) → Takes (group depth)

@@ -1,8 +1,8 @@
 -- What is read is of the grammar.
 use Rattle.std.proofs.Common.{◌≡◌, ◌≤◌, ℕ, zero, suc, Bool, true, false, cond, ◌==◌, List, [], ◌∷◌, ◌++◌, drop, length, Result, Ok, Err, refl, ap, sym, ◌∙◌, arith, append_assoc, subst}
 use Rattle.std.proofs.lemmas.List.{append-nil}
-use Rattle.std.proofs.lemmas.Bool.Decides.{nat_tests}
 use Rattle.sp_base.specs.Bytes.{begins_with_byte}
+use Rattle.sp_base.proofs.ListLemmas.{nil_from_test}
 use Rattle.any_config.specs.declared.node.AnyNode.{AnyNode}
 use Rattle.any_config.specs.declared.node.AnyNode.TheVariants as node
 use Rattle.any_config.specs.declared.stop.AnyStop.{AnyStop}
@@ -79,10 +79,6 @@ unfolding group
 group_sound zero t x at h = absurd cc
 group_sound (suc d) t x at h = opened_sound d (group_sound d) t x at h
 
-pub is_nil : (t : List ℕ) → (length t == 0) ≡ true → t ≡ []
-is_nil [] h = refl
-is_nil (c ∷ t) h = absurd (grind (arith, nat_tests))
-
 read_sound : (text : List ℕ) (top : AnyNode) → file_read text ≡ Ok top → IsFile text top
 unfolding file_read members
 read_sound text top h =
@@ -94,7 +90,7 @@ read_sound text top h =
     go y true e ms all_of spelled f = record {
       members = ms;
       group = sym (ok_is _ top f) ∙ ap node.Group all_of;
-      spelled = subst (λ (r : List ℕ). AreMembers 32 (comments_skipped text) ms r) (is_nil y.1 e) spelled;
+      spelled = subst (λ (r : List ℕ). AreMembers 32 (comments_skipped text) ms r) (nil_from_test y.1 e) spelled;
     }
     go y false e ms all_of spelled f = absurd cc
 

@@ -1,5 +1,5 @@
 -- Runs of bytes.
-use Rattle.std.proofs.Common.{◌≡◌, ◌<◌, ◌≤◌, ℕ, zero, suc, ◌+◌, Bool, true, false, cond, not, List, [], ◌∷◌, take, drop, length, get_or, Option, Some, None, MatchOption, nat_lt, refl, subst, arith, IsUtf8, Ok, Err}
+use Rattle.std.proofs.Common.{◌≡◌, ◌<◌, ◌≤◌, ℕ, zero, suc, ◌+◌, Bool, true, false, cond, not, List, [], ◌∷◌, take, drop, length, get_or, refl, subst, arith, IsUtf8, Ok, Err}
 use Rattle.std.specs.List.{position_or_len}
 use Rattle.std.specs.Str.{is_utf8}
 use Rattle.std.proofs.lemmas.Str.{IsUtf8-from_ascii, IsUtf8-from_is_utf8, is_utf8-from_IsUtf8}
@@ -9,15 +9,6 @@ use Rattle.any_config.specs.declared.tokens.ByteRun.{ByteRun}
 use Rattle.any_config.specs.declared.tokens.ByteRun.TheVariants.{Name, Plain, Quoted}
 use Rattle.any_config.specs.Tokens.{ends, run_len, is_config_name_byte, is_plain_byte, quoted_value, quoted_node}
 use Rattle.any_config.specs.declared.stop.AnyStop.TheVariants.{BadQuote}
-
-pub place_is : (n len : ℕ) → n ≤ len → (r : Option ℕ) → r ≡ cond (nat_lt n len) (Some n) None → MatchOption r (len ≡ n) (λ i. i ≡ n)
-place_is n len le r e = go (nat_lt n len) refl r e
-  where
-    go : (b : Bool) → nat_lt n len ≡ b → (o : Option ℕ) → o ≡ cond b (Some n) None → MatchOption o (len ≡ n) (λ i. i ≡ n)
-    go true t (Some i) x = cc
-    go true t None x = absurd cc
-    go false t (Some i) x = absurd cc
-    go false t None x = grind (arith, nat_tests)
 
 pub run_within : (run : ByteRun) (t : List ℕ) → position_or_len (ends run) t ≤ length t
 run_within run [] = omega arith

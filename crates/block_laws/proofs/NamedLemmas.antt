@@ -4,6 +4,7 @@ use Rattle.std.proofs.lemmas.Bool.{and_parts, eqb-true}
 use Rattle.std.specs.List.{starts_with}
 use Rattle.std.specs.Cmp.Lexicographic.{pointwise, same_text}
 use Rattle.sp_base.specs.Texts.{Text}
+use Rattle.sp_base.proofs.ListLemmas.{nil_from_test}
 use Rattle.htl_text.specs.declared.fault.TextFault.{TextFault}
 use Rattle.htl_text.specs.declared.piece.TemplatePiece.{TemplatePiece}
 use Rattle.htl_text.specs.Template.{template_of}
@@ -91,10 +92,6 @@ named_is name s (IsNamed.OfUnwrap is e) = rw (is, e) refl
 
 -- ---- what a statement says
 
-empty : (v : Text) → eqb (length v) 0 ≡ true → v ≡ []
-empty [] e = refl
-empty (c ∷ v) e = absurd (let n = eqb-true (length (c ∷ v)) 0 e in omega (arith, n))
-
 unwrap_is : (s : Statement) → unwraps s ≡ true → s ≡ statement.Unwrap
 unwrap_is statement.Test e = absurd cc
 unwrap_is (statement.List name) e = absurd cc
@@ -132,7 +129,7 @@ said s (quoted v) a e = go (eqb (length v) 0 && unwraps s) refl e
     go true is f =
         let both = and_parts (eqb (length v) 0) (unwraps s) is in
         let same : attribute.Unwrap unwrap.Always ≡ a = cc in
-        Says.Always (inr (ap quoted (empty v both.0))) (unwrap_is s both.1) (sym same)
+        Says.Always (inr (ap quoted (nil_from_test v both.0))) (unwrap_is s both.1) (sym same)
     go false is f = read_found s v a is f
 
 few_is : (ps : List TemplatePiece) → length ps ≤ 1 → at_most_one ps ≡ Some ps

@@ -1,9 +1,11 @@
 -- What a tag is read as is what its text spells.
 use Rattle.std.proofs.Common.{◌≡◌, inl, inr, ◌<◌, ◌≤◌, ◌+◌, ℕ, zero, suc, Bool, true, false, cond, ◌&&◌, eqb, List, [], ◌∷◌, ◌++◌, take, drop, length, Option, Some, None, refl, ap, sym, subst, ◌∙◌, arith, append-nil, append_assoc, length-append}
-use Rattle.std.proofs.lemmas.Bool.{and_parts, eqb-true}
+use Rattle.std.proofs.lemmas.Bool.{and_parts}
 use Rattle.std.proofs.lemmas.Bool.Decides.{nat_tests}
+use Rattle.std.proofs.lemmas.Option.{same_Some}
 use Rattle.std.specs.List.{list_all}
 use Rattle.sp_base.specs.Texts.{Text}
+use Rattle.sp_base.proofs.ListLemmas.{nil_from_test}
 use Rattle.htl_syntax.specs.Tokens.{is_blank}
 use Rattle.htl_blocks.specs.declared.attribute.Attribute.{Attribute}
 use Rattle.htl_blocks.specs.declared.attribute.Attributes.{Attributes}
@@ -84,10 +86,6 @@ nothing_ends : (before : Text) (last : ℕ) → [] ≡ before ++ last ∷ [] →
 nothing_ends [] last e = absurd cc
 nothing_ends (c ∷ before) last e = absurd cc
 
-empty : (v : Text) → eqb (length v) 0 ≡ true → v ≡ []
-empty [] e = refl
-empty (c ∷ v) e = absurd (let n = eqb-true (length (c ∷ v)) 0 e in omega (arith, n))
-
 ends_after : (c : ℕ) (u : Text) → (is_blank c && eqb (length u) 0) ≡ false → EndsInNoBlank u → EndsInNoBlank (c ∷ u)
 ends_after c u apart ends [] last e =
     let same : c ≡ last = cc in
@@ -107,7 +105,7 @@ end_found (c ∷ t) = go (is_blank c && eqb (length (end_trimmed t)) 0) refl (en
     go : (b : Bool) → (is_blank c && eqb (length (end_trimmed t)) 0) ≡ b → EndTrimmed t → EndTrimmed (c ∷ t)
     go true is x =
         let both = and_parts (is_blank c) (eqb (length (end_trimmed t)) 0) is in
-        let none = empty (end_trimmed t) both.1 in
+        let none = nil_from_test (end_trimmed t) both.1 in
         let rest : t ≡ x.blanks = x.whole ∙ ap (λ (u : Text). u ++ x.blanks) none in
         let all : list_all is_blank (c ∷ t) ≡ true = rw both.0 (ap (list_all is_blank) rest ∙ x.all) in
         record { blanks = c ∷ t; whole = rw is refl; all = all; ends = rw is (λ before last e. absurd (nothing_ends before last e)) }
@@ -206,12 +204,9 @@ record ReadAs (found : Attributes) (kept t : Text) (a : Attributes) (all : Text)
   left : all ≡ kept ++ whole_text pieces
   gathers : gathered (Some found) each ≡ Some a
 
-some_same : {X : Type 0} (x y : X) → Some x ≡ Some y → x ≡ y
-some_same x y e = cc
-
 last_read : (found : Attributes) (kept t : Text) (a : Attributes) (all : Text) → HoldsOfNone begins_statement Outside t [] → ◌≡◌ {A = Option (Attributes × Text)} (Some (found, kept ++ t)) (Some (a, all)) → ReadAs found kept t a all
 last_read found kept t a all none e =
-    let both = some_same {X = Attributes × Text} (found, kept ++ t) (a, all) e in
+    let both = same_Some {X = Attributes × Text} (found, kept ++ t) (a, all) e in
     let same : found ≡ a = ap (λ (x : Attributes × Text). x.0) both in
     let text : kept ++ t ≡ all = ap (λ (x : Attributes × Text). x.1) both in
     record { pieces = t ∷ []; each = []; spelled = SpellsTag.Last none; left = sym text ∙ ap (λ (u : Text). kept ++ u) (sym (append-nil t)); gathers = ap Some same }

@@ -1,7 +1,8 @@
 -- The values of attributes.
-use Rattle.std.proofs.Common.{◌≡◌, ◌⊎◌, inl, inr, ◌≤◌, ◌+◌, ℕ, zero, suc, Bool, true, false, cond, not, eqb, [], ◌∷◌, ◌++◌, take, drop, length, Some, None, refl, ap, sym, subst, ◌∙◌, arith, append-nil, append_assoc, length-append}
+use Rattle.std.proofs.Common.{◌≡◌, ◌⊎◌, inl, inr, ◌≤◌, ◌+◌, ℕ, Bool, true, false, cond, not, eqb, [], ◌∷◌, ◌++◌, take, drop, length, Some, None, refl, ap, sym, subst, ◌∙◌, arith, append-nil, append_assoc, length-append}
 use Rattle.std.proofs.lemmas.Bool.{eqb-true}
 use Rattle.std.proofs.lemmas.Bool.Decides.{nat_tests}
+use Rattle.std.proofs.lemmas.List.{drop_all}
 use Rattle.std.specs.List.{list_all}
 use Rattle.sp_base.specs.Bytes.{begins_with_byte}
 use Rattle.sp_base.specs.Texts.{Text}
@@ -93,18 +94,12 @@ closed_is mark v later all =
     let two = cut_behind (v ++ mark ∷ []) later (v ++ mark ∷ later) (quoted_len mark (v ++ mark ∷ later) + 1) (sym (append_assoc v (mark ∷ []) later)) more in
     ap (λ (x : Text). (quoted x, drop (quoted_len mark (v ++ mark ∷ later) + 1) (v ++ mark ∷ later))) one.0 ∙ ap (λ (x : Text). (quoted v, x)) two.1
 
-past_end : (n : ℕ) (t : Text) → length t ≤ n → drop n t ≡ []
-past_end zero [] h = refl
-past_end (suc n) [] h = refl
-past_end zero (c ∷ t) h = absurd (omega (arith, h))
-past_end (suc n) (c ∷ t) h = past_end n t (omega (arith, h))
-
 open_is : (mark : ℕ) (v : Text) → HasNoMark mark v → quoted_is mark v ≡ (quoted v, [])
 open_is mark v all =
     let whole = append-nil v in
     let len : quoted_len mark v ≡ length v = ap (quoted_len mark) (sym whole) ∙ quoted_len_is mark v [] all tt in
     let one = cut_behind v [] v (quoted_len mark v) (sym whole) len in
-    let two = past_end (quoted_len mark v + 1) v (omega (arith, len)) in
+    let two = drop_all (quoted_len mark v + 1) v (omega (arith, len)) in
     ap (λ (x : Text). (quoted x, drop (quoted_len mark v + 1) v)) one.0 ∙ ap (λ (x : Text). (quoted v, x)) two
 
 -- the same, the other way round

@@ -1,10 +1,12 @@
 -- A change of one file of the docroot leaves no stamp later than the session, where the file isn't one of a later stamp.
 use Rattle.std.proofs.Common.{◌≡◌, ◌≢◌, ◌≤◌, inl, inr, ⊎_elim, ℕ, List, Some, None, sym, ◌∙◌, ap, subst, arith, option_map}
+use Rattle.std.proofs.lemmas.Option.{none-some, same_Some}
 use Rattle.std.specs.Prelude.{option_and_then, unwrap_or}
 use Rattle.std.specs.List.{AllByRecursion}
 use Rattle.sp_base.specs.Bytes.{AreBytes}
 use Rattle.sp_outside.specs.Files.{Files, file_at, with_file, without_file}
 use Rattle.sp_base.specs.declared.answer.Answer.{Answer}
+use Rattle.sp_base.proofs.TextLemmas.{one_text_or_two}
 use Rattle.cover_rules.specs.Pages.{IsPageKey}
 use Rattle.cover_rules.specs.declared.page.PageKey.{PageKey}
 use Rattle.cover_rules.specs.declared.stamp.Stamp.{Stamp}
@@ -14,7 +16,7 @@ use Rattle.cache_files.specs.declared.head_note.HeadNote.{HeadNote}
 use Rattle.cache_files.specs.Epochs.{epoch_held}
 use Rattle.cache_files.specs.HeldStamps.{HasNoLaterStamp, IsFolderStamp, IsPageStamp}
 use Rattle.cache_files.specs.Pages.{files_with_page, files_without_page, head_at, note_of, page_body_name, page_head_name, page_head_text}
-use Rattle.cache_files.proofs.PageFiles.{FileLaws, NameLaws, decide, head_from}
+use Rattle.cache_files.proofs.PageFiles.{FileLaws, NameLaws, head_from}
 use Rattle.cache_files.proofs.StoppedChanges.{bare_files, half_files}
 
 -- only the file of this name may have changed
@@ -45,7 +47,7 @@ keeps_page files new name stamp beside heads rises before held =
     ⊎_elim (λ e. subst (λ (s : Stamp). s.epoch ≤ epoch_held new) is (heads key page e head at))
     (λ differ. let old : head_at files key ≡ Some head = ap head_from (sym (beside (page_head_name key) differ)) ∙ at in
     omega (arith, rises, before stamp (inl (key, (page, (head, (old, is)))))))
-    (decide (page_head_name key) name)
+    (one_text_or_two (page_head_name key) name)
 
 keeps_folder : (files new : Files) (name : List ℕ) (stamp : Stamp) → Beside files new name → StatsKept new name → epoch_held files ≤ epoch_held new → HasNoLaterStamp files → IsFolderStamp new stamp → stamp.epoch ≤ epoch_held new
 keeps_folder files new name stamp beside stats rises before held =
@@ -55,7 +57,7 @@ keeps_folder files new name stamp beside stats rises before held =
     let at = held.1.1.1 in
     ⊎_elim (λ e. stats folder text e stamp at)
     (λ differ. omega (arith, rises, before stamp (inr (folder, (path, (text, ap (option_and_then stat_of) (sym (beside (stat_name folder) differ)) ∙ at))))))
-    (decide (stat_name folder) name)
+    (one_text_or_two (stat_name folder) name)
 
 keeps : (files new : Files) (name : List ℕ) → Beside files new name → HeadsKept new name → StatsKept new name → epoch_held files ≤ epoch_held new → HasNoLaterStamp files → HasNoLaterStamp new
 keeps files new name beside heads stats rises before stamp held =
@@ -70,17 +72,11 @@ same_up_to m n e = omega (arith, e)
 rises_by : (files new : Files) (name : List ℕ) → Beside files new name → epoch_name ≢ name → epoch_held files ≤ epoch_held new
 rises_by files new name beside differ = same_up_to (epoch_held files) (epoch_held new) (same_epoch files new name beside differ)
 
-no_head : (head : HeadNote) → None ≡ Some head → ⊥
-no_head head e = absurd (cc (e))
-
-no_stamp : (stamp : Stamp) → None ≡ Some stamp → ⊥
-no_stamp stamp e = absurd (cc (e))
-
 pub removed : (files new : Files) (name : List ℕ) → Beside files new name → file_at new name ≡ None → epoch_name ≢ name → HasNoLaterStamp files → HasNoLaterStamp new
 removed files new name beside none differ before =
     keeps files new name beside
-    (λ key page e head at. absurd (no_head head (sym (ap (λ n. head_from (file_at new n)) e ∙ ap head_from none) ∙ at)))
-    (λ folder text e stamp at. absurd (no_stamp stamp (sym (ap (λ n. option_and_then stat_of (file_at new n)) e ∙ ap (option_and_then stat_of) none) ∙ at)))
+    (λ key page e head at. absurd (none-some head (sym (ap (λ n. head_from (file_at new n)) e ∙ ap head_from none) ∙ at)))
+    (λ folder text e stamp at. absurd (none-some stamp (sym (ap (λ n. option_and_then stat_of (file_at new n)) e ∙ ap (option_and_then stat_of) none) ∙ at)))
     (rises_by files new name beside differ) before
 
 pub other_file : (files new : Files) (name : List ℕ) → Beside files new name → NoHead name → NoStat name → epoch_held files ≤ epoch_held new → HasNoLaterStamp files → HasNoLaterStamp new
@@ -103,9 +99,6 @@ head_file files new name text line beside found read small stats differ before =
     subst (λ (h : HeadNote). h.stamp.epoch ≤ epoch_held new) (noted line head is) (omega (arith, small, rises)))
     (λ folder texts e. absurd (stats folder texts e)) rises before
 
-one_stamp : (stamp other : Stamp) → Some stamp ≡ Some other → stamp ≡ other
-one_stamp stamp other e = cc (e)
-
 pub stat_file : (files new : Files) (name text : List ℕ) (stamp : Stamp) → Beside files new name → file_at new name ≡ Some text → stat_of text ≡ Some stamp → stamp.epoch ≤ epoch_held files → NoHead name → epoch_name ≢ name
     → HasNoLaterStamp files → HasNoLaterStamp new
 stat_file files new name text stamp beside found read small heads differ before =
@@ -113,7 +106,7 @@ stat_file files new name text stamp beside found read small heads differ before 
     keeps files new name beside (λ key page e. absurd (heads key page e))
     (λ folder texts e other at.
     let is : Some stamp ≡ Some other = sym (ap (λ n. option_and_then stat_of (file_at new n)) e ∙ ap (option_and_then stat_of) found ∙ read) ∙ at in
-    subst (λ (s : Stamp). s.epoch ≤ epoch_held new) (one_stamp stamp other is) (omega (arith, small, rises)))
+    subst (λ (s : Stamp). s.epoch ≤ epoch_held new) (same_Some stamp other is) (omega (arith, small, rises)))
     rises before
 
 -- ---- the steps of a put and of a drop

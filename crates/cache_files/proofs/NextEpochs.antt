@@ -27,24 +27,24 @@ above files epoch before e small = above_held (file_at files epoch_name) epoch b
 
 -- ---- and fits in 64 bits
 
-not_end : (b : Bool) (held epoch : ℕ) → cond b (Err EpochEnd) (Ok (held + 1)) ≡ Ok epoch → b ≡ false
-not_end true held epoch e = absurd cc
-not_end false held epoch e = refl
+pub epoch_is_not_the_last : (b : Bool) (held epoch : ℕ) → cond b (Err EpochEnd) (Ok (held + 1)) ≡ Ok epoch → b ≡ false
+epoch_is_not_the_last true held epoch e = absurd cc
+epoch_is_not_the_last false held epoch e = refl
 
-before_last : (held : ℕ) → held < 2 ^ 64 → nat_eq held greatest_epoch ≡ false → held < greatest_epoch
-before_last held small differ = grind (arith, nat_tests)
+pub before_last_epoch : (held : ℕ) → held < 2 ^ 64 → nat_eq held greatest_epoch ≡ false → held < greatest_epoch
+before_last_epoch held small differ = grind (arith, nat_tests)
 
-small_after : (read : Option ℕ) (epoch : ℕ) → ((held : ℕ) → read ≡ Some held → held < 2 ^ 64) → after_epoch read ≡ Ok epoch → epoch < 2 ^ 64
-small_after None epoch small e = absurd cc
-small_after (Some held) epoch small e =
-    let less : held < greatest_epoch = before_last held (small held refl) (not_end (nat_eq held greatest_epoch) held epoch e) in
+pub epoch_after_is_small : (read : Option ℕ) (epoch : ℕ) → ((held : ℕ) → read ≡ Some held → held < 2 ^ 64) → after_epoch read ≡ Ok epoch → epoch < 2 ^ 64
+epoch_after_is_small None epoch small e = absurd cc
+epoch_after_is_small (Some held) epoch small e =
+    let less : held < greatest_epoch = before_last_epoch held (small held refl) (epoch_is_not_the_last (nat_eq held greatest_epoch) held epoch e) in
     omega (arith, less, value (nat_eq held greatest_epoch) held epoch e)
 
-small_next : (found : Option (List ℕ)) (epoch : ℕ) → ((text : List ℕ) (held : ℕ) → epoch_of text ≡ Some held → (0 < held) × (held < 2 ^ 64)) → epoch_after found ≡ Ok epoch → epoch < 2 ^ 64
-small_next None epoch fits e =
+pub epoch_after_text_is_small : (found : Option (List ℕ)) (epoch : ℕ) → ((text : List ℕ) (held : ℕ) → epoch_of text ≡ Some held → (0 < held) × (held < 2 ^ 64)) → epoch_after found ≡ Ok epoch → epoch < 2 ^ 64
+epoch_after_text_is_small None epoch fits e =
     let one : 1 ≡ epoch = cc in
     omega (arith, one)
-small_next (Some bytes) epoch fits e = small_after (epoch_of bytes) epoch (λ held is. (fits bytes held is).1) e
+epoch_after_text_is_small (Some bytes) epoch fits e = epoch_after_is_small (epoch_of bytes) epoch (λ held is. (fits bytes held is).1) e
 
-pub fits_next : (files : Files) (epoch : ℕ) → ((text : List ℕ) (held : ℕ) → epoch_of text ≡ Some held → (0 < held) × (held < 2 ^ 64)) → next_epoch files ≡ Ok epoch → epoch < 2 ^ 64
-fits_next files epoch fits e = small_next (file_at files epoch_name) epoch fits e
+pub next_epoch_is_small : (files : Files) (epoch : ℕ) → ((text : List ℕ) (held : ℕ) → epoch_of text ≡ Some held → (0 < held) × (held < 2 ^ 64)) → next_epoch files ≡ Ok epoch → epoch < 2 ^ 64
+next_epoch_is_small files epoch fits e = epoch_after_text_is_small (file_at files epoch_name) epoch fits e

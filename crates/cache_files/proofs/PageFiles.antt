@@ -1,9 +1,7 @@
 -- A page by its two files.
-use Rattle.std.proofs.Common.{◌≡◌, ◌≢◌, ◌⊎◌, inl, inr, ◌++◌, ℕ, true, false, List, Option, Some, None, length, codes, refl, sym, ◌∙◌, ap, arith, nat_eq, option_map}
+use Rattle.std.proofs.Common.{◌≡◌, ◌≢◌, ◌++◌, ℕ, List, Option, Some, None, length, codes, refl, ◌∙◌, ap, arith, option_map}
 use Rattle.std.specs.Prelude.{option_and_then, unwrap_or}
-use Rattle.std.specs.Cmp.Lexicographic.{pointwise, bytes_decides}
 use Rattle.std.specs.List.{AllByRecursion}
-use Rattle.std.proofs.lemmas.Bool.{true≢false}
 use Rattle.std.proofs.lemmas.List.{length-append}
 use Rattle.sp_base.specs.Bytes.{AreBytes}
 use Rattle.sp_base.specs.declared.answer.Answer.{Answer}
@@ -35,12 +33,6 @@ pub record NameLaws (key : PageKey) : Type 0 where
   pub stat_head : (folder : List (List ℕ)) → AllByRecursion AreBytes folder → stat_name folder ≢ page_head_name key
   pub epoch_body : epoch_name ≢ page_body_name key
   pub epoch_head : epoch_name ≢ page_head_name key
-
-pub decide : (xs ys : List ℕ) → (xs ≡ ys) ⊎ (xs ≢ ys)
-decide xs ys = elim (pointwise nat_eq xs ys) as (λ t. pointwise nat_eq xs ys ≡ t → (xs ≡ ys) ⊎ (xs ≢ ys)) [
-  | true ↦ λ e. inl ((bytes_decides xs ys).0 e)
-  | false ↦ λ e. inr (λ q. true≢false (sym ((bytes_decides xs ys).1 q) ∙ e))
-] refl
 
 -- a head's name is two bytes longer
 pub head_apart : (body : List ℕ) → body ≢ body ++ codes "%h"
@@ -81,8 +73,8 @@ no_body : (line : Option HeadLine) → option_and_then (λ l. option_and_then (s
 no_body None = refl
 no_body (Some line) = refl
 
-pub bodiless : (files : Files) (key : PageKey) → file_at files (page_body_name key) ≡ None → page_at files key ≡ None
-bodiless files key none = ap (page_from (file_at files (page_head_name key))) none ∙ no_body (option_and_then head_of (file_at files (page_head_name key)))
+pub no_page_without_body : (files : Files) (key : PageKey) → file_at files (page_body_name key) ≡ None → page_at files key ≡ None
+no_page_without_body files key none = ap (page_from (file_at files (page_head_name key))) none ∙ no_body (option_and_then head_of (file_at files (page_head_name key)))
 
 -- ---- beside one key's files
 

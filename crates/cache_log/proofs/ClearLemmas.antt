@@ -1,12 +1,13 @@
 -- What is clear, entry by entry and by places.
 use Rattle.std.proofs.Common.{◌≡◌, ◌≢◌, ◌++◌, ℕ, List, [], ◌∷◌, Option, Some, Contains, inl, inr, refl, sym, subst, ⊎_elim}
+use Rattle.sp_base.proofs.ListLemmas.{contains_first}
 use Rattle.any_config.specs.declared.farm.Farm.{Farm}
 use Rattle.cover_rules.specs.declared.page.PageKey.{PageKey}
 use Rattle.cover_rules.specs.declared.invalidation.Invalidation.{Invalidation}
 use Rattle.cache_log.specs.Entries.{LogEntry, Asked, Begun}
 use Rattle.cache_log.specs.Hits.{Covers, IsClear}
 use Rattle.cache_log.specs.Flown.{IsClearFlight, IsClearSince}
-use Rattle.cache_log.proofs.PlaceLemmas.{first-within, more-flight, none-within, placed-unfinished, rest-within, unfinished-placed, within}
+use Rattle.cache_log.proofs.PlaceLemmas.{more-flight, none-within, placed-unfinished, rest-within, unfinished-placed, within}
 
 -- one entry more, which begins no flush that covers the page
 pub more-since : (farm : Farm) (e : LogEntry) (since before : List LogEntry) (key : PageKey) → ((v : ℕ) (inv : Invalidation) → e ≡ Begun v inv → Covers farm inv key → ⊥) → IsClearSince farm since before key → IsClearSince farm (e ∷ since) before key
@@ -21,7 +22,7 @@ fewer-since farm e since before key c = record { none_unfinished = c.none_unfini
 
 -- the entry begins no flush that covers the page
 pub first-spares : (farm : Farm) (v : ℕ) (inv : Invalidation) (since before : List LogEntry) (key : PageKey) → IsClearSince farm (Begun v inv ∷ since) before key → Covers farm inv key → ⊥
-first-spares farm v inv since before key c = c.none_begun v inv (first-within (Begun v inv) since)
+first-spares farm v inv since before key c = c.none_begun v inv (contains_first (Begun v inv) since)
 
 more-clear : (farm : Farm) (e : LogEntry) (log : List LogEntry) (n : ℕ) (key : PageKey) → ((k : Option PageKey) → e ≢ Asked n k) → ((v : ℕ) (inv : Invalidation) → e ≡ Begun v inv → Covers farm inv key → ⊥) → IsClearFlight farm log n key → IsClearFlight farm (e ∷ log) n key
 more-clear farm e log n key not spares c = record { asking = more-flight e log n (Some key) not c.asking; clear = more-since farm e c.asking.since c.asking.before key spares c.clear }
@@ -38,7 +39,7 @@ clear-placed farm (e ∷ log) n key c = more-clear farm e log n key (λ j is. cc
 
 pub clear-since : (farm : Farm) (n : ℕ) (key : PageKey) (before since : List LogEntry) → ((k : Option PageKey) → Contains since (Asked n k) → ⊥) → IsClearSince farm since before key → IsClear farm (since ++ Asked n (Some key) ∷ before) n key
 clear-since farm n key before [] none c = inl (refl, refl, (λ v inv u. c.none_unfinished v inv (unfinished-placed before v inv u)))
-clear-since farm n key before (Asked m k ∷ since) none c = inr ((λ same. none k (subst (λ (x : ℕ). Contains (Asked m k ∷ since) (Asked x k)) same (first-within (Asked m k) since))), clear-since farm n key before since (λ j h. none j (rest-within (Asked m k) since (Asked n j) h)) (fewer-since farm (Asked m k) since before key c))
+clear-since farm n key before (Asked m k ∷ since) none c = inr ((λ same. none k (subst (λ (x : ℕ). Contains (Asked m k ∷ since) (Asked x k)) same (contains_first (Asked m k) since))), clear-since farm n key before since (λ j h. none j (rest-within (Asked m k) since (Asked n j) h)) (fewer-since farm (Asked m k) since before key c))
 clear-since farm n key before (Begun w b ∷ since) none c = (first-spares farm w b since before key c, clear-since farm n key before since (λ j h. none j (rest-within (Begun w b) since (Asked n j) h)) (fewer-since farm (Begun w b) since before key c))
 clear-since farm n key before (e ∷ since) none c = clear-since farm n key before since (λ j h. none j (rest-within e since (Asked n j) h)) (fewer-since farm e since before key c)
 

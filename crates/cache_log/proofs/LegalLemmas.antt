@@ -1,6 +1,7 @@
 -- Legal logs, at their places and as they grow.
 use Rattle.std.proofs.Common.{◌≡◌, ◌<◌, ◌≤◌, ◌++◌, ℕ, List, [], ◌∷◌, Option, IsTrue, false, refl, Some, inl, inr, arith, ⊎_elim}
 use Rattle.sp_base.specs.declared.answer.Answer.{Answer}
+use Rattle.sp_base.proofs.ListLemmas.{contains_first}
 use Rattle.any_config.specs.declared.farm.Farm.{Farm}
 use Rattle.cover_rules.specs.declared.page.PageKey.{PageKey}
 use Rattle.dispatch_rules.specs.Caching.{is_storable}
@@ -8,7 +9,7 @@ use Rattle.cache_log.specs.Entries.{Kept, Unkept, Passed, Done, Failed, LogEntry
 use Rattle.cache_log.specs.Hits.{InAir}
 use Rattle.cache_log.specs.Flown.{HasEpoch, IsClearFlight, IsPermittedHit}
 use Rattle.cache_log.specs.Rules.{AllAllowed, Allowed, CallConditions, IsAboveAll, IsIdle, IsLegal}
-use Rattle.cache_log.proofs.PlaceLemmas.{first-within, none-within, rest-within, within}
+use Rattle.cache_log.proofs.PlaceLemmas.{none-within, rest-within, within}
 use Rattle.cache_log.proofs.ClearLemmas.{clear-placed}
 use Rattle.cache_log.proofs.PermittedLemmas.{permitted-placed}
 
@@ -77,8 +78,8 @@ rest-has e log other (inr has) = inr (rest-within e log (Session other) has)
 
 pub has-above : (epoch : ℕ) (log : List LogEntry) → ((other : ℕ) → HasEpoch log other → other < epoch) → IsAboveAll epoch log
 has-above epoch [] each = tt
-has-above epoch (Up e ∷ log) each = (each e (inl (first-within (Up e) log)), has-above epoch log (λ other has. each other (rest-has (Up e) log other has)))
-has-above epoch (Session e ∷ log) each = (each e (inr (first-within (Session e) log)), has-above epoch log (λ other has. each other (rest-has (Session e) log other has)))
+has-above epoch (Up e ∷ log) each = (each e (inl (contains_first (Up e) log)), has-above epoch log (λ other has. each other (rest-has (Up e) log other has)))
+has-above epoch (Session e ∷ log) each = (each e (inr (contains_first (Session e) log)), has-above epoch log (λ other has. each other (rest-has (Session e) log other has)))
 has-above epoch (e ∷ log) each = has-above epoch log (λ other has. each other (rest-has e log other has))
 
 pub above-more : (e f : ℕ) (log : List LogEntry) → e ≤ f → IsAboveAll e log → IsAboveAll f log

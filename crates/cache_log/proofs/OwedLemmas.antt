@@ -1,13 +1,14 @@
 -- What is owed, entry by entry and by places.
 use Rattle.std.proofs.Common.{◌≡◌, ◌≢◌, ◌++◌, ℕ, List, [], ◌∷◌, Option, Some, Contains, inl, inr, refl, sym, ap, subst, ⊎_elim}
 use Rattle.sp_base.specs.declared.answer.Answer.{Answer}
+use Rattle.sp_base.proofs.ListLemmas.{contains_first}
 use Rattle.any_config.specs.declared.farm.Farm.{Farm}
 use Rattle.cover_rules.specs.declared.page.PageKey.{PageKey}
 use Rattle.cover_rules.specs.declared.invalidation.Invalidation.{Invalidation}
 use Rattle.cache_log.specs.Entries.{Fate, Kept, Unkept, Passed, LogEntry, Asked, Landed, Begun}
 use Rattle.cache_log.specs.Hits.{Covers, MustHit, stored}
 use Rattle.cache_log.specs.Flown.{IsClearFlight, IsClearSince, IsOwedHit, since_asking}
-use Rattle.cache_log.proofs.PlaceLemmas.{first-within, none-within, rest-within, within}
+use Rattle.cache_log.proofs.PlaceLemmas.{none-within, rest-within, within}
 use Rattle.cache_log.proofs.ClearLemmas.{clear-placed, clear-since, fewer-since, first-spares, more-since}
 
 module _ (farm : Farm) (key : PageKey) (a : Answer) where
@@ -44,7 +45,7 @@ module _ (farm : Farm) (key : PageKey) (a : Answer) where
   rest-stored e since none n b fate off h = none n b fate off (rest-within e since (Landed n (Some key) b fate) h)
 
   other-page : (m : ℕ) (k : Option PageKey) (b : Answer) (fate : Fate) (since : List LogEntry) → fate ≢ Passed → NoneStored (Landed m k b fate ∷ since) → k ≢ Some key
-  other-page m k b fate since off none is = none m b fate off (subst (λ (x : Option PageKey). Contains (Landed m k b fate ∷ since) (Landed m x b fate)) is (first-within (Landed m k b fate) since))
+  other-page m k b fate since off none is = none m b fate off (subst (λ (x : Option PageKey). Contains (Landed m k b fate ∷ since) (Landed m x b fate)) is (contains_first (Landed m k b fate) since))
 
   module _ (n : ℕ) (b : Answer) (in_flight before : List LogEntry) (same : stored b ≡ a) (none_asked : (k : Option PageKey) → Contains in_flight (Asked n k) → ⊥) where
     abbrev SinceAsking : List LogEntry → List LogEntry

@@ -1,13 +1,14 @@
 -- What is permitted, entry by entry and by places.
 use Rattle.std.proofs.Common.{◌≡◌, ◌≢◌, ◌++◌, ℕ, List, [], ◌∷◌, Option, Some, Contains, inl, inr, refl, sym, ap, subst, ⊎_elim}
 use Rattle.sp_base.specs.declared.answer.Answer.{Answer}
+use Rattle.sp_base.proofs.ListLemmas.{contains_first}
 use Rattle.any_config.specs.declared.farm.Farm.{Farm}
 use Rattle.cover_rules.specs.declared.page.PageKey.{PageKey}
 use Rattle.cache_log.specs.Entries.{Fate, Kept, Unkept, Done, LogEntry, Asked, Landed, Ended}
 use Rattle.cache_log.specs.Hits.{InAir, MayHit, NoneDoneSince, SparesPage, Unfinished, stored}
 use Rattle.cache_log.specs.Flown.{IsFlight, IsPermittedBy, IsPermittedHit, NoneDoneIn, since_asking}
 use Rattle.cache_log.specs.Rules.{IsLegal}
-use Rattle.cache_log.proofs.PlaceLemmas.{first-within, flying-placed, none-within, placed-unfinished, rest-within, unfinished-placed, within}
+use Rattle.cache_log.proofs.PlaceLemmas.{flying-placed, none-within, placed-unfinished, rest-within, unfinished-placed, within}
 
 module _ (farm : Farm) (key : PageKey) where
   -- ---- no flush that covers the page ended done
@@ -33,7 +34,7 @@ module _ (farm : Farm) (key : PageKey) where
   done-in : (n : ℕ) (k : Option PageKey) (before since : List LogEntry) → ((j : Option PageKey) → Contains since (Asked n j) → ⊥) → NoneDoneSince farm (since ++ Asked n k ∷ before) n key → NoneDoneIn farm since (Asked n k ∷ before) key
   done-in n k before [] none h = none-done-nil (Asked n k ∷ before)
   done-in n k before (Asked m j ∷ since) none h = none-done-more (Asked m j) since (Asked n k ∷ before) (λ v e. absurd (cc e))
-      (done-in n k before since (λ i there. none i (rest-within (Asked m j) since (Asked n i) there)) (h (λ same. none j (subst (λ (x : ℕ). Contains (Asked m j ∷ since) (Asked x j)) same (first-within (Asked m j) since)))))
+      (done-in n k before since (λ i there. none i (rest-within (Asked m j) since (Asked n i) there)) (h (λ same. none j (subst (λ (x : ℕ). Contains (Asked m j ∷ since) (Asked x j)) same (contains_first (Asked m j) since)))))
   done-in n k before (Ended w Done ∷ since) none h = none-done-more (Ended w Done) since (Asked n k ∷ before) (λ v e. let same : w ≡ v = cc e in subst (λ (x : ℕ). SparesPage farm (since ++ Asked n k ∷ before) x key) same h.0)
       (done-in n k before since (λ i there. none i (rest-within (Ended w Done) since (Asked n i) there)) h.1)
   done-in n k before (e ∷ since) none h = none-done-more e since (Asked n k ∷ before) (λ v is. absurd (cc is)) (done-in n k before since (λ i there. none i (rest-within e since (Asked n i) there)) h)
@@ -92,7 +93,7 @@ module _ (farm : Farm) (key : PageKey) where
 
       permitted-since : (since : List LogEntry) → NoneKept since → NoneDoneIn farm (SinceAsking since) (Asked n (Some key) ∷ before) key → MayHit farm (SinceAsking since ++ Asked n (Some key) ∷ before) key a
       permitted-since [] none done = here
-      permitted-since (Landed m k c Kept ∷ since) none done = inr ((λ is. none m c (subst (λ (x : Option PageKey). Contains (Landed m k c Kept ∷ since) (Landed m x c Kept)) is (first-within (Landed m k c Kept) since))), permitted-since since (rest-kept (Landed m k c Kept) since none) (fewer-done (Landed m k c Kept) since done))
+      permitted-since (Landed m k c Kept ∷ since) none done = inr ((λ is. none m c (subst (λ (x : Option PageKey). Contains (Landed m k c Kept ∷ since) (Landed m x c Kept)) is (contains_first (Landed m k c Kept) since))), permitted-since since (rest-kept (Landed m k c Kept) since none) (fewer-done (Landed m k c Kept) since done))
       permitted-since (Landed m k c Unkept ∷ since) none done = inr (permitted-since since (rest-kept (Landed m k c Unkept) since none) (fewer-done (Landed m k c Unkept) since done))
       permitted-since (Ended w Done ∷ since) none done = (none-done-first w (SinceAsking since) (Asked n (Some key) ∷ before) done, permitted-since since (rest-kept (Ended w Done) since none) (fewer-done (Ended w Done) since done))
       permitted-since (e ∷ since) none done = permitted-since since (rest-kept e since none) (fewer-done e since done)

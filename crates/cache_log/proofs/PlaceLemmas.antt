@@ -2,6 +2,7 @@
 use Rattle.std.proofs.Common.{◌≡◌, ◌≢◌, ◌⊎◌, ◌++◌, ℕ, List, [], ◌∷◌, Option, Contains, inl, inr, refl, sym, ap, subst, arith, ⊎_elim}
 use Rattle.std.proofs.lemmas.List.Elements.{Contains-append_cases, Contains-append_right, Contains-push_cases}
 use Rattle.sp_base.specs.declared.answer.Answer.{Answer}
+use Rattle.sp_base.proofs.ListLemmas.{contains_first}
 use Rattle.cover_rules.specs.declared.page.PageKey.{PageKey}
 use Rattle.cover_rules.specs.declared.invalidation.Invalidation.{Invalidation}
 use Rattle.cache_log.specs.Entries.{Fate, FlushOutcome, Done, LogEntry, Asked, Landed, Lost, Begun, Ended}
@@ -19,9 +20,6 @@ one-within y x h = ⊎_elim (λ none. absurd (none-within none)) (λ is. is) (Co
 -- the first, or one of the others
 pub within : {A : Type 0} (y : A) (ys : List A) (x : A) → Contains (y ∷ ys) x → (y ≡ x) ⊎ Contains ys x
 within y ys x h = ⊎_elim (λ here. inl (one-within y x here)) (λ there. inr there) (Contains-append_cases (y ∷ []) ys x h)
-
-pub first-within : {A : Type 0} (y : A) (ys : List A) → Contains (y ∷ ys) y
-first-within y ys = (0, omega arith, refl)
 
 pub rest-within : {A : Type 0} (y : A) (ys : List A) (x : A) → Contains ys x → Contains (y ∷ ys) x
 rest-within y ys x h = Contains-append_right (y ∷ []) ys x h
@@ -46,7 +44,7 @@ unfinished-placed (e ∷ log) v inv u = more-unfinished e log v inv (λ o is. cc
 unfinished-since : (v : ℕ) (inv : Invalidation) (before since : List LogEntry) → ((o : FlushOutcome) → Contains since (Ended v o) → ⊥) → Unfinished (since ++ Begun v inv ∷ before) v inv
 unfinished-since v inv before [] none = inl (refl, refl)
 unfinished-since v inv before (Begun w b ∷ since) none = inr (unfinished-since v inv before since (λ o h. none o (rest-within (Begun w b) since (Ended v o) h)))
-unfinished-since v inv before (Ended w p ∷ since) none = ((λ same. none p (subst (λ (x : ℕ). Contains (Ended w p ∷ since) (Ended x p)) same (first-within (Ended w p) since))), unfinished-since v inv before since (λ o h. none o (rest-within (Ended w p) since (Ended v o) h)))
+unfinished-since v inv before (Ended w p ∷ since) none = ((λ same. none p (subst (λ (x : ℕ). Contains (Ended w p ∷ since) (Ended x p)) same (contains_first (Ended w p) since))), unfinished-since v inv before since (λ o h. none o (rest-within (Ended w p) since (Ended v o) h)))
 unfinished-since v inv before (e ∷ since) none = unfinished-since v inv before since (λ o h. none o (rest-within e since (Ended v o) h))
 
 pub placed-unfinished : (log : List LogEntry) (v : ℕ) (inv : Invalidation) → IsUnfinishedFlush log v inv → Unfinished log v inv
@@ -109,9 +107,9 @@ rest-none n e since none = ((λ k h. none.0 k (rest-within e since (Asked n k) h
 
 flying-since : (n : ℕ) (key : Option PageKey) (before since : List LogEntry) → NoneOf n since → InAir (since ++ Asked n key ∷ before) n key
 flying-since n key before [] none = inl (refl, refl)
-flying-since n key before (Asked m k ∷ since) none = inr ((λ same. none.0 k (subst (λ (x : ℕ). Contains (Asked m k ∷ since) (Asked x k)) same (first-within (Asked m k) since))), flying-since n key before since (rest-none n (Asked m k) since none))
-flying-since n key before (Landed m k a fate ∷ since) none = ((λ same. none.1 k a fate (subst (λ (x : ℕ). Contains (Landed m k a fate ∷ since) (Landed x k a fate)) same (first-within (Landed m k a fate) since))), flying-since n key before since (rest-none n (Landed m k a fate) since none))
-flying-since n key before (Lost m ∷ since) none = ((λ same. none.2 (subst (λ (x : ℕ). Contains (Lost m ∷ since) (Lost x)) same (first-within (Lost m) since))), flying-since n key before since (rest-none n (Lost m) since none))
+flying-since n key before (Asked m k ∷ since) none = inr ((λ same. none.0 k (subst (λ (x : ℕ). Contains (Asked m k ∷ since) (Asked x k)) same (contains_first (Asked m k) since))), flying-since n key before since (rest-none n (Asked m k) since none))
+flying-since n key before (Landed m k a fate ∷ since) none = ((λ same. none.1 k a fate (subst (λ (x : ℕ). Contains (Landed m k a fate ∷ since) (Landed x k a fate)) same (contains_first (Landed m k a fate) since))), flying-since n key before since (rest-none n (Landed m k a fate) since none))
+flying-since n key before (Lost m ∷ since) none = ((λ same. none.2 (subst (λ (x : ℕ). Contains (Lost m ∷ since) (Lost x)) same (contains_first (Lost m) since))), flying-since n key before since (rest-none n (Lost m) since none))
 flying-since n key before (e ∷ since) none = flying-since n key before since (rest-none n e since none)
 
 pub placed-flying : (log : List LogEntry) (n : ℕ) (key : Option PageKey) → IsFlying log n key → InAir log n key

@@ -1,6 +1,7 @@
 -- What closes a log.
 use Rattle.std.proofs.Common.{◌≡◌, ◌≢◌, ◌⊎◌, ◌<◌, ◌≤◌, ◌↔◌, ◌++◌, append_assoc, ℕ, true, false, List, [], ◌∷◌, Option, Contains, inl, inr, refl, sym, ◌∙◌, ap, subst, arith, ⊎_elim}
 use Rattle.std.proofs.lemmas.Bool.{cases_eq, cases_lt}
+use Rattle.sp_base.proofs.ListLemmas.{contains_first}
 use Rattle.sp_outside.specs.Files.{Files}
 use Rattle.any_config.specs.declared.farm.Farm.{Farm}
 use Rattle.cover_rules.specs.declared.page.PageKey.{PageKey}
@@ -11,7 +12,7 @@ use Rattle.cache_log.specs.Entries.{LogEntry, Asked, Begun, Ended, Failed, Lande
 use Rattle.cache_log.specs.Hits.{InAir, Unfinished}
 use Rattle.cache_log.specs.Rules.{AllAllowed, CallConditions, IsIdle, IsLegal}
 use Rattle.cache_log.proofs.LegalLemmas.{legal-call}
-use Rattle.cache_log.proofs.PlaceLemmas.{first-within, none-within, rest-within, within}
+use Rattle.cache_log.proofs.PlaceLemmas.{none-within, rest-within, within}
 use Rattle.coherence_core.specs.Closings.{AreInOrder, HasInAir, HasUnfinished, IsClosing}
 use Rattle.coherence_core.specs.Cores.{StandsOver, flush_numbers, flushes_of}
 use Rattle.coherence_core.specs.Holds.{Holds, HoldsClosed}
@@ -29,11 +30,11 @@ below_all : (n m : ℕ) (ms : List ℕ) → n < m → AreInOrder (m ∷ ms) → 
 below_all n m ms lt order x there = ⊎_elim (λ (same : m ≡ x). omega (arith, same, lt)) (λ later. let more : m < x = order.0 x later in omega (arith, more, lt)) (within m ms x there)
 
 with_one : (n : ℕ) (ns : List ℕ) → AreInOrder ns → (ms : List ℕ) × AreInOrder ms × ((x : ℕ) → Contains ms x ↔ ((n ≡ x) ⊎ Contains ns x))
-with_one n [] order = (n ∷ [], ((λ x there. absurd (none-within there)), tt), λ x. (within n [] x, λ h. ⊎_elim (λ (same : n ≡ x). subst (λ (y : ℕ). Contains (n ∷ []) y) same (first-within n [])) (λ there. absurd (none-within there)) h))
+with_one n [] order = (n ∷ [], ((λ x there. absurd (none-within there)), tt), λ x. (within n [] x, λ h. ⊎_elim (λ (same : n ≡ x). subst (λ (y : ℕ). Contains (n ∷ []) y) same (contains_first n [])) (λ there. absurd (none-within there)) h))
 with_one n (m ∷ ms) order = ⊎_elim
-    (λ (lt : n < m). (n ∷ m ∷ ms, (below_all n m ms lt order, order), λ x. (within n (m ∷ ms) x, λ h. ⊎_elim (λ (same : n ≡ x). subst (λ (y : ℕ). Contains (n ∷ m ∷ ms) y) same (first-within n (m ∷ ms))) (λ there. rest-within n (m ∷ ms) x there) h)))
+    (λ (lt : n < m). (n ∷ m ∷ ms, (below_all n m ms lt order, order), λ x. (within n (m ∷ ms) x, λ h. ⊎_elim (λ (same : n ≡ x). subst (λ (y : ℕ). Contains (n ∷ m ∷ ms) y) same (contains_first n (m ∷ ms))) (λ there. rest-within n (m ∷ ms) x there) h)))
     (λ (le : m ≤ n). ⊎_elim
-    (λ (same : n ≡ m). (m ∷ ms, order, λ x. ((λ there. inr there), λ h. ⊎_elim (λ (is : n ≡ x). subst (λ (y : ℕ). Contains (m ∷ ms) y) (sym same ∙ is) (first-within m ms)) (λ there. there) h)))
+    (λ (same : n ≡ m). (m ∷ ms, order, λ x. ((λ there. inr there), λ h. ⊎_elim (λ (is : n ≡ x). subst (λ (y : ℕ). Contains (m ∷ ms) y) (sym same ∙ is) (contains_first m ms)) (λ there. there) h)))
     (λ (ne : n ≢ m). behind ne le (with_one n ms order.1))
     (cases_eq n m))
     (cases_lt n m)
@@ -43,8 +44,8 @@ with_one n (m ∷ ms) order = ⊎_elim
       m ∷ ks,
       ((λ x there. ⊎_elim (λ (is : n ≡ x). let lt : m < n = omega (arith, ne, le) in omega (arith, is, lt)) (λ later. order.0 x later) ((has x).0 there)), in_order),
       λ x. (
-        (λ there. ⊎_elim (λ (is : m ≡ x). inr (subst (λ (y : ℕ). Contains (m ∷ ms) y) is (first-within m ms))) (λ later. ⊎_elim (λ (is : n ≡ x). inl is) (λ old. inr (rest-within m ms x old)) ((has x).0 later)) (within m ks x there)),
-        λ h. ⊎_elim (λ (is : n ≡ x). rest-within m ks x ((has x).1 (inl is))) (λ there. ⊎_elim (λ (is : m ≡ x). subst (λ (y : ℕ). Contains (m ∷ ks) y) is (first-within m ks)) (λ old. rest-within m ks x ((has x).1 (inr old))) (within m ms x there)) h,
+        (λ there. ⊎_elim (λ (is : m ≡ x). inr (subst (λ (y : ℕ). Contains (m ∷ ms) y) is (contains_first m ms))) (λ later. ⊎_elim (λ (is : n ≡ x). inl is) (λ old. inr (rest-within m ms x old)) ((has x).0 later)) (within m ks x there)),
+        λ h. ⊎_elim (λ (is : n ≡ x). rest-within m ks x ((has x).1 (inl is))) (λ there. ⊎_elim (λ (is : m ≡ x). subst (λ (y : ℕ). Contains (m ∷ ks) y) is (contains_first m ks)) (λ old. rest-within m ks x ((has x).1 (inr old))) (within m ms x there)) h,
       ),
     )
 
@@ -67,8 +68,8 @@ without_one n (m ∷ ms) order = ⊎_elim
       m ∷ ks,
       ((λ x there. order.0 x ((has x).0 there).1), in_order),
       λ x. (
-        (λ there. ⊎_elim (λ (is : m ≡ x). ((λ (e : n ≡ x). ne (e ∙ sym is)), subst (λ (y : ℕ). Contains (m ∷ ms) y) is (first-within m ms))) (λ later. let old = (has x).0 later in (old.0, rest-within m ms x old.1)) (within m ks x there)),
-        λ h. ⊎_elim (λ (is : m ≡ x). subst (λ (y : ℕ). Contains (m ∷ ks) y) is (first-within m ks)) (λ old. rest-within m ks x ((has x).1 (h.0, old))) (within m ms x h.1),
+        (λ there. ⊎_elim (λ (is : m ≡ x). ((λ (e : n ≡ x). ne (e ∙ sym is)), subst (λ (y : ℕ). Contains (m ∷ ms) y) is (contains_first m ms))) (λ later. let old = (has x).0 later in (old.0, rest-within m ms x old.1)) (within m ks x there)),
+        λ h. ⊎_elim (λ (is : m ≡ x). subst (λ (y : ℕ). Contains (m ∷ ks) y) is (contains_first m ks)) (λ old. rest-within m ks x ((has x).1 (h.0, old))) (within m ms x h.1),
       ),
     )
 
@@ -86,10 +87,10 @@ rest_in n m ns ms same order to x there =
 
 same_numbers : (ns ms : List ℕ) → AreInOrder ns → AreInOrder ms → ((x : ℕ) → Contains ns x → Contains ms x) → ((x : ℕ) → Contains ms x → Contains ns x) → ns ≡ ms
 same_numbers [] [] one other to from = refl
-same_numbers [] (m ∷ ms) one other to from = absurd (none-within (from m (first-within m ms)))
-same_numbers (n ∷ ns) [] one other to from = absurd (none-within (to n (first-within n ns)))
+same_numbers [] (m ∷ ms) one other to from = absurd (none-within (from m (contains_first m ms)))
+same_numbers (n ∷ ns) [] one other to from = absurd (none-within (to n (contains_first n ns)))
 same_numbers (n ∷ ns) (m ∷ ms) one other to from =
-    let first : n ≡ m = first_same n m ns ms one other (to n (first-within n ns)) (from m (first-within m ms)) in
+    let first : n ≡ m = first_same n m ns ms one other (to n (contains_first n ns)) (from m (contains_first m ms)) in
     let rest : ns ≡ ms = same_numbers ns ms one.1 other.1 (rest_in n m ns ms first one to) (rest_in m n ms ns (sym first) other from) in
     (λ i. first i ∷ rest i)
 
@@ -201,13 +202,13 @@ failed_leaves (v ∷ vs) log all w inv u = failed_leaves vs (Ended v Failed ∷ 
 module _ (farm : Farm) (under : CallConditions) where
   lost_allowed : (ns : List ℕ) (log : List LogEntry) → AreInOrder ns → ((n : ℕ) → Contains ns n → HasInAir log n) → AllAllowed farm under (lost_entries ns) log
   lost_allowed [] log order air = tt
-  lost_allowed (n ∷ ns) log order air = allowed_append farm under (lost_entries ns) (Lost n ∷ []) log (air n (first-within n ns), tt)
+  lost_allowed (n ∷ ns) log order air = allowed_append farm under (lost_entries ns) (Lost n ∷ []) log (air n (contains_first n ns), tt)
       (lost_allowed ns (Lost n ∷ log) order.1 (λ m there. let a = air m (rest-within n ns m there) in let lt : n < m = order.0 m there in (a.0, ((λ (is : n ≡ m). omega (arith, is, lt)), a.1))))
 
   failed_allowed : under.restarts ≡ true → (vs : List ℕ) (log : List LogEntry) → AreInOrder vs → ((v : ℕ) → Contains vs v ↔ HasUnfinished log v) → AllAllowed farm under (failed_entries vs) log
   failed_allowed restarts [] log order has = tt
   failed_allowed restarts (v ∷ vs) log order has = allowed_append farm under (failed_entries vs) (Ended v Failed ∷ []) log
-      ((((has v).0 (first-within v vs), oldest), inr restarts), tt)
+      ((((has v).0 (contains_first v vs), oldest), inr restarts), tt)
       (failed_allowed restarts vs (Ended v Failed ∷ log) order.1 (λ w. (
         (λ there. let u = (has w).0 (rest-within v vs w there) in let lt : v < w = order.0 w there in (u.0, ((λ (is : v ≡ w). omega (arith, is, lt)), u.1))),
         λ u. ⊎_elim (λ (is : v ≡ w). absurd (u.1.0 is)) (λ there. there) (within v vs w ((has w).1 (u.0, u.1.1))),
@@ -267,12 +268,12 @@ flights_in_order least (f ∷ fs) most rising =
 
 flight_number : (fs : List Flight) (n : ℕ) (k : Option PageKey) → HasFlight fs n k → Contains (numbers_of fs) n
 flight_number [] n k h = absurd h
-flight_number (f ∷ fs) n k (inl h) = subst (λ (x : ℕ). Contains (numbers_of (f ∷ fs)) x) h.0 (first-within f.number (numbers_of fs))
+flight_number (f ∷ fs) n k (inl h) = subst (λ (x : ℕ). Contains (numbers_of (f ∷ fs)) x) h.0 (contains_first f.number (numbers_of fs))
 flight_number (f ∷ fs) n k (inr h) = rest-within f.number (numbers_of fs) n (flight_number fs n k h)
 
 flush_number : (ps : List Pending) (v : ℕ) (inv : Invalidation) → HasFlush ps v inv → Contains (flush_numbers ps) v
 flush_number [] v inv h = absurd h
-flush_number (p ∷ ps) v inv (inl h) = subst (λ (x : ℕ). Contains (flush_numbers (p ∷ ps)) x) h.0 (first-within p.number (flush_numbers ps))
+flush_number (p ∷ ps) v inv (inl h) = subst (λ (x : ℕ). Contains (flush_numbers (p ∷ ps)) x) h.0 (contains_first p.number (flush_numbers ps))
 flush_number (p ∷ ps) v inv (inr h) = rest-within p.number (flush_numbers ps) v (flush_number ps v inv h)
 
 later_numbers : (p : Pending) (ps : List Pending) → AreLater p ps → (x : ℕ) → Contains (flush_numbers ps) x → p.number < x

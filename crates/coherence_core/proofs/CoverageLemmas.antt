@@ -1,7 +1,7 @@
 -- What the core takes of coverage, from the laws of the layers below.
-use Rattle.std.proofs.Common.{◌≡◌, ◌↔◌, ◌&&◌, ◌||◌, ℕ, Bool, true, false, not, IsTrue, Contains, inl, inr, refl, ap, ◌∙◌, ⊎_elim}
+use Rattle.std.proofs.Common.{◌≡◌, ◌↔◌, ◌&&◌, ℕ, Bool, true, false, not, IsTrue, Contains, inl, inr, refl, ap, ◌∙◌, ⊎_elim}
 use Rattle.std.specs.List.{AllByRecursion, list_all}
-use Rattle.std.proofs.lemmas.Bool.{or_cases}
+use Rattle.std.proofs.lemmas.Bool.{or_cases, or_left, or_right}
 use Rattle.sp_base.specs.Bytes.{AreBytes}
 use Rattle.sp_base.specs.Paths.{is_path, is_under, parent_of}
 use Rattle.any_config.specs.declared.farm.Farm.{Farm}
@@ -12,13 +12,6 @@ use Rattle.cover_rules.specs.Coverage.{deletes, handle_of, outdates, stat_folder
 use Rattle.dispatch_rules.specs.Caching.{is_auto}
 use Rattle.docroot_format.specs.Names.{IsFolder}
 use Rattle.coherence_core.specs.Facts.{CoverageFacts}
-
-true_or : (a b : Bool) → a ≡ true → (a || b) ≡ true
-true_or a b is = ap (λ (x : Bool). x || b) is
-
-or_true : (a b : Bool) → b ≡ true → (a || b) ≡ true
-or_true true b is = refl
-or_true false b is = is
 
 -- a page is outdated where .stat files outdate it, and this one does
 outdates_parts : (level : ℕ) (auto : Bool) (inv : Invalidation) (key : PageKey) → outdates level auto inv key ≡ true → (auto ≡ true) × (outdates level true inv key ≡ true)
@@ -37,10 +30,10 @@ pub facts_of : (farm : Farm)
     → ((level : ℕ) (key : PageKey) → IsPageKey key → AllByRecursion AreBytes (stat_folder level key))
     → CoverageFacts farm
 facts_of farm law segments folders paths bytes = record {
-  deleted = λ inv key is. true_or (deletes inv key) (outdates farm.level (is_auto farm key) inv key) is;
+  deleted = λ inv key is. or_left (deletes inv key) (outdates farm.level (is_auto farm key) inv key) is;
   touched = λ inv key page auto there.
       let out : outdates farm.level true inv key ≡ true = (law farm.level inv key (segments key page)).1 there in
-      or_true (deletes inv key) (outdates farm.level (is_auto farm key) inv key) (ap (λ (b : Bool). outdates farm.level b inv key) auto ∙ out);
+      or_right (deletes inv key) (outdates farm.level (is_auto farm key) inv key) (ap (λ (b : Bool). outdates farm.level b inv key) auto ∙ out);
   either = λ inv key page cov. ⊎_elim
       (λ (h : deletes inv key ≡ true). inl h)
       (λ (h : outdates farm.level (is_auto farm key) inv key ≡ true).

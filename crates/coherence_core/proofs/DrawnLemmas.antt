@@ -2,6 +2,7 @@
 use Rattle.std.proofs.Common.{◌≡◌, ◌<◌, ◌++◌, ℕ, List, [], ◌∷◌, All, AllPairs, Contains, IsTrue, inl, inr, refl, sym, ◌∙◌, ap, subst, arith, ⊎_elim}
 use Rattle.std.proofs.lemmas.List.Elements.{All-contains_itself}
 use Rattle.std.proofs.lemmas.List.Kept.{AllPairs-cons}
+use Rattle.sp_base.proofs.ListLemmas.{contains_first}
 use Rattle.sp_outside.specs.Files.{Files}
 use Rattle.any_config.specs.declared.farm.Farm.{Farm}
 use Rattle.cover_rules.specs.declared.stamp.Stamp.{Stamp}
@@ -9,7 +10,7 @@ use Rattle.cover_rules.specs.declared.invalidation.Invalidation.{Invalidation}
 use Rattle.cache_ids.specs.Ids.{FlightId, FlushId}
 use Rattle.cache_log.specs.Entries.{LogEntry, Asked, Begun, Down, Session, Up, is_up, last_epoch}
 use Rattle.cache_log.specs.Rules.{IsAboveAll, IsLegal}
-use Rattle.cache_log.proofs.PlaceLemmas.{first-within, none-within, rest-within, within}
+use Rattle.cache_log.proofs.PlaceLemmas.{none-within, rest-within, within}
 use Rattle.coherence_core.specs.Asking.{next_stamp}
 use Rattle.coherence_core.specs.Cores.{StandsOver, drawn_of}
 use Rattle.coherence_core.specs.Served.{Before}
@@ -83,7 +84,7 @@ rising farm log legal = one_more farm log legal (drawn_rising farm log legal)
 
 flight_drawn : (log : List LogEntry) (n : FlightId) (s : Stamp) → IsFlightStamp log n s → Contains (drawn_stamps log) s
 flight_drawn [] n s is = absurd is
-flight_drawn (Asked m k ∷ log) n s (inl is) = subst (λ (x : Stamp). Contains (stamp_after log ∷ drawn_stamps log) x) (sym is.1) (first-within (stamp_after log) (drawn_stamps log))
+flight_drawn (Asked m k ∷ log) n s (inl is) = subst (λ (x : Stamp). Contains (stamp_after log ∷ drawn_stamps log) x) (sym is.1) (contains_first (stamp_after log) (drawn_stamps log))
 flight_drawn (Asked m k ∷ log) n s (inr is) = rest-within (stamp_after log) (drawn_stamps log) s (flight_drawn log n s is.1)
 flight_drawn (Begun v inv ∷ log) n s is = rest-within (stamp_after log) (drawn_stamps log) s (flight_drawn log n s is)
 flight_drawn (Session e ∷ log) n s is = absurd is
@@ -91,7 +92,7 @@ flight_drawn (x ∷ log) n s is = flight_drawn log n s is
 
 flush_drawn : (log : List LogEntry) (v : FlushId) (inv : Invalidation) (s : Stamp) → IsFlushStamp log v inv s → Contains (drawn_stamps log) s
 flush_drawn [] v inv s is = absurd is
-flush_drawn (Begun w i ∷ log) v inv s (inl is) = subst (λ (x : Stamp). Contains (stamp_after log ∷ drawn_stamps log) x) (sym is.2) (first-within (stamp_after log) (drawn_stamps log))
+flush_drawn (Begun w i ∷ log) v inv s (inl is) = subst (λ (x : Stamp). Contains (stamp_after log ∷ drawn_stamps log) x) (sym is.2) (contains_first (stamp_after log) (drawn_stamps log))
 flush_drawn (Begun w i ∷ log) v inv s (inr is) = rest-within (stamp_after log) (drawn_stamps log) s (flush_drawn log v inv s is)
 flush_drawn (Asked m k ∷ log) v inv s is = rest-within (stamp_after log) (drawn_stamps log) s (flush_drawn log v inv s is)
 flush_drawn (Session e ∷ log) v inv s is = absurd is

@@ -1,5 +1,6 @@
 -- What a look at a page leaves noted, and what it answers.
-use Rattle.std.proofs.Common.{◌≡◌, ◌&&◌, ◌||◌, ◌==◌, ℕ, Bool, true, false, not, List, [], ◌∷◌, Contains, Option, Some, None, refl, sym, ◌∙◌, ap, subst, if◌then◌else◌, length}
+use Rattle.std.proofs.Common.{◌≡◌, ◌&&◌, ◌==◌, ℕ, Bool, true, false, List, [], ◌∷◌, Contains, Option, Some, None, refl, sym, ◌∙◌, ap, subst, if◌then◌else◌, length}
+use Rattle.std.proofs.lemmas.Bool.{both_ways}
 use Rattle.std.specs.Prelude.{Result, Ok, Err, IfOk, IfSome, option_map}
 use Rattle.docroot_format.specs.Faults.{HasFileCause}
 use Rattle.docroot_format.specs.declared.fault.FileFault.{FileFault}
@@ -8,6 +9,7 @@ use Rattle.std.specs.FinMap.{empty}
 use Rattle.std.specs.Option.{option_and_then}
 use Rattle.sp_base.specs.Texts.{Segments, Text}
 use Rattle.sp_base.specs.declared.answer.Answer.{Answer}
+use Rattle.sp_base.proofs.BoolLemmas.{or_first, or_second}
 use Rattle.sp_outside.specs.Calls.{Call}
 use Rattle.sp_outside.specs.Files.{Files, file_at}
 use Rattle.docroot_changes.specs.DocrootCalls.{MakesDocrootCalls}
@@ -63,13 +65,6 @@ told_this : (told : Option Files) (IsSo : Files → Type 0) (a b : PageIndex) �
 told_this None IsSo a b each so = tt
 told_this (Some files) IsSo a b each so = each files so
 
-false_not_true : (b : Bool) → b ≡ false → b ≡ true → ⊥
-false_not_true b off on = cc (sym off ∙ on)
-
-pub never_true : (b : Bool) → (b ≡ true → ⊥) → b ≡ false
-never_true true off = absurd (off refl)
-never_true false off = refl
-
 -- what was read, said the other way round
 pub stamp_read : (told : Option Files) (folder : Segments) (stamp : Option Stamp) → IfSome told (λ files. stamp ≡ stamp_at files folder) → IfSome told (λ files. stamp_at files folder ≡ stamp)
 stamp_read None folder stamp is = tt
@@ -78,14 +73,6 @@ stamp_read (Some files) folder stamp is = sym is
 pub head_read : (told : Option Files) (key : PageKey) (head : Option HeadNote) → IfSome told (λ files. head ≡ head_at files key) → IfSome told (λ files. head_at files key ≡ head)
 head_read None key head is = tt
 head_read (Some files) key head is = sym is
-
-or_first : (a b : Bool) → (a || b) ≡ false → a ≡ false
-or_first true b e = e
-or_first false b e = refl
-
-or_second : (a b : Bool) → (a || b) ≡ false → b ≡ false
-or_second true b e = absurd (cc e)
-or_second false b e = e
 
 -- what covers none of the notes covers none still, where it doesn't cover the page, and no flush of the queue does
 free_apart : (level : ℕ) (auto : Bool) (key : PageKey) (a b : PageIndex) → ((inv : Invalidation) → covers level auto inv key ≡ false → HasNoneCovered level inv a → HasNoneCovered level inv b) → (queue : List Pending) → is_barred level auto (Some key) queue ≡ false → AreNotesUncovered level a queue → AreNotesUncovered level b queue
@@ -100,7 +87,7 @@ pub noted_head : (look : Look) (told : Option Files) (head : Option HeadNote) (a
 noted_head look told head a b free notes so = record {
   agree = told_this told (λ files. head_at files look.key.now ≡ head) a b notes.agree so;
   apart = free_apart look.farm.now.level look.auto look.key.now a b
-      (λ inv off none. notes.apart look.farm.now.level inv (λ deleted. false_not_true (deletes inv look.key.now) (or_first (deletes inv look.key.now) (outdates look.farm.now.level look.auto inv look.key.now) off) deleted) none)
+      (λ inv off none. notes.apart look.farm.now.level inv (λ deleted. both_ways (deletes inv look.key.now) (or_first (deletes inv look.key.now) (outdates look.farm.now.level look.auto inv look.key.now) off) deleted) none)
       look.queue.now.items free;
 }
 
@@ -109,15 +96,11 @@ pub noted_stamp : (look : Look) → CoverageFacts look.farm.now → IsLook look 
 noted_stamp look facts is auto told folder folder_is stamp a b free notes so = record {
   agree = told_this told (λ files. stamp_at files folder ≡ stamp) a b notes.agree so;
   apart = free_apart look.farm.now.level look.auto look.key.now a b
-      (λ inv off none. notes.apart look.farm.now.level inv (λ touched. false_not_true (covers look.farm.now.level (is_auto look.farm.now look.key.now) inv look.key.now)
+      (λ inv off none. notes.apart look.farm.now.level inv (λ touched. both_ways (covers look.farm.now.level (is_auto look.farm.now look.key.now) inv look.key.now)
       (subst (λ (x : Bool). covers look.farm.now.level x inv look.key.now ≡ false) is.auto off)
       (facts.touched inv look.key.now is.page (sym is.auto ∙ auto) (subst (λ (f : Segments). Contains (touched_of look.farm.now.level inv) f) folder_is touched))) none)
       look.queue.now.items free;
 }
-
-pub not_on : (b : Bool) → not b ≡ true → b ≡ false
-not_on true e = absurd (cc e)
-not_on false e = refl
 
 -- the head, the stamp and the hit of a page
 pub notes_with_body : (look : Look) (told : Option Files) (a b c d : PageIndex) (head : HeadNote) → IfAgreed told a (λ files. head_at files look.key.now ≡ Some head) → NotesPage look told a b → NotesPage look told b c → IfSome told (λ files. head_at files look.key.now ≡ Some head → Agrees c files → Agrees d files)

@@ -1,5 +1,6 @@
 -- What a request owes, by what it came to.
 use Rattle.std.proofs.Common.{◌≡◌, ◌<◌, ◌+◌, ◌++◌, append-nil, ℕ, Bool, true, false, List, [], ◌∷◌, Option, Some, None, inl, inr, refl, sym, ◌∙◌, ap, subst, arith, map}
+use Rattle.std.proofs.lemmas.List.{map_push}
 use Rattle.std.specs.Prelude.{IfSome, IsTrue}
 use Rattle.sp_base.specs.Requests.{Request}
 use Rattle.sp_base.specs.Texts.{Text}
@@ -14,6 +15,7 @@ use Rattle.stat_files.specs.Stamps.{stamp_at}
 use Rattle.std.specs.Option.{option_and_then}
 use Rattle.flights.specs.declared.flight.Flight.{Flight}
 use Rattle.flights.specs.Flights.{AreRising, after_invalidation, numbers_of}
+use Rattle.flights.proofs.HistoryLemmas.{numbers-after}
 use Rattle.invalidation.specs.Invalidations.{is_invalidation}
 use Rattle.cache_ids.specs.Ids.{FlightId, FlushId}
 use Rattle.cache_log.specs.Entries.{LogEntry, Asked}
@@ -39,17 +41,9 @@ use Rattle.cache_log.specs.Limits.{most_stamps}
 
 -- ---- lists
 
-map_push : {A B : Type 0} (f : A → B) (xs : List A) (x : A) → map f (xs ++ x ∷ []) ≡ map f xs ++ f x ∷ []
-map_push f [] x = refl
-map_push f (y ∷ ys) x = ap (λ l. f y ∷ l) (map_push f ys x)
-
 labels_voided : (level : ℕ) (inv : Invalidation) (fs : List Flight) → flight_labels (map (after_invalidation level inv) fs) ≡ flight_labels fs
 labels_voided level inv [] = refl
 labels_voided level inv (f ∷ fs) = ap (λ l. (f.number, f.key) ∷ l) (labels_voided level inv fs)
-
-numbers_voided : (level : ℕ) (inv : Invalidation) (fs : List Flight) → numbers_of (map (after_invalidation level inv) fs) ≡ numbers_of fs
-numbers_voided level inv [] = refl
-numbers_voided level inv (f ∷ fs) = ap (λ l. f.number ∷ l) (numbers_voided level inv fs)
 
 flushes_push : (ps : List Pending) (q : Pending) → flush_numbers (ps ++ q ∷ []) ≡ flush_numbers ps ++ q.number ∷ []
 flushes_push [] q = refl
@@ -209,7 +203,7 @@ module _ (told : Option Files) (old new : Core) (req : Request) (peer : Text) wh
     begun_owes flush inv up left b cause = record {
       log = λ found. extended found told;
       cause = cause;
-      flights = ap numbers_of b.flights ∙ numbers_voided old.farm.level inv old.flights ∙ sym (append-nil (numbers_of old.flights));
+      flights = ap numbers_of b.flights ∙ numbers-after old.farm.level inv old.flights ∙ sym (append-nil (numbers_of old.flights));
       labels = ap flight_labels b.flights ∙ labels_voided old.farm.level inv old.flights ∙ sym (append-nil (flight_labels old.flights));
       flushes = ap flush_numbers b.queue ∙ flushes_push old.queue.items b.last ∙ ap (λ (n : FlushId). flush_numbers old.queue.items ++ n ∷ []) b.number;
       rising = λ r. rw (b.flights, b.asked) (stay 0 old.asked old.farm.level inv old.flights r);

@@ -6,6 +6,7 @@ use Rattle.std.specs.Option.{option_and_then}
 use Rattle.sp_base.specs.Names.{by_name}
 use Rattle.sp_base.specs.Paths.{is_path}
 use Rattle.sp_base.specs.Texts.{Segments, Text}
+use Rattle.sp_base.proofs.OptionLemmas.{none_or_some}
 use Rattle.sp_outside.specs.Files.{Files, file_at}
 use Rattle.any_config.specs.declared.farm.Farm.{Farm}
 use Rattle.cover_rules.specs.Pages.{IsPageKey}
@@ -144,9 +145,6 @@ held found files core log s = record { pages = s.stands.holds; numbered = s.numb
 
 -- ---- no files
 
-none_there : (o : Option Text) (bytes : Text) → o ≡ None → o ≡ Some bytes → ⊥
-none_there o bytes none is = cc (none, is)
-
 pub empty_held : (farm : Farm) → ((key : PageKey) → HasNoPage empty key) → HasNoLaterStamp empty → epoch_held empty ≡ 0 → next_epoch empty ≡ Ok 1 → HoldsClosed farm empty []
 empty_held farm no_page later epoch next = record {
   holds = record {
@@ -158,7 +156,7 @@ empty_held farm no_page later epoch next = record {
     numbered = next ∙ ap (λ (e : ℕ). after_epoch (Some e)) (sym epoch);
     above = tt;
     order = later;
-    formed = λ name bytes is at. absurd (none_there (file_at empty name) bytes (get-empty by_name name) at);
+    formed = λ name bytes is at. absurd (none_or_some (file_at empty name) bytes (get-empty by_name name) at);
   };
   idle = (λ n k air. air, λ v inv u. u);
 }

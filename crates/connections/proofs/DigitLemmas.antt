@@ -4,6 +4,7 @@ use Rattle.std.specs.Prelude.{if◌then◌else◌}
 use Rattle.std.specs.Char.{is_ascii_digit}
 use Rattle.std.specs.Fmt.{digits, digits_onto, digit_glyph}
 use Rattle.std.specs.Str.{all_ascii_digits}
+use Rattle.sp_base.proofs.NatLemmas.{zero_from_test}
 
 glyph-is : (n : ℕ) → digit_glyph false (n % 10) ≡ 48 + n % 10
 glyph-is n = grind arith
@@ -54,9 +55,6 @@ written-0 n e = by_test (n / 10 == 0) refl e
         omega (arith, glyph-is n, digit, none)
     by_test false small is = absurd (omega (arith, ap length is, onto-more 62 (n / 10) (digit_glyph false (n % 10) ∷ [])))
 
-is-zero : (n : ℕ) → (n == 0) ≡ true → n ≡ 0
-is-zero n e = grind (arith, e)
-
 parts : (n : ℕ) → n ≡ 10 * (n / 10) + n % 10
 parts n = omega arith
 
@@ -82,7 +80,7 @@ written-507 n e = first (n / 10 == 0) e
         let hundreds : digit_glyph false (n / 10 / 10 % 10) ≡ 53 = cc in
         let tens : digit_glyph false (n / 10 % 10) ≡ 48 = cc in
         let ones : digit_glyph false (n % 10) ≡ 55 = cc in
-        let none : n / 10 / 10 / 10 ≡ 0 = is-zero (n / 10 / 10 / 10) small in
+        let none : n / 10 / 10 / 10 ≡ 0 = zero_from_test (n / 10 / 10 / 10) small in
         joined n (n / 10) (n / 10 / 10) (n / 10 / 10 / 10) (n % 10) (n / 10 % 10) (n / 10 / 10 % 10) (parts n) (parts (n / 10)) (parts (n / 10 / 10)) (sym (glyph-is n) ∙ ones) (sym (glyph-is (n / 10)) ∙ tens) (sym (glyph-is (n / 10 / 10)) ∙ hundreds) none
     third false small is = absurd (omega (arith, ap length is, onto-more 60 (n / 10 / 10 / 10) three))
 

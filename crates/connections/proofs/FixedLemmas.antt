@@ -1,14 +1,13 @@
 -- Which answers have the bytes of the fixed 507.
-use Rattle.std.proofs.Common.{◌≡◌, ◌≢◌, ◌++◌, ◌||◌, ◌&&◌, ◌==◌, ◌∙◌, ◌⊎◌, inl, inr, ℕ, Bool, true, false, List, [], ◌∷◌, codes, decimal, drop, length, get_or, refl, ap, sym, subst, arith}
+use Rattle.std.proofs.Common.{◌≡◌, ◌++◌, ◌||◌, ◌&&◌, ◌==◌, ◌∙◌, ◌⊎◌, inl, inr, ℕ, Bool, true, false, List, [], ◌∷◌, codes, decimal, drop, length, get_or, refl, ap, sym, subst, arith}
 use Rattle.std.specs.Prelude.{IsTrue, flat_map, if◌then◌else◌}
 use Rattle.std.specs.Char.{is_ascii_digit}
 use Rattle.std.specs.List.{list_any}
 use Rattle.std.specs.Fmt.{digits}
 use Rattle.std.specs.Cmp.Lexicographic.{same_text}
-use Rattle.std.specs.Str.{all_ascii_digits}
-use Rattle.std.proofs.lemmas.Bool.{false≢true}
+use Rattle.std.proofs.lemmas.Bool.{false≢true, or_right}
 use Rattle.std.proofs.Math.Dec.{eqb-suc-zero}
-use Rattle.std.proofs.lemmas.List.{append_assoc, append_cancel_left}
+use Rattle.std.proofs.lemmas.List.{append_assoc, append_cancel_left, nil_from_length}
 use Rattle.std.proofs.lemmas.List.Folds.{list_any-append}
 use Rattle.location_field.specs.Location.{location_of}
 use Rattle.sp_base.specs.Bytes.{is_visible_ascii}
@@ -21,37 +20,19 @@ use Rattle.percent_encoding.specs.Percent.{percent_encode_byte}
 use Rattle.sp_base.specs.declared.answer.Answer.{Answer}
 use Rattle.sp_base.specs.declared.answer.Mark.{Mark}
 use Rattle.sp_base.specs.declared.answer.Mark.TheVariants.{Plain, NoCache, NoStore, MustRevalidate}
+use Rattle.sp_base.proofs.TextLemmas.{one_run_of_digits}
 use Rattle.http_front.specs.Answers.{Field, allowed_methods, answer_bytes, answer_content, connection, content_length, directive_of, field_line, fields_of, fixed_507, is_without_content, plain_value, status_line, unless_empty}
 use Rattle.connections.specs.Slots.{IsHit, fixed_answer, are_fixed_507}
 use Rattle.connections.proofs.DigitLemmas.{decimal-all, written-0, written-507}
 
 -- ---- a number ends where another byte comes
-both_true : (a b : Bool) → (a && b) ≡ true → (a ≡ true) × (b ≡ true)
-both_true true b e = (refl, e)
-both_true false b e = cc
-
-not_end : (b end : ℕ) → is_ascii_digit b ≡ true → is_ascii_digit end ≡ false → b ≢ end
-not_end b end p q e = false≢true (sym q ∙ sym (ap is_ascii_digit e) ∙ p)
-
-one_run : (end : ℕ) (x y r s : List ℕ) → is_ascii_digit end ≡ false → all_ascii_digits x ≡ true → all_ascii_digits y ≡ true → x ++ end ∷ r ≡ y ++ end ∷ s → (x ≡ y) × (r ≡ s)
-one_run end [] [] r s n p q e = (refl, cc)
-one_run end [] (c ∷ y) r s n p q e =
-    let head : c ≡ end = cc in absurd (not_end c end (both_true (is_ascii_digit c) (all_ascii_digits y) q).0 n head)
-one_run end (b ∷ x) [] r s n p q e =
-    let head : b ≡ end = cc in absurd (not_end b end (both_true (is_ascii_digit b) (all_ascii_digits x) p).0 n head)
-one_run end (b ∷ x) (c ∷ y) r s n p q e =
-    let head : b ≡ c = cc in
-    let more : x ++ end ∷ r ≡ y ++ end ∷ s = cc in
-    let tail = one_run end x y r s n (both_true (is_ascii_digit b) (all_ascii_digits x) p).1 (both_true (is_ascii_digit c) (all_ascii_digits y) q).1 more in
-    (cc (head, tail.0), tail.1)
-
 nought : decimal 0 ≡ 48 ∷ []
 unfolding digits
 nought = refl
 
 -- a number, and the byte that ends it
 one_number : (end m n : ℕ) (r s : List ℕ) → is_ascii_digit end ≡ false → decimal m ++ end ∷ r ≡ decimal n ++ end ∷ s → (decimal m ≡ decimal n) × (r ≡ s)
-one_number end m n r s none e = one_run end (decimal m) (decimal n) r s none (decimal-all m) (decimal-all n) e
+one_number end m n r s none e = one_run_of_digits end (decimal m) (decimal n) r s none (decimal-all m) (decimal-all n) e
 
 -- ---- the status comes first
 abbrev line_end : List ℕ
@@ -208,12 +189,8 @@ sizes_fixed without h c n tail e = by_test (without || (h && (n == 0))) refl e
         let sizes = one_size n c tail (size_there (decimal n) c tail told) in
         (without_head without h (subst (λ m. (without || (h && (m == 0))) ≡ false) sizes.0 is), sizes.1, sizes.0)
 
-no_bytes : (body : List ℕ) → length body ≡ 0 → body ≡ []
-no_bytes [] e = refl
-no_bytes (b ∷ body) e = absurd (omega (arith, e))
-
 fixed_by : (a : Answer) → a.status ≡ 507 → a.kind ≡ [] → a.location ≡ [] → a.mark ≡ Plain → length a.body ≡ 0 → a ≡ fixed_answer
-fixed_by a status kind location mark body = λ i. record { status = status i; kind = kind i; location = location i; mark = mark i; body = no_bytes a.body body i }
+fixed_by a status kind location mark body = λ i. record { status = status i; kind = kind i; location = location i; mark = mark i; body = nil_from_length a.body body i }
 
 pub fixed_is : (h c : Bool) (a : Answer) → answer_bytes h c a ≡ fixed_507 → (h ≡ false) × (c ≡ true) × (a ≡ fixed_answer)
 fixed_is h c a e =
@@ -281,10 +258,6 @@ other-fixed h c a way = by_test (are_fixed_507 (answer_bytes h c a)) refl
 has_y : List ℕ → Bool
 has_y bytes = list_any (λ b. b == 121) bytes
 
-or_true : (a b : Bool) → b ≡ true → (a || b) ≡ true
-or_true true b e = refl
-or_true false b e = e
-
 typed_fields : (b : ℕ) (v : List ℕ) (later : List Field) (tail : List ℕ) → has_y (fields_text (unless_empty (codes "Content-Type") (b ∷ v) ++ later) tail) ≡ true
 unfolding field_line has_y
 typed_fields b v later tail = subst (λ u. has_y (fields_text (u ++ later) tail) ≡ true) (sym (unless_some (codes "Content-Type") b v)) refl
@@ -300,7 +273,7 @@ unfolding has_y
 typed h c status =
     let a = error_answer status in
     let rest = fields_text (fields_of h c a) (answer_content h a) in
-    ap has_y (answer_spread h c a) ∙ list_any-append (λ b. b == 121) (status_line a.status) rest ∙ or_true (has_y (status_line a.status)) (has_y rest) (error_fields h c status (answer_content h a))
+    ap has_y (answer_spread h c a) ∙ list_any-append (λ b. b == 121) (status_line a.status) rest ∙ or_right (has_y (status_line a.status)) (has_y rest) (error_fields h c status (answer_content h a))
 
 pub own_unfixed : (h c : Bool) (status : ℕ) → false ≡ are_fixed_507 (answer_bytes h c (error_answer status))
 unfolding has_y

@@ -64,12 +64,12 @@ past-run (s ∷ xs) rest (y ∷ ys) over past held =
     (past.0, run-rest (is_last s y.bytes) xs ys over (Past xs ys over) _ past.2 (λ p. past-run xs rest ys over p held), past.1)
 
 -- ---- what is due to be sent
-turn-no-send : (o : Option Turn) (ends : End) (slot : Slot) → due_at_turn o ends ≡ Send slot → ⊥
+pub turn-no-send : (o : Option Turn) (ends : End) (slot : Slot) → due_at_turn o ends ≡ Send slot → ⊥
 turn-no-send None Waits slot e = let no : ⊥ = cc in no
 turn-no-send None (Breaks fault) slot e = let no : ⊥ = cc in no
 turn-no-send (Some turn) ends slot e = let no : ⊥ = cc in no
 
-without_sending-no-send : (over closing : Bool) (o : Option Turn) (ends : End) (slot : Slot) → cond over Close (cond closing Nothing (due_at_turn o ends)) ≡ Send slot → ⊥
+pub without_sending-no-send : (over closing : Bool) (o : Option Turn) (ends : End) (slot : Slot) → cond over Close (cond closing Nothing (due_at_turn o ends)) ≡ Send slot → ⊥
 without_sending-no-send true closing o ends slot e = let no : ⊥ = cc in no
 without_sending-no-send false true o ends slot e = let no : ⊥ = cc in no
 without_sending-no-send false false o ends slot e = turn-no-send o ends slot e

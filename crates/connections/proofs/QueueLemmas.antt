@@ -2,9 +2,10 @@
 use Rattle.std.proofs.Common.{◌≡◌, ℕ, ◌<◌, ◌≤◌, ◌||◌, zero, suc, Bool, true, false, cond, List, [], ◌∷◌, ◌++◌, length, take, drop, Option, Some, None, refl, ap, sym, subst, ◌∙◌, ◌⊎◌, arith, inl, inr, ⊎_elim, add-one, length-append}
 use Rattle.std.specs.Prelude.{IsTrue, not, slice_get}
 use Rattle.std.specs.Cmp.Lexicographic.{same_text}
-use Rattle.std.proofs.lemmas.Bool.{false≢true}
+use Rattle.std.proofs.lemmas.Bool.{false≢true, not-true}
 use Rattle.std.proofs.lemmas.Grind.{common_steps}
 use Rattle.std.proofs.lemmas.List.{take-append-le}
+use Rattle.sp_base.proofs.BoolLemmas.{or_true}
 use Rattle.http_front.specs.Answers.{fixed_507}
 use Rattle.connections.specs.declared.awaited.Awaited.{Awaited}
 use Rattle.connections.specs.declared.place.AnswerPlace.{AnswerPlace}
@@ -53,17 +54,13 @@ push-left {places} c place slot left tied =
     }
 
 -- ---- a slot is sent
-or-true : (b : Bool) → (b || true) ≡ true
-or-true true = refl
-or-true false = refl
-
 -- what is spare stays the fixed 507 until that is sent
 spare-fixed : (sending : Sending) (place : AnswerPlace) (spare now_spare : List ℕ) (over : Bool) → spare ≡ fixed_507 → (now_spare ≡ spare) ⊎ (sending.bytes ≡ spare) → over ≡ (place.closes || are_fixed_507 sending.bytes) → over ≡ false → now_spare ≡ fixed_507
 spare-fixed sending place spare now_spare over fixed kept over_is going =
     ⊎_elim
     (λ same. same ∙ fixed)
     (λ sent.
-    let ended : over ≡ true = over_is ∙ ap (λ b. place.closes || b) (are_fixed_507-fixed sending.bytes (sent ∙ fixed)) ∙ or-true place.closes in
+    let ended : over ≡ true = over_is ∙ ap (λ b. place.closes || b) (are_fixed_507-fixed sending.bytes (sent ∙ fixed)) ∙ or_true place.closes in
     absurd (let no : ⊥ = cc in no))
     kept
 
@@ -105,16 +102,12 @@ sent-left {places} {closing} {over} {spare} c place rest sending now_closing now
     )
 
 -- ---- memory runs out
-not-false : (t : Bool) → not t ≡ true → t ≡ false
-not-false true e = absurd (let no : ⊥ = cc in no)
-not-false false e = refl
-
 -- the fixed 507 stands in place of another answer
 in-place : (place : AnswerPlace) (slot : Slot) (sending : Sending) (spare : List ℕ) → spare ≡ fixed_507 → IsSendingOf place spare sending → PlaceStandsFor place slot → has_reply place.reply ≡ true → IsTrue sending.out_of_memory → IsInPlaceOf slot sending.bytes
 in-place place slot sending spare fixed (inl own) tied has out_of_memory = absurd (let had_memory : sending.out_of_memory ≡ false = own.0 in let no : ⊥ = cc in no)
 in-place place slot sending spare fixed (inr sent) tied has out_of_memory =
     let bytes : sending.bytes ≡ fixed_507 = sent.1 ∙ fixed in
-    let other : are_fixed_507 (place_bytes place) ≡ false = not-false _ (sym sent.0 ∙ out_of_memory) in
+    let other : are_fixed_507 (place_bytes place) ≡ false = not-true _ (sym sent.0 ∙ out_of_memory) in
     (bytes, λ written. false≢true (sym other ∙ are_fixed_507-fixed _ (sym (fixed-bytes place slot sending.bytes tied has bytes written) ∙ bytes)))
 
 pub in-place-due : {places : List AnswerPlace} {closing over : Bool} {spare : List ℕ} (c : Connection) (place : AnswerPlace) (rest : List AnswerPlace) (sending : Sending) → IsLeft places closing over spare c → places ≡ place ∷ rest → over ≡ false

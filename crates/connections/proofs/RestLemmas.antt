@@ -2,6 +2,7 @@
 use Rattle.std.proofs.Common.{◌≡◌, ◌||◌, ◌≤◌, ◌∙◌, ℕ, zero, suc, Bool, true, false, List, [], ◌∷◌, length, take, get_or, Option, Some, None, refl, ap, sym, subst, arith, inl, inr}
 use Rattle.std.specs.Prelude.{if◌then◌else◌, slice_get}
 use Rattle.std.specs.Cmp.Lexicographic.{same_text}
+use Rattle.sp_base.proofs.BoolLemmas.{or_first, or_second}
 use Rattle.http_front.specs.Answers.{fixed_507}
 use Rattle.http_front.specs.Turns.{End, Waits, Breaks}
 use Rattle.http_front.specs.declared.turn.Turn.{Turn}
@@ -15,18 +16,10 @@ use Rattle.connections.proofs.HistoryLemmas.{Past, PastRest, told-of}
 use Rattle.connections.proofs.TurnLemmas.{LastCloses, Open, good-of}
 
 -- ---- no slot closes
-or-left : (a b : Bool) → (a || b) ≡ false → a ≡ false
-or-left false b e = refl
-or-left true b e = e
-
-or-right : (a b : Bool) → (a || b) ≡ false → b ≡ false
-or-right false b e = e
-or-right true b e = absurd (let no : ⊥ = cc in no)
-
 last-none : (slots : List Slot) → LastCloses slots → some_closes slots ≡ false → ⊥
 last-none [] last none = last
-last-none (s ∷ []) last none = let stays : s.closes ≡ false = or-left s.closes false none in let no : ⊥ = cc in no
-last-none (s ∷ t ∷ slots) last none = last-none (t ∷ slots) last (or-right s.closes (some_closes (t ∷ slots)) none)
+last-none (s ∷ []) last none = let stays : s.closes ≡ false = or_first s.closes false none in let no : ⊥ = cc in no
+last-none (s ∷ t ∷ slots) last none = last-none (t ∷ slots) last (or_second s.closes (some_closes (t ∷ slots)) none)
 
 open-within : (turns : List Turn) (slots : List Slot) → Open turns slots → length slots ≤ length turns
 open-within turns [] open_ = omega arith

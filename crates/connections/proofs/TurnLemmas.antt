@@ -65,7 +65,7 @@ of-turn-filled n r Continue s other awaits is = absurd (let no : false ≡ true 
 of-turn-filled n r (Whole request) s other awaits is = (is.0, r, ap (with_response r) is.2, λ fixed. absurd (other fixed))
 
 -- the slot of a fault waits for nothing
-local-waits : (n : Awaited) (status : ℕ) → is_awaiting n (local_response status) ≡ false
+pub local-waits : (n : Awaited) (status : ℕ) → is_awaiting n (local_response status) ≡ false
 local-waits n status = by_test (status == 507)
   where
     by_test : (b : Bool) → is_awaiting n (if b then Fixed else Says (error_answer status)) ≡ false
@@ -76,7 +76,7 @@ end-waits : (n : Awaited) (ends : End) (s : Slot) → IsOfEnd ends s → is_awai
 end-waits n Waits s is = absurd is
 end-waits n (Breaks fault) s is = ap (λ (r : Slot). is_awaiting n r.response) is ∙ local-waits n (fault_status fault)
 
-filled-none : (n : Awaited) (r : Response) (slots : List Slot) → slots ≡ [] → slots_with_end n r slots ≡ []
+pub filled-none : (n : Awaited) (r : Response) (slots : List Slot) → slots ≡ [] → slots_with_end n r slots ≡ []
 filled-none n r slots e = rw e refl
 
 end-or-map : (b : Bool) (slots others : List Slot) (P Q : Type 0) → IsEndOr b slots P → (slots ≡ [] → others ≡ []) → (P → Q) → IsEndOr b others Q

@@ -3,13 +3,14 @@ use Rattle.std.proofs.Common.{◌≡◌, ℕ, Bool, true, false, ⊎_elim, ◌||
 use Rattle.std.specs.List.{list_any}
 use Rattle.std.specs.Str.{bytes_eq}
 use Rattle.std.specs.Cmp.Lexicographic.{same_text}
-use Rattle.std.proofs.lemmas.Bool.{cases_Bool, false≢true}
+use Rattle.std.proofs.lemmas.Bool.{and_parts, cases_Bool, false≢true}
 use Rattle.std.proofs.lemmas.List.{take_more}
 use Rattle.std.proofs.lemmas.List.Folds.{list_any-append}
 use Rattle.resource_tree.specs.declared.nodes.Node.{Node}
 use Rattle.resource_tree.specs.Content.{Content, IsGood, node_at, same_path, kid}
+use Rattle.resource_tree.proofs.PathLemmas.{path_from_same, same_path_self}
 use Rattle.content_json.specs.Steps.{is_at_or_below, AreProps, AreBelow, AreBelowKids}
-use Rattle.content_json.proofs.Under.{both, same_path_is, same_path_itself, bytes_eq_itself}
+use Rattle.content_json.proofs.Under.{bytes_eq_itself}
 use Rattle.content_json.proofs.KidLemmas.{or_split}
 
 pub is_at_or_below_append : (path rest : List (List ℕ)) → is_at_or_below path (path ++ rest) ≡ true
@@ -20,7 +21,7 @@ pub is_at_or_below_split : (path q : List (List ℕ)) → is_at_or_below path q 
 is_at_or_below_split [] q h = (q, refl)
 is_at_or_below_split (s ∷ path) [] h = absurd (false≢true h)
 is_at_or_below_split (s ∷ path) (t ∷ q) h =
-    let parts = both (bytes_eq s t) (is_at_or_below path q) h in
+    let parts = and_parts (bytes_eq s t) (is_at_or_below path q) h in
     let more = is_at_or_below_split path q parts.1 in
     (more.0, ap (λ x. x ∷ q) (sym (same_text s t (sym parts.0))) ∙ ap (λ p. s ∷ p) more.1)
 
@@ -36,7 +37,7 @@ pub below_kid : (tree : Content) (path q : List (List ℕ)) (node : Node) → Is
 below_kid tree path q node good there under apart h = by (is_at_or_below_split path q under).0 (is_at_or_below_split path q under).1
   where
     by : (rest : List (List ℕ)) → q ≡ path ++ rest → (name : List ℕ) × (list_any (bytes_eq name) node.kids ≡ true) × (is_at_or_below (kid path name) q ≡ true)
-    by [] e = absurd (false≢true (sym apart ∙ ap (same_path path) (e ∙ append-nil path) ∙ same_path_itself path))
+    by [] e = absurd (false≢true (sym apart ∙ ap (same_path path) (e ∙ append-nil path) ∙ same_path_self path))
     by (s ∷ rest) e =
         let at : q ≡ kid path s ++ rest = e ∙ sym (append_assoc path (s ∷ []) rest) in
         let kid_at = closed tree rest (kid path s) good (subst (λ p. is_some (node_at tree p) ≡ true) at h) in
@@ -48,7 +49,7 @@ below_kid tree path q node good there under apart h = by (is_at_or_below_split p
 pub all_below : (tree : Content) (path : List (List ℕ)) (node : Node) → IsGood tree → node_at tree path ≡ Some node → AreProps node.props → AreBelowKids tree path node.kids → AreBelow tree path
 all_below tree path node good there here kids q n under at =
     ⊎_elim
-    (λ e. subst (λ (m : Node). AreProps m.props) (same_node (sym there ∙ ap (node_at tree) (same_path_is path q e) ∙ at)) here)
+    (λ e. subst (λ (m : Node). AreProps m.props) (same_node (sym there ∙ ap (node_at tree) (path_from_same path q e) ∙ at)) here)
     (λ e. let found = below_kid tree path q node good there under e (ap is_some at) in kids found.0 found.1 q n found.2 at)
     (cases_Bool (same_path path q))
   where

@@ -5,9 +5,11 @@ use Rattle.std.specs.FinMap.Entries.{is_sorted, below_all}
 use Rattle.std.specs.Option.{option_or}
 use Rattle.std.specs.Str.{bytes_eq}
 use Rattle.std.proofs.lemmas.Bool.{cases_Bool}
+use Rattle.std.proofs.lemmas.Option.{none-some, same_Some}
 use Rattle.serde_json.specs.Data.{Data, null, boolean, number, string, array, object, Members, no_members, member}
 use Rattle.serde_json.specs.Find.{get_member, as_i64}
 use Rattle.sp_base.specs.Names.{by_name}
+use Rattle.sp_base.proofs.BoolLemmas.{T_first, T_second}
 use Rattle.content_json.specs.declared.fault.Cause.{Cause}
 use Rattle.content_json.specs.declared.fault.Cause.TheVariants.{BadName, BadNumber, BadOrder}
 use Rattle.content_json.specs.declared.fault.Found.{Found}
@@ -19,7 +21,6 @@ use Rattle.content_json.proofs.Under.{bytes_eq_itself}
 use Rattle.content_json.proofs.NameLemmas.{none_of_both}
 use Rattle.content_json.specs.Members.{AreSorted, entries_of}
 use Rattle.content_json.proofs.InsertLemmas.{get-member}
-use Rattle.content_json.proofs.ReturnMembers.{first, second}
 use Rattle.content_json.proofs.ReturnNodes.{get_below}
 use Rattle.content_json.proofs.InOrder.{IsInOrder, AreInOrder}
 use Rattle.content_json.proofs.GoodLemmas.{sound_way}
@@ -61,15 +62,12 @@ step_to name way ms x other got = rw (other, got) refl
 here_got : (k : List ℕ) (d : Data) (ms : Members) → get_member k (member k d ms) ≡ Some d
 here_got k d ms = get-member k k d ms ∙ ap (λ b. cond b (Some d) (get_member k ms)) (bytes_eq_itself k)
 
-absent : (x : Data) → None ≡ Some x → ⊥
-absent x e = cc
-
 -- a later member has another name
 later_got : (name k : List ℕ) (d x : Data) (ms : Members) → AreSorted (member k d ms) → get_member name ms ≡ Some x → get_member name (member k d ms) ≡ Some x
 later_got name k d x ms s got =
     get-member name k d ms
     ∙ ⊎_elim
-    (λ e. absurd (absent x (sym (get_below k ms (first (below_all by_name k (entries_of ms)) (is_sorted by_name (entries_of ms)) s)) ∙ ap (λ n. get_member n ms) (sym (same_text name k (sym e))) ∙ got)))
+    (λ e. absurd (none-some x (sym (get_below k ms (T_first (below_all by_name k (entries_of ms)) (is_sorted by_name (entries_of ms)) s)) ∙ ap (λ n. get_member n ms) (sym (same_text name k (sym e))) ∙ got)))
     (λ e. ap (λ b. cond b (Some d) (get_member name ms)) e ∙ got)
     (cases_Bool (bytes_eq name k))
 
@@ -88,7 +86,7 @@ mutual
       → ((name : List ℕ) (x : Data) → is_order name ≡ false → get_member name ms ≡ Some x → (way : List (List ℕ)) (e : Data) → way_end way x ≡ Some e → own_cause e ≡ None) → fault_below ms ≡ None
   faultless_members no_members s h all = refl
   faultless_members (member k d ms) s h all =
-      let rest = faultless_members ms (second (below_all by_name k (entries_of ms)) (is_sorted by_name (entries_of ms)) s) h.1 (λ name x other got. all name x other (later_got name k d x ms s got)) in
+      let rest = faultless_members ms (T_second (below_all by_name k (entries_of ms)) (is_sorted by_name (entries_of ms)) s) h.1 (λ name x other got. all name x other (later_got name k d x ms s got)) in
       elim (is_order k) as (λ t. is_order k ≡ t → option_or (if t then None else option_map (in_member k) (fault_in d)) (fault_below ms) ≡ None) [
         | true ↦ λ _. rest
         | false ↦ λ other. neither_found (option_map (in_member k) (fault_in d)) (fault_below ms) (ap (option_map (in_member k)) (faultless_from d h.0 (all k d other (here_got k d ms)))) rest
@@ -101,24 +99,21 @@ take_again zero way = refl
 take_again (suc n) [] = refl
 take_again (suc n) (name ∷ way) = ap (λ more. name ∷ more) (take_again n way)
 
-found_is : (f g : Found) → Some f ≡ Some g → f ≡ g
-found_is f g e = cc
-
 found_none : {A : Type 0} (g : Found) → None ≡ Some g → A
 found_none g e = absurd (cc)
 
 own_place : (a b : Bool) (f : Found) → (if a then Some (here BadName) else (if b then None else Some (here BadOrder))) ≡ Some f → f.place ≡ []
-own_place true b f h = ap (λ g. g.place) (sym (found_is (here BadName) f h))
+own_place true b f h = ap (λ g. g.place) (sym (same_Some (here BadName) f h))
 own_place false true f h = found_none f h
-own_place false false f h = ap (λ g. g.place) (sym (found_is (here BadOrder) f h))
+own_place false false f h = ap (λ g. g.place) (sym (same_Some (here BadOrder) f h))
 
 number_placed : (n : Bool) (found : Found) → (if n then None else Some (here BadNumber)) ≡ Some found → (found.place ≡ []) × ((if n then None else Some BadNumber) ≡ Some found.cause)
 number_placed true found h = found_none found h
-number_placed false found h = let is = found_is (here BadNumber) found h in (ap (λ g. g.place) (sym is), ap (λ g. Some g.cause) is)
+number_placed false found h = let is = same_Some (here BadNumber) found h in (ap (λ g. g.place) (sym is), ap (λ g. Some g.cause) is)
 
 array_placed : (o : Option Cause) (found : Found) → option_map here o ≡ Some found → (found.place ≡ []) × (o ≡ Some found.cause)
 array_placed None found h = found_none found h
-array_placed (Some cause) found h = let is = found_is (here cause) found h in (ap (λ g. g.place) (sym is), ap (λ g. Some g.cause) is)
+array_placed (Some cause) found h = let is = same_Some (here cause) found h in (ap (λ g. g.place) (sym is), ap (λ g. Some g.cause) is)
 
 -- the fault of a member
 record IsMemberFault (ms : Members) (found : Found) : Type 0 where
@@ -148,7 +143,7 @@ mutual
           cause = m.placed.cause ∙ ap (λ f. Some f.cause) (sym m.is);
         }
     | Some f ↦ λ own g.
-        let is = found_is f found g in
+        let is = same_Some f found g in
         record {
           way = [];
           value = object ms;
@@ -162,12 +157,12 @@ mutual
   member_placed no_members found s h e = found_none found e
   member_placed (member k d ms) found s h e =
       let later : fault_below ms ≡ Some found → IsMemberFault (member k d ms) found = λ g.
-      let m = member_placed ms found (second (below_all by_name k (entries_of ms)) (is_sorted by_name (entries_of ms)) s) h.1 g in
+      let m = member_placed ms found (T_second (below_all by_name k (entries_of ms)) (is_sorted by_name (entries_of ms)) s) h.1 g in
       record { name = m.name; value = m.value; within = m.within; other = m.other; got = later_got m.name k d m.value ms s m.got; is = m.is; placed = m.placed } in
       elim (is_order k) as (λ t. is_order k ≡ t → option_or (if t then None else option_map (in_member k) (fault_in d)) (fault_below ms) ≡ Some found → IsMemberFault (member k d ms) found) [
         | true ↦ λ _ g. later g
         | false ↦ λ other g. elim (fault_in d) as (λ o. fault_in d ≡ o → option_or (option_map (in_member k) o) (fault_below ms) ≡ Some found → IsMemberFault (member k d ms) found) [
           | None ↦ λ _ more. later more
-          | Some f ↦ λ own is. record { name = k; value = d; within = f; other = other; got = here_got k d ms; is = sym (found_is (in_member k f) found is); placed = fault_placed d f h.0 own }
+          | Some f ↦ λ own is. record { name = k; value = d; within = f; other = other; got = here_got k d ms; is = sym (same_Some (in_member k f) found is); placed = fault_placed d f h.0 own }
         ] refl g
       ] refl e

@@ -1,5 +1,5 @@
 -- Content without a fault that isn't too big is a good tree.
-use Rattle.std.proofs.Common.{◌≡◌, ℕ, suc, ◌+◌, ◌-◌, ◌<◌, ◌≤◌, Bool, true, false, cond, not, ◌&&◌, ◌||◌, T, ⊎_elim, List, [], ◌∷◌, length, nat_lt, Option, Some, None, is_some, if◌then◌else◌, refl, sym, ap, ◌∙◌, subst, arith, Less, Equal, Greater, Ordering}
+use Rattle.std.proofs.Common.{◌≡◌, ℕ, suc, ◌+◌, ◌-◌, ◌<◌, ◌≤◌, Bool, true, false, cond, not, ◌&&◌, ◌||◌, T, ⊎_elim, List, [], ◌∷◌, length, nat_lt, Option, Some, None, is_some, if◌then◌else◌, refl, sym, ap, ◌∙◌, subst, arith, Less}
 use Rattle.std.specs.Prelude.{option_and_then, nat_le}
 use Rattle.std.specs.Cmp.Lexicographic.{same_text}
 use Rattle.std.specs.FinMap.Entries.{is_sorted, below_all, find, length-put}
@@ -9,12 +9,15 @@ use Rattle.std.specs.Map.{keys_of}
 use Rattle.std.specs.Option.{option_map_or}
 use Rattle.std.specs.Ordering.{is_lt}
 use Rattle.std.specs.Str.{bytes_eq}
-use Rattle.std.proofs.lemmas.Bool.{cases_Bool, false≢true}
+use Rattle.std.proofs.lemmas.Bool.{and_from, cases_Bool, false≢true, or_parts}
+use Rattle.std.proofs.lemmas.Option.{none-some, same_Some}
 use borrow.Author.Tests.{ltb-false}
 use Rattle.serde_json.specs.Data.{Data, null, boolean, number, string, array, object, Members, no_members, member}
 use Rattle.serde_json.specs.Find.{get, get_member}
 use Rattle.sp_base.specs.Names.{by_name}
 use Rattle.sp_base.specs.Paths.{seg_ok}
+use Rattle.sp_base.proofs.BoolLemmas.{T_first, T_second, and_first, same_truth}
+use Rattle.sp_base.proofs.OrderingLemmas.{by_path_total, less_from_T}
 use Rattle.resource_tree.specs.declared.nodes.Node.{Node}
 use Rattle.resource_tree.specs.Content.{Content, IsGood, IsTree, IsNodeOf, by_path, node_at, kid, prop_at}
 use Rattle.content_json.specs.Names.{is_order, is_content_name, has_bad_name, is_object, is_kid, is_kid_member, kid_names}
@@ -24,15 +27,14 @@ use Rattle.content_json.specs.Steps.{member_fault}
 use Rattle.content_json.specs.Nodes.{node_of_members, nodes_in, kids_of, is_deeper, is_deeper_below, count_below}
 use Rattle.content_json.specs.Ways.{way_end, node_of_value}
 use Rattle.content_json.specs.ContentOf.{map_of, is_too_big}
-use Rattle.content_json.proofs.Under.{by_path_total}
 use Rattle.content_json.proofs.NameLemmas.{is_plain-here, has_bad_name-rest, has_bad_name-from_own_fault, has_good_order-from_own_fault, none_of_both, faultless_value}
-use Rattle.content_json.proofs.KidLemmas.{and_true, all_at, kids_have, kids_within}
+use Rattle.content_json.proofs.KidLemmas.{all_at, kids_have, kids_within}
 use Rattle.content_json.proofs.MapLemmas.{find_is_node_at, find_in_map, map_sorted}
-use Rattle.content_json.proofs.DistinctLemmas.{neither, kids_distinct}
+use Rattle.content_json.proofs.DistinctLemmas.{kids_distinct}
 use Rattle.content_json.proofs.SizeLemmas.{length-nodes_in, object_fits, shallow_first, shallow_rest}
 use Rattle.content_json.specs.Members.{AreSorted, entries_of}
 use Rattle.content_json.proofs.InsertLemmas.{get-member}
-use Rattle.content_json.proofs.ReturnMembers.{first, second, option_or-none}
+use Rattle.content_json.proofs.ReturnMembers.{option_or-none}
 use Rattle.content_json.proofs.ReturnNodes.{get_below, find_added, read_value}
 use Rattle.content_json.proofs.InOrder.{IsInOrder, AreInOrder}
 use Rattle.content_json.proofs.WayLemmas.{value_at-kid, node_at_way}
@@ -44,16 +46,10 @@ pub record IsSound (d : Data) : Type 0 where
   pub faultless : fault_in d ≡ None
   pub in_order : IsInOrder d
 
-none_found : {A : Type 0} (x : A) → None ≡ Some x → ⊥
-none_found x e = cc
-
-same_found : (x y : Data) → Some x ≡ Some y → x ≡ y
-same_found x y e = cc
-
 -- a member of a sound object, but for `:order`
 member_sound : (name : List ℕ) (ms : Members) (x : Data) → AreInOrder ms → has_bad_name ms ≡ false → fault_below ms ≡ None → is_order name ≡ false → get_member name ms ≡ Some x
     → IsSound x × (is_content_name name ≡ true)
-member_sound name no_members x h plain faultless other is = absurd (none_found x is)
+member_sound name no_members x h plain faultless other is = absurd (none-some x is)
 member_sound name (member k d ms) x h plain faultless other is =
     let parts = none_of_both (member_fault k d) (fault_below ms) faultless in
     let got = λ (t : Bool) (e : bytes_eq name k ≡ t). sym (ap (λ b. cond b (Some d) (get_member name ms)) e) ∙ sym (get-member name k d ms) ∙ is in
@@ -61,66 +57,62 @@ member_sound name (member k d ms) x h plain faultless other is =
     (λ e.
     let same : k ≡ name = sym (same_text name k (sym e)) in
     let here : is_order k ≡ false = ap is_order same ∙ other in
-    (subst IsSound (same_found d x (got true e)) (record { faultless = faultless_value k d here parts.0; in_order = h.0 }), ap is_content_name (sym same) ∙ is_plain-here k d ms plain here))
+    (subst IsSound (same_Some d x (got true e)) (record { faultless = faultless_value k d here parts.0; in_order = h.0 }), ap is_content_name (sym same) ∙ is_plain-here k d ms plain here))
     (λ e. member_sound name ms x h.1 (has_bad_name-rest k d ms plain) parts.1 other (got false e))
     (cases_Bool (bytes_eq name k))
 
 sound_step : (name : List ℕ) (d x : Data) → IsSound d → is_order name ≡ false → get name d ≡ Some x → IsSound x × (is_content_name name ≡ true)
-sound_step name null x h other is = absurd (none_found x is)
-sound_step name (boolean b) x h other is = absurd (none_found x is)
-sound_step name (number n) x h other is = absurd (none_found x is)
-sound_step name (string s) x h other is = absurd (none_found x is)
-sound_step name (array ds) x h other is = absurd (none_found x is)
+sound_step name null x h other is = absurd (none-some x is)
+sound_step name (boolean b) x h other is = absurd (none-some x is)
+sound_step name (number n) x h other is = absurd (none-some x is)
+sound_step name (string s) x h other is = absurd (none-some x is)
+sound_step name (array ds) x h other is = absurd (none-some x is)
 sound_step name (object ms) x h other is =
     let parts = none_of_both (own_fault ms) (fault_below ms) h.faultless in
     member_sound name ms x h.in_order.1 (has_bad_name-from_own_fault ms parts.0) parts.1 other is
 
-first_ok : (a b : Bool) → (a && b) ≡ true → a ≡ true
-first_ok true b h = refl
-first_ok false b h = h
-
 pub sound_way : (way : List (List ℕ)) (d e : Data) → IsSound d → way_end way d ≡ Some e → IsSound e × (list_all seg_ok way ≡ true)
-sound_way [] d e h is = (subst IsSound (same_found d e is) h, refl)
+sound_way [] d e h is = (subst IsSound (same_Some d e is) h, refl)
 sound_way (name ∷ way) d e h is =
     elim (is_order name) as (λ t. is_order name ≡ t → (if t then None else option_and_then (way_end way) (get name d)) ≡ Some e → IsSound e × (list_all seg_ok (name ∷ way) ≡ true)) [
-      | true ↦ λ _ g. absurd (none_found e g)
+      | true ↦ λ _ g. absurd (none-some e g)
       | false ↦ λ other g. elim (get name d) as (λ o. get name d ≡ o → option_and_then (way_end way) o ≡ Some e → IsSound e × (list_all seg_ok (name ∷ way) ≡ true)) [
-        | None ↦ λ _ none. absurd (none_found e none)
+        | None ↦ λ _ none. absurd (none-some e none)
         | Some x ↦ λ at more.
             let step = sound_step name d x h other at in
             let rest = sound_way way x e step.0 more in
-            (rest.0, and_true (seg_ok name) (list_all seg_ok way) (first_ok (seg_ok name) _ step.1) rest.1)
+            (rest.0, and_from (seg_ok name) (list_all seg_ok way) (and_first (seg_ok name) _ step.1) rest.1)
       ] refl g
     ] refl is
 
 -- ---- no object stands too deep
 
 member_shallow : (levels : ℕ) (name : List ℕ) (ms : Members) (x : Data) → is_deeper_below levels ms ≡ false → is_order name ≡ false → get_member name ms ≡ Some x → is_deeper levels x ≡ false
-member_shallow levels name no_members x h other is = absurd (none_found x is)
+member_shallow levels name no_members x h other is = absurd (none-some x is)
 member_shallow levels name (member k d ms) x h other is =
     let got = λ (t : Bool) (e : bytes_eq name k ≡ t). sym (ap (λ b. cond b (Some d) (get_member name ms)) e) ∙ sym (get-member name k d ms) ∙ is in
     ⊎_elim
     (λ e.
     let here : is_order k ≡ false = ap is_order (sym (same_text name k (sym e))) ∙ other in
-    ap (is_deeper levels) (sym (same_found d x (got true e))) ∙ sym (ap (λ t. if t then false else is_deeper levels d) here) ∙ shallow_first levels k d ms h)
+    ap (is_deeper levels) (sym (same_Some d x (got true e))) ∙ sym (ap (λ t. if t then false else is_deeper levels d) here) ∙ shallow_first levels k d ms h)
     (λ e. member_shallow levels name ms x (shallow_rest levels k d ms h) other (got false e))
     (cases_Bool (bytes_eq name k))
 
 step_shallow : (levels : ℕ) (name : List ℕ) (d x : Data) → is_deeper levels d ≡ false → is_order name ≡ false → get name d ≡ Some x → (0 < levels) × (is_deeper (levels - 1) x ≡ false)
-step_shallow levels name null x h other is = absurd (none_found x is)
-step_shallow levels name (boolean b) x h other is = absurd (none_found x is)
-step_shallow levels name (number n) x h other is = absurd (none_found x is)
-step_shallow levels name (string s) x h other is = absurd (none_found x is)
-step_shallow levels name (array ds) x h other is = absurd (none_found x is)
+step_shallow levels name null x h other is = absurd (none-some x is)
+step_shallow levels name (boolean b) x h other is = absurd (none-some x is)
+step_shallow levels name (number n) x h other is = absurd (none-some x is)
+step_shallow levels name (string s) x h other is = absurd (none-some x is)
+step_shallow levels name (array ds) x h other is = absurd (none-some x is)
 step_shallow levels name (object ms) x h other is = let fits = object_fits levels ms h in (fits.0, member_shallow (levels - 1) name ms x fits.1 other is)
 
 pub way_short : (way : List (List ℕ)) (levels : ℕ) (d : Data) (ms : Members) → is_deeper levels d ≡ false → way_end way d ≡ Some (object ms) → length way < levels
-way_short [] levels d ms h is = (object_fits levels ms (ap (is_deeper levels) (sym (same_found d (object ms) is)) ∙ h)).0
+way_short [] levels d ms h is = (object_fits levels ms (ap (is_deeper levels) (sym (same_Some d (object ms) is)) ∙ h)).0
 way_short (name ∷ way) levels d ms h is =
     elim (is_order name) as (λ t. is_order name ≡ t → (if t then None else option_and_then (way_end way) (get name d)) ≡ Some (object ms) → length (name ∷ way) < levels) [
-      | true ↦ λ _ g. absurd (none_found (object ms) g)
+      | true ↦ λ _ g. absurd (none-some (object ms) g)
       | false ↦ λ other g. elim (get name d) as (λ o. get name d ≡ o → option_and_then (way_end way) o ≡ Some (object ms) → length (name ∷ way) < levels) [
-        | None ↦ λ _ none. absurd (none_found (object ms) none)
+        | None ↦ λ _ none. absurd (none-some (object ms) none)
         | Some x ↦ λ at more.
             let step = step_shallow levels name d x h other at in
             let rest = way_short way (levels - 1) x ms step.1 more in
@@ -160,8 +152,8 @@ other_alone false b = refl
 pub kid_names_are : (name : List ℕ) (ms : Members) → AreSorted ms → list_any (bytes_eq name) (kid_names ms) ≡ (not (is_order name) && is_kid ms name)
 kid_names_are name no_members s = sym (no_kid (is_order name))
 kid_names_are name (member k d ms) s =
-    let below = first (below_all by_name k (entries_of ms)) (is_sorted by_name (entries_of ms)) s in
-    let later = kid_names_are name ms (second (below_all by_name k (entries_of ms)) (is_sorted by_name (entries_of ms)) s) in
+    let below = T_first (below_all by_name k (entries_of ms)) (is_sorted by_name (entries_of ms)) s in
+    let later = kid_names_are name ms (T_second (below_all by_name k (entries_of ms)) (is_sorted by_name (entries_of ms)) s) in
     let found = λ (o : Option Data). not (is_order name) && option_map_or is_object o false in
     let got = λ (t : Bool) (e : bytes_eq name k ≡ t). get-member name k d ms ∙ ap (λ b. cond b (Some d) (get_member name ms)) e in
     ⊎_elim
@@ -173,15 +165,10 @@ kid_names_are name (member k d ms) s =
     (λ e. either_name (is_kid_member k d) false (found (get_member name ms)) name k (kid_names ms) e later ∙ other_alone (is_kid_member k d) (found (get_member name ms)) ∙ ap found (sym (got false e)))
     (cases_Bool (bytes_eq name k))
 
-same_bool : (a b : Bool) → (a ≡ true → b ≡ true) → (b ≡ true → a ≡ true) → a ≡ b
-same_bool true b f g = sym (f refl)
-same_bool false true f g = g refl
-same_bool false false f g = refl
-
 -- so it is among the kids in their order
 kids_are : (name : List ℕ) (ms : Members) → AreSorted ms → has_good_order ms ≡ true → list_any (bytes_eq name) (kids_of ms) ≡ (not (is_order name) && is_kid ms name)
 kids_are name ms s good =
-    same_bool (list_any (bytes_eq name) (kids_of ms)) (list_any (bytes_eq name) (kid_names ms)) (λ e. all_at (λ k. list_any (bytes_eq k) (kid_names ms)) name (kids_of ms) (kids_within ms good) e) (λ e. kids_have name ms e)
+    same_truth (list_any (bytes_eq name) (kids_of ms)) (list_any (bytes_eq name) (kid_names ms)) (λ e. all_at (λ k. list_any (bytes_eq k) (kid_names ms)) name (kids_of ms) (kids_within ms good) e) (λ e. kids_have name ms e)
     ∙ kid_names_are name ms s
 
 -- ---- the properties of an object
@@ -208,12 +195,12 @@ named_at name ms sound false (Some x) other at h = (sound_step name (object ms) 
 
 -- an object stands where a node does
 pub object_there : (o : Option Data) (node : Node) → option_and_then node_of_value o ≡ Some node → (ms : Members) × (o ≡ Some (object ms)) × (node ≡ node_of_members ms)
-object_there None node h = absurd (none_found node h)
-object_there (Some null) node h = absurd (none_found node h)
-object_there (Some (boolean b)) node h = absurd (none_found node h)
-object_there (Some (number n)) node h = absurd (none_found node h)
-object_there (Some (string s)) node h = absurd (none_found node h)
-object_there (Some (array ds)) node h = absurd (none_found node h)
+object_there None node h = absurd (none-some node h)
+object_there (Some null) node h = absurd (none-some node h)
+object_there (Some (boolean b)) node h = absurd (none-some node h)
+object_there (Some (number n)) node h = absurd (none-some node h)
+object_there (Some (string s)) node h = absurd (none-some node h)
+object_there (Some (array ds)) node h = absurd (none-some node h)
 object_there (Some (object ms)) node h = (ms, refl, cc)
 
 -- where a kid is, its parent is an object
@@ -243,13 +230,13 @@ module _ (ms : Members) (sound : IsSound (object ms)) (small : is_too_big ms ≡
       let own = (none_of_both (own_fault ks) (fault_below ks) here.0.faultless).0 in
       let good = has_good_order-from_own_fault ks own in
       let sorted = here.0.in_order.0 in
-      let short = way_short way 65 (object ms) ks (neither (nat_lt 200000 (suc (count_below ms))) (is_deeper_below 64 ms) small).1 at in
+      let short = way_short way 65 (object ms) ks (or_parts (nat_lt 200000 (suc (count_below ms))) (is_deeper_below 64 ms) small).1 at in
       record {
-        is_a_path = and_true (list_all seg_ok way) (nat_le (length way) 64) here.1 (le_is (length way) (omega (arith, short)));
+        is_a_path = and_from (list_all seg_ok way) (nat_le (length way) 64) here.1 (le_is (length way) (omega (arith, short)));
         kids = λ name. kids_are name ks sorted good ∙ sym (kid_at (is_order name) (get_member name ks)) ∙ ap (λ o. is_some (option_and_then node_of_value (option_and_then (way_end (name ∷ [])) o))) (sym at) ∙ ap is_some (sym (at_kid way name));
         distinct = kids_distinct ks sorted good;
         apart = λ name among. props_are name ks sorted ∙ apart_at (is_order name) (get_member name ks) (sym (kids_are name ks sorted good) ∙ among);
-        names = λ name there. first_ok (seg_ok name) _ (named_at name ks here.0 (is_order name) (get_member name ks) refl refl (sym (ap is_some (props_are name ks sorted)) ∙ there));
+        names = λ name there. and_first (seg_ok name) _ (named_at name ks here.0 (is_order name) (get_member name ks) refl refl (sym (ap is_some (props_are name ks sorted)) ∙ there));
       }
     where
       le_is : (n : ℕ) → n ≤ 64 → nat_le n 64 ≡ true
@@ -273,19 +260,14 @@ tree_same a b same t = record {
       record { is_a_path = n.is_a_path; kids = λ name. n.kids name ∙ ap is_some (same (kid way name)); distinct = n.distinct; apart = n.apart; names = n.names };
 }
 
-pub less : (o : Ordering) → T (is_lt o) → o ≡ Less
-less Less h = refl
-less Equal h = absurd h
-less Greater h = absurd h
-
 above : (path : List (List ℕ)) (nodes : Content) → T (below_all by_path path nodes) → AllByRecursion (λ p. by_path path p ≡ Less) (keys_of nodes)
 above path [] h = tt
-above path (e ∷ nodes) h = (less (by_path path e.0) (first (is_lt (by_path path e.0)) (below_all by_path path nodes) h), above path nodes (second (is_lt (by_path path e.0)) (below_all by_path path nodes) h))
+above path (e ∷ nodes) h = (less_from_T (by_path path e.0) (T_first (is_lt (by_path path e.0)) (below_all by_path path nodes) h), above path nodes (T_second (is_lt (by_path path e.0)) (below_all by_path path nodes) h))
 
 strictly : (nodes : Content) → T (is_sorted by_path nodes) → IsStrictlySortedBy by_path (keys_of nodes)
 unfolding IsStrictlySortedBy
 strictly [] h = tt
-strictly (e ∷ nodes) h = (above e.0 nodes (first (below_all by_path e.0 nodes) (is_sorted by_path nodes) h), strictly nodes (second (below_all by_path e.0 nodes) (is_sorted by_path nodes) h))
+strictly (e ∷ nodes) h = (above e.0 nodes (T_first (below_all by_path e.0 nodes) (is_sorted by_path nodes) h), strictly nodes (T_second (below_all by_path e.0 nodes) (is_sorted by_path nodes) h))
 
 pub map_at : (nodes : Content) (way : List (List ℕ)) → node_at (map_of nodes) way ≡ node_at nodes way
 map_at nodes way = sym (find_is_node_at way (map_of nodes)) ∙ find_in_map way nodes
@@ -304,7 +286,7 @@ map_size (e ∷ nodes) =
 pub good_content : (ms : Members) → IsInOrder (object ms) → fault_in (object ms) ≡ None → is_too_big ms ≡ false → IsGood (map_of (nodes_in [] (object ms)))
 good_content ms in_order faultless small =
     let nodes = nodes_in [] (object ms) in
-    let most : suc (count_below ms) ≤ 200000 = ltb-false 200000 (suc (count_below ms)) (neither (nat_lt 200000 (suc (count_below ms))) (is_deeper_below 64 ms) small).0 in
+    let most : suc (count_below ms) ≤ 200000 = ltb-false 200000 (suc (count_below ms)) (or_parts (nat_lt 200000 (suc (count_below ms))) (is_deeper_below 64 ms) small).0 in
     record {
       ordered = strictly (map_of nodes) (map_sorted nodes);
       size = (let few = map_size nodes in let count = length-nodes_in [] (object ms) in omega (arith, few, count, most));

@@ -1,5 +1,6 @@
 -- What is read has the members of each object in the order of their names, each once.
 use Rattle.std.proofs.Common.{◌≡◌, ℕ, true, false, List, Option, Some, None, option_map, if◌then◌else◌, refl, subst}
+use Rattle.std.proofs.lemmas.Option.{same_Some}
 use Rattle.std.specs.Prelude.{⊤, option_and_then}
 use Rattle.std.specs.Ordering.{match_ordering}
 use Rattle.std.specs.declared.cmp.Ordering.TheVariants.{Less, Equal, Greater}
@@ -35,25 +36,22 @@ in_order-put k d (member l e ms) p h =
       | Greater ↦ (h.0, in_order-put k d ms p h.1)
     ]
 
-same_data : (x d : Data) → Some x ≡ Some d → x ≡ d
-same_data x d e = cc
-
 mutual
   in_order_of : (j : json.Json) (d : Data) → of_json j ≡ Some d → IsInOrder d
-  in_order_of json.null d h = subst IsInOrder (same_data null d h) tt
-  in_order_of (json.boolean b) d h = subst IsInOrder (same_data (boolean b) d h) tt
+  in_order_of json.null d h = subst IsInOrder (same_Some null d h) tt
+  in_order_of (json.boolean b) d h = subst IsInOrder (same_Some (boolean b) d h) tt
   in_order_of (json.number s) d h = elim (number_of s) as (λ o. option_map number o ≡ Some d → IsInOrder d) [
     | None ↦ λ e. absurd (cc)
-    | Some n ↦ λ e. subst IsInOrder (same_data (number n) d e) tt
+    | Some n ↦ λ e. subst IsInOrder (same_Some (number n) d e) tt
   ] h
-  in_order_of (json.string s) d h = subst IsInOrder (same_data (string s) d h) tt
+  in_order_of (json.string s) d h = subst IsInOrder (same_Some (string s) d h) tt
   in_order_of (json.array js) d h = elim (of_items js) as (λ o. option_map array o ≡ Some d → IsInOrder d) [
     | None ↦ λ e. absurd (cc)
-    | Some ds ↦ λ e. subst IsInOrder (same_data (array ds) d e) tt
+    | Some ds ↦ λ e. subst IsInOrder (same_Some (array ds) d e) tt
   ] h
   in_order_of (json.object ms) d h = elim (of_members ms no_members) as (λ o. of_members ms no_members ≡ o → option_map object o ≡ Some d → IsInOrder d) [
     | None ↦ λ _ e. absurd (cc)
-    | Some found ↦ λ is e. subst IsInOrder (same_data (object found) d e) (in_order_members ms no_members found tt tt is)
+    | Some found ↦ λ is e. subst IsInOrder (same_Some (object found) d e) (in_order_members ms no_members found tt tt is)
   ] refl h
 
   in_order_members : (ms : json.Members) (start found : Members) → AreSorted start → AreInOrder start → of_members ms start ≡ Some found → AreSorted found × AreInOrder found

@@ -1,35 +1,27 @@
 -- Members that are inserted one after another.
-use Rattle.std.proofs.Common.{◌≡◌, ℕ, true, cond, T, ⊎_elim, List, [], ◌∷◌, Some, Ordering, refl, sym, ap, ◌∙◌, subst}
+use Rattle.std.proofs.Common.{◌≡◌, ℕ, cond, T, ⊎_elim, List, [], ◌∷◌, Some, refl, sym, ap, ◌∙◌, subst}
 use Rattle.std.specs.Prelude.{⊤}
 use Rattle.std.specs.Cmp.{tied_itself}
 use Rattle.std.specs.Cmp.Lexicographic.{nat_list_cmp_total, same_text}
-use Rattle.std.specs.FinMap.{nat_cmp-IsAntisymmetric, slice_cmp-IsAntisymmetric}
 use Rattle.std.specs.FinMap.Entries as entries
 use Rattle.std.specs.FinMap.Entries.{by_order, find, is_sorted, is_sorted-put, find-put}
 use Rattle.std.specs.List.{AllByRecursion}
 use Rattle.std.specs.Ordering.{match_ordering, is_eq, eq_by_cmp}
 use Rattle.std.specs.declared.cmp.Ordering.TheVariants.{Less, Equal, Greater}
 use Rattle.std.specs.Str.{bytes_eq}
-use Rattle.std.proofs.lemmas.Bool.{cases_Bool, true≢false, false≢true}
+use Rattle.std.proofs.lemmas.Bool.{cases_Bool, true≢false}
 use Rattle.serde_json.specs.Data.{Data, Members, no_members, member, put}
 use Rattle.serde_json.specs.Find.{get_member}
 use Rattle.sp_base.specs.Names.{by_name}
+use Rattle.sp_base.proofs.OrderingLemmas.{equal_from_test}
+use Rattle.sp_base.proofs.PropertyLemmas.{same_name}
 use Rattle.content_json.specs.Members.{entries_of, AreSorted, AllMembers}
 use Rattle.content_json.proofs.Under.{bytes_eq_itself}
-
-equal : (o : Ordering) → is_eq o ≡ true → o ≡ Equal
-equal Less h = absurd (false≢true h)
-equal Equal h = refl
-equal Greater h = absurd (false≢true h)
-
--- two names that the order doesn't tell apart are one
-pub same_name : (q k : List ℕ) → by_name q k ≡ Equal → q ≡ k
-same_name q k e = slice_cmp-IsAntisymmetric nat_cmp-IsAntisymmetric q k e
 
 pub tie_is : (q k : List ℕ) → eq_by_cmp by_name q k ≡ bytes_eq q k
 tie_is q k =
     ⊎_elim
-    (λ e. e ∙ sym (ap (bytes_eq q) (sym (same_name q k (equal (by_name q k) e))) ∙ bytes_eq_itself q))
+    (λ e. e ∙ sym (ap (bytes_eq q) (sym (same_name q k (equal_from_test (by_name q k) e))) ∙ bytes_eq_itself q))
     (λ e. e ∙ sym (⊎_elim (λ h. absurd (true≢false (sym (ap is_eq (tied_itself nat_list_cmp_total q)) ∙ ap (λ n. is_eq (by_name q n)) (same_text q k (sym h)) ∙ e))) (λ h. h) (cases_Bool (bytes_eq q k))))
     (cases_Bool (eq_by_cmp by_name q k))
 

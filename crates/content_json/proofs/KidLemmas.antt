@@ -8,27 +8,16 @@ use Rattle.std.specs.Cmp.Lexicographic.{slice_cmp, same_text}
 use Rattle.std.specs.FinMap.{nat_cmp-IsAntisymmetric, slice_cmp-IsAntisymmetric}
 use Rattle.std.specs.Ordering.{nat_cmp, match_ordering}
 use Rattle.std.specs.declared.cmp.Ordering.TheVariants.{Less, Equal, Greater}
-use Rattle.std.proofs.lemmas.Bool.{cases_Bool, true≢false, false≢true}
+use Rattle.std.proofs.lemmas.Bool.{cases_Bool, true≢false, false≢true, and_from, and_parts, or_left, or_right}
 use Rattle.std.proofs.lemmas.List.Folds.{list_any-append}
+use Rattle.sp_base.proofs.ListLemmas.{list_all_filter}
 use Rattle.serde_json.specs.Data.{Data, null, boolean, number, string, array, object, Items, no_items, item, Members, no_members, member}
 use Rattle.serde_json.specs.Find.{as_str, as_array, get_member}
 use Rattle.content_json.specs.Names.{order_name, is_order, is_object, is_kid_member, kid_names, is_kid}
 use Rattle.content_json.specs.Lists.{item_list}
 use Rattle.content_json.specs.Faults.{names_kids, has_good_order, is_good_order}
 use Rattle.content_json.specs.Nodes.{order_names, kids_of}
-use Rattle.content_json.proofs.Under.{both, bytes_eq_itself}
-
-pub or_right : (a b : Bool) → b ≡ true → (a || b) ≡ true
-or_right true b h = refl
-or_right false b h = h
-
-pub or_left : (a b : Bool) → a ≡ true → (a || b) ≡ true
-or_left true b h = refl
-or_left false b h = absurd (false≢true h)
-
-pub and_true : (a b : Bool) → a ≡ true → b ≡ true → (a && b) ≡ true
-and_true true b g h = h
-and_true false b g h = absurd (false≢true g)
+use Rattle.content_json.proofs.Under.{bytes_eq_itself}
 
 pub or_split : (a b : Bool) → (a || b) ≡ true → a ≡ false → b ≡ true
 or_split true b h e = absurd (true≢false e)
@@ -36,29 +25,22 @@ or_split false b h e = h
 
 pub all_weaker : {A : Type 0} (p q : A → Bool) → ((x : A) → p x ≡ true → q x ≡ true) → (xs : List A) → list_all p xs ≡ true → list_all q xs ≡ true
 all_weaker p q gives [] h = refl
-all_weaker p q gives (x ∷ xs) h = let parts = both (p x) (list_all p xs) h in and_true (q x) (list_all q xs) (gives x parts.0) (all_weaker p q gives xs parts.1)
+all_weaker p q gives (x ∷ xs) h = let parts = and_parts (p x) (list_all p xs) h in and_from (q x) (list_all q xs) (gives x parts.0) (all_weaker p q gives xs parts.1)
 
 all_append : {A : Type 0} (p : A → Bool) (xs ys : List A) → list_all p xs ≡ true → list_all p ys ≡ true → list_all p (xs ++ ys) ≡ true
 all_append p [] ys g h = h
-all_append p (x ∷ xs) ys g h = let parts = both (p x) (list_all p xs) g in and_true (p x) (list_all p (xs ++ ys)) parts.0 (all_append p xs ys parts.1 h)
-
-all_filter : {A : Type 0} (p f : A → Bool) (xs : List A) → list_all p xs ≡ true → list_all p (filter f xs) ≡ true
-all_filter p f [] h = refl
-all_filter p f (x ∷ xs) h =
-    let parts = both (p x) (list_all p xs) h in
-    let rest = all_filter p f xs parts.1 in
-    elim (f x) as (λ t. list_all p (cond t (x ∷ filter f xs) (filter f xs)) ≡ true) [ true ↦ and_true (p x) (list_all p (filter f xs)) parts.0 rest | false ↦ rest ]
+all_append p (x ∷ xs) ys g h = let parts = and_parts (p x) (list_all p xs) g in and_from (p x) (list_all p (xs ++ ys)) parts.0 (all_append p xs ys parts.1 h)
 
 -- each item of a list is among them
 all_among : (xs : List (List ℕ)) → list_all (λ x. list_any (bytes_eq x) xs) xs ≡ true
 all_among [] = refl
-all_among (x ∷ xs) = and_true _ (list_all (λ y. list_any (bytes_eq y) (x ∷ xs)) xs) (or_left (bytes_eq x x) (list_any (bytes_eq x) xs) (bytes_eq_itself x)) (all_weaker (λ y. list_any (bytes_eq y) xs) (λ y. list_any (bytes_eq y) (x ∷ xs)) (λ y h. or_right (bytes_eq y x) (list_any (bytes_eq y) xs) h) xs (all_among xs))
+all_among (x ∷ xs) = and_from _ (list_all (λ y. list_any (bytes_eq y) (x ∷ xs)) xs) (or_left (bytes_eq x x) (list_any (bytes_eq x) xs) (bytes_eq_itself x)) (all_weaker (λ y. list_any (bytes_eq y) xs) (λ y. list_any (bytes_eq y) (x ∷ xs)) (λ y h. or_right (bytes_eq y x) (list_any (bytes_eq y) xs) h) xs (all_among xs))
 
 -- what holds of each holds of one among them
 pub all_at : (p : List ℕ → Bool) (k : List ℕ) (xs : List (List ℕ)) → list_all p xs ≡ true → list_any (bytes_eq k) xs ≡ true → p k ≡ true
 all_at p k [] g h = absurd (false≢true h)
 all_at p k (x ∷ xs) g h =
-    let parts = both (p x) (list_all p xs) g in
+    let parts = and_parts (p x) (list_all p xs) g in
     ⊎_elim (λ e. ap p (same_text k x (sym e)) ∙ parts.0) (λ e. all_at p k xs parts.1 (or_split (bytes_eq k x) (list_any (bytes_eq k) xs) h e)) (cases_Bool (bytes_eq k x))
 
 filter_has : (f : List ℕ → Bool) (k : List ℕ) (xs : List (List ℕ)) → f k ≡ true → list_any (bytes_eq k) xs ≡ true → list_any (bytes_eq k) (filter f xs) ≡ true
@@ -107,8 +89,8 @@ all_kids ms before (item d ds) h =
     elim (as_str d) as (λ o. option_map_or (λ name. is_kid ms name && not (list_any (λ other. bytes_eq other name) before) && names_kids ms (name ∷ before) ds) o false ≡ true → list_all (is_kid ms) (cons_option o (filter_map as_str (item_list ds))) ≡ true) [
       | None ↦ λ g. absurd (false≢true g)
       | Some name ↦ λ g.
-          let parts = both (is_kid ms name && not (list_any (λ other. bytes_eq other name) before)) (names_kids ms (name ∷ before) ds) g in
-          and_true (is_kid ms name) (list_all (is_kid ms) (filter_map as_str (item_list ds))) (both (is_kid ms name) (not (list_any (λ other. bytes_eq other name) before)) parts.0).0 (all_kids ms (name ∷ before) ds parts.1)
+          let parts = and_parts (is_kid ms name && not (list_any (λ other. bytes_eq other name) before)) (names_kids ms (name ∷ before) ds) g in
+          and_from (is_kid ms name) (list_all (is_kid ms) (filter_map as_str (item_list ds))) (and_parts (is_kid ms name) (not (list_any (λ other. bytes_eq other name) before)) parts.0).0 (all_kids ms (name ∷ before) ds parts.1)
     ] h
 
 no_object : (o : Option Data) (ds : Items) → option_and_then as_array o ≡ Some ds → option_map_or is_object o false ≡ true → ⊥
@@ -148,11 +130,11 @@ order_within ms h = order_by (option_and_then as_array (get_member order_name ms
 pub kids_within : (ms : Members) → has_good_order ms ≡ true → list_all (λ k. list_any (bytes_eq k) (kid_names ms)) (kids_of ms) ≡ true
 kids_within ms h =
     all_append (λ k. list_any (bytes_eq k) (kid_names ms)) (order_names ms) (filter (λ name. not (list_any (bytes_eq name) (order_names ms))) (kid_names ms)) (order_within ms h)
-    (all_filter (λ k. list_any (bytes_eq k) (kid_names ms)) (λ name. not (list_any (bytes_eq name) (order_names ms))) (kid_names ms) (all_among (kid_names ms)))
+    (list_all_filter (λ k. list_any (bytes_eq k) (kid_names ms)) (λ name. not (list_any (bytes_eq name) (order_names ms))) (kid_names ms) (all_among (kid_names ms)))
 
 -- a member that goes to the kids, and one that doesn't
 pub kid_goes : (f : List ℕ → Bool) (kids : List (List ℕ)) (name : List ℕ) (d : Data) (ms : Members) → (is_kid_member name d && f name) ≡ true → kids ++ filter f (kid_names (member name d ms)) ≡ (kids ++ name ∷ []) ++ filter f (kid_names ms)
-kid_goes f kids name d ms h = let parts = both (is_kid_member name d) (f name) h in rw (parts.0, parts.1) (sym (append_assoc kids (name ∷ []) (filter f (kid_names ms))))
+kid_goes f kids name d ms h = let parts = and_parts (is_kid_member name d) (f name) h in rw (parts.0, parts.1) (sym (append_assoc kids (name ∷ []) (filter f (kid_names ms))))
 
 pub kid_stays : (f : List ℕ → Bool) (name : List ℕ) (d : Data) (ms : Members) → (is_kid_member name d && f name) ≡ false → filter f (kid_names (member name d ms)) ≡ filter f (kid_names ms)
 kid_stays f name d ms h =

@@ -9,6 +9,8 @@ use Rattle.std.specs.Str.{bytes_eq}
 use Rattle.std.proofs.lemmas.List.Kept.{IsStrictlySortedBy-filter}
 use Rattle.serde_json.specs.Data.{Data, null, boolean, number, string, array, object, Members, no_members, member}
 use Rattle.sp_base.specs.Names.{by_name}
+use Rattle.sp_base.proofs.BoolLemmas.{T_first, T_second}
+use Rattle.sp_base.proofs.OrderingLemmas.{less_from_T}
 use Rattle.resource_tree.specs.Content.{Content, IsGood, node_at}
 use Rattle.content_json.specs.declared.fault.Found.{Found}
 use Rattle.content_json.specs.declared.fault.ContentFault.{ContentFault}
@@ -19,10 +21,9 @@ use Rattle.content_json.specs.Nodes.{nodes_in, order_names, kids_of}
 use Rattle.content_json.specs.ContentOf.{json_of, is_too_big, map_of, exceeds_limits, refused_by, unless_found, content_in, content}
 use Rattle.content_json.specs.Ways.{way_end, node_of_value}
 use Rattle.content_json.specs.Members.{AreSorted, entries_of}
-use Rattle.content_json.proofs.ReturnMembers.{first, second}
 use Rattle.content_json.proofs.InOrder.{IsInOrder, in_order_read}
 use Rattle.content_json.proofs.WayLemmas.{node_at_way, in_order_at}
-use Rattle.content_json.proofs.GoodLemmas.{less, map_at, good_content}
+use Rattle.content_json.proofs.GoodLemmas.{map_at, good_content}
 use Rattle.content_json.proofs.PathCount.{too_big_is}
 
 refused : {A : Type 0} (tree : Content) (fault : ContentFault) → Err fault ≡ Ok tree → A
@@ -106,8 +107,8 @@ size_by_paths bytes ms is faultless =
 names_after : (name : List ℕ) (ms : Members) → T (below_all by_name name (entries_of ms)) → AllByRecursion (λ k. by_name name k ≡ Less) (kid_names ms)
 names_after name no_members h = tt
 names_after name (member k d ms) h =
-    let rest = names_after name ms (second (is_lt (by_name name k)) (below_all by_name name (entries_of ms)) h) in
-    let here = less (by_name name k) (first (is_lt (by_name name k)) (below_all by_name name (entries_of ms)) h) in
+    let rest = names_after name ms (T_second (is_lt (by_name name k)) (below_all by_name name (entries_of ms)) h) in
+    let here = less_from_T (by_name name k) (T_first (is_lt (by_name name k)) (below_all by_name name (entries_of ms)) h) in
     elim (is_kid_member k d) as (λ t. AllByRecursion (λ n. by_name name n ≡ Less) (if t then k ∷ kid_names ms else kid_names ms)) [
       | true ↦ (here, rest)
       | false ↦ rest
@@ -117,9 +118,9 @@ names_sorted : (ms : Members) → AreSorted ms → IsStrictlySortedBy by_name (k
 unfolding IsStrictlySortedBy
 names_sorted no_members h = tt
 names_sorted (member k d ms) h =
-    let rest = names_sorted ms (second (below_all by_name k (entries_of ms)) (is_sorted by_name (entries_of ms)) h) in
+    let rest = names_sorted ms (T_second (below_all by_name k (entries_of ms)) (is_sorted by_name (entries_of ms)) h) in
     elim (is_kid_member k d) as (λ t. IsStrictlySortedBy by_name (if t then k ∷ kid_names ms else kid_names ms)) [
-      | true ↦ (names_after k ms (first (below_all by_name k (entries_of ms)) (is_sorted by_name (entries_of ms)) h), rest)
+      | true ↦ (names_after k ms (T_first (below_all by_name k (entries_of ms)) (is_sorted by_name (entries_of ms)) h), rest)
       | false ↦ rest
     ]
 

@@ -1,5 +1,5 @@
 -- A tree is the finite map of its nodes.
-use Rattle.std.proofs.Common.{◌≡◌, ℕ, Bool, true, false, cond, ◌&&◌, T, List, [], ◌∷◌, Option, Some, None, Less, Equal, Greater, length, suc, refl, sym, ap, ◌∙◌, subst}
+use Rattle.std.proofs.Common.{◌≡◌, ℕ, Bool, true, false, cond, T, List, [], ◌∷◌, Option, Some, None, Less, Equal, Greater, refl, sym, ap, ◌∙◌, subst}
 use Rattle.std.specs.FinMap.Entries.{by_order, put, find, is_sorted, below_all, is_sorted-put, find-put, same_entries}
 use Rattle.std.specs.List.{AllByRecursion}
 use Rattle.std.specs.List.Sorted.{IsStrictlySortedBy}
@@ -7,11 +7,12 @@ use Rattle.std.specs.Map.{keys_of}
 use Rattle.std.specs.BTreeMap.{insert_entry}
 use Rattle.std.specs.Option.{option_or}
 use Rattle.std.specs.Ordering.{is_lt, match_ordering}
+use Rattle.sp_base.proofs.BoolLemmas.{T_both}
+use Rattle.sp_base.proofs.OrderingLemmas.{by_path_exact, by_path_total}
 use Rattle.resource_tree.specs.declared.nodes.Node.{Node}
 use Rattle.resource_tree.specs.Content.{Content, by_path, same_path, node_at}
 use Rattle.content_json.specs.Steps.{with_nodes_at}
 use Rattle.content_json.specs.ContentOf.{map_of}
-use Rattle.content_json.proofs.Under.{by_path_total, by_path_exact}
 
 pub find_is_node_at : (q : List (List ℕ)) (es : Content) → find by_path q es ≡ node_at es q
 find_is_node_at q [] = refl
@@ -25,27 +26,19 @@ pub map_sorted : (nodes : Content) → T (is_sorted by_path (map_of nodes))
 map_sorted [] = tt
 map_sorted (e ∷ nodes) = is_sorted-put by_path by_path_total e.0 e.1 (map_of nodes) (map_sorted nodes)
 
-both : (a b : Bool) → T a → T b → T (a && b)
-both true b p q = q
-both false b p q = p
-
 all_below : (path : List (List ℕ)) (es : Content) → AllByRecursion (λ y. by_path path y ≡ Less) (keys_of es) → T (below_all by_path path es)
 all_below path [] h = tt
-all_below path (e ∷ es) h = both _ _ (subst (λ o. T (is_lt o)) (sym h.0) tt) (all_below path es h.1)
+all_below path (e ∷ es) h = T_both _ _ (subst (λ o. T (is_lt o)) (sym h.0) tt) (all_below path es h.1)
 
 tree_sorted : (es : Content) → IsStrictlySortedBy by_path (keys_of es) → T (is_sorted by_path es)
 unfolding IsStrictlySortedBy
 tree_sorted [] h = tt
-tree_sorted (e ∷ es) h = both _ _ (all_below e.0 es h.0) (tree_sorted es h.1)
+tree_sorted (e ∷ es) h = T_both _ _ (all_below e.0 es h.0) (tree_sorted es h.1)
 
 -- a tree whose look-ups are those of some nodes is their map
 pub is_map_of : (tree nodes : Content) → IsStrictlySortedBy by_path (keys_of tree) → ((q : List (List ℕ)) → node_at tree q ≡ node_at nodes q) → tree ≡ map_of nodes
 is_map_of tree nodes sorted same =
     same_entries by_path by_path_total by_path_exact tree (map_of nodes) (tree_sorted tree sorted) (map_sorted nodes) (λ q. find_is_node_at q tree ∙ same q ∙ sym (find_in_map q nodes))
-
-pub length-keys : (nodes : Content) → length (keys_of nodes) ≡ length nodes
-length-keys [] = refl
-length-keys (e ∷ nodes) = ap (λ n. suc n) (length-keys nodes)
 
 -- ---- one more node
 

@@ -7,6 +7,7 @@ use Rattle.std.specs.List.Sorted.{IsStrictlySortedBy}
 use Rattle.std.specs.Map.{keys_of}
 use Rattle.std.specs.Option.{option_or}
 use Rattle.std.proofs.lemmas.Bool.{cases_Bool}
+use Rattle.std.proofs.lemmas.List.{append-nil}
 use Rattle.serde_json.specs.View.{view, members_view}
 use Rattle.serde_json.proofs.Views.{Entry}
 use Rattle.resource_tree.specs.declared.nodes.Node.{Node}
@@ -24,12 +25,8 @@ name_of e = string_bytes e.0
 abbrev pub nodes_of : List (List ℕ) → Entry → Content
 nodes_of path e = member_nodes path (name_of e) (view e.1)
 
-append_none : (xs : Content) → xs ++ [] ≡ xs
-append_none [] = refl
-append_none (x ∷ xs) = ap (λ ys. x ∷ ys) (append_none xs)
-
 pub nodes_below-push : (path : List (List ℕ)) (done : List Entry) (e : Entry) → nodes_below path (members_view (done ++ e ∷ [])) ≡ nodes_below path (members_view done) ++ nodes_of path e
-nodes_below-push path [] e = append_none (nodes_of path e)
+nodes_below-push path [] e = append-nil (nodes_of path e)
 nodes_below-push path (d ∷ done) e = ap (λ ys. nodes_of path d ++ ys) (nodes_below-push path done e) ∙ sym (append_assoc (nodes_of path d) (nodes_below path (members_view done)) (nodes_of path e))
 
 -- a member that comes before another has another name

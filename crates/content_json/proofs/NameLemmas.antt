@@ -1,6 +1,7 @@
 -- What an object whose names may all stand says of its members.
 use Rattle.std.proofs.Common.{◌≡◌, ℕ, List, Bool, true, false, not, ◌||◌, Option, Some, None, option_map, if◌then◌else◌, refl, sym, ap, ◌∙◌}
 use Rattle.std.specs.Option.{option_or}
+use Rattle.sp_base.proofs.BoolLemmas.{or_second}
 use Rattle.serde_json.specs.Data.{Data, Members, member}
 use Rattle.content_json.specs.Names.{is_order, is_content_name, has_bad_name}
 use Rattle.content_json.specs.Faults.{own_fault, has_good_order, in_member, fault_in}
@@ -11,15 +12,11 @@ split true b rest h other = absurd (cc)
 split false true rest h other = refl
 split false false rest h other = absurd (cc)
 
-tail : (a rest : Bool) → (a || rest) ≡ false → rest ≡ false
-tail true rest h = absurd (cc)
-tail false rest h = h
-
 pub is_plain-here : (name : List ℕ) (d : Data) (ms : Members) → has_bad_name (member name d ms) ≡ false → is_order name ≡ false → is_content_name name ≡ true
 is_plain-here name d ms h other = split (is_order name) (is_content_name name) (has_bad_name ms) h other
 
 pub has_bad_name-rest : (name : List ℕ) (d : Data) (ms : Members) → has_bad_name (member name d ms) ≡ false → has_bad_name ms ≡ false
-has_bad_name-rest name d ms h = tail _ _ h
+has_bad_name-rest name d ms h = or_second _ _ h
 
 first : {A : Type 0} (bad : Bool) (x : A) (rest : Option A) → (if bad then Some x else rest) ≡ None → bad ≡ false
 first true x rest h = absurd (cc)

@@ -5,10 +5,11 @@ use Rattle.std.proofs.lemmas.Bool.{cases_Bool, true≢false}
 use Rattle.serde_json.specs.Data.{Data, null, boolean, number, string, array, object, Members, no_members, member}
 use Rattle.resource_tree.specs.declared.nodes.Node.{Node}
 use Rattle.resource_tree.specs.Content.{Content, node_at, same_path, kid}
+use Rattle.resource_tree.proofs.PathLemmas.{path_from_same}
 use Rattle.content_json.specs.Names.{is_order}
 use Rattle.content_json.specs.Nodes.{nodes_in, nodes_below}
 use Rattle.content_json.specs.Steps.{is_at_or_below}
-use Rattle.content_json.proofs.Under.{same_path_is, is_at_or_below_itself, is_at_or_below-parent, is_at_or_below-not_parent}
+use Rattle.content_json.proofs.Under.{is_at_or_below_itself, is_at_or_below-parent, is_at_or_below-not_parent}
 
 pub node_at-append : (a b : Content) (q : List (List ℕ)) → node_at (a ++ b) q ≡ option_or (node_at a q) (node_at b q)
 node_at-append [] b q = refl
@@ -18,7 +19,7 @@ not_below_kid : (path q : List (List ℕ)) (k : List ℕ) → is_at_or_below pat
 not_below_kid path q k h = ⊎_elim (λ e. absurd (true≢false (sym (is_at_or_below-parent path q k e) ∙ h))) (λ e. e) (cases_Bool (is_at_or_below (kid path k) q))
 
 pub not_same : (path q : List (List ℕ)) → is_at_or_below path q ≡ false → same_path q path ≡ false
-not_same path q h = ⊎_elim (λ e. absurd (true≢false (sym (is_at_or_below_itself path) ∙ ap (is_at_or_below path) (sym (same_path_is q path e)) ∙ h))) (λ e. e) (cases_Bool (same_path q path))
+not_same path q h = ⊎_elim (λ e. absurd (true≢false (sym (is_at_or_below_itself path) ∙ ap (is_at_or_below path) (sym (path_from_same q path e)) ∙ h))) (λ e. e) (cases_Bool (same_path q path))
 
 pub none_unless : (b : Bool) (nodes : Content) (q : List (List ℕ)) → node_at nodes q ≡ None → node_at (if b then [] else nodes) q ≡ None
 none_unless true nodes q h = refl

@@ -10,12 +10,15 @@ use Rattle.std.specs.Option.{option_map_or}
 use Rattle.std.specs.Ordering.{is_eq, is_lt}
 use Rattle.std.specs.Str.{bytes_eq}
 use Rattle.std.specs.declared.cmp.Ordering.TheVariants.{Less}
+use Rattle.std.proofs.lemmas.Bool.{and_parts}
 use Rattle.std.proofs.lemmas.Map.Text.{is_eq-slice_cmp}
 use Rattle.serde_json.specs.Data.{Data, null, boolean, number, string, array, object, no_items, Members, no_members, member}
 use Rattle.serde_json.specs.Find.{as_str, as_array, get_member}
 use Rattle.serde_json.specs.View.{items_of}
 use Rattle.sp_base.specs.Names.{by_name}
 use Rattle.sp_base.specs.declared.value.Value.{Value}
+use Rattle.sp_base.proofs.BoolLemmas.{T_both, T_first, T_second}
+use Rattle.sp_base.proofs.PropertyLemmas.{same_name}
 use Rattle.content_json.specs.declared.open_object.OpenObject.{OpenObject}
 use Rattle.content_json.specs.Names.{order_name, is_order, is_kid_member, kid_names, is_kid}
 use Rattle.content_json.specs.Lists.{item_list}
@@ -24,10 +27,8 @@ use Rattle.content_json.specs.Nodes.{add_props, kids_of}
 use Rattle.content_json.specs.Members.{AreSorted, entries_of}
 use Rattle.content_json.specs.OpenProps.{held}
 use Rattle.content_json.specs.FromTokens.{HoldsMembers, texts_array, texts_in, with_others}
-use Rattle.content_json.proofs.Under.{both}
-use Rattle.content_json.proofs.JoinLemmas.{both as both_hold}
-use Rattle.content_json.proofs.InsertLemmas.{same_name, tie_is}
-use Rattle.content_json.proofs.ReturnMembers.{first, second, option_or-none}
+use Rattle.content_json.proofs.InsertLemmas.{tie_is}
+use Rattle.content_json.proofs.ReturnMembers.{option_or-none}
 use Rattle.content_json.proofs.ReturnNodes.{read_value, find_added, sorted_props}
 use Rattle.content_json.proofs.GoodLemmas.{kid_names_are}
 
@@ -61,29 +62,29 @@ same_names xs ys g h same =
 
 texts_below : (k : Bor (List ℕ)) (ks : List (Bor (List ℕ))) → AllByRecursion (λ y. slice_cmp nat_cmp k.now y.now ≡ Less) ks → T (below_all by_name k.now (named (texts_in ks)))
 texts_below k [] h = tt
-texts_below k (y ∷ ks) h = both_hold (is_lt (by_name k.now y.now)) (below_all by_name k.now (named (texts_in ks))) (subst (λ o. T (is_lt o)) (sym h.0) tt) (texts_below k ks h.1)
+texts_below k (y ∷ ks) h = T_both (is_lt (by_name k.now y.now)) (below_all by_name k.now (named (texts_in ks))) (subst (λ o. T (is_lt o)) (sym h.0) tt) (texts_below k ks h.1)
 
 texts_sorted : (ks : List (Bor (List ℕ))) → IsStrictlySortedBy (λ j k. slice_cmp nat_cmp j.now k.now) ks → T (is_sorted by_name (named (texts_in ks)))
 unfolding IsStrictlySortedBy
 texts_sorted [] h = tt
-texts_sorted (k ∷ ks) h = both_hold (below_all by_name k.now (named (texts_in ks))) (is_sorted by_name (named (texts_in ks))) (texts_below k ks h.0) (texts_sorted ks h.1)
+texts_sorted (k ∷ ks) h = T_both (below_all by_name k.now (named (texts_in ks))) (is_sorted by_name (named (texts_in ks))) (texts_below k ks h.0) (texts_sorted ks h.1)
 
 kids_below : (k : List ℕ) (ms : Members) → T (below_all by_name k (entries_of ms)) → T (below_all by_name k (named (kid_names ms)))
 kids_below k no_members h = tt
 kids_below k (member name d ms) h =
-    let rest = kids_below k ms (second (is_lt (by_name k name)) (below_all by_name k (entries_of ms)) h) in
+    let rest = kids_below k ms (T_second (is_lt (by_name k name)) (below_all by_name k (entries_of ms)) h) in
     elim (is_kid_member name d) as (λ t. T (below_all by_name k (named (if t then name ∷ kid_names ms else kid_names ms)))) [
-      | true ↦ both_hold (is_lt (by_name k name)) (below_all by_name k (named (kid_names ms))) (first (is_lt (by_name k name)) (below_all by_name k (entries_of ms)) h) rest
+      | true ↦ T_both (is_lt (by_name k name)) (below_all by_name k (named (kid_names ms))) (T_first (is_lt (by_name k name)) (below_all by_name k (entries_of ms)) h) rest
       | false ↦ rest
     ]
 
 kids_sorted : (ms : Members) → AreSorted ms → T (is_sorted by_name (named (kid_names ms)))
 kids_sorted no_members h = tt
 kids_sorted (member name d ms) h =
-    let rest = kids_sorted ms (second (below_all by_name name (entries_of ms)) (is_sorted by_name (entries_of ms)) h) in
+    let rest = kids_sorted ms (T_second (below_all by_name name (entries_of ms)) (is_sorted by_name (entries_of ms)) h) in
     elim (is_kid_member name d) as (λ t. T (is_sorted by_name (named (if t then name ∷ kid_names ms else kid_names ms)))) [
-      | true ↦ both_hold (below_all by_name name (named (kid_names ms))) (is_sorted by_name (named (kid_names ms)))
-          (kids_below name ms (first (below_all by_name name (entries_of ms)) (is_sorted by_name (entries_of ms)) h)) rest
+      | true ↦ T_both (below_all by_name name (named (kid_names ms))) (is_sorted by_name (named (kid_names ms)))
+          (kids_below name ms (T_first (below_all by_name name (entries_of ms)) (is_sorted by_name (entries_of ms)) h)) rest
       | false ↦ rest
     ]
 
@@ -132,7 +133,7 @@ module _ (parent : OpenObject) (ms : Members) (h : HoldsMembers parent ms) where
   kids_are ordered = let order = sym (names_listed (get_member order_name ms) (texts_in parent.order.items) h.order) in let names = names_are ordered in λ i. with_others (order i) (names i)
 
   pub is_kid_from : (q : List ℕ) → contains_by (λ k. slice_cmp nat_cmp q k.now) parent.kids ≡ true → is_kid ms q ≡ true
-  is_kid_from q has = (both (not (is_order q)) (is_kid ms q) (sym (h.kids q) ∙ has)).1
+  is_kid_from q has = (and_parts (not (is_order q)) (is_kid ms q) (sym (h.kids q) ∙ has)).1
 
   pub good_order : names_kids ms [] (items_of (map string (texts_in parent.order.items))) ≡ true → has_good_order ms ≡ true
   good_order good = order_good ms (get_member order_name ms) (texts_in parent.order.items) h.order good

@@ -11,16 +11,19 @@ use Rattle.std.specs.Option.{option_or}
 use Rattle.std.specs.Ordering.{eq_by_cmp, is_eq, is_lt}
 use Rattle.std.specs.Str.{bytes_eq}
 use Rattle.std.specs.declared.cmp.Ordering.{Ordering}
-use Rattle.std.specs.declared.cmp.Ordering.TheVariants.{Less, Equal, Greater}
-use Rattle.std.proofs.lemmas.Bool.{cases_Bool, false≢true}
+use Rattle.std.specs.declared.cmp.Ordering.TheVariants.{Less}
+use Rattle.std.proofs.lemmas.Bool.{cases_Bool}
 use Rattle.std.proofs.lemmas.Map.Text.{is_eq-slice_cmp}
 use Rattle.std.proofs.lemmas.Option.{slice_get_within, get_or_from_slice_get}
 use Rattle.sp_base.specs.Names.{by_name}
 use Rattle.sp_base.specs.declared.value.Value.{Value}
+use Rattle.sp_base.proofs.BoolLemmas.{T_first, T_second, cond_not, true_from_T}
+use Rattle.sp_base.proofs.OrderingLemmas.{less_from_test}
+use Rattle.sp_base.proofs.PropertyLemmas.{same_name}
+use Rattle.sp_base.proofs.TextLemmas.{bytes_eq_swapped}
 use Rattle.content_json.specs.OpenProps.{at_last, late_or}
-use Rattle.content_json.proofs.InsertLemmas.{same_name, tie_is}
-use Rattle.content_json.proofs.ReturnMembers.{find_below, first, second}
-use Rattle.content_json.proofs.Under.{bytes_eq_swapped}
+use Rattle.content_json.proofs.InsertLemmas.{tie_is}
+use Rattle.content_json.proofs.ReturnMembers.{find_below}
 
 abbrev pub Late : Type 0
 Late = List (Bor (List ℕ) × Option Value)
@@ -32,10 +35,6 @@ by_lent x y = slice_cmp nat_cmp x.now y.now
 -- what came under a name
 abbrev pub came : List ℕ → Late → Option (Option Value)
 came q es = lookup (is_at (λ k. slice_cmp nat_cmp q k.now)) es
-
-pub no_entries : {A : Type 0} (es : List A) → length es ≡ 0 → es ≡ []
-no_entries [] h = refl
-no_entries (e ∷ es) h = absurd (cc)
 
 -- where nothing came, the list has it
 pub none_late : (late : BTreeMap (Bor (List ℕ)) (Option Value)) (q : List ℕ) (other : Option Value) → late.entries ≡ [] → late_or late other q ≡ other
@@ -54,15 +53,11 @@ one_came q name w old new other is =
 pub find_put : (q name : List ℕ) (v : Value) (props : List (List ℕ × Value)) → find by_name q (put by_name name v props) ≡ cond (bytes_eq q name) (Some v) (find by_name q props)
 find_put q name v props = find-put by_name nat_list_cmp_total q name v props ∙ ap (λ t. cond t (Some v) (find by_name q props)) (tie_is q name)
 
-turned : {A : Type 0} (t : Bool) (x y : A) → cond (not t) x y ≡ cond t y x
-turned true x y = refl
-turned false x y = refl
-
 pub find_removed : (q name : List ℕ) (props : List (List ℕ × Value))
     → find by_name q (where_key by_name (λ key. not (eq_by_cmp by_name name key)) props) ≡ cond (bytes_eq q name) None (find by_name q props)
 find_removed q name props =
     find-where_key by_name (λ key. not (eq_by_cmp by_name name key)) q (λ x tie. ap (λ key. not (eq_by_cmp by_name name key)) (sym (same_name q x tie))) props
-    ∙ turned (eq_by_cmp by_name name q) (find by_name q props) None
+    ∙ cond_not (eq_by_cmp by_name name q) (find by_name q props) None
     ∙ ap (λ t. cond t None (find by_name q props)) (tie_is name q ∙ bytes_eq_swapped name q)
 
 -- ---- the list, one after the other
@@ -73,32 +68,23 @@ here xs i x is = (let within : i < length xs = slice_get_within xs i x is in rw 
 pub find_here : (q name : List ℕ) (v : Value) (props : List (List ℕ × Value)) → find by_name q ((name, v) ∷ props) ≡ cond (bytes_eq q name) (Some v) (find by_name q props)
 find_here q name v props = ap (λ t. cond t (Some v) (find by_name q props)) (tie_is q name)
 
-is_less : (o : Ordering) → is_lt o ≡ true → o ≡ Less
-is_less Less h = refl
-is_less Equal h = absurd (false≢true h)
-is_less Greater h = absurd (false≢true h)
-
-lt_of : (t : Bool) → T t → t ≡ true
-lt_of true h = refl
-lt_of false h = absurd h
-
 none_below : (x y : List ℕ) (es : List (List ℕ × Value)) → by_name x y ≡ Less → T (below_all by_name y es) → find by_name x es ≡ None
 none_below x y [] less h = refl
 none_below x y (e ∷ es) less h =
-    let above = is_less (by_name y e.0) (lt_of (is_lt (by_name y e.0)) (first (is_lt (by_name y e.0)) (below_all by_name y es) h)) in
+    let above = less_from_test (by_name y e.0) (true_from_T (is_lt (by_name y e.0)) (T_first (is_lt (by_name y e.0)) (below_all by_name y es) h)) in
     ap (λ o. cond (is_eq o) (Some e.1) (find by_name x es)) (nat_list_cmp_total.trans x y e.0 less above)
-    ∙ none_below x y es less (second (is_lt (by_name y e.0)) (below_all by_name y es) h)
+    ∙ none_below x y es less (T_second (is_lt (by_name y e.0)) (below_all by_name y es) h)
 
 pub rest_sorted : (n : ℕ) (es : List (List ℕ × Value)) → T (is_sorted by_name es) → T (is_sorted by_name (drop n es))
 rest_sorted zero es h = h
 rest_sorted (suc n) [] h = h
-rest_sorted (suc n) (e ∷ es) h = rest_sorted n es (second (below_all by_name e.0 es) (is_sorted by_name es) h)
+rest_sorted (suc n) (e ∷ es) h = rest_sorted n es (T_second (below_all by_name e.0 es) (is_sorted by_name es) h)
 
 -- a name before the first that is left is none of them
 pub passed_by : (name : List ℕ) (e : List ℕ × Value) (es : List (List ℕ × Value)) → T (is_sorted by_name (e ∷ es)) → is_lt (by_name name e.0) ≡ true → find by_name name (e ∷ es) ≡ None
 passed_by name e es h before =
-    let less = is_less (by_name name e.0) before in
-    ap (λ o. cond (is_eq o) (Some e.1) (find by_name name es)) less ∙ none_below name e.0 es less (first (below_all by_name e.0 es) (is_sorted by_name es) h)
+    let less = less_from_test (by_name name e.0) before in
+    ap (λ o. cond (is_eq o) (Some e.1) (find by_name name es)) less ∙ none_below name e.0 es less (T_first (below_all by_name e.0 es) (is_sorted by_name es) h)
 
 pub none_left : {A : Type 0} (n : ℕ) (xs : List A) → slice_get xs n ≡ None → drop n xs ≡ []
 none_left zero [] h = refl
@@ -113,7 +99,7 @@ none_or o w none = ap (λ p. option_or p w) none
 pub one_put : (q name : List ℕ) (v : Value) (left props now : List (List ℕ × Value)) → T (is_sorted by_name ((name, v) ∷ left)) → now ≡ put by_name name v props
     → at_last now left q ≡ at_last props ((name, v) ∷ left) q
 one_put q name v left props now h is =
-    let none = find_below name left (first (below_all by_name name left) (is_sorted by_name left) h) in
+    let none = find_below name left (T_first (below_all by_name name left) (is_sorted by_name left) h) in
     ap (λ ps. option_or (find by_name q left) (find by_name q ps)) is ∙ ap (option_or (find by_name q left)) (find_put q name v props)
     ∙ ⊎_elim
     (λ e.

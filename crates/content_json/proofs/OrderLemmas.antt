@@ -1,5 +1,5 @@
 -- One more name of `:order`.
-use Rattle.std.proofs.Common.{◌≡◌, ℕ, List, ◌∷◌, ◌+◌, ◌<◌, suc, Bool, true, false, not, cond, ◌||◌, Some, length, drop, get_or, add-one, drop-cons, refl, sym, ap}
+use Rattle.std.proofs.Common.{◌≡◌, ℕ, List, ◌∷◌, ◌+◌, ◌<◌, suc, Bool, true, false, cond, ◌||◌, Some, length, drop, get_or, add-one, drop-cons, refl, sym, ap}
 use Rattle.std.specs.List.{list_any}
 use Rattle.std.specs.Str.{bytes_eq}
 use Rattle.serde_json.specs.Data.{Data, Items, item, Members}
@@ -14,10 +14,6 @@ names_kids-next ms before d ds name text kid apart = rw (text, kid, apart) refl
 pub or_from_cond : (a b : Bool) → cond a true b ≡ (a || b)
 or_from_cond true b = refl
 or_from_cond false b = refl
-
-pub false_from_not : (b : Bool) → not b ≡ true → b ≡ false
-false_from_not true h = sym h
-false_from_not false h = refl
 
 -- the items that are left begin with this one
 pub drop_here : {A : Type 0} (xs : List A) (i : ℕ) (x : A) → i < length xs → x ≡ get_or xs i x → drop i xs ≡ x ∷ drop (i + 1) xs

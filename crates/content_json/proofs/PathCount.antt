@@ -9,6 +9,8 @@ use Rattle.std.proofs.lemmas.Bool.{lt-ltb, le-ltb, ne_eqb}
 use Rattle.std.proofs.lemmas.List.Folds.{list_any-append}
 use Rattle.serde_json.specs.Data.{Data, null, boolean, number, string, array, object, Members, no_members, member}
 use Rattle.sp_base.specs.Names.{by_name}
+use Rattle.sp_base.proofs.BoolLemmas.{T_first, T_second, or_swapped}
+use Rattle.sp_base.proofs.OrderingLemmas.{by_path_exact, by_path_total}
 use Rattle.resource_tree.specs.declared.nodes.Node.{Node}
 use Rattle.resource_tree.specs.Content.{Content, by_path, node_at, kid}
 use Rattle.content_json.specs.Names.{is_order}
@@ -16,23 +18,17 @@ use Rattle.content_json.specs.Nodes.{nodes_in, nodes_below, is_deeper, is_deeper
 use Rattle.content_json.specs.Steps.{is_at_or_below}
 use Rattle.content_json.specs.Ways.{way_end, node_of_value}
 use Rattle.content_json.specs.ContentOf.{map_of, is_too_big, exceeds_limits}
-use Rattle.content_json.proofs.Under.{by_path_total, by_path_exact, is_at_or_below_itself, is_at_or_below-parent}
+use Rattle.content_json.proofs.Under.{is_at_or_below_itself, is_at_or_below-parent}
 use Rattle.content_json.proofs.NodeLemmas.{node_at-append, none_at_parent}
 use Rattle.content_json.proofs.BelowLemmas.{is_at_or_below_split}
 use Rattle.content_json.proofs.MapLemmas.{find_in_map, map_sorted}
 use Rattle.content_json.proofs.SizeLemmas.{length-nodes_in}
 use Rattle.content_json.specs.Members.{AreSorted, entries_of}
-use Rattle.content_json.proofs.ReturnMembers.{first, second}
 use Rattle.content_json.proofs.ReturnNodes.{get_below}
 use Rattle.content_json.proofs.InOrder.{IsInOrder, AreInOrder}
 use Rattle.content_json.proofs.WayLemmas.{node_below_way}
 
 -- ---- a path of the map is one of the nodes'
-
-or_swapped : (a b c : Bool) → (a || (b || c)) ≡ (b || (a || c))
-or_swapped true true c = refl
-or_swapped true false c = refl
-or_swapped false b c = refl
 
 or_twice : (a b : Bool) → (a || b) ≡ (a || (a || b))
 or_twice true b = refl
@@ -132,8 +128,8 @@ mutual
   apart_below : (path : List (List ℕ)) (ms : Members) → AreSorted ms → AreInOrder ms → AreApart (nodes_below path ms)
   apart_below path no_members s h = tt
   apart_below path (member name d ms) s h =
-      let below = first (below_all by_name name (entries_of ms)) (is_sorted by_name (entries_of ms)) s in
-      let rest = second (below_all by_name name (entries_of ms)) (is_sorted by_name (entries_of ms)) s in
+      let below = T_first (below_all by_name name (entries_of ms)) (is_sorted by_name (entries_of ms)) s in
+      let rest = T_second (below_all by_name name (entries_of ms)) (is_sorted by_name (entries_of ms)) s in
       apart-append (if is_order name then [] else nodes_in (kid path name) d) (nodes_below path ms)
       (none_or AreApart (is_order name) (nodes_in (kid path name) d) tt (apart_in (kid path name) d h.0)) (apart_below path ms rest h.1)
       (none_or (AllByRecursion (λ e. node_at (nodes_below path ms) e.0 ≡ None)) (is_order name) (nodes_in (kid path name) d) tt (none_of_all path name ms (nodes_in (kid path name) d) rest h.1 below (all_at_in (kid path name) d)))

@@ -4,12 +4,13 @@ use Rattle.std.specs.Cmp.{tied_itself}
 use Rattle.std.specs.Cmp.Lexicographic.{nat_list_cmp_total, same_text}
 use Rattle.std.specs.Option.{option_or, option_map_or}
 use Rattle.std.specs.Ordering.{match_ordering}
-use Rattle.std.proofs.lemmas.Bool.{cases_Bool, true≢false, le-ltb, ne_eqb}
+use Rattle.std.proofs.lemmas.Bool.{cases_Bool, true≢false, le-ltb, ne_eqb, or_from, or_right}
 use Rattle.serde_json.specs.Data.{Data, null, boolean, number, string, array, object, Members, no_members, member, put}
 use Rattle.serde_json.specs.Find.{get_member}
 use Rattle.sp_base.specs.Names.{by_name}
 use Rattle.sp_base.specs.Paths.{most_segments}
 use Rattle.sp_base.specs.declared.value.Value.{Value}
+use Rattle.sp_base.proofs.PropertyLemmas.{same_name}
 use Rattle.resource_tree.specs.declared.nodes.Node.{Node}
 use Rattle.resource_tree.specs.Content.{Content, node_at, kid, most_nodes}
 use Rattle.content_json.specs.Names.{order_name, is_order, is_content_name, has_bad_name, is_object, is_kid}
@@ -22,8 +23,6 @@ use Rattle.content_json.specs.Members.{AllMembers}
 use Rattle.content_json.specs.FromTokens.{IsFit}
 use Rattle.content_json.proofs.Under.{is_at_or_below-one}
 use Rattle.content_json.proofs.NodeLemmas.{node_at-append, none_unless, none_in}
-use Rattle.content_json.proofs.KidLemmas.{or_right}
-use Rattle.content_json.proofs.InsertLemmas.{same_name}
 use Rattle.content_json.proofs.InOrder.{IsInOrder}
 use Rattle.content_json.proofs.PathCount.{map_size}
 
@@ -68,16 +67,13 @@ fit-kid_below levels name ms plain faultless some shallow = record {
 neither_found : {A : Type 0} (a b : Option A) → a ≡ None → b ≡ None → option_or a b ≡ None
 neither_found a b g h = rw (g, h) refl
 
-neither : (a b : Bool) → a ≡ false → b ≡ false → (a || b) ≡ false
-neither a b g h = rw (g, h) refl
-
 pub fit_faultless : (levels : ℕ) (ms : Members) → AllMembers (IsFit levels) ms → (has_bad_name ms ≡ false) × (fault_below ms ≡ None) × (is_deeper_below levels ms ≡ false)
 fit_faultless levels no_members h = (refl, refl, refl)
 fit_faultless levels (member name d ms) h =
     let rest = fit_faultless levels ms h.1 in (
-      neither (not (is_order name || is_content_name name)) (has_bad_name ms) (ap not h.0.plain) rest.0,
+      or_from (not (is_order name || is_content_name name)) (has_bad_name ms) (ap not h.0.plain) rest.0,
       neither_found (member_fault name d) (fault_below ms) h.0.faultless rest.1,
-      neither (if is_order name then false else is_deeper levels d) (is_deeper_below levels ms) h.0.shallow rest.2,
+      or_from (if is_order name then false else is_deeper levels d) (is_deeper_below levels ms) h.0.shallow rest.2,
     )
 
 none_own : {A : Type 0} (bad good : Bool) (x y : A) → bad ≡ false → good ≡ true → (if bad then Some x else (if good then None else Some y)) ≡ None

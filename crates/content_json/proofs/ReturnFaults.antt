@@ -7,12 +7,13 @@ use Rattle.std.specs.Option.{option_or, option_map_or}
 use Rattle.std.specs.Ordering.{eq_by_cmp}
 use Rattle.std.specs.Str.{bytes_eq}
 use Rattle.std.specs.Cmp.Lexicographic.{same_text}
-use Rattle.std.proofs.lemmas.Bool.{cases_Bool, false≢true}
+use Rattle.std.proofs.lemmas.Bool.{and_parts, cases_Bool, false≢true, or_left, or_right}
 use Rattle.std.proofs.lemmas.Map.Keys.{IsDistinct-head, IsDistinct-tail}
 use Rattle.serde_json.specs.Data.{Data, string, object, Members, no_members, member}
 use Rattle.sp_base.specs.Names.{by_name}
 use Rattle.sp_base.specs.Paths.{seg_ok}
 use Rattle.sp_base.specs.declared.value.Value.{Value}
+use Rattle.sp_base.proofs.BoolLemmas.{and_second}
 use Rattle.resource_tree.specs.declared.nodes.Node.{Node}
 use Rattle.resource_tree.specs.Content.{Content, node_at, same_path}
 use Rattle.resource_tree.specs.Content as content
@@ -23,9 +24,7 @@ use Rattle.content_json.specs.Faults.{names_kids, is_good_order, has_good_order,
 use Rattle.content_json.specs.Nodes.{nodes_in, is_deeper, is_deeper_below}
 use Rattle.content_json.specs.Steps.{member_fault, is_at_or_below}
 use Rattle.content_json.specs.Written.{has_no_colon, keeps_kind}
-use Rattle.content_json.proofs.Under.{both, bytes_eq_itself}
-use Rattle.content_json.proofs.KidLemmas.{or_left, or_right}
-use Rattle.content_json.proofs.WrittenLemmas.{and_last}
+use Rattle.content_json.proofs.Under.{bytes_eq_itself}
 use Rattle.content_json.specs.Members.{AllMembers}
 use Rattle.content_json.proofs.InsertLemmas.{tie_is}
 use Rattle.content_json.proofs.ValueLemmas.{items_from, value_faultless, value_shallow}
@@ -53,14 +52,14 @@ pub record Node-is (tree : Content) (levels : ℕ) (path : List (List ℕ)) (f :
 -- `:order` is neither a kid nor a property
 pub order_no_kid : {tree : Content} {levels : ℕ} {path : List (List ℕ)} {f : List ℕ → Data} {node : Node} → Node-is tree levels path f node → list_any (bytes_eq order_name) node.kids ≡ false
 order_no_kid {node = node} n =
-    ⊎_elim (λ e. absurd (false≢true (and_last (seg_ok order_name) false (n.plain_kids order_name e)))) (λ e. e) (cases_Bool (list_any (bytes_eq order_name) node.kids))
+    ⊎_elim (λ e. absurd (false≢true (and_second (seg_ok order_name) false (n.plain_kids order_name e)))) (λ e. e) (cases_Bool (list_any (bytes_eq order_name) node.kids))
 
 find_colon : (q : List ℕ) → has_no_colon q ≡ false → (ps : List (List ℕ × Value)) → list_all (λ p. has_no_colon p.0 && keeps_kind p.1) ps ≡ true → find by_name q ps ≡ None
 find_colon q colon [] h = refl
 find_colon q colon (p ∷ ps) h =
-    let parts = both (has_no_colon p.0 && keeps_kind p.1) (list_all (λ p. has_no_colon p.0 && keeps_kind p.1) ps) h in
+    let parts = and_parts (has_no_colon p.0 && keeps_kind p.1) (list_all (λ p. has_no_colon p.0 && keeps_kind p.1) ps) h in
     let apart : eq_by_cmp by_name q p.0 ≡ false = tie_is q p.0 ∙ ⊎_elim
-    (λ e. absurd (false≢true (sym colon ∙ ap has_no_colon (same_text q p.0 (sym e)) ∙ (both (has_no_colon p.0) (keeps_kind p.1) parts.0).0)))
+    (λ e. absurd (false≢true (sym colon ∙ ap has_no_colon (same_text q p.0 (sym e)) ∙ (and_parts (has_no_colon p.0) (keeps_kind p.1) parts.0).0)))
     (λ e. e)
     (cases_Bool (bytes_eq q p.0)) in
     ap (λ t. cond t (Some p.1) (find by_name q ps)) apart ∙ find_colon q colon ps parts.1

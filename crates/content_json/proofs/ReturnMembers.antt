@@ -10,7 +10,7 @@ use Rattle.std.specs.Ordering.{is_eq, is_lt, eq_by_cmp}
 use Rattle.std.specs.declared.cmp.Ordering.{Ordering}
 use Rattle.std.specs.declared.cmp.Ordering.TheVariants.{Less, Equal, Greater}
 use Rattle.std.specs.Str.{bytes_eq}
-use Rattle.std.proofs.lemmas.Bool.{cases_Bool}
+use Rattle.std.proofs.lemmas.Bool.{and_from, and_parts, cases_Bool, or_left, or_right}
 use Rattle.json.specs.Json as json
 use Rattle.serde_json.specs.Data.{Data, array, string, Members, no_members, put}
 use Rattle.serde_json.specs.Find.{get_member}
@@ -18,12 +18,12 @@ use Rattle.serde_json.specs.Read.{of_json, of_members}
 use Rattle.sp_base.specs.Names.{by_name}
 use Rattle.sp_base.specs.Paths.{seg_ok}
 use Rattle.sp_base.specs.declared.value.Value.{Value}
+use Rattle.sp_base.proofs.BoolLemmas.{T_first, T_second}
 use Rattle.resource_tree.specs.declared.nodes.Node.{Node}
 use Rattle.property_json.specs.PropertyJson.{has_longs, members_before}
 use Rattle.content_json.specs.Names.{order_name, is_order, is_content_name}
 use Rattle.content_json.specs.Written.{order_before, kids_json, has_no_colon, keeps_kind}
-use Rattle.content_json.proofs.Under.{both, bytes_eq_itself}
-use Rattle.content_json.proofs.KidLemmas.{and_true, or_left, or_right}
+use Rattle.content_json.proofs.Under.{bytes_eq_itself}
 use Rattle.content_json.specs.Members.{AreSorted, AllMembers}
 use Rattle.content_json.proofs.InsertLemmas.{tie_is, get-put, sorted-insert_all, all-insert_all, insert_all}
 use Rattle.content_json.proofs.ValueLemmas.{items_from, data_of, texts_are, value_is}
@@ -50,7 +50,7 @@ props_read : (ps : List (List ℕ × Value)) (ms : json.Members) (found : Member
     → of_members (members_before ps ms) found ≡ of_members ms (insert_all (prop_entries ps) found)
 props_read [] ms found h = refl
 props_read ((name, value) ∷ ps) ms found h =
-    let parts = both (has_longs value) (list_all (λ p. has_longs p.1) ps) h in
+    let parts = and_parts (has_longs value) (list_all (λ p. has_longs p.1) ps) h in
     ap (option_and_then (λ d. of_members (members_before ps ms) (put name d found))) (value_is value parts.0)
     ∙ props_read ps ms (put name (data_of value) found) parts.1
 
@@ -95,9 +95,9 @@ props_are : (f : List ℕ → Data) (node : Node) (ps : List (List ℕ × Value)
     → list_all (λ p. has_no_colon p.0 && keeps_kind p.1) ps ≡ true → AllByRecursion (λ e. IsMember f node e.0 e.1) (prop_entries ps)
 props_are f node [] named longs plain = tt
 props_are f node (p ∷ ps) named longs plain =
-    let l = both (has_longs p.1) (list_all (λ p. has_longs p.1) ps) longs in
-    let k = both (has_no_colon p.0 && keeps_kind p.1) (list_all (λ p. has_no_colon p.0 && keeps_kind p.1) ps) plain in
-    (prop p.1 refl (and_true (seg_ok p.0) (has_no_colon p.0) named.0 (both (has_no_colon p.0) (keeps_kind p.1) k.0).0) l.0, props_are f node ps named.1 l.1 k.1)
+    let l = and_parts (has_longs p.1) (list_all (λ p. has_longs p.1) ps) longs in
+    let k = and_parts (has_no_colon p.0 && keeps_kind p.1) (list_all (λ p. has_no_colon p.0 && keeps_kind p.1) ps) plain in
+    (prop p.1 refl (and_from (seg_ok p.0) (has_no_colon p.0) named.0 (and_parts (has_no_colon p.0) (keeps_kind p.1) k.0).0) l.0, props_are f node ps named.1 l.1 k.1)
 
 order_is : (f : List ℕ → Data) (node : Node) (ks : List (List ℕ)) → AllByRecursion (λ e. IsMember f node e.0 e.1) (order_entries ks)
 order_is f node [] = tt
@@ -147,17 +147,9 @@ less_apart Less h = refl
 less_apart Equal h = absurd h
 less_apart Greater h = absurd h
 
-pub first : (a b : Bool) → T (a && b) → T a
-first true b h = tt
-first false b h = h
-
-pub second : (a b : Bool) → T (a && b) → T b
-second true b h = h
-second false b h = absurd h
-
 pub find_below : {X : Type 0} (q : List ℕ) (es : List (List ℕ × X)) → T (below_all by_name q es) → find by_name q es ≡ None
 find_below q [] h = refl
-find_below q (e ∷ es) h = ap (λ t. cond t (Some e.1) (find by_name q es)) (less_apart (by_name q e.0) (first _ _ h)) ∙ find_below q es (second _ _ h)
+find_below q (e ∷ es) h = ap (λ t. cond t (Some e.1) (find by_name q es)) (less_apart (by_name q e.0) (T_first _ _ h)) ∙ find_below q es (T_second _ _ h)
 
 get_props : (ps : List (List ℕ × Value)) (ms : Members) (q : List ℕ) → T (is_sorted by_name ps)
     → get_member q (insert_all (prop_entries ps) ms) ≡ option_or (option_map data_of (find by_name q ps)) (get_member q ms)
@@ -165,10 +157,10 @@ get_props [] ms q h = refl
 get_props (p ∷ ps) ms q h =
     let d = data_of p.1 in
     let rest = find by_name q ps in
-    get_props ps (put p.0 d ms) q (second (below_all by_name p.0 ps) (is_sorted by_name ps) h)
+    get_props ps (put p.0 d ms) q (T_second (below_all by_name p.0 ps) (is_sorted by_name ps) h)
     ∙ ap (option_or (option_map data_of rest)) (get-put q p.0 d ms)
     ∙ ⊎_elim
-    (λ e. let none : rest ≡ None = ap (λ n. find by_name n ps) (same_text q p.0 (sym e)) ∙ find_below p.0 ps (first (below_all by_name p.0 ps) (is_sorted by_name ps) h) in
+    (λ e. let none : rest ≡ None = ap (λ n. find by_name n ps) (same_text q p.0 (sym e)) ∙ find_below p.0 ps (T_first (below_all by_name p.0 ps) (is_sorted by_name ps) h) in
     ap (λ o. option_or (option_map data_of o) (cond (bytes_eq q p.0) (Some d) (get_member q ms))) none ∙ ap (λ t. cond t (Some d) (get_member q ms)) e
     ∙ sym (ap (λ t. option_or (option_map data_of (cond t (Some p.1) rest)) (get_member q ms)) (tie_is q p.0 ∙ e)))
     (λ e. ap (λ t. option_or (option_map data_of rest) (cond t (Some d) (get_member q ms))) e

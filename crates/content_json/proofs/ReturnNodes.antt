@@ -8,11 +8,13 @@ use Rattle.std.specs.List.{list_any, list_all, filter_map}
 use Rattle.std.specs.Option.{option_or, option_map_or}
 use Rattle.std.specs.Ordering.{is_lt, eq_by_cmp}
 use Rattle.std.specs.Str.{bytes_eq}
-use Rattle.std.proofs.lemmas.Bool.{cases_Bool, true≢false, false≢true}
+use Rattle.std.proofs.lemmas.Bool.{cases_Bool, true≢false, false≢true, and_parts}
 use Rattle.serde_json.specs.Data.{Data, null, boolean, number, string, array, object, no_items, Members, no_members, member}
 use Rattle.serde_json.specs.Find.{as_str, as_array, get_member}
 use Rattle.sp_base.specs.Names.{by_name}
 use Rattle.sp_base.specs.declared.value.Value.{Value}
+use Rattle.sp_base.proofs.BoolLemmas.{T_first, T_second, and_second}
+use Rattle.sp_base.proofs.PropertyLemmas.{same_name}
 use Rattle.resource_tree.specs.declared.nodes.Node.{Node}
 use Rattle.resource_tree.specs.Content.{Content}
 use Rattle.property_json.specs.PropertyJson.{has_longs}
@@ -20,13 +22,12 @@ use Rattle.content_json.specs.Names.{order_name, is_order, is_object, is_kid_mem
 use Rattle.content_json.specs.Lists.{item_list, data_value}
 use Rattle.content_json.specs.Nodes.{order_names, kids_of, with_member, add_props, node_of_members}
 use Rattle.content_json.specs.Written.{has_no_colon, keeps_kind}
-use Rattle.content_json.proofs.Under.{both, bytes_eq_itself}
+use Rattle.content_json.proofs.Under.{bytes_eq_itself}
 use Rattle.content_json.proofs.KidLemmas.{all_weaker}
-use Rattle.content_json.proofs.WrittenLemmas.{and_last}
 use Rattle.content_json.specs.Members.{entries_of, AreSorted, AllMembers}
-use Rattle.content_json.proofs.InsertLemmas.{same_name, tie_is, get-member}
+use Rattle.content_json.proofs.InsertLemmas.{tie_is, get-member}
 use Rattle.content_json.proofs.ValueLemmas.{data_of, texts_back, value_back, value_no_object}
-use Rattle.content_json.proofs.ReturnMembers.{first, second, less_apart, option_or-none, members_of, members_sorted, IsMember, prop, order, kid, get_kid, get_prop, get_order_some, get_order_none}
+use Rattle.content_json.proofs.ReturnMembers.{less_apart, option_or-none, members_of, members_sorted, IsMember, prop, order, kid, get_kid, get_prop, get_order_some, get_order_none}
 use Rattle.content_json.proofs.ReturnFaults.{Node-is, order_no_kid, order_no_prop}
 
 -- ---- the properties that are read
@@ -35,8 +36,8 @@ pub get_below : (q : List ℕ) (ms : Members) → T (below_all by_name q (entrie
 get_below q no_members h = refl
 get_below q (member k d ms) h =
     get-member q k d ms
-    ∙ ap (λ t. cond t (Some d) (get_member q ms)) (sym (tie_is q k) ∙ less_apart (by_name q k) (first (is_lt (by_name q k)) (below_all by_name q (entries_of ms)) h))
-    ∙ get_below q ms (second (is_lt (by_name q k)) (below_all by_name q (entries_of ms)) h)
+    ∙ ap (λ t. cond t (Some d) (get_member q ms)) (sym (tie_is q k) ∙ less_apart (by_name q k) (T_first (is_lt (by_name q k)) (below_all by_name q (entries_of ms)) h))
+    ∙ get_below q ms (T_second (is_lt (by_name q k)) (below_all by_name q (entries_of ms)) h)
 
 find_put : (q k : List ℕ) (v : Value) (es : List (List ℕ × Value)) → find by_name q (entries.put by_name k v es) ≡ cond (bytes_eq q k) (Some v) (find by_name q es)
 find_put q k v es = find-put by_name nat_list_cmp_total q k v es ∙ ap (λ t. cond t (Some v) (find by_name q es)) (tie_is q k)
@@ -72,8 +73,8 @@ pub find_added : (ms : Members) (props : List (List ℕ × Value)) (q : List ℕ
     → find by_name q (add_props props ms) ≡ option_or (read_value q (get_member q ms)) (find by_name q props)
 find_added no_members props q sorted = sym (ap (λ o. option_or o (find by_name q props)) (no_value q))
 find_added (member name d ms) props q sorted =
-    let below = first (below_all by_name name (entries_of ms)) (is_sorted by_name (entries_of ms)) sorted in
-    find_added ms (with_member name d props) q (second (below_all by_name name (entries_of ms)) (is_sorted by_name (entries_of ms)) sorted)
+    let below = T_first (below_all by_name name (entries_of ms)) (is_sorted by_name (entries_of ms)) sorted in
+    find_added ms (with_member name d props) q (T_second (below_all by_name name (entries_of ms)) (is_sorted by_name (entries_of ms)) sorted)
     ∙ ⊎_elim
     (λ e. let same : q ≡ name = same_text q name (sym e) in
     let none : get_member q ms ≡ None = ap (λ n. get_member n ms) same ∙ get_below name ms below in
@@ -111,7 +112,7 @@ object_no_value (object ms) h = refl
 found_holds : (P : Value → Bool) (ps : List (List ℕ × Value)) (q : List ℕ) (v : Value) → list_all (λ p. P p.1) ps ≡ true → find by_name q ps ≡ Some v → P v ≡ true
 found_holds P [] q v h e = absurd (cc)
 found_holds P (p ∷ ps) q v h e =
-    let parts = both (P p.1) (list_all (λ p. P p.1) ps) h in
+    let parts = and_parts (P p.1) (list_all (λ p. P p.1) ps) h in
     elim (eq_by_cmp by_name q p.0) as (λ t. cond t (Some p.1) (find by_name q ps) ≡ Some v → P v ≡ true) [
       | true ↦ λ is. let same : p.1 ≡ v = cc in ap P (sym same) ∙ parts.0
       | false ↦ λ is. found_holds P ps q v parts.1 is
@@ -122,7 +123,7 @@ module _ {tree : Content} {levels : ℕ} {path : List (List ℕ)} {f : List ℕ 
   value_found q None e = refl
   value_found q (Some v) e =
       value_back v (found_holds has_longs node.props q v n.longs e)
-      (found_holds keeps_kind node.props q v (all_weaker (λ p. has_no_colon p.0 && keeps_kind p.1) (λ p. keeps_kind p.1) (λ p h. and_last (has_no_colon p.0) (keeps_kind p.1) h) node.props n.plain_props) e)
+      (found_holds keeps_kind node.props q v (all_weaker (λ p. has_no_colon p.0 && keeps_kind p.1) (λ p. keeps_kind p.1) (λ p h. and_second (has_no_colon p.0) (keeps_kind p.1) h) node.props n.plain_props) e)
 
   value_read : (q : List ℕ) → read_value q (get_member q (members_of f node)) ≡ find by_name q node.props
   value_read q =
@@ -175,7 +176,7 @@ module _ {tree : Content} {levels : ℕ} {path : List (List ℕ)} {f : List ℕ 
 
   none_left : (names : List (List ℕ)) → list_all (λ k. list_any (bytes_eq k) node.kids) names ≡ true → filter (λ k. not (list_any (bytes_eq k) node.kids)) names ≡ []
   none_left [] h = refl
-  none_left (k ∷ names) h = let parts = both (list_any (bytes_eq k) node.kids) (list_all (λ k. list_any (bytes_eq k) node.kids) names) h in rw (parts.0) (none_left names parts.1)
+  none_left (k ∷ names) h = let parts = and_parts (list_any (bytes_eq k) node.kids) (list_all (λ k. list_any (bytes_eq k) node.kids) names) h in rw (parts.0) (none_left names parts.1)
 
   kids_back : kids_of (members_of f node) ≡ node.kids
   kids_back =

@@ -8,23 +8,26 @@ use Rattle.std.specs.Map.{keys_of}
 use Rattle.std.specs.Option.{option_or}
 use Rattle.std.specs.Ordering.{is_lt}
 use Rattle.std.specs.Str.{bytes_eq}
-use Rattle.std.proofs.lemmas.Bool.{cases_Bool, ne_eqb, true≢false, false≢true}
+use Rattle.std.proofs.lemmas.Bool.{cases_Bool, ne_eqb, true≢false, false≢true, or_left, or_right}
 use Rattle.std.proofs.lemmas.Map.Keys.{IsDistinct-head, IsDistinct-tail, IsDistinct-cons}
 use Rattle.serde_json.specs.Data.{Data, object, Members, no_members, member}
 use Rattle.sp_base.specs.Names.{by_name}
+use Rattle.sp_base.proofs.BoolLemmas.{T_first, T_second}
 use Rattle.resource_tree.specs.declared.nodes.Node.{Node}
 use Rattle.resource_tree.specs.Content.{Content, IsGood, node_at, same_path}
 use Rattle.resource_tree.specs.Content as content
+use Rattle.resource_tree.proofs.PathLemmas.{path_from_same, same_path_self}
+use Rattle.resource_tree.proofs.SamePaths.{same_path_swapped}
 use Rattle.content_json.specs.Names.{order_name, is_order, is_kid_member, kid_names}
 use Rattle.content_json.specs.Nodes.{node_of_members, nodes_in, nodes_below, is_deeper_below}
 use Rattle.content_json.specs.Steps.{is_at_or_below}
-use Rattle.content_json.proofs.Under.{bytes_eq_itself, same_path_is, same_path_itself, same_path_swapped, is_at_or_below_itself, is_at_or_below-parent, is_at_or_below-one}
-use Rattle.content_json.proofs.KidLemmas.{or_left, or_right, or_split, kid_names_have}
+use Rattle.content_json.proofs.Under.{bytes_eq_itself, is_at_or_below_itself, is_at_or_below-parent, is_at_or_below-one}
+use Rattle.content_json.proofs.KidLemmas.{or_split, kid_names_have}
 use Rattle.content_json.proofs.NodeLemmas.{none_unless, node_at-append, none_in, none_at_parent}
 use Rattle.content_json.proofs.BelowLemmas.{below_kid}
 use Rattle.content_json.specs.Members.{entries_of, AreSorted, AllMembers}
 use Rattle.content_json.proofs.ValueLemmas.{data_of, value_no_nodes}
-use Rattle.content_json.proofs.ReturnMembers.{first, second, members_of, members_sorted, IsMember, prop, order, kid}
+use Rattle.content_json.proofs.ReturnMembers.{members_of, members_sorted, IsMember, prop, order, kid}
 use Rattle.content_json.proofs.ReturnFaults.{Returns, Node-is, kid_is_there, object_faultless, not_deeper_below}
 use Rattle.content_json.proofs.ReturnNodes.{node_back, prop_no_kid, order_name_no_kid, kid_no_order, kid_is_kid}
 
@@ -75,7 +78,7 @@ any_below path q (k ∷ names) h =
 keys_hold : (Q : List (List ℕ) → Type 0) (nodes : Content) → ((q : List (List ℕ)) → is_some (node_at nodes q) ≡ true → Q q) → AllByRecursion Q (keys_of nodes)
 keys_hold Q [] gives = tt
 keys_hold Q (e ∷ nodes) gives = (
-  gives e.0 (ap (λ t. is_some (cond t (Some e.1) (node_at nodes e.0))) (same_path_itself e.0)),
+  gives e.0 (ap (λ t. is_some (cond t (Some e.1) (node_at nodes e.0))) (same_path_self e.0)),
   keys_hold Q nodes (λ q h. gives q (elim (same_path q e.0) as (λ t. is_some (cond t (Some e.1) (node_at nodes q)) ≡ true) [ true ↦ refl | false ↦ h ])),
 )
 
@@ -108,12 +111,12 @@ none_later path q name no_members h under = refl
 none_later path q name (member k d ms) h under =
     let apart : is_at_or_below (content.kid path k) q ≡ false = ⊎_elim
     (λ e. let same = is_at_or_below-one path q name k under e in
-    absurd (subst T (ap is_lt (ap (by_name name) (sym same) ∙ tied_itself nat_list_cmp_total name)) (first (is_lt (by_name name k)) (below_all by_name name (entries_of ms)) h)))
+    absurd (subst T (ap is_lt (ap (by_name name) (sym same) ∙ tied_itself nat_list_cmp_total name)) (T_first (is_lt (by_name name k)) (below_all by_name name (entries_of ms)) h)))
     (λ e. e)
     (cases_Bool (is_at_or_below (content.kid path k) q)) in
     node_at-append (nodes_of path k d) (nodes_below path ms) q
     ∙ ap (λ o. option_or o (node_at (nodes_below path ms) q)) (none_unless (is_order k) (nodes_in (content.kid path k) d) q (none_in (content.kid path k) q d apart))
-    ∙ none_later path q name ms (second (is_lt (by_name name k)) (below_all by_name name (entries_of ms)) h) under
+    ∙ none_later path q name ms (T_second (is_lt (by_name name k)) (below_all by_name name (entries_of ms)) h) under
 
 module _ {tree : Content} {levels : ℕ} {path : List (List ℕ)} {f : List ℕ → Data} {node : Node} (n : Node-is tree levels path f node) where
   prop_no_nodes : (name : List ℕ) (d : Data) (value : _) → d ≡ data_of value → nodes_of path name d ≡ []
@@ -151,18 +154,18 @@ module _ {tree : Content} {levels : ℕ} {path : List (List ℕ)} {f : List ℕ 
   distinct_below : (ms : Members) → AreSorted ms → AllMembers (IsMember f node) ms → IsDistinct same_path (keys_of (nodes_below path ms))
   distinct_below no_members sorted h = no_keys
   distinct_below (member name d ms) sorted (prop value is plain longs, h) =
-      subst (λ nodes. IsDistinct same_path (keys_of (nodes ++ nodes_below path ms))) (sym (prop_no_nodes name d value is)) (distinct_below ms (second (below_all by_name name (entries_of ms)) (is_sorted by_name (entries_of ms)) sorted) h)
+      subst (λ nodes. IsDistinct same_path (keys_of (nodes ++ nodes_below path ms))) (sym (prop_no_nodes name d value is)) (distinct_below ms (T_second (below_all by_name name (entries_of ms)) (is_sorted by_name (entries_of ms)) sorted) h)
   distinct_below (member name d ms) sorted (order is, h) =
       subst (λ nodes. IsDistinct same_path (keys_of (nodes ++ nodes_below path ms))) (sym (order_no_nodes name d (ap is_order is ∙ bytes_eq_itself order_name)))
-      (distinct_below ms (second (below_all by_name name (entries_of ms)) (is_sorted by_name (entries_of ms)) sorted) h)
+      (distinct_below ms (T_second (below_all by_name name (entries_of ms)) (is_sorted by_name (entries_of ms)) sorted) h)
   distinct_below (member name d ms) sorted (kid among is, h) =
       let here = nodes_in (content.kid path name) (f name) in
-      let below = first (below_all by_name name (entries_of ms)) (is_sorted by_name (entries_of ms)) sorted in
+      let below = T_first (below_all by_name name (entries_of ms)) (is_sorted by_name (entries_of ms)) sorted in
       let within = λ (q : List (List ℕ)) (there : is_some (node_at here q) ≡ true). none_later path q name ms below
       (⊎_elim (λ e. e) (λ e. absurd (false≢true (sym (ap is_some (none_in (content.kid path name) q (f name) e)) ∙ there))) (cases_Bool (is_at_or_below (content.kid path name) q))) in
       subst (λ nodes. IsDistinct same_path (keys_of (nodes ++ nodes_below path ms))) (sym (kid_nodes name d among is))
       (distinct-append here (nodes_below path ms) (n.kids name among).distinct
-      (distinct_below ms (second (below_all by_name name (entries_of ms)) (is_sorted by_name (entries_of ms)) sorted) h)
+      (distinct_below ms (T_second (below_all by_name name (entries_of ms)) (is_sorted by_name (entries_of ms)) sorted) h)
       (keys_hold (λ y. node_at (nodes_below path ms) y ≡ None) here within))
 
   -- ---- the whole
@@ -170,7 +173,7 @@ module _ {tree : Content} {levels : ℕ} {path : List (List ℕ)} {f : List ℕ 
   nodes_back : IsGood tree → node_at tree path ≡ Some node → (q : List (List ℕ)) → node_at (nodes_in path (object (members_of f node))) q ≡ (if is_at_or_below path q then node_at tree q else None)
   nodes_back good there q =
       ⊎_elim
-      (λ e. let same : q ≡ path = same_path_is q path e in
+      (λ e. let same : q ≡ path = path_from_same q path e in
       ap (λ t. cond t (Some (node_of_members ms)) (node_at (nodes_below path ms) q)) e ∙ ap (λ m. Some m) (node_back n) ∙ sym there ∙ ap (node_at tree) (sym same)
       ∙ sym (ap (λ t. if t then node_at tree q else None) (ap (is_at_or_below path) same ∙ is_at_or_below_itself path)))
       (λ e. ap (λ t. cond t (Some (node_of_members ms)) (node_at (nodes_below path ms) q)) e ∙ nodes_at ms n.members q ∙ by (node_at tree q) refl e)

@@ -5,32 +5,34 @@ use Rattle.std.specs.List.{list_any, list_all}
 use Rattle.std.specs.Map.{keys_of}
 use Rattle.std.specs.Option.{option_map_or}
 use Rattle.std.specs.Str.{bytes_eq}
-use Rattle.std.proofs.lemmas.Bool.{le-ltb, false≢true}
+use Rattle.std.proofs.lemmas.Bool.{le-ltb, false≢true, and_from, and_parts}
 use Rattle.std.proofs.lemmas.Cmp.{eq_by_cmp_equiv}
 use Rattle.std.proofs.lemmas.Map.Made.{is_some-lookup, length-le_from_is_member}
 use Rattle.std.proofs.lemmas.Str.{is_utf8-from_IsUtf8}
 use Rattle.json.specs.Json as json
 use Rattle.json.specs.Token.{Token}
 use Rattle.json.specs.Lex.{tokens}
-use Rattle.json.specs.Tree.{json_tokens, depth, items_depth, members_depth}
+use Rattle.json.specs.Tree.{json_tokens, depth, members_depth}
 use Rattle.json.proofs.Printed.Trees.{value-json_tokens}
 use Rattle.serde_json.specs.Data.{Data, null, object}
 use Rattle.serde_json.specs.Read.{of_json, read, max_depth}
 use Rattle.sp_base.specs.Paths.{seg_ok}
 use Rattle.sp_base.specs.declared.value.Value.{Value}
-use Rattle.sp_base.specs.declared.value.Value.TheVariants.{Text, Long, Truth, Texts, Longs, Truths}
+use Rattle.sp_base.proofs.OptionLemmas.{value_there}
+use Rattle.sp_base.proofs.OrderingLemmas.{by_path_total}
 use Rattle.resource_tree.specs.declared.nodes.Node.{Node}
 use Rattle.resource_tree.specs.Content.{Content, IsGood, node_at, same_path, kid, empty_node}
 use Rattle.resource_tree.specs.Changes.{kids_at}
-use Rattle.property_json.specs.PropertyJson.{items_of, json_of_long, json_of_value, members_before}
+use Rattle.resource_tree.proofs.Relocated.{length-keys}
+use Rattle.property_json.specs.PropertyJson.{members_before}
+use Rattle.property_json.proofs.DepthLemmas.{items_flat, value_depth}
 use Rattle.content_json.specs.declared.fault.ContentFault.TheVariants.{TooBig}
 use Rattle.content_json.specs.Nodes.{nodes_in, count_below, is_deeper_below}
 use Rattle.content_json.specs.ContentOf.{json_of, map_of, unless_found, content_in, content}
 use Rattle.content_json.specs.Written.{order_before, kids_json, node_before, node_json, has_no_colon, keeps_kind, is_plain_node, is_plain_tree}
 use Rattle.content_json.specs.Steps.{AreBelow}
-use Rattle.content_json.proofs.Under.{both, by_path_total}
-use Rattle.content_json.proofs.KidLemmas.{and_true, all_at}
-use Rattle.content_json.proofs.MapLemmas.{is_map_of, length-keys}
+use Rattle.content_json.proofs.KidLemmas.{all_at}
+use Rattle.content_json.proofs.MapLemmas.{is_map_of}
 use Rattle.content_json.proofs.SizeLemmas.{length-nodes_in}
 use Rattle.content_json.proofs.WrittenLemmas.{kid_named, kid_there, no_kids}
 use Rattle.content_json.proofs.ReturnMembers.{members_of, members_are, members_read}
@@ -50,15 +52,11 @@ data_at tree (suc levels) path = object (members_of (λ k. data_at tree levels (
 holds_at : (P : Node → Bool) (tree : Content) (q : List (List ℕ)) (node : Node) → list_all (λ e. P e.1) tree ≡ true → node_at tree q ≡ Some node → P node ≡ true
 holds_at P [] q node h at = absurd (cc)
 holds_at P (e ∷ tree) q node h at =
-    let parts = both (P e.1) (list_all (λ e. P e.1) tree) h in
+    let parts = and_parts (P e.1) (list_all (λ e. P e.1) tree) h in
     elim (same_path q e.0) as (λ t. (if t then Some e.1 else node_at tree q) ≡ Some node → P node ≡ true) [
       | true ↦ λ is. let same : e.1 ≡ node = cc in ap P (sym same) ∙ parts.0
       | false ↦ λ is. holds_at P tree q node parts.1 is
     ] at
-
-found : (o : Option Node) → is_some o ≡ true → (node : Node) × (o ≡ Some node)
-found None h = absurd (false≢true h)
-found (Some node) h = (node, refl)
 
 none_among : (kids : List (List ℕ)) (k : List ℕ) → kids ≡ [] → list_any (bytes_eq k) kids ≡ true → ⊥
 none_among kids k e h = false≢true (sym (ap (list_any (bytes_eq k)) e) ∙ h)
@@ -69,12 +67,12 @@ module _ (tree : Content) (good : IsGood tree) (props : AreBelow tree []) (can :
   node_is levels path f node there kids =
       let is = good.shape.nodes path node there in
       let here = props path node refl there in
-      let returns = both (list_all has_no_colon node.kids) (list_all (λ p. has_no_colon p.0 && keeps_kind p.1) node.props) (holds_at is_plain_node tree path node can there) in
+      let returns = and_parts (list_all has_no_colon node.kids) (list_all (λ p. has_no_colon p.0 && keeps_kind p.1) node.props) (holds_at is_plain_node tree path node can there) in
       record {
         sorted = here.sorted;
         longs = here.longs;
         plain_props = returns.1;
-        plain_kids = λ k h. and_true (seg_ok k) (has_no_colon k)
+        plain_kids = λ k h. and_from (seg_ok k) (has_no_colon k)
             (kid_named tree path node k good there h)
             (all_at has_no_colon k node.kids returns.0 h);
         distinct = is.distinct;
@@ -93,7 +91,7 @@ module _ (tree : Content) (good : IsGood tree) (props : AreBelow tree []) (can :
   returns_at (suc levels) path node e there =
       let f = λ (k : List ℕ). data_at tree levels (kid path k) in
       let below = λ (k : List ℕ) (h : list_any (bytes_eq k) node.kids ≡ true).
-      let at = found (node_at tree (kid path k)) (kid_there tree path node k good there h) in
+      let at = value_there (node_at tree (kid path k)) (kid_there tree path node k good there h) in
       returns_at levels (kid path k) at.0 (omega (arith, e, length-append path (k ∷ []))) at.1 in
       subst (λ o. Returns tree (suc (suc levels)) path (object (members_of f (unwrap_or o empty_node)))) (sym there)
       (returns_node (node_is (suc levels) path f node there below) good there)
@@ -112,22 +110,10 @@ module _ (tree : Content) (good : IsGood tree) (props : AreBelow tree []) (can :
       ∙ node_read path (λ k. json.null) (λ k. null) node there (λ k h. absurd (none_among node.kids k bare h))
   read_at (suc levels) path node e there =
       node_read path (λ k. node_json tree levels (kid path k)) (λ k. data_at tree levels (kid path k)) node there
-      (λ k h. let at = found (node_at tree (kid path k)) (kid_there tree path node k good there h) in
+      (λ k h. let at = value_there (node_at tree (kid path k)) (kid_there tree path node k good there h) in
       read_at levels (kid path k) at.0 (omega (arith, e, length-append path (k ∷ []))) at.1)
 
 -- ---- the text isn't too deep to be read
-
-items_flat : {A : Type 0} (f : A → json.Json) → ((x : A) → depth (f x) ≡ 0) → (xs : List A) → items_depth (items_of f xs) ≡ 0
-items_flat f flat [] = refl
-items_flat f flat (x ∷ xs) = omega (arith, flat x, items_flat f flat xs)
-
-value_depth : (v : Value) → depth (json_of_value v) ≤ 1
-value_depth (Text t) = omega arith
-value_depth (Long n) = omega arith
-value_depth (Truth b) = omega arith
-value_depth (Texts ts) = omega (arith, items_flat json.string (λ x. refl) ts)
-value_depth (Longs ns) = omega (arith, items_flat json_of_long (λ x. refl) ns)
-value_depth (Truths bs) = omega (arith, items_flat json.boolean (λ x. refl) bs)
 
 props_depth : (ps : List (List ℕ × Value)) (ms : json.Members) (n : ℕ) → 1 ≤ n → members_depth ms ≤ n → members_depth (members_before ps ms) ≤ n
 props_depth [] ms n some h = h
@@ -162,7 +148,7 @@ whole o = option_and_then of_json (option_and_then (λ p. json.if_last p.0 p.1) 
 pub returns_tree : (tree : Content) (bytes : List ℕ) → IsGood tree → AreBelow tree [] → is_plain_tree tree ≡ true → tokens bytes ≡ json_tokens (node_json tree 64 []) → IsUtf8 bytes
     → content bytes ≡ Ok tree
 returns_tree tree bytes good props can written utf8 =
-    let top = found (node_at tree []) good.shape.root in
+    let top = value_there (node_at tree []) good.shape.root in
     let ms = members_of (λ k. data_at tree 63 (kid [] k)) (node_or tree []) in
     let nodes = nodes_in [] (object ms) in
     let back : Returns tree 65 [] (object ms) = returns_at tree good props can 64 [] top.0 refl top.1 in

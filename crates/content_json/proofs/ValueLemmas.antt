@@ -3,7 +3,7 @@ use Rattle.std.proofs.Common.{◌≡◌, ℕ, ℤ, pos, negsuc, ◌^◌, Bool, t
 use Rattle.std.specs.Prelude.{option_and_then}
 use Rattle.std.specs.Fmt.{signed_decimal}
 use Rattle.std.specs.List.{filter_map, list_all}
-use Rattle.std.proofs.lemmas.Bool.{ltb-true, false≢true}
+use Rattle.std.proofs.lemmas.Bool.{ltb-true, false≢true, and_parts}
 use Rattle.json.specs.Json as json
 use Rattle.serde_json.specs.Data.{Data, boolean, number, string, array, Items, no_items, item}
 use Rattle.serde_json.specs.Find.{as_str, as_bool, as_i64, of_integer}
@@ -18,7 +18,6 @@ use Rattle.content_json.specs.Lists.{as_long, items_cause, item_list, data_value
 use Rattle.content_json.specs.Faults.{here, fault_in}
 use Rattle.content_json.specs.Nodes.{nodes_in, is_deeper}
 use Rattle.content_json.specs.Written.{keeps_kind}
-use Rattle.content_json.proofs.Under.{both}
 
 abbrev pub items_from : {A : Type 0} → (A → Data) → List A → Items
 items_from g [] = no_items
@@ -49,7 +48,7 @@ texts_are (t ∷ ts) = ap (option_map (item (string t))) (texts_are ts)
 longs_are : (ns : List ℤ) → list_all fits_i64 ns ≡ true → of_items (items_of json_of_long ns) ≡ Some (items_from data_of_long ns)
 longs_are [] h = refl
 longs_are (n ∷ ns) h =
-    let parts = both (fits_i64 n) (list_all fits_i64 ns) h in
+    let parts = and_parts (fits_i64 n) (list_all fits_i64 ns) h in
     ap (λ o. option_and_then (λ d. option_map (item d) (of_items (items_of json_of_long ns))) (option_map number o)) (number_is n parts.0)
     ∙ ap (option_map (item (data_of_long n))) (longs_are ns parts.1)
 
@@ -77,7 +76,7 @@ texts_back (t ∷ ts) = ap (λ l. t ∷ l) (texts_back ts)
 
 longs_back : (ns : List ℤ) → list_all fits_i64 ns ≡ true → filter_map as_long (item_list (items_from data_of_long ns)) ≡ ns
 longs_back [] h = refl
-longs_back (n ∷ ns) h = let parts = both (fits_i64 n) (list_all fits_i64 ns) h in rw (long_back n parts.0) (ap (λ l. n ∷ l) (longs_back ns parts.1))
+longs_back (n ∷ ns) h = let parts = and_parts (fits_i64 n) (list_all fits_i64 ns) h in rw (long_back n parts.0) (ap (λ l. n ∷ l) (longs_back ns parts.1))
 
 truths_back : (bs : List Bool) → filter_map as_bool (item_list (items_from boolean bs)) ≡ bs
 truths_back [] = refl
@@ -102,7 +101,7 @@ no_cause_texts (t ∷ ts) = no_cause_texts ts
 
 no_cause_longs : (ns : List ℤ) → list_all fits_i64 ns ≡ true → items_cause kind.Long (items_from data_of_long ns) ≡ None
 no_cause_longs [] h = refl
-no_cause_longs (n ∷ ns) h = let parts = both (fits_i64 n) (list_all fits_i64 ns) h in rw (long_back n parts.0) (no_cause_longs ns parts.1)
+no_cause_longs (n ∷ ns) h = let parts = and_parts (fits_i64 n) (list_all fits_i64 ns) h in rw (long_back n parts.0) (no_cause_longs ns parts.1)
 
 no_cause_truths : (bs : List Bool) → items_cause kind.Truth (items_from boolean bs) ≡ None
 no_cause_truths [] = refl

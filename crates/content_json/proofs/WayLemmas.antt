@@ -6,19 +6,23 @@ use Rattle.std.specs.FinMap.Entries.{is_sorted, below_all}
 use Rattle.std.specs.Option.{option_or}
 use Rattle.std.specs.Str.{bytes_eq}
 use Rattle.std.proofs.lemmas.Bool.{cases_Bool}
+use Rattle.std.proofs.lemmas.Option.{same_Some}
 use Rattle.serde_json.specs.Data.{Data, null, boolean, number, string, array, object, Members, no_members, member}
 use Rattle.serde_json.specs.Find.{get, get_member}
 use Rattle.sp_base.specs.Names.{by_name}
+use Rattle.sp_base.proofs.BoolLemmas.{T_first, T_second}
+use Rattle.sp_base.proofs.TextLemmas.{bytes_eq_swapped}
 use Rattle.resource_tree.specs.Content.{node_at, same_path, kid}
+use Rattle.resource_tree.proofs.PathLemmas.{same_path_apart, same_path_self}
 use Rattle.content_json.specs.Names.{is_order}
 use Rattle.content_json.specs.Nodes.{node_of_members, nodes_in, nodes_below}
 use Rattle.content_json.specs.Steps.{is_at_or_below}
 use Rattle.content_json.specs.Ways.{way_end, node_of_value}
-use Rattle.content_json.proofs.Under.{same_path_itself, same_path_apart, bytes_eq_itself, bytes_eq_swapped}
+use Rattle.content_json.proofs.Under.{bytes_eq_itself}
 use Rattle.content_json.proofs.NodeLemmas.{node_at-append, none_unless, none_in}
 use Rattle.content_json.specs.Members.{AreSorted, entries_of}
 use Rattle.content_json.proofs.InsertLemmas.{get-member}
-use Rattle.content_json.proofs.ReturnMembers.{first, second, option_or-none}
+use Rattle.content_json.proofs.ReturnMembers.{option_or-none}
 use Rattle.content_json.proofs.ReturnNodes.{get_below}
 use Rattle.content_json.proofs.InOrder.{IsInOrder, AreInOrder}
 
@@ -61,7 +65,7 @@ mutual
   node_at_way path [] (number n) h = refl
   node_at_way path [] (string s) h = refl
   node_at_way path [] (array ds) h = refl
-  node_at_way path [] (object ms) h = ap (λ p. cond (same_path p path) (Some (node_of_members ms)) (node_at (nodes_below path ms) p)) (append-nil path) ∙ rw (same_path_itself path) refl
+  node_at_way path [] (object ms) h = ap (λ p. cond (same_path p path) (Some (node_of_members ms)) (node_at (nodes_below path ms) p)) (append-nil path) ∙ rw (same_path_self path) refl
   node_at_way path (name ∷ way) null h = sym (ap (option_and_then node_of_value) (no_step (is_order name) way))
   node_at_way path (name ∷ way) (boolean b) h = sym (ap (option_and_then node_of_value) (no_step (is_order name) way))
   node_at_way path (name ∷ way) (number n) h = sym (ap (option_and_then node_of_value) (no_step (is_order name) way))
@@ -74,7 +78,7 @@ mutual
   node_below_way path name way no_members s h = sym (ap (option_and_then node_of_value) (no_step (is_order name) way))
   node_below_way path name way (member k d ms) s h =
       let q = path ++ name ∷ way in
-      let later = node_below_way path name way ms (second (below_all by_name k (entries_of ms)) (is_sorted by_name (entries_of ms)) s) h.1 in
+      let later = node_below_way path name way ms (T_second (below_all by_name k (entries_of ms)) (is_sorted by_name (entries_of ms)) s) h.1 in
       let found = λ (o : Option Data). option_and_then node_of_value (if is_order name then None else option_and_then (way_end way) o) in
       let here = λ (n : List ℕ). node_at (if is_order n then [] else nodes_in (kid path n) d) q in
       let got = λ (t : Bool) (e : bytes_eq name k ≡ t). get-member name k d ms ∙ ap (λ b. cond b (Some d) (get_member name ms)) e in
@@ -86,7 +90,7 @@ mutual
       ∙ ⊎_elim
       (λ e.
       let same : name ≡ k = same_text name k (sym e) in
-      let none : get_member name ms ≡ None = ap (λ n. get_member n ms) same ∙ get_below k ms (first (below_all by_name k (entries_of ms)) (is_sorted by_name (entries_of ms)) s) in
+      let none : get_member name ms ≡ None = ap (λ n. get_member n ms) same ∙ get_below k ms (T_first (below_all by_name k (entries_of ms)) (is_sorted by_name (entries_of ms)) s) in
       ap (option_or (here k)) (later ∙ ap found none ∙ ap (option_and_then node_of_value) (no_step (is_order name) way)) ∙ option_or-none (here k)
       ∙ ap here (sym same) ∙ own ∙ ap found (sym (got true e)))
       (λ e.
@@ -97,9 +101,6 @@ mutual
 
 -- ---- what lies on a way is in order
 
-found_value : (x y : Data) → Some x ≡ Some y → x ≡ y
-found_value x y e = cc
-
 nothing_found : {A : Type 0} (x : Data) → None ≡ Some x → A
 nothing_found x e = absurd (cc)
 
@@ -107,7 +108,7 @@ member_in_order : (name : List ℕ) (ms : Members) (x : Data) → AreInOrder ms 
 member_in_order name no_members x h is = nothing_found x is
 member_in_order name (member k d ms) x h is =
     let got = λ (t : Bool) (e : bytes_eq name k ≡ t). sym (ap (λ b. cond b (Some d) (get_member name ms)) e) ∙ sym (get-member name k d ms) ∙ is in
-    ⊎_elim (λ e. subst IsInOrder (found_value d x (got true e)) h.0) (λ e. member_in_order name ms x h.1 (got false e)) (cases_Bool (bytes_eq name k))
+    ⊎_elim (λ e. subst IsInOrder (same_Some d x (got true e)) h.0) (λ e. member_in_order name ms x h.1 (got false e)) (cases_Bool (bytes_eq name k))
 
 step_in_order : (name : List ℕ) (d x : Data) → IsInOrder d → get name d ≡ Some x → IsInOrder x
 step_in_order name null x h is = nothing_found x is
@@ -118,7 +119,7 @@ step_in_order name (array ds) x h is = nothing_found x is
 step_in_order name (object ms) x h is = member_in_order name ms x h.1 is
 
 pub in_order_at : (way : List (List ℕ)) (d e : Data) → IsInOrder d → way_end way d ≡ Some e → IsInOrder e
-in_order_at [] d e h is = subst IsInOrder (found_value d e is) h
+in_order_at [] d e h is = subst IsInOrder (same_Some d e is) h
 in_order_at (name ∷ way) d e h is =
     elim (is_order name) as (λ t. (if t then None else option_and_then (way_end way) (get name d)) ≡ Some e → IsInOrder e) [
       | true ↦ λ g. nothing_found e g

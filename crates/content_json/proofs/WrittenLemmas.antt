@@ -1,9 +1,9 @@
 -- The tokens of a tree, a node and a kid at a time.
-use Rattle.std.proofs.Common.{◌≡◌, ◌+◌, ◌-◌, ◌<◌, ◌≤◌, ◌++◌, ◌&&◌, ℕ, zero, suc, List, [], ◌∷◌, length, take, get_or, Bool, true, false, Option, Some, None, is_some, refl, sym, ◌∙◌, ap, subst, arith, append_assoc, length-append}
-use Rattle.std.specs.Prelude.{flat_map, nat_le}
+use Rattle.std.proofs.Common.{◌≡◌, ◌+◌, ◌-◌, ◌<◌, ◌≤◌, ◌++◌, ℕ, zero, suc, List, [], ◌∷◌, length, take, get_or, Bool, true, Option, Some, None, is_some, refl, sym, ◌∙◌, ap, subst, arith, append_assoc, length-append}
+use Rattle.std.specs.Prelude.{flat_map}
 use Rattle.std.specs.List.{list_any, list_all}
 use Rattle.std.specs.Str.{bytes_eq}
-use Rattle.std.proofs.lemmas.Bool.{and_parts, false≢true, leb-true}
+use Rattle.std.proofs.lemmas.Bool.{and_parts, false≢true, or_left, or_right}
 use Rattle.std.proofs.lemmas.List.{take_more, append-nil}
 use Rattle.std.proofs.lemmas.List.Concat.{flat_map-append}
 use Rattle.json.specs.Json.{Members, no_members}
@@ -13,6 +13,7 @@ use Rattle.json.specs.Print.{print}
 use Rattle.json.specs.Written.{Written}
 use Rattle.sp_base.specs.Paths.{is_path, seg_ok}
 use Rattle.sp_base.specs.declared.value.Value.{Value}
+use Rattle.sp_base.proofs.PathTests.{few_segments}
 use Rattle.resource_tree.specs.declared.nodes.Node.{Node}
 use Rattle.resource_tree.specs.Content.{Content, IsGood, node_at, kid}
 use Rattle.resource_tree.specs.Changes.{kids_at}
@@ -20,7 +21,6 @@ use Rattle.property_json.specs.PropertyJson.{Adds, members_before, property_toke
 use Rattle.content_json.specs.Written.{order_before, kids_json, node_before, node_json, tree_text}
 use Rattle.content_json.specs.Steps.{order_tokens, whole_at, kid_tokens}
 use Rattle.content_json.proofs.Under.{bytes_eq_itself}
-use Rattle.content_json.proofs.KidLemmas.{or_left, or_right}
 
 -- ---- the kids of a good tree are there
 
@@ -50,18 +50,11 @@ path_there tree path good h = by (node_at tree path) refl h
     by None at there = absurd (false≢true there)
     by (Some node) at there = (good.shape.nodes path node at).is_a_path
 
-pub and_last : (a b : Bool) → (a && b) ≡ true → b ≡ true
-and_last true b h = h
-and_last false b h = absurd (false≢true h)
-
-pub short : (path : List (List ℕ)) → is_path path ≡ true → length path ≤ 64
-short path h = leb-true (length path) 64 (and_last (list_all seg_ok path) (nat_le (length path) 64) h)
-
 -- a kid's path has one segment more, and at most 64
 pub kid_short : (tree : Content) (path : List (List ℕ)) (node : Node) (name : List ℕ) → IsGood tree → node_at tree path ≡ Some node → list_any (bytes_eq name) node.kids ≡ true
     → length path < 64
 kid_short tree path node name good there h =
-    let most = short (kid path name) (path_there tree (kid path name) good (kid_there tree path node name good there h)) in
+    let most = few_segments (kid path name) (path_there tree (kid path name) good (kid_there tree path node name good there h)) in
     omega (arith, most, length-append path (name ∷ []))
 
 last_holds : (p : List ℕ → Bool) (path : List (List ℕ)) (k : List ℕ) → list_all p (path ++ k ∷ []) ≡ true → p k ≡ true

@@ -1,13 +1,17 @@
 -- Coverage, read off what is left of a page's path after a handle's.
 use Rattle.std.proofs.Common.{ℕ, zero, suc, Bool, true, false, not, codes, ◌&&◌, ◌||◌, ◌==◌, List, [], ◌∷◌, ◌++◌, ◌-◌, ◌<◌, ◌≤◌, length, take, drop, append_assoc, length-append, nat_eq, refl, sym, ◌∙◌, ap, subst, ◌≡◌, arith, Bor}
+use Rattle.std.proofs.lemmas.Bool.{and_right, false_from_ne_true}
 use Rattle.std.proofs.lemmas.Bool.Decides.{nat_tests}
-use Rattle.std.proofs.lemmas.List.{append-nil, length-take, length-map, take-append-drop, take-map, take_all}
+use Rattle.std.proofs.lemmas.List.{append-nil, length-take, length-map, take-map, take_all}
 use Rattle.std.proofs.lemmas.List.Concat.{flat_map-append}
 use Rattle.std.proofs.lemmas.List.Folds.{list_all-append}
-use Rattle.std.specs.Cmp.Lexicographic.{bytes_decides, pointwise}
+use Rattle.std.specs.Cmp.Lexicographic.{pointwise}
 use Rattle.std.specs.List.{starts_with}
 use Rattle.sp_base.specs.Paths.{has_slash, is_under, mangled_segs, mangled_seg, parent_of, pieces}
 use Rattle.sp_base.specs.PathTexts.{ends_segment, lack_slashes, segs_in, spelling_of, text_under}
+use Rattle.sp_base.proofs.BoolLemmas.{and_first, and_second, same_truth}
+use Rattle.sp_base.proofs.NatLemmas.{nat_eq_itself}
+use Rattle.sp_base.proofs.TextLemmas.{begins_with, segments_are, segments_themselves}
 use Rattle.cover_rules.specs.declared.page.PageKey.{PageKey}
 use Rattle.cover_rules.specs.declared.invalidation.Invalidation.{Invalidation}
 use Rattle.cover_rules.specs.declared.walk.Rest.{Rest}
@@ -28,61 +32,28 @@ pub record Texts (key : PageKey) (handle : List (List ℕ)) : Type 0 where
   pub under : (path other : List (List ℕ)) → lack_slashes path ≡ true → lack_slashes other ≡ true → text_under (spelling_of path) (spelling_of other) ≡ is_under path other
   pub back : (path : List (List ℕ)) → lack_slashes path ≡ true → segs_in (spelling_of path) ≡ path
 
-never : (b : Bool) → (b ≡ true → ⊥) → b ≡ false
-never true h = absurd (h refl)
-never false h = refl
-
-and_left : (a b : Bool) → (a && b) ≡ true → a ≡ true
-and_left true b h = refl
-and_left false b h = h
-
-same_byte : (b : ℕ) → nat_eq b b ≡ true
-same_byte b = grind (arith, nat_tests)
-
 starts_cancel : (beginning l m : List ℕ) → starts_with nat_eq (beginning ++ l) (beginning ++ m) ≡ starts_with nat_eq l m
 starts_cancel [] l m = refl
-starts_cancel (b ∷ beginning) l m = ap (λ t. t && starts_with nat_eq (beginning ++ l) (beginning ++ m)) (same_byte b) ∙ starts_cancel beginning l m
+starts_cancel (b ∷ beginning) l m = ap (λ t. t && starts_with nat_eq (beginning ++ l) (beginning ++ m)) (nat_eq_itself b) ∙ starts_cancel beginning l m
 
 under_cancel : (beginning l m : List ℕ) → text_under (beginning ++ l) (beginning ++ m) ≡ text_under l m
 under_cancel [] l m = refl
 under_cancel (b ∷ beginning) l m =
-    ap (λ t. (t && starts_with nat_eq (beginning ++ l) (beginning ++ m)) && ends_segment (drop (length (beginning ++ m)) (beginning ++ l))) (same_byte b) ∙ under_cancel beginning l m
-
-starts_is : (text prefix : List ℕ) → starts_with nat_eq text prefix ≡ true → text ≡ prefix ++ drop (length prefix) text
-starts_is text prefix h =
-    sym (take-append-drop (length prefix) text) ∙ ap (λ (t : List ℕ). t ++ drop (length prefix) text) (sym ((bytes_decides prefix (take (length prefix) text)).0 h))
+    ap (λ t. (t && starts_with nat_eq (beginning ++ l) (beginning ++ m)) && ends_segment (drop (length (beginning ++ m)) (beginning ++ l))) (nat_eq_itself b) ∙ under_cancel beginning l m
 
 too_long : (text prefix : List ℕ) → length text < length prefix → text_under text prefix ≡ false
-too_long text prefix long = never (text_under text prefix)
-    (λ h. let e = starts_is text prefix (and_left (starts_with nat_eq text prefix) _ h) in omega (arith, ap length e, length-append prefix (drop (length prefix) text), long))
-
-and_right : (a b : Bool) → (a && b) ≡ true → b ≡ true
-and_right true b h = h
-and_right false b h = absurd (cc (h))
-
--- lists of segments that are equal
-pub lists_equal : (xs ys : List (List ℕ)) → pointwise (pointwise nat_eq) xs ys ≡ true → xs ≡ ys
-lists_equal [] [] h = refl
-lists_equal [] (y ∷ ys) h = absurd (cc (h))
-lists_equal (x ∷ xs) [] h = absurd (cc (h))
-lists_equal (x ∷ xs) (y ∷ ys) h =
-    let first = (bytes_decides x y).0 (and_left (pointwise nat_eq x y) _ h) in
-    let more = lists_equal xs ys (and_right (pointwise nat_eq x y) _ h) in
-    λ i. first i ∷ more i
-
-equal_lists : (xs : List (List ℕ)) → pointwise (pointwise nat_eq) xs xs ≡ true
-equal_lists [] = refl
-equal_lists (x ∷ xs) = ap (λ t. t && pointwise (pointwise nat_eq) xs xs) ((bytes_decides x x).1 refl) ∙ equal_lists xs
+too_long text prefix long = false_from_ne_true (text_under text prefix)
+    (λ h. let e = begins_with text prefix (and_first (starts_with nat_eq text prefix) _ h) in omega (arith, ap length e, length-append prefix (drop (length prefix) text), long))
 
 -- the page is the handle where nothing is left
 handle_left : (key : PageKey) (handle : List (List ℕ)) (l : List ℕ) → Texts key handle → page_spelling key ≡ spelling_of handle ++ l → is_handle handle key ≡ (length l == 0)
 handle_left key handle [] texts e =
     let same : page_path key ≡ handle = sym (texts.back (page_path key) texts.page) ∙ ap segs_in (texts.spelling ∙ e ∙ append-nil (spelling_of handle)) ∙ texts.back handle texts.slashless in
-    ap (λ (p : List (List ℕ)). pointwise (pointwise nat_eq) p handle) same ∙ equal_lists handle
+    ap (λ (p : List (List ℕ)). pointwise (pointwise nat_eq) p handle) same ∙ segments_themselves handle
 handle_left key handle (b ∷ l) texts e =
     let more : (length (b ∷ l) == 0) ≡ false = grind (arith, nat_tests) in
-    never (is_handle handle key) (λ h.
-    let same = ap spelling_of (sym (lists_equal (page_path key) handle h)) ∙ texts.spelling ∙ e in
+    false_from_ne_true (is_handle handle key) (λ h.
+    let same = ap spelling_of (sym (segments_are (page_path key) handle h)) ∙ texts.spelling ∙ e in
     omega (arith, ap length same, length-append (spelling_of handle) (b ∷ l))) ∙ sym more
 
 rendering_left : (key : PageKey) (handle : List (List ℕ)) (l : List ℕ) → page_text key ≡ page_spelling key → page_spelling key ≡ spelling_of handle ++ l
@@ -106,12 +77,12 @@ dot_before_file [] file = refl
 dot_before_file (b ∷ text) file = refl
 
 -- the folder of a page's content
-part_of : (handle : List (List ℕ)) → lack_slashes handle ≡ true → lack_slashes (handle ++ codes "_jcr_content" ∷ []) ≡ true
-part_of handle h = list_all-append (λ seg. not (has_slash seg)) handle (codes "_jcr_content" ∷ []) ∙ ap (λ b. b && true) h
+pub content_part_lacks_slashes : (handle : List (List ℕ)) → lack_slashes handle ≡ true → lack_slashes (handle ++ codes "_jcr_content" ∷ []) ≡ true
+content_part_lacks_slashes handle h = list_all-append (λ seg. not (has_slash seg)) handle (codes "_jcr_content" ∷ []) ∙ ap (λ b. b && true) h
 
 part_left : (key : PageKey) (handle : List (List ℕ)) (text : List ℕ) → Texts key handle → spelling_of key.folder ≡ spelling_of handle ++ text → is_part_page handle key ≡ text_under text (codes "/_jcr_content")
 part_left key handle text texts e =
-    sym (texts.under key.folder (handle ++ codes "_jcr_content" ∷ []) texts.folder (part_of handle texts.slashless))
+    sym (texts.under key.folder (handle ++ codes "_jcr_content" ∷ []) texts.folder (content_part_lacks_slashes handle texts.slashless))
     ∙ ap (λ (t : List ℕ). text_under t (spelling_of (handle ++ codes "_jcr_content" ∷ []))) e
     ∙ ap (λ (t : List ℕ). text_under (spelling_of handle ++ text) t) (flat_map-append (λ s. 47 ∷ s) handle (codes "_jcr_content" ∷ []))
     ∙ under_cancel (spelling_of handle) text (codes "/_jcr_content")
@@ -119,7 +90,7 @@ part_left key handle text texts e =
 part_beyond : (key : PageKey) (handle : List (List ℕ)) → Texts key handle → length (spelling_of key.folder) < length (spelling_of handle) → is_part_page handle key ≡ false
 part_beyond key handle texts long =
     let all = flat_map-append (λ s. 47 ∷ s) handle (codes "_jcr_content" ∷ []) in
-    sym (texts.under key.folder (handle ++ codes "_jcr_content" ∷ []) texts.folder (part_of handle texts.slashless))
+    sym (texts.under key.folder (handle ++ codes "_jcr_content" ∷ []) texts.folder (content_part_lacks_slashes handle texts.slashless))
     ∙ too_long (spelling_of key.folder) (spelling_of (handle ++ codes "_jcr_content" ∷ [])) (omega (arith, ap length all, length-append (spelling_of handle) (codes "/_jcr_content"), long))
 
 not_nil : (text file : List ℕ) → (length (text ++ 47 ∷ file) == 0) ≡ false
@@ -151,42 +122,33 @@ deletes_file inv key text texts h =
 -- a page that isn't along the handle
 rendering_lacks : (key : PageKey) (handle : List (List ℕ)) → page_text key ≡ page_spelling key → Lacks key (spelling_of handle) → is_rendering handle key ≡ false
 rendering_lacks key [] text lacks = refl
-rendering_lacks key (seg ∷ handle) text lacks = never (is_rendering (seg ∷ handle) key)
-    (λ h. let e = starts_is (page_text key) (spelling_of (seg ∷ handle) ++ codes ".") (and_right (not (length (seg ∷ handle) == 0)) _ h) in
+rendering_lacks key (seg ∷ handle) text lacks = false_from_ne_true (is_rendering (seg ∷ handle) key)
+    (λ h. let e = begins_with (page_text key) (spelling_of (seg ∷ handle) ++ codes ".") (and_second (not (length (seg ∷ handle) == 0)) _ h) in
     lacks (codes "." ++ drop (length (spelling_of (seg ∷ handle) ++ codes ".")) (page_text key)) (sym text ∙ e ∙ append_assoc (spelling_of (seg ∷ handle)) (codes ".") (drop (length (spelling_of (seg ∷ handle) ++ codes ".")) (page_text key))))
-
-none_below : (a b : Bool) → b ≡ false → (a && b) ≡ false
-none_below true b h = h
-none_below false b h = refl
 
 pub deletes_none : (inv : Invalidation) (key : PageKey) → Texts key (handle_of inv) → Lacks key (spelling_of (handle_of inv)) → deletes inv key ≡ false
 deletes_none inv key texts lacks =
     let handle = handle_of inv in
-    let at = never (is_handle handle key) (λ h. lacks [] (sym texts.spelling ∙ ap spelling_of (lists_equal (page_path key) handle h) ∙ sym (append-nil (spelling_of handle)))) in
+    let at = false_from_ne_true (is_handle handle key) (λ h. lacks [] (sym texts.spelling ∙ ap spelling_of (segments_are (page_path key) handle h) ∙ sym (append-nil (spelling_of handle)))) in
     let dot = rendering_lacks key handle texts.text lacks in
-    let below = never (is_under (page_path key) handle) (λ h.
-    let e = starts_is (spelling_of (page_path key)) (spelling_of handle) (and_left _ _ (texts.under (page_path key) handle texts.page texts.slashless ∙ h)) in
+    let below = false_from_ne_true (is_under (page_path key) handle) (λ h.
+    let e = begins_with (spelling_of (page_path key)) (spelling_of handle) (and_first _ _ (texts.under (page_path key) handle texts.page texts.slashless ∙ h)) in
     lacks (drop (length (spelling_of handle)) (spelling_of (page_path key))) (sym texts.spelling ∙ e)) in
-    let part = never (is_part_page handle key) (λ h.
+    let part = false_from_ne_true (is_part_page handle key) (λ h.
     let all = handle ++ codes "_jcr_content" ∷ [] in
-    let e = starts_is (spelling_of key.folder) (spelling_of all) (and_left _ _ (texts.under key.folder all texts.folder (part_of handle texts.slashless) ∙ h)) in
+    let e = begins_with (spelling_of key.folder) (spelling_of all) (and_first _ _ (texts.under key.folder all texts.folder (content_part_lacks_slashes handle texts.slashless) ∙ h)) in
     let f = e ∙ ap (λ (t : List ℕ). t ++ drop (length (spelling_of all)) (spelling_of key.folder)) (flat_map-append (λ s. 47 ∷ s) handle (codes "_jcr_content" ∷ []))
     ∙ append_assoc (spelling_of handle) (codes "/_jcr_content") (drop (length (spelling_of all)) (spelling_of key.folder)) in
     lacks ((codes "/_jcr_content" ++ drop (length (spelling_of all)) (spelling_of key.folder)) ++ 47 ∷ key.file)
     (ap (λ (t : List ℕ). t ++ 47 ∷ key.file) f ∙ append_assoc (spelling_of handle) (codes "/_jcr_content" ++ drop (length (spelling_of all)) (spelling_of key.folder)) (47 ∷ key.file))) in
-    λ i. at i || (dot i || (part i || none_below (takes_below inv.action) (is_under (page_path key) handle) below i))
+    λ i. at i || (dot i || (part i || and_right (takes_below inv.action) (is_under (page_path key) handle) below i))
 
 -- the first segments of a page's folder and of a handle
 same_lists : (xs ys : List (List ℕ)) → pointwise (pointwise nat_eq) xs ys ≡ true → pointwise (pointwise nat_eq) ys xs ≡ true
-same_lists xs ys h = ap (λ (zs : List (List ℕ)). pointwise (pointwise nat_eq) zs xs) (sym (lists_equal xs ys h)) ∙ equal_lists xs
-
-either_way : (a b : Bool) → (a ≡ true → b ≡ true) → (b ≡ true → a ≡ true) → a ≡ b
-either_way true b f g = sym (f refl)
-either_way false true f g = g refl
-either_way false false f g = refl
+same_lists xs ys h = ap (λ (zs : List (List ℕ)). pointwise (pointwise nat_eq) zs xs) (sym (segments_are xs ys h)) ∙ segments_themselves xs
 
 turned : (xs ys : List (List ℕ)) → pointwise (pointwise nat_eq) xs ys ≡ pointwise (pointwise nat_eq) ys xs
-turned xs ys = either_way (pointwise (pointwise nat_eq) xs ys) (pointwise (pointwise nat_eq) ys xs) (same_lists xs ys) (same_lists ys xs)
+turned xs ys = same_truth (pointwise (pointwise nat_eq) xs ys) (pointwise (pointwise nat_eq) ys xs) (same_lists xs ys) (same_lists ys xs)
 
 first_length : (xs : List (List ℕ)) (n : ℕ) → n ≤ length xs → length (take n xs) ≡ n
 first_length xs n h = omega (arith, length-take n xs)
@@ -218,8 +180,8 @@ pub folder_short : (key : PageKey) (handle : List (List ℕ)) (text : Bor (List 
 folder_short key handle text texts h = sym (texts.under key.folder handle texts.folder texts.slashless) ∙ too_long (spelling_of key.folder) (spelling_of handle) h.1
 
 pub folder_lacks : (key : PageKey) (handle : List (List ℕ)) → Texts key handle → Lacks key (spelling_of handle) → is_under key.folder handle ≡ false
-folder_lacks key handle texts lacks = never (is_under key.folder handle) (λ h.
-    let e = starts_is (spelling_of key.folder) (spelling_of handle) (and_left _ _ (texts.under key.folder handle texts.folder texts.slashless ∙ h)) in
+folder_lacks key handle texts lacks = false_from_ne_true (is_under key.folder handle) (λ h.
+    let e = begins_with (spelling_of key.folder) (spelling_of handle) (and_first _ _ (texts.under key.folder handle texts.folder texts.slashless ∙ h)) in
     lacks (drop (length (spelling_of handle)) (spelling_of key.folder) ++ 47 ∷ key.file)
     (ap (λ (t : List ℕ). t ++ 47 ∷ key.file) e ∙ append_assoc (spelling_of handle) (drop (length (spelling_of handle)) (spelling_of key.folder)) (47 ∷ key.file)))
 

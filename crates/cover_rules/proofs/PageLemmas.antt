@@ -1,11 +1,13 @@
 -- Which mangled paths are those of pages, and the text of a page's path.
 use Rattle.std.proofs.Common.{ℕ, zero, suc, Bool, true, false, cond, not, ◌&&◌, ◌||◌, ◌==◌, List, [], ◌∷◌, ◌++◌, ◌-◌, ◌<◌, Some, None, Ok, Err, ◌+◌, length, take, get_or, refl, sym, subst, ◌∙◌, ap, ◌≡◌, arith}
+use Rattle.std.proofs.lemmas.Bool.{and_from, and_right, not-false, not-true}
 use Rattle.std.proofs.lemmas.Bool.Decides.{nat_tests}
 use Rattle.std.proofs.lemmas.List.Concat.{flat_map-append}
 use Rattle.std.proofs.lemmas.List.{take_more, take_all, append-nil}
 use Rattle.std.proofs.lemmas.List.Folds.{list_any-append, list_all-append}
 use Rattle.std.specs.List.{AllByRecursion, list_any, list_all}
 use Rattle.sp_base.specs.Bytes.{AreBytes}
+use Rattle.sp_base.proofs.BoolLemmas.{and_first, and_second}
 use Rattle.sp_base.proofs.PathLemmas.{first_path}
 use Rattle.sp_base.specs.declared.path.PathFault.{PathFault}
 use Rattle.sp_base.specs.Paths.{has_slash, is_long, is_path, mangled_segs, mangled_of, name_of, parent_of, pieces, text_of}
@@ -52,34 +54,18 @@ dots [] = refl
 dots (seg ∷ segs) =
     list_any-append (λ b. b == 46) seg (spelling_of segs) ∙ nots (has_dot seg) (list_all (λ s. not (has_dot s)) segs) (has_dot (spelling_of segs)) (dots segs)
 
-and_false : (a b : Bool) → b ≡ false → (a && b) ≡ false
-and_false true b h = h
-and_false false b h = refl
-
-and_right : (a b : Bool) → (a && b) ≡ true → b ≡ true
-and_right true b h = h
-and_right false b h = absurd (cc (h))
-
 long_is : (seg : List ℕ) → is_long seg ≡ true → 200 < length seg
 long_is seg h = grind (arith, nat_tests)
-
-not_true : (b : Bool) → not b ≡ true → b ≡ false
-not_true true h = sym h
-not_true false h = refl
-
-not_false : (b : Bool) → not b ≡ false → b ≡ true
-not_false true h = refl
-not_false false h = sym h
 
 pub dotted_folder : (segs : List (List ℕ)) → has_dot (spelling_of (parent_of segs)) ≡ true → is_page segs ≡ false
 dotted_folder segs h =
     second_false (is_file (name_of segs)) (list_all (λ seg. not (has_dot seg)) (parent_of segs)) (list_all has_file_name segs)
-    (not_true (list_all (λ seg. not (has_dot seg)) (parent_of segs)) (sym (dots (parent_of segs)) ∙ h))
+    (not-true (list_all (λ seg. not (has_dot seg)) (parent_of segs)) (sym (dots (parent_of segs)) ∙ h))
 
 pub a_page : (segs : List (List ℕ)) → is_file (name_of segs) ≡ true → list_all has_file_name segs ≡ true → has_dot (spelling_of (parent_of segs)) ≡ false → is_page segs ≡ true
 a_page segs f n d =
     all_true (is_file (name_of segs)) (list_all (λ seg. not (has_dot seg)) (parent_of segs)) (list_all has_file_name segs) f
-    (not_false (list_all (λ seg. not (has_dot seg)) (parent_of segs)) (sym (dots (parent_of segs)) ∙ d)) n
+    (not-false (list_all (λ seg. not (has_dot seg)) (parent_of segs)) (sym (dots (parent_of segs)) ∙ d)) n
 
 -- the text of a page's path
 text_full : (segs : List (List ℕ)) (b : ℕ) (text : List ℕ) → spelling_of segs ≡ b ∷ text → text_of segs ≡ spelling_of segs
@@ -105,7 +91,7 @@ any_long [] h = absurd (cc (h))
 any_long (seg ∷ segs) h =
     elim (is_long seg) as (λ t. is_long seg ≡ t → (t || list_any is_long segs) ≡ true → (has_file_name seg && list_all has_file_name segs) ≡ false) [
       | true ↦ λ e k. ap (λ t. t && list_all has_file_name segs) (long_lacks seg (long_is seg e))
-      | false ↦ λ e k. and_false (has_file_name seg) (list_all has_file_name segs) (any_long segs k)
+      | false ↦ λ e k. and_right (has_file_name seg) (list_all has_file_name segs) (any_long segs k)
     ] refl h
 
 pub unmangled_lacks : (path : List (List ℕ)) (e : PathFault) → (list_any is_long (mangled_segs path) ≡ false → mangled_of path ≡ Ok (mangled_segs path)) → mangled_of path ≡ Err e → page_key_of path ≡ None
@@ -128,7 +114,7 @@ one_piece seg e = ap pieces (sym (append-nil seg)) ∙ e
 
 last_lacks : (segs : List (List ℕ)) → 0 < length segs → lack_slashes segs ≡ true → lack_slashes (name_of segs ∷ []) ≡ true
 last_lacks segs some h =
-    and_right (lack_slashes (parent_of segs)) _ (sym (list_all-append (λ seg. not (has_slash seg)) (parent_of segs) (name_of segs ∷ [])) ∙ ap lack_slashes (prefix_and_last segs some) ∙ h)
+    and_second (lack_slashes (parent_of segs)) _ (sym (list_all-append (λ seg. not (has_slash seg)) (parent_of segs) (name_of segs ∷ [])) ∙ ap lack_slashes (prefix_and_last segs some) ∙ h)
 
 key_fields : (segs : List (List ℕ)) (key : PageKey) (b : Bool) → is_page segs ≡ b → cond b (Some (record { folder = parent_of segs; file = name_of segs })) None ≡ Some key
     → (is_page segs ≡ true) × (key.folder ≡ parent_of segs) × (key.file ≡ name_of segs)
@@ -154,29 +140,22 @@ own_path segs key lacks back h =
 
 -- ---- the folder of a page
 
-and_left : (a b : Bool) → (a && b) ≡ true → a ≡ true
-and_left true b h = refl
-and_left false b h = h
-
 all_first : (segs : List (List ℕ)) (n : ℕ) → list_all has_file_name segs ≡ true → list_all has_file_name (take n segs) ≡ true
 all_first [] zero h = refl
 all_first [] (suc n) h = refl
 all_first (seg ∷ segs) zero h = refl
-all_first (seg ∷ segs) (suc n) h = ap (λ t. t && list_all has_file_name (take n segs)) (and_left _ _ h) ∙ all_first segs n (and_right _ _ h)
-
-both : (a b : Bool) → a ≡ true → b ≡ true → (a && b) ≡ true
-both a b e f = ap (λ t. t && b) e ∙ f
+all_first (seg ∷ segs) (suc n) h = ap (λ t. t && list_all has_file_name (take n segs)) (and_first _ _ h) ∙ all_first segs n (and_second _ _ h)
 
 folder_segments : (segs : List (List ℕ)) → list_all has_file_name segs ≡ true → list_all (λ seg. not (has_dot seg)) segs ≡ true → list_all is_folder_segment segs ≡ true
 folder_segments [] n d = refl
 folder_segments (seg ∷ segs) n d =
-    both (is_folder_segment seg) (list_all is_folder_segment segs) (both (has_file_name seg) (not (has_dot seg)) (and_left _ _ n) (and_left _ _ d))
-    (folder_segments segs (and_right _ _ n) (and_right _ _ d))
+    and_from (is_folder_segment seg) (list_all is_folder_segment segs) (and_from (has_file_name seg) (not (has_dot seg)) (and_first _ _ n) (and_first _ _ d))
+    (folder_segments segs (and_second _ _ n) (and_second _ _ d))
 
 folder_of_path : (segs : List (List ℕ)) → is_page segs ≡ true → list_all is_folder_segment (parent_of segs) ≡ true
 folder_of_path segs h =
-    let more = and_right (is_file (name_of segs)) _ h in
-    folder_segments (parent_of segs) (all_first segs (length segs - 1) (and_right _ _ more)) (and_left _ _ more)
+    let more = and_second (is_file (name_of segs)) _ h in
+    folder_segments (parent_of segs) (all_first segs (length segs - 1) (and_second _ _ more)) (and_first _ _ more)
 
 pub folder_of_page : (key : PageKey) → page_key_of (page_path key) ≡ Some key → list_all is_folder_segment key.folder ≡ true
 folder_of_page key h =
@@ -185,10 +164,10 @@ folder_of_page key h =
 
 -- ---- the key of a path is a page's
 
-all_taken : (n : ℕ) (segs : List (List ℕ)) → AllByRecursion AreBytes segs → AllByRecursion AreBytes (take n segs)
-all_taken zero segs p = tt
-all_taken (suc n) [] p = tt
-all_taken (suc n) (seg ∷ segs) p = (p.0, all_taken n segs p.1)
+pub taken_are_bytes : (n : ℕ) (segs : List (List ℕ)) → AllByRecursion AreBytes segs → AllByRecursion AreBytes (take n segs)
+taken_are_bytes zero segs p = tt
+taken_are_bytes (suc n) [] p = tt
+taken_are_bytes (suc n) (seg ∷ segs) p = (p.0, taken_are_bytes n segs p.1)
 
 one_of : (n : ℕ) (segs : List (List ℕ)) → AllByRecursion AreBytes segs → AreBytes (get_or segs n [])
 one_of n [] p = tt
@@ -202,7 +181,7 @@ none_long segs h = elim (list_any is_long segs) as (λ t. list_any is_long segs 
 ] refl
 
 names_of_page : (segs : List (List ℕ)) → is_page segs ≡ true → list_all has_file_name segs ≡ true
-names_of_page segs h = and_right (list_all (λ seg. not (has_dot seg)) (parent_of segs)) _ (and_right (is_file (name_of segs)) _ h)
+names_of_page segs h = and_second (list_all (λ seg. not (has_dot seg)) (parent_of segs)) _ (and_second (is_file (name_of segs)) _ h)
 
 pub key_of_path : (path : List (List ℕ)) (key : PageKey) → (list_any is_long (mangled_segs path) ≡ false → is_path (mangled_segs path) ≡ true) → AllByRecursion AreBytes (mangled_segs path)
     → page_key_of (page_path key) ≡ Some key → page_key_of path ≡ Some key → IsPageKey key
@@ -212,6 +191,6 @@ key_of_path path key valid bytes own h =
     record {
       own = own;
       folder = ap is_path f.1 ∙ first_path segs (length segs - 1) (valid (none_long segs (names_of_page segs f.0)));
-      folder_bytes = subst (AllByRecursion AreBytes) (sym f.1) (all_taken (length segs - 1) segs bytes);
+      folder_bytes = subst (AllByRecursion AreBytes) (sym f.1) (taken_are_bytes (length segs - 1) segs bytes);
       file_bytes = subst AreBytes (sym f.2) (one_of (length segs - 1) segs bytes);
     }

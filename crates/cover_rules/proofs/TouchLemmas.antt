@@ -1,26 +1,21 @@
 -- The folders that an invalidation touches, and the pages that they outdate.
 use Rattle.std.proofs.Common.{ℕ, zero, suc, Bool, true, false, cond, not, ◌&&◌, ◌||◌, List, [], ◌∷◌, ◌++◌, ◌+◌, ◌-◌, ◌<◌, ◌≤◌, length, take, map, get_or, Contains, refl, sym, ◌∙◌, ap, subst, ◌≡◌, arith}
+use Rattle.std.proofs.lemmas.Bool.{not-true}
 use Rattle.std.proofs.lemmas.Bool.Decides.{nat_tests}
 use Rattle.std.proofs.lemmas.List.{length-map, length-take, take_more, take_all, take-map}
 use Rattle.std.proofs.lemmas.List.Sums.{prefix_len-le-length}
-use Rattle.std.specs.Cmp.Lexicographic.{bytes_decides}
 use Rattle.std.specs.List.{list_any, list_all, prefix_len, take_while}
 use Rattle.sp_base.specs.Paths.{is_long, is_under, mangled_segs, mangled_seg, parent_of}
+use Rattle.sp_base.proofs.BoolLemmas.{and_first, and_second}
+use Rattle.sp_base.proofs.PathTests.{under_first}
+use Rattle.sp_base.proofs.TextLemmas.{segments_are}
 use Rattle.cover_rules.specs.declared.page.PageKey.{PageKey}
 use Rattle.cover_rules.specs.declared.invalidation.Invalidation.{Invalidation}
 use Rattle.cover_rules.specs.Names.{has_file_name}
 use Rattle.cover_rules.specs.Pages.{is_folder_segment}
 use Rattle.cover_rules.specs.Coverage.{handle_of, lineage, outdates, stat_depth_of, stat_folder, touched_of}
-use Rattle.cover_rules.proofs.CoverageLemmas.{lists_equal, take_first}
+use Rattle.cover_rules.proofs.CoverageLemmas.{take_first}
 use Rattle.cover_rules.proofs.NameLemmas.{long_lacks}
-
-and_left : (a b : Bool) → (a && b) ≡ true → a ≡ true
-and_left true b h = refl
-and_left false b h = h
-
-and_right : (a b : Bool) → (a && b) ≡ true → b ≡ true
-and_right true b h = h
-and_right false b h = absurd (cc (h))
 
 get_map : (seg : List ℕ) (paths : List (List (List ℕ))) (n : ℕ) (d e : List (List ℕ)) → n < length paths → get_or (map (λ path. seg ∷ path) paths) n d ≡ seg ∷ get_or paths n e
 get_map seg [] n d e h = absurd (omega arith)
@@ -66,7 +61,7 @@ none_long : (segs : List (List ℕ)) → list_any is_long (take_while is_folder_
 none_long [] = refl
 none_long (seg ∷ segs) = elim (is_folder_segment seg) as (λ t. is_folder_segment seg ≡ t → list_any is_long (take (cond t (1 + prefix_len is_folder_segment segs) 0) (seg ∷ segs)) ≡ false) [
   | true ↦ λ e. let next : 1 + prefix_len is_folder_segment segs ≡ suc (prefix_len is_folder_segment segs) = omega arith in
-      ap (λ n. list_any is_long (take n (seg ∷ segs))) next ∙ ap (λ b. b || list_any is_long (take_while is_folder_segment segs)) (short_named seg (and_left _ _ e)) ∙ none_long segs
+      ap (λ n. list_any is_long (take n (seg ∷ segs))) next ∙ ap (λ b. b || list_any is_long (take_while is_folder_segment segs)) (short_named seg (and_first _ _ e)) ∙ none_long segs
   | false ↦ λ e. refl
 ] refl
 
@@ -81,13 +76,7 @@ first_fits path most n e = ap (list_any is_long) (first_named path most n e) ∙
 
 -- what a folder begins with
 pub begins_is : (path first : List (List ℕ)) → is_under path first ≡ true → first ≡ take (length first) path
-begins_is path first h = lists_equal first (take (length first) path) h
-
-begins_with_first : (path : List (List ℕ)) (n : ℕ) → is_under path (take n path) ≡ true
-begins_with_first [] zero = refl
-begins_with_first [] (suc n) = refl
-begins_with_first (seg ∷ path) zero = refl
-begins_with_first (seg ∷ path) (suc n) = ap (λ t. t && is_under path (take n path)) ((bytes_decides seg seg).1 refl) ∙ begins_with_first path n
+begins_is path first h = segments_are first (take (length first) path) h
 
 take_within : (xs : List (List ℕ)) (n m : ℕ) → (k : ℕ) × (take n (take m xs) ≡ take k xs)
 take_within [] zero zero = (0, refl)
@@ -102,21 +91,17 @@ all_named : (segs : List (List ℕ)) (n : ℕ) → list_all is_folder_segment se
 all_named [] zero h = refl
 all_named [] (suc n) h = refl
 all_named (seg ∷ segs) zero h = refl
-all_named (seg ∷ segs) (suc n) h = ap (λ t. t && list_all is_folder_segment (take n segs)) (and_left _ _ h) ∙ all_named segs n (and_right _ _ h)
+all_named (seg ∷ segs) (suc n) h = ap (λ t. t && list_all is_folder_segment (take n segs)) (and_first _ _ h) ∙ all_named segs n (and_second _ _ h)
 
 -- a prefix whose segments all have names is one of the named prefix
 named_prefix : (segs : List (List ℕ)) (n : ℕ) → n ≤ length segs → list_all is_folder_segment (take n segs) ≡ true → n ≤ prefix_len is_folder_segment segs
 named_prefix segs zero h all = omega arith
 named_prefix [] (suc n) h all = absurd (omega arith)
 named_prefix (seg ∷ segs) (suc n) h all =
-    let more = named_prefix segs n (omega arith) (and_right _ _ all) in
-    subst (λ t. suc n ≤ cond t (1 + prefix_len is_folder_segment segs) 0) (sym (and_left (is_folder_segment seg) _ all)) (omega arith)
+    let more = named_prefix segs n (omega arith) (and_second _ _ all) in
+    subst (λ t. suc n ≤ cond t (1 + prefix_len is_folder_segment segs) 0) (sym (and_first (is_folder_segment seg) _ all)) (omega arith)
 
 -- a page is outdated where its .stat folder is touched
-not_only : (b : Bool) → not b ≡ true → b ≡ false
-not_only true h = sym h
-not_only false h = refl
-
 in_lineage : (above : List (List ℕ)) (level : ℕ) (first : List (List ℕ)) → is_under above first ≡ true → length first ≤ level → list_all is_folder_segment first ≡ true
     → Contains (lineage (take_while is_folder_segment (take level above))) first
 in_lineage above level first under short names =
@@ -135,10 +120,10 @@ in_lineage above level first under short names =
 
 pub touched_where : (level : ℕ) (inv : Invalidation) (key : PageKey) → list_all is_folder_segment key.folder ≡ true → outdates level true inv key ≡ true → Contains (touched_of level inv) (stat_folder level key)
 touched_where level inv key names h =
-    let only = not_only inv.only (and_left (not inv.only) _ h) in
+    let only = not-true inv.only (and_first (not inv.only) _ h) in
     let size : length (stat_folder level key) ≤ level = omega (arith, length-take (stat_depth_of level key) key.folder) in
     subst (λ b. Contains (cond b [] (lineage (take_while is_folder_segment (take level (parent_of (handle_of inv)))))) (stat_folder level key)) (sym only)
-    (in_lineage (parent_of (handle_of inv)) level (stat_folder level key) (and_right (not inv.only) _ h) size (all_named key.folder (stat_depth_of level key) names))
+    (in_lineage (parent_of (handle_of inv)) level (stat_folder level key) (and_second (not inv.only) _ h) size (all_named key.folder (stat_depth_of level key) names))
 
 of_lineage : (above : List (List ℕ)) (level : ℕ) (first : List (List ℕ)) → Contains (lineage (take_while is_folder_segment (take level above))) first → is_under above first ≡ true
 of_lineage above level first has =
@@ -147,7 +132,7 @@ of_lineage above level first has =
     let is : first ≡ take has.0 named = sym has.2 ∙ lineage_at named has.0 first (omega (arith, has.1, length-lineage named)) in
     let one = take_within all has.0 (prefix_len is_folder_segment all) in
     let two = take_within above one.0 level in
-    ap (is_under above) (is ∙ one.1 ∙ two.1) ∙ begins_with_first above two.0
+    ap (is_under above) (is ∙ one.1 ∙ two.1) ∙ under_first above two.0
 
 by_scope : (only : Bool) (above : List (List ℕ)) (level : ℕ) (first : List (List ℕ)) → Contains (cond only [] (lineage (take_while is_folder_segment (take level above)))) first → (not only && is_under above first) ≡ true
 by_scope true above level first has = absurd (omega (arith, has.1))
@@ -158,5 +143,5 @@ outdated_where level inv key has = by_scope inv.only (parent_of (handle_of inv))
 
 pub above_where : (level : ℕ) (auto : Bool) (inv : Invalidation) (key : PageKey) → outdates level auto inv key ≡ true → (n : ℕ) × (stat_folder level key ≡ take n (parent_of (handle_of inv)))
 above_where level auto inv key h =
-    let under = and_right auto _ (and_right (not inv.only) _ h) in
+    let under = and_second auto _ (and_second (not inv.only) _ h) in
     (length (stat_folder level key), begins_is (parent_of (handle_of inv)) (stat_folder level key) under)

@@ -1,43 +1,22 @@
 -- A page's path along a handle's, read off their texts.
-use Rattle.std.proofs.Common.{ℕ, zero, suc, Bool, true, false, not, ◌&&◌, ◌||◌, ◌==◌, List, [], ◌∷◌, ◌++◌, ◌+◌, ◌-◌, ◌<◌, Option, Some, None, IfSome, IfNone, length, take, drop, map, append_assoc, length-append, nat_eq, refl, sym, ◌∙◌, ap, subst, ◌≡◌, ◌≢◌, arith, Bor}
+use Rattle.std.proofs.Common.{ℕ, zero, suc, Bool, true, false, not, ◌&&◌, ◌==◌, List, [], ◌∷◌, ◌++◌, ◌+◌, ◌-◌, ◌<◌, Option, Some, length, take, map, append_assoc, length-append, refl, sym, ◌∙◌, ap, subst, ◌≡◌, ◌≢◌, arith, Bor}
 use Rattle.std.proofs.lemmas.Bool.Decides.{nat_tests}
-use Rattle.std.proofs.lemmas.List.{append-nil, map-append, take-append-drop, take_at}
+use Rattle.std.proofs.lemmas.List.{append-nil, append_cancel_left, map-append}
 use Rattle.std.proofs.lemmas.List.Concat.{flat_map-append}
 use Rattle.std.proofs.lemmas.Iterator.{YieldsList}
 use Rattle.std.specs.Iterator.{AlwaysYields, Yields}
-use Rattle.std.specs.Cmp.Lexicographic.{bytes_decides, pointwise}
-use Rattle.std.specs.Option.{MatchOption}
 use Rattle.sp_base.specs.Paths.{has_slash, mangled_segs, mangled_seg}
 use Rattle.sp_base.specs.PathTexts.{lack_slashes, spelling_of}
+use Rattle.sp_base.proofs.BoolLemmas.{and_second, or_second}
 use Rattle.cover_rules.specs.declared.page.PageKey.{PageKey}
 use Rattle.cover_rules.specs.declared.walk.Rest.{Rest}
 use Rattle.cover_rules.specs.declared.walk.Rest.TheVariants.{Folder, File}
 use Rattle.cover_rules.specs.Walk.{Lacks, Leaves, LeavesNext, left_text, page_spelling}
 
-pub IfNone-map : {A : Type 0} (o : Option A) (P Q : Type 0) → (P → Q) → IfNone o P → IfNone o Q
-IfNone-map None P Q f h = f h
-IfNone-map (Some x) P Q f h = tt
-
-pub tail_is : (b : ℕ) (xs ys : List ℕ) → b ∷ xs ≡ b ∷ ys → xs ≡ ys
-tail_is b xs ys e = cc (e)
-
--- what begins alike goes on alike
-pub same_after : (beginning xs ys : List ℕ) → beginning ++ xs ≡ beginning ++ ys → xs ≡ ys
-same_after [] xs ys e = e
-same_after (b ∷ beginning) xs ys e = same_after beginning xs ys (cc (e))
-
 -- a text without the second part of a prefix after the first lacks the prefix
 pub not_after : (text mark back rest more seg : List ℕ) → text ≡ mark ++ rest → mark ++ back ≡ seg → ((r : List ℕ) → rest ≢ back ++ r) → text ≡ seg ++ more → ⊥
 not_after text mark back rest more seg e parts none is =
-    none more (same_after mark rest (back ++ more) (sym e ∙ is ∙ ap (λ (s : List ℕ). s ++ more) (sym parts) ∙ append_assoc mark back more))
-
-and_second : (a b : Bool) → (a && b) ≡ true → b ≡ true
-and_second true b e = e
-and_second false b e = absurd (cc (e))
-
-or_second : (a b : Bool) → (a || b) ≡ false → b ≡ false
-or_second true b e = absurd (cc (e))
-or_second false b e = e
+    none more (append_cancel_left mark rest (back ++ more) (sym e ∙ is ∙ ap (λ (s : List ℕ). s ++ more) (sym parts) ∙ append_assoc mark back more))
 
 -- a text that goes on with a slash begins with what has none only before that slash
 before_slash : (seg text file more : List ℕ) → has_slash seg ≡ false → text ++ 47 ∷ file ≡ seg ++ more → (rest : List ℕ) × (text ≡ seg ++ rest)
@@ -47,23 +26,6 @@ before_slash (b ∷ seg) (x ∷ text) file more h e =
     let first : x ≡ b = cc (e) in
     let next = before_slash seg text file more (or_second (b == 47) (has_slash seg) h) (cc (e)) in
     (next.0, λ i. first i ∷ next.1 i)
-
--- a mark of text is stripped where the text begins with it
-pub IfSome-cases : {A : Type 0} (o : Option A) (P : Type 0) (Q R : A → Type 0) → MatchOption o P Q → ((x : A) → Q x → R x) → IfSome o R
-IfSome-cases None P Q R h f = tt
-IfSome-cases (Some x) P Q R h f = f x h
-
-pub IfNone-cases : {A : Type 0} (o : Option A) (P N : Type 0) (Q : A → Type 0) → MatchOption o P Q → (P → N) → IfNone o N
-IfNone-cases None P N Q h f = f h
-IfNone-cases (Some x) P N Q h f = tt
-
-pub stripped : (text prefix rest : List ℕ) → pointwise nat_eq (take (length prefix) text) prefix ≡ true → rest ≡ drop (length prefix) text → text ≡ prefix ++ rest
-stripped text prefix rest e is =
-    sym (take-append-drop (length prefix) text) ∙ ap (λ (t : List ℕ). t ++ drop (length prefix) text) ((bytes_decides (take (length prefix) text) prefix).0 e) ∙ ap (λ (t : List ℕ). prefix ++ t) (sym is)
-
-pub unstripped : (text prefix more : List ℕ) → pointwise nat_eq (take (length prefix) text) prefix ≡ false → text ≡ prefix ++ more → ⊥
-unstripped text prefix more e is =
-    cc (e, (bytes_decides (take (length prefix) text) prefix).1 (ap (take (length prefix)) is ∙ take_at prefix more (length prefix) refl))
 
 -- no next segment, by where the page's path has come
 pub folder_ends : (rest : Rest) (text : Bor (List ℕ)) (file seg more : List ℕ) → rest ≡ Folder text → length text.now ≡ 0 → ((r : List ℕ) → file ≢ seg ++ r) → left_text file rest ≡ 47 ∷ seg ++ more → ⊥
@@ -128,7 +90,7 @@ astray key seen seg rest all later lacks is h none more e =
     let slashless = lacking_middle segs later seg.now (ap lack_slashes (sym parts) ∙ lacks) in
     let spelling = ap (λ (l : List (List ℕ)). spelling_of (mangled_segs l)) parts ∙ spelled_more segs seg.now later in
     none slashless (spelling_of (mangled_segs later) ++ more)
-    (same_after (spelling_of (mangled_segs segs)) (left_text key.file rest) (47 ∷ mangled_seg seg.now ++ (spelling_of (mangled_segs later) ++ more))
+    (append_cancel_left (spelling_of (mangled_segs segs)) (left_text key.file rest) (47 ∷ mangled_seg seg.now ++ (spelling_of (mangled_segs later) ++ more))
     (sym (whole key (spelling_of (mangled_segs segs)) rest h) ∙ e ∙ ap (λ (t : List ℕ). t ++ more) spelling ∙ append_assoc (spelling_of (mangled_segs segs)) (47 ∷ mangled_seg seg.now ++ spelling_of (mangled_segs later)) more
     ∙ ap (λ (t : List ℕ). spelling_of (mangled_segs segs) ++ 47 ∷ t) (append_assoc (mangled_seg seg.now) (spelling_of (mangled_segs later)) more)))
 

@@ -6,16 +6,13 @@ use Rattle.sp_base.specs.Fields.{field_of}
 use Rattle.sp_base.specs.Paths.{mangled_segs, unmangled_segs}
 use Rattle.sp_base.specs.Requests.{Request}
 use Rattle.sp_base.specs.declared.answer.Ask.{Ask}
+use Rattle.sp_base.proofs.BoolLemmas.{and_first}
 use Rattle.any_config.specs.declared.farm.Farm.{Farm}
 use Rattle.glob_rules.specs.Rules.{allows}
 use Rattle.cover_rules.specs.declared.page.PageKey.{PageKey}
 use Rattle.cover_rules.specs.Pages.{page_key_of, page_text}
 use Rattle.dispatch_rules.specs.Asking.{publisher_ask, text_or_none}
 use Rattle.dispatch_rules.specs.Caching.{allowed_key, cache_key, ignores, is_shared, may_keep}
-
-and_left : (a b : Bool) → (a && b) ≡ true → a ≡ true
-and_left true b h = refl
-and_left false b h = h
 
 -- a key that is found was tested
 tested : (test : Bool) (found : Option PageKey) (key : PageKey) → cond test found None ≡ Some key → (test ≡ true) × (found ≡ Some key)
@@ -55,7 +52,7 @@ got farm path slash = record { method = codes "GET"; host = farm.ask_host; port 
 asked_as_get : (farm : Farm) (request : Request) (key : PageKey) → cache_key farm request ≡ Some key → publisher_ask farm request ≡ got farm request.path request.slash
 unfolding asked_by got
 asked_as_get farm request key h =
-    let is_get = and_left (pointwise nat_eq request.method (codes "GET")) (is_shared farm request && ignores farm (unwrap_or request.query [])) (parts_of_key farm request key h).0 in
+    let is_get = and_first (pointwise nat_eq request.method (codes "GET")) (is_shared farm request && ignores farm (unwrap_or request.query [])) (parts_of_key farm request key h).0 in
     ap (asked_by farm request) ((bytes_decides request.method (codes "GET")).0 is_get)
 
 pub asked_alike : (farm : Farm) (a b : Request) (key : PageKey) → a.path ≡ b.path → cache_key farm a ≡ Some key → cache_key farm b ≡ Some key → publisher_ask farm b ≡ record (publisher_ask farm a) { slash = b.slash }

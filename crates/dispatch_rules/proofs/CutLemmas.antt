@@ -1,6 +1,6 @@
 -- Texts that are cut at a dot or a slash, and the selectors of a text.
-use Rattle.std.proofs.Common.{◌≡◌, ◌≢◌, ◌<◌, ◌≤◌, ◌==◌, ℕ, zero, suc, true, false, List, [], ◌∷◌, ◌++◌, Bor, take, drop, length, map, filter, get_or, refl, sym, ap, ◌∙◌, arith}
-use Rattle.std.proofs.lemmas.Bool.Decides.{nat_tests}
+use Rattle.std.proofs.Common.{◌≡◌, ◌≢◌, ◌<◌, ◌≤◌, ◌==◌, ℕ, List, [], ◌∷◌, ◌++◌, Bor, take, drop, length, map, filter, get_or, sym, ap, ◌∙◌, arith}
+use Rattle.std.proofs.lemmas.Bool.{eq-eqb, ne_eqb}
 use Rattle.std.proofs.lemmas.List.{length-take, map-append, take_all}
 use Rattle.std.proofs.lemmas.List.Concat.{flat_map-append}
 use Rattle.std.proofs.lemmas.List.Elements.{filter-append}
@@ -8,20 +8,14 @@ use Rattle.std.proofs.lemmas.List.Sums.{position_or_len_is}
 use Rattle.std.specs.List.{before_first, position_or_len}
 use Rattle.sp_base.specs.Bytes.{is_full, dotted_text}
 
-is_test : (x c : ℕ) → x ≡ c → (x == c) ≡ true
-is_test x c e = grind (arith, nat_tests)
-
-not_test : (x c : ℕ) → x ≢ c → (x == c) ≡ false
-not_test x c e = grind (arith, nat_tests)
-
 -- where a text is cut
 pub cut_at : (c : ℕ) (text : List ℕ) (k : ℕ) → k < length text → get_or text k 0 ≡ c → ((i : ℕ) → i < k → get_or text i 0 ≢ c) → position_or_len (λ b. b == c) text ≡ k
 cut_at c text k lt here before =
-    position_or_len_is (λ b. b == c) text k 0 (omega arith) (λ i less. not_test (get_or text i 0) c (before i less)) (λ _. is_test (get_or text k 0) c here)
+    position_or_len_is (λ b. b == c) text k 0 (omega arith) (λ i less. ne_eqb (get_or text i 0) c (before i less)) (λ _. eq-eqb (get_or text k 0) c here)
 
 pub uncut : (c : ℕ) (text : List ℕ) → ((i : ℕ) → i < length text → get_or text i 0 ≢ c) → position_or_len (λ b. b == c) text ≡ length text
 uncut c text none =
-    position_or_len_is (λ b. b == c) text (length text) 0 (omega arith) (λ i less. not_test (get_or text i 0) c (none i less)) (λ lt. absurd (omega (arith, lt)))
+    position_or_len_is (λ b. b == c) text (length text) 0 (omega arith) (λ i less. ne_eqb (get_or text i 0) c (none i less)) (λ lt. absurd (omega (arith, lt)))
 
 pub prefix_of : (c : ℕ) (text : List ℕ) (k : ℕ) → position_or_len (λ b. b == c) text ≡ k → take k text ≡ before_first (λ b. b == c) text
 prefix_of c text k e = ap (λ n. take n text) (sym e)
@@ -31,12 +25,6 @@ whole_prefix c text e = sym (take_all (length text) text (omega arith)) ∙ pref
 
 pub prefix_length : (c : ℕ) (text : List ℕ) (k : ℕ) → k ≤ length text → position_or_len (λ b. b == c) text ≡ k → length (before_first (λ b. b == c) text) ≡ k
 prefix_length c text k le e = omega (arith, ap length (sym (prefix_of c text k e)), length-take k text)
-
-pub none_left : (text : List ℕ) (k : ℕ) → length text ≤ k → drop k text ≡ []
-none_left [] zero h = refl
-none_left [] (suc k) h = refl
-none_left (b ∷ text) zero h = absurd (omega arith)
-none_left (b ∷ text) (suc k) h = none_left text k (omega arith)
 
 -- one selector more
 pub dotted-push : (seen : List (Bor (List ℕ))) (piece : Bor (List ℕ)) (text more : List ℕ) → text ≡ dotted_text (filter is_full (map (λ s. s.now) seen)) → more ≡ text ++ dotted_text (filter is_full (piece.now ∷ []))

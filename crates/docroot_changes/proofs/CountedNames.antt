@@ -13,6 +13,7 @@ use Rattle.std.proofs.lemmas.List.Filters.{length-filter_both}
 use Rattle.sp_base.specs.Names.{by_name}
 use Rattle.sp_base.specs.Texts.{Text}
 use Rattle.sp_base.specs.declared.answer.Answer.{Answer}
+use Rattle.sp_base.proofs.BoolLemmas.{cond_not}
 use Rattle.sp_outside.specs.Calls.{Call}
 use Rattle.sp_outside.specs.Files.{Files, file_at, with_file, without_file}
 use Rattle.sp_outside.proofs.HeldNames.{same_name}
@@ -81,10 +82,6 @@ count_where test kept (e ∷ es) =
 pub one_file : (files : Files) (name bytes : Text) → AddsNames 1 files (with_file files name bytes)
 one_file files name bytes = λ test. subst (λ es. count test (names_of es) ≤ count_names test files + 1) (sym (entries-insert nat_list_cmp_total files name bytes)) (count_put test name bytes (entries files))
 
-turned : {A : Type 0} (b : Bool) (x y : A) → cond (not b) x y ≡ cond b y x
-turned true x y = refl
-turned false x y = refl
-
 -- the files whose name isn't this one
 abbrev is_other : Text → Text → Bool
 is_other name other = not (eq_by_cmp by_name name other)
@@ -96,7 +93,7 @@ others_left files name =
     ap entries (same_map nat_list_cmp_total same_name (without_file files name) (from_sorted left) (λ q.
     get-remove nat_list_cmp_total files name q
     ∙ ap (λ b. cond b None (file_at files q)) ((eq_by_cmp_equiv nat_list_cmp_total).symm q name)
-    ∙ sym (turned (eq_by_cmp by_name name q) (file_at files q) None)
+    ∙ sym (cond_not (eq_by_cmp by_name name q) (file_at files q) None)
     ∙ ap (λ found. cond (is_other name q) found None) (get-entries files q)
     ∙ sym (find-where_key by_name (is_other name) q (λ x tied. ap (is_other name) (sym (same_name q x tied))) (entries files))
     ∙ sym (get-from_sorted by_name left q sorted)))

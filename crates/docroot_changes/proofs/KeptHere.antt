@@ -1,5 +1,6 @@
 -- What a change leaves at its own key or folder, by the fault that stopped it.
-use Rattle.std.proofs.Common.{◌≡◌, ◌⊎◌, inl, inr, ⊎_elim, List, Option, Some, refl, sym, ◌∙◌, ap, subst}
+use Rattle.std.proofs.Common.{◌≡◌, ◌⊎◌, inl, inr, ⊎_elim, List, Option, Some, refl, sym, ◌∙◌, subst}
+use Rattle.std.proofs.lemmas.Option.{same_Some}
 use Rattle.sp_base.specs.Texts.{Segments}
 use Rattle.sp_base.specs.declared.answer.Answer.{Answer}
 use Rattle.sp_outside.specs.Calls.{Call}
@@ -9,18 +10,13 @@ use Rattle.cover_rules.specs.declared.stamp.Stamp.{Stamp}
 use Rattle.docroot_format.specs.declared.fault.FileFault.{FileFault}
 use Rattle.docroot_format.specs.declared.fault.FileFault.TheVariants.{Disk, NoMemory}
 use Rattle.cache_files.specs.Changes.{HasNoPage, HasPage, HasSamePage, IsOldNoneOrNew, IsOldOrNone}
-use Rattle.cache_files.specs.Pages.{IsDropLeft, files_with_page, head_at, page_at}
+use Rattle.cache_files.specs.Pages.{IsDropLeft, files_with_page}
+use Rattle.cache_files.proofs.PageFiles.{same_kept}
 use Rattle.stat_files.specs.Stamps.{files_with_stamp}
 use Rattle.docroot_changes.specs.Changes.{BesideStamp, KeepsNumber}
 
-some_same : (x y : Files) → Some x ≡ Some y → x ≡ y
-some_same x y e = cc (e)
-
 pub same_number : (old new : Files) → new ≡ old → KeepsNumber old new
 same_number old new e = subst (KeepsNumber old) (sym e) (record { held = refl; next = refl })
-
-pub same_page : (old new : Files) (key : PageKey) → new ≡ old → HasSamePage old new key
-same_page old new key e = record { page = ap (λ f. page_at f key) e; head = ap (λ f. head_at f key) e }
 
 has_page : (whole new : Files) (key : PageKey) (stamp : Stamp) (answer : Answer) → HasSamePage whole new key → HasPage whole key stamp answer → HasPage new key stamp answer
 has_page whole new key stamp answer same has = record { page = same.page ∙ has.page; head = same.head ∙ has.head }
@@ -34,7 +30,7 @@ put_here old new key stamp answer NoMemory whole dry any = ⊎_elim (λ same. in
 pub drop_here : (asked made : Option (List Call)) (old new : Files) (key : PageKey) (fault : FileFault) → IsOldOrNone old new key → IsDropLeft asked made (Some old) (Some new) key fault
     → HasSamePage old new key ⊎ ((fault ≡ Disk) × HasNoPage new key)
 drop_here asked made old new key fault any left =
-    ⊎_elim (λ unbegun. inl (same_page old new key (some_same new old unbegun.1.1)))
+    ⊎_elim (λ unbegun. inl (same_kept old new key (same_Some new old unbegun.1.1)))
     (λ begun. let failed : fault ≡ Disk = ⊎_elim (λ l. l.0) (λ l. l.0) begun in ⊎_elim (λ same. inl same) (λ none. inr (failed, none)) any) left
 
 -- ---- the files that a touch leaves

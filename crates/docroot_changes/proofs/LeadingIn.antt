@@ -1,36 +1,29 @@
 -- No call that the cache may make leads out of the folder of a disk.
-use Rattle.std.proofs.Common.{◌≡◌, ◌-◌, ◌⊎◌, inl, inr, ⊎_elim, zero, suc, Bool, true, false, cond, not, ◌&&◌, ◌++◌, List, [], ◌∷◌, IsTrue, codes, length, map, take, refl, sym, ◌∙◌, ap, arith}
+use Rattle.std.proofs.Common.{◌≡◌, ◌-◌, ◌⊎◌, inl, inr, ⊎_elim, zero, suc, Bool, true, false, cond, not, ◌++◌, List, [], ◌∷◌, IsTrue, codes, length, map, refl, sym, ◌∙◌, ap, arith}
 use Rattle.std.specs.Prelude.{Contains}
 use Rattle.std.specs.List.{list_all}
-use Rattle.std.proofs.Math.Seq.{take-append_seam}
-use Rattle.std.proofs.lemmas.List.{append-nil, length-append}
+use Rattle.std.proofs.lemmas.Bool.{and_from}
+use Rattle.std.proofs.lemmas.List.{append-nil}
 use Rattle.std.proofs.lemmas.List.Folds.{list_all-append, list_all-map}
 use Rattle.sp_base.specs.Paths.{is_dots, is_empty, is_path, mangled_segs, name_of, parent_of}
 use Rattle.sp_base.specs.Texts.{Segments, Text}
+use Rattle.sp_base.proofs.BoolLemmas.{and_first, and_first_two, and_second}
+use Rattle.sp_base.proofs.PathPrefixes.{parent_of_push}
 use Rattle.sp_outside.specs.FileNames.{is_inner}
 use Rattle.cover_rules.specs.Coverage.{handle_of, takes_below}
 use Rattle.cover_rules.specs.Names.{file_name}
 use Rattle.docroot_format.specs.Deletions.{rendering_prefixes}
 use Rattle.docroot_format.specs.Names.{body_name, folder_name, is_file_name_byte}
 use Rattle.docroot_format.proofs.Apart.{pieces_body}
-use Rattle.docroot_format.proofs.Inside.{both, bytes_ok, first_of, is_segment, second_of, stat_inside}
+use Rattle.docroot_format.proofs.Inside.{bytes_ok, is_segment, stat_inside}
 use Rattle.docroot_format.proofs.NameLemmas.{append_both}
 use Rattle.docroot_format.proofs.PagePlaces.{all_taken}
 use Rattle.docroot_changes.specs.DocrootCalls.{IsListedPrefix, leads_in}
 
 -- ---- pieces
 
-front_of : (xs : List Text) (x : Text) → parent_of (xs ++ x ∷ []) ≡ xs
-front_of xs x =
-    let place : length (xs ++ x ∷ []) - 1 ≡ length xs = omega (arith, length-append xs (x ∷ [])) in
-    ap (λ n. take n (xs ++ x ∷ [])) place ∙ take-append_seam xs (x ∷ [])
-
-inner_of : (a b c : Bool) → a && (b && c) ≡ true → a && b ≡ true
-inner_of true b c e = first_of b c e
-inner_of false b c e = e
-
 segment_inner : (piece : Text) → is_segment piece ≡ true → is_inner piece ≡ true
-segment_inner piece ok = inner_of (not (is_empty piece)) (not (is_dots piece)) (list_all is_file_name_byte piece) ok
+segment_inner piece ok = and_first_two (not (is_empty piece)) (not (is_dots piece)) (list_all is_file_name_byte piece) ok
 
 -- the segment has a file name that leads into a folder
 abbrev is_entered : Text → Bool
@@ -38,19 +31,19 @@ is_entered seg = is_segment (file_name seg)
 
 inner_names : (segs : Segments) → list_all is_entered segs ≡ true → list_all is_inner (map file_name segs) ≡ true
 inner_names [] ok = refl
-inner_names (seg ∷ segs) ok = both (is_inner (file_name seg)) (list_all is_inner (map file_name segs)) (segment_inner (file_name seg) (first_of (is_entered seg) (list_all is_entered segs) ok)) (inner_names segs (second_of (is_entered seg) (list_all is_entered segs) ok))
+inner_names (seg ∷ segs) ok = and_from (is_inner (file_name seg)) (list_all is_inner (map file_name segs)) (segment_inner (file_name seg) (and_first (is_entered seg) (list_all is_entered segs) ok)) (inner_names segs (and_second (is_entered seg) (list_all is_entered segs) ok))
 
 -- a beginning of names that ends after a folder's, with a piece of bytes that names have
 folder_leads : (folder : Segments) (last : Text) → list_all is_file_name_byte last ≡ true → list_all is_entered folder ≡ true → leads_in (folder_name folder ++ last) ≡ true
 folder_leads folder last bytes ok =
-    ap (λ (parts : List Text). list_all is_inner (parent_of parts)) (pieces_body folder last bytes) ∙ ap (list_all is_inner) (front_of (map file_name folder) last) ∙ inner_names folder ok
+    ap (λ (parts : List Text). list_all is_inner (parent_of parts)) (pieces_body folder last bytes) ∙ ap (list_all is_inner) (parent_of_push (map file_name folder) last) ∙ inner_names folder ok
 
 -- each segment of a path, mangled, is such a one
 path_entered : (path : Segments) → IsTrue (is_path path) → list_all is_entered (mangled_segs path) ≡ true
 path_entered path ok =
     let all = sym (ap (list_all is_segment) (pieces_body (mangled_segs path) (codes ".stat") refl)) ∙ stat_inside path ok in
     sym (list_all-map is_segment file_name (mangled_segs path))
-    ∙ first_of (list_all is_segment (map file_name (mangled_segs path))) (list_all is_segment (codes ".stat" ∷ [])) (sym (list_all-append is_segment (map file_name (mangled_segs path)) (codes ".stat" ∷ [])) ∙ all)
+    ∙ and_first (list_all is_segment (map file_name (mangled_segs path))) (list_all is_segment (codes ".stat" ∷ [])) (sym (list_all-append is_segment (map file_name (mangled_segs path)) (codes ".stat" ∷ [])) ∙ all)
 
 content_entered : is_entered (codes "_jcr_content") ≡ true
 unfolding file_name
@@ -60,7 +53,7 @@ deleted_entered : (below : Bool) (handle : Segments) → list_all is_entered han
 deleted_entered true handle ok = ok
 deleted_entered false handle ok =
     list_all-append is_entered handle (codes "_jcr_content" ∷ [])
-    ∙ both (list_all is_entered handle) (list_all is_entered (codes "_jcr_content" ∷ [])) ok (both (is_entered (codes "_jcr_content")) true content_entered refl)
+    ∙ and_from (list_all is_entered handle) (list_all is_entered (codes "_jcr_content" ∷ [])) ok (and_from (is_entered (codes "_jcr_content")) true content_entered refl)
 
 -- ---- what names begin with that an invalidation deletes
 
@@ -74,7 +67,7 @@ rendering_leads handle ok =
     let name = file_name (name_of handle) in
     ap leads_in (sym (append_both (folder_name (parent_of handle)) name (codes ".")))
     ∙ folder_leads (parent_of handle) (name ++ codes ".")
-    (list_all-append is_file_name_byte name (codes ".") ∙ both (list_all is_file_name_byte name) true (bytes_ok (name_of handle)) refl)
+    (list_all-append is_file_name_byte name (codes ".") ∙ and_from (list_all is_file_name_byte name) true (bytes_ok (name_of handle)) refl)
     (all_taken is_entered handle (length handle - 1) ok)
 
 one_of : (x prefix : Text) → Contains (x ∷ []) prefix → x ≡ prefix

@@ -3,6 +3,7 @@ use Rattle.std.proofs.Common.{◌≡◌, ⊎_elim, Bool, true, false, List, [], 
 use Rattle.std.specs.Prelude.{IfErr, IfOk, Result}
 use Rattle.std.specs.List.{AllByRecursion}
 use Rattle.std.proofs.lemmas.List.{append-nil, append_assoc}
+use Rattle.std.proofs.lemmas.Option.{same_Some}
 use Rattle.sp_outside.specs.Calls.{Call, MadeFirst, told_call, told_calls}
 use Rattle.docroot_format.specs.Faults.{IsOneCall}
 use Rattle.docroot_format.specs.declared.fault.FileFault.{FileFault}
@@ -22,23 +23,20 @@ told_more : (calls more : List Call) (before : Option (List Call)) → told_call
 told_more [] more before = refl
 told_more (call ∷ calls) more before = told_more calls more (told_call before call)
 
-both_may : (calls more : List Call) → AllByRecursion IsDocrootCall calls → AllByRecursion IsDocrootCall more → AllByRecursion IsDocrootCall (calls ++ more)
-both_may [] more first then = then
-both_may (call ∷ calls) more first then = (first.0, both_may calls more first.1 then)
+pub docroot_calls_append : (calls more : List Call) → AllByRecursion IsDocrootCall calls → AllByRecursion IsDocrootCall more → AllByRecursion IsDocrootCall (calls ++ more)
+docroot_calls_append [] more first then = then
+docroot_calls_append (call ∷ calls) more first then = (first.0, docroot_calls_append calls more first.1 then)
 
 pub makes_more : (before between after : Option (List Call)) → MakesDocrootCalls before between → MakesDocrootCalls between after → MakesDocrootCalls before after
 makes_more before between after first then =
-    (first.0 ++ then.0, (both_may first.0 then.0 first.1.0 then.1.0, then.1.1 ∙ ap (λ told. told_calls told then.0) first.1.1 ∙ sym (told_more first.0 then.0 before)))
+    (first.0 ++ then.0, (docroot_calls_append first.0 then.0 first.1.0 then.1.0, then.1.1 ∙ ap (λ told. told_calls told then.0) first.1.1 ∙ sym (told_more first.0 then.0 before)))
 
 told_some : (calls before : List Call) → told_calls (Some before) calls ≡ Some (before ++ calls)
 told_some [] before = ap Some (sym (append-nil before))
 told_some (call ∷ calls) before = told_some calls (before ++ call ∷ []) ∙ ap Some (append_assoc before (call ∷ []) calls)
 
-same_calls : (x y : List Call) → Some x ≡ Some y → x ≡ y
-same_calls x y e = cc (e)
-
 pub makes_told : (before after : List Call) → MakesDocrootCalls (Some before) (Some after) → (made : List Call) × (AllByRecursion IsDocrootCall made × (after ≡ before ++ made))
-makes_told before after makes = (makes.0, (makes.1.0, same_calls after (before ++ makes.0) (makes.1.1 ∙ told_some makes.0 before)))
+makes_told before after makes = (makes.0, (makes.1.0, same_Some after (before ++ makes.0) (makes.1.1 ∙ told_some makes.0 before)))
 
 -- ---- what calls on files say of the calls of the disk
 

@@ -1,7 +1,6 @@
 -- The number of the next session is one more than the one that is held, and fits in 64 bits.
-use Rattle.std.proofs.Common.{◌≡◌, ◌<◌, ◌+◌, ◌^◌, ℕ, Bool, true, false, cond, List, Option, Some, None, Ok, Err, refl, arith, nat_eq}
+use Rattle.std.proofs.Common.{◌≡◌, ◌+◌, ℕ, Bool, true, false, cond, List, Option, Some, None, Ok, Err, nat_eq}
 use Rattle.std.specs.Prelude.{unwrap_or, option_and_then}
-use Rattle.std.proofs.lemmas.Bool.Decides.{nat_tests}
 use Rattle.sp_outside.specs.Files.{Files, file_at}
 use Rattle.docroot_format.specs.Names.{epoch_name}
 use Rattle.docroot_format.specs.Readings.{epoch_of}
@@ -22,25 +21,3 @@ more_than (Some bytes) epoch e = after_more (epoch_of bytes) epoch e
 
 pub next_more : (files : Files) (epoch : ℕ) → next_epoch files ≡ Ok epoch → epoch ≡ epoch_held files + 1
 next_more files epoch e = more_than (file_at files epoch_name) epoch e
-
-not_end : (b : Bool) (held epoch : ℕ) → cond b (Err EpochEnd) (Ok (held + 1)) ≡ Ok epoch → b ≡ false
-not_end true held epoch e = absurd cc
-not_end false held epoch e = refl
-
-before_last : (held : ℕ) → held < 2 ^ 64 → nat_eq held greatest_epoch ≡ false → held < greatest_epoch
-before_last held small differ = grind (arith, nat_tests)
-
-small_after : (read : Option ℕ) (epoch : ℕ) → ((held : ℕ) → read ≡ Some held → held < 2 ^ 64) → after_epoch read ≡ Ok epoch → epoch < 2 ^ 64
-small_after None epoch small e = absurd cc
-small_after (Some held) epoch small e =
-    let less : held < greatest_epoch = before_last held (small held refl) (not_end (nat_eq held greatest_epoch) held epoch e) in
-    omega (arith, less, value (nat_eq held greatest_epoch) held epoch e)
-
-small_next : (found : Option (List ℕ)) (epoch : ℕ) → ((text : List ℕ) (held : ℕ) → epoch_of text ≡ Some held → (0 < held) × (held < 2 ^ 64)) → epoch_after found ≡ Ok epoch → epoch < 2 ^ 64
-small_next None epoch fits e =
-    let one : 1 ≡ epoch = cc in
-    omega (arith, one)
-small_next (Some bytes) epoch fits e = small_after (epoch_of bytes) epoch (λ held is. (fits bytes held is).1) e
-
-pub fits_next : (files : Files) (epoch : ℕ) → ((text : List ℕ) (held : ℕ) → epoch_of text ≡ Some held → (0 < held) × (held < 2 ^ 64)) → next_epoch files ≡ Ok epoch → epoch < 2 ^ 64
-fits_next files epoch fits e = small_next (file_at files epoch_name) epoch fits e

@@ -1,6 +1,6 @@
 -- A call on the files of a disk, by the files that the disk tells.
 use Rattle.std.proofs.Common.{◌≡◌, ⊎_elim, ℕ, List, Option, Some, None, refl, sym, subst, option_map}
-use Rattle.std.specs.Prelude.{IfSome, IfOk, IfErr, OnOk, Result, Ok, Err}
+use Rattle.std.specs.Prelude.{IfSome, IfOk, OnOk, Result, Ok, Err}
 use Rattle.sp_base.specs.Texts.{Segments}
 use Rattle.sp_base.specs.declared.answer.Answer.{Answer}
 use Rattle.sp_outside.specs.Calls.{Call}
@@ -20,10 +20,6 @@ use Rattle.docroot_changes.specs.Changes.{Told}
 pub on_ok : {T E : Type 0} (r : Result T E) (P Q : Type 0) → (P → Q) → OnOk r P → OnOk r Q
 on_ok (Ok t) P Q all h = all h
 on_ok (Err e) P Q all h = h
-
-pub if_err : {T E : Type 0} (r : Result T E) (P Q : E → Type 0) → ((e : E) → P e → Q e) → IfErr r P → IfErr r Q
-if_err (Ok t) P Q all h = h
-if_err (Err e) P Q all h = all e h
 
 pub if_ok : {T E : Type 0} (r : Result T E) (P Q R : T → Type 0) → ((t : T) → P t → Q t → R t) → IfOk r P → IfOk r Q → IfOk r R
 if_ok (Ok t) P Q R all p q = all t p q

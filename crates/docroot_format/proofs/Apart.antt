@@ -2,7 +2,7 @@
 use Rattle.std.proofs.Common.{◌≡◌, ◌≢◌, ◌<◌, ◌/◌, ◌%◌, ℕ, Bool, true, false, cond, ◌++◌, List, [], ◌∷◌, get_or, map, nat_eq, codes, refl, sym, ◌∙◌, ap, arith}
 use Rattle.std.specs.List.{AllByRecursion, list_all}
 use Rattle.std.specs.Fmt.{digit_glyph}
-use Rattle.std.proofs.lemmas.Bool.{true≢false}
+use Rattle.std.proofs.lemmas.Bool.{and_from, true≢false}
 use Rattle.std.proofs.lemmas.Bool.Decides.{nat_tests}
 use Rattle.std.proofs.lemmas.List.{append_cancel_right, append-nil}
 use Rattle.std.proofs.lemmas.List.Splits.{slice_split_at, slice_split_none}
@@ -13,7 +13,8 @@ use Rattle.cover_rules.specs.Names.{is_plain_name_byte, file_byte, file_name}
 use Rattle.cover_rules.specs.Pages.{is_file}
 use Rattle.docroot_format.specs.Names.{body_name, folder_name, head_name, stat_name, epoch_name, is_file_name_byte}
 use Rattle.docroot_format.proofs.NameLemmas.{append_both}
-use Rattle.docroot_format.proofs.Inside.{both, bytes_ok, file_first, first_byte, no_slash}
+use Rattle.docroot_format.proofs.Inside.{bytes_ok, file_first, first_byte, no_slash}
+use Rattle.sp_base.proofs.ListLemmas.{cons_parts}
 use Rattle.sp_base.proofs.PathBytes.{all_mangled}
 
 -- ---- a byte is read off what it is in a name
@@ -27,22 +28,19 @@ glyph c d small_c small_d e = grind (arith, nat_tests)
 halves : (b c : ℕ) → b < 256 → c < 256 → b / 16 % 16 ≡ c / 16 % 16 → b % 16 ≡ c % 16 → b ≡ c
 halves b c small_b small_c high low = omega (arith, small_b, small_c, high, low)
 
-head_of_two : (x y : ℕ) (xs ys : List ℕ) → x ∷ xs ≡ y ∷ ys → (x ≡ y) × (xs ≡ ys)
-head_of_two x y xs ys e = (cc, cc)
-
 -- a byte that stands as it is isn't `%`, by whichever test it does
 pub never_percent : (stays : ℕ → Bool) → stays 37 ≡ false → (b : ℕ) → stays b ≡ true → b ≡ 37 → ⊥
 never_percent stays none b plain e = true≢false (sym plain ∙ ap stays e ∙ none)
 
 pub same_byte : (stays : ℕ → Bool) → stays 37 ≡ false → (b c : ℕ) (xs ys : List ℕ) (p q : Bool) → stays b ≡ p → stays c ≡ q → b < 256 → c < 256
     → written p b ++ xs ≡ written q c ++ ys → (b ≡ c) × (xs ≡ ys)
-same_byte stays none b c xs ys true true pb pc small_b small_c e = head_of_two b c xs ys e
-same_byte stays none b c xs ys true false pb pc small_b small_c e = absurd (never_percent stays none b pb (head_of_two b 37 xs _ e).0)
-same_byte stays none b c xs ys false true pb pc small_b small_c e = absurd (never_percent stays none c pc (sym (head_of_two 37 c _ ys e).0))
+same_byte stays none b c xs ys true true pb pc small_b small_c e = cons_parts b c xs ys e
+same_byte stays none b c xs ys true false pb pc small_b small_c e = absurd (never_percent stays none b pb (cons_parts b 37 xs _ e).0)
+same_byte stays none b c xs ys false true pb pc small_b small_c e = absurd (never_percent stays none c pc (sym (cons_parts 37 c _ ys e).0))
 same_byte stays none b c xs ys false false pb pc small_b small_c e =
-    let one = head_of_two 37 37 (digit_glyph true (b / 16 % 16) ∷ digit_glyph true (b % 16) ∷ xs) (digit_glyph true (c / 16 % 16) ∷ digit_glyph true (c % 16) ∷ ys) e in
-    let two = head_of_two _ _ (digit_glyph true (b % 16) ∷ xs) (digit_glyph true (c % 16) ∷ ys) one.1 in
-    let three = head_of_two _ _ xs ys two.1 in
+    let one = cons_parts 37 37 (digit_glyph true (b / 16 % 16) ∷ digit_glyph true (b % 16) ∷ xs) (digit_glyph true (c / 16 % 16) ∷ digit_glyph true (c % 16) ∷ ys) e in
+    let two = cons_parts _ _ (digit_glyph true (b % 16) ∷ xs) (digit_glyph true (c % 16) ∷ ys) one.1 in
+    let three = cons_parts _ _ xs ys two.1 in
     (halves b c small_b small_c (glyph (b / 16 % 16) (c / 16 % 16) (omega arith) (omega arith) two.0) (glyph (b % 16) (c % 16) (omega arith) (omega arith) three.0), three.1)
 
 pub some_written : (b : ℕ) (p : Bool) (xs : List ℕ) → written p b ++ xs ≡ [] → ⊥
@@ -106,14 +104,14 @@ low_glyph d small e = grind (arith, nat_tests)
 
 -- without its first byte a text ends as before
 peel : (mark b : ℕ) (p : Bool) (xs t : List ℕ) → is_plain_name_byte b ≡ p → written p b ++ xs ≡ t ++ 37 ∷ mark ∷ [] → (rest : List ℕ) × (xs ≡ rest ++ 37 ∷ mark ∷ [])
-peel mark b true xs [] plain e = absurd (never_percent is_plain_name_byte refl b plain (head_of_two b 37 xs (mark ∷ []) e).0)
-peel mark b true xs (c ∷ t) plain e = (t, (head_of_two b c xs (t ++ 37 ∷ mark ∷ []) e).1)
+peel mark b true xs [] plain e = absurd (never_percent is_plain_name_byte refl b plain (cons_parts b 37 xs (mark ∷ []) e).0)
+peel mark b true xs (c ∷ t) plain e = (t, (cons_parts b c xs (t ++ 37 ∷ mark ∷ []) e).1)
 peel mark b false xs [] plain e = absurd cc
 peel mark b false xs (c ∷ []) plain e =
-    absurd (low_glyph (b / 16 % 16) (omega arith) (head_of_two _ 37 (digit_glyph true (b % 16) ∷ xs) (mark ∷ []) (head_of_two 37 c _ _ e).1).0)
+    absurd (low_glyph (b / 16 % 16) (omega arith) (cons_parts _ 37 (digit_glyph true (b % 16) ∷ xs) (mark ∷ []) (cons_parts 37 c _ _ e).1).0)
 peel mark b false xs (c ∷ d ∷ []) plain e =
-    absurd (low_glyph (b % 16) (omega arith) (head_of_two _ 37 xs (mark ∷ []) (head_of_two _ d _ _ (head_of_two 37 c _ _ e).1).1).0)
-peel mark b false xs (c ∷ d ∷ f ∷ t) plain e = (t, (head_of_two _ f xs (t ++ 37 ∷ mark ∷ []) (head_of_two _ d _ _ (head_of_two 37 c _ _ e).1).1).1)
+    absurd (low_glyph (b % 16) (omega arith) (cons_parts _ 37 xs (mark ∷ []) (cons_parts _ d _ _ (cons_parts 37 c _ _ e).1).1).0)
+peel mark b false xs (c ∷ d ∷ f ∷ t) plain e = (t, (cons_parts _ f xs (t ++ 37 ∷ mark ∷ []) (cons_parts _ d _ _ (cons_parts 37 c _ _ e).1).1).1)
 
 pub no_ending : (mark : ℕ) (s t : List ℕ) → file_name s ≡ t ++ 37 ∷ mark ∷ [] → ⊥
 unfolding file_name
@@ -135,7 +133,7 @@ after_slash : (mark : ℕ) (xs t : List ℕ) → 47 ∷ xs ≡ t ++ 37 ∷ mark 
 after_slash mark xs [] e =
     let slash : 47 ≡ 37 = ap (λ l. get_or l 0 0) e in
     absurd (omega (arith, slash))
-after_slash mark xs (c ∷ t) e = (t, (head_of_two 47 c xs (t ++ 37 ∷ mark ∷ []) e).1)
+after_slash mark xs (c ∷ t) e = (t, (cons_parts 47 c xs (t ++ 37 ∷ mark ∷ []) e).1)
 
 pub after_folder : (mark : ℕ) (folder : List (List ℕ)) (xs t : List ℕ) → folder_name folder ++ xs ≡ t ++ 37 ∷ mark ∷ [] → (rest : List ℕ) × (xs ≡ rest ++ 37 ∷ mark ∷ [])
 after_folder mark [] xs t e = (t, e)
@@ -146,7 +144,7 @@ after_folder mark (seg ∷ folder) xs t e =
     after_folder mark folder xs slash.0 slash.1
 
 pub head_bytes : (x : List ℕ) → list_all is_file_name_byte (file_name x ++ codes "%h") ≡ true
-head_bytes x = list_all-append is_file_name_byte (file_name x) (codes "%h") ∙ both _ _ (bytes_ok x) refl
+head_bytes x = list_all-append is_file_name_byte (file_name x) (codes "%h") ∙ and_from _ _ (bytes_ok x) refl
 
 pub head_not_body : (a b : List (List ℕ)) (x y : List ℕ) → AllByRecursion AreBytes a → AllByRecursion AreBytes b → head_name a x ≢ body_name b y
 head_not_body a b x y small_a small_b e =

@@ -2,9 +2,9 @@
 use Rattle.std.proofs.Common.{◌≡◌, ◌⊎◌, inl, inr, ◌+◌, ◌-◌, ◌==◌, ℕ, Bool, true, false, cond, not, ◌&&◌, ◌||◌, ◌++◌, List, [], ◌∷◌, drop, length, take, nat_eq, codes, refl, sym, ◌∙◌, ap, arith}
 use Rattle.std.specs.Prelude.{IsTrue, ◌↔◌}
 use Rattle.std.specs.List.{AllByRecursion, starts_with}
-use Rattle.std.specs.Cmp.Lexicographic.{bytes_decides, pointwise}
+use Rattle.std.specs.Cmp.Lexicographic.{pointwise}
 use Rattle.std.proofs.Math.Seq.{drop-append_seam}
-use Rattle.std.proofs.lemmas.Bool.{true≢false}
+use Rattle.std.proofs.lemmas.Bool.{and_from, not-true, or_cases, or_left, or_right, true≢false}
 use Rattle.std.proofs.lemmas.Bool.Decides.{nat_tests}
 use Rattle.std.proofs.lemmas.Grind.{flat_map-append}
 use Rattle.std.proofs.lemmas.List.{append-nil, length-append, length-map, length-take-le, take_all, take_more}
@@ -13,28 +13,24 @@ use Rattle.std.proofs.lemmas.List.Splits.{length-slice_split}
 use Rattle.sp_base.specs.Bytes.{AreBytes}
 use Rattle.sp_base.specs.Paths.{has_slash, is_path, is_under, mangled_seg, mangled_segs, name_of, parent_of, pieces, text_of}
 use Rattle.sp_base.specs.PathTexts.{ends_segment, lack_slashes, segs_in, spelling_of, text_under}
-use Rattle.sp_base.proofs.TextBytes.{both_bytes}
 use Rattle.sp_outside.specs.Files.{has_prefix}
 use Rattle.cover_rules.specs.declared.invalidation.Invalidation.{Invalidation}
 use Rattle.cover_rules.specs.declared.page.PageKey.{PageKey}
 use Rattle.cover_rules.specs.Coverage.{deletes, handle_of, is_handle, is_part_page, is_rendering, takes_below}
 use Rattle.cover_rules.specs.Pages.{IsPageKey, page_path, page_text}
+use Rattle.cover_rules.proofs.CoverageLemmas.{content_part_lacks_slashes}
 use Rattle.docroot_format.specs.Deletions.{IsDeletedByName, begins_with_any, deleted_prefixes, rendering_prefixes}
 use Rattle.docroot_format.specs.Names.{body_name, folder_name}
 use Rattle.docroot_format.proofs.Folders.{page_is}
-use Rattle.docroot_format.proofs.Inside.{both, first_of, second_of}
-use Rattle.docroot_format.proofs.NameCode.{BeginsNoByte, begins_is, body_spells, in_name, is_begun, name_begins, not_is, path_byte, prefix_spells, same_truth}
+use Rattle.docroot_format.proofs.NameCode.{BeginsNoByte, body_spells, in_name, is_begun, name_begins, path_byte, prefix_spells}
 use Rattle.docroot_format.proofs.NameLemmas.{append_both}
+use Rattle.sp_base.proofs.BoolLemmas.{and_first, and_second, or_false, or_true, same_truth}
+use Rattle.sp_base.proofs.ListLemmas.{cons_parts}
 use Rattle.sp_base.proofs.PathBytes.{all_mangled}
+use Rattle.sp_base.proofs.TextBytes.{both_are_bytes}
+use Rattle.sp_base.proofs.TextLemmas.{begins_with, segments_are, segments_themselves}
 
 -- ---- texts of paths
-
-cons_is : (b c : ℕ) (xs ys : List ℕ) → b ∷ xs ≡ c ∷ ys → (b ≡ c) × (xs ≡ ys)
-cons_is b c xs ys e = (cc (e), cc (e))
-
-or_true : (a : Bool) → (a || true) ≡ true
-or_true true = refl
-or_true false = refl
 
 slash_in : (start rest : List ℕ) → has_slash (start ++ 47 ∷ rest) ≡ true
 slash_in [] rest = refl
@@ -48,11 +44,11 @@ record EndsAt (text start : List ℕ) : Type 0 where
 
 ends_at : (text start file rest : List ℕ) → has_slash file ≡ false → text ++ 47 ∷ file ≡ start ++ 47 ∷ rest → EndsAt text start
 ends_at [] [] file rest lacks e = record { rest = []; parts = refl; ends = refl }
-ends_at (b ∷ text) [] file rest lacks e = record { rest = b ∷ text; parts = refl; ends = ap (λ c. nat_eq c 47) (cons_is b 47 (text ++ 47 ∷ file) rest e).0 }
+ends_at (b ∷ text) [] file rest lacks e = record { rest = b ∷ text; parts = refl; ends = ap (λ c. nat_eq c 47) (cons_parts b 47 (text ++ 47 ∷ file) rest e).0 }
 ends_at [] (c ∷ start) file rest lacks e =
-    absurd (true≢false (sym (ap has_slash (cons_is 47 c file (start ++ 47 ∷ rest) e).1 ∙ slash_in start rest) ∙ lacks))
+    absurd (true≢false (sym (ap has_slash (cons_parts 47 c file (start ++ 47 ∷ rest) e).1 ∙ slash_in start rest) ∙ lacks))
 ends_at (b ∷ text) (c ∷ start) file rest lacks e =
-    let one = cons_is b c (text ++ 47 ∷ file) (start ++ 47 ∷ rest) e in
+    let one = cons_parts b c (text ++ 47 ∷ file) (start ++ 47 ∷ rest) e in
     let more = ends_at text start file rest lacks one.1 in
     record { rest = more.rest; parts = ap (λ x. x ∷ text) one.0 ∙ ap (λ xs. c ∷ xs) more.parts; ends = more.ends }
 
@@ -66,17 +62,17 @@ slash_next (b ∷ rest) file e = (rest ++ 47 ∷ file, ap (λ c. c ∷ (rest ++ 
 
 under_text : (text start : List ℕ) → EndsAt text start → text_under text start ≡ true
 under_text text start at =
-    both _ _ (is_begun text start at.rest at.parts)
+    and_from _ _ (is_begun text start at.rest at.parts)
     (ap (λ (t : List ℕ). ends_segment (drop (length start) t)) at.parts ∙ ap ends_segment (drop-append_seam start at.rest) ∙ at.ends)
 
 text_parts : (text start : List ℕ) → text_under text start ≡ true → EndsAt text start
-text_parts text start h = record { rest = drop (length start) text; parts = begins_is text start (first_of _ _ h); ends = second_of _ _ h }
+text_parts text start h = record { rest = drop (length start) text; parts = begins_with text start (and_first _ _ h); ends = and_second _ _ h }
 
 -- a page's path begins with a folder's and a slash exactly where the page's folder is under it
 below : (text start file : List ℕ) → has_slash file ≡ false → starts_with nat_eq (text ++ 47 ∷ file) (start ++ 47 ∷ []) ≡ text_under text start
 below text start file lacks = same_truth _ _
     (λ h. under_text text start (ends_at text start file (drop (length (start ++ 47 ∷ [])) (text ++ 47 ∷ file)) lacks
-    (begins_is (text ++ 47 ∷ file) (start ++ 47 ∷ []) h ∙ sym (append_both start (47 ∷ []) (drop (length (start ++ 47 ∷ [])) (text ++ 47 ∷ file))))))
+    (begins_with (text ++ 47 ∷ file) (start ++ 47 ∷ []) h ∙ sym (append_both start (47 ∷ []) (drop (length (start ++ 47 ∷ [])) (text ++ 47 ∷ file))))))
     (λ h.
     let at = text_parts text start h in
     let next = slash_next at.rest file at.ends in
@@ -98,14 +94,14 @@ text_last (seg ∷ folder) file = refl
 
 lacks_last : (folder : List (List ℕ)) (file : List ℕ) → lack_slashes folder ≡ true → has_slash file ≡ false → lack_slashes (folder ++ file ∷ []) ≡ true
 lacks_last folder file lacks slashless =
-    list_all-append (λ seg. not (has_slash seg)) folder (file ∷ []) ∙ both _ _ lacks (ap (λ t. not t && true) slashless)
+    list_all-append (λ seg. not (has_slash seg)) folder (file ∷ []) ∙ and_from _ _ lacks (ap (λ t. not t && true) slashless)
 
 spelling_bytes : (segs : List (List ℕ)) → AllByRecursion AreBytes segs → AreBytes (spelling_of segs)
 spelling_bytes [] p = tt
-spelling_bytes (seg ∷ segs) p = (omega arith, both_bytes seg (spelling_of segs) p.0 (spelling_bytes segs p.1))
+spelling_bytes (seg ∷ segs) p = (omega arith, both_are_bytes seg (spelling_of segs) p.0 (spelling_bytes segs p.1))
 
 last_bytes : (folder : List (List ℕ)) (file : List ℕ) → AllByRecursion AreBytes folder → AreBytes file → AreBytes (spelling_of folder ++ 47 ∷ file)
-last_bytes folder file p q = both_bytes (spelling_of folder) (47 ∷ file) (spelling_bytes folder p) (omega arith, q)
+last_bytes folder file p q = both_are_bytes (spelling_of folder) (47 ∷ file) (spelling_bytes folder p) (omega arith, q)
 
 -- ---- a page's key, and a handle
 
@@ -122,7 +118,7 @@ pub record Told (key : PageKey) (handle : List (List ℕ)) : Type 0 where
 
 one_piece : (parts : List (List ℕ)) (file : List ℕ) → length parts ≡ 1 → spelling_of parts ≡ 47 ∷ file → parts ≡ file ∷ []
 one_piece [] file few e = absurd (omega (arith, few))
-one_piece (part ∷ []) file few e = ap (λ (p : List ℕ). p ∷ []) (sym (append-nil part) ∙ (cons_is 47 47 (part ++ []) file e).1)
+one_piece (part ∷ []) file few e = ap (λ (p : List ℕ). p ∷ []) (sym (append-nil part) ∙ (cons_parts 47 47 (part ++ []) file e).1)
 one_piece (part ∷ more ∷ parts) file few e = absurd (omega (arith, few))
 
 -- the file of a page's key has one piece
@@ -147,7 +143,7 @@ told_of inv key page valid small lacks mangled parted spelled under back =
     record {
       path = ap (λ (p : List (List ℕ)). key.folder ++ p) piece;
       folder = lacks key.folder page.folder;
-      file = not_is (has_slash key.file) (first_of (not (has_slash key.file)) true (sym (ap lack_slashes piece) ∙ parted key.file));
+      file = not-true (has_slash key.file) (and_first (not (has_slash key.file)) true (sym (ap lack_slashes piece) ∙ parted key.file));
       slashless = mangled inv.handle (lacks inv.handle valid);
       bytes = last_bytes key.folder key.file page.folder_bytes page.file_bytes;
       handle_bytes = all_mangled inv.handle small;
@@ -157,8 +153,8 @@ told_of inv key page valid small lacks mangled parted spelled under back =
 
 -- ---- a handle's renderings
 
-last_parts : (seg : List ℕ) (segs : List (List ℕ)) → parent_of (seg ∷ segs) ++ name_of (seg ∷ segs) ∷ [] ≡ seg ∷ segs
-last_parts seg segs =
+pub parent_and_name : (seg : List ℕ) (segs : List (List ℕ)) → parent_of (seg ∷ segs) ++ name_of (seg ∷ segs) ∷ [] ≡ seg ∷ segs
+parent_and_name seg segs =
     let n = length (seg ∷ segs) - 1 in
     let whole : n + 1 ≡ length (seg ∷ segs) = omega arith in
     sym (take_more (seg ∷ segs) n [] (omega arith)) ∙ ap (λ (m : ℕ). take m (seg ∷ segs)) whole ∙ take_all (length (seg ∷ segs)) (seg ∷ segs) (omega arith)
@@ -167,7 +163,7 @@ last_parts seg segs =
 path_spells : (segs : List (List ℕ)) (last : List ℕ) (path : List (List ℕ)) → segs ++ last ∷ [] ≡ path → lack_slashes path ≡ true → 47 ∷ body_name segs last ≡ in_name (spelling_of path)
 path_spells segs last path parts lacks =
     let all = sym (list_all-append (λ seg. not (has_slash seg)) segs (last ∷ [])) ∙ ap lack_slashes parts ∙ lacks in
-    body_spells segs last (first_of (lack_slashes segs) (lack_slashes (last ∷ [])) all) (not_is (has_slash last) (first_of (not (has_slash last)) true (second_of (lack_slashes segs) (lack_slashes (last ∷ [])) all)))
+    body_spells segs last (and_first (lack_slashes segs) (lack_slashes (last ∷ [])) all) (not-true (has_slash last) (and_first (not (has_slash last)) true (and_second (lack_slashes segs) (lack_slashes (last ∷ [])) all)))
     ∙ append-nil (in_name (spelling_of segs ++ 47 ∷ last)) ∙ ap in_name (sym (spelling_last segs last) ∙ ap spelling_of parts)
 
 some_segment : (seg : List ℕ) (segs : List (List ℕ)) → not (length (seg ∷ segs) == 0) ≡ true
@@ -185,9 +181,9 @@ rendering_begins key seg segs name tail told none named =
     let text = spelling_of key.folder ++ 47 ∷ key.file in
     let prefix = body_name (parent_of handle) (name_of handle) ++ codes "." in
     let begun : 47 ∷ prefix ≡ in_name (spelling_of handle ++ codes ".") =
-    ap (λ (t : List ℕ). t ++ codes ".") (path_spells (parent_of handle) (name_of handle) handle (last_parts seg segs) told.slashless) ∙ sym (flat_map-append path_byte (spelling_of handle) (codes ".")) in
+    ap (λ (t : List ℕ). t ++ codes ".") (path_spells (parent_of handle) (name_of handle) handle (parent_and_name seg segs) told.slashless) ∙ sym (flat_map-append path_byte (spelling_of handle) (codes ".")) in
     name_begins name prefix text (spelling_of handle ++ codes ".") tail none told.bytes
-    (both_bytes (spelling_of handle) (codes ".") (spelling_bytes handle told.handle_bytes) (omega arith, tt)) named begun
+    (both_are_bytes (spelling_of handle) (codes ".") (spelling_bytes handle told.handle_bytes) (omega arith, tt)) named begun
     ∙ sym (ap (λ t. t && starts_with nat_eq (page_text key) (spelling_of handle ++ codes ".")) (some_segment seg segs)
     ∙ ap (λ (t : List ℕ). starts_with nat_eq t (spelling_of handle ++ codes ".")) (page_text_is key handle told))
 
@@ -199,10 +195,6 @@ folder_begins key handle folder name tail told lacks small none named =
     name_begins name (folder_name folder) (spelling_of key.folder ++ 47 ∷ key.file) (spelling_of folder ++ 47 ∷ []) tail none told.bytes (last_bytes folder [] small tt) named (prefix_spells folder lacks)
     ∙ below (spelling_of key.folder) (spelling_of folder) key.file told.file ∙ told.under key.folder folder told.folder lacks
 
-or_false : (a : Bool) → (a || false) ≡ a
-or_false true = refl
-or_false false = refl
-
 any_begins : (key : PageKey) (handle folder : List (List ℕ)) (name tail : List ℕ) → Told key handle → lack_slashes folder ≡ true → AllByRecursion AreBytes folder → BeginsNoByte tail
     → 47 ∷ name ≡ in_name (spelling_of key.folder ++ 47 ∷ key.file) ++ tail
     → begins_with_any (rendering_prefixes handle ++ folder_name folder ∷ []) name ≡ (is_rendering handle key || is_under key.folder folder)
@@ -212,28 +204,6 @@ any_begins key (seg ∷ segs) folder name tail told lacks small none named =
     ∙ ap (λ t. is_rendering (seg ∷ segs) key || t) (or_false (has_prefix (folder_name folder) name) ∙ folder_begins key (seg ∷ segs) folder name tail told lacks small none named)
 
 -- ---- what an invalidation deletes
-
-same_paths : (xs ys : List (List ℕ)) → pointwise (pointwise nat_eq) xs ys ≡ true → xs ≡ ys
-same_paths [] [] h = refl
-same_paths [] (y ∷ ys) h = absurd (true≢false (sym h))
-same_paths (x ∷ xs) [] h = absurd (true≢false (sym h))
-same_paths (x ∷ xs) (y ∷ ys) h =
-    ap (λ z. z ∷ xs) ((bytes_decides x y).0 (first_of (pointwise nat_eq x y) (pointwise (pointwise nat_eq) xs ys) h))
-    ∙ ap (λ zs. y ∷ zs) (same_paths xs ys (second_of (pointwise nat_eq x y) (pointwise (pointwise nat_eq) xs ys) h))
-
-is_same : (xs : List (List ℕ)) → pointwise (pointwise nat_eq) xs xs ≡ true
-is_same [] = refl
-is_same (x ∷ xs) = both (pointwise nat_eq x x) (pointwise (pointwise nat_eq) xs xs) ((bytes_decides x x).1 refl) (is_same xs)
-
-or_left : (a b : Bool) → a ≡ true → (a || b) ≡ true
-or_left a b e = ap (λ t. t || b) e
-
-or_right : (a b : Bool) → b ≡ true → (a || b) ≡ true
-or_right a b e = ap (λ t. a || t) e ∙ or_true a
-
-one_true : (a b : Bool) → (a || b) ≡ true → (a ≡ true) ⊎ (b ≡ true)
-one_true true b e = inl refl
-one_true false b e = inr e
 
 -- what is under the handle is the page at it, or below it
 under_handle : (key : PageKey) (handle : List (List ℕ)) → Told key handle → is_under (page_path key) handle ≡ (is_handle handle key || is_under key.folder handle)
@@ -247,25 +217,22 @@ under_handle key handle told =
     same_truth _ _
     (λ h. let at = text_parts text (spelling_of handle) (whole ∙ h) in
     elim (at_or_below text (spelling_of handle) at.rest at.parts at.ends) [
-      | inl same ↦ or_left _ _ (ap (λ p. pointwise (pointwise nat_eq) p handle) (sym (told.back (page_path key) lacks) ∙ ap segs_in (spelled ∙ same) ∙ told.back handle told.slashless) ∙ is_same handle)
+      | inl same ↦ or_left _ _ (ap (λ p. pointwise (pointwise nat_eq) p handle) (sym (told.back (page_path key) lacks) ∙ ap segs_in (spelled ∙ same) ∙ told.back handle told.slashless) ∙ segments_themselves handle)
       | inr more ↦ or_right (is_handle handle key) _ (sym part ∙ more)
     ])
-    (λ h. elim (one_true (is_handle handle key) (is_under key.folder handle) h) [
-      | inl same ↦ sym whole ∙ under_text text (spelling_of handle) (record { rest = []; parts = sym spelled ∙ ap spelling_of (same_paths (page_path key) handle same) ∙ sym (append-nil (spelling_of handle)); ends = refl })
+    (λ h. elim (or_cases (is_handle handle key) (is_under key.folder handle) h) [
+      | inl same ↦ sym whole ∙ under_text text (spelling_of handle) (record { rest = []; parts = sym spelled ∙ ap spelling_of (segments_are (page_path key) handle same) ∙ sym (append-nil (spelling_of handle)); ends = refl })
       | inr more ↦ sym whole ∙ under_text text (spelling_of handle) (record {
         rest = 47 ∷ drop (length (spelling_of handle ++ 47 ∷ [])) text;
-        parts = begins_is text (spelling_of handle ++ 47 ∷ []) (part ∙ more) ∙ sym (append_both (spelling_of handle) (47 ∷ []) (drop (length (spelling_of handle ++ 47 ∷ [])) text));
+        parts = begins_with text (spelling_of handle ++ 47 ∷ []) (part ∙ more) ∙ sym (append_both (spelling_of handle) (47 ∷ []) (drop (length (spelling_of handle ++ 47 ∷ [])) text));
         ends = refl;
       })
     ])
 
-content_lacks : (handle : List (List ℕ)) → lack_slashes handle ≡ true → lack_slashes (handle ++ codes "_jcr_content" ∷ []) ≡ true
-content_lacks handle lacks = lacks_last handle (codes "_jcr_content") lacks refl
-
 -- a page of a part of the content is below the handle
 part_below : (key : PageKey) (handle : List (List ℕ)) → Told key handle → is_part_page handle key ≡ true → is_under key.folder handle ≡ true
 part_below key handle told h =
-    let at = text_parts (spelling_of key.folder) (spelling_of (handle ++ codes "_jcr_content" ∷ [])) (told.under key.folder (handle ++ codes "_jcr_content" ∷ []) told.folder (content_lacks handle told.slashless) ∙ h) in
+    let at = text_parts (spelling_of key.folder) (spelling_of (handle ++ codes "_jcr_content" ∷ [])) (told.under key.folder (handle ++ codes "_jcr_content" ∷ []) told.folder (content_part_lacks_slashes handle told.slashless) ∙ h) in
     sym (told.under key.folder handle told.folder told.slashless)
     ∙ under_text (spelling_of key.folder) (spelling_of handle) (record {
       rest = codes "/_jcr_content" ++ at.rest;
@@ -295,7 +262,7 @@ deleted false key handle told = none_below (is_handle handle key) (is_rendering 
 
 folder_lacks : (all : Bool) (handle : List (List ℕ)) → lack_slashes handle ≡ true → lack_slashes (folder_of all handle) ≡ true
 folder_lacks true handle lacks = lacks
-folder_lacks false handle lacks = content_lacks handle lacks
+folder_lacks false handle lacks = content_part_lacks_slashes handle lacks
 
 content_bytes : (handle : List (List ℕ)) → AllByRecursion AreBytes handle → AllByRecursion AreBytes (handle ++ codes "_jcr_content" ∷ [])
 content_bytes [] p = ((omega arith, (omega arith, (omega arith, (omega arith, (omega arith, (omega arith, (omega arith, (omega arith, (omega arith, (omega arith, (omega arith, (omega arith, tt)))))))))))), tt)
@@ -319,12 +286,12 @@ pub told_by_name : (inv : Invalidation) (key : PageKey) (name tail : List ℕ) �
 told_by_name inv key name tail told none named =
     let handle = handle_of inv in
     let same = by_name inv key name tail told none named in (
-      λ h. elim (one_true (is_handle handle key) (begins_with_any (deleted_prefixes inv) name) (sym same ∙ h)) [
-        | inl at ↦ inl (same_paths (page_path key) handle at)
+      λ h. elim (or_cases (is_handle handle key) (begins_with_any (deleted_prefixes inv) name) (sym same ∙ h)) [
+        | inl at ↦ inl (segments_are (page_path key) handle at)
         | inr begun ↦ inr begun
       ],
       λ h. same ∙ elim h [
-        | inl at ↦ or_left (is_handle handle key) _ (ap (λ p. pointwise (pointwise nat_eq) p handle) at ∙ is_same handle)
+        | inl at ↦ or_left (is_handle handle key) _ (ap (λ p. pointwise (pointwise nat_eq) p handle) at ∙ segments_themselves handle)
         | inr begun ↦ or_right (is_handle handle key) _ begun
       ],
     )

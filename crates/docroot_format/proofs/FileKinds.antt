@@ -1,42 +1,39 @@
 -- What a file is told by its name: a page file, a .stat file, or none that a disk writes beside another.
-use Rattle.std.proofs.Common.{◌≡◌, ◌≢◌, ◌+◌, ◌-◌, ℕ, Bool, true, false, not, ◌&&◌, ◌++◌, List, [], ◌∷◌, IsTrue, Some, suc, length, get_or, map, nat_eq, codes, refl, sym, ◌∙◌, ap, arith}
+use Rattle.std.proofs.Common.{◌≡◌, ◌≢◌, ◌+◌, ◌-◌, ℕ, true, false, not, ◌&&◌, ◌++◌, List, [], ◌∷◌, IsTrue, Some, suc, length, get_or, map, nat_eq, codes, refl, sym, ◌∙◌, ap, arith}
 use Rattle.std.specs.List.{list_all}
 use Rattle.std.specs.Cmp.Lexicographic.{pointwise, bytes_decides}
-use Rattle.std.proofs.lemmas.Bool.{true≢false}
+use Rattle.std.proofs.lemmas.Bool.{and_from, false_from_ne_true, true≢false}
 use Rattle.std.proofs.lemmas.Bool.Decides.{nat_tests}
 use Rattle.std.proofs.lemmas.List.{append-nil, length-append}
 use Rattle.std.proofs.Math.Seq.{get_or-append_seam}
 use Rattle.sp_base.specs.Paths.{is_dots, is_empty, is_path, mangled_segs, name_of, pieces}
+use Rattle.sp_base.proofs.BoolLemmas.{and_first, and_first_two, and_second}
 use Rattle.cover_rules.specs.declared.page.PageKey.{PageKey}
 use Rattle.cover_rules.specs.Names.{file_name}
 use Rattle.cover_rules.specs.Pages.{page_key_of}
 use Rattle.sp_outside.specs.FileNames.{beside_ending, has_segments}
 use Rattle.docroot_format.specs.Names.{body_name, epoch_name, folder_name, head_name, is_file_name_byte, is_page_file, is_stat_file, stat_name}
 use Rattle.docroot_format.proofs.NameLemmas.{append_both}
-use Rattle.docroot_format.proofs.Inside.{body_inside, both, bytes_ok, first_of, head_inside, is_segment, is_whole, key_file, not_true, second_of, stat_inside}
+use Rattle.docroot_format.proofs.Inside.{body_inside, bytes_ok, head_inside, is_segment, is_whole, key_file, stat_inside}
 use Rattle.docroot_format.proofs.Apart.{after_folder, after_segment, head_bytes, no_dot, no_ending, pieces_body}
 
 -- ---- the last piece of a name
 
-last_of : (xs : List (List ℕ)) (x : List ℕ) → name_of (xs ++ x ∷ []) ≡ x
-last_of xs x =
+pub name_of_push : (xs : List (List ℕ)) (x : List ℕ) → name_of (xs ++ x ∷ []) ≡ x
+name_of_push xs x =
     let place : length (xs ++ x ∷ []) - 1 ≡ length xs = omega (arith, length-append xs (x ∷ [])) in
     ap (λ n. get_or (xs ++ x ∷ []) n []) place
     ∙ get_or-append_seam xs x [] []
 
 last_piece : (folder : List (List ℕ)) (last : List ℕ) → list_all is_file_name_byte last ≡ true → name_of (pieces (folder_name folder ++ last)) ≡ last
-last_piece folder last ok = ap name_of (pieces_body folder last ok) ∙ last_of (map file_name folder) last
-
-piece_ok : (a b c : Bool) → a && (b && c) ≡ true → a && b ≡ true
-piece_ok true b c e = first_of b c e
-piece_ok false b c e = e
+last_piece folder last ok = ap name_of (pieces_body folder last ok) ∙ name_of_push (map file_name folder) last
 
 are_segments : (xs : List (List ℕ)) → list_all is_segment xs ≡ true → list_all (λ piece. not (is_empty piece) && not (is_dots piece)) xs ≡ true
 are_segments [] ok = refl
 are_segments (x ∷ xs) ok =
-    both (not (is_empty x) && not (is_dots x)) (list_all (λ piece. not (is_empty piece) && not (is_dots piece)) xs)
-    (piece_ok (not (is_empty x)) (not (is_dots x)) (list_all is_file_name_byte x) (first_of (is_segment x) (list_all is_segment xs) ok))
-    (are_segments xs (second_of (is_segment x) (list_all is_segment xs) ok))
+    and_from (not (is_empty x) && not (is_dots x)) (list_all (λ piece. not (is_empty piece) && not (is_dots piece)) xs)
+    (and_first_two (not (is_empty x)) (not (is_dots x)) (list_all is_file_name_byte x) (and_first (is_segment x) (list_all is_segment xs) ok))
+    (are_segments xs (and_second (is_segment x) (list_all is_segment xs) ok))
 
 pub inside_segments : (name : List ℕ) → is_whole name ≡ true → has_segments name ≡ true
 inside_segments name ok = are_segments (pieces name) ok
@@ -48,12 +45,12 @@ dot b e = grind (arith, nat_tests)
 
 undotted : (xs : List ℕ) → ((rest : List ℕ) → xs ≡ 46 ∷ rest → ⊥) → not (nat_eq (get_or xs 0 0) 46) ≡ true
 undotted [] none = refl
-undotted (b ∷ xs) none = ap not (not_true (nat_eq b 46) (λ e. none xs (ap (λ c. c ∷ xs) (dot b e))))
+undotted (b ∷ xs) none = ap not (false_from_ne_true (nat_eq b 46) (λ e. none xs (ap (λ c. c ∷ xs) (dot b e))))
 
 page_file : (folder : List (List ℕ)) (last : List ℕ) → list_all is_file_name_byte last ≡ true → ((rest : List ℕ) → last ≡ 46 ∷ rest → ⊥)
     → is_whole (folder_name folder ++ last) ≡ true → is_page_file (folder_name folder ++ last) ≡ true
 page_file folder last ok none inside =
-    both _ _ (inside_segments (folder_name folder ++ last) inside)
+    and_from _ _ (inside_segments (folder_name folder ++ last) inside)
     (ap (λ piece. not (nat_eq (get_or piece 0 0) 46)) (last_piece folder last ok) ∙ undotted last none)
 
 pub body_is_page_file : (path : List (List ℕ)) (key : PageKey) → IsTrue (is_path key.folder) → page_key_of path ≡ Some key → IsTrue (is_page_file (body_name key.folder key.file))
@@ -72,13 +69,13 @@ head_is_page_file path key folder own =
 
 pub stat_is_stat_file : (folder : List (List ℕ)) → IsTrue (is_path folder) → IsTrue (is_stat_file (stat_name folder))
 stat_is_stat_file folder ok =
-    both _ _ (inside_segments (stat_name folder) (stat_inside folder ok))
+    and_from _ _ (inside_segments (stat_name folder) (stat_inside folder ok))
     (ap (λ piece. pointwise nat_eq piece (codes ".stat")) (last_piece (mangled_segs folder) (codes ".stat") refl))
 
 pub page_no_stat : (name : List ℕ) → IsTrue (is_page_file name) → is_stat_file name ≡ false
-page_no_stat name page = not_true (is_stat_file name) (λ stat.
-    let last = (bytes_decides (name_of (pieces name)) (codes ".stat")).0 (second_of _ _ stat) in
-    true≢false (sym (second_of _ _ page) ∙ ap (λ piece. not (nat_eq (get_or piece 0 0) 46)) last))
+page_no_stat name page = false_from_ne_true (is_stat_file name) (λ stat.
+    let last = (bytes_decides (name_of (pieces name)) (codes ".stat")).0 (and_second _ _ stat) in
+    true≢false (sym (and_second _ _ page) ∙ ap (λ piece. not (nat_eq (get_or piece 0 0) 46)) last))
 
 -- ---- no name ends in `%t`
 

@@ -1,15 +1,18 @@
 -- The folders of keys and of invalidations are mangled paths whose segments have file names.
-use Rattle.std.proofs.Common.{◌≡◌, ◌≤◌, ◌<◌, ◌+◌, ◌-◌, ℕ, zero, suc, Bool, true, false, cond, ◌&&◌, List, [], ◌∷◌, Some, None, Contains, drop, length, take, map, get_or, refl, sym, ◌∙◌, ap, subst, arith}
-use Rattle.std.proofs.lemmas.List.{length-map, take-map}
+use Rattle.std.proofs.Common.{◌≡◌, ◌<◌, ◌+◌, ◌-◌, ℕ, zero, suc, Bool, true, false, cond, List, [], ◌∷◌, Some, None, Contains, drop, length, take, map, get_or, refl, sym, ◌∙◌, ap, subst, arith}
+use Rattle.std.proofs.lemmas.Bool.{and_from}
+use Rattle.std.proofs.lemmas.List.{take-map}
 use Rattle.std.specs.List.{list_all, prefix_len, take_while}
 use Rattle.sp_base.specs.Paths.{mangled_segs, mangled_seg, parent_of, name_of}
+use Rattle.sp_base.proofs.BoolLemmas.{and_first}
 use Rattle.cover_rules.specs.declared.invalidation.Invalidation.{Invalidation}
 use Rattle.cover_rules.specs.declared.page.PageKey.{PageKey}
 use Rattle.cover_rules.specs.Names.{has_file_name}
 use Rattle.cover_rules.specs.Pages.{is_folder_segment, is_page, key_at, page_key_of}
 use Rattle.cover_rules.specs.Coverage.{handle_of, lineage, stat_depth_of, stat_folder, touched_of}
+use Rattle.cover_rules.proofs.TouchLemmas.{length-lineage, lineage_at}
 use Rattle.docroot_format.specs.Names.{IsFolder}
-use Rattle.docroot_format.proofs.PagePlaces.{all_taken, both, page_has_folder}
+use Rattle.docroot_format.proofs.PagePlaces.{all_taken, page_has_folder}
 
 taken : (segs : List (List ℕ)) (n : ℕ) → mangled_segs segs ≡ segs → mangled_segs (take n segs) ≡ take n segs
 taken segs n e = sym (take-map mangled_seg n segs) ∙ ap (take n) e
@@ -53,26 +56,11 @@ get_map seg [] n d e h = absurd (omega arith)
 get_map seg (path ∷ paths) zero d e h = refl
 get_map seg (path ∷ paths) (suc n) d e h = get_map seg paths n d e (omega arith)
 
-length-lineage : (path : List (List ℕ)) → length (lineage path) ≡ length path + 1
-length-lineage [] = refl
-length-lineage (seg ∷ path) = omega (arith, length-map (lineage path) (λ p. seg ∷ p), length-lineage path)
-
-lineage_at : (path : List (List ℕ)) (n : ℕ) (d : List (List ℕ)) → n ≤ length path → get_or (lineage path) n d ≡ take n path
-lineage_at [] zero d h = refl
-lineage_at [] (suc n) d h = absurd (omega arith)
-lineage_at (seg ∷ path) zero d h = refl
-lineage_at (seg ∷ path) (suc n) d h =
-    get_map seg (lineage path) n d d (omega (arith, length-lineage path)) ∙ ap (λ p. seg ∷ p) (lineage_at path n d (omega arith))
-
-first_true : (a b : Bool) → (a && b) ≡ true → a ≡ true
-first_true true b h = refl
-first_true false b h = h
-
 named : (segs : List (List ℕ)) → list_all has_file_name (take_while is_folder_segment segs) ≡ true
 named [] = refl
 named (seg ∷ segs) = elim (is_folder_segment seg) as (λ t. is_folder_segment seg ≡ t → list_all has_file_name (take (cond t (1 + prefix_len is_folder_segment segs) 0) (seg ∷ segs)) ≡ true) [
   | true ↦ λ e. let next : 1 + prefix_len is_folder_segment segs ≡ suc (prefix_len is_folder_segment segs) = omega arith in
-      ap (λ n. list_all has_file_name (take n (seg ∷ segs))) next ∙ both (has_file_name seg) (list_all has_file_name (take_while is_folder_segment segs)) (first_true _ _ e) (named segs)
+      ap (λ n. list_all has_file_name (take n (seg ∷ segs))) next ∙ and_from (has_file_name seg) (list_all has_file_name (take_while is_folder_segment segs)) (and_first _ _ e) (named segs)
   | false ↦ λ e. refl
 ] refl
 

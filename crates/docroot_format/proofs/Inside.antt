@@ -3,12 +3,13 @@ use Rattle.std.proofs.Common.{◌≡◌, ◌<◌, ◌≤◌, ◌+◌, ◌/◌, �
 use Rattle.std.specs.List.{All, list_all}
 use Rattle.std.specs.Fmt.{digit_glyph}
 use Rattle.std.specs.Cmp.Lexicographic.{pointwise, bytes_decides}
-use Rattle.std.proofs.lemmas.Bool.{true≢false}
+use Rattle.std.proofs.lemmas.Bool.{and_from, false_from_ne_true, not-true, true≢false}
 use Rattle.std.proofs.lemmas.Bool.Decides.{nat_tests}
 use Rattle.std.proofs.lemmas.List.Splits.{slice_split_at, slice_split_none}
 use Rattle.std.proofs.lemmas.List.Folds.{list_all-append}
 use Rattle.std.proofs.lemmas.List.{length-append}
 use Rattle.sp_base.specs.Paths.{has_slash, is_empty, is_dots, is_long, is_namespaced, is_path, mangled_segs, mangled_by, mangled_seg, parent_of, pieces, seg_ok, name_of}
+use Rattle.sp_base.proofs.BoolLemmas.{and_first, and_second}
 use Rattle.cover_rules.specs.declared.page.PageKey.{PageKey}
 use Rattle.cover_rules.specs.Pages.{is_file, is_page, key_at, page_key_of}
 use Rattle.cover_rules.specs.Names.{is_plain_name_byte, file_byte, file_name}
@@ -24,36 +25,17 @@ is_segment piece = not (is_empty piece) && (not (is_dots piece) && list_all is_f
 abbrev pub is_whole : List ℕ → Bool
 is_whole name = list_all is_segment (pieces name)
 
-pub first_of : (a b : Bool) → a && b ≡ true → a ≡ true
-first_of true b e = refl
-first_of false b e = absurd (true≢false (sym e))
-
-pub second_of : (a b : Bool) → a && b ≡ true → b ≡ true
-second_of true b e = e
-second_of false b e = absurd (true≢false (sym e))
-
-pub both : (a b : Bool) → a ≡ true → b ≡ true → a && b ≡ true
-both a b ea eb = ap (λ x. x && b) ea ∙ eb
-
 glyph_ok : (d : ℕ) → d < 16 → is_file_name_byte (digit_glyph true d) ≡ true
 glyph_ok d small = grind (arith, nat_tests)
 
 byte_ok : (b : ℕ) (plain : Bool) → is_plain_name_byte b ≡ plain → list_all is_file_name_byte (cond plain (b ∷ []) (37 ∷ digit_glyph true (b / 16 % 16) ∷ digit_glyph true (b % 16) ∷ [])) ≡ true
 byte_ok b true e = ap (λ p. (p || nat_eq b 37) && true) e
-byte_ok b false e = both _ _ (glyph_ok (b / 16 % 16) (omega arith)) (both _ _ (glyph_ok (b % 16) (omega arith)) refl)
+byte_ok b false e = and_from _ _ (glyph_ok (b / 16 % 16) (omega arith)) (and_from _ _ (glyph_ok (b % 16) (omega arith)) refl)
 
 pub bytes_ok : (seg : List ℕ) → list_all is_file_name_byte (file_name seg) ≡ true
 unfolding file_name
 bytes_ok [] = refl
-bytes_ok (b ∷ seg) = list_all-append is_file_name_byte (file_byte b) (flat_map file_byte seg) ∙ both _ _ (byte_ok b (is_plain_name_byte b) refl) (bytes_ok seg)
-
-pub not_true : (b : Bool) → (b ≡ true → ⊥) → b ≡ false
-not_true true none = absurd (none refl)
-not_true false none = refl
-
-not_false : (b : Bool) → not b ≡ true → b ≡ false
-not_false true e = absurd (true≢false (sym e))
-not_false false e = refl
+bytes_ok (b ∷ seg) = list_all-append is_file_name_byte (file_byte b) (flat_map file_byte seg) ∙ and_from _ _ (byte_ok b (is_plain_name_byte b) refl) (bytes_ok seg)
 
 -- ---- a file name is `.` or `..` only where the segment is
 
@@ -85,8 +67,8 @@ two_dots (b ∷ seg) e =
 
 no_dots : (xs : List ℕ) → (xs ≡ codes "." → ⊥) → (xs ≡ codes ".." → ⊥) → is_dots xs ≡ false
 no_dots xs one two =
-    ap (λ b. b || pointwise nat_eq xs (codes "..")) (not_true (pointwise nat_eq xs (codes ".")) (λ e. one ((bytes_decides xs (codes ".")).0 e)))
-    ∙ not_true (pointwise nat_eq xs (codes "..")) (λ e. two ((bytes_decides xs (codes "..")).0 e))
+    ap (λ b. b || pointwise nat_eq xs (codes "..")) (false_from_ne_true (pointwise nat_eq xs (codes ".")) (λ e. one ((bytes_decides xs (codes ".")).0 e)))
+    ∙ false_from_ne_true (pointwise nat_eq xs (codes "..")) (λ e. two ((bytes_decides xs (codes "..")).0 e))
 
 name_no_dots : (seg : List ℕ) → is_dots seg ≡ false → is_dots (file_name seg) ≡ false
 name_no_dots seg none = no_dots (file_name seg)
@@ -110,27 +92,27 @@ not_empty_some (x ∷ xs) e = omega arith
 
 segment_name : (seg : List ℕ) → is_empty seg ≡ false → is_dots seg ≡ false → is_segment (file_name seg) ≡ true
 segment_name seg some none =
-    both _ _ (some_not_empty (file_name seg) (file_some seg (not_empty_some seg some)))
-    (both _ _ (ap not (name_no_dots seg none)) (bytes_ok seg))
+    and_from _ _ (some_not_empty (file_name seg) (file_some seg (not_empty_some seg some)))
+    (and_from _ _ (ap not (name_no_dots seg none)) (bytes_ok seg))
 
 not_slash : (b : ℕ) → is_file_name_byte b ≡ true → nat_eq b 47 ≡ false
 not_slash b e = grind (arith, nat_tests)
 
 pub no_slash : (xs : List ℕ) → list_all is_file_name_byte xs ≡ true → All (λ b. nat_eq b 47 ≡ false) xs
 no_slash [] e k d lt = absurd (omega (arith, lt))
-no_slash (x ∷ xs) e zero d lt = not_slash x (first_of _ _ e)
-no_slash (x ∷ xs) e (suc k) d lt = no_slash xs (second_of _ _ e) k d (omega (arith, lt))
+no_slash (x ∷ xs) e zero d lt = not_slash x (and_first _ _ e)
+no_slash (x ∷ xs) e (suc k) d lt = no_slash xs (and_second _ _ e) k d (omega (arith, lt))
 
 segment_bytes : (piece : List ℕ) → is_segment piece ≡ true → list_all is_file_name_byte piece ≡ true
-segment_bytes piece ok = second_of _ _ (second_of _ _ ok)
+segment_bytes piece ok = and_second _ _ (and_second _ _ ok)
 
 inside_piece : (piece rest : List ℕ) → is_segment piece ≡ true → is_whole rest ≡ true → is_whole (piece ++ 47 ∷ rest) ≡ true
 inside_piece piece rest ok e =
-    ap (list_all is_segment) (slice_split_at (λ b. nat_eq b 47) piece 47 rest (no_slash piece (segment_bytes piece ok)) refl) ∙ both _ _ ok e
+    ap (list_all is_segment) (slice_split_at (λ b. nat_eq b 47) piece 47 rest (no_slash piece (segment_bytes piece ok)) refl) ∙ and_from _ _ ok e
 
 inside_last : (piece : List ℕ) → is_segment piece ≡ true → is_whole piece ≡ true
 inside_last piece ok =
-    ap (list_all is_segment) (slice_split_none (λ b. nat_eq b 47) piece (no_slash piece (segment_bytes piece ok))) ∙ both _ _ ok refl
+    ap (list_all is_segment) (slice_split_none (λ b. nat_eq b 47) piece (no_slash piece (segment_bytes piece ok))) ∙ and_from _ _ ok refl
 
 -- what a segment of a path is, however long it is and also where it is mangled
 abbrev pub is_named : List ℕ → Bool
@@ -144,8 +126,8 @@ named_of false false rest ok = refl
 pub segs_named : (segs : List (List ℕ)) → list_all seg_ok segs ≡ true → list_all is_named segs ≡ true
 segs_named [] ok = refl
 segs_named (seg ∷ segs) ok =
-    let first = first_of (seg_ok seg) (list_all seg_ok segs) ok in
-    both (is_named seg) (list_all is_named segs) (named_of (is_empty seg) (is_dots seg) (not (is_long seg) && not (has_slash seg)) first) (segs_named segs (second_of (seg_ok seg) (list_all seg_ok segs) ok))
+    let first = and_first (seg_ok seg) (list_all seg_ok segs) ok in
+    and_from (is_named seg) (list_all is_named segs) (named_of (is_empty seg) (is_dots seg) (not (is_long seg) && not (has_slash seg)) first) (segs_named segs (and_second (seg_ok seg) (list_all seg_ok segs) ok))
 
 chosen_named : (b : Bool) (x y : List ℕ) → is_named x ≡ true → is_named y ≡ true → is_named (cond b x y) ≡ true
 chosen_named true x y p q = p
@@ -153,7 +135,7 @@ chosen_named false x y p q = q
 
 -- a mark begins with `_`
 marked_named : (rest : List ℕ) → is_named (95 ∷ rest) ≡ true
-marked_named rest = both (not (is_empty (95 ∷ rest))) (not (is_dots (95 ∷ rest))) (some_not_empty (95 ∷ rest) (omega arith)) refl
+marked_named rest = and_from (not (is_empty (95 ∷ rest))) (not (is_dots (95 ∷ rest))) (some_not_empty (95 ∷ rest) (omega arith)) refl
 
 mangled_named : (seg : List ℕ) → is_named seg ≡ true → is_named (mangled_seg seg) ≡ true
 mangled_named seg ok =
@@ -165,17 +147,17 @@ mangled_named seg ok =
 pub all_named : (segs : List (List ℕ)) → list_all is_named segs ≡ true → list_all is_named (mangled_segs segs) ≡ true
 all_named [] ok = refl
 all_named (seg ∷ segs) ok =
-    both (is_named (mangled_seg seg)) (list_all is_named (mangled_segs segs)) (mangled_named seg (first_of (is_named seg) (list_all is_named segs) ok))
-    (all_named segs (second_of (is_named seg) (list_all is_named segs) ok))
+    and_from (is_named (mangled_seg seg)) (list_all is_named (mangled_segs segs)) (mangled_named seg (and_first (is_named seg) (list_all is_named segs) ok))
+    (all_named segs (and_second (is_named seg) (list_all is_named segs) ok))
 
 ok_name : (seg : List ℕ) → is_named seg ≡ true → is_segment (file_name seg) ≡ true
-ok_name seg ok = segment_name seg (not_false (is_empty seg) (first_of (not (is_empty seg)) (not (is_dots seg)) ok)) (not_false (is_dots seg) (second_of (not (is_empty seg)) (not (is_dots seg)) ok))
+ok_name seg ok = segment_name seg (not-true (is_empty seg) (and_first (not (is_empty seg)) (not (is_dots seg)) ok)) (not-true (is_dots seg) (and_second (not (is_empty seg)) (not (is_dots seg)) ok))
 
 folder_inside : (folder : List (List ℕ)) (last : List ℕ) → list_all is_named folder ≡ true → is_whole last ≡ true → is_whole (folder_name folder ++ last) ≡ true
 folder_inside [] last ok e = e
 folder_inside (seg ∷ folder) last ok e =
     ap is_whole (sym (append_both (file_name seg ++ 47 ∷ []) (folder_name folder) last) ∙ sym (append_both (file_name seg) (47 ∷ []) (folder_name folder ++ last)))
-    ∙ inside_piece (file_name seg) (folder_name folder ++ last) (ok_name seg (first_of _ _ ok)) (folder_inside folder last (second_of _ _ ok) e)
+    ∙ inside_piece (file_name seg) (folder_name folder ++ last) (ok_name seg (and_first _ _ ok)) (folder_inside folder last (and_second _ _ ok) e)
 
 -- ---- the names
 
@@ -185,7 +167,7 @@ file_some_bytes [] e = absurd (true≢false (sym e))
 file_some_bytes (b ∷ file) e = grind (arith, nat_tests)
 
 pub file_first : (file : List ℕ) → is_file file ≡ true → nat_eq (get_or file 0 0) 46 ≡ false
-file_first file e = not_false _ (first_of _ _ (second_of _ _ e))
+file_first file e = not-true _ (and_first _ _ (and_second _ _ e))
 
 file_no_dots : (file : List ℕ) → is_file file ≡ true → is_dots file ≡ false
 file_no_dots file e = no_dots file
@@ -201,7 +183,7 @@ is_there None = false
 is_there (Some key) = true
 
 from_key : (segs : List (List ℕ)) (key : PageKey) (test : Bool) → is_page segs ≡ test → cond test (Some (record { folder = parent_of segs; file = name_of segs })) None ≡ Some key → is_file key.file ≡ true
-from_key segs key true page e = subst (λ (o : Option PageKey). file_in o ≡ true) e (first_of _ _ page)
+from_key segs key true page e = subst (λ (o : Option PageKey). file_in o ≡ true) e (and_first _ _ page)
 from_key segs key false page e = absurd (true≢false (sym (ap is_there e)))
 
 pub key_file : (path : List (List ℕ)) (key : PageKey) → page_key_of path ≡ Some key → is_file key.file ≡ true
@@ -212,20 +194,20 @@ page_segment : (file : List ℕ) → is_file file ≡ true → is_segment (file_
 page_segment file e = segment_name file (file_some_bytes file e) (file_no_dots file e)
 
 pub body_inside : (path : List (List ℕ)) (key : PageKey) → IsTrue (is_path key.folder) → page_key_of path ≡ Some key → IsTrue (is_whole (body_name key.folder key.file))
-body_inside path key folder e = folder_inside key.folder (file_name key.file) (segs_named key.folder (first_of _ _ folder)) (inside_last (file_name key.file) (page_segment key.file (key_file path key e)))
+body_inside path key folder e = folder_inside key.folder (file_name key.file) (segs_named key.folder (and_first _ _ folder)) (inside_last (file_name key.file) (page_segment key.file (key_file path key e)))
 
 head_segment : (file : List ℕ) → is_file file ≡ true → is_segment (file_name file ++ codes "%h") ≡ true
 head_segment file e =
     let some : 0 < length (file_name file) = file_some file (not_empty_some file (file_some_bytes file e)) in
     let long : length (file_name file ++ codes "%h") ≡ length (file_name file) + 2 = length-append (file_name file) (codes "%h") in
-    both _ _ (some_not_empty (file_name file ++ codes "%h") (omega (arith, long)))
-    (both _ _ (ap not (long_no_dots (file_name file ++ codes "%h") (omega (arith, long, some))))
-    (list_all-append is_file_name_byte (file_name file) (codes "%h") ∙ both _ _ (bytes_ok file) refl))
+    and_from _ _ (some_not_empty (file_name file ++ codes "%h") (omega (arith, long)))
+    (and_from _ _ (ap not (long_no_dots (file_name file ++ codes "%h") (omega (arith, long, some))))
+    (list_all-append is_file_name_byte (file_name file) (codes "%h") ∙ and_from _ _ (bytes_ok file) refl))
 
 pub head_inside : (path : List (List ℕ)) (key : PageKey) → IsTrue (is_path key.folder) → page_key_of path ≡ Some key → IsTrue (is_whole (head_name key.folder key.file))
 head_inside path key folder e =
     ap is_whole (sym (append_both (folder_name key.folder) (file_name key.file) (codes "%h")))
-    ∙ folder_inside key.folder (file_name key.file ++ codes "%h") (segs_named key.folder (first_of _ _ folder)) (inside_last (file_name key.file ++ codes "%h") (head_segment key.file (key_file path key e)))
+    ∙ folder_inside key.folder (file_name key.file ++ codes "%h") (segs_named key.folder (and_first _ _ folder)) (inside_last (file_name key.file ++ codes "%h") (head_segment key.file (key_file path key e)))
 
 pub stat_inside : (folder : List (List ℕ)) → IsTrue (is_path folder) → IsTrue (is_whole (stat_name folder))
-stat_inside folder ok = folder_inside (mangled_segs folder) (codes ".stat") (all_named folder (segs_named folder (first_of _ _ ok))) refl
+stat_inside folder ok = folder_inside (mangled_segs folder) (codes ".stat") (all_named folder (segs_named folder (and_first _ _ ok))) refl

@@ -2,17 +2,18 @@
 use Rattle.std.proofs.Common.{◌≡◌, ℕ, Bool, true, false, not, ◌||◌, ◌++◌, List, [], ◌∷◌, drop, length, take, flat_map, nat_eq, codes, refl, sym, ◌∙◌, ap}
 use Rattle.std.specs.List.{starts_with}
 use Rattle.std.specs.Cmp.Lexicographic.{bytes_decides}
-use Rattle.std.proofs.lemmas.Bool.{true≢false}
-use Rattle.std.proofs.lemmas.List.{append-nil, take-append-drop, take_at}
+use Rattle.std.proofs.lemmas.Bool.{not-true}
+use Rattle.std.proofs.lemmas.List.{append-nil, take_at}
 use Rattle.std.proofs.lemmas.Grind.{flat_map-append}
 use Rattle.sp_base.specs.Bytes.{AreBytes}
 use Rattle.sp_base.specs.Paths.{has_slash}
 use Rattle.sp_base.specs.PathTexts.{lack_slashes, spelling_of}
+use Rattle.sp_base.proofs.BoolLemmas.{and_first, and_second, or_false, or_first, or_second, same_truth}
+use Rattle.sp_base.proofs.TextLemmas.{begins_with}
 use Rattle.sp_outside.specs.Files.{has_prefix}
 use Rattle.cover_rules.specs.Names.{is_plain_name_byte, file_byte, file_name}
 use Rattle.docroot_format.specs.Names.{body_name, folder_name, head_name}
 use Rattle.docroot_format.proofs.Apart.{never_percent, same_byte, some_written, written}
-use Rattle.docroot_format.proofs.Inside.{first_of, second_of}
 use Rattle.docroot_format.proofs.NameLemmas.{append_both}
 
 -- ---- what a byte of a path's text is in a name
@@ -53,17 +54,8 @@ text_begins (b ∷ text) (c ∷ start) tail rest none small_t small_s e =
     let more = text_begins text start tail rest none small_t.1 small_s.1 one.1 in
     (more.0, ap (λ x. x ∷ text) one.0 ∙ ap (λ xs. c ∷ xs) more.1)
 
-pub begins_is : (text prefix : List ℕ) → starts_with nat_eq text prefix ≡ true → text ≡ prefix ++ drop (length prefix) text
-begins_is text prefix h =
-    sym (take-append-drop (length prefix) text) ∙ ap (λ (t : List ℕ). t ++ drop (length prefix) text) (sym ((bytes_decides prefix (take (length prefix) text)).0 h))
-
 pub is_begun : (text prefix rest : List ℕ) → text ≡ prefix ++ rest → starts_with nat_eq text prefix ≡ true
 is_begun text prefix rest e = (bytes_decides prefix (take (length prefix) text)).1 (sym (ap (take (length prefix)) e ∙ take_at prefix rest (length prefix) refl))
-
-pub same_truth : (a b : Bool) → (a ≡ true → b ≡ true) → (b ≡ true → a ≡ true) → a ≡ b
-same_truth true b f g = sym (f refl)
-same_truth false true f g = g refl
-same_truth false false f g = refl
 
 cons_is : (b c : ℕ) (xs ys : List ℕ) → b ∷ xs ≡ c ∷ ys → xs ≡ ys
 cons_is b c xs ys e = cc (e)
@@ -74,28 +66,16 @@ name_begins name prefix text start tail none small_t small_s named begun = same_
     (λ h.
     let rest = drop (length prefix) name in
     let more = text_begins text start tail rest none small_t small_s
-    (sym named ∙ ap (λ (xs : List ℕ). 47 ∷ xs) (begins_is name prefix h) ∙ ap (λ (xs : List ℕ). xs ++ rest) begun) in
+    (sym named ∙ ap (λ (xs : List ℕ). 47 ∷ xs) (begins_with name prefix h) ∙ ap (λ (xs : List ℕ). xs ++ rest) begun) in
     is_begun text start more.0 more.1)
     (λ h.
     let more = drop (length start) text in
-    let both : in_name text ≡ in_name start ++ in_name more = ap in_name (begins_is text start h) ∙ flat_map-append path_byte start more in
+    let both : in_name text ≡ in_name start ++ in_name more = ap in_name (begins_with text start h) ∙ flat_map-append path_byte start more in
     let whole : 47 ∷ name ≡ 47 ∷ (prefix ++ (in_name more ++ tail)) =
     named ∙ ap (λ (xs : List ℕ). xs ++ tail) both ∙ sym (append_both (in_name start) (in_name more) tail) ∙ ap (λ (xs : List ℕ). xs ++ (in_name more ++ tail)) (sym begun) in
     is_begun name prefix (in_name more ++ tail) (cons_is 47 47 name (prefix ++ (in_name more ++ tail)) whole))
 
 -- ---- the names of pages and folders spell texts
-
-or_first : (a b : Bool) → (a || b) ≡ false → a ≡ false
-or_first true b e = e
-or_first false b e = refl
-
-or_second : (a b : Bool) → (a || b) ≡ false → b ≡ false
-or_second true b e = absurd (true≢false e)
-or_second false b e = e
-
-or_false : (a : Bool) → (a || false) ≡ a
-or_false true = refl
-or_false false = refl
 
 pub segment_spells : (seg : List ℕ) → has_slash seg ≡ false → in_name seg ≡ file_name seg
 unfolding file_name
@@ -104,10 +84,6 @@ segment_spells (b ∷ seg) lacks =
     let plain : stays b ≡ is_plain_name_byte b = ap (λ t. is_plain_name_byte b || t) (or_first (nat_eq b 47) (has_slash seg) lacks) ∙ or_false (is_plain_name_byte b) in
     ap (λ t. written t b ++ in_name seg) plain ∙ ap (λ (xs : List ℕ). file_byte b ++ xs) (segment_spells seg (or_second (nat_eq b 47) (has_slash seg) lacks))
 
-pub not_is : (a : Bool) → not a ≡ true → a ≡ false
-not_is true e = absurd (true≢false (sym e))
-not_is false e = refl
-
 pub folder_spells : (folder : List (List ℕ)) (last : List ℕ) → lack_slashes folder ≡ true → in_name (spelling_of folder ++ 47 ∷ last) ≡ 47 ∷ (folder_name folder ++ in_name last)
 folder_spells [] last lacks = refl
 folder_spells (seg ∷ folder) last lacks =
@@ -115,8 +91,8 @@ folder_spells (seg ∷ folder) last lacks =
     ap (λ (xs : List ℕ). 47 ∷ xs)
     (ap in_name (sym (append_both seg (spelling_of folder) (47 ∷ last)))
     ∙ flat_map-append path_byte seg rest
-    ∙ ap (λ (xs : List ℕ). xs ++ in_name rest) (segment_spells seg (not_is (has_slash seg) (first_of (not (has_slash seg)) (lack_slashes folder) lacks)))
-    ∙ ap (λ (xs : List ℕ). file_name seg ++ xs) (folder_spells folder last (second_of (not (has_slash seg)) (lack_slashes folder) lacks))
+    ∙ ap (λ (xs : List ℕ). xs ++ in_name rest) (segment_spells seg (not-true (has_slash seg) (and_first (not (has_slash seg)) (lack_slashes folder) lacks)))
+    ∙ ap (λ (xs : List ℕ). file_name seg ++ xs) (folder_spells folder last (and_second (not (has_slash seg)) (lack_slashes folder) lacks))
     ∙ append_both (file_name seg) (47 ∷ []) (folder_name folder ++ in_name last)
     ∙ append_both (file_name seg ++ 47 ∷ []) (folder_name folder) (in_name last))
 

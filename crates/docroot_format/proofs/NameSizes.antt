@@ -1,32 +1,18 @@
 -- How long the names of files are.
-use Rattle.std.proofs.Common.{◌≡◌, ◌<◌, ◌≤◌, ◌+◌, ◌*◌, ◌&&◌, ◌++◌, ◌∷◌, ℕ, Bool, true, false, List, [], IsTrue, length, flat_map, codes, sym, refl, arith, nat_le, nat_lt}
-use Rattle.std.proofs.lemmas.Bool.{true≢false}
-use Rattle.std.proofs.lemmas.Bool.Decides.{nat_tests}
+use Rattle.std.proofs.Common.{◌≡◌, ◌<◌, ◌≤◌, ◌+◌, ◌*◌, ◌&&◌, ◌++◌, ◌∷◌, ℕ, true, List, [], IsTrue, length, flat_map, codes, arith, nat_lt}
+use Rattle.std.proofs.lemmas.Bool.{leb-true, ltb-true}
 use Rattle.std.proofs.lemmas.List.{length-append, length-map}
 use Rattle.sp_base.specs.Paths.{mangled_seg, mangled_segs}
+use Rattle.sp_base.proofs.BoolLemmas.{and_first, and_second}
 use Rattle.sp_outside.specs.Files.{IsName}
 use Rattle.cover_rules.specs.Names.{file_byte, file_name, has_file_name}
 use Rattle.docroot_format.specs.Names.{folder_name, body_name, head_name, have_names, is_place, stat_name}
 
-pub first_true : (a b : Bool) → a && b ≡ true → a ≡ true
-first_true true b e = refl
-first_true false b e = absurd (true≢false (sym e))
-
-pub second_true : (a b : Bool) → a && b ≡ true → b ≡ true
-second_true true b e = e
-second_true false b e = absurd (true≢false (sym e))
-
-pub within : (n m : ℕ) → nat_le n m ≡ true → n ≤ m
-within n m e = grind (arith, nat_tests)
-
-below : (n m : ℕ) → nat_lt n m ≡ true → n < m
-below n m e = grind (arith, nat_tests)
-
 pub folder_len : (segs : List (List ℕ)) → have_names segs ≡ true → length (folder_name segs) ≤ 201 * length segs
 folder_len [] e = omega arith
 folder_len (seg ∷ segs) e =
-    let short : length (file_name seg) ≤ 200 = within (length (file_name seg)) 200 (first_true (has_file_name seg) (have_names segs) e) in
-    let rest : length (folder_name segs) ≤ 201 * length segs = folder_len segs (second_true (has_file_name seg) (have_names segs) e) in
+    let short : length (file_name seg) ≤ 200 = leb-true (length (file_name seg)) 200 (and_first (has_file_name seg) (have_names segs) e) in
+    let rest : length (folder_name segs) ≤ 201 * length segs = folder_len segs (and_second (has_file_name seg) (have_names segs) e) in
     omega (arith, short, rest, length-append (file_name seg ++ 47 ∷ []) (folder_name segs), length-append (file_name seg) (47 ∷ []))
 
 byte_some : (b : ℕ) → 0 < length (file_byte b)
@@ -45,11 +31,11 @@ record IsShort (folder : List (List ℕ)) (file : List ℕ) : Type 0 where
 
 short : (folder : List (List ℕ)) (file : List ℕ) → is_place folder file ≡ true → IsShort folder file
 short folder file e =
-    let rest : has_file_name file && nat_lt 0 (length file) ≡ true = second_true (have_names folder) (has_file_name file && nat_lt 0 (length file)) e in
+    let rest : has_file_name file && nat_lt 0 (length file) ≡ true = and_second (have_names folder) (has_file_name file && nat_lt 0 (length file)) e in
     record {
-      folder_short = folder_len folder (first_true (have_names folder) (has_file_name file && nat_lt 0 (length file)) e);
-      file_short = within (length (file_name file)) 200 (first_true (has_file_name file) (nat_lt 0 (length file)) rest);
-      some = file_some file (below 0 (length file) (second_true (has_file_name file) (nat_lt 0 (length file)) rest));
+      folder_short = folder_len folder (and_first (have_names folder) (has_file_name file && nat_lt 0 (length file)) e);
+      file_short = leb-true (length (file_name file)) 200 (and_first (has_file_name file) (nat_lt 0 (length file)) rest);
+      some = file_some file (ltb-true 0 (length file) (and_second (has_file_name file) (nat_lt 0 (length file)) rest));
     }
 
 pub body_fits : (folder : List (List ℕ)) (file : List ℕ) → length folder ≤ 64 → IsTrue (is_place folder file) → IsName (body_name folder file)

@@ -1,36 +1,26 @@
 -- A path at which a page may be has file names for all its segments.
-use Rattle.std.proofs.Common.{◌≡◌, ◌<◌, ◌-◌, ◌&&◌, ℕ, zero, suc, Bool, true, false, List, [], ◌∷◌, Option, Some, None, length, take, get_or, cond, refl, sym, ◌∙◌, ap, subst, arith, nat_lt}
+use Rattle.std.proofs.Common.{◌≡◌, ◌<◌, ◌-◌, ℕ, zero, suc, Bool, true, false, List, [], ◌∷◌, Option, Some, None, length, take, get_or, cond, refl, sym, ap, subst, arith, nat_lt}
 use Rattle.std.specs.List.{list_all}
 use Rattle.std.specs.Prelude.{not}
-use Rattle.std.proofs.lemmas.Bool.{true≢false}
+use Rattle.std.proofs.lemmas.Bool.{and_from, true≢false}
 use Rattle.std.proofs.lemmas.Bool.Decides.{nat_tests}
 use Rattle.sp_base.specs.Paths.{mangled_segs, name_of, parent_of}
+use Rattle.sp_base.proofs.BoolLemmas.{and_first, and_second}
 use Rattle.cover_rules.specs.declared.page.PageKey.{PageKey}
 use Rattle.cover_rules.specs.Names.{has_file_name}
 use Rattle.cover_rules.specs.Pages.{has_dot, is_file, is_page, key_at, page_key_of}
 use Rattle.docroot_format.specs.Names.{have_names, is_place}
 
-first_of : (a b : Bool) → a && b ≡ true → a ≡ true
-first_of true b e = refl
-first_of false b e = absurd (true≢false (sym e))
-
-second_of : (a b : Bool) → a && b ≡ true → b ≡ true
-second_of true b e = e
-second_of false b e = absurd (true≢false (sym e))
-
-pub both : (a b : Bool) → a ≡ true → b ≡ true → a && b ≡ true
-both a b ea eb = ap (λ x. x && b) ea ∙ eb
-
 pub all_taken : (p : List ℕ → Bool) (segs : List (List ℕ)) (n : ℕ) → list_all p segs ≡ true → list_all p (take n segs) ≡ true
 all_taken p [] zero e = refl
 all_taken p [] (suc n) e = refl
 all_taken p (seg ∷ segs) zero e = refl
-all_taken p (seg ∷ segs) (suc n) e = both (p seg) (list_all p (take n segs)) (first_of (p seg) (list_all p segs) e) (all_taken p segs n (second_of (p seg) (list_all p segs) e))
+all_taken p (seg ∷ segs) (suc n) e = and_from (p seg) (list_all p (take n segs)) (and_first (p seg) (list_all p segs) e) (all_taken p segs n (and_second (p seg) (list_all p segs) e))
 
 at_place : (p : List ℕ → Bool) (segs : List (List ℕ)) (n : ℕ) → n < length segs → list_all p segs ≡ true → p (get_or segs n []) ≡ true
 at_place p [] n lt e = absurd (omega (arith, lt))
-at_place p (seg ∷ segs) zero lt e = first_of (p seg) (list_all p segs) e
-at_place p (seg ∷ segs) (suc n) lt e = at_place p segs n (omega (arith, lt)) (second_of (p seg) (list_all p segs) e)
+at_place p (seg ∷ segs) zero lt e = and_first (p seg) (list_all p segs) e
+at_place p (seg ∷ segs) (suc n) lt e = at_place p segs n (omega (arith, lt)) (and_second (p seg) (list_all p segs) e)
 
 -- a segment with a dot isn't empty, so the path isn't
 some_bytes : (seg : List ℕ) → has_dot seg ≡ true → nat_lt 0 (length seg) ≡ true
@@ -43,12 +33,12 @@ some_segments (seg ∷ segs) e = omega arith
 
 place_of_page : (segs : List (List ℕ)) → is_page segs ≡ true → is_place (parent_of segs) (name_of segs) ≡ true
 place_of_page segs e =
-    let file = first_of (is_file (name_of segs)) _ e in
-    let dot = first_of (has_dot (name_of segs)) _ file in
-    let all : list_all has_file_name segs ≡ true = second_of (list_all (λ seg. not (has_dot seg)) (parent_of segs)) (list_all has_file_name segs) (second_of (is_file (name_of segs)) _ e) in
+    let file = and_first (is_file (name_of segs)) _ e in
+    let dot = and_first (has_dot (name_of segs)) _ file in
+    let all : list_all has_file_name segs ≡ true = and_second (list_all (λ seg. not (has_dot seg)) (parent_of segs)) (list_all has_file_name segs) (and_second (is_file (name_of segs)) _ e) in
     let last : has_file_name (name_of segs) ≡ true =
     at_place has_file_name segs (length segs - 1) (some_segments segs dot) all in
-    both (have_names (parent_of segs)) _ (all_taken has_file_name segs (length segs - 1) all) (both (has_file_name (name_of segs)) _ last (some_bytes (name_of segs) dot))
+    and_from (have_names (parent_of segs)) _ (all_taken has_file_name segs (length segs - 1) all) (and_from (has_file_name (name_of segs)) _ last (some_bytes (name_of segs) dot))
 
 abbrev place_in : Option PageKey → Bool
 place_in None = true
@@ -67,4 +57,4 @@ unfolding key_at
 page_has_place path key e = from_key (mangled_segs path) key (is_page (mangled_segs path)) refl e
 
 pub page_has_folder : (path : List (List ℕ)) (key : PageKey) → page_key_of path ≡ Some key → have_names key.folder ≡ true
-page_has_folder path key e = first_of (have_names key.folder) _ (page_has_place path key e)
+page_has_folder path key e = and_first (have_names key.folder) _ (page_has_place path key e)

@@ -1,5 +1,5 @@
 -- What reads as a number, a stamp, a head or an epoch is its text: the converse of reading back.
-use Rattle.std.proofs.Common.{◌≡◌, ◌<◌, ◌≤◌, ◌+◌, ◌-◌, ◌*◌, ◌/◌, ◌%◌, ◌^◌, ℕ, zero, suc, Bool, true, false, not, cond, ◌&&◌, ◌==◌, ◌++◌, List, [], ◌∷◌, Option, Some, None, length, take, drop, slice_index, nat_le, nat_eq, nat_lt, codes, refl, sym, ◌∙◌, ap, subst, arith, append_assoc, ⊎_elim, option_and_then, option_map}
+use Rattle.std.proofs.Common.{◌≡◌, ◌<◌, ◌≤◌, ◌+◌, ◌-◌, ◌*◌, ◌/◌, ◌%◌, ◌^◌, ℕ, zero, suc, Bool, true, false, not, ◌&&◌, ◌==◌, ◌++◌, List, [], ◌∷◌, Option, Some, None, length, take, drop, slice_index, nat_le, nat_eq, nat_lt, codes, refl, sym, ◌∙◌, ap, subst, arith, append_assoc, ⊎_elim, option_and_then, option_map}
 use Rattle.std.specs.Fmt.{decimal}
 use Rattle.std.specs.Cmp.Lexicographic.{bytes_decides}
 use Rattle.std.specs.List.{starts_with}
@@ -7,9 +7,12 @@ use Rattle.std.proofs.lemmas.Bool.{cases_Bool, true≢false}
 use Rattle.std.proofs.lemmas.Bool.Decides.{nat_tests}
 use Rattle.std.proofs.lemmas.Fmt.{decimal_digit, decimal_step}
 use Rattle.std.proofs.lemmas.List.{take-append-drop}
+use Rattle.std.proofs.lemmas.Option.{cond_some}
 use Rattle.sp_base.specs.Bytes.{is_digit}
 use Rattle.sp_base.specs.Limits.{greatest_u64}
 use Rattle.sp_base.specs.MediaTypes.{is_kind}
+use Rattle.sp_base.proofs.BoolLemmas.{and_first, and_second}
+use Rattle.sp_base.proofs.TextLemmas.{begins_with}
 use Rattle.cover_rules.specs.declared.stamp.Stamp.{Stamp}
 use Rattle.docroot_format.specs.Readings.{digit_fits, digits_from, begins_number, leading_number, after_word, is_end, stamp_of, stat_of, epoch_of, stored_kind, HeadLine, body_of, head_of}
 use Rattle.docroot_format.specs.Texts.{head_text, stat_text, epoch_text}
@@ -50,18 +53,6 @@ first_spelled (suc k) t small none =
     let d : digits_from 0 ((48 + suc k) ∷ t) ≡ digits_from (suc k) t = digit 0 (suc k) (suc k) t small (omega arith) (omega (arith, small)) in
     ap (λ x. x ++ t) (sym (decimal_digit (suc k) small)) ∙ digits_spelled t (suc k) (omega arith) ∙ ap (λ p. decimal p.0 ++ p.1) (sym d)
 
-some_of : {A : Type 0} (c : Bool) (x y : A) → cond c (Some x) None ≡ Some y → (c ≡ true) × (x ≡ y)
-some_of true x y e = (refl, cc (e))
-some_of false x y e = absurd (cc (e))
-
-first_of : (a b : Bool) → a && b ≡ true → a ≡ true
-first_of true b e = refl
-first_of false b e = absurd (true≢false (sym e))
-
-second_of : (a b : Bool) → a && b ≡ true → b ≡ true
-second_of true b e = e
-second_of false b e = absurd (true≢false (sym e))
-
 no_digit_after : (zero_first next : Bool) → not (zero_first && next) ≡ true → zero_first ≡ true → next ≡ false
 no_digit_after true true e is = absurd (true≢false (sym e))
 no_digit_after true false e is = refl
@@ -71,27 +62,23 @@ number_spelled : (t : List ℕ) (p : ℕ × List ℕ) → leading_number t ≡ S
 unfolding leading_number
 number_spelled [] p e = absurd (cc (e))
 number_spelled (b ∷ t) p e =
-    let s = some_of (begins_number (b ∷ t)) (digits_from 0 (b ∷ t)) p e in
-    let is_first : is_digit b ≡ true = first_of (is_digit b) (not (b == 48 && is_digit (slice_index t 0))) s.0 in
+    let s = cond_some (begins_number (b ∷ t)) (digits_from 0 (b ∷ t)) p e in
+    let is_first : is_digit b ≡ true = and_first (is_digit b) (not (b == 48 && is_digit (slice_index t 0))) s.0 in
     let small : b - 48 < 10 = grind (arith, nat_tests) in
     let is : 48 + (b - 48) ≡ b = grind (arith, nat_tests) in
     let none : b - 48 ≡ 0 → is_digit (slice_index t 0) ≡ false = λ z.
     let begins : (b == 48) ≡ true = grind (arith, nat_tests) in
-    no_digit_after (b == 48) (is_digit (slice_index t 0)) (second_of (is_digit b) (not (b == 48 && is_digit (slice_index t 0))) s.0) begins in
+    no_digit_after (b == 48) (is_digit (slice_index t 0)) (and_second (is_digit b) (not (b == 48 && is_digit (slice_index t 0))) s.0) begins in
     subst (λ x. x ∷ t ≡ decimal (digits_from 0 (x ∷ t)).0 ++ (digits_from 0 (x ∷ t)).1) is (first_spelled (b - 48) t small none)
     ∙ ap (λ q. decimal q.0 ++ q.1) s.1
 
 -- ---- words, and the end
 
-stripped : (text prefix : List ℕ) → starts_with nat_eq text prefix ≡ true → text ≡ prefix ++ drop (length prefix) text
-stripped text prefix e =
-    sym (take-append-drop (length prefix) text) ∙ ap (λ (t : List ℕ). t ++ drop (length prefix) text) (sym ((bytes_decides prefix (take (length prefix) text)).0 e))
-
 word_spelled : (word text rest : List ℕ) → after_word word text ≡ Some rest → text ≡ word ++ rest
 unfolding after_word
 word_spelled word text rest e =
-    let s = some_of (starts_with nat_eq text word) (drop (length word) text) rest e in
-    stripped text word s.0 ∙ ap (λ (t : List ℕ). word ++ t) s.1
+    let s = cond_some (starts_with nat_eq text word) (drop (length word) text) rest e in
+    begins_with text word s.0 ∙ ap (λ (t : List ℕ). word ++ t) s.1
 
 end_spelled : (rest : List ℕ) → is_end rest ≡ true → rest ≡ codes "\n"
 end_spelled rest e = (bytes_decides rest (codes "\n")).0 e
@@ -135,7 +122,7 @@ unfolding stat_of
 stat_spelled text stamp e =
     let a = then_some _ (option_and_then stamp_of (after_word (codes "stat 1 ") text)) stamp e in
     let b = then_some stamp_of (after_word (codes "stat 1 ") text) a.first a.is in
-    let s = some_of (is_end a.first.1) a.first.0 stamp a.next in
+    let s = cond_some (is_end a.first.1) a.first.0 stamp a.next in
     word_spelled (codes "stat 1 ") text b.first b.is
     ∙ ap (λ t. codes "stat 1 " ++ t) (stamp_spelled b.first a.first b.next)
     ∙ ap (λ t. codes "stat 1 " ++ (decimal a.first.0.epoch ++ (codes " " ++ (decimal a.first.0.count ++ t)))) (end_spelled a.first.1 s.0)
@@ -147,10 +134,10 @@ unfolding epoch_of
 epoch_spelled text epoch e =
     let a = then_some _ (option_and_then leading_number (after_word (codes "epoch 1 ") text)) epoch e in
     let b = then_some leading_number (after_word (codes "epoch 1 ") text) a.first a.is in
-    let s = some_of (is_end a.first.1 && nat_lt 0 a.first.0) a.first.0 epoch a.next in
+    let s = cond_some (is_end a.first.1 && nat_lt 0 a.first.0) a.first.0 epoch a.next in
     word_spelled (codes "epoch 1 ") text b.first b.is
     ∙ ap (λ t. codes "epoch 1 " ++ t) (number_spelled b.first a.first b.next)
-    ∙ ap (λ t. codes "epoch 1 " ++ (decimal a.first.0 ++ t)) (end_spelled a.first.1 (first_of (is_end a.first.1) (nat_lt 0 a.first.0) s.0))
+    ∙ ap (λ t. codes "epoch 1 " ++ (decimal a.first.0 ++ t)) (end_spelled a.first.1 (and_first (is_end a.first.1) (nat_lt 0 a.first.0) s.0))
     ∙ append_both (codes "epoch 1 ") (decimal a.first.0) (codes "\n")
     ∙ ap epoch_text s.1
 
@@ -168,7 +155,7 @@ digits_most (b ∷ t) m small = ⊎_elim
 
 number_most : (t : List ℕ) (p : ℕ × List ℕ) → leading_number t ≡ Some p → p.0 < 2 ^ 64
 unfolding leading_number
-number_most t p e = subst (λ (q : ℕ × List ℕ). q.0 < 2 ^ 64) (some_of (begins_number t) (digits_from 0 t) p e).1 (digits_most t 0 (omega arith))
+number_most t p e = subst (λ (q : ℕ × List ℕ). q.0 < 2 ^ 64) (cond_some (begins_number t) (digits_from 0 t) p e).1 (digits_most t 0 (omega arith))
 
 above_zero : (n : ℕ) → nat_lt 0 n ≡ true → 0 < n
 above_zero n e = grind (arith, nat_tests)
@@ -178,8 +165,8 @@ unfolding epoch_of
 epoch_most text epoch e =
     let a = then_some _ (option_and_then leading_number (after_word (codes "epoch 1 ") text)) epoch e in
     let b = then_some leading_number (after_word (codes "epoch 1 ") text) a.first a.is in
-    let s = some_of (is_end a.first.1 && nat_lt 0 a.first.0) a.first.0 epoch a.next in (
-      subst (λ n. 0 < n) s.1 (above_zero a.first.0 (second_of (is_end a.first.1) (nat_lt 0 a.first.0) s.0)),
+    let s = cond_some (is_end a.first.1 && nat_lt 0 a.first.0) a.first.0 epoch a.next in (
+      subst (λ n. 0 < n) s.1 (above_zero a.first.0 (and_second (is_end a.first.1) (nat_lt 0 a.first.0) s.0)),
       subst (λ n. n < 2 ^ 64) s.1 (number_most b.first a.first b.next),
     )
 
@@ -189,9 +176,9 @@ kind_spelled : (text kind : List ℕ) → stored_kind text ≡ Some kind → tex
 unfolding stored_kind
 kind_spelled text kind e =
     let n = length text - 1 in
-    let s = some_of (is_end (drop n text) && is_kind (take n text)) (take n text) kind e in
+    let s = cond_some (is_end (drop n text) && is_kind (take n text)) (take n text) kind e in
     sym (take-append-drop n text)
-    ∙ ap (λ (t : List ℕ). take n text ++ t) (end_spelled (drop n text) (first_of (is_end (drop n text)) (is_kind (take n text)) s.0))
+    ∙ ap (λ (t : List ℕ). take n text ++ t) (end_spelled (drop n text) (and_first (is_end (drop n text)) (is_kind (take n text)) s.0))
     ∙ ap (λ (t : List ℕ). t ++ codes "\n") s.1
 
 body_spelled : (stamp : Stamp) (text : List ℕ) (line : HeadLine) → body_of stamp text ≡ Some line

@@ -1,2 +1,2 @@
 mod FlightLemmas
-mod HistoryLemmas
+pub mod HistoryLemmas

@@ -1,8 +1,9 @@
 -- The reading line by line is the relation on whole bodies.
-use Rattle.std.proofs.Common.{◌≡◌, ◌<◌, ◌≤◌, ◌+◌, ℕ, Bool, true, false, cond, not, ◌&&◌, eqb, List, [], ◌∷◌, ◌++◌, Option, Some, None, Result, Ok, Err, map, length, refl, ap, sym, ◌∙◌, arith, append_assoc}
+use Rattle.std.proofs.Common.{◌≡◌, ◌<◌, ◌≤◌, ◌+◌, ℕ, Bool, true, false, cond, not, eqb, List, [], ◌∷◌, ◌++◌, Option, Some, None, Result, Ok, Err, map, length, refl, ap, sym, ◌∙◌, arith, append_assoc}
 use Rattle.std.specs.List.{list_all}
 use Rattle.std.proofs.lemmas.Bool.Decides.{nat_tests}
 use Rattle.std.proofs.lemmas.List.{append-nil}
+use Rattle.sp_base.proofs.BoolLemmas.{and_first, and_second}
 use Rattle.form_input.specs.declared.fault.FormFault.{FormFault}
 use Rattle.form_input.specs.declared.fault.FormFault.TheVariants.{TooMany}
 use Rattle.form_input.specs.declared.boundary.LineKind.{LineKind}
@@ -11,14 +12,6 @@ use Rattle.form_input.specs.Multipart.{Section, Sections, line_kind, is_plain_li
 use Rattle.form_input.specs.Lines.{lines}
 use Rattle.form_input.specs.Bodies.{BodyPart, part_lines, are_plain, is_body_part, HasPairs}
 use Rattle.form_input.proofs.FormLemmas.{Pairs, closing_section, part_section, end_of_sections, last_section}
-
-pub and_left : (a b : Bool) → (a && b) ≡ true → a ≡ true
-and_left true b e = refl
-and_left false b e = absurd cc
-
-pub and_right : (a b : Bool) → (a && b) ≡ true → b ≡ true
-and_right true b e = e
-and_right false b e = absurd cc
 
 plain_kind : (k : LineKind) → is_plain_line k ≡ true → k ≡ Plain
 plain_kind Opening e = absurd cc
@@ -62,8 +55,8 @@ module _ (dash : List ℕ) where
   unfolding place_after
   plain_lines at [] rest e = refl
   plain_lines at (line ∷ prefix) rest e =
-      let ih = plain_lines (at + length line + 2) prefix rest (and_right (is_plain_line (line_kind dash line)) _ e) in
-      plain_line at line (prefix ++ rest) (plain_kind (line_kind dash line) (and_left (is_plain_line (line_kind dash line)) _ e))
+      let ih = plain_lines (at + length line + 2) prefix rest (and_second (is_plain_line (line_kind dash line)) _ e) in
+      plain_line at line (prefix ++ rest) (plain_kind (line_kind dash line) (and_first (is_plain_line (line_kind dash line)) _ e))
       ∙ ap (λ (s : Sections). record { before = line ∷ s.before; later = s.later }) ih
 
   -- the sections of parts and a closing line begin with a boundary line
@@ -79,8 +72,8 @@ module _ (dash : List ℕ) where
       let e = closing_line at closing epilogue (closing_kind (line_kind dash closing) closed) in
       record { first = _; more = _; before = ap (λ (s : Sections). s.before) e; later = ap (λ (s : Sections). s.later) e }
   begins at (p ∷ parts) closing epilogue opened closed =
-      let here = and_left (is_body_part dash p) _ opened in
-      let kind = opening_kind (line_kind dash p.line) (and_left _ _ here) (and_left _ _ (and_right (not (is_plain_line (line_kind dash p.line))) _ here)) in
+      let here = and_first (is_body_part dash p) _ opened in
+      let kind = opening_kind (line_kind dash p.line) (and_first _ _ here) (and_first _ _ (and_second (not (is_plain_line (line_kind dash p.line))) _ here)) in
       let e = opening_line at p.line ((p.content ++ part_lines parts) ++ closing ∷ epilogue) kind in
       record { first = _; more = _; before = ap (λ (s : Sections). s.before) e; later = ap (λ (s : Sections). s.later) e }
 
@@ -95,18 +88,18 @@ module _ (dash : List ℕ) where
   read_parts end n at [] (q ∷ pairs) closing epilogue opened closed each few = absurd cc
   read_parts end n at (p ∷ parts) [] closing epilogue opened closed each few = absurd cc
   read_parts end n at (p ∷ parts) (q ∷ pairs) closing epilogue opened closed each few =
-      let here = and_left (is_body_part dash p) _ opened in
-      let rest = and_right (not (is_plain_line (line_kind dash p.line))) _ here in
-      let kind = opening_kind (line_kind dash p.line) (and_left _ _ here) (and_left _ _ rest) in
+      let here = and_first (is_body_part dash p) _ opened in
+      let rest = and_second (not (is_plain_line (line_kind dash p.line))) _ here in
+      let kind = opening_kind (line_kind dash p.line) (and_first _ _ here) (and_first _ _ rest) in
       let tail = part_lines parts ++ closing ∷ epilogue in
       let after = place_after (at + length p.line + 2) p.content in
-      let b = begins after parts closing epilogue (and_right (is_body_part dash p) _ opened) closed in
-      let inner = ap (sections dash (at + length p.line + 2)) (append_assoc p.content (part_lines parts) (closing ∷ epilogue)) ∙ plain_lines (at + length p.line + 2) p.content tail (and_right (not (is_closing_line (line_kind dash p.line))) _ rest) in
+      let b = begins after parts closing epilogue (and_second (is_body_part dash p) _ opened) closed in
+      let inner = ap (sections dash (at + length p.line + 2)) (append_assoc p.content (part_lines parts) (closing ∷ epilogue)) ∙ plain_lines (at + length p.line + 2) p.content tail (and_second (not (is_closing_line (line_kind dash p.line))) _ rest) in
       let content : (sections dash (at + length p.line + 2) ((p.content ++ part_lines parts) ++ closing ∷ epilogue)).before ≡ p.content = ap (λ (s : Sections). s.before) inner ∙ ap (λ (ls : List (List ℕ)). p.content ++ ls) b.before ∙ append-nil p.content in
       let later : (sections dash (at + length p.line + 2) ((p.content ++ part_lines parts) ++ closing ∷ epilogue)).later ≡ (sections dash after tail).later = ap (λ (s : Sections). s.later) inner in
       let pair : pair_of p.content ≡ Some q = cc in
       let others : map (λ (p : BodyPart). pair_of p.content) parts ≡ map Some pairs = cc in
-      let ih = read_parts end (n + 1) after parts pairs closing epilogue (and_right (is_body_part dash p) _ opened) closed others (omega (arith, few)) in
+      let ih = read_parts end (n + 1) after parts pairs closing epilogue (and_second (is_body_part dash p) _ opened) closed others (omega (arith, few)) in
       ap (λ (s : Sections). pairs_of end n s.later) (opening_line at p.line ((p.content ++ part_lines parts) ++ closing ∷ epilogue) kind)
       ∙ rw (content, later, b.later) (part_section end n _ b.first b.more refl ∙ rw (pair, ← b.later, ih) (few_more end n at q pairs (omega (arith, few))))
 

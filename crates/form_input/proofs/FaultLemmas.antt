@@ -3,6 +3,7 @@ use Rattle.std.proofs.Common.{◌≡◌, ◌<◌, ◌≤◌, ◌+◌, inl, inr, 
 use Rattle.std.specs.List.{list_all}
 use Rattle.std.proofs.lemmas.Bool.Decides.{nat_tests}
 use Rattle.std.proofs.lemmas.List.{append-nil}
+use Rattle.sp_base.proofs.BoolLemmas.{and_first, and_second}
 use Rattle.form_input.specs.declared.fault.FormFault.{FormFault}
 use Rattle.form_input.specs.declared.fault.FormFault.TheVariants.{WrongKind, NoBoundary, BadPart, TooMany, NoMemory}
 use Rattle.form_input.specs.declared.boundary.LineKind.{LineKind}
@@ -12,7 +13,7 @@ use Rattle.form_input.specs.Lines.{lines}
 use Rattle.form_input.specs.Bodies.{BodyPart, part_lines, are_plain, is_body_part}
 use Rattle.form_input.specs.BodyFaults.{bytes_of_lines, is_boundary_line, HasNoPart, LacksEnd, HasBadPart, HasTooMany, IsBodyFault}
 use Rattle.form_input.proofs.FormLemmas.{Pairs, part_section, end_of_sections, last_section}
-use Rattle.form_input.proofs.BodyLemmas.{and_left, and_right, opening_kind, opening_line, closing_line, place_after, plain_lines, no_lines, Begins}
+use Rattle.form_input.proofs.BodyLemmas.{opening_kind, opening_line, closing_line, place_after, plain_lines, no_lines, Begins}
 
 module _ (dash : List ℕ) where
   place_append : (at : ℕ) (prefix rest : List (List ℕ)) → place_after dash at (prefix ++ rest) ≡ place_after dash (place_after dash at prefix) rest
@@ -34,15 +35,15 @@ module _ (dash : List ℕ) where
       go Plain k b = absurd cc
 
   part_kind : (p : BodyPart) → is_body_part dash p ≡ true → line_kind dash p.line ≡ Opening
-  part_kind p here = opening_kind (line_kind dash p.line) (and_left _ _ here) (and_left _ _ (and_right (not (is_plain_line (line_kind dash p.line))) _ here))
+  part_kind p here = opening_kind (line_kind dash p.line) (and_first _ _ here) (and_first _ _ (and_second (not (is_plain_line (line_kind dash p.line))) _ here))
 
   part_plain : (p : BodyPart) → is_body_part dash p ≡ true → are_plain dash p.content ≡ true
-  part_plain p here = and_right (not (is_closing_line (line_kind dash p.line))) _ (and_right (not (is_plain_line (line_kind dash p.line))) _ here)
+  part_plain p here = and_second (not (is_closing_line (line_kind dash p.line))) _ (and_second (not (is_plain_line (line_kind dash p.line))) _ here)
 
   begins : (at : ℕ) (parts : List BodyPart) (tail : List (List ℕ)) → list_all (is_body_part dash) parts ≡ true → ((a : ℕ) → Begins dash a tail) → Begins dash at (part_lines parts ++ tail)
   begins at [] tail opened tails = tails at
   begins at (p ∷ parts) tail opened tails =
-      let e = opening_line dash at p.line ((p.content ++ part_lines parts) ++ tail) (part_kind p (and_left (is_body_part dash p) _ opened)) in
+      let e = opening_line dash at p.line ((p.content ++ part_lines parts) ++ tail) (part_kind p (and_first (is_body_part dash p) _ opened)) in
       record { first = _; more = _; before = ap (λ (s : Sections). s.before) e; later = ap (λ (s : Sections). s.later) e }
 
   -- a part and what begins with a boundary line
@@ -72,8 +73,8 @@ module _ (dash : List ℕ) where
   read_fault end n at [] (q ∷ pairs) tail f opened tails each few fault = absurd cc
   read_fault end n at (p ∷ parts) [] tail f opened tails each few fault = absurd cc
   read_fault end n at (p ∷ parts) (q ∷ pairs) tail f opened tails each few fault =
-      let here = and_left (is_body_part dash p) _ opened in
-      let others = and_right (is_body_part dash p) _ opened in
+      let here = and_first (is_body_part dash p) _ opened in
+      let others = and_second (is_body_part dash p) _ opened in
       let after = place_after dash (at + length p.line + 2) p.content in
       let pair : pair_of p.content ≡ Some q = cc in
       let later : map (λ (p : BodyPart). pair_of p.content) parts ≡ map Some pairs = cc in
@@ -90,15 +91,15 @@ module _ (dash : List ℕ) where
   read_full end n at [] (q ∷ pairs) tail opened tails each low many = absurd cc
   read_full end n at (p ∷ parts) [] tail opened tails each low many = absurd cc
   read_full end n at (p ∷ parts) (q ∷ []) tail opened tails each low many =
-      let here = and_left (is_body_part dash p) _ opened in
-      let others = and_right (is_body_part dash p) _ opened in
+      let here = and_first (is_body_part dash p) _ opened in
+      let others = and_second (is_body_part dash p) _ opened in
       let pair : pair_of p.content ≡ Some q = cc in
       ap (λ (ls : List (List ℕ)). pairs_of end n (sections dash at (p.line ∷ ls)).later) (append_assoc p.content (part_lines parts) tail)
       ∙ one_part end n at p (part_lines parts ++ tail) here (λ a. begins a parts tail others tails)
       ∙ one_too_many n at (pair_of p.content) q _ pair (omega (arith, many))
   read_full end n at (p ∷ parts) (q ∷ next ∷ pairs) tail opened tails each low many =
-      let here = and_left (is_body_part dash p) _ opened in
-      let others = and_right (is_body_part dash p) _ opened in
+      let here = and_first (is_body_part dash p) _ opened in
+      let others = and_second (is_body_part dash p) _ opened in
       let pair : pair_of p.content ≡ Some q = cc in
       let later : map (λ (p : BodyPart). pair_of p.content) parts ≡ map Some (next ∷ pairs) = cc in
       let ih = read_full end (n + 1) (place_after dash (at + length p.line + 2) p.content) parts (next ∷ pairs) tail others tails later (omega (arith, many)) (omega (arith, many)) in
@@ -120,7 +121,7 @@ module _ (dash : List ℕ) where
   bad_part end m at p next more here ended none = one_part end m at p (next ∷ more) here (λ a. bounded a next more ended) ∙ rw none refl
 
   opens : (p : BodyPart) → is_body_part dash p ≡ true → is_boundary_line dash p.line ≡ true
-  opens p here = and_left (not (is_plain_line (line_kind dash p.line))) _ here
+  opens p here = and_first (not (is_plain_line (line_kind dash p.line))) _ here
 
 module _ (boundary body : List ℕ) where
   abbrev dash : List ℕ

@@ -1,5 +1,5 @@
 -- Pairs, one part after another.
-use Rattle.std.proofs.Common.{◌≡◌, ◌<◌, ◌≤◌, ◌+◌, ℕ, suc, Bool, true, false, eqb, List, [], ◌∷◌, ◌++◌, Option, Some, None, Result, Ok, Err, length, refl, ap, sym, ◌∙◌, arith, append_assoc, IfSome, option_copied, Bor, ◌-◌, not, length-append}
+use Rattle.std.proofs.Common.{◌≡◌, ◌<◌, ◌≤◌, ◌+◌, ℕ, suc, true, false, eqb, List, [], ◌∷◌, ◌++◌, Option, Some, None, Result, Ok, Err, length, refl, ap, sym, ◌∙◌, arith, append_assoc, IfSome, option_copied, Bor, ◌-◌, length-append}
 use Rattle.std.proofs.lemmas.Bool.Decides.{nat_tests}
 use Rattle.std.proofs.lemmas.List.{append-nil}
 use Rattle.form_input.specs.declared.boundary.BoundaryLine.{BoundaryLine}
@@ -106,14 +106,6 @@ pushed dash end first form more mark next after o pair inv opening is m shorter 
 pub all_read : (dash : List ℕ) (end : ℕ) (first : BoundaryLine) (form : Pairs) (mark : BoundaryLine) → IsReadTo dash end first form mark → mark.closing ≡ true → pairs_of end 0 (from_mark dash end first) ≡ Ok form
 all_read dash end first form mark inv closed =
     sym inv.same ∙ ap (before_all form) (closing_section end (length form) (record { place = mark.place; closing = mark.closing; content = (sections_left dash end (option_copied mark.after)).before }) (sections_left dash end (option_copied mark.after)).later closed) ∙ ap Ok (append-nil form)
-
-pub shut : (b : Bool) → not b ≡ true → b ≡ false
-shut true e = absurd cc
-shut false e = refl
-
-pub closed : (b : Bool) → not b ≡ false → b ≡ true
-closed true e = refl
-closed false e = absurd cc
 
 -- a body is read from its first boundary line on
 whole : (dash boundary body : List ℕ) → dash ≡ dash_boundary boundary → sections_left dash (length body) (Some body) ≡ sections (dash_boundary boundary) 0 (lines body)

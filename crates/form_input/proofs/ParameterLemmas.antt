@@ -1,8 +1,8 @@
 -- Blanks, pieces and words of a header field.
-use Rattle.std.proofs.Common.{◌≡◌, ◌<◌, ◌≤◌, ◌+◌, ◌-◌, ℕ, Bool, true, false, cond, ◌&&◌, eqb, List, [], ◌∷◌, ◌++◌, Option, Some, None, take, drop, length, get_or, refl, ap, sym, ◌∙◌, arith, append_assoc}
+use Rattle.std.proofs.Common.{◌≡◌, ◌<◌, ◌≤◌, ◌+◌, ◌-◌, ℕ, Bool, true, false, cond, ◌&&◌, List, [], ◌∷◌, ◌++◌, Option, Some, None, take, drop, length, get_or, refl, ap, sym, ◌∙◌, append_assoc}
 use Rattle.std.specs.List.{onto_first}
-use Rattle.std.proofs.lemmas.Bool.Decides.{nat_tests}
 use Rattle.std.proofs.lemmas.List.{append-nil, drop_all, take_all, take_more, drop_more}
+use Rattle.sp_base.proofs.ListLemmas.{last_apart, push_is_some}
 use Rattle.form_input.specs.declared.parameters.Quoting.{Quoting}
 use Rattle.form_input.specs.declared.parameters.Quoting.TheVariants.{Outside}
 use Rattle.form_input.specs.Parameters.{is_space_or_tab, before_blanks, quoting_step, separates, parameter_pieces_from, parameter_pieces, with_byte}
@@ -14,14 +14,10 @@ unfolding before_blanks
 before_last_blank [] b e = rw e refl
 before_last_blank (c ∷ t) b e = rw (before_last_blank t b e) refl
 
-nonempty : (t : List ℕ) (b : ℕ) → eqb (length (t ++ b ∷ [])) 0 ≡ false
-nonempty [] b = refl
-nonempty (c ∷ t) b = grind (arith, nat_tests)
-
 pub before_last_word : (t : List ℕ) (b : ℕ) → is_space_or_tab b ≡ false → before_blanks (t ++ b ∷ []) ≡ t ++ b ∷ []
 unfolding before_blanks
 before_last_word [] b e = rw e refl
-before_last_word (c ∷ t) b e = rw (before_last_word t b e, nonempty t b) (go (is_space_or_tab c))
+before_last_word (c ∷ t) b e = rw (before_last_word t b e, push_is_some t b) (go (is_space_or_tab c))
   where
     go : (x : Bool) → cond (x && false) [] (c ∷ (t ++ b ∷ [])) ≡ c ∷ (t ++ b ∷ [])
     go true = refl
@@ -66,21 +62,16 @@ pub before_word_none : (o : Option (List ℕ)) → before_word [] o ≡ o
 before_word_none None = refl
 before_word_none (Some word) = refl
 
-last_is : (rest : List ℕ) → 1 ≤ length rest → take (length rest - 1) rest ++ get_or rest (length rest - 1) 0 ∷ [] ≡ rest
-last_is rest some =
-    let n : length rest - 1 + 1 ≡ length rest = omega (arith, some) in
-    sym (take_more rest (length rest - 1) 0 (omega (arith, some))) ∙ rw n (take_all (length rest) rest (omega arith))
-
 -- the last byte is no blank
 pub ends_in_word : (rest text : List ℕ) → 1 ≤ length rest → is_space_or_tab (get_or rest (length rest - 1) 0) ≡ false → before_blanks rest ≡ before_blanks text → rest ≡ before_blanks text
 ends_in_word rest text some word inv =
-    let e = last_is rest some in
+    let e = last_apart rest some in
     sym e ∙ sym (before_last_word (take (length rest - 1) rest) (get_or rest (length rest - 1) 0) word) ∙ ap before_blanks e ∙ inv
 
 -- the last byte is a blank
 pub ends_in_blank : (rest text : List ℕ) → 1 ≤ length rest → is_space_or_tab (get_or rest (length rest - 1) 0) ≡ true → before_blanks rest ≡ before_blanks text → before_blanks (take (length rest - 1) rest) ≡ before_blanks text
 ends_in_blank rest text some blank inv =
-    sym (before_last_blank (take (length rest - 1) rest) (get_or rest (length rest - 1) 0) blank) ∙ ap before_blanks (last_is rest some) ∙ inv
+    sym (before_last_blank (take (length rest - 1) rest) (get_or rest (length rest - 1) 0) blank) ∙ ap before_blanks (last_apart rest some) ∙ inv
 
 -- how far the first piece goes: the bytes before a place, and the pieces from there on
 abbrev pub ReadTo : Quoting → ℕ → List ℕ → Type 0

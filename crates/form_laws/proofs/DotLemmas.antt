@@ -6,10 +6,11 @@ use Rattle.std.specs.List.{list_all, onto_first}
 use Rattle.std.specs.Str.{bytes_eq}
 use Rattle.std.proofs.lemmas.Bool.{and_parts, and_from, not-true, eqb-true}
 use Rattle.std.proofs.lemmas.Bool.Decides.{nat_tests}
-use Rattle.std.proofs.lemmas.List.{append-nil, take_all, take_more}
+use Rattle.std.proofs.lemmas.List.{append-nil, nil_from_length, take_all, take_more}
 use Rattle.sp_base.specs.Texts.{Segments}
 use Rattle.sp_base.specs.Paths.{has_slash, is_dots, is_empty, is_long, seg_ok, is_path, pieces}
 use Rattle.sp_base.specs.PathTexts.{ends_segment, spelling_of}
+use Rattle.sp_base.proofs.PathTests.{segment_has_no_slash}
 use Rattle.post_plan.specs.RelativePaths.{RelativePath, relative_parent, relative_path_from, relative_path_of}
 use Rattle.post_plan.specs.Spots.{ends_in_name}
 use Rattle.form_laws.specs.DotSegments.{HasFirstSegment, or_slash, RemovesDots}
@@ -19,9 +20,6 @@ use Rattle.form_laws.specs.DotSegments.{HasFirstSegment, or_slash, RemovesDots}
 abbrev pub is_whole : List ℕ → Bool
 is_whole seg = not (has_slash seg)
 
-pub ok_whole : (seg : List ℕ) → seg_ok seg ≡ true → has_slash seg ≡ false
-ok_whole seg e = not-true (has_slash seg) (and_parts (not (is_long seg)) (not (has_slash seg)) (and_parts (not (is_dots seg)) (not (is_long seg) && not (has_slash seg)) (and_parts (not (is_empty seg)) (not (is_dots seg) && (not (is_long seg) && not (has_slash seg))) e).1).1).1
-
 ok_no_dots : (seg : List ℕ) → seg_ok seg ≡ true → is_dots seg ≡ false
 ok_no_dots seg e = not-true (is_dots seg) (and_parts (not (is_dots seg)) (not (is_long seg) && not (has_slash seg)) (and_parts (not (is_empty seg)) (not (is_dots seg) && (not (is_long seg) && not (has_slash seg))) e).1).0
 
@@ -29,7 +27,7 @@ pub all_whole : (segs : Segments) → list_all seg_ok segs ≡ true → list_all
 all_whole [] e = refl
 all_whole (seg ∷ segs) e =
     let both = and_parts (seg_ok seg) (list_all seg_ok segs) e in
-    rw (ok_whole seg both.0, all_whole segs both.1) refl
+    rw (segment_has_no_slash seg both.0, all_whole segs both.1) refl
 
 pub slashed_append : (segs more : Segments) → spelling_of (segs ++ more) ≡ spelling_of segs ++ spelling_of more
 slashed_append [] more = refl
@@ -68,7 +66,7 @@ pieces_slashed (b ∷ text) = let s = some_split text in go (eqb b 47) refl s.0 
 -- ---- steps
 
 moves : (done : Segments) (seg : List ℕ) (segs : Segments) (result : List ℕ) → seg_ok seg ≡ true → RemovesDots (spelling_of segs) (spelling_of (done ++ seg ∷ [])) result → RemovesDots (spelling_of (seg ∷ segs)) (spelling_of done) result
-moves done seg segs result ok d = RemovesDots.Moves seg (spelling_of segs) (first_slashed seg segs (ok_whole seg ok)) (ok_no_dots seg ok) (subst (λ (o : List ℕ). RemovesDots (spelling_of segs) o result) (slashed_more done seg) d)
+moves done seg segs result ok d = RemovesDots.Moves seg (spelling_of segs) (first_slashed seg segs (segment_has_no_slash seg ok)) (ok_no_dots seg ok) (subst (λ (o : List ℕ). RemovesDots (spelling_of segs) o result) (slashed_more done seg) d)
 
 moves_all : (done node segs : Segments) (result : List ℕ) → list_all seg_ok node ≡ true → RemovesDots (spelling_of segs) (spelling_of (done ++ node)) result → RemovesDots (spelling_of (node ++ segs)) (spelling_of done) result
 moves_all done [] segs result ok d = subst (λ (o : Segments). RemovesDots (spelling_of segs) (spelling_of o) result) (append-nil done) d
@@ -111,10 +109,6 @@ pub record Climbed (node : Segments) (r parent : RelativePath) : Type 0 where
   pub whole : has_slash last ≡ false
   pub kept : list_all (λ seg. not (has_slash seg)) parent.down ≡ true
 
-nil_of : (segs : Segments) → length segs ≡ 0 → segs ≡ []
-nil_of [] e = refl
-nil_of (seg ∷ segs) e = absurd (omega (arith, e))
-
 some_of : (n : ℕ) → eqb n 0 ≡ false → 1 ≤ n
 some_of n e = grind (arith, nat_tests)
 
@@ -141,7 +135,7 @@ parent_by x up down = cond x (record { up = up + 1; down = [] }) (record { up = 
 
 climbed_by : (node : Segments) (up : ℕ) (down : Segments) (x : Bool) → eqb (length down) 0 ≡ x → list_all is_whole node ≡ true → list_all is_whole down ≡ true → (parent_by x up down).up ≤ length node → Climbed node (record { up = up; down = down }) (parent_by x up down)
 climbed_by node up down true e n d low =
-    subst (λ (segs : Segments). Climbed node (record { up = up; down = segs }) (record { up = up + 1; down = [] })) (sym (nil_of down (eqb-true (length down) 0 e))) (climbed_up node up n low)
+    subst (λ (segs : Segments). Climbed node (record { up = up; down = segs }) (record { up = up + 1; down = [] })) (sym (nil_from_length down (eqb-true (length down) 0 e))) (climbed_up node up n low)
 climbed_by node up down false e n d low = climbed_back node up down d (some_of (length down) e)
 
 climbed : (node : Segments) (r : RelativePath) → list_all is_whole node ≡ true → list_all is_whole r.down ≡ true → (relative_parent r).up ≤ length node → Climbed node r (relative_parent r)
@@ -229,7 +223,7 @@ removes node (q ∷ qs) r final n d good e low =
         climbs (same_text q (codes "..") (sym ex)) c (ih (relative_parent r) c.kept f)
     go false false true ep ex es ih f =
         moves (led node r) q qs (spelling_of (led node final)) es
-        (subst (λ (segs : Segments). RemovesDots (spelling_of qs) (spelling_of segs) (spelling_of (led node final))) (sym (append_assoc (take (length node - r.up) node) r.down (q ∷ []))) (ih (record { up = r.up; down = r.down ++ q ∷ [] }) (whole_more r.down q d (ok_whole q es)) f))
+        (subst (λ (segs : Segments). RemovesDots (spelling_of qs) (spelling_of segs) (spelling_of (led node final))) (sym (append_assoc (take (length node - r.up) node) r.down (q ∷ []))) (ih (record { up = r.up; down = r.down ++ q ∷ [] }) (whole_more r.down q d (segment_has_no_slash q es)) f))
     go false false false ep ex es ih f = absurd cc
 
 pub path_ok : (node : Segments) → is_path node ≡ true → list_all seg_ok node ≡ true

@@ -5,10 +5,11 @@ use Rattle.std.specs.Cmp.Lexicographic.{pointwise, same_text}
 use Rattle.std.specs.List.{list_all}
 use Rattle.std.proofs.lemmas.Bool.{and_parts, and_from, leb-true, le-leb, lt-ltb}
 use Rattle.std.proofs.lemmas.List.{append_cancel_right, length-take, take-append-drop}
-use Rattle.std.proofs.lemmas.List.Folds.{list_all-append}
 use Rattle.std.proofs.Math.Seq.{take-append_seam, drop-append_seam}
 use Rattle.sp_base.specs.Texts.{Segments}
 use Rattle.sp_base.specs.Paths.{is_path, parent_of, path_in, path_or_none, seg_ok}
+use Rattle.sp_base.proofs.BoolLemmas.{and_false}
+use Rattle.sp_base.proofs.PathTests.{path_before}
 use Rattle.resource_tree.specs.MergeRoots.{is_merged_path}
 use Rattle.post_plan.specs.RelativePaths.{RelativePath, relative_path_of}
 use Rattle.post_plan.specs.Spots.{ends_in_name, goal_at, goal_base, goal_of, goes_under, is_absolute, led_to, own_name, unless_merged, word_without_slash}
@@ -83,14 +84,6 @@ parent_ok path e =
     let long = length-take (length path - 1) path in
     and_from (list_all seg_ok (parent_of path)) (nat_le (length (parent_of path)) 64) (ok_take (length path - 1) path both.0) (le-leb (length (parent_of path)) 64 (omega (arith, short, long)))
 
-ok_first : (segs more : Segments) → is_path (segs ++ more) ≡ true → is_path segs ≡ true
-ok_first segs more e =
-    let both = and_parts (list_all seg_ok (segs ++ more)) (nat_le (length (segs ++ more)) 64) e in
-    let each = and_parts (list_all seg_ok segs) (list_all seg_ok more) (sym (list_all-append seg_ok segs more) ∙ both.0) in
-    let short = leb-true (length (segs ++ more)) 64 both.1 in
-    let long = length-append segs more in
-    and_from (list_all seg_ok segs) (nat_le (length segs) 64) each.0 (le-leb (length segs) 64 (omega (arith, short, long)))
-
 -- the text before the slash at the end of a relative word
 record IsBeforeSlash (word : List ℕ) : Type 0 where
   pub text : List ℕ
@@ -112,10 +105,6 @@ before_slash word (b ∷ text) e rel =
           ∙ ap (λ (x : Bool). cond x (take (length ((b ∷ text) ++ 47 ∷ []) - 1) ((b ∷ text) ++ 47 ∷ [])) ((b ∷ text) ++ 47 ∷ [])) (slash_ends (b ∷ text))
           ∙ ap (λ (n : ℕ). take n ((b ∷ text) ++ 47 ∷ [])) (long_but_one (b ∷ text)) ∙ take-append_seam (b ∷ text) (47 ∷ []);
     }
-
-and_false : (x : Bool) → (x && false) ≡ false
-and_false true = refl
-and_false false = refl
 
 no_slash : (word : List ℕ) → goes_under word ≡ false → word_without_slash word ≡ word
 no_slash word e =
@@ -174,7 +163,7 @@ under_from : (target : Segments) (word : List ℕ) (goal : Segments) → is_path
 under_from target word goal ok b u fits unmerged =
     let same : b.text ≡ u.text = append_cancel_right b.text u.text (47 ∷ []) (sym b.spells ∙ u.slash) in
     let under : goes_under word ≡ true = ap goes_under b.spells ∙ slash_ends b.text in
-    let based : IsBase (parent_of target) u.text u.base = record { names = u.names; fits = ok_first u.base (own_name target) (ap is_path (sym u.is) ∙ fits) } in
+    let based : IsBase (parent_of target) u.text u.base = record { names = u.names; fits = path_before u.base (own_name target) (ap is_path (sym u.is) ∙ fits) } in
     ap (λ (text : List ℕ). option_and_then (goal_at target word) (goal_base (parent_of target) text)) (b.is ∙ same)
     ∙ ap (option_and_then (goal_at target word)) (base_from (parent_of target) u.text u.base (parent_ok target ok) (ap is_absolute (sym same) ∙ b.relative) based)
     ∙ ap (λ (x : Bool). unless_merged (cond x (path_or_none (u.base ++ own_name target)) (Some u.base))) under

@@ -10,12 +10,13 @@ use Rattle.std.proofs.lemmas.List.Folds.{list_all-append}
 use Rattle.sp_base.specs.Texts.{Segments}
 use Rattle.sp_base.specs.Paths.{is_path, path_in, path_or_none, pieces, seg_ok}
 use Rattle.sp_base.specs.PathTexts.{spelling_of}
+use Rattle.sp_base.proofs.PathTests.{segment_has_no_slash}
 use Rattle.resource_tree.specs.MergeRoots.{is_merged_path}
 use Rattle.post_plan.specs.RelativePaths.{RelativePath, relative_parent, relative_path_from, relative_path_of}
 use Rattle.post_plan.specs.declared.spot.Spot.{Spot}
 use Rattle.post_plan.specs.Spots.{any_spot, ends_in_name, full_path, if_changeable, is_absolute, led_to, relative_spot, spot_below, spot_of, spot_there}
 use Rattle.form_laws.specs.RelativeNames.{is_climb, is_step, IsSpotOf, NamesPath, StaysWithin}
-use Rattle.form_laws.proofs.DotLemmas.{first_slashed, led, ok_whole, path_ok, placed, some_is, step_by, up_grows}
+use Rattle.form_laws.proofs.DotLemmas.{first_slashed, led, path_ok, placed, some_is, step_by, up_grows}
 use Rattle.form_laws.proofs.DotsAlone.{one_outcome, same_parts}
 
 -- ---- how far a name climbs
@@ -181,8 +182,8 @@ slashed_same (p ∷ ps) [] w v e = absurd cc
 slashed_same (p ∷ ps) (q ∷ qs) w v e =
     let one = and_parts (seg_ok p) (list_all seg_ok ps) w in
     let other = and_parts (seg_ok q) (list_all seg_ok qs) v in
-    let first = first_slashed p ps (ok_whole p one.0) in
-    let second = first_slashed q qs (ok_whole q other.0) in
+    let first = first_slashed p ps (segment_has_no_slash p one.0) in
+    let second = first_slashed q qs (segment_has_no_slash q other.0) in
     let same = same_parts p q (spelling_of ps) (spelling_of qs) first.whole second.whole first.ends second.ends (tails e) in
     ap (λ (s : List ℕ). s ∷ ps) same.0 ∙ ap (λ (ss : Segments). q ∷ ss) (slashed_same ps qs one.1 other.1 same.1)
   where

@@ -4,7 +4,8 @@ use Rattle.std.specs.Prelude.{◌==◌, IsTrue, nat_eq, nat_le, not, remove, sli
 use Rattle.flights.specs.Flights.{AreRising as AreRisingFlights, numbers_of, without as flights_without, most_flights}
 use Rattle.flights.specs.declared.flight.Flight.{Flight}
 use Rattle.std.specs.Option.{option_map}
-use Rattle.std.proofs.lemmas.List.{length-map}
+use Rattle.std.proofs.lemmas.Bool.{or_from}
+use Rattle.std.proofs.lemmas.List.{append-nil, length-map}
 use Rattle.std.proofs.lemmas.Map.{update_here}
 use Rattle.sp_base.specs.declared.answer.Answer.{Answer}
 use Rattle.sp_base.specs.Requests.{Request}
@@ -45,7 +46,7 @@ use Rattle.front.specs.declared.ticketed.TicketedFlight.{TicketedFlight}
 use Rattle.front.specs.Caches.{Allows, AreTicketed, AreFlushesRising, AsksCache, Behind, BehindStandsFor, GivesIn, IsAnswered, IsSlicing, behind, HaveKinds, flushing_numbers, flying_labels, flying_of, local_reply, only_disk, tickets_of}
 use Rattle.front.specs.declared.answered.Answered.{Answered}
 use Rattle.front.proofs.FlightListLemmas.{rising-push}
-use Rattle.front.proofs.RequestLemmas.{CoreGot, IsNoteOf, Reaches, append-nil, behind-after, core-got, crowd-is, down-is, down-note, drawn-is, fallen-is, farm-key, flights-many, flush-note, flushes-many, free-of, full-note, full-of, hidden-note, local-spoils, owed-from, owed-is, past-crowded, past-fallen, past-flush, past-hidden, queue-length, reaches, told-failure, up-from, up-is}
+use Rattle.front.proofs.RequestLemmas.{CoreGot, IsNoteOf, Reaches, behind-after, core-got, crowd-is, down-is, down-note, drawn-is, fallen-is, farm-key, flights-many, flush-note, flushes-many, full-note, full-of, hidden-note, local-spoils, owed-from, owed-is, past-crowded, past-fallen, past-flush, past-hidden, queue-length, reaches, told-failure, up-from, up-is}
 use Rattle.cache_log.specs.Limits.{most_flushes, most_stamps}
 use Rattle.sp_outside.specs.Causes.{IsDiskFailure}
 
@@ -160,7 +161,7 @@ is-hit old core files faults w c request peer disk_failed key answer answered as
 
 -- ---- a request that is turned away
 not-full : (flights stamps : ℕ) → flights < 256 → stamps < most_stamps → (nat_le 256 flights || nat_le most_stamps stamps) ≡ false
-not-full flights stamps a b = free-of (nat_le 256 flights) (nat_le most_stamps stamps) (grind (arith, a)) (at_most stamps b)
+not-full flights stamps a b = or_from (nat_le 256 flights) (nat_le most_stamps stamps) (grind (arith, a)) (at_most stamps b)
   where
     at_most : (n : ℕ) → n < most_stamps → nat_le most_stamps n ≡ false
     at_most n l = grind (arith, l)

@@ -1,13 +1,13 @@
 -- The connections of a board, when one of them changes.
-use Rattle.std.proofs.Common.{◌≡◌, ◌≢◌, ℕ, ◌+◌, ◌++◌, Bool, true, false, List, [], ◌∷◌, Option, Some, None, Ordering, cond, refl, ap, sym, subst, ◌∙◌, arith, eq-eqb, ⊎_elim}
+use Rattle.std.proofs.Common.{◌≡◌, ◌≢◌, ℕ, ◌+◌, ◌++◌, Bool, true, false, List, [], ◌∷◌, Option, Some, None, cond, refl, ap, sym, subst, ◌∙◌, arith, eq-eqb, ⊎_elim}
 use Rattle.std.specs.Prelude.{IsSome, IsTrue, is_some, nat_eq, if◌then◌else◌}
-use Rattle.std.specs.declared.cmp.Ordering.TheVariants.{Less, Equal, Greater}
 use Rattle.std.specs.Option.{option_map}
-use Rattle.std.specs.Ordering.{nat_cmp, is_eq}
+use Rattle.std.specs.Ordering.{nat_cmp}
 use Rattle.std.specs.BTreeMap.{BTreeMap, get, is_at, Updates, WritesThrough, btree_map_len}
 use Rattle.std.proofs.lemmas.Map.{update_apart, update_here}
 use Rattle.std.proofs.lemmas.Map.Lookups.{exact_unsigned}
 use Rattle.std.proofs.lemmas.Bool.{cases_eq, ne_eqb}
+use Rattle.sp_base.proofs.OrderingLemmas.{equal_from_test}
 use Rattle.sp_outside.specs.Files.{Files}
 use Rattle.connections.specs.Connections.{Connection}
 use Rattle.connections.specs.Slots.{Response}
@@ -27,25 +27,16 @@ use Rattle.front.proofs.CauseLemmas.{allows-left, allows-right, cause-first, cau
 use Rattle.front.proofs.MoveLemmas.{Frame, afters-push, serves-frame, serves-push}
 
 -- ---- maps by number
-pub is_eq-true : (r : Ordering) → is_eq r ≡ true → r ≡ Equal
-is_eq-true Less e = absurd (let no : ⊥ = cc in no)
-is_eq-true Equal e = refl
-is_eq-true Greater e = absurd (let no : ⊥ = cc in no)
-
 pub at-other : (c q : ℕ) → q ≢ c → is_at (nat_cmp c) q ≡ false
 at-other c q apart = by_test (is_at (nat_cmp c) q) refl
   where
     by_test : (b : Bool) → is_at (nat_cmp c) q ≡ b → b ≡ false
-    by_test true e = absurd (apart (sym (exact_unsigned c q (is_eq-true (nat_cmp c q) e))))
+    by_test true e = absurd (apart (sym (exact_unsigned c q (equal_from_test (nat_cmp c q) e))))
     by_test false e = refl
 
 pub some-there : {A : Type 0} (o : Option A) (a : A) → o ≡ Some a → IsSome o
 some-there None a e = absurd (let no : ⊥ = cc in no)
 some-there (Some b) a e = refl
-
-pub is-none : {A : Type 0} (o : Option A) → is_some o ≡ false → o ≡ None
-is-none None e = refl
-is-none (Some a) e = absurd (let no : ⊥ = cc in no)
 
 -- ---- a connection and what is kept of it
 -- the connection of what is kept under a number
@@ -148,10 +139,6 @@ some-one (Some k) j n e = refl
 pub none-one : (o : Option KeptConnection) (n : ℕ) → o ≡ None → n + (if is_some o then 0 else 1) ≡ n + 1
 none-one None n e = refl
 none-one (Some k) n e = absurd (let no : ⊥ = cc in no)
-
-pub some-of : (o : Option KeptConnection) → is_some o ≡ true → (k : KeptConnection) × (o ≡ Some k)
-some-of None e = absurd (let no : ⊥ = cc in no)
-some-of (Some k) e = (k, refl)
 
 pub one-fewer : (o : Option KeptConnection) (k : KeptConnection) (m n : ℕ) → o ≡ Some k → n + (if is_some o then 1 else 0) ≡ m → n + 1 ≡ m
 one-fewer o k m n some len = sym (some-one o k n some) ∙ len

@@ -1,5 +1,6 @@
 -- What notes show of what they ran under.
 use Rattle.std.proofs.Common.{◌≡◌, ℕ, ◌+◌, ◌-◌, ◌<◌, ◌≤◌, ◌++◌, ◌||◌, Bool, true, false, List, [], ◌∷◌, refl, ap, sym, subst, ◌∙◌, arith, ◌⊎◌, inl, inr}
+use Rattle.std.proofs.lemmas.Bool.{or_left, or_right}
 use Rattle.std.specs.Prelude.{IsTrue, min}
 use Rattle.sp_base.specs.Limits.{greatest_u64}
 use Rattle.sp_outside.specs.Causes.{Rose, next, IsDiskFailure}
@@ -107,19 +108,11 @@ cause-one a under w note one = record {
     never false f is few = let no : ⊥ = cc in no
 
 -- ---- conditions
-or-left : (a b : Bool) → IsTrue a → IsTrue (a || b)
-or-left true b is = refl
-or-left false b is = absurd (let no : ⊥ = cc in no)
-
-or-right : (a b : Bool) → IsTrue b → IsTrue (a || b)
-or-right true b is = refl
-or-right false b is = is
-
 pub allows-left : (a b m : Conditions) → Allows (under_both a b) m → Allows a m
-allows-left a b m allows = record { disk_failed = λ is. allows.disk_failed (or-left a.disk_failed b.disk_failed is); out_of_memory = λ is. allows.out_of_memory (or-left a.out_of_memory b.out_of_memory is) }
+allows-left a b m allows = record { disk_failed = λ is. allows.disk_failed (or_left a.disk_failed b.disk_failed is); out_of_memory = λ is. allows.out_of_memory (or_left a.out_of_memory b.out_of_memory is) }
 
 pub allows-right : (a b m : Conditions) → Allows (under_both a b) m → Allows b m
-allows-right a b m allows = record { disk_failed = λ is. allows.disk_failed (or-right a.disk_failed b.disk_failed is); out_of_memory = λ is. allows.out_of_memory (or-right a.out_of_memory b.out_of_memory is) }
+allows-right a b m allows = record { disk_failed = λ is. allows.disk_failed (or_right a.disk_failed b.disk_failed is); out_of_memory = λ is. allows.out_of_memory (or_right a.out_of_memory b.out_of_memory is) }
 
 pub allows-self : (m : Conditions) → Allows m m
 allows-self m = record { disk_failed = λ is. is; out_of_memory = λ is. is }

@@ -3,15 +3,16 @@ use Rattle.std.proofs.Common.{◌≡◌, ◌≢◌, ◌≤◌, ◌<◌, ◌-◌,
 use Rattle.std.specs.Prelude.{Contains, IfErr, IfSome, IsTrue, OnOk, slice_get}
 use Rattle.std.specs.Cmp.Lexicographic.{nat_list_cmp_total}
 use Rattle.std.specs.FinMap.{contains_key, entries, get-remove, keys, len, len-entries, len-remove, nat_cmp-IsAntisymmetric, slice_cmp-IsAntisymmetric}
-use Rattle.std.specs.Ordering.{eq_by_cmp, is_eq}
+use Rattle.std.specs.Ordering.{eq_by_cmp}
 use Rattle.std.specs.declared.cmp.Ordering.{Ordering}
 use Rattle.std.specs.declared.cmp.Ordering.TheVariants.{Less, Equal, Greater}
-use Rattle.std.proofs.Math.Nat.{eq-or-lt_of_le}
-use Rattle.std.proofs.Math.Seq.{get_or-append_seam}
+use Rattle.std.proofs.lemmas.Bool.{or_left, or_right}
 use Rattle.std.proofs.lemmas.Option.{get_or_from_slice_get, slice_get_cases, slice_get_within}
-use Rattle.std.proofs.lemmas.List.{get_or_append_left, length-append, length-map, take_more}
+use Rattle.std.proofs.lemmas.List.{length-map, take_more}
 use Rattle.sp_base.specs.Names.{by_name}
 use Rattle.sp_base.specs.Texts.{Text}
+use Rattle.sp_base.proofs.ListLemmas.{last_or_before}
+use Rattle.sp_base.proofs.OrderingLemmas.{equal_from_test}
 use Rattle.sp_outside.specs.Calls.{Remove}
 use Rattle.sp_outside.specs.FileNames.{HasReached, IsNameAfter, names_left}
 use Rattle.sp_outside.specs.Files.{Files, IsListing, IsName, IsOldOrNew, file_at, names_after, told_without, without_file}
@@ -92,17 +93,12 @@ fewer-files files name =
     let less = fewer-one (contains_key files name) (len files) (len new) (len-remove nat_list_cmp_total files name) in
     omega (arith, old_size, new_size, less)
 
-equal : (o : Ordering) → is_eq o ≡ true → o ≡ Equal
-equal Less e = absurd (cc e)
-equal Equal e = refl
-equal Greater e = absurd (cc e)
-
 -- a name is that of the file that went, or its file is as it was
 same-or-beside : (files : Files) (name other : Text) → (other ≡ name) ⊎ (file_at (without_file files name) other ≡ file_at files other)
 same-or-beside files name other = by_test (eq_by_cmp by_name other name) refl
   where
     by_test : (b : Bool) → eq_by_cmp by_name other name ≡ b → (other ≡ name) ⊎ (file_at (without_file files name) other ≡ file_at files other)
-    by_test true e = inl (slice_cmp-IsAntisymmetric nat_cmp-IsAntisymmetric other name (equal (by_name other name) e))
+    by_test true e = inl (slice_cmp-IsAntisymmetric nat_cmp-IsAntisymmetric other name (equal_from_test (by_name other name) e))
     by_test false e = inr (get-remove nat_list_cmp_total files name other ∙ ap (λ b. cond b None (file_at files other)) e)
 
 pub clears-one : (is_gone : Text → Bool) (files : Files) (name : Text) → IsTrue (is_gone name) → file_at (without_file files name) name ≡ None → ClearsFiles is_gone files (without_file files name)
@@ -117,12 +113,6 @@ kind-call Page name answered is = inl is
 kind-call Stamp name answered is = inr is
 
 -- ---- names gone through one after the other
-last-or-before : {A : Type 0} (xs : List A) (last x : A) → Contains (xs ++ last ∷ []) x → Contains xs x ⊎ (x ≡ last)
-last-or-before xs last x has = ⊎_elim
-    (λ same. inr (sym has.2 ∙ ap (λ k. get_or (xs ++ last ∷ []) k x) same ∙ get_or-append_seam xs last [] x))
-    (λ less. inl (has.0, less, sym (get_or_append_left xs (last ∷ []) x has.0 less) ∙ has.2))
-    (eq-or-lt_of_le (omega (arith, has.1, length-append xs (last ∷ []))))
-
 -- the files of this kind among the first names are gone, and only files of this kind went
 pub record ClearsTo (kind : FileKind) (names : List Text) (seen : ℕ) (old new : Files) : Type 0 where
   pub clears : ClearsFiles (is_of_kind kind) old new
@@ -137,7 +127,7 @@ clears-to-more kind names i name lt at a b c first then = record {
   none = λ other has is. ⊎_elim
       (λ before. stays-gone (is_of_kind kind) b c other then.0 (first.none other before is))
       (λ same. subst (λ n. file_at c n ≡ None) (sym same) (then.1 (subst (λ n. IsTrue (is_of_kind kind n)) same is)))
-      (last-or-before (take i names) name other (subst (λ (l : List Text). Contains l other) (take_more names i name lt ∙ ap (λ n. take i names ++ n ∷ []) at) has));
+      (last_or_before (take i names) name other (subst (λ (l : List Text). Contains l other) (take_more names i name lt ∙ ap (λ n. take i names ++ n ∷ []) at) has));
 }
 
 -- ---- one list
@@ -185,17 +175,9 @@ up-to-none kind files = record { clears = clears-none (is_of_kind kind) files; n
     none (b ∷ name) is before = absurd (before refl)
 
 -- ---- both kinds
-or-first : (a b : Bool) → a ≡ true → (a || b) ≡ true
-or-first true b e = refl
-or-first false b e = absurd (cc e)
-
-or-second : (a b : Bool) → b ≡ true → (a || b) ≡ true
-or-second true b e = refl
-or-second false b e = e
-
 pub clears-either : (kind : FileKind) (a b : Files) → ClearsFiles (is_of_kind kind) a b → ClearsFiles is_page_or_stamp a b
-clears-either Page a b clears = clears-more is_page_file is_page_or_stamp a b (λ name is. or-first (is_page_file name) (is_stat_file name) is) clears
-clears-either Stamp a b clears = clears-more is_stat_file is_page_or_stamp a b (λ name is. or-second (is_page_file name) (is_stat_file name) is) clears
+clears-either Page a b clears = clears-more is_page_file is_page_or_stamp a b (λ name is. or_left (is_page_file name) (is_stat_file name) is) clears
+clears-either Stamp a b clears = clears-more is_stat_file is_page_or_stamp a b (λ name is. or_right (is_page_file name) (is_stat_file name) is) clears
 
 pub record ClearsAll (old new : Files) : Type 0 where
   pub clears : ClearsFiles is_page_or_stamp old new

@@ -1,5 +1,5 @@
 -- What is left of a connection, when something happens to it.
-use Rattle.std.proofs.Common.{◌≡◌, ℕ, ◌||◌, ◌+◌, suc, Bool, true, false, cond, List, [], ◌∷◌, ◌++◌, length, drop, Option, Some, None, refl, ap, sym, subst, ◌∙◌, arith, append_assoc, append-nil, length-append}
+use Rattle.std.proofs.Common.{◌≡◌, ℕ, ◌||◌, ◌+◌, Bool, true, false, cond, List, [], ◌∷◌, ◌++◌, length, drop, Option, Some, None, refl, ap, sym, subst, ◌∙◌, arith, append_assoc, append-nil, length-append}
 use Rattle.std.specs.Prelude.{IsTrue, IfSome, slice_get}
 use Rattle.http_front.specs.Turns.{End, SpellsTurns}
 use Rattle.http_front.specs.Intakes.{StandsFor}
@@ -8,12 +8,13 @@ use Rattle.http_front.specs.declared.intake.Intake.{Intake}
 use Rattle.http_front.specs.declared.turn.Turn.{Turn}
 use Rattle.http_front.specs.declared.turn.Turn.TheVariants.{Continue, Whole}
 use Rattle.connections.specs.declared.awaited.Awaited.{Awaited}
-use Rattle.connections.specs.Slots.{Response, Slot, interim_slot, is_awaiting}
-use Rattle.connections.specs.Connections.{Close, Connection, Nothing, Treat, with_due_continue, after_turn, due, due_at_turn, due_without_sending, slots_with_end, fresh, next_turn, with_end, with_response, with_sent, with_slot, IsInPlaceOfDue}
+use Rattle.connections.specs.Slots.{Response, Slot, interim_slot}
+use Rattle.connections.specs.Connections.{Close, Connection, Nothing, Treat, with_due_continue, after_turn, due, due_at_turn, due_without_sending, fresh, next_turn, with_end, with_sent, with_slot, IsInPlaceOfDue}
 use Rattle.connections.specs.Histories.{IsDueSending}
 use Rattle.connections.specs.declared.sending.Sending.{Sending}
 use Rattle.connections.specs.AnswerQueues.{QueueStandsFor}
 use Rattle.connections.specs.declared.answer_queue.AnswerQueue.{AnswerQueue}
+use Rattle.connections.proofs.PlaceLemmas.{length-filled}
 use Rattle.front.specs.KeptConnections.{ConnectionStandsFor, IsPaired, StandsForButContinue, Owes, ConnectionReads, Splits, TellsTurns, TellsOn, begins_with_continue, end_of}
 use Rattle.front.specs.declared.connection.Connection.{Connection as KeptConnection}
 
@@ -77,14 +78,6 @@ holds-same k o c d holds same answers = record {
   };
   ready = λ stays. holds.ready (sym same.closing ∙ stays);
 }
-
-pub length-filled : (n : Awaited) (r : Response) (slots : List Slot) → length (slots_with_end n r slots) ≡ length slots
-length-filled n r [] = refl
-length-filled n r (s ∷ slots) = by_test (is_awaiting n s.response) (length-filled n r slots)
-  where
-    by_test : (b : Bool) → length (slots_with_end n r slots) ≡ length slots → length (cond b (with_response r s ∷ slots) (s ∷ slots_with_end n r slots)) ≡ suc (length slots)
-    by_test true same = refl
-    by_test false same = ap suc same
 
 pub fill-holds : (k : KeptConnection) (o : AnswerQueue) (c : Connection) (n : Awaited) (r : Response) → ConnectionStandsFor k c → QueueStandsFor o (with_end n r c) → ConnectionStandsFor (record k { answers = o }) (with_end n r c)
 fill-holds k o c n r holds answers = holds-same k o c (with_end n r c) holds (record { peer = refl; closing = refl; stream = refl; turns = refl; count = length-filled n r c.slots; ends = refl }) answers

@@ -11,6 +11,7 @@ use Rattle.std.proofs.lemmas.Map.{update_apart, update_here}
 use Rattle.std.proofs.lemmas.Option.{slice_get-map}
 use Rattle.sp_base.specs.MediaTypes.{is_kind}
 use Rattle.sp_base.specs.declared.answer.Answer.{Answer}
+use Rattle.sp_base.proofs.ListLemmas.{find_passes}
 use Rattle.sp_outside.specs.Files.{Files}
 use Rattle.any_config.specs.declared.farm.Farm.{Farm}
 use Rattle.cover_rules.specs.declared.page.PageKey.{PageKey}
@@ -50,7 +51,7 @@ use Rattle.run_events.specs.States.{RunState}
 use Rattle.front.specs.Caches.{AreTicketed, Behind, BehindStandsFor, HasNoteCause, HaveKinds, IsEnding, IsDelivery, IsLoss, RepliesFor, behind, flying_labels, flying_of, landing_end_of, only_disk, tickets_of, with_end_if}
 use Rattle.front.specs.declared.answered.Ended.{Ended}
 use Rattle.front.specs.declared.ticketed.TicketedFlight.{TicketedFlight}
-use Rattle.front.proofs.FlightListLemmas.{found-passes, found-some, get-within, got, place, rising-remove}
+use Rattle.front.proofs.FlightListLemmas.{found-some, get-within, got, place, rising-remove}
 use Rattle.front.proofs.PositionLemmas.{map-remove}
 use Rattle.sp_outside.specs.Causes.{IsDiskFailure}
 
@@ -81,7 +82,7 @@ passes test ts i t found at = (found-some test (flying_of ts) i (sym found)).1 �
 
 -- the rendered flight that is found has its answer
 pub is-some : (pick : Pick) (ts : List TicketedFlight) (i : ℕ) (t : TicketedFlight) → Some i ≡ position (λ flying. is_picked pick flying && is_rendered flying) (flying_of ts) → slice_get ts i ≡ Some t → IsSome t.flying.rendered
-is-some pick ts i t found at = both (is_picked pick t.flying) (is_rendered t.flying) (found-passes (λ flying. is_picked pick flying && is_rendered flying) (flying_of ts) t.flying (passes (λ flying. is_picked pick flying && is_rendered flying) ts i t found at))
+is-some pick ts i t found at = both (is_picked pick t.flying) (is_rendered t.flying) (find_passes (λ flying. is_picked pick flying && is_rendered flying) (flying_of ts) t.flying (passes (λ flying. is_picked pick flying && is_rendered flying) ts i t found at))
   where
     both : (a b : Bool) → (a && b) ≡ true → b ≡ true
     both true b e = e

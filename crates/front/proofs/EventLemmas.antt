@@ -8,6 +8,7 @@ use Rattle.std.specs.Ordering.{nat_cmp}
 use Rattle.std.specs.BTreeMap.{BTreeMap, get, Updates, btree_map_len}
 use Rattle.std.proofs.lemmas.Map.{update_apart, update_here}
 use Rattle.std.proofs.lemmas.Bool.{cases_eq}
+use Rattle.sp_base.proofs.OptionLemmas.{none_from_test, value_there}
 use Rattle.sp_outside.specs.Files.{Files}
 use Rattle.http_front.specs.Turns.{Waits}
 use Rattle.connections.specs.Connections.{with_piece, fresh}
@@ -28,7 +29,7 @@ use Rattle.front.specs.declared.answered.Ended.{Ended as EndedAs}
 use Rattle.front.specs.declared.board.Board.{Board}
 use Rattle.front.specs.declared.connection.Connection.{Connection as KeptConnection}
 use Rattle.front.specs.declared.effect.Effect.{Effect}
-use Rattle.front.proofs.BoardLemmas.{at-other, behind-same, is-none, open_connections-after, open_connections-without, one-fewer, some-of, tied-none, tied-some}
+use Rattle.front.proofs.BoardLemmas.{at-other, behind-same, open_connections-after, open_connections-without, one-fewer, tied-none, tied-some}
 use Rattle.front.proofs.CauseLemmas.{allows-self, cause-none, cause-one}
 use Rattle.front.proofs.FlightListLemmas.{found-none}
 use Rattle.front.proofs.MoveLemmas.{Frame}
@@ -60,7 +61,7 @@ free-opened w c peer free = rw free refl
 pub opened-there : (b : BoardAt) (w : RunState) (c : ℕ) (peer : List ℕ) (effect : Effect) → BoardStandsFor b w → is_some (get nat_cmp b.board.open_connections c) ≡ true → effect.notes.items ≡ Idle ∷ [] → effect.conditions ≡ under_nothing
     → IsEventOf (BoardStandsFor b) w (Opened c peer) effect b.faults b.faults
 opened-there b w c peer effect tied there notes under =
-    let some = some-of _ there in
+    let some = value_there _ there in
     let connection = tied-some _ _ some.0 (tied.open_connections.each c) some.1 in
     let before : state_after_opening w c peer (w.connection c) ≡ w = ap (state_after_opening w c peer) connection.open_is in
     let state : state_after_notes (state_after_opening w c peer (w.connection c)) effect.notes.items ≡ w = ap (state_after_notes (state_after_opening w c peer (w.connection c))) notes ∙ before in
@@ -141,7 +142,7 @@ piece-there b g h w c bytes effect tied read settled =
 pub piece-none : (b : BoardAt) (w : RunState) (c : ℕ) (bytes : List ℕ) (effect : Effect) → BoardStandsFor b w → is_some (get nat_cmp b.board.open_connections c) ≡ false → effect.notes.items ≡ Idle ∷ [] → effect.conditions ≡ under_nothing
     → IsEventOf (BoardStandsFor b) w (Piece c bytes) effect b.faults b.faults
 piece-none b w c bytes effect tied absent notes under =
-    let none : w.connection c ≡ None = tied-none _ _ (tied.open_connections.each c) (is-none _ absent) in
+    let none : w.connection c ≡ None = tied-none _ _ (tied.open_connections.each c) (none_from_test _ absent) in
     let e : Event = event_of (Piece c bytes) effect [] Waits in
     let v = on_connection w c (with_piece bytes [] Waits) in
     let same : (q : ℕ) → v.connection q ≡ w.connection q = λ q. ⊎_elim
@@ -166,7 +167,7 @@ pub gone-there : (b : BoardAt) (w : RunState) (c : ℕ) (open_connections : BTre
     → Updates nat_cmp b.board.open_connections open_connections c None → o ≡ get nat_cmp b.board.open_connections c → btree_map_len open_connections + (if is_some o then 1 else 0) ≡ btree_map_len b.board.open_connections → effect.notes.items ≡ []
     → effect.conditions ≡ under_nothing → IsEventOf (BoardStandsFor (at_disk (record { open_connections = open_connections; cache = b.board.cache }) b.files b.faults)) w (Gone c) effect b.faults b.faults
 gone-there b w c open_connections o effect tied there updates was len notes under =
-    let some = some-of _ there in
+    let some = value_there _ there in
     let fewer = one-fewer o some.0 _ _ (was ∙ some.1) len in
     let connection = tied-some _ _ some.0 (tied.open_connections.each c) some.1 in
     let v : RunState = record w { connection = update nat_eq w.connection c None; connection_count = w.connection_count - 1 } in
@@ -186,7 +187,7 @@ gone-there b w c open_connections o effect tied there updates was len notes unde
 pub gone-none : (b : BoardAt) (w : RunState) (c : ℕ) (effect : Effect) → BoardStandsFor b w → is_some (get nat_cmp b.board.open_connections c) ≡ false → effect.notes.items ≡ Idle ∷ [] → effect.conditions ≡ under_nothing
     → IsEventOf (BoardStandsFor b) w (Gone c) effect b.faults b.faults
 gone-none b w c effect tied absent notes under =
-    let none : w.connection c ≡ None = tied-none _ _ (tied.open_connections.each c) (is-none _ absent) in
+    let none : w.connection c ≡ None = tied-none _ _ (tied.open_connections.each c) (none_from_test _ absent) in
     let state : state_after_notes (state_after_going w c (w.connection c)) effect.notes.items ≡ w = ap (state_after_notes (state_after_going w c (w.connection c))) notes ∙ ap (state_after_going w c) none in
     record {
       turns = [];

@@ -3,17 +3,13 @@ use Rattle.std.proofs.Common.{◌≡◌, ℕ, ◌<◌, ◌≤◌, ◌++◌, zero
 use Rattle.std.specs.Prelude.{nat_eq, nat_lt, position, remove, slice_get, slice_set}
 use Rattle.std.specs.List.{find, position_or_len}
 use Rattle.std.proofs.lemmas.List.Folds.{find_at}
+use Rattle.std.proofs.lemmas.Option.{slice_get_past}
 use Rattle.sp_base.specs.declared.answer.Answer.{Answer}
 use Rattle.run_events.specs.declared.flying.Flying.{Flying}
 use Rattle.run_events.specs.States.{AirRises}
 use Rattle.run_events.specs.Moves.{flying_at, with_rendered, with_rendered_at, air_without}
 
 -- ---- the first that is asked for
-pub get-none : {A : Type 0} (xs : List A) (i : ℕ) → length xs ≤ i → slice_get xs i ≡ None
-get-none [] i l = refl
-get-none (x ∷ xs) zero l = absurd (omega (arith, l))
-get-none (x ∷ xs) (suc i) l = get-none xs i (omega (arith, l))
-
 pub get-within : {A : Type 0} (xs : List A) (i : ℕ) → i < length xs → (x : A) × (slice_get xs i ≡ Some x)
 get-within [] i l = absurd (omega (arith, l))
 get-within (x ∷ xs) zero l = (x, refl)
@@ -32,7 +28,7 @@ found-none test xs e = by_test (nat_lt (position_or_len test xs) (length xs)) re
   where
     by_test : (b : Bool) → nat_lt (position_or_len test xs) (length xs) ≡ b → find test xs ≡ None
     by_test true less = absurd (let some : Some (position_or_len test xs) ≡ None = rw less at e in let no : ⊥ = cc in no)
-    by_test false less = find_at test xs ∙ get-none xs (position_or_len test xs) (grind (arith, less))
+    by_test false less = find_at test xs ∙ slice_get_past xs (position_or_len test xs) (grind (arith, less))
 
 pub found-some : {A : Type 0} (test : A → Bool) (xs : List A) (i : ℕ) → position test xs ≡ Some i → (i < length xs) × (find test xs ≡ slice_get xs i)
 found-some test xs i e = by_test (nat_lt (position_or_len test xs) (length xs)) refl
@@ -44,15 +40,6 @@ found-some test xs i e = by_test (nat_lt (position_or_len test xs) (length xs)) 
         let within : position_or_len test xs < length xs = grind (arith, less) in
         (subst (λ k. k < length xs) same within, find_at test xs ∙ ap (slice_get xs) same)
     by_test false less = absurd (let none : None ≡ Some i = rw less at e in let no : ⊥ = cc in no)
-
--- the one that is found passes
-pub found-passes : {A : Type 0} (test : A → Bool) (xs : List A) (x : A) → find test xs ≡ Some x → test x ≡ true
-found-passes test [] x e = absurd (let no : ⊥ = cc in no)
-found-passes test (y ∷ xs) x e = by_test (test y) refl (found-passes test xs x)
-  where
-    by_test : (b : Bool) → test y ≡ b → (find test xs ≡ Some x → test x ≡ true) → test x ≡ true
-    by_test true passes rest = let some : Some y ≡ Some x = rw passes at e in let same : y ≡ x = cc in subst (λ z. test z ≡ true) same passes
-    by_test false passes rest = rest (rw passes at e)
 
 -- ---- numbers that rise
 pub rising-lower : (a b : ℕ) (flights : List Flying) (most : ℕ) → b ≤ a → AirRises a flights most → AirRises b flights most

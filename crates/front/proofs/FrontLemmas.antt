@@ -31,6 +31,7 @@ use Rattle.run_events.specs.Events.{Event, Extends, HasCause, IsOrFixed, RenderT
 use Rattle.run_events.specs.Moves.{state_after_note, state_after_notes, content_rendered, flying_at, published_for, with_rendered, with_rendered_at}
 use Rattle.run_events.specs.Publishers.{Publication, Publishing, direct_answer}
 use Rattle.run_events.specs.States.{RunState}
+use Rattle.run_events.proofs.StillEvents.{IsStillStep, step-same}
 use Rattle.front.specs.Boards.{BoardAt, BoardMakesEvent, BoardStandsFor, HaveCause, IsEventOf, ReadAt, at_disk, behind_board, event_of}
 use Rattle.front.specs.Caches.{Behind, BehindStandsFor, CacheParts, behind, flying_labels, under_nothing}
 use Rattle.front.specs.Fronts.{BeginsRun, FrontStandsFor, IsRenderGiven, MakesEvent}
@@ -42,7 +43,7 @@ use Rattle.front.proofs.BoardLemmas.{at-other, some-there}
 use Rattle.front.proofs.CauseLemmas.{cause-one}
 use Rattle.front.proofs.EventLemmas.{idle-cause}
 use Rattle.front.proofs.FlightListLemmas.{found-none, found-some, get-within, got, place, rising-set}
-use Rattle.front.proofs.StillLemmas.{IsStillStep, event-session, step-same}
+use Rattle.front.proofs.StillLemmas.{event-session}
 
 -- what follows from what an answer is
 pub ok-map : {A E : Type 0} {P Q : A → Type 0} (r : Result A E) → IfOk r P → ((a : A) → P a → Q a) → IfOk r Q

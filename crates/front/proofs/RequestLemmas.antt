@@ -64,10 +64,6 @@ pub core-got : (old : Behind) (core : Core) (files : Option Files) (faults : ℕ
     → CoreGot old core files faults request peer r.disk_failed out
 core-got old core files faults request peer r out is log cause disk labels flushes kept = subst (CoreGot old core files faults request peer r.disk_failed) is (record { log = log; cause = cause; disk = disk; labels = labels; flushes = flushes; kept = kept })
 
-pub append-nil : {A : Type 0} (xs : List A) → xs ++ [] ≡ xs
-append-nil [] = refl
-append-nil (x ∷ xs) = ap (λ ys. x ∷ ys) (append-nil xs)
-
 pub told-failure : (before after : ℕ) (disk_failed : Bool) → IsDiskFailure before after disk_failed → IsDiskFailure before after disk_failed
 told-failure before after true rose = rose
 told-failure before after false same = same
@@ -179,9 +175,6 @@ pub full-of : (flights stamps : Bool) → IsTrue flights ⊎ IsTrue stamps → I
 full-of true stamps is = refl
 full-of false stamps (inl is) = absurd (let no : ⊥ = cc in no)
 full-of false stamps (inr is) = is
-
-pub free-of : (flights stamps : Bool) → flights ≡ false → stamps ≡ false → (flights || stamps) ≡ false
-free-of flights stamps a b = rw (a, b) refl
 
 pub down-note : (w : RunState) (c : ℕ) (request : Request) (peer : List ℕ) (b : Behind) (disk_failed : Bool) → AsksCache w c request peer b → b.cache.core.down ≡ true → IsNoteOf disk_failed w c request (Local c 503)
 down-note w c request peer b disk_failed asks fell =

@@ -5,6 +5,7 @@ use Rattle.std.specs.Map.{update}
 use Rattle.std.specs.Option.{option_map}
 use Rattle.std.specs.Ordering.{nat_cmp}
 use Rattle.std.specs.BTreeMap.{BTreeMap, get, keys, btree_map_len}
+use Rattle.std.proofs.lemmas.List.{append_assoc}
 use Rattle.std.proofs.lemmas.Map.{update_apart, update_here}
 use Rattle.std.proofs.lemmas.Bool.{cases_eq}
 use Rattle.http_front.specs.Turns.{Waits}
@@ -26,6 +27,7 @@ use Rattle.run_events.specs.Moves.{failure_status, flush_at, state_after_ending,
 use Rattle.run_events.specs.Restarts.{EndsRestart, cut_notes, without_connections}
 use Rattle.run_events.specs.Points.{call_conditions}
 use Rattle.run_events.specs.States.{AreOpen, RunState}
+use Rattle.run_events.proofs.NoteLemmas.{notes_append}
 use Rattle.front.specs.Boards.{BoardAt, BoardStandsFor, EntryStandsFor, HaveCause, IsEventOf, behind_board}
 use Rattle.front.specs.Caches.{Behind, BehindStandsFor}
 use Rattle.front.specs.Restarts.{AreKeys, IsReopened, IsShut, LosesFlights, failed_notes, lost_notes}
@@ -34,7 +36,6 @@ use Rattle.front.specs.declared.effect.Effect.{Effect}
 use Rattle.front.specs.declared.restarts.Reopened.{Reopened}
 use Rattle.front.proofs.BoardLemmas.{behind-same}
 use Rattle.front.proofs.CauseLemmas.{shows-push}
-use Rattle.front.proofs.MoveLemmas.{afters-append}
 use Rattle.sp_outside.specs.Causes.{IsDiskFailure}
 
 -- ---- connections that are shut
@@ -159,8 +160,8 @@ restart-event b mid h reopened effect w tied loses flushes faults are_keys reope
     let none3 = shuts-none v2 cs none2.0 in
     let last = ends-at v2 u reopened.conditions reopened.note (behind_board h) same ends2 stands2 in
     let cut = lost_notes b.board.cache.flying ++ (failed_notes mid.cache.flushes ++ map Shut cs) in
-    let cut_is : state_after_notes v0 cut ≡ u = afters-append v0 (lost_notes b.board.cache.flying) (failed_notes mid.cache.flushes ++ map Shut cs) ∙ afters-append v1 (failed_notes mid.cache.flushes) (map Shut cs) in
-    let end_is : state_after_notes v0 effect.notes.items ≡ state_after_note u reopened.note = ap (state_after_notes v0) notes ∙ afters-append v0 cut (reopened.note ∷ []) ∙ ap (λ x. state_after_note x reopened.note) cut_is in
+    let cut_is : state_after_notes v0 cut ≡ u = notes_append v0 (lost_notes b.board.cache.flying) (failed_notes mid.cache.flushes ++ map Shut cs) ∙ notes_append v1 (failed_notes mid.cache.flushes) (map Shut cs) in
+    let end_is : state_after_notes v0 effect.notes.items ≡ state_after_note u reopened.note = ap (state_after_notes v0) notes ∙ notes_append v0 cut (reopened.note ∷ []) ∙ ap (λ x. state_after_note x reopened.note) cut_is in
     let cut_notes_is : cut ≡ cut_notes w cs = ap (λ fs. lost_notes fs ++ (failed_notes mid.cache.flushes ++ map Shut cs)) tied.behind_is.flying_is ∙ ap (λ fs. lost_notes w.flights ++ (failed_notes fs ++ map Shut cs)) (flushes ∙ tied.behind_is.flushing_is) in
     let ends_here : EndsRestart (state_after_notes v0 (cut_notes w cs)) reopened.conditions reopened.note = subst (λ x. EndsRestart x reopened.conditions reopened.note) (sym (ap (state_after_notes v0) (sym cut_notes_is) ∙ cut_is)) (ends-same v2 u reopened.conditions reopened.note same ends2) in
     let quiet : AreQuiet effect.notes.items = subst AreQuiet (sym notes) (quiet-append cut (reopened.note ∷ []) (quiet-append _ _ (lost-quiet b.board.cache.flying) (quiet-append _ _ (failed-quiet mid.cache.flushes) (shut-quiet cs))) (last-quiet v2 reopened.conditions reopened.note ends2, tt)) in
@@ -186,9 +187,5 @@ restart-event b mid h reopened effect w tied loses flushes faults are_keys reope
       });
     }
 
-join : {A : Type 0} (xs ys zs : List A) → (xs ++ ys) ++ zs ≡ xs ++ (ys ++ zs)
-join [] ys zs = refl
-join (x ∷ xs) ys zs = ap (λ l. x ∷ l) (join xs ys zs)
-
 pub notes-joined : (none first second third all : List Note) (a b c : List Note) (last : Note) → none ≡ [] → first ≡ none ++ a → second ≡ first ++ b → third ≡ second ++ c → all ≡ third ++ last ∷ [] → all ≡ (a ++ (b ++ c)) ++ last ∷ []
-notes-joined none first second third all a b c last is one two three four = four ∙ ap (λ l. l ++ last ∷ []) (three ∙ ap (λ l. l ++ c) (two ∙ ap (λ l. l ++ b) (one ∙ ap (λ l. l ++ a) is)) ∙ join a b c)
+notes-joined none first second third all a b c last is one two three four = four ∙ ap (λ l. l ++ last ∷ []) (three ∙ ap (λ l. l ++ c) (two ∙ ap (λ l. l ++ b) (one ∙ ap (λ l. l ++ a) is)) ∙ append_assoc a b c)

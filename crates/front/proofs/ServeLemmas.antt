@@ -1,11 +1,11 @@
 -- One note that a connection is owed.
-use Rattle.std.proofs.Common.{◌≡◌, ℕ, ◌||◌, Bool, true, false, List, [], ◌∷◌, Option, Some, None, nat_eq, refl, ap, sym, subst, ◌∙◌, ◌⊎◌, inl, inr, ⊎_elim, arith}
+use Rattle.std.proofs.Common.{◌≡◌, ℕ, ◌||◌, Bool, true, false, List, [], ◌∷◌, Option, Some, None, nat_eq, refl, ap, sym, subst, ◌∙◌, ◌⊎◌, inl, inr, ⊎_elim}
 use Rattle.std.specs.Prelude.{◌==◌, IsTrue, if◌then◌else◌}
 use Rattle.std.specs.Option.{option_map}
 use Rattle.std.proofs.lemmas.Map.{update_here}
-use Rattle.std.proofs.lemmas.Bool.Decides.{nat_tests}
 use Rattle.error_answers.specs.Errors.{error_answer}
 use Rattle.sp_base.specs.Requests.{Request}
+use Rattle.sp_base.proofs.NatLemmas.{nat_eq_itself}
 use Rattle.cache_ids.specs.Ids.{FlushId}
 use Rattle.http_front.specs.Faults.{fault_status, insufficient_storage}
 use Rattle.http_front.specs.declared.fault.InFault.{InFault}
@@ -174,9 +174,6 @@ given-refusal w c k j b fault owes holds =
     )
 
 -- ---- a flush that just began has its first slice
-same-number : (c : ℕ) → nat_eq c c ≡ true
-same-number c = grind (arith, nat_tests)
-
 -- the connection that waits for the one flush
 slice-waits : (w : RunState) (c : ℕ) (flush : FlushId) (ended : Ended) (old new : Behind) (slice : IsPurging w ended old new) → w.flushes ≡ record { number = flush; connection = c } ∷ [] → (ended.connection ≡ c) × (slice.flush.number ≡ flush)
 slice-waits w c flush ended old new slice one =
@@ -193,7 +190,7 @@ given-slice w c k j old new ended meets slice fills =
     let flush = meets.slicing_is.0 in
     let waits = slice-waits w c flush ended old new slice meets.slicing_is.2 in
     let ending = slice.ending in
-    let mine : nat_eq c ended.connection ≡ true = ap (nat_eq c) waits.0 ∙ same-number c in (
+    let mine : nat_eq c ended.connection ≡ true = ap (nat_eq c) waits.0 ∙ nat_eq_itself c in (
       λ under allows. subst (λ s. GivesNext under w c s ended.note) (sym meets.slicing_is.1) (subst (λ v. GivesSlice under v ended.note) waits.1 (slice.gives under allows)),
       ending.cause,
       record {

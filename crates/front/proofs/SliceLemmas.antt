@@ -3,6 +3,8 @@ use Rattle.std.proofs.Common.{◌≡◌, ℕ, ◌<◌, ◌≤◌, Bool, true, fa
 use Rattle.std.specs.Prelude.{◌==◌, IfSome, if◌then◌else◌, length}
 use Rattle.std.specs.Option.{option_map}
 use Rattle.std.proofs.lemmas.Bool.Decides.{nat_tests}
+use Rattle.sp_base.proofs.ListLemmas.{cons_parts}
+use Rattle.sp_base.proofs.NatLemmas.{nat_eq_itself}
 use Rattle.error_answers.specs.Errors.{error_answer}
 use Rattle.http_front.specs.Faults.{insufficient_storage}
 use Rattle.sp_outside.specs.Files.{Files}
@@ -34,9 +36,6 @@ use Rattle.front.proofs.EndingLemmas.{ending-in, no-false, updated-with}
 use Rattle.sp_outside.specs.Causes.{IsDiskFailure}
 
 -- ---- numbers of flushes
-same-number : (n : ℕ) → nat_eq n n ≡ true
-same-number n = grind (arith, nat_tests)
-
 pub rising-lower : (a b : ℕ) (fs : List Flushing) (most : ℕ) → b ≤ a → AreFlushesRising a fs most → AreFlushesRising b fs most
 rising-lower a b [] most l rising = omega (arith, l, rising)
 rising-lower a b (f ∷ fs) most l rising = (omega (arith, l, rising.0), rising.1)
@@ -50,13 +49,10 @@ apart-flushes n least (f ∷ fs) most l rising =
     rw no (ap (λ gs. f ∷ gs) (apart-flushes n f.number fs most (omega (arith, above)) rising.1))
 
 pub without-first : (f : Flushing) (fs : List Flushing) (most : ℕ) → AreFlushesRising 0 (f ∷ fs) most → without_flush f.number (f ∷ fs) ≡ fs
-without-first f fs most rising = rw (same-number f.number) (apart-flushes f.number f.number fs most (omega arith) rising.1)
+without-first f fs most rising = rw (nat_eq_itself f.number) (apart-flushes f.number f.number fs most (omega arith) rising.1)
 
 pub at-first : (f : Flushing) (fs : List Flushing) → flush_at f.number (f ∷ fs) ≡ Some f
-at-first f fs = rw (same-number f.number) refl
-
-first-number : (a b : ℕ) (xs ys : List ℕ) → a ∷ xs ≡ b ∷ ys → (a ≡ b) × (xs ≡ ys)
-first-number a b xs ys e = (cc, cc)
+at-first f fs = rw (nat_eq_itself f.number) refl
 
 -- ---- what a slice leaves
 -- what is known before the slice of the oldest flush
@@ -72,7 +68,7 @@ slice-more : (core after_ : Core) (gs : List Flying) (f : Flushing) (fs : List F
     (behind (record { core = core; flying = gs; flushes = f ∷ fs }) files faults) (behind (record { core = after_; flying = gs; flushes = f ∷ fs }) later after_faults)
 slice-more core after_ gs f fs files later faults after_faults w v is purge log told =
     let stands = is.stands in
-    let number : v ≡ f.number = (first-number v f.number purge.1.0 (flushing_numbers fs) (sym purge.1.1 ∙ stands.flushes_are)).0 in
+    let number : v ≡ f.number = (cons_parts v f.number purge.1.0 (flushing_numbers fs) (sym purge.1.1 ∙ stands.flushes_are)).0 in
     let extends = subst (λ n. ExtendsCore files core later after_ (purged_under (purged.More v)) (sliced_entry n ∷ [])) number log w.found in
     record {
       flush = f;
@@ -108,7 +104,7 @@ slice-last : (core after_ : Core) (gs : List Flying) (f : Flushing) (fs : List F
     (behind (record { core = core; flying = gs; flushes = f ∷ fs }) files faults) (behind (record { core = after_; flying = gs; flushes = fs }) later after_faults)
 slice-last core after_ gs f fs files later faults after_faults w v status outcome under told n is purge log cause state gives =
     let stands = is.stands in
-    let numbers = first-number v f.number (flushes_of after_) (flushing_numbers fs) (sym purge ∙ stands.flushes_are) in
+    let numbers = cons_parts v f.number (flushes_of after_) (flushing_numbers fs) (sym purge ∙ stands.flushes_are) in
     let extends = subst (λ k. ExtendsCore files core later after_ under (ended_entry k outcome ∷ [])) numbers.0 log w.found in
     let found : flush_at f.number w.flushes ≡ Some f = ap (flush_at f.number) (sym stands.flushing_is) ∙ at-first f fs in
     let left : without_flush f.number w.flushes ≡ fs = ap (without_flush f.number) (sym stands.flushing_is) ∙ without-first f fs (flushes_begun w.log) stands.flushes_rise in

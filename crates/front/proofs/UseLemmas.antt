@@ -1,12 +1,12 @@
 -- How calls use a disk, one after the other.
-use Rattle.std.proofs.Common.{◌≡◌, ◌≤◌, ◌<◌, ◌+◌, ◌++◌, ◌∙◌, ℕ, Bool, true, false, List, [], ◌∷◌, Option, Result, Ok, Err, refl, sym, ap, subst, arith}
-use Rattle.std.specs.List.{AllByRecursion}
+use Rattle.std.proofs.Common.{◌≡◌, ◌≤◌, ◌<◌, ◌+◌, ◌++◌, ℕ, Bool, true, false, List, [], ◌∷◌, Option, Result, Ok, Err, refl, subst, arith}
 use Rattle.sp_outside.specs.Calls.{Call, told_call, told_calls}
 use Rattle.sp_outside.specs.Causes.{Rose, IsDiskFailure}
 use Rattle.cache_files.specs.Epochs.{HasOpenCause}
 use Rattle.cache_files.specs.declared.epoch.OpenFault.{OpenFault}
 use Rattle.cache_files.specs.declared.epoch.OpenFault.TheVariants as open_fault
 use Rattle.docroot_changes.specs.DocrootCalls.{IsDocrootCall, MakesDocrootCalls}
+use Rattle.docroot_changes.proofs.MadeCalls.{makes_more}
 use Rattle.front.specs.Uses.{UsesDisk}
 
 -- ---- which calls are made
@@ -20,13 +20,6 @@ told-append : (x : Option (List Call)) (a b : List Call) → told_calls x (a ++ 
 told-append x [] b = refl
 told-append x (call ∷ a) b = told-append (told_call x call) a b
 
-all-append : (a b : List Call) → AllByRecursion IsDocrootCall a → AllByRecursion IsDocrootCall b → AllByRecursion IsDocrootCall (a ++ b)
-all-append [] b all more = more
-all-append (call ∷ a) b all more = (all.0, all-append a b all.1 more)
-
-pub calls-then : (x y z : Option (List Call)) → MakesDocrootCalls x y → MakesDocrootCalls y z → MakesDocrootCalls x z
-calls-then x y z (a, (all, first)) (b, (more, then)) = (a ++ b, (all-append a b all more, then ∙ ap (λ t. told_calls t b) first ∙ sym (told-append x a b)))
-
 -- ---- how the disk is used
 pub uses-none : (faults : ℕ) (calls : Option (List Call)) → UsesDisk faults faults calls calls
 uses-none faults calls = record { count = omega arith; calls = calls-none calls calls refl }
@@ -34,7 +27,7 @@ uses-none faults calls = record { count = omega arith; calls = calls-none calls 
 pub uses-then : (f g h : ℕ) (x y z : Option (List Call)) → UsesDisk f g x y → UsesDisk g h y z → UsesDisk f h x z
 uses-then f g h x y z first then = record {
   count = (let one = first.count in let two = then.count in omega (arith, one, two));
-  calls = calls-then x y z first.calls then.calls;
+  calls = makes_more x y z first.calls then.calls;
 }
 
 told-count : (before after : ℕ) (failed : Bool) → IsDiskFailure before after failed → before ≤ after

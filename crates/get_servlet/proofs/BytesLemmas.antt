@@ -1,17 +1,18 @@
 -- How many bytes tokens take at the least, and that a text has no fewer.
-use Rattle.std.proofs.Common.{◌≡◌, ◌+◌, ◌/◌, ◌%◌, ◌≤◌, ◌<◌, ◌++◌, ℕ, zero, suc, ℤ, pos, negsuc, List, [], ◌∷◌, length, take, drop, get_or, Bool, true, false, cond, if◌then◌else◌, Some, None, slice_get, refl, sym, ◌∙◌, ap, arith, append_assoc, append-nil, length-append, take-append-drop}
+use Rattle.std.proofs.Common.{◌≡◌, ◌+◌, ◌/◌, ◌%◌, ◌≤◌, ◌<◌, ◌++◌, ℕ, zero, suc, ℤ, pos, negsuc, List, [], ◌∷◌, length, take, drop, get_or, Bool, true, false, cond, if◌then◌else◌, Some, slice_get, sym, ◌∙◌, ap, arith, append-nil, length-append, take-append-drop}
 use Rattle.std.specs.Prelude.{◌==◌, flat_map, sum_by, nat_lt}
 use Rattle.std.specs.Fmt.{decimal, digits, digits_onto, digit_glyph, signed_decimal}
 use Rattle.std.proofs.lemmas.List.{take_more}
 use Rattle.std.proofs.lemmas.List.Concat.{flat_map-append}
 use Rattle.std.proofs.lemmas.List.Sums.{sum_by-cons, sum_by-append, sum_by_push}
-use Rattle.std.proofs.lemmas.Option.{slice_get_within, get_or_from_slice_get, slice_get-get_or}
+use Rattle.std.proofs.lemmas.Option.{slice_get_within, get_or_from_slice_get}
 use Rattle.json.specs.Json.{Json, boolean, string, array}
 use Rattle.json.specs.Token.{Token}
 use Rattle.json.specs.Tree.{json_tokens, items_tokens}
 use Rattle.json.specs.Print.{escape_letter, escape_byte, escape, quoted, token_text, separator, ends, print_from, print}
 use Rattle.sp_base.specs.declared.value.Value.{Value}
 use Rattle.property_json.specs.PropertyJson.{items_of, json_of_long, json_of_value, property_tokens}
+use Rattle.property_json.proofs.ArrayLemmas.{property_tokens-append}
 use Rattle.get_servlet.specs.Steps.{bytes_in}
 
 -- ---- a text has the bytes of its tokens, and commas
@@ -118,12 +119,6 @@ least_more least xs i x lt is =
 
 -- ---- properties
 
-tokens-append : (ps qs : List (List ℕ × Value)) → property_tokens (ps ++ qs) ≡ property_tokens ps ++ property_tokens qs
-tokens-append [] qs = refl
-tokens-append ((name, value) ∷ ps) qs =
-    ap (λ ts. (Token.key name ∷ json_tokens (json_of_value value)) ++ ts) (tokens-append ps qs)
-    ∙ sym (append_assoc (Token.key name ∷ json_tokens (json_of_value value)) (property_tokens ps) (property_tokens qs))
-
 -- one more property
 pub property_more : (ps : List (List ℕ × Value)) (i : ℕ) (name : List ℕ) (value : Value) → Some (name, value) ≡ slice_get ps i
     → bytes_in (property_tokens (take i ps)) + length name + bytes_in (json_tokens (json_of_value value)) ≤ bytes_in (property_tokens (take (i + 1) ps))
@@ -133,9 +128,5 @@ property_more ps i name value at =
     let item = get_or_from_slice_get ps i (name, value) (name, value) (sym at) in
     let more : property_tokens (take (i + 1) ps) ≡ property_tokens (take i ps) ++ (Token.key name ∷ js) =
     ap property_tokens (take_more ps i (name, value) within ∙ ap (λ p. take i ps ++ p ∷ []) item)
-    ∙ tokens-append (take i ps) ((name, value) ∷ []) ∙ ap (λ ts. property_tokens (take i ps) ++ ts) (append-nil (Token.key name ∷ js)) in
+    ∙ property_tokens-append (take i ps) ((name, value) ∷ []) ∙ ap (λ ts. property_tokens (take i ps) ++ ts) (append-nil (Token.key name ∷ js)) in
     omega (arith, ap bytes_in more, bytes-append (property_tokens (take i ps)) (Token.key name ∷ js), bytes-cons (Token.key name) js, key_bytes name)
-
-pub no_place : {A : Type 0} (xs : List A) (i : ℕ) → None ≡ slice_get xs i → i < length xs → ⊥
-no_place {A} [] i e lt = omega (arith, lt)
-no_place {A} (x ∷ xs) i e lt = cc (e, slice_get-get_or (x ∷ xs) i x lt)

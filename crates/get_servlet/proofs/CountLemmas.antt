@@ -2,7 +2,7 @@
 use Rattle.std.proofs.Common.{◌≡◌, ◌+◌, ◌-◌, ◌<◌, ◌≤◌, ◌++◌, ℕ, zero, suc, List, [], ◌∷◌, length, take, get_or, Option, Some, None, Bool, true, false, cond, refl, sym, ◌∙◌, ap, subst, ⊎_elim, arith}
 use Rattle.std.specs.Prelude.{flat_map, sum_by, nat_le}
 use Rattle.std.proofs.lemmas.Bool.{cases_lt, le-leb, lt-leb}
-use Rattle.std.proofs.lemmas.List.{take_more, append-nil}
+use Rattle.std.proofs.lemmas.List.{take_more, append-nil, nil_from_length}
 use Rattle.std.proofs.lemmas.List.Concat.{flat_map-append, length-flat_map}
 use Rattle.std.proofs.lemmas.List.Sums.{sum_by-cons, sum_by-append, sum_by-le-sum_by, sum_by-take-le}
 use Rattle.resource_tree.specs.Seen.{Resource, Seen}
@@ -173,16 +173,12 @@ level_over seen res depth reached room left level is least below less over =
     stops seen res depth reached least below (λ _. level_fits seen res reached room level is)
     (omega (arith, less, over, is.counts 1, among_deep seen 0 level, among_top seen (next_level seen level)))
 
-is_nil : {A : Type 0} (xs : List A) → length xs ≡ 0 → xs ≡ []
-is_nil [] e = refl
-is_nil (x ∷ xs) e = absurd (omega (arith, e))
-
 pub none_deeper : (seen : Seen) (res : Resource) (depth reached room : ℕ) (level : List Kid) → IsLevel seen res reached room level → length level ≡ 0 → 1 ≤ reached → reached ≤ depth
     → depth ≡ greatest_fitting (shown_count seen res) depth
 none_deeper seen res depth reached room level is none least le =
     let same : reached + (depth - reached) ≡ depth = omega (arith, le) in
     all_fit (shown_count seen res) depth (omega (arith, least, le))
-    (omega (arith, is.counts (depth - reached), ap (shown_among seen (depth - reached)) (is_nil level none), among_none seen (depth - reached), ap (shown_count seen res) same))
+    (omega (arith, is.counts (depth - reached), ap (shown_among seen (depth - reached)) (nil_from_length level none), among_none seen (depth - reached), ap (shown_count seen res) same))
 
 -- ---- the names of a resource's kids
 

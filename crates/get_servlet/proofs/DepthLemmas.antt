@@ -1,44 +1,23 @@
 -- Below a path of 64 segments there is no kid, so 64 levels show all.
-use Rattle.std.proofs.Common.{◌≡◌, ◌+◌, ◌≤◌, ◌++◌, ℕ, zero, suc, List, [], ◌∷◌, length, Bool, true, false, Option, Some, None, Result, Ok, Err, nat_lt, if◌then◌else◌, refl, sym, ◌∙◌, ap, subst, arith, length-append, is_some}
+use Rattle.std.proofs.Common.{◌≡◌, ◌+◌, ◌≤◌, ◌++◌, ℕ, zero, suc, List, [], ◌∷◌, length, Bool, true, false, Option, Some, None, Result, Ok, Err, if◌then◌else◌, refl, sym, ◌∙◌, ap, subst, arith, length-append, is_some}
 use Rattle.std.specs.Prelude.{◌==◌, option_map}
 use Rattle.std.specs.List.{list_any, position}
 use Rattle.std.proofs.lemmas.List.Splits.{length-slice_split}
 use Rattle.std.specs.FinMap.Entries.{find}
-use borrow.Author.Tests.{ltb-false}
 use Rattle.json.specs.Json.{Json, object, Members, no_members, member}
 use Rattle.json.specs.Tree.{json_tokens}
 use Rattle.json.specs.Print.{print}
 use Rattle.sp_base.specs.Names.{by_name}
-use Rattle.sp_base.specs.Paths.{is_empty, is_dots, is_long, pieces, fault_of, unless_fault, size_fault, child_of}
+use Rattle.sp_base.specs.Paths.{is_empty, is_dots, is_long, pieces, fault_of, child_of}
 use Rattle.sp_base.specs.declared.path.PathFault.{PathFault}
-use Rattle.sp_base.specs.declared.path.PathFault.TheVariants.{EmptySegment, DotSegment, TooDeep}
+use Rattle.sp_base.proofs.PathLemmas.{path_made_is}
+use Rattle.sp_base.proofs.PathTests.{no_fault_of_path, pieces_fit}
 use Rattle.resource_tree.specs.Seen.{Resource, Seen}
 use Rattle.property_json.specs.PropertyJson.{members_before}
 use Rattle.get_servlet.specs.declared.kids.Kid.{Kid}
 use Rattle.get_servlet.specs.Rendering.{make_kid, kid_seen, kid_of_name, shown_kid, kid_before, members_of_kids, resource_json, json_text}
 
 -- ---- a path that was made has at most 64 segments
-
-fits : (deep : Bool) (n : ℕ) → nat_lt 64 n ≡ deep → (if deep then Some TooDeep else None) ≡ None → n ≤ 64
-fits true n is h = absurd (cc)
-fits false n is h = ltb-false 64 n is
-
-size_fits : (long : Option ℕ) (n : ℕ) → size_fault long n ≡ None → n ≤ 64
-size_fits None n h = fits (nat_lt 64 n) n refl h
-size_fits (Some place) n h = absurd (cc)
-
-pieces_fit : (empty dots : Bool) (long : Option ℕ) (n : ℕ) → (if empty then Some EmptySegment else (if dots then Some DotSegment else size_fault long n)) ≡ None → n ≤ 64
-pieces_fit true dots long n h = absurd (cc)
-pieces_fit false true long n h = absurd (cc)
-pieces_fit false false long n h = size_fits long n h
-
-same_Ok : (fault : Option PathFault) (segs path : List (List ℕ)) → unless_fault fault segs ≡ Ok path → path ≡ segs
-same_Ok None segs path h = cc
-same_Ok (Some fault) segs path h = absurd (cc)
-
-no_fault : (fault : Option PathFault) (segs path : List (List ℕ)) → unless_fault fault segs ≡ Ok path → fault ≡ None
-no_fault None segs path h = refl
-no_fault (Some fault) segs path h = absurd (cc)
 
 -- a path one or more segments longer, of at most 64
 record IsBelow (path kid : List (List ℕ)) : Type 0 where
@@ -48,8 +27,8 @@ record IsBelow (path kid : List (List ℕ)) : Type 0 where
 child_below : (segs : List (List ℕ)) (name : List ℕ) (path : List (List ℕ)) → child_of segs name ≡ Ok path → IsBelow segs path
 child_below segs name path is =
     let made = segs ++ pieces name in
-    let same : path ≡ made = same_Ok _ _ path is in
-    let short = pieces_fit (list_any is_empty made) (list_any is_dots made) (position is_long made) (length made) (no_fault (fault_of made) made path is) in
+    let same : path ≡ made = path_made_is _ _ path is in
+    let short = pieces_fit (list_any is_empty made) (list_any is_dots made) (position is_long made) (length made) (no_fault_of_path (fault_of made) made path is) in
     let size = ap length same ∙ length-append segs (pieces name) in
     record {
       longer = omega (arith, size, length-slice_split (λ b. b == 47) name);

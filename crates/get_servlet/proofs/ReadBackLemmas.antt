@@ -6,7 +6,7 @@ use Rattle.std.specs.List.{list_all}
 use Rattle.std.proofs.lemmas.Bool.{ltb-true, and_parts, cases_lt}
 use Rattle.json.specs.Json.{Json, boolean, string, Members, no_members, value, if_last, max_depth, document}
 use Rattle.json.specs.Lex.{tokens}
-use Rattle.json.specs.Tree.{json_tokens, depth, items_depth, members_depth, HasNumbers, ItemsHaveNumbers, MembersHaveNumbers}
+use Rattle.json.specs.Tree.{json_tokens, depth, members_depth, HasNumbers, ItemsHaveNumbers, MembersHaveNumbers}
 use Rattle.json.proofs.Printed.Decimals.{IsNumber-signed_decimal}
 use Rattle.json.proofs.Printed.Trees.{value-json_tokens, document-print}
 use Rattle.sp_base.specs.Names.{by_name}
@@ -16,24 +16,13 @@ use Rattle.sp_base.specs.declared.value.Value.{Value}
 use Rattle.sp_base.specs.declared.value.Value.TheVariants.{Text, Long, Truth, Texts, Longs, Truths}
 use Rattle.resource_tree.specs.Seen.{Resource, Seen}
 use Rattle.property_json.specs.PropertyJson.{fits_i64, has_longs, items_of, json_of_long, json_of_value, members_before}
+use Rattle.property_json.proofs.DepthLemmas.{value_depth}
 use Rattle.get_servlet.specs.declared.kids.Kid.{Kid}
 use Rattle.get_servlet.specs.Objects.{HasLongs, HaveLongs}
 use Rattle.get_servlet.specs.Rendering.{make_kid, kid_seen, kid_of_name, shown_kid, kid_before, members_of_kids, resource_json, json_text}
 use Rattle.get_servlet.proofs.DepthLemmas.{same_at, unless_property}
 
 -- ---- the text is not too deep to be read
-
-items_flat : {A : Type 0} (f : A → Json) → ((x : A) → depth (f x) ≡ 0) → (xs : List A) → items_depth (items_of f xs) ≡ 0
-items_flat f flat [] = refl
-items_flat f flat (x ∷ xs) = omega (arith, flat x, items_flat f flat xs)
-
-value_depth : (v : Value) → depth (json_of_value v) ≤ 1
-value_depth (Text t) = omega arith
-value_depth (Long n) = omega arith
-value_depth (Truth b) = omega arith
-value_depth (Texts ts) = omega (arith, items_flat string (λ x. refl) ts)
-value_depth (Longs ns) = omega (arith, items_flat json_of_long (λ x. refl) ns)
-value_depth (Truths bs) = omega (arith, items_flat boolean (λ x. refl) bs)
 
 properties_depth : (ps : List (List ℕ × Value)) (ms : Members) (n : ℕ) → 1 ≤ n → members_depth ms ≤ n → members_depth (members_before ps ms) ≤ n
 properties_depth [] ms n some h = h

@@ -1,8 +1,8 @@
 -- Resources as JSON, one level and one kid at a time, and the room that writing them takes.
-use Rattle.std.proofs.Common.{◌≡◌, ◌+◌, ◌<◌, ◌≤◌, ◌++◌, ℕ, zero, suc, List, [], ◌∷◌, length, take, get_or, Option, Some, None, refl, sym, ◌∙◌, ap, subst, arith, append_assoc}
+use Rattle.std.proofs.Common.{◌≡◌, ◌+◌, ◌<◌, ◌≤◌, ◌++◌, ℕ, zero, suc, List, [], ◌∷◌, length, take, Option, Some, None, refl, sym, ◌∙◌, ap, subst, arith, append_assoc}
 use Rattle.std.specs.Prelude.{flat_map}
 use Rattle.std.proofs.lemmas.Bool.{lt-leb, le-leb}
-use Rattle.std.proofs.lemmas.List.{take_more, append-nil}
+use Rattle.std.proofs.lemmas.List.{append-nil}
 use Rattle.std.proofs.lemmas.List.Concat.{flat_map-append}
 use Rattle.json.specs.Json.{Json, Members, no_members}
 use Rattle.json.specs.Token.{Token}
@@ -127,13 +127,6 @@ kids_tokens-nil seen depth path res = refl
 
 pub nothing_written : (room : ℕ) (old : Written) → Spends room (Some room) old old []
 nothing_written room old = (record { tokens = sym (append-nil old.tokens); before = refl }, omega arith)
-
--- one more name stands after those so far
-pub name_more : (items names : List (List ℕ)) (i : ℕ) (item : List ℕ) → items ≡ names → i < length items → item ≡ get_or items i item
-    → take (i + 1) names ≡ take i names ++ item ∷ []
-name_more items names i item same lt is =
-    sym (ap (take (i + 1)) same) ∙ take_more items i item lt ∙ ap (λ ns. take i ns ++ get_or items i item ∷ []) same
-    ∙ ap (λ n. take i names ++ n ∷ []) (sym is)
 
 -- its kid's tokens stand after theirs
 pub kids_more : (seen : Seen) (depth : ℕ) (path : List (List ℕ)) (res : Resource) (first names : List (List ℕ)) (name text : List ℕ) → names ≡ first ++ name ∷ [] → text ≡ name

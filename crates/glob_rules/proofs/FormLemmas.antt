@@ -1,30 +1,26 @@
 -- Globs that are a text, or a text with a star at one end, and the bytes of both texts.
-use Rattle.std.proofs.Common.{◌≡◌, ℕ, Bool, true, false, List, [], ◌∷◌, ◌++◌, map, length, take, drop, ◌-◌, IsUtf8, refl, ap, sym, ◌∙◌, subst, eq-eqb, ◌==◌, arith}
+use Rattle.std.proofs.Common.{◌≡◌, ℕ, Bool, true, List, [], ◌∷◌, ◌++◌, map, length, take, drop, ◌-◌, IsUtf8, refl, ap, sym, ◌∙◌, subst, eq-eqb, ◌==◌, arith}
 use Rattle.std.specs.Prelude.{nat_eq, encode_utf8, encode_utf8_all}
 use Rattle.std.specs.Str.{chars}
 use Rattle.std.specs.Cmp.Lexicographic.{pointwise}
 use Rattle.std.specs.List.{starts_with, ends_with}
-use Rattle.std.proofs.lemmas.Bool.{eqb-true}
+use Rattle.std.proofs.lemmas.Bool.{and_parts, eqb-true}
 use Rattle.std.proofs.lemmas.Bool.Decides.{Decides-eqb}
 use Rattle.std.proofs.lemmas.List.{append-nil, map-append, length-append}
 use Rattle.std.proofs.Math.Seq.{take-append_seam, drop-append_seam}
 use Rattle.std.proofs.lemmas.Slice.Eq.{bytes_eq-Decides, starts_is, ends_is}
 use Rattle.std.proofs.lemmas.Str.{encodes-append, encodes-chars, chars-append, chars_past_char, chars-nil, IsUtf8-take, IsUtf8-drop, IsCharBoundary-from_take, IsCharBoundary-at_seam}
+use Rattle.sp_base.proofs.BoolLemmas.{same_truth as same_bool}
 use Rattle.glob_rules.specs.declared.piece.GlobPiece.{GlobPiece}
 use Rattle.glob_rules.specs.declared.piece.GlobPiece.TheVariants.{Star, Literal}
 use Rattle.glob_rules.specs.Globs.{Matches, is_match}
 use Rattle.glob_rules.specs.Forms.{literals}
-use Rattle.glob_rules.proofs.MatchLemmas.{sound, complete, and_true}
+use Rattle.glob_rules.proofs.MatchLemmas.{sound, complete}
 
 abbrev literal : ℕ → GlobPiece
 literal c = Literal c
 
 -- ---- characters
-
-same_bool : (a b : Bool) → (a ≡ true → b ≡ true) → (b ≡ true → a ≡ true) → a ≡ b
-same_bool true b f g = sym (f refl)
-same_bool false true f g = g refl
-same_bool false false f g = refl
 
 literal_only : (ds cs : List ℕ) → is_match (map literal ds) cs ≡ true → cs ≡ ds
 unfolding is_match
@@ -32,7 +28,7 @@ literal_only [] [] h = refl
 literal_only [] (c ∷ cs) h = absurd cc
 literal_only (d ∷ ds) [] h = absurd cc
 literal_only (d ∷ ds) (c ∷ cs) h =
-    let both = and_true (c == d) (is_match (map literal ds) cs) h in
+    let both = and_parts (c == d) (is_match (map literal ds) cs) h in
     let head : c ≡ d = eqb-true c d both.0 in
     let tail : cs ≡ ds = literal_only ds cs both.1 in
     cc
@@ -50,7 +46,7 @@ unfolding is_match
 begins_only [] cs h = (cs, refl)
 begins_only (d ∷ ds) [] h = absurd cc
 begins_only (d ∷ ds) (c ∷ cs) h =
-    let both = and_true (c == d) (is_match (map literal ds ++ Star ∷ []) cs) h in
+    let both = and_parts (c == d) (is_match (map literal ds ++ Star ∷ []) cs) h in
     let head : c ≡ d = eqb-true c d both.0 in
     let later = begins_only ds cs both.1 in
     let tail : cs ≡ ds ++ later.0 = later.1 in

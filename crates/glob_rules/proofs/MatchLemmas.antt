@@ -1,16 +1,9 @@
 -- The test of a match is the relation.
-use Rattle.std.proofs.Common.{◌≡◌, ◌↔◌, IsTrue, ℕ, Bool, true, false, cond, ◌&&◌, ◌||◌, ◌⊎◌, inl, inr, List, [], ◌∷◌, ◌++◌, drop, zero, suc, refl, ap, sym, ◌∙◌}
+use Rattle.std.proofs.Common.{◌≡◌, ◌↔◌, IsTrue, ℕ, Bool, true, false, cond, ◌||◌, inl, inr, List, [], ◌∷◌, ◌++◌, drop, zero, suc, refl, ap, sym, ◌∙◌}
+use Rattle.std.proofs.lemmas.Bool.{and_parts, or_cases, or_right}
 use Rattle.glob_rules.specs.declared.piece.GlobPiece.{GlobPiece}
 use Rattle.glob_rules.specs.declared.piece.GlobPiece.TheVariants.{Star, AnyChar, Literal, Class}
 use Rattle.glob_rules.specs.Globs.{Matches, is_match, is_star, stands_for, somewhere, at_first, after_piece}
-
-pub or_true : (a b : Bool) → a || b ≡ true → (a ≡ true) ⊎ (b ≡ true)
-or_true true b h = inl refl
-or_true false b h = inr h
-
-pub and_true : (a b : Bool) → a && b ≡ true → (a ≡ true) × (b ≡ true)
-and_true true b h = (refl, h)
-and_true false b h = absurd cc
 
 -- a piece that is no star stands for the first character
 pub one_is : (piece : GlobPiece) (test : List ℕ → Bool) (cs : List ℕ) → is_star piece ≡ false → after_piece piece test cs ≡ at_first piece test cs
@@ -28,14 +21,14 @@ longer pieces c cs (Matches.one s m) = absurd cc
 
 star_sound : (pieces : List GlobPiece) → ((cs : List ℕ) → is_match pieces cs ≡ true → Matches pieces cs) → (cs : List ℕ) → somewhere (is_match pieces) cs ≡ true → Matches (Star ∷ pieces) cs
 star_sound pieces ih [] h = Matches.star [] refl (ih [] h)
-star_sound pieces ih (c ∷ cs) h = elim (or_true _ _ h) [
+star_sound pieces ih (c ∷ cs) h = elim (or_cases _ _ h) [
   | inl here ↦ Matches.star [] refl (ih (c ∷ cs) here)
   | inr later ↦ longer pieces c cs (star_sound pieces ih cs later)
 ]
 
 one_sound : (piece : GlobPiece) (pieces : List GlobPiece) → ((cs : List ℕ) → is_match pieces cs ≡ true → Matches pieces cs) → (cs : List ℕ) → at_first piece (is_match pieces) cs ≡ true → Matches (piece ∷ pieces) cs
 one_sound piece pieces ih [] h = absurd cc
-one_sound piece pieces ih (c ∷ cs) h = let both = and_true _ _ h in Matches.one both.0 (ih cs both.1)
+one_sound piece pieces ih (c ∷ cs) h = let both = and_parts _ _ h in Matches.one both.0 (ih cs both.1)
 
 pub sound : (glob : List GlobPiece) (cs : List ℕ) → is_match glob cs ≡ true → Matches glob cs
 unfolding is_match
@@ -45,10 +38,6 @@ sound (Star ∷ pieces) cs h = star_sound pieces (sound pieces) cs h
 sound (AnyChar ∷ pieces) cs h = one_sound AnyChar pieces (sound pieces) cs h
 sound (Literal d ∷ pieces) cs h = one_sound (Literal d) pieces (sound pieces) cs h
 sound (Class class ∷ pieces) cs h = one_sound (Class class) pieces (sound pieces) cs h
-
-pub or_right : (a b : Bool) → b ≡ true → a || b ≡ true
-or_right true b h = refl
-or_right false b h = h
 
 pub somewhere_after : (test : List ℕ → Bool) (run rest : List ℕ) → somewhere test rest ≡ true → somewhere test (run ++ rest) ≡ true
 somewhere_after test [] rest h = h

@@ -1,9 +1,9 @@
 -- The last entry that applies decides.
-use Rattle.std.proofs.Common.{◌≡◌, ◌<◌, ◌≤◌, ℕ, zero, suc, Bool, true, false, cond, List, [], ◌∷◌, ◌++◌, filter, take, length, get_or, ◌-◌, refl, ap, sym, ◌∙◌, subst, arith}
+use Rattle.std.proofs.Common.{◌≡◌, ◌<◌, ◌≤◌, ℕ, Bool, true, false, cond, List, [], ◌∷◌, ◌++◌, filter, take, length, get_or, ◌-◌, refl, ap, ◌∙◌}
 use Rattle.std.proofs.lemmas.List.Elements.{filter-append}
 use Rattle.std.proofs.lemmas.List.{append-nil}
-use Rattle.std.proofs.Math.Seq.{take-suc}
 use Rattle.std.specs.Str.{chars}
+use Rattle.sp_base.proofs.ListLemmas.{take_last}
 use Rattle.glob_rules.specs.declared.rule.Rule.{Rule}
 use Rattle.glob_rules.specs.Globs.{is_match}
 use Rattle.glob_rules.specs.Rules.{last_says, decision, allows}
@@ -22,19 +22,11 @@ pub last_passes : {A : Type 0} (applies says : A → Bool) (xs : List A) (x : A)
 last_passes {A} applies says xs x fails =
     ap (last_says says) (filter-append applies xs (x ∷ []) ∙ ap (λ (b : Bool). filter applies xs ++ cond b (x ∷ []) []) fails ∙ append-nil (filter applies xs))
 
-pub one_more : {A : Type 0} (xs : List A) (n : ℕ) (x : A) → 0 < n → n ≤ length xs → x ≡ get_or xs (n - 1) x → take n xs ≡ take (n - 1) xs ++ x ∷ []
-one_more {A} xs zero x lt le e = absurd (omega arith)
-one_more {A} xs (suc n) x lt le e =
-    let less : suc n - 1 ≡ n = omega arith in
-    let within : n < length xs = omega arith in
-    let at : get_or xs n x ≡ x = sym (subst (λ (m : ℕ). x ≡ get_or xs m x) less e) in
-    take-suc xs n x within ∙ ap (λ (y : A). take n xs ++ y ∷ []) at ∙ ap (λ (m : ℕ). take m xs ++ x ∷ []) (sym less)
-
 abbrev pub applies_to : List ℕ → Rule → Bool
 applies_to text rule = is_match rule.glob (chars text)
 
 pub allows_here : (rules : List Rule) (n : ℕ) (rule : Rule) (text : List ℕ) → 0 < n → n ≤ length rules → rule ≡ get_or rules (n - 1) rule → is_match rule.glob (chars text) ≡ true → allows (take n rules) text ≡ rule.allow
-allows_here rules n rule text lt le e holds = ap (λ (l : List Rule). allows l text) (one_more rules n rule lt le e) ∙ last_applies (applies_to text) (λ r. r.allow) (take (n - 1) rules) rule holds
+allows_here rules n rule text lt le e holds = ap (λ (l : List Rule). allows l text) (take_last rules n rule lt le e) ∙ last_applies (applies_to text) (λ r. r.allow) (take (n - 1) rules) rule holds
 
 pub allows_before : (rules : List Rule) (n : ℕ) (rule : Rule) (text : List ℕ) → 0 < n → n ≤ length rules → rule ≡ get_or rules (n - 1) rule → is_match rule.glob (chars text) ≡ false → allows (take n rules) text ≡ allows (take (n - 1) rules) text
-allows_before rules n rule text lt le e fails = ap (λ (l : List Rule). allows l text) (one_more rules n rule lt le e) ∙ last_passes (applies_to text) (λ r. r.allow) (take (n - 1) rules) rule fails
+allows_before rules n rule text lt le e fails = ap (λ (l : List Rule). allows l text) (take_last rules n rule lt le e) ∙ last_passes (applies_to text) (λ r. r.allow) (take (n - 1) rules) rule fails

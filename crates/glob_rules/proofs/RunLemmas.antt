@@ -1,8 +1,8 @@
 -- Runs of pieces, and stars between them.
-use Rattle.std.proofs.Common.{◌≡◌, ℕ, Bool, true, false, cond, ◌&&◌, ◌||◌, List, [], ◌∷◌, ◌++◌, drop, take, length, zero, suc, ◌+◌, ◌-◌, not, ◌<◌, get_or, Option, Some, None, refl, ap, sym, ◌∙◌, subst, arith, drop-cons, add-one, ◌≤◌, nat_lt, MatchOption}
+use Rattle.std.proofs.Common.{◌≡◌, ℕ, Bool, true, false, cond, ◌&&◌, ◌||◌, List, [], ◌∷◌, ◌++◌, drop, take, length, zero, suc, ◌+◌, ◌-◌, not, ◌<◌, get_or, Option, Some, None, refl, ap, sym, ◌∙◌, subst, arith, drop-cons, add-one, ◌≤◌}
 use Rattle.std.proofs.lemmas.List.{append-nil, take_all}
 use Rattle.std.proofs.Math.Seq.{drop-nil}
-use Rattle.std.proofs.lemmas.Bool.Decides.{nat_tests}
+use Rattle.std.proofs.lemmas.Bool.{or_parts}
 use Rattle.std.specs.List.{position_or_len}
 use Rattle.std.specs.Option.{option_or}
 use Rattle.glob_rules.specs.declared.piece.GlobPiece.{GlobPiece}
@@ -10,10 +10,6 @@ use Rattle.glob_rules.specs.declared.piece.GlobPiece.TheVariants.{Star, AnyChar,
 use Rattle.glob_rules.specs.Globs.{is_match, is_star, stands_for, somewhere, is_empty_text}
 use Rattle.glob_rules.specs.Runs.{after_run, after_first_run, IsRun, IsAfterRun}
 use Rattle.glob_rules.proofs.MatchLemmas.{one_is, somewhere_drop, somewhere_here}
-
-or_false : (a b : Bool) → a || b ≡ false → (a ≡ false) × (b ≡ false)
-or_false true b h = absurd cc
-or_false false b h = (refl, h)
 
 pub run_before : (pieces : List GlobPiece) → IsRun (take (position_or_len is_star pieces) pieces)
 run_before [] = refl
@@ -61,9 +57,9 @@ choose later false o = refl
 pub run_then : (run later : List GlobPiece) (cs : List ℕ) → IsRun run → is_match (run ++ later) cs ≡ then_match later (after_run run cs)
 unfolding is_match after_run
 run_then [] later cs plain = refl
-run_then (piece ∷ run) later [] plain = one_is piece (is_match (run ++ later)) [] (or_false _ _ plain).0
+run_then (piece ∷ run) later [] plain = one_is piece (is_match (run ++ later)) [] (or_parts _ _ plain).0
 run_then (piece ∷ run) later (c ∷ cs) plain =
-    let parts = or_false _ _ plain in
+    let parts = or_parts _ _ plain in
     one_is piece (is_match (run ++ later)) (c ∷ cs) parts.0
     ∙ ap (λ (b : Bool). stands_for piece c && b) (run_then run later cs parts.1)
     ∙ choose later (stands_for piece c) (after_run run cs)
@@ -154,16 +150,6 @@ end_here run cs h = star_step run cs ∙ somewhere_here (is_match run) cs h
 
 pub end_over : (run : List GlobPiece) → is_match (Star ∷ run) [] ≡ is_match run []
 end_over run = star_step run []
-
--- the first star
-pub place_is : (n len : ℕ) → n ≤ len → (r : Option ℕ) → r ≡ cond (nat_lt n len) (Some n) None → MatchOption r (len ≡ n) (λ i. i ≡ n)
-place_is n len le r e = go (nat_lt n len) refl r e
-  where
-    go : (b : Bool) → nat_lt n len ≡ b → (o : Option ℕ) → o ≡ cond b (Some n) None → MatchOption o (len ≡ n) (λ i. i ≡ n)
-    go true t (Some i) x = cc
-    go true t None x = absurd cc
-    go false t (Some i) x = absurd cc
-    go false t None x = grind (arith, nat_tests)
 
 -- steps of a run
 pub run_over : (piece : GlobPiece) (run : List GlobPiece) → after_run (piece ∷ run) [] ≡ None

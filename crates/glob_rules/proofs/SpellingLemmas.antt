@@ -1,10 +1,11 @@
 -- What is read is what is spelled.
 use Rattle.std.proofs.Common.{◌≡◌, ◌≢◌, ◌≤◌, ◌+◌, ◌↔◌, ℕ, zero, suc, Bool, true, false, cond, ◌==◌, List, [], ◌∷◌, ◌++◌, length, Option, Some, None, Result, Ok, Err, IfOk, IfErr, IsUtf8, refl, ap, sym, ◌∙◌, arith, subst, append_assoc, length-append}
 use Rattle.std.specs.Prelude.{encode_utf8_all}
-use lib.Utf8.{encode}
 use Rattle.std.specs.Str.{chars, NonePass}
+use Rattle.std.proofs.lemmas.Bool.{eqb-true}
 use Rattle.std.proofs.lemmas.Bool.Decides.{nat_tests}
 use Rattle.std.proofs.lemmas.Str.{encodes-chars}
+use Rattle.sp_base.proofs.TextLemmas.{encode_append}
 use Rattle.glob_rules.specs.declared.fault.GlobFault.{GlobFault}
 use Rattle.glob_rules.specs.declared.fault.GlobFault.TheVariants.{OpenClass, NoMemory}
 use Rattle.glob_rules.specs.declared.piece.CharRange.{CharRange}
@@ -14,9 +15,6 @@ use Rattle.glob_rules.specs.declared.piece.GlobPiece.TheVariants.{Star, AnyChar,
 use Rattle.glob_rules.specs.Reading.{is_open, is_close, is_negation, plain_piece, glob_range, ranges_of, class_of, pieces_from, unclosed_class, unless_unclosed, glob_of}
 use Rattle.glob_rules.specs.Spelling.{GoesOnAsRange, AreGlobRanges, IsGlobClass, SpellsGlob, IsOpen, IsGlobFault}
 use Rattle.glob_rules.proofs.ReadLemmas.{closes, class_piece, stays_unclosed}
-
-equals : (c d : ℕ) → (c == d) ≡ true → c ≡ d
-equals c d h = grind (arith, nat_tests)
 
 -- ---- ranges
 
@@ -28,7 +26,7 @@ ranges_sound (c ∷ d ∷ e ∷ cs) = go (d == 45) refl (ranges_sound cs) (range
   where
     go : (b : Bool) → (d == 45) ≡ b → AreGlobRanges cs (ranges_of cs) → AreGlobRanges (d ∷ e ∷ cs) (ranges_of (d ∷ e ∷ cs))
         → AreGlobRanges (c ∷ d ∷ e ∷ cs) (cond b (glob_range c e ∷ ranges_of cs) (glob_range c c ∷ ranges_of (d ∷ e ∷ cs)))
-    go true is two one = subst (λ (n : ℕ). AreGlobRanges (c ∷ n ∷ e ∷ cs) (glob_range c e ∷ ranges_of cs)) (sym (equals d 45 is)) (AreGlobRanges.two_ends two)
+    go true is two one = subst (λ (n : ℕ). AreGlobRanges (c ∷ n ∷ e ∷ cs) (glob_range c e ∷ ranges_of cs)) (sym (eqb-true d 45 is)) (AreGlobRanges.two_ends two)
     go false is two one = AreGlobRanges.alone (λ g. not_dash g.0 g.1 g.2) one
       where
         not_dash : (last : ℕ) (more : List ℕ) → d ∷ e ∷ cs ≡ 45 ∷ last ∷ more → ⊥
@@ -45,7 +43,7 @@ ranges_complete _ _ (AreGlobRanges.alone {c} {cs} {ranges} apart inner) = go cs 
     go (d ∷ e ∷ more) apart ih = at (d == 45) refl
       where
         at : (b : Bool) → (d == 45) ≡ b → cond b (glob_range c e ∷ ranges_of more) (glob_range c c ∷ ranges_of (d ∷ e ∷ more)) ≡ glob_range c c ∷ ranges
-        at true is = absurd (apart (e, more, ap (λ (n : ℕ). n ∷ e ∷ more) (equals d 45 is)))
+        at true is = absurd (apart (e, more, ap (λ (n : ℕ). n ∷ e ∷ more) (eqb-true d 45 is)))
         at false is = ap (λ (l : List CharRange). glob_range c c ∷ l) ih
 
 head_is : (c d : ℕ) (cs more : List ℕ) → c ∷ cs ≡ d ∷ more → c ≡ d
@@ -79,7 +77,7 @@ cut [] = Cut.open_ tt
 cut (c ∷ cs) = go (is_close c) refl (cut cs)
   where
     go : (b : Bool) → is_close c ≡ b → Cut cs → Cut (c ∷ cs)
-    go true is later = Cut.closed [] cs (ap (λ (n : ℕ). n ∷ cs) (equals c 93 is)) tt
+    go true is later = Cut.closed [] cs (ap (λ (n : ℕ). n ∷ cs) (eqb-true c 93 is)) tt
     go false is (Cut.closed inside rest e none) = Cut.closed (c ∷ inside) rest (ap (λ (l : List ℕ). c ∷ l) e) (is, none)
     go false is (Cut.open_ none) = Cut.open_ (is, none)
 
@@ -92,8 +90,8 @@ plain_spells : (c : ℕ) (cs : List ℕ) (pieces : List GlobPiece) → is_open c
 plain_spells c cs pieces apart later = go (c == 42) (c == 63) refl refl
   where
     go : (p q : Bool) → (c == 42) ≡ p → (c == 63) ≡ q → SpellsGlob (c ∷ cs) (cond p Star (cond q AnyChar (Literal c)) ∷ pieces)
-    go true q ep eq = subst (λ (n : ℕ). SpellsGlob (n ∷ cs) (Star ∷ pieces)) (sym (equals c 42 ep)) (SpellsGlob.star later)
-    go false true ep eq = subst (λ (n : ℕ). SpellsGlob (n ∷ cs) (AnyChar ∷ pieces)) (sym (equals c 63 eq)) (SpellsGlob.any later)
+    go true q ep eq = subst (λ (n : ℕ). SpellsGlob (n ∷ cs) (Star ∷ pieces)) (sym (eqb-true c 42 ep)) (SpellsGlob.star later)
+    go false true ep eq = subst (λ (n : ℕ). SpellsGlob (n ∷ cs) (AnyChar ∷ pieces)) (sym (eqb-true c 63 eq)) (SpellsGlob.any later)
     go false false ep eq = SpellsGlob.literal (rw (ep, eq, apart) refl) later
 
 told : (n : ℕ) (cs : List ℕ) → length cs ≤ n → Told cs (unclosed_class None cs)
@@ -128,7 +126,7 @@ told (suc n) (c ∷ cs) le = go (λ rest less. told n rest less) (is_open c) ref
         subst (Told (c ∷ cs)) (sym (stays_unclosed (c ∷ cs) cs none)) ([], [], cs, ap (λ (m : ℕ). m ∷ cs) is, ap (λ (m : ℕ). m ∷ cs) is, SpellsGlob.nothing, none)
 
     go : ((rest : List ℕ) → length rest ≤ n → Told rest (unclosed_class None rest)) → (b : Bool) → is_open c ≡ b → Told (c ∷ cs) (unclosed_class (cond b (Some (c ∷ cs)) None) cs)
-    go ih true is = by_cut ih (equals c 91 is) (cut cs)
+    go ih true is = by_cut ih (eqb-true c 91 is) (cut cs)
     go ih false is = plain is (unclosed_class None cs) (ih cs (omega (arith, le)))
 
 -- what is spelled is read
@@ -154,10 +152,6 @@ complete _ _ (SpellsGlob.class {cs} {pieces} inside rest class none is e later) 
       ap (pieces_from (Some [])) e ∙ class_piece [] inside rest none ∙ ap (λ (k : CharClass). Class k ∷ pieces_from None rest) (class_complete inside class is)
           ∙ ap (λ (l : List GlobPiece). Class class ∷ l) ih.1,
     )
-
-encode_append : (xs ys : List ℕ) → encode_utf8_all (xs ++ ys) ≡ encode_utf8_all xs ++ encode_utf8_all ys
-encode_append [] ys = refl
-encode_append (x ∷ xs) ys = ap (λ (l : List ℕ). encode x ++ l) (encode_append xs ys) ∙ sym (append_assoc (encode x) (encode_utf8_all xs) (encode_utf8_all ys))
 
 -- ---- what a reading says
 

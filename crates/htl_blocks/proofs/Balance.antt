@@ -1,12 +1,13 @@
 -- The end tag that closes an element.
 use Rattle.std.proofs.Common.{◌≡◌, ◌+◌, ◌-◌, ℕ, zero, suc, Bool, true, false, not, ◌&&◌, eqb, List, [], ◌∷◌, ◌++◌, drop, length, Some, None, refl, ap, sym, subst, ◌∙◌, arith, append_assoc}
-use Rattle.std.proofs.lemmas.Bool.Decides.{nat_tests}
+use Rattle.std.proofs.lemmas.Bool.{eqb-true}
 use Rattle.sp_base.specs.Bytes.{begins_with_byte}
+use Rattle.sp_base.proofs.BoolLemmas.{and_first, and_second}
+use Rattle.sp_base.proofs.NatLemmas.{suc_is_not_zero}
 use Rattle.htl_syntax.specs.Tokens.{begins, is_letter}
 use Rattle.htl_blocks.specs.Markup.{same_name, tag_name, end_tag_name, is_self_closed, begins_tag, begins_end_tag, opens, closes, inside_len}
 use Rattle.htl_blocks.specs.Laws.{Balanced, Closes, bytes_of}
 use Rattle.htl_blocks.specs.Laws as laws
-use Rattle.htl_blocks.proofs.Tags.{and_left, and_right, byte_is}
 
 -- what may stand where so many tags of a name wait for their end tags
 abbrev Waits : List ℕ → ℕ → List (List ℕ) → ℕ → Type 0
@@ -58,16 +59,13 @@ no_test w = go (eqb w 0)
     go true = refl
     go false = refl
 
-not_zero : (w : ℕ) → eqb (suc w) 0 ≡ false
-not_zero w = grind (arith, nat_tests)
-
 open_step : (name p : List ℕ) (w n : ℕ) (ps : List (List ℕ)) → opens name p ≡ true → closes name p ≡ false → inside_len name w n (p ∷ ps) ≡ inside_len name (suc w) (n + length p) ps
 unfolding inside_len
 open_step name p w n ps a b = let more : w + 1 ≡ suc w = omega arith in rw (b, a, no_test w, more) refl
 
 close_step : (name p : List ℕ) (w n : ℕ) (ps : List (List ℕ)) → closes name p ≡ true → inside_len name (suc w) n (p ∷ ps) ≡ inside_len name w (n + length p) ps
 unfolding inside_len
-close_step name p w n ps a = let fewer : suc w - 1 ≡ w = omega arith in rw (a, not_zero w, fewer) refl
+close_step name p w n ps a = let fewer : suc w - 1 ≡ w = omega arith in rw (a, suc_is_not_zero w, fewer) refl
 
 other_step : (name p : List ℕ) (w n : ℕ) (ps : List (List ℕ)) → opens name p ≡ false → closes name p ≡ false → inside_len name w n (p ∷ ps) ≡ inside_len name w (n + length p) ps
 unfolding inside_len
@@ -102,13 +100,13 @@ letter_is_no_slash [] h = absurd cc
 letter_is_no_slash (c ∷ t) h = go (eqb c 47) refl
   where
     go : (b : Bool) → eqb c 47 ≡ b → b ≡ false
-    go true e = absurd (let same : is_letter c ≡ is_letter 47 = ap is_letter (byte_is c 47 e) in cc)
+    go true e = absurd (let same : is_letter c ≡ is_letter 47 = ap is_letter (eqb-true c 47 e) in cc)
     go false e = refl
 
 opens_no_end : (name p : List ℕ) → opens name p ≡ true → closes name p ≡ false
 unfolding opens closes begins_tag begins_end_tag
 opens_no_end name p h =
-    let x = letter_is_no_slash (drop 1 p) (and_right (begins_with_byte 60 p) (begins is_letter (drop 1 p)) (and_left (begins_with_byte 60 p && begins is_letter (drop 1 p)) (same_name (tag_name p) name && not (is_self_closed p)) h)) in
+    let x = letter_is_no_slash (drop 1 p) (and_second (begins_with_byte 60 p) (begins is_letter (drop 1 p)) (and_first (begins_with_byte 60 p && begins is_letter (drop 1 p)) (same_name (tag_name p) name && not (is_self_closed p)) h)) in
     rw x (none (begins_with_byte 60 p) (same_name (end_tag_name p) name))
   where
     none : (b c : Bool) → ((b && false) && c) ≡ false

@@ -1,5 +1,6 @@
 -- The fault that is told is the first of those that stand in a text.
 use Rattle.std.proofs.Common.{◌⊎◌, ◌≡◌, ◌<◌, ◌≤◌, ◌+◌, ◌-◌, ℕ, zero, suc, Bool, true, false, cond, List, [], ◌∷◌, ◌++◌, take, drop, length, Option, Some, None, Result, Ok, Err, refl, ap, sym, subst, ◌∙◌, arith, inl, inr}
+use Rattle.sp_base.proofs.NatLemmas.{suc_is_not_zero}
 use Rattle.htl_syntax.specs.declared.expression.Expression.{Expression}
 use Rattle.htl_syntax.specs.declared.expression.ExprFault.{ExprFault}
 use Rattle.htl_syntax.specs.Fault.{expression_of}
@@ -24,7 +25,7 @@ use Rattle.htl_blocks.specs.Spelling.{whole_text, FirstTag, Element, FaultIn, te
 use Rattle.htl_blocks.specs.Spelling as spelling
 use Rattle.htl_blocks.proofs.Turns.{within_is, element_is, element_open, element_tag_fails, element_content_fails}
 use Rattle.htl_blocks.proofs.Split.{cut_of, cut_only, cut_says, Cuts, first_tag, run_plain, run_tag, length_text}
-use Rattle.htl_blocks.proofs.Spelled.{not_zero, step_more, step_end, step_run_fails, step_one_fails, step_none, first_parts, first_some, first_size, tag_nonempty, sizes, after_place, TagSays, tag_found, one_says}
+use Rattle.htl_blocks.proofs.Spelled.{step_more, step_end, step_run_fails, step_one_fails, step_none, first_parts, first_some, first_size, tag_nonempty, sizes, after_place, TagSays, tag_found, one_says}
 
 -- ---- the places of a template's faults
 
@@ -186,7 +187,7 @@ tag_fails levels place tag f e = go levels refl (tag_attributes tag) refl e
     go : (n : ℕ) → levels ≡ n → (o : Option (Attributes × List ℕ)) → tag_attributes tag ≡ o → known_tag n place o ≡ Err f → TagFails levels place tag f
     go n l None s h = inl (s, cc)
     go zero l (Some a) s h = inr (inl (l, cc))
-    go (suc n) l (Some a) s h = read n l a s (template_of a.1) refl (rw not_zero at h)
+    go (suc n) l (Some a) s h = read n l a s (template_of a.1) refl (rw suc_is_not_zero at h)
 
 -- a tag's fault stands at the tag
 tag_fault_place : (levels place : ℕ) (tag : List ℕ) (f : BlockFault) → tag_of levels place tag ≡ Err f → block_fault_place f ≤ place
@@ -388,7 +389,7 @@ tag_deep place tag a kept e = rw e refl
 
 tag_start : (levels place : ℕ) (tag : List ℕ) (a : Attributes) (kept : List ℕ) (f : TextFault) → tag_attributes tag ≡ Some (a, kept) → template_of kept ≡ Err f → tag_of (suc levels) place tag ≡ Err (fault.Text (told_at place f))
 unfolding tag_of
-tag_start levels place tag a kept f e q = rw (e, not_zero levels, q) refl
+tag_start levels place tag a kept f e q = rw (e, suc_is_not_zero levels, q) refl
 
 too_deep_told : (place at : ℕ) (tag : List ℕ) → at ≡ place → Told Tag (tag_of zero at tag) (fault.TooDeep place)
 too_deep_told place at tag same = go (tag_attributes tag) refl

@@ -4,10 +4,11 @@ use Rattle.std.specs.Str.{IsCharBoundary, IsUtf8}
 use Rattle.std.proofs.lemmas.Str.{IsCharBoundary-after_ascii, IsCharBoundary-before_ascii}
 use Rattle.std.proofs.lemmas.List.{length-take-le, length-drop}
 use Rattle.sp_base.specs.Bytes.{begins_with_byte}
+use Rattle.sp_base.proofs.BoolLemmas.{and_first, and_second}
 use Rattle.htl_blocks.specs.Markup.{tag_len, begins_tag, begins_end_tag, name_len, part_len, parts, parts_after, closes, waiting_after, inside_len}
 use Rattle.htl_blocks.specs.Attributes.{is_block_tag}
 use Rattle.htl_blocks.specs.Reading.{run_len}
-use Rattle.htl_blocks.proofs.Tags.{and_left, and_right, byte_there, end_tag_at, tag_boundary, part_within}
+use Rattle.htl_blocks.proofs.Tags.{byte_there, end_tag_at, tag_boundary, part_within}
 
 -- bytes that belong to the part before are passed over
 skipped : (n : ℕ) (t : List ℕ) → parts_after n t ≡ parts_after 0 (drop n t)
@@ -33,7 +34,7 @@ first_of (suc n) c t h = refl
 -- a block tag begins with "<"
 block_first : (part : List ℕ) → is_block_tag part ≡ true → slice_index part 0 ≡ 60
 unfolding is_block_tag begins_tag
-block_first part h = (byte_there 60 0 part (and_left _ _ (and_left _ _ h))).1
+block_first part h = (byte_there 60 0 part (and_first _ _ (and_first _ _ h))).1
 
 -- the first block tag stands at a "<"
 block_place : (skip : ℕ) (t : List ℕ) → skip ≤ length t → (skip + run_len (parts_after skip t) ≤ length t) × (skip + run_len (parts_after skip t) < length t → slice_index t (skip + run_len (parts_after skip t)) ≡ 60)
@@ -79,7 +80,7 @@ pub record ClosesAt (t : List ℕ) (place : ℕ) : Type 0 where
 
 ends : (name part : List ℕ) → closes name part ≡ true → begins_end_tag part ≡ true
 unfolding closes
-ends name part h = and_left _ _ h
+ends name part h = and_first _ _ h
 
 closes_at : (name : List ℕ) (waiting n skip : ℕ) (t : List ℕ) (m : ℕ) → skip ≤ length t → inside_len name waiting n (parts_after skip t) ≡ Some m → (n ≤ m) × ((place : ℕ) → place + n ≡ skip + m → ClosesAt t place)
 unfolding parts_after inside_len
@@ -101,7 +102,7 @@ closes_at name waiting n zero (c ∷ t) m h e = go (eqb waiting 0 && closes name
     size = length-take-le (part_len (c ∷ t)) (c ∷ t) within.1
 
     here : eqb waiting 0 && closes name (take (part_len (c ∷ t)) (c ∷ t)) ≡ true → n ≡ m → (place : ℕ) → place + n ≡ 0 + m → ClosesAt (c ∷ t) place
-    here x same zero q = record { within = omega arith; end_tag = ends name (take (part_len (c ∷ t)) (c ∷ t)) (and_right (eqb waiting 0) (closes name (take (part_len (c ∷ t)) (c ∷ t))) x) }
+    here x same zero q = record { within = omega arith; end_tag = ends name (take (part_len (c ∷ t)) (c ∷ t)) (and_second (eqb waiting 0) (closes name (take (part_len (c ∷ t)) (c ∷ t))) x) }
     here x same (suc place) q = absurd (omega (arith, q, same))
 
     later : (n + length (take (part_len (c ∷ t)) (c ∷ t)) ≤ m) × ((place : ℕ) → place + (n + length (take (part_len (c ∷ t)) (c ∷ t))) ≡ (part_len (c ∷ t) - 1) + m → ClosesAt t place) → (place : ℕ) → place + n ≡ 0 + m → ClosesAt (c ∷ t) place
@@ -122,7 +123,7 @@ closing_part name t m e = (closes_at name 0 0 0 t m (omega arith) e).1 m (omega 
 -- an end tag begins with "<"
 end_tag_first : (t : List ℕ) → begins_end_tag t ≡ true → slice_index t 0 ≡ 60
 unfolding begins_end_tag
-end_tag_first t h = (byte_there 60 0 t (and_left _ _ h)).1
+end_tag_first t h = (byte_there 60 0 t (and_first _ _ h)).1
 
 take_first : (n : ℕ) (t : List ℕ) → 1 ≤ n → slice_index (take n t) 0 ≡ slice_index t 0
 take_first zero t h = absurd (omega (arith, h))
@@ -147,7 +148,7 @@ inside_boundary name t m e =
 
 no_end_tag : (c : ℕ) → begins_end_tag (c ∷ []) ≡ true → ⊥
 unfolding begins_end_tag begins_with_byte
-no_end_tag c h = let x = and_right (eqb c 60) false h in absurd cc
+no_end_tag c h = let x = and_second (eqb c 60) false h in absurd cc
 
 -- and after it
 pub end_tag_boundary : (u : List ℕ) → IsUtf8 u → 0 < length u → begins_end_tag (take (part_len u) u) ≡ true → IsCharBoundary u (part_len u)

@@ -2,7 +2,7 @@
 use Rattle.std.proofs.Common.{◌≡◌, ◌<◌, ◌≤◌, ◌+◌, ◌-◌, ℕ, zero, suc, false, List, [], ◌∷◌, ◌++◌, take, drop, length, Result, Ok, Err, refl, ap, ◌∙◌, arith}
 use Rattle.std.specs.List.{flat_map}
 use Rattle.std.proofs.Math.Seq.{take-length}
-use Rattle.std.proofs.lemmas.List.{length-take-le}
+use Rattle.std.proofs.lemmas.List.{length-take-le, take-append-drop}
 use Rattle.htl_text.specs.declared.fault.TextFault.{TextFault}
 use Rattle.htl_text.specs.declared.fault.TextFault.TheVariants as text
 use Rattle.htl_text.specs.declared.piece.TemplatePiece.{TemplatePiece}
@@ -73,17 +73,12 @@ plain_is_template (c ∷ t) some x =
     ∙ as_text (template_of (c ∷ t))
 
 -- the parts of a text are the text
-take_drop : (n : ℕ) (t : List ℕ) → take n t ++ drop n t ≡ t
-take_drop zero t = refl
-take_drop (suc n) [] = refl
-take_drop (suc n) (c ∷ t) = ap (λ (u : List ℕ). c ∷ u) (take_drop n t)
-
 whole_from : (skip : ℕ) (t : List ℕ) → flat_map (λ (p : List ℕ). p) (parts_after skip t) ≡ drop skip t
 unfolding parts_after
 whole_from zero [] = refl
 whole_from (suc n) [] = refl
 whole_from (suc n) (c ∷ t) = whole_from n t
-whole_from zero (c ∷ t) = ap (λ (u : List ℕ). take (part_len (c ∷ t)) (c ∷ t) ++ u) (whole_from (part_len (c ∷ t) - 1) t) ∙ ap (λ (u : List ℕ). take (part_len (c ∷ t)) (c ∷ t) ++ u) (go (part_len (c ∷ t)) (part_within (c ∷ t) (omega arith)).0) ∙ take_drop (part_len (c ∷ t)) (c ∷ t)
+whole_from zero (c ∷ t) = ap (λ (u : List ℕ). take (part_len (c ∷ t)) (c ∷ t) ++ u) (whole_from (part_len (c ∷ t) - 1) t) ∙ ap (λ (u : List ℕ). take (part_len (c ∷ t)) (c ∷ t) ++ u) (go (part_len (c ∷ t)) (part_within (c ∷ t) (omega arith)).0) ∙ take-append-drop (part_len (c ∷ t)) (c ∷ t)
   where
     go : (n : ℕ) → 1 ≤ n → drop (n - 1) t ≡ drop n (c ∷ t)
     go zero h = absurd (omega (arith, h))

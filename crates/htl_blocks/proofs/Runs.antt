@@ -1,28 +1,21 @@
 -- Runs of bytes at the beginning of a text.
-use Rattle.std.proofs.Common.{◌≡◌, ◌<◌, ◌≤◌, ◌+◌, ℕ, zero, suc, Bool, true, false, not, cond, nat_lt, List, [], ◌∷◌, drop, Option, Some, None, MatchOption, length, slice_index, refl, subst, arith}
+use Rattle.std.proofs.Common.{◌≡◌, ◌<◌, ◌≤◌, ◌+◌, ℕ, zero, suc, Bool, true, false, not, nat_lt, List, [], ◌∷◌, drop, length, slice_index, refl, subst, arith}
 use Rattle.std.specs.Str.{IsCharBoundary, IsUtf8}
 use Rattle.std.specs.List.{position_or_len}
 use Rattle.std.proofs.lemmas.List.Sums.{prefix_len-le-length, passes_at_first, fails_before_first}
 use Rattle.std.proofs.lemmas.Str.{IsCharBoundary-start, IsCharBoundary-after_ascii}
+use Rattle.std.proofs.lemmas.Bool.{eqb-true}
 use Rattle.std.proofs.lemmas.Bool.Decides.{nat_tests}
+use Rattle.sp_base.proofs.ListLemmas.{index_drop}
 use Rattle.htl_syntax.specs.Tokens.{is_blank, is_quote}
+use Rattle.htl_syntax.proofs.Strings.{quote_ascii}
 use Rattle.htl_blocks.specs.declared.byte_run.ByteRun.{ByteRun}
 use Rattle.htl_blocks.specs.declared.byte_run.ByteRun.TheVariants.{Key, Quoted, Blanks}
 use Rattle.htl_blocks.specs.Markup.{ends, ends_key, run_bytes}
-use Rattle.htl_blocks.proofs.Tags.{byte_is, quote_ascii}
 
 pub run_within : (run : ByteRun) (t : List ℕ) → run_bytes run t ≤ length t
 unfolding run_bytes
 run_within run t = prefix_len-le-length _ t
-
-pub place_is : (n len : ℕ) → n ≤ len → (r : Option ℕ) → r ≡ cond (nat_lt n len) (Some n) None → MatchOption r (len ≡ n) (λ i. i ≡ n)
-place_is n len le r e = go (nat_lt n len) refl r e
-  where
-    go : (b : Bool) → nat_lt n len ≡ b → (o : Option ℕ) → o ≡ cond b (Some n) None → MatchOption o (len ≡ n) (λ i. i ≡ n)
-    go true t (Some i) x = cc
-    go true t None x = absurd cc
-    go false t (Some i) x = absurd cc
-    go false t None x = grind (arith, nat_tests)
 
 key_ascii : (c : ℕ) → ends_key c ≡ true → c < 128
 key_ascii c h = grind (arith, nat_tests)
@@ -33,7 +26,7 @@ key_boundary t = (run_within Key t, λ lt big. let x = key_ascii (slice_index t 
 
 pub quoted_boundary : (mark : ℕ) (t : List ℕ) → is_quote mark ≡ true → IsCharBoundary t (run_bytes (Quoted mark) t)
 unfolding run_bytes
-quoted_boundary mark t h = (run_within (Quoted mark) t, λ lt big. let x = byte_is (slice_index t (position_or_len (ends (Quoted mark)) t)) mark (passes_at_first (ends (Quoted mark)) t 0 lt) in let y = quote_ascii mark h in omega (arith, x, y, big))
+quoted_boundary mark t h = (run_within (Quoted mark) t, λ lt big. let x = eqb-true (slice_index t (position_or_len (ends (Quoted mark)) t)) mark (passes_at_first (ends (Quoted mark)) t 0 lt) in let y = quote_ascii mark h in omega (arith, x, y, big))
 
 blank_byte : (c : ℕ) → not (is_blank c) ≡ false → c < 128
 blank_byte c h = grind (arith, nat_tests)
@@ -55,11 +48,6 @@ drop_one_more zero t = refl
 drop_one_more (suc n) [] = let more : suc n + 1 ≡ suc (n + 1) = omega arith in rw more refl
 drop_one_more (suc n) (c ∷ t) = let more : suc n + 1 ≡ suc (n + 1) = omega arith in rw more (drop_one_more n t)
 
-index_drop : (n : ℕ) (t : List ℕ) → slice_index (drop n t) 0 ≡ slice_index t n
-index_drop zero t = refl
-index_drop (suc n) [] = refl
-index_drop (suc n) (c ∷ t) = index_drop n t
-
 past_end : (n : ℕ) (t : List ℕ) → length t ≤ n → slice_index t n ≡ 0
 past_end n [] h = refl
 past_end zero (c ∷ t) h = absurd (omega (arith, h))
@@ -73,7 +61,7 @@ quoted_rest mark t h = rw (index_drop (position_or_len (ends (Quoted mark)) t) t
     go : (b : Bool) → nat_lt (position_or_len (ends (Quoted mark)) t) (length t) ≡ b → slice_index t (position_or_len (ends (Quoted mark)) t) < 128
     go true e =
         let lt : position_or_len (ends (Quoted mark)) t < length t = grind (arith, nat_tests) in
-        let x = byte_is (slice_index t (position_or_len (ends (Quoted mark)) t)) mark (passes_at_first (ends (Quoted mark)) t 0 lt) in
+        let x = eqb-true (slice_index t (position_or_len (ends (Quoted mark)) t)) mark (passes_at_first (ends (Quoted mark)) t 0 lt) in
         let y = quote_ascii mark h in
         omega (arith, x, y)
     go false e =

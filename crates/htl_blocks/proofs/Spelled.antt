@@ -1,7 +1,7 @@
 -- What is read is what the text spells, and the other way round.
-use Rattle.std.proofs.Common.{◌⊎◌, ◌≡◌, ◌<◌, ◌≤◌, ◌+◌, ◌-◌, ℕ, zero, suc, true, false, eqb, List, [], ◌∷◌, ◌++◌, length, Option, Some, None, Result, Ok, Err, refl, ap, sym, subst, ◌∙◌, arith, append_assoc, inl, inr}
-use Rattle.std.proofs.lemmas.Bool.Decides.{nat_tests}
+use Rattle.std.proofs.Common.{◌⊎◌, ◌≡◌, ◌<◌, ◌≤◌, ◌+◌, ◌-◌, ℕ, zero, suc, true, List, [], ◌∷◌, ◌++◌, length, Option, Some, None, Result, Ok, Err, refl, ap, sym, subst, ◌∙◌, arith, append_assoc, inl, inr}
 use Rattle.sp_base.specs.Bytes.{begins_with_byte}
+use Rattle.sp_base.proofs.NatLemmas.{suc_is_not_zero}
 use Rattle.htl_text.specs.declared.piece.TemplatePiece.{TemplatePiece}
 use Rattle.htl_text.specs.declared.fault.TextFault.{TextFault}
 use Rattle.htl_text.specs.Template.{template_of, read_from_place}
@@ -125,12 +125,9 @@ after_place t x place end e =
 
 -- ---- the tag of an element
 
-pub not_zero : (w : ℕ) → eqb (suc w) 0 ≡ false
-not_zero w = grind (arith, nat_tests)
-
 pub tag_only : (levels place : ℕ) (tag kept : List ℕ) (a : Attributes) (start : List TemplatePiece) → tag_attributes tag ≡ Some (a, kept) → template_of kept ≡ Ok start → tag_of (suc levels) place tag ≡ Ok (record { attributes = a; start = start })
 unfolding tag_of
-tag_only levels place tag kept a start e f = rw (e, not_zero levels, f) refl
+tag_only levels place tag kept a start e f = rw (e, suc_is_not_zero levels, f) refl
 
 -- what a tag that has a reading says
 pub record TagSays (levels : ℕ) (tag : List ℕ) (x : Tag) : Type 0 where
@@ -151,7 +148,7 @@ tag_found levels place tag x e = go levels refl (tag_attributes tag) refl e
     go : (n : ℕ) → levels ≡ n → (o : Option (Attributes × List ℕ)) → tag_attributes tag ≡ o → known_tag n place o ≡ Ok x → TagSays levels tag x
     go n l None s h = absurd cc
     go zero l (Some a) s h = absurd cc
-    go (suc n) l (Some a) s h = read n l a s (template_of a.1) refl (rw not_zero at h)
+    go (suc n) l (Some a) s h = read n l a s (template_of a.1) refl (rw suc_is_not_zero at h)
 
 -- ---- what the text spells is read
 

@@ -1,6 +1,7 @@
 -- A text split at its first block tag, and the element that begins there.
 use Rattle.std.proofs.Common.{◌⊎◌, ◌≡◌, ◌<◌, ◌≤◌, ◌+◌, ◌-◌, ℕ, zero, suc, Bool, true, false, cond, eqb, List, [], ◌∷◌, ◌++◌, take, drop, length, Option, Some, None, Result, Ok, Err, refl, ap, sym, subst, ◌∙◌, arith, append_assoc, length-append, inl, inr}
 use Rattle.sp_base.specs.Bytes.{begins_with_byte}
+use Rattle.sp_base.proofs.BoolLemmas.{and_first, and_second}
 use Rattle.htl_syntax.specs.Tokens.{begins}
 use Rattle.htl_blocks.specs.declared.quoting.Quoting.{Quoting}
 use Rattle.htl_blocks.specs.declared.quoting.Quoting.TheVariants.{Outside}
@@ -14,7 +15,7 @@ use Rattle.htl_blocks.specs.Laws.{HasNoBlock, Balanced, Closes, bytes_of}
 use Rattle.htl_blocks.specs.Laws as laws
 use Rattle.htl_blocks.specs.Spelling.{whole_text, FirstTag, Closed, Element}
 use Rattle.htl_blocks.specs.Spelling as spelling
-use Rattle.htl_blocks.proofs.Tags.{and_left, and_right, tag_end_at}
+use Rattle.htl_blocks.proofs.Tags.{tag_end_at}
 use Rattle.htl_blocks.proofs.Parts.{parts_step}
 use Rattle.htl_blocks.proofs.Plain.{parts_whole}
 use Rattle.htl_blocks.proofs.Balance.{found_is_balanced, balanced_is_found}
@@ -118,13 +119,13 @@ prefix_begins : (n : ℕ) (u : List ℕ) → begins_tag (take n u) ≡ true → 
 unfolding begins_tag begins_with_byte begins
 prefix_begins zero u h = absurd cc
 prefix_begins (suc n) [] h = absurd cc
-prefix_begins (suc zero) (c ∷ u) h = absurd (let x = and_right (eqb c 60) false h in cc)
-prefix_begins (suc (suc n)) (c ∷ []) h = absurd (let x = and_right (eqb c 60) false h in cc)
+prefix_begins (suc zero) (c ∷ u) h = absurd (let x = and_second (eqb c 60) false h in cc)
+prefix_begins (suc (suc n)) (c ∷ []) h = absurd (let x = and_second (eqb c 60) false h in cc)
 prefix_begins (suc (suc n)) (c ∷ d ∷ u) h = h
 
 block_begins : (tag : List ℕ) → is_block_tag tag ≡ true → begins_tag tag ≡ true
 unfolding is_block_tag
-block_begins tag h = and_left _ _ h
+block_begins tag h = and_first _ _ h
 
 part_is_tag : (u : List ℕ) → begins_tag u ≡ true → part_len u ≡ tag_len u
 unfolding part_len

@@ -1,6 +1,6 @@
 -- Steps over the parts of a text.
 use Rattle.std.proofs.Common.{◌≡◌, ◌≤◌, ◌+◌, ◌-◌, ℕ, Bool, true, false, cond, ◌&&◌, eqb, List, [], ◌∷◌, length, Some, None, refl, arith}
-use Rattle.htl_blocks.proofs.Tags.{full}
+use Rattle.sp_base.proofs.ListLemmas.{cons_is_some}
 use Rattle.htl_blocks.specs.Markup.{parts, parts_after, closes, waiting_after, opens, inside_len}
 use Rattle.htl_blocks.specs.Attributes.{is_block_tag}
 use Rattle.htl_blocks.specs.Reading.{run_len}
@@ -8,7 +8,7 @@ use Rattle.htl_blocks.specs.Reading.{run_len}
 pub no_parts : (t : List ℕ) → (eqb (length t) 0) ≡ true → parts t ≡ []
 unfolding parts_after
 no_parts [] h = refl
-no_parts (c ∷ t) h = absurd (let some = full c t in cc)
+no_parts (c ∷ t) h = absurd (let some = cons_is_some c t in cc)
 
 pub run_none : (t : List ℕ) → (eqb (length t) 0) ≡ true → run_len (parts t) ≡ 0
 unfolding run_len

@@ -1,35 +1,19 @@
 -- Where tags, end tags and block statements end.
-use Rattle.std.proofs.Common.{◌≡◌, ◌<◌, ◌≤◌, ◌+◌, ◌-◌, ℕ, zero, suc, Bool, true, false, cond, ◌&&◌, eqb, List, [], ◌∷◌, drop, length, slice_index, Option, Some, None, refl, ap, sym, ◌∙◌, rules, arith}
+use Rattle.std.proofs.Common.{◌≡◌, ◌<◌, ◌≤◌, ◌+◌, ◌-◌, ℕ, zero, suc, Bool, true, false, cond, ◌&&◌, List, [], ◌∷◌, drop, length, slice_index, Option, Some, None, refl, ap, sym, ◌∙◌, rules, arith}
 use Rattle.std.specs.Str.{IsCharBoundary, IsUtf8}
 use Rattle.std.proofs.lemmas.Str.{IsCharBoundary-after_ascii, IsCharBoundary-before_ascii, IsCharBoundary-end}
-use Rattle.std.proofs.lemmas.Bool.Decides.{nat_tests}
+use Rattle.std.proofs.lemmas.Bool.{eqb-true}
 use Rattle.std.proofs.lemmas.List.{length-drop}
 use Rattle.sp_base.specs.Bytes.{begins_with_byte}
-use Rattle.htl_syntax.specs.Tokens.{begins, is_blank, is_quote, is_letter}
+use Rattle.sp_base.proofs.BoolLemmas.{and_first, and_second}
+use Rattle.sp_base.proofs.ListLemmas.{index_drop}
+use Rattle.htl_syntax.specs.Tokens.{begins, is_quote, is_letter}
+use Rattle.htl_syntax.proofs.Scan.{blank_ascii}
+use Rattle.htl_syntax.proofs.Strings.{quote_ascii}
 use Rattle.htl_blocks.specs.declared.quoting.Quoting.{Quoting}
 use Rattle.htl_blocks.specs.declared.quoting.Quoting.TheVariants.{Outside, Within}
 use Rattle.htl_blocks.specs.Markup.{markup_quoting_step, ends_tag, tag_end, ended_len, tag_len, begins_tag, begins_end_tag, ends_after_name, name_len, part_len}
 use Rattle.htl_blocks.specs.Attributes.{begins_statement, statement_place, mark_at}
-
-pub and_left : (a b : Bool) → (a && b) ≡ true → a ≡ true
-and_left true b e = refl
-and_left false b e = absurd cc
-
-pub and_right : (a b : Bool) → (a && b) ≡ true → b ≡ true
-and_right true b e = e
-and_right false b e = absurd cc
-
-pub byte_is : (a b : ℕ) → eqb a b ≡ true → a ≡ b
-byte_is a b e = search rules
-
-pub full : (c : ℕ) (t : List ℕ) → eqb (length (c ∷ t)) 0 ≡ false
-full c t = grind (arith, nat_tests)
-
-pub blank_ascii : (c : ℕ) → is_blank c ≡ true → c < 128
-blank_ascii c h = grind (arith, nat_tests)
-
-pub quote_ascii : (c : ℕ) → is_quote c ≡ true → c < 128
-quote_ascii c h = grind (arith, nat_tests)
 
 -- a ">" stands at the place that ends a tag
 pub tag_end_at : (quoting : Quoting) (n : ℕ) (t : List ℕ) (m : ℕ) → tag_end quoting n t ≡ Some m → (n ≤ m) × (m - n < length t) × (slice_index t (m - n) ≡ 62)
@@ -49,7 +33,7 @@ tag_end_at quoting n (c ∷ t) m h = go (ends_tag quoting c) refl h (tag_end_at 
 
 blank_first : (quoting : Quoting) (c : ℕ) (t : List ℕ) → begins_statement quoting c t ≡ true → c < 128
 unfolding begins_statement
-blank_first Outside c t e = blank_ascii c (and_left _ _ e)
+blank_first Outside c t e = blank_ascii c (and_first _ _ e)
 blank_first (Within mark) c t e = absurd cc
 
 -- a blank stands at the place of a block statement
@@ -68,7 +52,7 @@ statement_at quoting n (c ∷ t) m h = go (begins_statement quoting c t) refl h 
 pub byte_there : (c n : ℕ) (t : List ℕ) → begins_with_byte c (drop n t) ≡ true → (n < length t) × (slice_index t n ≡ c)
 unfolding begins_with_byte
 byte_there c zero [] h = absurd cc
-byte_there c zero (d ∷ t) h = (omega arith, byte_is d c h)
+byte_there c zero (d ∷ t) h = (omega arith, eqb-true d c h)
 byte_there c (suc n) [] h = absurd cc
 byte_there c (suc n) (d ∷ t) h = let x = byte_there c n t h in (omega (arith, x.0), x.1)
 
@@ -81,9 +65,9 @@ index_past_two (a ∷ b ∷ t) i = let more : i + 2 ≡ suc (suc i) = omega arit
 pub end_tag_at : (t : List ℕ) → begins_end_tag t ≡ true → (name_len (drop 2 t) + 2 < length t) × (slice_index t (name_len (drop 2 t) + 2) ≡ 62)
 unfolding begins_end_tag
 end_tag_at t h =
-    let a = and_right (begins_with_byte 60 t) (begins_with_byte 47 (drop 1 t) && ends_after_name (drop 2 t)) h in
-    let b = and_right (begins_with_byte 47 (drop 1 t)) (ends_after_name (drop 2 t)) a in
-    let d = and_right (begins is_letter (drop 2 t)) (begins_with_byte 62 (drop (name_len (drop 2 t)) (drop 2 t))) b in
+    let a = and_second (begins_with_byte 60 t) (begins_with_byte 47 (drop 1 t) && ends_after_name (drop 2 t)) h in
+    let b = and_second (begins_with_byte 47 (drop 1 t)) (ends_after_name (drop 2 t)) a in
+    let d = and_second (begins is_letter (drop 2 t)) (begins_with_byte 62 (drop (name_len (drop 2 t)) (drop 2 t))) b in
     let x = byte_there 62 (name_len (drop 2 t)) (drop 2 t) d in
     let size = length-drop 2 t in
     (omega (arith, x.0, size), sym (index_past_two t (name_len (drop 2 t))) ∙ x.1)
@@ -114,10 +98,6 @@ part_within t some = go (begins_tag t) (begins_end_tag t) refl refl
     go false true ea eb = let x = end_tag_at t eb in (omega arith, omega (arith, x.0))
     go false false ea eb = (omega arith, omega (arith, some))
 
-pub some_of : (t : List ℕ) → (eqb (length t) 0) ≡ false → 0 < length t
-some_of [] h = absurd cc
-some_of (c ∷ t) h = omega arith
-
 -- a text may be cut after the ">" of its tag
 pub ended_boundary : (t : List ℕ) (n : ℕ) → IsUtf8 t → tag_end Outside 0 t ≡ Some n → IsCharBoundary t (n + 1)
 ended_boundary t n utf8 e =
@@ -134,21 +114,12 @@ statement_boundary t n e =
     let there : slice_index t n < 128 = rw same at x.2 in
     IsCharBoundary-before_ascii t n (omega (arith, x.1)) there
 
-index_drop : (n : ℕ) (t : List ℕ) → slice_index (drop n t) 0 ≡ slice_index t n
-index_drop zero t = refl
-index_drop (suc n) [] = refl
-index_drop (suc n) (c ∷ t) = index_drop n t
-
 pub statement_first : (t : List ℕ) (n : ℕ) → statement_place Outside 0 t ≡ Some n → slice_index (drop n t) 0 < 128
 statement_first t n e =
     let x = statement_at Outside 0 t n e in
     let same : n - 0 ≡ n = omega arith in
     let there : slice_index t n < 128 = rw same at x.2 in
     rw (index_drop n t) there
-
--- the byte that begins a text
-pub first_is : (c : ℕ) (t : List ℕ) → c < 128 → begins_with_byte c t ≡ true → slice_index t 0 < 128
-first_is c t lt h = let x = byte_there c 0 t h in let same = x.1 in omega (arith, same, lt)
 
 pub mark_first : (t : List ℕ) (mark : ℕ) → mark_at t ≡ Some mark → (slice_index t 0 < 128) × (is_quote mark ≡ true)
 mark_first [] mark h = absurd cc

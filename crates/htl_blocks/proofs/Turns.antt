@@ -1,5 +1,6 @@
 -- Turns of the loops that read a script and a tag.
 use Rattle.std.proofs.Common.{◌≡◌, ◌<◌, ◌≤◌, ◌+◌, ◌-◌, ℕ, zero, suc, true, false, eqb, List, [], ◌∷◌, ◌++◌, take, drop, length, Option, Some, None, Result, Ok, Err, refl, arith}
+use Rattle.sp_base.proofs.ListLemmas.{cons_is_some}
 use Rattle.htl_blocks.specs.ElementText.{ElementText}
 use Rattle.htl_blocks.specs.declared.fault.BlockFault.{BlockFault}
 use Rattle.htl_blocks.specs.declared.attribute.Attributes.{Attributes}
@@ -7,7 +8,6 @@ use Rattle.htl_blocks.specs.declared.block.Block.{Block}
 use Rattle.htl_blocks.specs.declared.block.Block.TheVariants as block
 use Rattle.htl_blocks.specs.declared.block.Tag.{Tag}
 use Rattle.htl_blocks.specs.declared.quoting.Quoting.TheVariants.{Outside}
-use Rattle.htl_blocks.proofs.Tags.{full}
 use Rattle.htl_blocks.proofs.Runs.{drop_one_more}
 use Rattle.htl_blocks.specs.Attributes.{statement_place, end_trimmed, tag_attributes, attributes_read, statement_split, with_known, attribute_of, after_attribute}
 use Rattle.htl_blocks.specs.Reading.{run_of, after_text_run, run_blocks, with_blocks, to_element, blocks_read, element, element_cut, tag_of, known_tag, content_within}
@@ -36,7 +36,7 @@ blocks_end one end all turn found new rest run tag lt pushed er et none =
   where
     next : (t : List ℕ) → eqb (length t) 0 ≡ true → to_element one (blocks_read one end (all - (turn + 1))) new t ≡ Ok new
     next [] s = refl
-    next (c ∷ t) s = absurd (let some = full c t in cc)
+    next (c ∷ t) s = absurd (let some = cons_is_some c t in cc)
 
 -- a turn that meets a fault of a run
 pub blocks_run_fails : (one : List ℕ → Result (Block × List ℕ) BlockFault) (end all turn : ℕ) (found : List Block) (rest run : List ℕ) (f : BlockFault) → turn < all → run_blocks (end - length rest) run ≡ Err f → run ≡ run_of rest

@@ -1,5 +1,5 @@
 -- What is written item by item.
-use Rattle.std.proofs.Common.{◌≡◌, Bool, true, false, ◌≤◌, ◌<◌, ◌+◌, ℕ, zero, suc, List, [], ◌∷◌, ◌++◌, take, drop, get_or, slice_get, length, Option, Some, None, Result, Err, refl, ap, sym, subst, ◌∙◌, append-nil, arith, Bor}
+use Rattle.std.proofs.Common.{◌≡◌, Bool, true, false, ◌≤◌, ◌<◌, ◌+◌, ℕ, zero, suc, List, [], ◌∷◌, ◌++◌, take, drop, get_or, slice_get, length, Option, Some, None, Result, Err, refl, ap, sym, subst, ◌∙◌, append-nil, arith}
 use Rattle.std.proofs.lemmas.List.{take_all, take_more, take-append-drop}
 use Rattle.std.proofs.lemmas.Bool.{false≢true}
 use Rattle.std.proofs.lemmas.List.Concat.{flat_map-append}
@@ -7,11 +7,7 @@ use Rattle.std.proofs.lemmas.List.Sums.{fold-append}
 use Rattle.std.specs.List.{flat_map, slice_index_or}
 use Rattle.htl_expr.specs.Bindings.{Bindings, with_vars}
 use Rattle.htl_expr.specs.Value.{list_in}
-use Rattle.htl_expr.specs.declared.variables.Variables.{Variables}
 use Rattle.htl_expr.specs.declared.variables.Variables.TheVariants as vars
-use Rattle.htl_expr.specs.declared.variables.Variables.TheOpen.{Variables-F}
-use Rattle.htl_expr.specs.declared.variables.Variables.TheFolds.{fold-roll-Variables}
-use Rattle.htl_expr.specs.Variables.{lent_pairs, vars_of, vars_step}
 use Rattle.htl_blocks.specs.Parts.{Part, Round, text_parts}
 use Rattle.htl_blocks.specs.Pieces.{item_of, items_in, with_round, within}
 use Rattle.htl_blocks.specs.declared.piece.Round.{Round as RoundOf}
@@ -21,8 +17,8 @@ use Rattle.htl_blocks.specs.Sheets.{SheetText, empty_sheet, with_parts, Stops, W
 use Rattle.htl_blocks.specs.Written.{round_parts, statement_value, tag_parts}
 use Rattle.htl_blocks.proofs.SheetLemmas.{after, stopped, with_both, with_none}
 
-one_more : {X : Type 0} (g : X → List Part) (xs : List X) (i : ℕ) (d x : X) → i < length xs → x ≡ get_or xs i d → flat_map g (take i xs) ++ g x ≡ flat_map g (take (i + 1) xs)
-one_more {X} g xs i d x lt is =
+pub parts_of_one_more : {X : Type 0} (g : X → List Part) (xs : List X) (i : ℕ) (d x : X) → i < length xs → x ≡ get_or xs i d → flat_map g (take i xs) ++ g x ≡ flat_map g (take (i + 1) xs)
+parts_of_one_more {X} g xs i d x lt is =
     ap (λ (ps : List Part). flat_map g (take i xs) ++ ps) (sym (append-nil (g x))) ∙ sym (flat_map-append g (take i xs) (x ∷ []))
     ∙ ap (flat_map g) (ap (λ (y : X). take i xs ++ y ∷ []) is ∙ sym (take_more xs i d lt))
 
@@ -30,13 +26,13 @@ one_more {X} g xs i d x lt is =
 pub each_more : {X : Type 0} (g : X → List Part) (s mid new : SheetText) (xs : List X) (i : ℕ) (d x : X) → i < length xs → x ≡ get_or xs i d → mid ≡ with_parts s (flat_map g (take i xs)) → new ≡ with_parts mid (g x)
     → new ≡ with_parts s (flat_map g (take (i + 1) xs))
 each_more g s mid new xs i d x lt is known e =
-    e ∙ ap (λ (m : SheetText). with_parts m (g x)) known ∙ with_both s (flat_map g (take i xs)) (g x) ∙ ap (with_parts s) (one_more g xs i d x lt is)
+    e ∙ ap (λ (m : SheetText). with_parts m (g x)) known ∙ with_both s (flat_map g (take i xs)) (g x) ∙ ap (with_parts s) (parts_of_one_more g xs i d x lt is)
 
 -- the next item isn't written, nor are those after it
 pub each_stopped : {X : Type 0} (g : X → List Part) (f : RunFault) (s mid new : SheetText) (xs : List X) (i : ℕ) (d x : X) → i < length xs → x ≡ get_or xs i d → mid ≡ with_parts s (flat_map g (take i xs))
     → Stops f mid (g x) → Stops f s (flat_map g xs)
 each_stopped g f s mid new xs i d x lt is known w =
-    let so_far = subst (λ (ps : List Part). Stops f s ps) (one_more g xs i d x lt is) (after {A = ℕ} (Err f) s mid new (flat_map g (take i xs)) (g x) known w) in
+    let so_far = subst (λ (ps : List Part). Stops f s ps) (parts_of_one_more g xs i d x lt is) (after {A = ℕ} (Err f) s mid new (flat_map g (take i xs)) (g x) known w) in
     subst (λ (ps : List Part). Stops f s ps) (sym (flat_map-append g (take (i + 1) xs) (drop (i + 1) xs)) ∙ ap (flat_map g) (take-append-drop (i + 1) xs))
     (stopped f s new new (flat_map g (take (i + 1) xs)) (flat_map g (drop (i + 1) xs)) so_far)
 
@@ -185,16 +181,8 @@ item_listed scope one items item some there = item_is items one.place item there
 pub none_listed : (scope : Bindings) (one : RoundOf) (items : List (List ℕ)) → Some items ≡ list_in (statement_value scope one.list.now) → None ≡ slice_get items one.place → [] ≡ item_of scope one
 none_listed scope one items some there = no_item_is items one.place there ∙ ap (λ (l : Option (List (List ℕ))). slice_index_or (items_in l) one.place []) some
 
--- an item's variable over the others
-pub with_one : (name text : Bor (List ℕ)) (outer : Bor Variables) → vars_of (vars.With name text outer) ≡ (name.now, text.now) ∷ vars_of outer.now
-with_one name text outer = ap vars_of (sym (vars.rolls-With name text outer)) ∙ fold-roll-Variables (List (List ℕ × List ℕ)) vars_step (Variables-F.With name text outer)
-
 -- the item of a round, while more was written
 pub round_item : (s mid : SheetText) (ps : List Part) (vars : List (List ℕ × List ℕ)) (one : RoundOf) (items : List (List ℕ)) (item : List ℕ) → mid ≡ with_parts s ps
     → Some items ≡ list_in (statement_value (with_vars s.scope vars) one.list.now) → Some item ≡ slice_get items one.place → item ≡ item_of (with_vars mid.scope vars) one
 round_item s mid ps vars one items item e some there =
     subst (λ (scope : Bindings). item ≡ item_of (with_vars scope vars) one) (sym (same_scope s mid ps e)) (item_listed (with_vars s.scope vars) one items item some there)
-
--- variables that stand in pairs
-pub pairs_are : (pairs : Bor (List (Bor (List ℕ) × Bor (List ℕ)))) → vars_of (vars.Pairs pairs) ≡ lent_pairs pairs.now
-pairs_are pairs = ap vars_of (sym (vars.rolls-Pairs pairs)) ∙ fold-roll-Variables (List (List ℕ × List ℕ)) vars_step (Variables-F.Pairs pairs)

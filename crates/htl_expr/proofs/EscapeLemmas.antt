@@ -1,9 +1,9 @@
 -- A text is escaped run by run, and what is written is inert.
-use Rattle.std.proofs.Common.{◌≡◌, ℕ, suc, ◌<◌, ◌≤◌, ◌-◌, Bool, true, false, eqb, cond, List, [], ◌∷◌, ◌++◌, Option, Some, None, is_some, unwrap_or, length, take, drop, slice_index, inl, inr, refl, sym, ap, ap₂, ◌∙◌, arith, append-nil, append_assoc}
+use Rattle.std.proofs.Common.{◌≡◌, ℕ, suc, ◌<◌, ◌≤◌, Bool, true, false, cond, List, [], ◌∷◌, ◌++◌, Option, Some, None, is_some, unwrap_or, length, take, drop, slice_index, inl, inr, refl, sym, ap, ap₂, ◌∙◌, arith, append-nil, append_assoc}
 use Rattle.std.specs.List.{flat_map, list_all}
 use Rattle.std.specs.Str.{IsCharBoundary}
 use Rattle.std.proofs.lemmas.Bool.{cases_lt, cases_eq}
-use Rattle.std.proofs.lemmas.List.{length-drop, length-append}
+use Rattle.std.proofs.lemmas.List.{length-append}
 use Rattle.std.proofs.lemmas.List.Folds.{list_all-append}
 use Rattle.std.proofs.lemmas.Grind.{common_steps, flat_map-append}
 use Rattle.htl_syntax.specs.declared.expression.Context.{Context}
@@ -12,10 +12,6 @@ use Rattle.htl_expr.specs.Print.{reference, html_escape, reference_place, first_
 use Rattle.htl_expr.specs.Writing.{Begins, IsStopped}
 use Rattle.htl_expr.specs.declared.room.WriteFault.{WriteFault}
 use Rattle.htl_expr.proofs.Writing.{begins_more, begins_later, longer}
-
-pub some_of : (t : List ℕ) → (eqb (length t) 0) ≡ false → 0 < length t
-some_of [] h = absurd cc
-some_of (c ∷ t) h = omega arith
 
 escape_plain : (b : ℕ) → reference b ≡ None → html_escape b ≡ b ∷ []
 escape_plain b e = rw e refl
@@ -85,9 +81,6 @@ run_end (c ∷ t) lt = go (reference c) refl (run_end t) lt
         → cond (is_some o) 0 (suc (reference_place t)) < length (c ∷ t) → slice_index (c ∷ t) (cond (is_some o) 0 (suc (reference_place t))) < 128
     go (Some r) e ih less = marked_low c r e
     go None e ih less = ih (omega (arith, less))
-
-pub drop_less : (n : ℕ) (t remainder : List ℕ) → remainder ≡ drop n t → length remainder ≤ length t
-drop_less n t remainder e = let l : length remainder ≡ length t - n = rw e (length-drop n t) in omega (arith, l)
 
 pub run_boundary : (t : List ℕ) → IsCharBoundary t (reference_place t)
 run_boundary t = (run_within t, λ lt big. let small = run_end t lt in omega (arith, small, big))

@@ -3,6 +3,7 @@ use Rattle.std.proofs.Common.{◌≡◌, ◌<◌, ◌≤◌, ◌+◌, ℕ, zero,
 use Rattle.std.proofs.lemmas.List.{length-append, take_all, take_more}
 use Rattle.std.proofs.lemmas.Slice.Eq.{bytes_eq-Decides}
 use Rattle.std.specs.Cmp.Lexicographic.{pointwise}
+use Rattle.sp_base.proofs.ListLemmas.{same_tail}
 use Rattle.htl_expr.specs.declared.pieces.ItemPiece.{ItemPiece}
 use Rattle.htl_expr.specs.Bindings.{Bindings}
 use Rattle.htl_expr.specs.Print.{concatenation}
@@ -64,9 +65,6 @@ one_more scope [] (t ∷ texts) pieces text known are = absurd cc
 one_more scope (ps ∷ items) [] pieces text known are = absurd known
 one_more scope (ps ∷ items) (t ∷ texts) pieces text known are = (known.0, one_more scope items texts pieces text known.1 are)
 
-same_after : (c : ℕ) (x y : List ℕ) → c ∷ x ≡ c ∷ y → x ≡ y
-same_after c x y e = cc
-
 -- texts that are as long come before the same only where they are the same
 halves : (xs ys us vs : List ℕ) → length xs ≡ length ys → xs ++ us ≡ ys ++ vs → (xs ≡ ys) × (us ≡ vs)
 halves [] [] us vs n e = (refl, e)
@@ -85,7 +83,7 @@ commas_differ [] ys n lt more leading differ len e = absurd (omega (arith, lt))
 commas_differ (x ∷ xs) [] n lt more leading differ len e = absurd (omega (arith, more))
 commas_differ (x ∷ xs) (y ∷ ys) zero lt more leading differ len e =
     let same = halves (codes "," ++ x) (codes "," ++ y) (with_commas xs) (with_commas ys) (ap suc len) e in
-    clash (pointwise nat_eq x y) ((bytes_eq-Decides x y).1 (same_after 44 x y same.0)) differ
+    clash (pointwise nat_eq x y) ((bytes_eq-Decides x y).1 (same_tail 44 x y same.0)) differ
   where
     clash : (b : Bool) → b ≡ true → b ≡ false → ⊥
     clash b e f = cc

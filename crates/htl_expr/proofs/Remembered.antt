@@ -3,6 +3,7 @@ use Rattle.std.proofs.Common.{◌≡◌, ◌<◌, ◌+◌, ◌==◌, ℕ, nat_eq
 use Rattle.std.proofs.lemmas.Bool.Decides.{nat_tests}
 use Rattle.std.proofs.lemmas.Map.Lookups.{exact_bytes}
 use Rattle.std.proofs.lemmas.Map.Views.{tells_apart}
+use Rattle.std.proofs.lemmas.Option.{same_Some}
 use Rattle.std.proofs.lemmas.Slice.Eq.{bytes_eq-Decides}
 use Rattle.std.specs.Bool.{Decides}
 use Rattle.std.specs.BTreeMap.{BTreeMap, get, Updates, is_at}
@@ -38,9 +39,6 @@ texts_told x y e = (texts_decide x y).0 (lists_ties (slice_cmp nat_cmp) texts_ti
     remainder Equal rest e = e
     remainder Greater rest e = absurd cc
 
-some_is : (x y : ℕ) → Some x ≡ Some y → x ≡ y
-some_is x y e = cc
-
 clash : (n : ℕ) (o : Option ℕ) → o ≡ Some n → o ≡ None → ⊥
 clash n o e f = cc
 
@@ -65,7 +63,7 @@ one_of : (old new : Table) (compared : List (List ℕ)) (next : ℕ) → Updates
 one_of old new compared next updates texts number has = chosen (is_at (by_texts compared) texts) refl (sym (updates.0 texts) ∙ has)
   where
     chosen : (t : Bool) → is_at (by_texts compared) texts ≡ t → cond t (Some next) (number_in old.entries texts) ≡ Some number → ((compared ≡ texts) × (next ≡ number)) ⊎ (number_in old.entries texts ≡ Some number)
-    chosen true e h = inl (texts_told compared texts e, some_is next number h)
+    chosen true e h = inl (texts_told compared texts e, same_Some next number h)
     chosen false e h = inr h
 
 pub numbered_more : (old new : Table) (compared : List (List ℕ)) (next : ℕ) → Updates by_texts old new compared (Some next) → AreNumbered old.entries next → AreNumbered new.entries (next + 1)
@@ -124,7 +122,7 @@ same_numbers classes x y n k apart first second = go (n == k) refl
 
     go : (t : Bool) → (n == k) ≡ t → t ≡ pointwise (pointwise nat_eq) x y
     go true e = sym ((texts_decide x y).1 (apart x y n first (second ∙ ap Some (sym (alike n k e)))))
-    go false e = sym (is_false (pointwise (pointwise nat_eq) x y) (λ same. unlike n k e (some_is n k (sym first ∙ ap (number_in classes) ((texts_decide x y).0 same) ∙ second))))
+    go false e = sym (is_false (pointwise (pointwise nat_eq) x y) (λ same. unlike n k e (same_Some n k (sym first ∙ ap (number_in classes) ((texts_decide x y).0 same) ∙ second))))
 
 pub one_text : (x y : List ℕ) → pointwise (pointwise nat_eq) (x ∷ []) (y ∷ []) ≡ pointwise nat_eq x y
 one_text x y = alone (pointwise nat_eq x y)

@@ -1,5 +1,6 @@
 -- What is in the grammar is read.
 use Rattle.std.proofs.Common.{◌≡◌, ℕ, ℤ, zero, suc, ◌<◌, ◌≤◌, Bool, true, false, eqb, List, [], ◌∷◌, ◌++◌, length, Ok, refl, ap, ◌∙◌, rules, arith, append_assoc}
+use Rattle.std.proofs.lemmas.Bool.{eqb-true}
 use Rattle.std.proofs.lemmas.List.{append-nil}
 use Rattle.sp_base.specs.Bytes.{begins_with_byte, is_digit}
 use Rattle.htl_syntax.specs.declared.node.ExprNode.{ExprNode}
@@ -13,7 +14,6 @@ use Rattle.htl_syntax.specs.Read as spec
 use Rattle.htl_syntax.specs.Grammar.{Byte, NameToken, String, Number, Sign, Compares, Separator, And, Or, Comma, Separates, GrammarPart, part_of, Choice, Either, Both, Compare, Operand, Atom, Start, Items, Reads, More, Access, Accesses}
 use Rattle.htl_syntax.specs.Grammar as g
 use Rattle.htl_syntax.proofs.Sound.{byte_of}
-use Rattle.htl_syntax.proofs.TokensRead.{eqb_is}
 use Rattle.htl_syntax.proofs.TokensAgain as again
 
 abbrev NoAccess : List ℕ → Type 0
@@ -372,7 +372,7 @@ close_choice s r b = rw b.parts (refl, refl, refl, refl, refl)
 end_choice : (s : List ℕ) → begins_with_byte 93 s ≡ true → Stops Choice s
 unfolding begins_with_byte spec.access_at spec.compares
 end_choice [] h = absurd cc
-end_choice (c ∷ s) h = let e : c ≡ 93 = eqb_is c 93 h in rw e (refl, refl, refl, refl, refl)
+end_choice (c ∷ s) h = let e : c ≡ 93 = eqb-true c 93 h in rw e (refl, refl, refl, refl, refl)
 
 comma_choice : (s r : List ℕ) → Separates Comma s r → Stops Choice s
 unfolding begins_with_byte spec.access_at spec.compares
@@ -389,7 +389,7 @@ or_both s r o = rw o.parts (refl, refl, refl)
 no_comma : (s : List ℕ) → begins_with_byte 93 s ≡ true → begins_with_byte 44 s ≡ false
 unfolding begins_with_byte
 no_comma [] h = absurd cc
-no_comma (c ∷ s) h = let e : c ≡ 93 = eqb_is c 93 h in rw e refl
+no_comma (c ∷ s) h = let e : c ≡ 93 = eqb-true c 93 h in rw e refl
 
 -- what stands after the items of a chain
 abbrev After : Separator → List ℕ → Type 0

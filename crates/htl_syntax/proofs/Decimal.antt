@@ -1,7 +1,9 @@
 -- Steps of reading a number.
-use Rattle.std.proofs.Common.{◌≡◌, ◌<◌, ◌≤◌, ◌+◌, ◌-◌, ◌*◌, ℕ, Bool, true, false, cond, ◌&&◌, leb, List, [], ◌∷◌, drop, length, slice_index, Some, None, refl, sym, arith}
+use Rattle.std.proofs.Common.{◌≡◌, ◌<◌, ◌≤◌, ◌+◌, ◌-◌, ◌*◌, ℕ, true, ◌&&◌, leb, List, [], ◌∷◌, drop, length, slice_index, Some, None, refl, sym, arith}
 use Rattle.std.proofs.lemmas.Bool.Decides.{nat_tests}
+use Rattle.std.proofs.lemmas.Option.{cond_some}
 use Rattle.sp_base.specs.Bytes.{is_digit}
+use Rattle.sp_base.proofs.OptionLemmas.{cond_none}
 use Rattle.htl_syntax.specs.Tokens.{expression_digit_fits, expression_digits_from, next_number}
 
 pub record Next (limit m n : ℕ) (t : List ℕ) : Type 0 where
@@ -10,10 +12,6 @@ pub record Next (limit m n : ℕ) (t : List ℕ) : Type 0 where
   pub less : length (drop 1 t) < length t
   pub fits : n ≤ limit
 
-some_is : (b : Bool) (x n : ℕ) → cond b (Some x) None ≡ Some n → (b ≡ true) × (x ≡ n)
-some_is true x n e = (refl, cc)
-some_is false x n e = absurd cc
-
 fits_ascii : (limit m c : ℕ) → (is_digit c && leb (m * 10 + (c - 48)) limit) ≡ true → (c < 128) × (m * 10 + (c - 48) ≤ limit)
 fits_ascii limit m c h = grind (arith, nat_tests)
 
@@ -21,15 +19,11 @@ pub next_some : (limit m n : ℕ) (t : List ℕ) → next_number limit m t ≡ S
 unfolding expression_digit_fits expression_digits_from
 next_some limit m n [] e = absurd cc
 next_some limit m n (c ∷ t) e =
-    let b = some_is (is_digit c && leb (m * 10 + (c - 48)) limit) (m * 10 + (c - 48)) n e in
+    let b = cond_some (is_digit c && leb (m * 10 + (c - 48)) limit) (m * 10 + (c - 48)) n e in
     let f = fits_ascii limit m c b.0 in
     record { same = rw (b.0, sym b.1) refl; ascii = f.0; less = omega arith; fits = omega (arith, f.1, b.1) }
-
-none_is : (b : Bool) (x : ℕ) → cond b (Some x) None ≡ None → b ≡ false
-none_is true x e = absurd cc
-none_is false x e = refl
 
 pub next_none : (limit m : ℕ) (t : List ℕ) → next_number limit m t ≡ None → expression_digits_from limit m t ≡ (m, t)
 unfolding expression_digit_fits expression_digits_from
 next_none limit m [] e = refl
-next_none limit m (c ∷ t) e = rw (none_is (is_digit c && leb (m * 10 + (c - 48)) limit) (m * 10 + (c - 48)) e) refl
+next_none limit m (c ∷ t) e = rw (cond_none (is_digit c && leb (m * 10 + (c - 48)) limit) (m * 10 + (c - 48)) e) refl

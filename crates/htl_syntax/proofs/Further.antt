@@ -1,5 +1,6 @@
 -- Two readings of which the second may nest one level more: it gives what the first gives, and passes a byte that nests too deep for the first.
-use Rattle.std.proofs.Common.{◌≡◌, ℕ, zero, suc, ◌<◌, ◌≤◌, Bool, true, false, cond, List, [], ◌∷◌, drop, length, Result, Ok, Err, refl, sym, subst, arith}
+use Rattle.std.proofs.Common.{◌≡◌, ℕ, ◌<◌, ◌≤◌, Bool, true, false, cond, List, [], ◌∷◌, drop, length, Result, Ok, Err, refl, sym, subst, arith}
+use Rattle.sp_base.proofs.ListLemmas.{drop_short}
 use Rattle.htl_syntax.specs.declared.stop.ExprStop.{ExprStop}
 use Rattle.htl_syntax.specs.declared.stop.ExprStop.TheVariants.{Memory, Unexpected, TooDeep}
 use Rattle.htl_syntax.specs.Tokens.{◌>>=◌, blanks_skipped}
@@ -83,13 +84,8 @@ remainder x = length x.1
 abbrev pub bytes : List ℕ → ℕ
 bytes t = length t
 
-pub drop-short : (k : ℕ) (t : List ℕ) → length (drop k t) ≤ length t
-drop-short zero t = omega arith
-drop-short (suc k) [] = omega arith
-drop-short (suc k) (c ∷ t) = omega (arith, drop-short k t)
-
 pub skip_drop-short : (k : ℕ) (t : List ℕ) → length (blanks_skipped (drop k t)) ≤ length t
-skip_drop-short k t = omega (arith, skip-short (drop k t), drop-short k t)
+skip_drop-short k t = omega (arith, skip-short (drop k t), drop_short k t)
 
 pub skip_drop-less : (t : List ℕ) → 0 < length t → length (blanks_skipped (drop 1 t)) < length t
 skip_drop-less [] some = absurd (omega (arith, some))

@@ -1,6 +1,7 @@
 -- Tokens and options nest nothing, so one level more changes nothing of them.
 use Rattle.std.proofs.Common.{ℕ, ◌≤◌, ◌+◌, ◌*◌, ◌-◌, Bool, true, false, cond, ◌&&◌, eqb, List, [], ◌∷◌, ◌++◌, drop, length, slice_index, Option, Some, None, is_none, Result, Ok, codes, arith}
 use Rattle.sp_base.specs.Bytes.{begins_with_byte, is_digit}
+use Rattle.sp_base.proofs.ListLemmas.{drop_short}
 use Rattle.htl_syntax.specs.declared.stop.ExprStop.{ExprStop}
 use Rattle.htl_syntax.specs.declared.node.Comparison.{Comparison}
 use Rattle.htl_syntax.specs.declared.node.Comparison.TheVariants.{Equal, NotEqual, Below, Above, AtMost, AtLeast}
@@ -9,7 +10,7 @@ use Rattle.htl_syntax.specs.declared.tokens.NameKind.{NameKind}
 use Rattle.htl_syntax.specs.Tokens.{Outcome, ◌>>=◌, blanks_skipped, begins, is_first, is_quote, name_len, read_name, expect, second, literal, unescape, string_after_escape, read_with_prefix, string_from, string, expression_digit_fits, expression_digits_from, limit, digits, signed_number}
 use Rattle.htl_syntax.specs.Read as spec
 use Rattle.htl_syntax.proofs.TokensAgain.{skip-short}
-use Rattle.htl_syntax.proofs.Further.{Goes, goes_bind, goes_if, goes_ok, goes_refuse, goes_more, remainder, bytes, drop-short, skip_drop-short}
+use Rattle.htl_syntax.proofs.Further.{Goes, goes_bind, goes_if, goes_ok, goes_refuse, goes_more, remainder, bytes, skip_drop-short}
 
 -- the same twice
 abbrev pub Keeps : {A : Type 0} → (A → ℕ) → ℕ → Result A ExprStop → Type 0
@@ -24,7 +25,7 @@ expect_keeps c t = goes_if bytes (length t) (begins_with_byte c t) _ _ _ _ (λ e
 
 pub second_keeps : (c : ℕ) (t : List ℕ) → Keeps bytes (length t) (second c t)
 unfolding second
-second_keeps c t = goes_more bytes (length (drop 1 t)) (length t) _ _ (drop-short 1 t) (expect_keeps c (drop 1 t))
+second_keeps c t = goes_more bytes (length (drop 1 t)) (length t) _ _ (drop_short 1 t) (expect_keeps c (drop 1 t))
 
 pub between_keeps : (c : ℕ) (t : List ℕ) → Keeps bytes (length t) (spec.between c t)
 between_keeps c t = goes_if bytes (length t) (eqb c 44) _ _ _ _ (λ e. expect_keeps c t) (λ e. second_keeps c t)
@@ -82,7 +83,7 @@ digits_keeps negative t =
 
 pub number_keeps : (t : List ℕ) → Keeps remainder (length t) (signed_number t)
 unfolding signed_number
-number_keeps t = goes_if remainder (length t) (begins_with_byte 45 t) _ _ _ _ (λ e. goes_more remainder (length (drop 1 t)) (length t) _ _ (drop-short 1 t) (digits_keeps true (drop 1 t))) (λ e. digits_keeps false t)
+number_keeps t = goes_if remainder (length t) (begins_with_byte 45 t) _ _ _ _ (λ e. goes_more remainder (length (drop 1 t)) (length t) _ _ (drop_short 1 t) (digits_keeps true (drop 1 t))) (λ e. digits_keeps false t)
 
 -- ---- comparisons
 
@@ -91,7 +92,7 @@ unfolding spec.or_equal
 or_equal-short bare equal t = go (begins_with_byte 61 (drop 1 t))
   where
     go : (b : Bool) → length (cond {A = Comparison × List ℕ} b (equal, blanks_skipped (drop 1 (drop 1 t))) (bare, blanks_skipped (drop 1 t))).1 ≤ length t
-    go true = omega (arith, skip_drop-short 1 (drop 1 t), drop-short 1 t)
+    go true = omega (arith, skip_drop-short 1 (drop 1 t), drop_short 1 t)
     go false = skip_drop-short 1 t
 
 pub comparison_keeps : (t : List ℕ) → Keeps remainder (length t) (spec.comparison t)
@@ -106,7 +107,7 @@ comparison_keeps t =
 literal_keeps : (w t : List ℕ) → Keeps bytes (length t) (literal w t)
 unfolding literal
 literal_keeps [] t = goes_ok bytes (length t) t (here t)
-literal_keeps (c ∷ w) t = goes_if bytes (length t) (begins_with_byte c t) _ _ _ _ (λ e. goes_more bytes (length (drop 1 t)) (length t) _ _ (drop-short 1 t) (literal_keeps w (drop 1 t))) (λ e. goes_refuse bytes (length t) (length t) (here t))
+literal_keeps (c ∷ w) t = goes_if bytes (length t) (begins_with_byte c t) _ _ _ _ (λ e. goes_more bytes (length (drop 1 t)) (length t) _ _ (drop_short 1 t) (literal_keeps w (drop 1 t))) (λ e. goes_refuse bytes (length t) (length t) (here t))
 
 context_word_keeps : (t : List ℕ) → Keeps remainder (length t) (spec.context_word t)
 unfolding spec.context_word
@@ -118,7 +119,7 @@ context_string_keeps : (t : List ℕ) → Keeps remainder (length t) (spec.conte
 unfolding spec.context_string
 context_string_keeps t =
     goes_if remainder (length t) (begins is_quote t) _ _ _ _
-    (λ e. goes_more remainder (length (drop 1 t)) (length t) _ _ (drop-short 1 t)
+    (λ e. goes_more remainder (length (drop 1 t)) (length t) _ _ (drop_short 1 t)
     (goes_bind remainder remainder (length (drop 1 t)) _ _ _ _ (context_word_keeps (drop 1 t)) (λ x. goes_bind bytes remainder (length x.1) _ _ _ _ (expect_keeps (slice_index t 0) x.1) (λ r. pair_keeps x.0 r))))
     (λ e. goes_refuse remainder (length t) (length t) (here t))
 

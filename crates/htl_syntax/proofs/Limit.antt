@@ -1,5 +1,6 @@
 -- What a deeper limit changes: nothing of what is read and of a byte that doesn't fit, and a byte that nests too deep is passed.
-use Rattle.std.proofs.Common.{◌≡◌, ◌≢◌, ℕ, zero, suc, ◌+◌, ◌-◌, ◌<◌, ◌≤◌, Bool, true, cond, ◌&&◌, List, [], ◌∷◌, ◌++◌, take, drop, length, Result, Ok, Err, refl, ap, sym, subst, ◌∙◌, ◌⊎◌, inl, inr, arith}
+use Rattle.std.proofs.Common.{◌≡◌, ◌≢◌, ℕ, zero, suc, ◌+◌, ◌-◌, ◌<◌, ◌≤◌, Bool, true, cond, ◌&&◌, List, [], ◌∷◌, ◌++◌, take, drop, length, Result, Ok, Err, refl, ap, sym, subst, ◌∙◌, inl, inr, arith}
+use Rattle.std.proofs.lemmas.Bool.{cases_lt}
 use Rattle.std.proofs.lemmas.List.{length-append}
 use Rattle.std.proofs.Math.Seq.{drop-nil}
 use Rattle.sp_base.specs.Bytes.{begins_with_byte}
@@ -118,17 +119,9 @@ drop_prefix : (leading r : List ℕ) (k : ℕ) → drop (length leading + k) (le
 drop_prefix [] r k = (let e : length {A = ℕ} [] + k ≡ k = omega arith in ap (λ (n : ℕ). drop n r) e)
 drop_prefix (c ∷ leading) r k = (let e : length (c ∷ leading) + k ≡ suc (length leading + k) = omega arith in ap (λ (n : ℕ). drop n (c ∷ (leading ++ r))) e ∙ drop_prefix leading r k)
 
-lt_or_le : (a b : ℕ) → (a < b) ⊎ (b ≤ a)
-lt_or_le a zero = inr (omega arith)
-lt_or_le zero (suc b) = inl (omega arith)
-lt_or_le (suc a) (suc b) = elim (lt_or_le a b) [
-  | inl h ↦ inl (omega (arith, h))
-  | inr h ↦ inr (omega (arith, h))
-]
-
 -- where what stands before a colon may go on, nothing nests too deep in it, nor does the colon or a letter
 letter_not_deep : (levels : ℕ) (s : List ℕ) (place : ℕ) → MayGoOn levels s place → (k : ℕ) → expression_read levels (take place s ++ colon_letter) ≡ Err (TooDeep k) → ⊥
-letter_not_deep levels s place m k r = elim (lt_or_le deep (length leading)) [
+letter_not_deep levels s place m k r = elim (cases_lt deep (length leading)) [
   | inl lt ↦ (none_deep levels u k r).none (leading ++ m.more) m.tree (agree_prefix deep leading colon_letter m.more lt) m.whole
   | inr le ↦
       let split : deep ≡ length leading + (deep - length leading) = omega (arith, le) in
@@ -168,7 +161,7 @@ none_less levels deeper s place le h = record { within = h.within; none = λ t e
 
 -- no expression goes on with it, however many levels may nest
 pub none_any : (limit : ℕ) (s : List ℕ) (left : ℕ) → expression_read limit s ≡ Err (Unexpected left) → (levels : ℕ) → HasNone levels s (fault_place limit s (length s - left))
-none_any limit s left e levels = elim (lt_or_le levels limit) [
+none_any limit s left e levels = elim (cases_lt levels limit) [
   | inl lt ↦ none_less levels limit s _ (omega (arith, lt)) (none_left limit s left e)
   | inr le ↦
       let same : (levels - limit) + limit ≡ levels = omega (arith, le) in
@@ -182,10 +175,10 @@ not_before : (levels : ℕ) (s : List ℕ) (p q : ℕ) → MayGoOn levels s p �
 not_before levels s p q m none within lt = none.none (take p s ++ m.more) m.tree (agree_take q p s m.more lt (omega (arith, within, lt))) m.whole
 
 one_place : (levels : ℕ) (s : List ℕ) (p q : ℕ) → MayGoOn levels s p → HasNone levels s p → MayGoOn levels s q → HasNone levels s q → p ≡ q
-one_place levels s p q m n k o = elim (lt_or_le p q) [
+one_place levels s p q m n k o = elim (cases_lt p q) [
   | inl lt ↦ absurd (not_before levels s q p k n o.within lt)
   | inr le ↦
-      elim (lt_or_le q p) [
+      elim (cases_lt q p) [
         | inl lt ↦ absurd (not_before levels s p q m o n.within lt)
         | inr ge ↦ omega (arith, le, ge)
       ]

@@ -1,12 +1,13 @@
 -- What was read, or why nothing was, depends on no byte after the next one, but for a letter after a colon.
 use Rattle.std.proofs.Common.{◌≡◌, ℕ, Bool, true, false, cond, ◌||◌, ◌&&◌, eqb, List, [], ◌∷◌, ◌++◌, drop, length, Result, Ok, Err, refl, ap, sym, subst, ◌∙◌, ◌⊎◌, inl, inr, append_assoc}
 use Rattle.sp_base.specs.Bytes.{begins_with_byte}
+use Rattle.sp_base.proofs.BoolLemmas.{cond_either}
 use Rattle.htl_syntax.specs.declared.stop.ExprStop.{ExprStop}
 use Rattle.htl_syntax.specs.declared.stop.ExprStop.TheVariants.{Memory, Unexpected, TooDeep}
 use Rattle.htl_syntax.specs.declared.tokens.NameKind.TheVariants.{Field}
 use Rattle.htl_syntax.specs.Tokens.{Outcome, ◌>>=◌, begins, goes_on, is_letter, is_word_byte}
 use Rattle.htl_syntax.specs.Fault.{SameHead, nests}
-use Rattle.htl_syntax.proofs.Tools.{bind_ok, chosen, ok_is}
+use Rattle.htl_syntax.proofs.Tools.{bind_ok, ok_is}
 
 pub bind_err : {A B : Type 0} (r : Result A ExprStop) (f : A → Result B ExprStop) (d : ExprStop) → (r >>= f) ≡ Err d → (r ≡ Err d) ⊎ ((x : A) × (r ≡ Ok x) × (f x ≡ Err d))
 bind_err (Ok x) f d e = inr (x, refl, e)
@@ -144,7 +145,7 @@ local_if {A = A} test f h sees lf lh = record { ok = ok; err = err }
     seen b s leading r z parts e w = sees (leading ++ r) (leading ++ z) (head_in leading r z w) ∙ ap test (sym parts) ∙ e
 
     ok : (s : List ℕ) (x : A) (r : List ℕ) → cond (test s) (f s) (h s) ≡ Ok (x, r) → Kept (λ t. cond (test t) (f t) (h t)) s x r
-    ok s x r e = elim (chosen (test s) _ _ _ e) [
+    ok s x r e = elim (cond_either (test s) _ _ _ e) [
       | inl w ↦ (let k = lf.ok s x r w.1 in
           record { leading = k.leading; parts = k.parts; same = λ z q. (let t : test (k.leading ++ z) ≡ true = seen true s k.leading r z k.parts w.0 q in rw t (k.same z q)) })
       | inr w ↦ (let k = lh.ok s x r w.1 in
@@ -152,7 +153,7 @@ local_if {A = A} test f h sees lf lh = record { ok = ok; err = err }
     ]
 
     err : (d : ExprStop) (s : List ℕ) → cond (test s) (f s) (h s) ≡ Err d → Failed (λ t. cond (test t) (f t) (h t)) d s
-    err d s e = elim (chosen (test s) _ _ _ e) [
+    err d s e = elim (cond_either (test s) _ _ _ e) [
       | inl w ↦ (let k = lf.err d s w.1 in
           record { leading = k.leading; rest = k.rest; parts = k.parts; left = k.left; same = λ z q. (let t : test (k.leading ++ z) ≡ true = seen true s k.leading k.rest z k.parts w.0 q in rw t (k.same z q)) })
       | inr w ↦ (let k = lh.err d s w.1 in

@@ -1,9 +1,10 @@
 -- The same of loops.
 use Rattle.std.proofs.Common.{◌≡◌, ℕ, zero, suc, ◌<◌, ◌≤◌, Bool, true, false, cond, List, [], ◌∷◌, ◌++◌, length, Ok, Err, refl, ap, sym, subst, ◌∙◌, inl, inr, arith, append_assoc}
 use Rattle.std.proofs.lemmas.List.{length-append}
+use Rattle.sp_base.proofs.BoolLemmas.{cond_either}
 use Rattle.htl_syntax.specs.declared.stop.ExprStop.{ExprStop}
 use Rattle.htl_syntax.specs.Tokens.{Outcome, ◌>>=◌}
-use Rattle.htl_syntax.proofs.Tools.{bind_ok, chosen, ok_is}
+use Rattle.htl_syntax.proofs.Tools.{bind_ok, ok_is}
 use Rattle.htl_syntax.proofs.Local.{bind_err, Same, head_in, IsAt, moved, Kept, Failed, Local}
 
 module _ {A : Type 0} (test : List ℕ → Bool) (item : List ℕ → Outcome A) where
@@ -97,7 +98,7 @@ module _ {A : Type 0} (test : List ℕ → Bool) (item : List ℕ → Outcome A)
     unfolding loop
     loop_ok zero found [] xs r le e = subst (λ (q : List A × List ℕ). LoopKept found [] q.0 q.1) (ok_is _ _ e) (stop_kept found [] nil)
     loop_ok zero found (c ∷ s) xs r le e = absurd (omega arith)
-    loop_ok (suc k) found s xs r le e = elim (chosen (test s) _ _ _ e) [
+    loop_ok (suc k) found s xs r le e = elim (cond_either (test s) _ _ _ e) [
       | inl h ↦
           let b = bind_ok (item s) (λ x. loop k (found ++ x.0 ∷ []) x.1) (xs, r) h.1 in
           turn_kept found s b.0.0 b.0.1 xs r h.0 b.1 (loop_ok k (found ++ b.0.0 ∷ []) b.0.1 xs r (omega (arith, shrinks s b.0.0 b.0.1 h.0 b.1)) b.2)
@@ -107,7 +108,7 @@ module _ {A : Type 0} (test : List ℕ → Bool) (item : List ℕ → Outcome A)
     loop_err : (d : ExprStop) (k : ℕ) (found : List A) (s : List ℕ) → length s ≤ k → loop k found s ≡ Err d → LoopFailed d found s
     unfolding loop
     loop_err d zero found s le e = absurd cc
-    loop_err d (suc k) found s le e = elim (chosen (test s) _ _ _ e) [
+    loop_err d (suc k) found s le e = elim (cond_either (test s) _ _ _ e) [
       | inl h ↦
           elim (bind_err (item s) (λ x. loop k (found ++ x.0 ∷ []) x.1) d h.1) [
             | inl at ↦ item_failed d found s h.0 (seen_some s h.0) (local.err d s at)

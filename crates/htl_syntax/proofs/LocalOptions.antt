@@ -1,5 +1,6 @@
 -- The same of options, and of the whole.
 use Rattle.std.proofs.Common.{◌≡◌, ℕ, suc, Bool, true, false, cond, ◌||◌, ◌&&◌, eqb, List, [], ◌∷◌, ◌++◌, drop, length, Option, Some, None, is_none, Result, Ok, Err, codes, refl, ap, sym, ◌∙◌, rules}
+use Rattle.std.proofs.lemmas.Bool.{eqb-true}
 use Rattle.sp_base.specs.Bytes.{begins_with_byte}
 use Rattle.htl_syntax.specs.declared.stop.ExprStop.{ExprStop}
 use Rattle.htl_syntax.specs.declared.stop.ExprStop.TheVariants.{Unexpected}
@@ -9,7 +10,6 @@ use Rattle.htl_syntax.specs.declared.expression.Context.TheVariants.{Text, Unsaf
 use Rattle.htl_syntax.specs.declared.expression.Expression.{Expression}
 use Rattle.htl_syntax.specs.Tokens.{Outcome, ◌>>=◌, blanks_skipped, begins, expect, literal, string}
 use Rattle.htl_syntax.specs.Read as spec
-use Rattle.htl_syntax.proofs.TokensRead.{eqb_is}
 use Rattle.htl_syntax.proofs.Local.{Same, at_same, IsAt, moved, Local, local_ext, local_bind, local_pure, local_refuse, local_if, local_drop, got, refuse}
 use Rattle.htl_syntax.proofs.LocalTokens.{local_skip, local_step, local_expect, local_literal}
 use Rattle.htl_syntax.proofs.LocalStrings.{local_string}
@@ -36,8 +36,8 @@ by_mark [] = refl
 by_mark (c ∷ t) = go (eqb c 39) (eqb c 34) refl refl
   where
     go : (a b : Bool) → eqb c 39 ≡ a → eqb c 34 ≡ b → cond a (quoted 39 (c ∷ t)) (cond b (quoted 34 (c ∷ t)) (refuse (c ∷ t))) ≡ cond (a || b) (quoted c (c ∷ t)) (refuse (c ∷ t))
-    go true b ea eb = ap (λ (m : ℕ). quoted m (c ∷ t)) (sym (eqb_is c 39 ea))
-    go false true ea eb = ap (λ (m : ℕ). quoted m (c ∷ t)) (sym (eqb_is c 34 eb))
+    go true b ea eb = ap (λ (m : ℕ). quoted m (c ∷ t)) (sym (eqb-true c 39 ea))
+    go false true ea eb = ap (λ (m : ℕ). quoted m (c ∷ t)) (sym (eqb-true c 34 eb))
     go false false ea eb = refl
 
 local_context_string : Local spec.context_string

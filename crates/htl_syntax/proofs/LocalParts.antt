@@ -2,6 +2,7 @@
 use Rattle.std.proofs.Common.{◌≡◌, ℕ, zero, suc, ◌<◌, Bool, true, false, cond, ◌||◌, eqb, List, [], ◌∷◌, ◌++◌, drop, length, Option, Some, None, Result, Ok, Err, refl, ap, ◌∙◌, ◌⊎◌, inl, inr, arith}
 use Rattle.std.proofs.lemmas.List.{length-append}
 use Rattle.sp_base.specs.Bytes.{begins_with_byte, is_digit}
+use Rattle.sp_base.proofs.BoolLemmas.{cond_either}
 use Rattle.htl_syntax.specs.declared.stop.ExprStop.{ExprStop}
 use Rattle.htl_syntax.specs.declared.node.ExprNode.{ExprNode}
 use Rattle.htl_syntax.specs.declared.node.ExprNode.TheVariants as expr_node
@@ -10,7 +11,7 @@ use Rattle.htl_syntax.specs.declared.reader.Nested.{Nested}
 use Rattle.htl_syntax.specs.declared.reader.Nested.TheVariants.{Choice, Operand, Items}
 use Rattle.htl_syntax.specs.Tokens.{Outcome, ◌>>=◌, blanks_skipped, begins, is_quote, read_name, expect, string, signed_number}
 use Rattle.htl_syntax.specs.Read as spec
-use Rattle.htl_syntax.proofs.Tools.{bind_ok, chosen}
+use Rattle.htl_syntax.proofs.Tools.{bind_ok}
 use Rattle.htl_syntax.proofs.TokensRead.{expect_sound, second_sound}
 use Rattle.htl_syntax.proofs.TokensAgain.{byte-short, operator-short}
 use Rattle.htl_syntax.proofs.Sound.{first_access_sound}
@@ -85,7 +86,7 @@ local_accesses depth = local_ext (whole_loop spec.access_at (spec.first_access d
 -- ---- chains
 
 between-short : (c : ℕ) (t r : List ℕ) → begins_with_byte c t ≡ true → spec.between c t ≡ Ok r → length r < length t
-between-short c t r at e = elim (chosen (eqb c 44) _ _ _ e) [
+between-short c t r at e = elim (cond_either (eqb c 44) _ _ _ e) [
   | inl h ↦ byte-short c t r (expect_sound c t r h.1)
   | inr h ↦ operator-short c c t r (second_sound c c t r at h.1)
 ]

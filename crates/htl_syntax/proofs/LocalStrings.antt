@@ -1,9 +1,10 @@
 -- The same of strings.
 use Rattle.std.proofs.Common.{◌≡◌, ℕ, Bool, true, false, eqb, List, [], ◌∷◌, ◌++◌, length, Option, Some, None, Ok, Err, refl, ap, sym, subst, ◌∙◌, inl, inr}
+use Rattle.sp_base.proofs.BoolLemmas.{cond_either}
 use Rattle.htl_syntax.specs.declared.stop.ExprStop.{ExprStop}
 use Rattle.htl_syntax.specs.declared.stop.ExprStop.TheVariants.{Unexpected}
 use Rattle.htl_syntax.specs.Tokens.{Outcome, ◌>>=◌, done, blanks_skipped, string, string_from, unescape, is_quote}
-use Rattle.htl_syntax.proofs.Tools.{bind_ok, chosen, ok_is}
+use Rattle.htl_syntax.proofs.Tools.{bind_ok, ok_is}
 use Rattle.htl_syntax.proofs.Local.{bind_err, Same, nil_same, Kept, Failed, Local, err_is}
 use Rattle.htl_syntax.proofs.LocalTokens.{blanks}
 
@@ -109,7 +110,7 @@ local_string = record { ok = ok; err = err }
   where
     ok : (s x r : List ℕ) → string s ≡ Ok (x, r) → Kept string s x r
     ok [] x r e = absurd cc
-    ok (c ∷ s) x r e = elim (chosen (is_quote c) _ _ _ e) [
+    ok (c ∷ s) x r e = elim (cond_either (is_quote c) _ _ _ e) [
       | inl h ↦
           let k = string_ok false c s x r h.1 in
           record { leading = c ∷ k.leading; parts = ap (λ (t : List ℕ). c ∷ t) k.parts; same = λ z w. rw h.0 (k.same z w) }
@@ -124,7 +125,7 @@ local_string = record { ok = ok; err = err }
     err d [] e =
         subst (λ (k : ExprStop). Failed string k []) (err_is {A = List ℕ} (Unexpected 0) d e)
         (record { leading = []; rest = []; parts = refl; left = refl; same = λ z h. (let k : z ≡ [] = nil_same z h in rw k refl) })
-    err d (c ∷ s) e = elim (chosen (is_quote c) _ _ _ e) [
+    err d (c ∷ s) e = elim (cond_either (is_quote c) _ _ _ e) [
       | inl h ↦
           let k = string_err false c d s h.1 in
           record { leading = c ∷ k.leading; rest = k.rest; parts = ap (λ (t : List ℕ). c ∷ t) k.parts; left = k.left; same = λ z w. rw h.0 (k.same z w) }

@@ -1,7 +1,9 @@
 -- The same of each token.
 use Rattle.std.proofs.Common.{◌≡◌, ℕ, ◌+◌, ◌*◌, ◌-◌, Bool, true, false, cond, ◌||◌, ◌&&◌, eqb, nat_le, List, [], ◌∷◌, ◌++◌, take, drop, length, Result, Ok, Err, refl, ap, sym, subst, ◌∙◌, inl, inr, append_assoc}
+use Rattle.std.proofs.lemmas.Bool.{eqb-true}
 use Rattle.std.proofs.lemmas.List.{take-append-drop, take_at, drop_at}
 use Rattle.sp_base.specs.Bytes.{begins_with_byte, is_digit}
+use Rattle.sp_base.proofs.BoolLemmas.{cond_either}
 use Rattle.htl_syntax.specs.declared.stop.ExprStop.{ExprStop}
 use Rattle.htl_syntax.specs.declared.stop.ExprStop.TheVariants.{Unexpected, TooDeep}
 use Rattle.htl_syntax.specs.declared.tokens.NameKind.{NameKind}
@@ -12,8 +14,8 @@ use Rattle.htl_syntax.specs.Tokens.{Outcome, ◌>>=◌, blanks_skipped, is_blank
 use Rattle.htl_syntax.specs.Read.{comparison, or_equal, between}
 use Rattle.htl_syntax.specs.Grammar.{Passes}
 use Rattle.htl_syntax.specs.Fault.{nests, SameHead}
-use Rattle.htl_syntax.proofs.Tools.{chosen, ok_is}
-use Rattle.htl_syntax.proofs.TokensRead.{eqb_is, passes_run, ends_run}
+use Rattle.htl_syntax.proofs.Tools.{ok_is}
+use Rattle.htl_syntax.proofs.TokensRead.{passes_run, ends_run}
 use Rattle.htl_syntax.proofs.TokensAgain.{name_len-is}
 use Rattle.htl_syntax.proofs.Local.{Same, begins_same, prefix_same, head_in, head_same, at_same, nil_same, Kept, Failed, Local, local_ext, local_bind, local_pure, local_refuse, local_if, local_fixed, local_drop, got, refuse, err_is}
 
@@ -72,19 +74,19 @@ guarded c f s = cond (begins_with_byte c s) (f s) (refuse s)
 at_begins : (test : ℕ → Bool) (c : ℕ) (s : List ℕ) → test c ≡ true → begins_with_byte c s ≡ true → begins test s ≡ true
 unfolding begins begins_with_byte
 at_begins test c [] t e = absurd cc
-at_begins test c (d ∷ s) t e = ap test (eqb_is d c e) ∙ t
+at_begins test c (d ∷ s) t e = ap test (eqb-true d c e) ∙ t
 
 pub local_deep : {A : Type 0} (c : ℕ) → nests c ≡ true → Local (guarded {A = A} c too_deep)
 local_deep {A = A} c n = record { ok = ok; err = err }
   where
     ok : (s : List ℕ) (x : A) (r : List ℕ) → guarded {A = A} c too_deep s ≡ Ok (x, r) → Kept (guarded {A = A} c too_deep) s x r
-    ok s x r e = elim (chosen (begins_with_byte c s) _ _ _ e) [
+    ok s x r e = elim (cond_either (begins_with_byte c s) _ _ _ e) [
       | inl h ↦ absurd (let w = h.1 in cc)
       | inr h ↦ absurd (let w = h.1 in cc)
     ]
 
     err : (d : ExprStop) (s : List ℕ) → guarded {A = A} c too_deep s ≡ Err d → Failed (guarded {A = A} c too_deep) d s
-    err d s e = elim (chosen (begins_with_byte c s) _ _ _ e) [
+    err d s e = elim (cond_either (begins_with_byte c s) _ _ _ e) [
       | inl h ↦
           subst (λ (b : ExprStop). Failed (guarded {A = A} c too_deep) b s) (err_is {A = A} (TooDeep (length s)) d h.1)
           (record { leading = []; rest = s; parts = refl; left = (refl, at_begins nests c s n h.0); same = λ z w. (let t : begins_with_byte c z ≡ true = at_same c s z w ∙ h.0 in rw t refl) })

@@ -1,6 +1,7 @@
 -- What stands before the place of a fault may go on.
 use Rattle.std.proofs.Common.{◌≡◌, ℕ, zero, suc, ◌+◌, ◌-◌, Bool, true, false, cond, ◌&&◌, List, [], ◌∷◌, ◌++◌, take, drop, length, Result, Ok, Err, refl, ap, sym, subst, ◌∙◌, arith, append_assoc}
 use Rattle.std.proofs.lemmas.List.{append-nil, length-append, take_at}
+use Rattle.std.proofs.lemmas.Bool.{eqb-true}
 use Rattle.std.proofs.lemmas.Bool.Decides.{nat_tests}
 use Rattle.sp_base.specs.Bytes.{begins_with_byte}
 use Rattle.htl_syntax.specs.declared.stop.ExprStop.{ExprStop}
@@ -9,7 +10,6 @@ use Rattle.htl_syntax.specs.declared.expression.Expression.{Expression}
 use Rattle.htl_syntax.specs.Read.{expression_read}
 use Rattle.htl_syntax.specs.Grammar.{WholeWithin}
 use Rattle.htl_syntax.specs.Fault.{colon_letter, passes_colon, takes_colon, fault_place, MayGoOn}
-use Rattle.htl_syntax.proofs.TokensRead.{eqb_is}
 use Rattle.htl_syntax.proofs.WholeRead.{read_sound}
 use Rattle.htl_syntax.proofs.StuckWhole.{stopped}
 
@@ -63,7 +63,7 @@ module _ (levels : ℕ) where
   unfolding begins_with_byte
   colon_taken [] zero h = absurd cc
   colon_taken [] (suc n) h = absurd cc
-  colon_taken (c ∷ s) zero h = ap (λ (d : ℕ). d ∷ []) (eqb_is c 58 h)
+  colon_taken (c ∷ s) zero h = ap (λ (d : ℕ). d ∷ []) (eqb-true c 58 h)
   colon_taken (c ∷ s) (suc n) h = (let e : suc n + 1 ≡ suc (n + 1) = omega arith in rw e (ap (λ (l : List ℕ). c ∷ l) (colon_taken s n h)))
 
   both_true : (a b : Bool) → (a && b) ≡ true → (a ≡ true) × (b ≡ true)

@@ -1,6 +1,7 @@
 -- What was read is read before other texts too: what may stand after it, and how that goes on.
 use Rattle.std.proofs.Common.{◌≡◌, ℕ, ◌<◌, Bool, true, false, ◌||◌, ◌&&◌, eqb, List, [], ◌∷◌, ◌++◌, length, refl, ap, sym, subst, ◌∙◌, ◌⊎◌, inl, inr, arith, append_assoc}
 use Rattle.sp_base.specs.Bytes.{is_digit}
+use Rattle.sp_base.proofs.BoolLemmas.{or_first}
 use Rattle.htl_syntax.specs.declared.tokens.NameKind.{NameKind}
 use Rattle.htl_syntax.specs.declared.tokens.NameKind.TheVariants.{Name, Field}
 use Rattle.htl_syntax.specs.Tokens.{blanks_skipped, begins, goes_on, is_blank, is_letter, is_first, is_word_byte}
@@ -32,12 +33,8 @@ Near r z = SameHead r z ⊎ Fresh z
 abbrev pub Fits : List ℕ → List ℕ → Type 0
 Fits r z = (SameHead r z × (goes_on Field r ≡ false → goes_on Field z ≡ false)) ⊎ Plain z
 
-or_left : (a b : Bool) → (a || b) ≡ false → a ≡ false
-or_left true b e = absurd cc
-or_left false b e = refl
-
 pub letter_word : (c : ℕ) → is_word_byte c ≡ false → is_letter c ≡ false
-letter_word c e = or_left (is_letter c) (eqb c 95) (or_left (is_first c) (is_digit c) e)
+letter_word c e = or_first (is_letter c) (eqb c 95) (or_first (is_first c) (is_digit c) e)
 
 pub digit_word : (c : ℕ) → is_word_byte c ≡ false → is_digit c ≡ false
 digit_word c e = go (is_first c) (is_digit c) e
@@ -48,7 +45,7 @@ digit_word c e = go (is_first c) (is_digit c) e
 
 pub field_word : (c : ℕ) (z : List ℕ) → goes_on Field (c ∷ z) ≡ false → is_word_byte c ≡ false
 unfolding goes_on
-field_word c z e = or_left (is_word_byte c) (eqb c 58 && begins is_letter z) e
+field_word c z e = or_first (is_word_byte c) (eqb c 58 && begins is_letter z) e
 
 pub plain_fresh : (z : List ℕ) → Plain z → Fresh z
 plain_fresh [] p = tt

@@ -1,6 +1,7 @@
 -- No text that goes on alike up to and with the byte of a fault is an expression.
 use Rattle.std.proofs.Common.{◌≡◌, ℕ, ◌+◌, ◌-◌, ◌≤◌, Bool, true, false, cond, ◌||◌, ◌&&◌, eqb, List, [], ◌∷◌, ◌++◌, take, drop, length, Result, Ok, Err, refl, ap, sym, subst, ◌∙◌, arith, append_assoc}
 use Rattle.std.proofs.lemmas.List.{length-append, take-append-drop, take_at, drop_at}
+use Rattle.std.proofs.lemmas.Bool.{eqb-true}
 use Rattle.std.proofs.lemmas.Bool.Decides.{nat_tests}
 use Rattle.sp_base.specs.Bytes.{begins_with_byte}
 use Rattle.htl_syntax.specs.declared.stop.ExprStop.{ExprStop}
@@ -11,7 +12,7 @@ use Rattle.htl_syntax.specs.Tokens.{begins, goes_on, is_letter, is_word_byte}
 use Rattle.htl_syntax.specs.Read.{expression_read}
 use Rattle.htl_syntax.specs.Grammar.{WholeWithin}
 use Rattle.htl_syntax.specs.Fault.{nests, SameHead, Agree, HasNone, colon_letter, passes_colon, takes_colon, fault_place}
-use Rattle.htl_syntax.proofs.TokensRead.{eqb_is, byte_at}
+use Rattle.htl_syntax.proofs.TokensRead.{byte_at}
 use Rattle.htl_syntax.proofs.Unique.{only_err}
 use Rattle.htl_syntax.proofs.Local.{Same, same_after, head_in, IsAt, moved}
 use Rattle.htl_syntax.proofs.LocalOptions.{Left, failed}
@@ -31,7 +32,7 @@ module _ (levels : ℕ) where
   colon_same : (z : List ℕ) → begins_with_byte 58 z ≡ true → Same colon_letter z
   unfolding begins_with_byte goes_on begins
   colon_same [] e = absurd cc
-  colon_same (c ∷ z) e = (sym (eqb_is c 58 e), λ _. refl)
+  colon_same (c ∷ z) e = (sym (eqb-true c 58 e), λ _. refl)
 
   -- ---- where a colon may not belong to a name
 

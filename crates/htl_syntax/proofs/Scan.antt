@@ -1,5 +1,5 @@
 -- Steps of the loops over tokens.
-use Rattle.std.proofs.Common.{◌≡◌, ◌<◌, ◌≤◌, ◌+◌, ℕ, suc, Bool, true, false, eqb, List, [], ◌∷◌, drop, length, slice_index, refl, ap, sym, ◌∙◌, rules, arith, drop-drop}
+use Rattle.std.proofs.Common.{◌≡◌, ◌<◌, ◌≤◌, ◌+◌, ℕ, suc, Bool, true, false, List, [], ◌∷◌, drop, length, slice_index, refl, ap, sym, ◌∙◌, rules, arith, drop-drop}
 use Rattle.std.specs.Str.{IsCharBoundary}
 use Rattle.std.proofs.lemmas.List.{get_or-drop}
 use Rattle.std.proofs.lemmas.Bool.Decides.{nat_tests}
@@ -66,10 +66,6 @@ pub at_prefix : (c : ℕ) (t : List ℕ) → begins_with_byte c t ≡ true → s
 unfolding begins_with_byte
 at_prefix c [] h = absurd cc
 at_prefix c (d ∷ t) h = search rules
-
-pub some_of : (t : List ℕ) → (eqb (length t) 0) ≡ false → 0 < length t
-some_of [] h = absurd cc
-some_of (c ∷ t) h = omega arith
 
 pub prefix_ascii : (c : ℕ) (t : List ℕ) → c < 128 → begins_with_byte c t ≡ true → slice_index t 0 < 128
 prefix_ascii c t lt h = rw (at_prefix c t h) lt

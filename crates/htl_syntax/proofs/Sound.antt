@@ -2,6 +2,7 @@
 use Rattle.std.proofs.Common.{◌≡◌, ℕ, zero, suc, true, cond, ◌||◌, eqb, List, [], ◌∷◌, ◌++◌, drop, length, Option, Some, None, Ok, refl, ap, sym, subst, ◌∙◌, inl, inr, append_assoc}
 use Rattle.std.proofs.lemmas.List.{append-nil}
 use Rattle.sp_base.specs.Bytes.{begins_with_byte, is_digit}
+use Rattle.sp_base.proofs.BoolLemmas.{cond_either}
 use Rattle.htl_syntax.specs.declared.node.ExprNode.{ExprNode}
 use Rattle.htl_syntax.specs.declared.node.ExprNode.TheVariants as expr_node
 use Rattle.htl_syntax.specs.declared.tokens.NameKind.TheVariants.{Name, Field}
@@ -11,7 +12,7 @@ use Rattle.htl_syntax.specs.Tokens.{Outcome, ◌>>=◌, blanks_skipped, begins, 
 use Rattle.htl_syntax.specs.Read as spec
 use Rattle.htl_syntax.specs.Grammar.{Byte, Separator, And, Or, Comma, Separates, GrammarPart, part_of, Choice, Either, Both, Compare, Operand, Atom, Start, Items, Reads, More, Access, Accesses}
 use Rattle.htl_syntax.specs.Grammar as g
-use Rattle.htl_syntax.proofs.Tools.{bind_ok, chosen, ok_is}
+use Rattle.htl_syntax.proofs.Tools.{bind_ok, ok_is}
 use Rattle.htl_syntax.proofs.TokensRead.{byte, expect_sound, second_sound, name_sound, string_sound, number_sound, comparison_sound}
 
 abbrev pub Gave : GrammarPart → ℕ → List ℕ → ExprNode × List ℕ → Type 0
@@ -72,7 +73,7 @@ chain_sound : (sep : Separator) (depth : ℕ) (item : List ℕ → Outcome ExprN
 unfolding spec.chain
 chain_sound sep depth item zero found t p ih e = subst (Longer sep depth found t) (ok_is _ _ e) ([], sym (append-nil found), g.end)
 chain_sound sep depth item (suc k) found t p ih e =
-    elim (chosen (begins_with_byte (byte_of sep) t) _ _ _ e) [
+    elim (cond_either (begins_with_byte (byte_of sep) t) _ _ _ e) [
       | inl h ↦
           let op = bind_ok (spec.between (byte_of sep) t) (λ r. item r >>= λ x. spec.chain item (byte_of sep) k (found ++ x.0 ∷ []) x.1) p h.1 in
           let one = bind_ok (item op.0) (λ x. spec.chain item (byte_of sep) k (found ++ x.0 ∷ []) x.1) p op.2 in
@@ -85,7 +86,7 @@ bracketed_sound : (depth : ℕ) (t : List ℕ) (x : List ℕ × List ℕ) → be
 unfolding spec.bracket_access
 bracketed_sound zero t x at e = absurd cc
 bracketed_sound (suc d) t x at e =
-    elim (chosen (eqb (suc d) 0) _ _ _ e) [
+    elim (cond_either (eqb (suc d) 0) _ _ _ e) [
       | inl k ↦ absurd cc
       | inr k ↦
           let w = bind_ok (string (blanks_skipped (drop 1 t))) (λ s. expect 93 s.1 >>= λ r'. Ok (s.0, r')) x k.1 in
@@ -97,7 +98,7 @@ bracketed_sound (suc d) t x at e =
 pub access_sound : (depth : ℕ) (t : List ℕ) (x : List ℕ × List ℕ) → spec.access_at t ≡ true → spec.access depth t ≡ Ok x → Access depth t x.0 x.1
 unfolding spec.access spec.access_at
 access_sound depth t x at e =
-    elim (chosen (begins_with_byte 46 t) _ _ _ e) [
+    elim (cond_either (begins_with_byte 46 t) _ _ _ e) [
       | inl h ↦ g.field (byte 46 t h.0) (name_sound Field (blanks_skipped (drop 1 t)) x h.1)
       | inr h ↦ bracketed_sound depth t x (rw h.0 at at) h.1
     ]
@@ -105,7 +106,7 @@ access_sound depth t x at e =
 pub first_access_sound : (depth : ℕ) (t : List ℕ) (x : List ℕ × List ℕ) → spec.first_access depth t ≡ Ok x → Access depth t x.0 x.1
 unfolding spec.first_access
 first_access_sound depth t x e =
-    elim (chosen (spec.access_at t) _ _ _ e) [
+    elim (cond_either (spec.access_at t) _ _ _ e) [
       | inl h ↦ access_sound depth t x h.0 h.1
       | inr h ↦ absurd cc
     ]
@@ -117,7 +118,7 @@ pub accesses_sound : (depth k : ℕ) (found : List (List ℕ)) (t : List ℕ) (p
 unfolding spec.accesses
 accesses_sound depth zero found t p e = subst (Further depth found t) (ok_is _ _ e) ([], sym (append-nil found), g.none)
 accesses_sound depth (suc k) found t p e =
-    elim (chosen (spec.access_at t) _ _ _ e) [
+    elim (cond_either (spec.access_at t) _ _ _ e) [
       | inl h ↦
           let one = bind_ok (spec.access depth t) (λ x. spec.accesses depth k (found ++ x.0 ∷ []) x.1) p h.1 in
           let others = accesses_sound depth k (found ++ one.0.0 ∷ []) one.0.1 p one.2 in
@@ -142,12 +143,12 @@ named_sound depth s p e =
 leaf_sound : (depth : ℕ) → Sound Start depth (spec.primary depth)
 unfolding spec.primary
 leaf_sound depth s p e =
-    elim (chosen (begins is_quote s) _ _ _ e) [
+    elim (cond_either (begins is_quote s) _ _ _ e) [
       | inl h ↦
           let w = bind_ok (string s) (λ x. Ok (expr_node.Text x.0, x.1)) p h.1 in
           subst (Gave Start depth s) (ok_is _ _ w.2) (g.string (string_sound s w.0 w.1))
       | inr h ↦
-          elim (chosen (begins_with_byte 45 s || begins is_digit s) _ _ _ h.1) [
+          elim (cond_either (begins_with_byte 45 s || begins is_digit s) _ _ _ h.1) [
             | inl k ↦
                 let w = bind_ok (signed_number s) (λ x. Ok (expr_node.Long x.0, x.1)) p k.1 in
                 subst (Gave Start depth s) (ok_is _ _ w.2) (g.number (number_sound s w.0 w.1))
@@ -161,14 +162,14 @@ module _ (depth : ℕ) (inner : Nested → List ℕ → Outcome ExprNode) (deepe
   pub start_sound : Sound Start depth (spec.start depth inner)
   unfolding spec.start
   start_sound s p e =
-      elim (chosen (begins_with_byte 40 s) _ _ _ e) [
+      elim (cond_either (begins_with_byte 40 s) _ _ _ e) [
         | inl h ↦
             let x = bind_ok (inner nested.Choice s) (λ x. expect 41 x.1 >>= λ r. Ok (x.0, r)) p h.1 in
             let close = bind_ok (expect 41 x.0.1) (λ r. Ok (x.0.0, r)) p x.2 in
             subst (Gave Start depth s) (ok_is _ _ close.2)
             (inside_deeper depth s x.0 close.0 h.0 (deeper nested.Choice s x.0 x.1) (expect_sound 41 x.0.1 close.0 close.1))
         | inr h ↦
-            elim (chosen (begins_with_byte 91 s) _ _ _ h.1) [
+            elim (cond_either (begins_with_byte 91 s) _ _ _ h.1) [
               | inl k ↦
                   let x = bind_ok (inner nested.Items s) (λ x. expect 93 x.1 >>= λ r. Ok (x.0, r)) p k.1 in
                   let close = bind_ok (expect 93 x.0.1) (λ r. Ok (x.0.0, r)) p x.2 in
@@ -190,7 +191,7 @@ module _ (depth : ℕ) (inner : Nested → List ℕ → Outcome ExprNode) (deepe
   pub operand_sound : Sound Operand depth (spec.operand depth inner)
   unfolding spec.operand
   operand_sound s p e =
-      elim (chosen (begins_with_byte 33 s) _ _ _ e) [
+      elim (cond_either (begins_with_byte 33 s) _ _ _ e) [
         | inl h ↦
             let x = bind_ok (inner nested.Operand s) (λ x. Ok (expr_node.Not x.0, x.1)) p h.1 in
             subst (Gave Operand depth s) (ok_is _ _ x.2) (not_deeper depth s x.0 h.0 (deeper nested.Operand s x.0 x.1))
@@ -201,7 +202,7 @@ module _ (depth : ℕ) (inner : Nested → List ℕ → Outcome ExprNode) (deepe
   unfolding spec.compare
   compare_sound s p e =
       let a = bind_ok (spec.operand depth inner s) (λ a. cond (spec.compares a.1) (spec.comparison a.1 >>= λ op. spec.operand depth inner op.1 >>= λ b. Ok (expr_node.Compare op.0 a.0 b.0, b.1)) (Ok a)) p e in
-      elim (chosen (spec.compares a.0.1) _ _ _ a.2) [
+      elim (cond_either (spec.compares a.0.1) _ _ _ a.2) [
         | inl h ↦
             let op = bind_ok (spec.comparison a.0.1) (λ op. spec.operand depth inner op.1 >>= λ b. Ok (expr_node.Compare op.0 a.0.0 b.0, b.1)) p h.1 in
             let b = bind_ok (spec.operand depth inner op.0.1) (λ b. Ok (expr_node.Compare op.0.0 a.0.0 b.0, b.1)) p op.2 in
@@ -229,11 +230,11 @@ module _ (depth : ℕ) (inner : Nested → List ℕ → Outcome ExprNode) (deepe
   unfolding spec.choice spec.other_choice
   choice_sound s p e =
       let c = bind_ok (spec.either depth inner s) (λ c. cond (begins_with_byte 63 c.1) (inner nested.Choice c.1 >>= λ a. spec.other_choice depth inner a.1 >>= λ b. Ok (expr_node.Choice c.0 a.0 b.0, b.1)) (Ok c)) p e in
-      elim (chosen (begins_with_byte 63 c.0.1) _ _ _ c.2) [
+      elim (cond_either (begins_with_byte 63 c.0.1) _ _ _ c.2) [
         | inl h ↦
             let a = bind_ok (inner nested.Choice c.0.1) (λ a. spec.other_choice depth inner a.1 >>= λ b. Ok (expr_node.Choice c.0.0 a.0 b.0, b.1)) p h.1 in
             let b = bind_ok (spec.other_choice depth inner a.0.1) (λ b. Ok (expr_node.Choice c.0.0 a.0.0 b.0, b.1)) p a.2 in
-            elim (chosen (begins_with_byte 58 a.0.1) _ _ _ b.1) [
+            elim (cond_either (begins_with_byte 58 a.0.1) _ _ _ b.1) [
               | inl k ↦ subst (Gave Choice depth s) (ok_is _ _ b.2) (choice_deeper depth s c.0 a.0 b.0 (either_sound s c.0 c.1) h.0 (deeper nested.Choice c.0.1 a.0 a.1) k.0 (deeper nested.Choice a.0.1 b.0 k.1))
               | inr k ↦ absurd cc
             ]
@@ -243,7 +244,7 @@ module _ (depth : ℕ) (inner : Nested → List ℕ → Outcome ExprNode) (deepe
   pub items_sound : Sound Items depth (spec.items depth inner)
   unfolding spec.items
   items_sound s p e =
-      elim (chosen (begins_with_byte 93 s) _ _ _ e) [
+      elim (cond_either (begins_with_byte 93 s) _ _ _ e) [
         | inl h ↦ subst (Gave Items depth s) (ok_is _ _ h.1) g.no_items
         | inr h ↦
             let x = bind_ok (spec.choice depth inner s) (λ x. spec.chain (spec.choice depth inner) 44 (length x.1) (x.0 ∷ []) x.1 >>= λ xs. Ok (expr_node.List xs.0, xs.1)) p h.1 in

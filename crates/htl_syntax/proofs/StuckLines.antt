@@ -1,6 +1,7 @@
 -- Each line of the grammar in which reading stopped can be completed, at any depth.
 use Rattle.std.proofs.Common.{◌≡◌, ℕ, zero, suc, true, cond, List, [], ◌∷◌, drop, length, Ok, Err, refl, ◌⊎◌, inl, inr}
 use Rattle.sp_base.specs.Bytes.{begins_with_byte}
+use Rattle.sp_base.proofs.BoolLemmas.{cond_either}
 use Rattle.htl_syntax.specs.declared.stop.ExprStop.{ExprStop}
 use Rattle.htl_syntax.specs.declared.node.ExprNode.{ExprNode}
 use Rattle.htl_syntax.specs.declared.node.ExprNode.TheVariants as expr_node
@@ -10,7 +11,6 @@ use Rattle.htl_syntax.specs.Tokens.{Outcome, ◌>>=◌, blanks_skipped, begins, 
 use Rattle.htl_syntax.specs.Read as spec
 use Rattle.htl_syntax.specs.Grammar.{Byte, And, Or, Comma, GrammarPart, Choice, Either, Both, Compare, Operand, Atom, Start, Items, Reads}
 use Rattle.htl_syntax.specs.Grammar as g
-use Rattle.htl_syntax.proofs.Tools.{chosen}
 use Rattle.htl_syntax.proofs.TokensRead.{byte, comparison_sound}
 use Rattle.htl_syntax.proofs.TokensAgain.{byte-short, compares-short}
 use Rattle.htl_syntax.proofs.Sound as sound
@@ -121,7 +121,7 @@ second_stuck (suc d) s c a k x at y (inr o) =
 module _ (depth : ℕ) (inner : Nested → List ℕ → Outcome ExprNode) (deeper : sound.Inner depth inner) (sticks : InnerSticks depth inner) where
   start_stuck : Sticks Start depth (spec.start depth inner)
   unfolding spec.start
-  start_stuck s d k e a = elim (chosen (begins_with_byte 40 s) _ _ _ e) [
+  start_stuck s d k e a = elim (cond_either (begins_with_byte 40 s) _ _ _ e) [
     | inl h ↦
         elim (bind_err (inner nested.Choice s) (λ x. expect 41 x.1 >>= λ r. Ok (x.0, r)) d h.1) [
           | inl at ↦ round_stuck depth s k h.0 (sticks nested.Choice s d k at a)
@@ -132,7 +132,7 @@ module _ (depth : ℕ) (inner : Nested → List ℕ → Outcome ExprNode) (deepe
               ]
         ]
     | inr h ↦
-        elim (chosen (begins_with_byte 91 s) _ _ _ h.1) [
+        elim (cond_either (begins_with_byte 91 s) _ _ _ h.1) [
           | inl j ↦
               elim (bind_err (inner nested.Items s) (λ x. expect 93 x.1 >>= λ r. Ok (x.0, r)) d j.1) [
                 | inl at ↦ square_stuck depth s k j.0 (sticks nested.Items s d k at a)
@@ -161,7 +161,7 @@ module _ (depth : ℕ) (inner : Nested → List ℕ → Outcome ExprNode) (deepe
 
   operand_stuck : Sticks Operand depth (spec.operand depth inner)
   unfolding spec.operand
-  operand_stuck s d k e a = elim (chosen (begins_with_byte 33 s) _ _ _ e) [
+  operand_stuck s d k e a = elim (cond_either (begins_with_byte 33 s) _ _ _ e) [
     | inl h ↦
         elim (bind_err (inner nested.Operand s) (λ x. Ok (expr_node.Not x.0, x.1)) d h.1) [
           | inl at ↦ not_stuck depth s k h.0 (sticks nested.Operand s d k at a)
@@ -181,7 +181,7 @@ module _ (depth : ℕ) (inner : Nested → List ℕ → Outcome ExprNode) (deepe
         let first = moves_some Operand depth s x.0.0 x.0.1 (sound.operand_sound depth inner deeper s x.0 x.1) in
         let whole : Late Second x.0.1 k → Stuck (SomePart Compare depth) s k = λ q.
         stuck_map (Then (SomePart Operand depth) Second) (SomePart Compare depth) s k (λ s' r' y. (expr_node.Compare y.2.1.0 y.1.0 y.2.2.0, g.compare y.1.1 y.2.1.1 y.2.2.1)) (moves_stuck (SomePart Operand depth) Second s x.0.1 k first q) in
-        elim (chosen (spec.compares x.0.1) _ _ _ x.2) [
+        elim (cond_either (spec.compares x.0.1) _ _ _ x.2) [
           | inl h ↦
               elim (bind_err (spec.comparison x.0.1) (λ op. spec.operand depth inner op.1 >>= λ y. Ok (expr_node.Compare op.0 x.0.0 y.0, y.1)) d h.1) [
                 | inl at ↦ whole (comparison_stuck (SomePart Operand depth) (part.one_operand depth) x.0.1 d k at a)
@@ -230,7 +230,7 @@ module _ (depth : ℕ) (inner : Nested → List ℕ → Outcome ExprNode) (deepe
 
   other_stuck : (m : List ℕ) (d : ExprStop) (k : ℕ) → spec.other_choice depth inner m ≡ Err d → At d k → OtherStuck depth m k
   unfolding spec.other_choice
-  other_stuck m d k e a = elim (chosen (begins_with_byte 58 m) _ _ _ e) [
+  other_stuck m d k e a = elim (cond_either (begins_with_byte 58 m) _ _ _ e) [
     | inl h ↦ inr (h.0, sticks nested.Choice m d k h.1 a)
     | inr h ↦ inl (at_length (length m) d k h.1 a)
   ]
@@ -241,7 +241,7 @@ module _ (depth : ℕ) (inner : Nested → List ℕ → Outcome ExprNode) (deepe
     | inl at ↦ stuck_map (SomePart Either depth) (SomePart Choice depth) s k (part.either_choice depth) (either_stuck s d k at a)
     | inr c ↦
         let first = sound.either_sound depth inner deeper s c.0 c.1 in
-        elim (chosen (begins_with_byte 63 c.0.1) _ _ _ c.2) [
+        elim (cond_either (begins_with_byte 63 c.0.1) _ _ _ c.2) [
           | inl h ↦
               elim (bind_err (inner nested.Choice c.0.1) (λ x. spec.other_choice depth inner x.1 >>= λ y. Ok (expr_node.Choice c.0.0 x.0 y.0, y.1)) d h.1) [
                 | inl at ↦ first_stuck depth s c.0 k first h.0 (sticks nested.Choice c.0.1 d k at a)
@@ -257,7 +257,7 @@ module _ (depth : ℕ) (inner : Nested → List ℕ → Outcome ExprNode) (deepe
 
   items_stuck : Sticks Items depth (spec.items depth inner)
   unfolding spec.items
-  items_stuck s d k e a = elim (chosen (begins_with_byte 93 s) _ _ _ e) [
+  items_stuck s d k e a = elim (cond_either (begins_with_byte 93 s) _ _ _ e) [
     | inl h ↦ absurd (let y = h.1 in cc)
     | inr h ↦
         elim (bind_err (spec.choice depth inner s) (λ x. spec.chain (spec.choice depth inner) 44 (length x.1) (x.0 ∷ []) x.1 >>= λ xs. Ok (expr_node.List xs.0, xs.1)) d h.1) [

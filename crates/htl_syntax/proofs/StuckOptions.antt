@@ -1,13 +1,13 @@
 -- Options in which reading stopped can be completed.
 use Rattle.std.proofs.Common.{◌≡◌, ℕ, true, List, [], ◌∷◌, ◌++◌, drop, length, Result, Ok, Err, codes, refl, ap, sym, subst, ◌∙◌, inl, inr, append_assoc}
 use Rattle.sp_base.specs.Bytes.{begins_with_byte}
+use Rattle.sp_base.proofs.BoolLemmas.{cond_either}
 use Rattle.htl_syntax.specs.declared.stop.ExprStop.{ExprStop}
 use Rattle.htl_syntax.specs.declared.expression.Context.{Context}
 use Rattle.htl_syntax.specs.declared.expression.Context.TheVariants.{Text, Unsafe}
 use Rattle.htl_syntax.specs.Tokens.{◌>>=◌, blanks_skipped, begins, is_quote, expect, literal, string}
 use Rattle.htl_syntax.specs.Read as spec
 use Rattle.htl_syntax.specs.Grammar.{Byte, Literal, ContextString, context_text, Join, InContext}
-use Rattle.htl_syntax.proofs.Tools.{chosen}
 use Rattle.htl_syntax.proofs.TokensRead.{byte_at, expect_sound}
 use Rattle.htl_syntax.proofs.WholeRead as whole
 use Rattle.htl_syntax.proofs.Local.{bind_err}
@@ -30,7 +30,7 @@ record Unread (w s : List ℕ) (k : ℕ) : Type 0 where
 unread : (w s : List ℕ) (d : ExprStop) (k : ℕ) → literal w s ≡ Err d → At d k → Unread w s k
 unfolding literal
 unread [] s d k e a = absurd cc
-unread (c ∷ w) s d k e a = elim (chosen (begins_with_byte c s) _ _ _ e) [
+unread (c ∷ w) s d k e a = elim (cond_either (begins_with_byte c s) _ _ _ e) [
   | inl h ↦
       let i = unread w (drop 1 s) d k h.1 a in
       record { leading = c ∷ i.leading; tail = i.tail; rest = i.rest; word = ap (λ (t : List ℕ). c ∷ t) i.word; parts = byte_at c s h.0 ∙ ap (λ (t : List ℕ). c ∷ t) i.parts; left = i.left }
@@ -186,11 +186,11 @@ context_close_cut c s x k quote parts e = record {
 context_string_cut : (s : List ℕ) (d : ExprStop) (k : ℕ) → spec.context_string s ≡ Err d → At d k → Cut SomeContextString s k
 unfolding spec.context_string spec.context_word begins
 context_string_cut [] d k e a = context_string_missing [] k (at_length 0 d k e a)
-context_string_cut (c ∷ s) d k e a = elim (chosen (is_quote c) _ _ _ e) [
+context_string_cut (c ∷ s) d k e a = elim (cond_either (is_quote c) _ _ _ e) [
   | inl h ↦
       elim (bind_err (spec.context_word s) (λ x. expect c x.1 >>= λ r. Ok (x.0, r)) d h.1) [
         | inl at ↦
-            elim (chosen (begins_with_byte 116 s) _ _ _ at) [
+            elim (cond_either (begins_with_byte 116 s) _ _ _ at) [
               | inl j ↦
                   elim (bind_err (literal (codes "text") s) (λ r. Ok (Text, r)) d j.1) [
                     | inl l ↦ context_word_cut c s Text d k h.0 l a

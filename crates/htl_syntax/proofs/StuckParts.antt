@@ -1,6 +1,7 @@
 -- Accesses, operands and chains in which reading stopped can be completed.
 use Rattle.std.proofs.Common.{◌≡◌, ℕ, zero, suc, true, ◌||◌, eqb, List, [], ◌∷◌, ◌++◌, drop, length, Option, Some, None, Ok, Err, refl, inl, inr}
 use Rattle.sp_base.specs.Bytes.{begins_with_byte, is_digit}
+use Rattle.sp_base.proofs.BoolLemmas.{cond_either}
 use Rattle.htl_syntax.specs.declared.stop.ExprStop.{ExprStop}
 use Rattle.htl_syntax.specs.declared.node.ExprNode.{ExprNode}
 use Rattle.htl_syntax.specs.declared.node.ExprNode.TheVariants as expr_node
@@ -9,7 +10,6 @@ use Rattle.htl_syntax.specs.Tokens.{Outcome, ◌>>=◌, blanks_skipped, begins, 
 use Rattle.htl_syntax.specs.Read as spec
 use Rattle.htl_syntax.specs.Grammar.{Byte, NameToken, Separator, And, Or, Comma, Separates, GrammarPart, part_of, Choice, Either, Both, Compare, Operand, Atom, Start, Reads, More, Access, Accesses}
 use Rattle.htl_syntax.specs.Grammar as g
-use Rattle.htl_syntax.proofs.Tools.{chosen}
 use Rattle.htl_syntax.proofs.TokensRead.{byte, name_sound, string_sound}
 use Rattle.htl_syntax.proofs.TokensAgain.{byte-short}
 use Rattle.htl_syntax.proofs.Complete.{separates-short}
@@ -60,7 +60,7 @@ access_missing depth t k e = record {
 bracketed_stuck : (depth : ℕ) (t : List ℕ) (d : ExprStop) (k : ℕ) → begins_with_byte 91 t ≡ true → spec.bracket_access depth t ≡ Err d → At d k → Late (SomeAccess depth) t k
 unfolding spec.bracket_access
 bracketed_stuck zero t d k at e a = access_missing zero t k (at_depth (length t) d k e a)
-bracketed_stuck (suc depth) t d k at e a = elim (chosen (eqb (suc depth) 0) _ _ _ e) [
+bracketed_stuck (suc depth) t d k at e a = elim (cond_either (eqb (suc depth) 0) _ _ _ e) [
   | inl h ↦ access_missing (suc depth) t k (at_depth (length t) d k h.1 a)
   | inr h ↦
       let m = blanks_skipped (drop 1 t) in
@@ -82,7 +82,7 @@ bracketed_stuck (suc depth) t d k at e a = elim (chosen (eqb (suc depth) 0) _ _ 
 
 access_stuck : (depth : ℕ) (t : List ℕ) (d : ExprStop) (k : ℕ) → spec.access_at t ≡ true → spec.access depth t ≡ Err d → At d k → Late (SomeAccess depth) t k
 unfolding spec.access spec.access_at
-access_stuck depth t d k at e a = elim (chosen (begins_with_byte 46 t) _ _ _ e) [
+access_stuck depth t d k at e a = elim (cond_either (begins_with_byte 46 t) _ _ _ e) [
   | inl h ↦
       let b = byte 46 t h.0 in
       late_map (Then (Byte 46) SomeField) (SomeAccess depth) t k (λ s' r' x. (x.2.0, g.field x.1 x.2.1))
@@ -92,7 +92,7 @@ access_stuck depth t d k at e a = elim (chosen (begins_with_byte 46 t) _ _ _ e) 
 
 first_access_stuck : (depth : ℕ) (t : List ℕ) (d : ExprStop) (k : ℕ) → spec.first_access depth t ≡ Err d → At d k → Late (SomeAccess depth) t k
 unfolding spec.first_access
-first_access_stuck depth t d k e a = elim (chosen (spec.access_at t) _ _ _ e) [
+first_access_stuck depth t d k e a = elim (cond_either (spec.access_at t) _ _ _ e) [
   | inl h ↦ access_stuck depth t d k h.0 h.1 a
   | inr h ↦ access_missing depth t k (at_length (length t) d k h.1 a)
 ]
@@ -100,7 +100,7 @@ first_access_stuck depth t d k e a = elim (chosen (spec.access_at t) _ _ _ e) [
 pub accesses_stuck : (depth fuel : ℕ) (found : List (List ℕ)) (t : List ℕ) (d : ExprStop) (k : ℕ) → spec.accesses depth fuel found t ≡ Err d → At d k → Late (SomeAccesses depth) t k
 unfolding spec.accesses
 accesses_stuck depth zero found t d k e a = absurd cc
-accesses_stuck depth (suc fuel) found t d k e a = elim (chosen (spec.access_at t) _ _ _ e) [
+accesses_stuck depth (suc fuel) found t d k e a = elim (cond_either (spec.access_at t) _ _ _ e) [
   | inl h ↦
       elim (bind_err (spec.access depth t) (λ x. spec.accesses depth fuel (found ++ x.0 ∷ []) x.1) d h.1) [
         | inl at ↦ late_map (SomeAccess depth) (SomeAccesses depth) t k (λ s' r' x. (x.0 ∷ [], g.more x.1 g.none)) (access_stuck depth t d k h.0 at a)
@@ -171,7 +171,7 @@ named_stuck : (depth : ℕ) → Sticks Start depth (spec.name_or_object depth)
 unfolding spec.name_or_object read_name
 named_stuck depth s d k e a = elim (bind_err (read_name Name s) (λ x. spec.name_or_object_of depth (spec.object_of x.0) x.0 x.1) d e) [
   | inl at ↦
-      elim (chosen (begins is_first s) _ _ _ at) [
+      elim (cond_either (begins is_first s) _ _ _ at) [
         | inl h ↦ absurd (let x = h.1 in cc)
         | inr h ↦ start_missing depth s k (at_length (length s) d k h.1 a)
       ]
@@ -180,14 +180,14 @@ named_stuck depth s d k e a = elim (bind_err (read_name Name s) (λ x. spec.name
 
 pub leaf_stuck : (depth : ℕ) → Sticks Start depth (spec.primary depth)
 unfolding spec.primary
-leaf_stuck depth s d k e a = elim (chosen (begins is_quote s) _ _ _ e) [
+leaf_stuck depth s d k e a = elim (cond_either (begins is_quote s) _ _ _ e) [
   | inl h ↦
       elim (bind_err (string s) (λ x. Ok (expr_node.Text x.0, x.1)) d h.1) [
         | inl at ↦ stuck_map SomeString (SomePart Start depth) s k (λ s' r' x. (expr_node.Text x.0, g.string x.1)) (string_stuck s d k at a)
         | inr at ↦ absurd (let x = at.2 in cc)
       ]
   | inr h ↦
-      elim (chosen (begins_with_byte 45 s || begins is_digit s) _ _ _ h.1) [
+      elim (cond_either (begins_with_byte 45 s || begins is_digit s) _ _ _ h.1) [
         | inl j ↦
             elim (bind_err (signed_number s) (λ x. Ok (expr_node.Long x.0, x.1)) d j.1) [
               | inl at ↦ stuck_map SomeNumber (SomePart Start depth) s k (λ s' r' x. (expr_node.Long x.0, g.number x.1)) (number_stuck s d k j.0 at a)
@@ -212,7 +212,7 @@ between_stuck : (sep : Separator) (Q : List ℕ → List ℕ → Type 0) → ((z
 unfolding expect
 between_stuck And Q one m d k at e a = second_missing 38 38 quiet_and Q one m d k at e a
 between_stuck Or Q one m d k at e a = second_missing 124 124 quiet_or Q one m d k at e a
-between_stuck Comma Q one m d k at e a = elim (chosen (begins_with_byte 44 m) _ _ _ e) [
+between_stuck Comma Q one m d k at e a = elim (cond_either (begins_with_byte 44 m) _ _ _ e) [
   | inl h ↦ absurd (let x = h.1 in cc)
   | inr h ↦ absurd (let x = h.0 in cc)
 ]
@@ -231,7 +231,7 @@ module _ (sep : Separator) (depth : ℕ) (item : List ℕ → Outcome ExprNode) 
   pub chain_stuck : (fuel : ℕ) (found : List ExprNode) (t : List ℕ) (d : ExprStop) (k : ℕ) → spec.chain item (byte_of sep) fuel found t ≡ Err d → At d k → Late (SomeMore sep depth) t k
   unfolding spec.chain
   chain_stuck zero found t d k e a = absurd cc
-  chain_stuck (suc fuel) found t d k e a = elim (chosen (begins_with_byte (byte_of sep) t) _ _ _ e) [
+  chain_stuck (suc fuel) found t d k e a = elim (cond_either (begins_with_byte (byte_of sep) t) _ _ _ e) [
     | inl h ↦
         elim (bind_err (spec.between (byte_of sep) t) (λ r. item r >>= λ x. spec.chain item (byte_of sep) fuel (found ++ x.0 ∷ []) x.1) d h.1) [
           | inl at ↦ late_map (Then (Separates sep) (SomePart (part_of sep) depth)) (SomeMore sep depth) t k single (between_stuck sep (SomePart (part_of sep) depth) one t d k h.0 at a)

@@ -1,6 +1,8 @@
 -- Where a token is missing or was cut, it can be completed.
 use Rattle.std.proofs.Common.{◌≡◌, ℕ, ℤ, Bool, true, false, ◌||◌, eqb, List, [], ◌∷◌, ◌++◌, drop, length, Option, Some, None, Ok, Err, refl, ap, sym, subst, inl, inr}
+use Rattle.std.proofs.lemmas.Bool.{eqb-true}
 use Rattle.sp_base.specs.Bytes.{begins_with_byte, is_digit}
+use Rattle.sp_base.proofs.BoolLemmas.{cond_either}
 use Rattle.htl_syntax.specs.declared.stop.ExprStop.{ExprStop}
 use Rattle.htl_syntax.specs.declared.tokens.NameKind.TheVariants.{Field}
 use Rattle.htl_syntax.specs.declared.node.Comparison.{Comparison}
@@ -10,8 +12,7 @@ use Rattle.htl_syntax.specs.Read as spec
 use Rattle.htl_syntax.specs.Fault.{SameHead}
 use Rattle.htl_syntax.specs.Grammar.{Byte, Operator, NameToken, StringBody, String, Number, Compares}
 use Rattle.htl_syntax.specs.Grammar as g
-use Rattle.htl_syntax.proofs.Tools.{chosen}
-use Rattle.htl_syntax.proofs.TokensRead.{eqb_is, byte_at}
+use Rattle.htl_syntax.proofs.TokensRead.{byte_at}
 use Rattle.htl_syntax.proofs.Local.{bind_err}
 use Rattle.htl_syntax.proofs.Moves.{Plain, Settled, settled_at, plain_settled, plain_ends, fits_near, Then}
 use Rattle.htl_syntax.proofs.MovesTokens.{no_digit}
@@ -25,7 +26,7 @@ operator_of c d z e = record { after = z; parts = refl; rest = sym e }
 
 pub expect_missing : (c : ℕ) (m : List ℕ) (d : ExprStop) (k : ℕ) → expect c m ≡ Err d → At d k → length m ≡ k
 unfolding expect
-expect_missing c m d k e a = elim (chosen (begins_with_byte c m) _ _ _ e) [
+expect_missing c m d k e a = elim (cond_either (begins_with_byte c m) _ _ _ e) [
   | inl h ↦ absurd (let x = h.1 in cc)
   | inr h ↦ at_length (length m) d k h.1 a
 ]
@@ -93,13 +94,13 @@ unclosed true mark (c ∷ s) d k e a = go (unescape c) refl e (λ w. unclosed fa
           record { leading = c ∷ i.leading; rest = i.rest; more = i.more; parts = ap (λ (t : List ℕ). c ∷ t) i.parts; left = i.left; ends = λ z. (x ∷ (i.ends z).0, g.escape u (i.ends z).1) }
       | inr at ↦ absurd (let y = at.2 in cc)
     ]
-unclosed false mark (c ∷ s) d k e a = elim (chosen (eqb c mark) _ _ _ e) [
+unclosed false mark (c ∷ s) d k e a = elim (cond_either (eqb c mark) _ _ _ e) [
   | inl h ↦ absurd (let y = h.1 in cc)
   | inr h ↦
-      elim (chosen (eqb c 92) _ _ _ h.1) [
+      elim (cond_either (eqb c 92) _ _ _ h.1) [
         | inl j ↦
             let i = unclosed true mark s d k j.1 a in
-            record { leading = c ∷ i.leading; rest = i.rest; more = i.more; parts = ap (λ (t : List ℕ). c ∷ t) i.parts; left = i.left; ends = λ z. ((i.ends z).0, subst (λ (b : ℕ). StringBody mark (b ∷ (i.leading ++ (i.more ++ z))) (i.ends z).0 z) (sym (eqb_is c 92 j.0)) (i.ends z).1) }
+            record { leading = c ∷ i.leading; rest = i.rest; more = i.more; parts = ap (λ (t : List ℕ). c ∷ t) i.parts; left = i.left; ends = λ z. ((i.ends z).0, subst (λ (b : ℕ). StringBody mark (b ∷ (i.leading ++ (i.more ++ z))) (i.ends z).0 z) (sym (eqb-true c 92 j.0)) (i.ends z).1) }
         | inr j ↦
             elim (bind_err (string_from false mark s) (λ x. Ok ((c ∷ []) ++ x.0, x.1)) d j.1) [
               | inl at ↦
@@ -119,7 +120,7 @@ string_missing s k e = record { leading = []; rest = s; more = 39 ∷ 39 ∷ [];
 pub string_stuck : (s : List ℕ) (d : ExprStop) (k : ℕ) → string s ≡ Err d → At d k → Stuck SomeString s k
 unfolding string
 string_stuck [] d k e a = string_missing [] k (at_length 0 d k e a)
-string_stuck (c ∷ s) d k e a = elim (chosen (is_quote c) _ _ _ e) [
+string_stuck (c ∷ s) d k e a = elim (cond_either (is_quote c) _ _ _ e) [
   | inl h ↦
       let i = unclosed false c s d k h.1 a in
       record {
@@ -145,7 +146,7 @@ one_field z p = record { after = z; parts = refl; first = refl; passes = (refl, 
 
 pub field_stuck : (s : List ℕ) (d : ExprStop) (k : ℕ) → read_name Field s ≡ Err d → At d k → Stuck SomeField s k
 unfolding read_name
-field_stuck s d k e a = elim (chosen (begins is_first s) _ _ _ e) [
+field_stuck s d k e a = elim (cond_either (begins is_first s) _ _ _ e) [
   | inl h ↦ absurd (let x = h.1 in cc)
   | inr h ↦ record { leading = []; rest = s; more = 95 ∷ []; parts = refl; left = at_length (length s) d k h.1 a; near = λ z p. inr (refl, refl, refl); ends = λ z p. (95 ∷ [], one_field z p) }
 ]
@@ -172,9 +173,9 @@ minus_one z p = (
 
 pub number_stuck : (s : List ℕ) (d : ExprStop) (k : ℕ) → (begins_with_byte 45 s || begins is_digit s) ≡ true → signed_number s ≡ Err d → At d k → Stuck SomeNumber s k
 unfolding signed_number digits
-number_stuck s d k at e a = elim (chosen (begins_with_byte 45 s) _ _ _ e) [
+number_stuck s d k at e a = elim (cond_either (begins_with_byte 45 s) _ _ _ e) [
   | inl h ↦
-      elim (chosen (begins is_digit (drop 1 s)) _ _ _ h.1) [
+      elim (cond_either (begins is_digit (drop 1 s)) _ _ _ h.1) [
         | inl j ↦ absurd (let x = j.1 in cc)
         | inr j ↦ record {
           leading = 45 ∷ [];
@@ -188,7 +189,7 @@ number_stuck s d k at e a = elim (chosen (begins_with_byte 45 s) _ _ _ e) [
       ]
   | inr h ↦
       let begin : begins is_digit s ≡ true = rw h.0 at at in
-      elim (chosen (begins is_digit s) _ _ _ h.1) [
+      elim (cond_either (begins is_digit s) _ _ _ h.1) [
         | inl j ↦ absurd (let x = j.1 in cc)
         | inr j ↦ absurd (let x = j.0 in cc)
       ]
@@ -206,21 +207,21 @@ quiet_not t = refl
 
 pub comparison_stuck : (Q : List ℕ → List ℕ → Type 0) → ((z : List ℕ) → Plain z → Q (operand z) z) → (m : List ℕ) (d : ExprStop) (k : ℕ) → spec.comparison m ≡ Err d → At d k → Late (Then SomeCompares Q) m k
 unfolding spec.comparison
-comparison_stuck Q one m d k e a = elim (chosen (begins_with_byte 61 m) _ _ _ e) [
+comparison_stuck Q one m d k e a = elim (cond_either (begins_with_byte 61 m) _ _ _ e) [
   | inl h ↦
       elim (bind_err (second 61 m) (λ r. Ok (Equal, r)) d h.1) [
         | inl at ↦ late_map (Then (Operator 61 61) Q) (Then SomeCompares Q) m k (λ s' r' x. (x.0, (Equal, g.equal x.1), x.2)) (second_missing 61 61 quiet_equal Q one m d k h.0 at a)
         | inr at ↦ absurd (let x = at.2 in cc)
       ]
   | inr h ↦
-      elim (chosen (begins_with_byte 33 m) _ _ _ h.1) [
+      elim (cond_either (begins_with_byte 33 m) _ _ _ h.1) [
         | inl j ↦
             elim (bind_err (second 61 m) (λ r. Ok (NotEqual, r)) d j.1) [
               | inl at ↦ late_map (Then (Operator 33 61) Q) (Then SomeCompares Q) m k (λ s' r' x. (x.0, (NotEqual, g.not_equal x.1), x.2)) (second_missing 33 61 quiet_not Q one m d k j.0 at a)
               | inr at ↦ absurd (let x = at.2 in cc)
             ]
         | inr j ↦
-            elim (chosen (begins_with_byte 60 m) _ _ _ j.1) [
+            elim (cond_either (begins_with_byte 60 m) _ _ _ j.1) [
               | inl l ↦ absurd (let x = l.1 in cc)
               | inr l ↦ absurd (let x = l.1 in cc)
             ]

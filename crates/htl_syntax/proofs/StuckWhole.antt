@@ -2,6 +2,7 @@
 use Rattle.std.proofs.Common.{◌≡◌, ℕ, ◌-◌, true, cond, ◌||◌, eqb, List, [], ◌∷◌, ◌++◌, take, drop, length, Option, Some, None, Ok, Err, refl, ap, sym, subst, ◌∙◌, ◌⊎◌, inl, inr, arith, append_assoc}
 use Rattle.std.proofs.lemmas.List.{length-append, take_at}
 use Rattle.sp_base.specs.Bytes.{begins_with_byte}
+use Rattle.sp_base.proofs.BoolLemmas.{cond_either}
 use Rattle.htl_syntax.specs.declared.stop.ExprStop.{ExprStop}
 use Rattle.htl_syntax.specs.declared.stop.ExprStop.TheVariants.{Unexpected}
 use Rattle.htl_syntax.specs.declared.node.ExprNode.{ExprNode}
@@ -12,7 +13,7 @@ use Rattle.htl_syntax.specs.Read as spec
 use Rattle.htl_syntax.specs.Grammar.{Byte, Join, InContext, Options, TreeOrNothing, WholeWithin, Choice}
 use Rattle.htl_syntax.specs.Grammar as g
 use Rattle.htl_syntax.specs.Fault.{SameHead, MayGoOn}
-use Rattle.htl_syntax.proofs.Tools.{bind_ok, chosen, ok_is}
+use Rattle.htl_syntax.proofs.Tools.{bind_ok, ok_is}
 use Rattle.htl_syntax.proofs.TokensRead.{byte, byte_at}
 use Rattle.htl_syntax.proofs.WholeRead as whole
 use Rattle.htl_syntax.proofs.Local.{bind_err}
@@ -73,14 +74,14 @@ SomeOption s r = SomeJoin s r ⊎ SomeContext s r
 
 first_cut : (s : List ℕ) (d : ExprStop) (k : ℕ) → spec.option (None, None) s ≡ Err d → At d k → Cut SomeOption s k
 unfolding spec.option
-first_cut s d k e a = elim (chosen (begins_with_byte 106 s) _ _ _ e) [
+first_cut s d k e a = elim (cond_either (begins_with_byte 106 s) _ _ _ e) [
   | inl h ↦
       elim (bind_err (spec.join_option s) (λ x. Ok ((Some x.0, None), x.1)) d h.1) [
         | inl at ↦ cut_map SomeJoin SomeOption s k (λ s' r' x. inl x) (join_cut s d k at a)
         | inr at ↦ absurd (let x = at.2 in cc)
       ]
   | inr h ↦
-      elim (chosen (begins_with_byte 99 s) _ _ _ h.1) [
+      elim (cond_either (begins_with_byte 99 s) _ _ _ h.1) [
         | inl j ↦
             elim (bind_err (spec.context_option s) (λ x. Ok ((None, Some x.0), x.1)) d j.1) [
               | inl at ↦ cut_map SomeContext SomeOption s k (λ s' r' x. inr x) (context_cut s d k at a)
@@ -93,7 +94,7 @@ first_cut s d k e a = elim (chosen (begins_with_byte 106 s) _ _ _ e) [
 -- after a join, and after a context
 after_join : (w s : List ℕ) (d : ExprStop) (k : ℕ) → spec.option (Some w, None) s ≡ Err d → At d k → Cut SomeContext s k
 unfolding spec.option
-after_join w s d k e a = elim (chosen (begins_with_byte 99 s) _ _ _ e) [
+after_join w s d k e a = elim (cond_either (begins_with_byte 99 s) _ _ _ e) [
   | inl j ↦
       elim (bind_err (spec.context_option s) (λ x. Ok ((Some w, Some x.0), x.1)) d j.1) [
         | inl at ↦ context_cut s d k at a
@@ -104,7 +105,7 @@ after_join w s d k e a = elim (chosen (begins_with_byte 99 s) _ _ _ e) [
 
 after_context : (c : Context) (s : List ℕ) (d : ExprStop) (k : ℕ) → spec.option (None, Some c) s ≡ Err d → At d k → Cut SomeJoin s k
 unfolding spec.option
-after_context c s d k e a = elim (chosen (begins_with_byte 106 s) _ _ _ e) [
+after_context c s d k e a = elim (cond_either (begins_with_byte 106 s) _ _ _ e) [
   | inl h ↦
       elim (bind_err (spec.join_option s) (λ x. Ok ((Some x.0, Some c), x.1)) d h.1) [
         | inl at ↦ join_cut s d k at a
@@ -132,13 +133,13 @@ one_option s r (m, b, inr c) = context b c.1
 
 options_stuck : (t : List ℕ) (d : ExprStop) (k : ℕ) → spec.options t ≡ Err d → At d k → Late SomeOptions t k
 unfolding spec.options
-options_stuck t d k e a = elim (chosen (begins_with_byte 64 t) _ _ _ e) [
+options_stuck t d k e a = elim (cond_either (begins_with_byte 64 t) _ _ _ e) [
   | inl h ↦
       let m = blanks_skipped (drop 1 t) in
       elim (bind_err (spec.option (None, None) m) (λ o. cond (begins_with_byte 44 o.1) (spec.option o.0 (blanks_skipped (drop 1 o.1))) (Ok o)) d h.1) [
         | inl at ↦ late_map (Then (Byte 64) SomeOption) SomeOptions t k one_option (byte_late 64 t k SomeOption quiet_options h.0 (first_cut m d k at a))
         | inr o ↦
-            elim (chosen (begins_with_byte 44 o.0.1) _ _ _ o.2) [
+            elim (cond_either (begins_with_byte 44 o.0.1) _ _ _ o.2) [
               | inl j ↦ second_late t m o.0.0 o.0.1 d k (byte 64 t h.0) (whole.option_sound (None, None) m o.0 o.1) j.0 j.1 a
               | inr j ↦ absurd (let x = j.1 in cc)
             ]
@@ -170,12 +171,12 @@ Moved t q = Moves SomeOptions t q.1
 
 options_moves : (t : List ℕ) (p : spec.Given × List ℕ) → spec.options t ≡ Ok p → Moved t p
 unfolding spec.options
-options_moves t p e = elim (chosen (begins_with_byte 64 t) _ _ _ e) [
+options_moves t p e = elim (cond_either (begins_with_byte 64 t) _ _ _ e) [
   | inl h ↦
       let m = blanks_skipped (drop 1 t) in
       let o = bind_ok (spec.option (None, None) m) (λ o. cond (begins_with_byte 44 o.1) (spec.option o.0 (blanks_skipped (drop 1 o.1))) (Ok o)) p h.1 in
       let one = whole.option_sound (None, None) m o.0 o.1 in
-      elim (chosen (begins_with_byte 44 o.0.1) _ _ _ o.2) [
+      elim (cond_either (begins_with_byte 44 o.0.1) _ _ _ o.2) [
         | inl j ↦ second_moves t m o.0.1 (blanks_skipped (drop 1 o.0.1)) o.0.0 p.0 p.1 (byte 64 t h.0) one (byte 44 o.0.1 j.0) (whole.option_sound o.0.0 (blanks_skipped (drop 1 o.0.1)) p j.1)
         | inr j ↦ subst (Moved t) (ok_is _ _ j.1) (first_moves t m o.0.0 o.0.1 (byte 64 t h.0) one)
       ]
@@ -194,7 +195,7 @@ module _ (levels : ℕ) where
 
   tree_stuck : (s : List ℕ) (d : ExprStop) (k : ℕ) → spec.optional_choice levels s ≡ Err d → At d k → Stuck SomeTree s k
   unfolding spec.optional_choice
-  tree_stuck s d k e a = elim (chosen (eqb (length s) 0 || begins_with_byte 64 s) _ _ _ e) [
+  tree_stuck s d k e a = elim (cond_either (eqb (length s) 0 || begins_with_byte 64 s) _ _ _ e) [
     | inl h ↦ absurd (let x = h.1 in cc)
     | inr h ↦
         elim (bind_err (spec.choice levels (spec.nesting levels) s) (λ x. Ok (Some x.0, x.1)) d h.1) [
@@ -217,7 +218,7 @@ module _ (levels : ℕ) where
         elim (bind_err (spec.options x.0.1) (λ o. cond (eqb (length o.1) 0) (Ok (spec.expr_of x.0.0 o.0)) (Err (Unexpected (length o.1)))) d x.2) [
           | inl at ↦ moves_stuck SomeTree SomeOptions (blanks_skipped s) x.0.1 k tree (options_stuck x.0.1 d k at a)
           | inr o ↦
-              elim (chosen (eqb (length o.0.1) 0) _ _ _ o.2) [
+              elim (cond_either (eqb (length o.0.1) 0) _ _ _ o.2) [
                 | inl h ↦ absurd (let y = h.1 in cc)
                 | inr h ↦ moves_end Text (blanks_skipped s) o.0.1 k (moves_then SomeTree SomeOptions (blanks_skipped s) x.0.1 o.0.1 tree (options_moves x.0.1 o.0 o.1)) (at_length (length o.0.1) d k h.1 a)
               ]

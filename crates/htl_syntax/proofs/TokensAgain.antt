@@ -1,25 +1,23 @@
 -- A token of the grammar is read as that token.
-use Rattle.std.proofs.Common.{◌≡◌, ℕ, ℤ, suc, ◌<◌, ◌≤◌, Bool, true, false, cond, ◌||◌, eqb, List, [], ◌∷◌, ◌++◌, drop, length, Ok, refl, ap, ◌∙◌, rules, arith}
+use Rattle.std.proofs.Common.{◌≡◌, ℕ, ℤ, suc, ◌<◌, ◌≤◌, Bool, true, false, cond, ◌||◌, eqb, List, [], ◌∷◌, ◌++◌, drop, length, Ok, refl, ap, ◌∙◌, arith}
 use Rattle.std.proofs.lemmas.List.{take_at, drop_at, length-append}
+use Rattle.std.proofs.lemmas.Bool.{eqb-true}
 use Rattle.std.proofs.lemmas.Bool.Decides.{nat_tests}
 use Rattle.sp_base.specs.Bytes.{begins_with_byte, is_digit}
+use Rattle.sp_base.proofs.NatLemmas.{nat_eq_itself}
 use Rattle.htl_syntax.specs.declared.tokens.NameKind.{NameKind}
 use Rattle.htl_syntax.specs.declared.node.Comparison.{Comparison}
 use Rattle.htl_syntax.specs.Tokens.{blanks_skipped, begins, is_blank, expect, second, name_len, goes_on, read_name, string, string_from, is_first, is_quote, expression_digits_from, digits, signed_number, limit, signed_value}
 use Rattle.htl_syntax.specs.Read.{comparison, compares, or_equal}
 use Rattle.htl_syntax.specs.Grammar.{Byte, Operator, Bare, NameToken, String, StringBody, Passes, Digits, Number, Sign, Compares}
 use Rattle.htl_syntax.specs.Grammar as g
-use Rattle.htl_syntax.proofs.TokensRead.{eqb_is}
-
-pub eqb_same : (a : ℕ) → eqb a a ≡ true
-eqb_same a = search rules
 
 -- a test that two numbers answer differently tells them apart
 pub apart : (test : ℕ → Bool) (c d : ℕ) → test c ≡ true → test d ≡ false → eqb c d ≡ false
 apart test c d holds other = go (eqb c d) refl
   where
     go : (b : Bool) → eqb c d ≡ b → b ≡ false
-    go true e = absurd (let same : test c ≡ test d = ap test (eqb_is c d e) in cc)
+    go true e = absurd (let same : test c ≡ test d = ap test (eqb-true c d e) in cc)
     go false e = refl
 
 -- a text whose first byte passes a test doesn't begin with a byte that fails it
@@ -30,7 +28,7 @@ not_at test d (c ∷ s) h other = apart test c d h other
 
 pub at_here : (c : ℕ) (s r : List ℕ) → Byte c s r → begins_with_byte c s ≡ true
 unfolding begins_with_byte
-at_here c s r b = rw b.parts (eqb_same c)
+at_here c s r b = rw b.parts (nat_eq_itself c)
 
 pub remainder : (c : ℕ) (s r : List ℕ) → Byte c s r → blanks_skipped (drop 1 s) ≡ r
 remainder c s r b = rw (b.parts, b.rest) refl
@@ -41,7 +39,7 @@ expect_again c s r b = rw (at_here c s r b, remainder c s r b) refl
 
 pub operator_here : (c d : ℕ) (s r : List ℕ) → Operator c d s r → begins_with_byte c s ≡ true
 unfolding begins_with_byte
-operator_here c d s r b = rw b.parts (eqb_same c)
+operator_here c d s r b = rw b.parts (nat_eq_itself c)
 
 pub second_again : (c d : ℕ) (s r : List ℕ) → Operator c d s r → second d s ≡ Ok r
 unfolding second
@@ -61,7 +59,7 @@ name_again kind s w r x =
 
 quoted_again : (mark : ℕ) (s w after : List ℕ) → eqb 92 mark ≡ false → StringBody mark s w after → string_from false mark s ≡ Ok (w, blanks_skipped after)
 unfolding string_from
-quoted_again mark _ _ _ m g.closes = rw (eqb_same mark) refl
+quoted_again mark _ _ _ m g.closes = rw (nat_eq_itself mark) refl
 quoted_again mark _ _ _ m (g.plain a b q) = rw (a, b, quoted_again mark _ _ _ m q) refl
 quoted_again mark _ _ _ m (g.escape e q) = rw (m, e, quoted_again mark _ _ _ m q) refl
 
@@ -69,7 +67,7 @@ mark_apart : (mark : ℕ) → is_quote mark ≡ true → eqb 92 mark ≡ false
 mark_apart mark h = go (eqb 92 mark) refl
   where
     go : (b : Bool) → eqb 92 mark ≡ b → b ≡ false
-    go true e = absurd (let same : is_quote 92 ≡ is_quote mark = ap is_quote (eqb_is 92 mark e) in cc)
+    go true e = absurd (let same : is_quote 92 ≡ is_quote mark = ap is_quote (eqb-true 92 mark e) in cc)
     go false e = refl
 
 pub string_again : (s w r : List ℕ) → String s w r → string s ≡ Ok (w, r)

@@ -1,7 +1,9 @@
 -- What is read of a token is that token.
-use Rattle.std.proofs.Common.{◌≡◌, ℕ, ℤ, suc, ◌+◌, ◌*◌, ◌-◌, Bool, true, false, cond, eqb, List, [], ◌∷◌, ◌++◌, take, drop, Option, Some, None, Ok, refl, ap, sym, subst, ◌∙◌, inl, inr, rules}
+use Rattle.std.proofs.Common.{◌≡◌, ℕ, ℤ, suc, ◌+◌, ◌*◌, ◌-◌, Bool, true, false, cond, eqb, List, [], ◌∷◌, ◌++◌, take, drop, Option, Some, None, Ok, refl, ap, sym, subst, ◌∙◌, inl, inr}
+use Rattle.std.proofs.lemmas.Bool.{eqb-true}
 use Rattle.std.proofs.lemmas.List.{take-append-drop}
 use Rattle.sp_base.specs.Bytes.{begins_with_byte, is_digit}
+use Rattle.sp_base.proofs.BoolLemmas.{cond_either}
 use Rattle.htl_syntax.specs.declared.tokens.NameKind.{NameKind}
 use Rattle.htl_syntax.specs.declared.node.Comparison.{Comparison}
 use Rattle.htl_syntax.specs.declared.node.Comparison.TheVariants.{Equal, NotEqual, Below, Above, AtMost, AtLeast}
@@ -9,15 +11,12 @@ use Rattle.htl_syntax.specs.Tokens.{blanks_skipped, begins, expect, second, name
 use Rattle.htl_syntax.specs.Read.{comparison, compares, or_equal}
 use Rattle.htl_syntax.specs.Grammar.{Byte, Operator, Bare, NameToken, String, StringBody, Passes, Digits, Number, Sign, Compares}
 use Rattle.htl_syntax.specs.Grammar as g
-use Rattle.htl_syntax.proofs.Tools.{bind_ok, chosen, ok_is}
-
-pub eqb_is : (a b : ℕ) → eqb a b ≡ true → a ≡ b
-eqb_is a b e = search rules
+use Rattle.htl_syntax.proofs.Tools.{bind_ok, ok_is}
 
 pub byte_at : (c : ℕ) (s : List ℕ) → begins_with_byte c s ≡ true → s ≡ c ∷ drop 1 s
 unfolding begins_with_byte
 byte_at c [] e = absurd cc
-byte_at c (d ∷ s) e = ap (λ (x : ℕ). x ∷ s) (eqb_is d c e)
+byte_at c (d ∷ s) e = ap (λ (x : ℕ). x ∷ s) (eqb-true d c e)
 
 pub byte : (c : ℕ) (s : List ℕ) → begins_with_byte c s ≡ true → Byte c s (blanks_skipped (drop 1 s))
 byte c s e = record { after = drop 1 s; parts = byte_at c s e; rest = refl }
@@ -25,7 +24,7 @@ byte c s e = record { after = drop 1 s; parts = byte_at c s e; rest = refl }
 pub expect_sound : (c : ℕ) (s r : List ℕ) → expect c s ≡ Ok r → Byte c s r
 unfolding expect
 expect_sound c s r e =
-    elim (chosen (begins_with_byte c s) _ _ _ e) [
+    elim (cond_either (begins_with_byte c s) _ _ _ e) [
       | inl h ↦ subst (Byte c s) (ok_is _ _ h.1) (byte c s h.0)
       | inr h ↦ absurd cc
     ]
@@ -59,7 +58,7 @@ ends_run kind (c ∷ s) = go (goes_on kind (c ∷ s)) refl (ends_run kind s)
 pub name_sound : (kind : NameKind) (s : List ℕ) (p : List ℕ × List ℕ) → read_name kind s ≡ Ok p → NameToken kind s p.0 p.1
 unfolding read_name
 name_sound kind s p e =
-    elim (chosen (begins is_first s) _ _ _ e) [
+    elim (cond_either (begins is_first s) _ _ _ e) [
       | inl h ↦
           subst (λ (q : List ℕ × List ℕ). NameToken kind s q.0 q.1) (ok_is _ _ h.1)
           (record { after = drop (name_len kind s) s; parts = sym (take-append-drop (name_len kind s) s); first = h.0; passes = passes_run kind s; longest = ends_run kind s; rest = refl })
@@ -87,15 +86,15 @@ string_from_sound true mark (c ∷ s) p e = go (unescape c) refl e (λ q. string
         let ih = rec b.0 b.1 in
         subst (InsideOf true mark (c ∷ s)) (ok_is _ _ b.2) (ih.0, g.escape o-is ih.1, ih.2)
 string_from_sound false mark (c ∷ s) p e =
-    elim (chosen (eqb c mark) _ _ _ e) [
+    elim (cond_either (eqb c mark) _ _ _ e) [
       | inl h ↦
           subst (InsideOf false mark (c ∷ s)) (ok_is _ _ h.1)
-          (s, subst (λ (d : ℕ). StringBody mark (d ∷ s) [] s) (sym (eqb_is c mark h.0)) g.closes, refl)
+          (s, subst (λ (d : ℕ). StringBody mark (d ∷ s) [] s) (sym (eqb-true c mark h.0)) g.closes, refl)
       | inr h ↦
-          elim (chosen (eqb c 92) _ _ _ h.1) [
+          elim (cond_either (eqb c 92) _ _ _ h.1) [
             | inl k ↦
                 let ih = string_from_sound true mark s p k.1 in
-                (ih.0, subst (λ (d : ℕ). StringBody mark (d ∷ s) p.0 ih.0) (sym (eqb_is c 92 k.0)) ih.1, ih.2)
+                (ih.0, subst (λ (d : ℕ). StringBody mark (d ∷ s) p.0 ih.0) (sym (eqb-true c 92 k.0)) ih.1, ih.2)
             | inr k ↦
                 let b = bind_ok (string_from false mark s) (λ x. Ok ((c ∷ []) ++ x.0, x.1)) p k.1 in
                 let ih = string_from_sound false mark s b.0 b.1 in
@@ -107,7 +106,7 @@ pub string_sound : (s : List ℕ) (p : List ℕ × List ℕ) → string s ≡ Ok
 unfolding string
 string_sound [] p e = absurd cc
 string_sound (c ∷ s) p e =
-    elim (chosen (is_quote c) _ _ _ e) [
+    elim (cond_either (is_quote c) _ _ _ e) [
       | inl h ↦
           let b = string_from_sound false c s p h.1 in
           record { mark = c; inside = s; after = b.0; parts = refl; is_mark = h.0; body = b.1; rest = b.2 }
@@ -127,7 +126,7 @@ digits_from_sound most m (c ∷ s) = go (expression_digit_fits most m (c ∷ s))
 digits_sound : (negative : Bool) (s t : List ℕ) (p : ℤ × List ℕ) → Sign negative s t → digits negative t ≡ Ok p → Number s p.0 p.1
 unfolding digits
 digits_sound negative s t p sign e =
-    elim (chosen (begins is_digit t) _ _ _ e) [
+    elim (cond_either (begins is_digit t) _ _ _ e) [
       | inl h ↦
           subst (λ (q : ℤ × List ℕ). Number s q.0 q.1) (ok_is _ _ h.1)
           (record { negative = negative; magnitude = (expression_digits_from (limit negative) 0 t).0; inside = t; after = (expression_digits_from (limit negative) 0 t).1; sign = sign; first = h.0; body = digits_from_sound (limit negative) 0 t; value = refl; rest = refl })
@@ -137,7 +136,7 @@ digits_sound negative s t p sign e =
 pub number_sound : (s : List ℕ) (p : ℤ × List ℕ) → signed_number s ≡ Ok p → Number s p.0 p.1
 unfolding signed_number
 number_sound s p e =
-    elim (chosen (begins_with_byte 45 s) _ _ _ e) [
+    elim (cond_either (begins_with_byte 45 s) _ _ _ e) [
       | inl h ↦ digits_sound true s (drop 1 s) p (byte_at 45 s h.0) h.1
       | inr h ↦ digits_sound false s s p refl h.1
     ]
@@ -149,7 +148,7 @@ or_equal_sound : (s : List ℕ) (c : ℕ) (bare wide : Comparison) (p : Comparis
     → or_equal bare wide s ≡ p → IsCompared s p
 unfolding or_equal
 or_equal_sound s c bare wide p at with_equal alone e =
-    elim (chosen (begins_with_byte 61 (drop 1 s)) _ _ _ e) [
+    elim (cond_either (begins_with_byte 61 (drop 1 s)) _ _ _ e) [
       | inl h ↦
           subst (IsCompared s) h.1
           (with_equal (blanks_skipped (drop 1 (drop 1 s))) (record { after = drop 1 (drop 1 s); parts = byte_at c s at ∙ ap (λ (t : List ℕ). c ∷ t) (byte_at 61 (drop 1 s) h.0); rest = refl }))
@@ -159,17 +158,17 @@ or_equal_sound s c bare wide p at with_equal alone e =
 pub comparison_sound : (s : List ℕ) (p : Comparison × List ℕ) → compares s ≡ true → comparison s ≡ Ok p → Compares s p.0 p.1
 unfolding comparison compares
 comparison_sound s p at e =
-    elim (chosen (begins_with_byte 61 s) _ _ _ e) [
+    elim (cond_either (begins_with_byte 61 s) _ _ _ e) [
       | inl h ↦
           let o = bind_ok (second 61 s) (λ r. Ok (Equal, r)) p h.1 in
           subst (IsCompared s) (ok_is _ _ o.2) (g.equal (second_sound 61 61 s o.0 h.0 o.1))
       | inr h ↦
-          elim (chosen (begins_with_byte 33 s) _ _ _ h.1) [
+          elim (cond_either (begins_with_byte 33 s) _ _ _ h.1) [
             | inl k ↦
                 let o = bind_ok (second 61 s) (λ r. Ok (NotEqual, r)) p k.1 in
                 subst (IsCompared s) (ok_is _ _ o.2) (g.not_equal (second_sound 33 61 s o.0 k.0 o.1))
             | inr k ↦
-                elim (chosen (begins_with_byte 60 s) _ _ _ k.1) [
+                elim (cond_either (begins_with_byte 60 s) _ _ _ k.1) [
                   | inl l ↦ or_equal_sound s 60 Below AtMost p l.0 (λ r o. g.at_most o) (λ r o. g.below o) (ok_is _ _ l.1)
                   | inr l ↦ or_equal_sound s 62 Above AtLeast p (rw (h.0, k.0, l.0) at at) (λ r o. g.at_least o) (λ r o. g.above o) (ok_is _ _ l.1)
                 ]

@@ -1,6 +1,9 @@
 -- Where a "}" closes an expression.
-use Rattle.std.proofs.Common.{◌≡◌, ◌+◌, ℕ, suc, Bool, true, false, cond, eqb, List, [], ◌∷◌, ◌++◌, length, Option, Some, None, Err, refl, ap, sym, subst, ◌∙◌, ◌⊎◌, inl, inr, rules, arith, append_assoc}
+use Rattle.std.proofs.Common.{◌≡◌, ◌+◌, ℕ, suc, Bool, true, false, cond, eqb, List, [], ◌∷◌, ◌++◌, length, Option, Some, None, Err, refl, ap, sym, subst, ◌∙◌, inl, inr, arith, append_assoc}
+use Rattle.std.proofs.lemmas.Bool.{eqb-true}
 use Rattle.std.proofs.lemmas.List.{length-append, take_at, drop_at}
+use Rattle.sp_base.proofs.BoolLemmas.{cond_either}
+use Rattle.sp_base.proofs.NatLemmas.{nat_eq_itself}
 use Rattle.htl_syntax.specs.Fault.{expression_of}
 use Rattle.htl_syntax.specs.Tokens.{is_quote}
 use Rattle.htl_text.specs.declared.fault.TextFault.{TextFault}
@@ -10,22 +13,12 @@ use Rattle.htl_text.specs.Template.{quotes_step, closes_expression, closing, rea
 use Rattle.htl_text.specs.Spelling.{Quotation, Inside, NeverCloses}
 use Rattle.htl_text.specs.Spelling as s
 
-pub byte_is : (a b : ℕ) → eqb a b ≡ true → a ≡ b
-byte_is a b e = search rules
-
-same_byte : (a : ℕ) → eqb a a ≡ true
-same_byte a = search rules
-
-chosen : {A : Type 0} (b : Bool) (x y z : A) → cond b x y ≡ z → ((b ≡ true) × (x ≡ z)) ⊎ ((b ≡ false) × (y ≡ z))
-chosen true x y z e = inl (refl, e)
-chosen false x y z e = inr (refl, e)
-
 -- a mark is no backslash, and no "}"
 mark_apart : (n mark : ℕ) → is_quote n ≡ false → is_quote mark ≡ true → eqb n mark ≡ false
 mark_apart n mark other h = go (eqb n mark) refl
   where
     go : (b : Bool) → eqb n mark ≡ b → b ≡ false
-    go true e = absurd (let same : is_quote n ≡ is_quote mark = ap is_quote (byte_is n mark e) in cc)
+    go true e = absurd (let same : is_quote n ≡ is_quote mark = ap is_quote (eqb-true n mark e) in cc)
     go false e = refl
 
 -- ---- what the search finds
@@ -53,13 +46,13 @@ from state.Outside c w left x = go (is_quote c) refl x
 from (state.Inside mark) c w left x = go (eqb c mark) (eqb c 92) refl refl x
   where
     go : (a b : Bool) → eqb c mark ≡ a → eqb c 92 ≡ b → From (cond a state.Outside (cond b (state.Escaped mark) (state.Inside mark))) w → From (state.Inside mark) (c ∷ w)
-    go true b ea eb y = (c ∷ [], w, refl, subst (λ (d : ℕ). Quotation mark (d ∷ [])) (sym (byte_is c mark ea)) s.closes, y)
-    go false true ea eb y = (c ∷ y.0 ∷ y.1, y.2, ap (λ (t : List ℕ). c ∷ t) y.3, subst (λ (d : ℕ). Quotation mark (d ∷ y.0 ∷ y.1)) (sym (byte_is c 92 eb)) (s.escape y.4), y.5)
+    go true b ea eb y = (c ∷ [], w, refl, subst (λ (d : ℕ). Quotation mark (d ∷ [])) (sym (eqb-true c mark ea)) s.closes, y)
+    go false true ea eb y = (c ∷ y.0 ∷ y.1, y.2, ap (λ (t : List ℕ). c ∷ t) y.3, subst (λ (d : ℕ). Quotation mark (d ∷ y.0 ∷ y.1)) (sym (eqb-true c 92 eb)) (s.escape y.4), y.5)
     go false false ea eb y = (c ∷ y.0, y.1, ap (λ (t : List ℕ). c ∷ t) y.2, s.plain ea eb y.3, y.4)
 from (state.Escaped mark) c w left x = (c, x.0, x.1, ap (λ (t : List ℕ). c ∷ t) x.2, x.3, x.4)
 
 closed_here : (quotes : Quotes) (c n : ℕ) (t : List ℕ) (m : ℕ) → closes_expression quotes c ≡ true → Some n ≡ Some m → Closed quotes n (c ∷ t) m
-closed_here state.Outside c n t m h e = let same : n ≡ m = cc in record { inside = []; text = t; parts = ap (λ (d : ℕ). d ∷ t) (byte_is c 125 h); place = omega (arith, same); closed = s.nothing }
+closed_here state.Outside c n t m h e = let same : n ≡ m = cc in record { inside = []; text = t; parts = ap (λ (d : ℕ). d ∷ t) (eqb-true c 125 h); place = omega (arith, same); closed = s.nothing }
 closed_here (state.Inside mark) c n t m h e = absurd cc
 closed_here (state.Escaped mark) c n t m h e = absurd cc
 
@@ -68,7 +61,7 @@ pub closed : (quotes : Quotes) (n : ℕ) (t : List ℕ) (m : ℕ) → closing qu
 unfolding closing
 closed quotes n [] m h = absurd cc
 closed quotes n (c ∷ t) m h =
-    elim (chosen (closes_expression quotes c) _ _ _ h) [
+    elim (cond_either (closes_expression quotes c) _ _ _ h) [
       | inl x ↦ closed_here quotes c n t m x.0 x.1
       | inr x ↦
           let ih = closed (quotes_step quotes c) (n + 1) t m x.1 in
@@ -81,7 +74,7 @@ closed quotes n (c ∷ t) m h =
 -- quotes are passed up to their mark
 quoted_passed : (mark n : ℕ) (w u : List ℕ) → eqb 92 mark ≡ false → Quotation mark w → closing (state.Inside mark) n (w ++ u) ≡ closing state.Outside (n + length w) u
 unfolding closing
-quoted_passed mark n _ u m s.closes = rw (same_byte mark) refl
+quoted_passed mark n _ u m s.closes = rw (nat_eq_itself mark) refl
 quoted_passed mark n _ u m (s.plain {t = t} a b x) =
     let more : (n + 1) + length t ≡ n + suc (length t) = omega arith in
     rw (a, b) (quoted_passed mark (n + 1) t u m x ∙ ap (λ (k : ℕ). closing state.Outside k u) more)
@@ -109,7 +102,7 @@ inside_passed n _ u (s.string {mark = mark} {w = w} {t = t} e y x) =
     apart mark e = go (eqb mark 125) refl
       where
         go : (b : Bool) → eqb mark 125 ≡ b → b ≡ false
-        go true f = absurd (let same : is_quote mark ≡ is_quote 125 = ap is_quote (byte_is mark 125 f) in cc)
+        go true f = absurd (let same : is_quote mark ≡ is_quote 125 = ap is_quote (eqb-true mark 125 f) in cc)
         go false f = refl
 
 brace_closes : (n : ℕ) (u : List ℕ) → closing state.Outside n (125 ∷ u) ≡ Some n

@@ -1,9 +1,10 @@
 -- Steps of reading a template piece by piece.
-use Rattle.std.proofs.Common.{◌≡◌, ◌<◌, ◌≤◌, ◌+◌, ◌-◌, ℕ, zero, suc, true, false, ◌||◌, eqb, List, [], ◌∷◌, ◌++◌, take, drop, get_or, length, Option, Some, None, Result, Ok, Err, refl, ap, sym, ◌∙◌, arith, append_assoc}
+use Rattle.std.proofs.Common.{◌≡◌, ◌<◌, ◌+◌, ◌-◌, ℕ, zero, suc, true, false, ◌||◌, eqb, List, [], ◌∷◌, ◌++◌, take, drop, get_or, length, Option, Some, None, Result, Ok, Err, refl, ap, sym, ◌∙◌, arith, append_assoc}
 use Rattle.std.proofs.Common.{drop-drop}
 use Rattle.std.specs.List.{flat_map}
 use Rattle.std.proofs.lemmas.List.{length-append}
 use Rattle.std.proofs.lemmas.List.Folds.{length-flat_map-take}
+use Rattle.sp_base.proofs.ListLemmas.{drop_short}
 use Rattle.htl_syntax.specs.declared.expression.Expression.{Expression}
 use Rattle.htl_syntax.specs.declared.expression.ExprFault.{ExprFault}
 use Rattle.htl_syntax.specs.Fault.{expression_of}
@@ -27,17 +28,12 @@ plain_before [] e (Ok ps) = refl
 plain_before (c ∷ t) e (Ok ps) = refl
 plain_before t e (Err f) = refl
 
-length_drop : (n : ℕ) (t : List ℕ) → length (drop n t) ≤ length t
-length_drop zero t = omega arith
-length_drop (suc n) [] = omega arith
-length_drop (suc n) (c ∷ t) = let x = length_drop n t in omega (arith, x)
-
 -- as many bytes are passed over as are missing
 drop_back : (n : ℕ) (t : List ℕ) → drop (length t - length (drop n t)) t ≡ drop n t
 drop_back zero t = let none : length t - length t ≡ 0 = omega arith in rw none refl
 drop_back (suc n) [] = refl
 drop_back (suc n) (c ∷ t) =
-    let less = length_drop n t in
+    let less = drop_short n t in
     let more : suc (length t) - length (drop n t) ≡ suc (length t - length (drop n t)) = omega (arith, less) in
     rw more (drop_back n t)
 

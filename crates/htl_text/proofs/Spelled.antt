@@ -1,11 +1,13 @@
 -- What a template is read as is what it spells.
-use Rattle.std.proofs.Common.{◌≡◌, ◌≤◌, ◌+◌, ◌-◌, ℕ, zero, suc, Bool, true, false, ◌&&◌, eqb, List, [], ◌∷◌, ◌++◌, drop, length, codes, Option, Some, None, Result, Ok, Err, refl, ap, sym, subst, ◌∙◌, arith, append_assoc}
+use Rattle.std.proofs.Common.{◌≡◌, ◌≤◌, ◌+◌, ◌-◌, ℕ, zero, suc, Bool, true, false, eqb, List, [], ◌∷◌, ◌++◌, drop, length, codes, Option, Some, None, Result, Ok, Err, refl, ap, sym, subst, ◌∙◌, arith, append_assoc}
+use Rattle.std.proofs.lemmas.Bool.{and_parts, eqb-true}
 use Rattle.std.proofs.lemmas.List.{length-append}
 use Rattle.sp_base.specs.Bytes.{begins_with_byte}
 use Rattle.htl_syntax.specs.declared.expression.Expression.{Expression}
 use Rattle.htl_syntax.specs.declared.expression.ExprFault.{ExprFault}
 use Rattle.htl_syntax.specs.Fault.{expression_of}
 use Rattle.htl_syntax.specs.Grammar.{Whole}
+use Rattle.htl_syntax.proofs.TokensRead.{byte_at}
 use Rattle.htl_text.specs.declared.fault.TextFault.{TextFault}
 use Rattle.htl_text.specs.declared.fault.TextFault.TheVariants.{Unclosed, BadExpr, NoMemory}
 use Rattle.htl_text.specs.declared.piece.TemplatePiece.{TemplatePiece}
@@ -14,7 +16,7 @@ use Rattle.htl_text.specs.declared.quotes.Quotes.TheVariants.{Outside}
 use Rattle.htl_text.specs.Template.{opens_expression, escapes, closing, read_value, value_at, pieces_after_plain, with_plain, before, template_pieces, template_of}
 use Rattle.htl_text.specs.Spelling.{Inside, SpellsTemplate, HasNoExpr, Faults, IsFirstOpening}
 use Rattle.htl_text.specs.Spelling as s
-use Rattle.htl_text.proofs.Closed.{byte_is, closed, never_closes, none_closes, value_is, value_open}
+use Rattle.htl_text.proofs.Closed.{closed, never_closes, none_closes, value_is, value_open}
 use Rattle.htl_text.proofs.Pieces.{value_follows, value_fails}
 
 abbrev Read : Type 0
@@ -28,28 +30,19 @@ Found = (text : List ℕ) (e : Expression) → expression_of text ≡ Ok e → W
 abbrev Only : Type 0
 Only = (text : List ℕ) (e : Expression) → Whole text e → expression_of text ≡ Ok e
 
-both : (a b : Bool) → (a && b) ≡ true → (a ≡ true) × (b ≡ true)
-both true b h = (refl, h)
-both false b h = absurd cc
-
-at_is : (c : ℕ) (t : List ℕ) → begins_with_byte c t ≡ true → t ≡ c ∷ drop 1 t
-unfolding begins_with_byte
-at_is c [] h = absurd cc
-at_is c (d ∷ t) h = ap (λ (x : ℕ). x ∷ t) (byte_is d c h)
-
 opens_at : (t : List ℕ) → opens_expression t ≡ true → t ≡ 36 ∷ 123 ∷ drop 2 t
 unfolding opens_expression
 opens_at [] h = absurd cc
 opens_at (c ∷ t) h =
-    let b = both (eqb c 36) (begins_with_byte 123 t) h in
-    ap (λ (x : ℕ). x ∷ t) (byte_is c 36 b.0) ∙ ap (λ (u : List ℕ). 36 ∷ u) (at_is 123 t b.1)
+    let b = and_parts (eqb c 36) (begins_with_byte 123 t) h in
+    ap (λ (x : ℕ). x ∷ t) (eqb-true c 36 b.0) ∙ ap (λ (u : List ℕ). 36 ∷ u) (byte_at 123 t b.1)
 
 escapes_at : (t : List ℕ) → escapes t ≡ true → t ≡ 92 ∷ 36 ∷ 123 ∷ drop 3 t
 unfolding escapes
 escapes_at [] h = absurd cc
 escapes_at (c ∷ t) h =
-    let b = both (eqb c 92) (opens_expression t) h in
-    ap (λ (x : ℕ). x ∷ t) (byte_is c 92 b.0) ∙ ap (λ (u : List ℕ). 92 ∷ u) (opens_at t b.1)
+    let b = and_parts (eqb c 92) (opens_expression t) h in
+    ap (λ (x : ℕ). x ∷ t) (eqb-true c 92 b.0) ∙ ap (λ (u : List ℕ). 92 ∷ u) (opens_at t b.1)
 
 opens_there : (t : List ℕ) → opens_expression (36 ∷ 123 ∷ t) ≡ true
 unfolding opens_expression begins_with_byte

@@ -1,9 +1,13 @@
 -- Steps over the beginning of a template's text.
 use Rattle.std.proofs.Common.{◌≡◌, ◌<◌, ◌≤◌, ◌+◌, ◌-◌, ℕ, zero, suc, Bool, true, false, cond, ◌||◌, ◌&&◌, eqb, List, [], ◌∷◌, ◌++◌, take, drop, length, slice_index, codes, Some, Result, Ok, Err, refl, ap, sym, subst, ◌∙◌, rules, arith, append_assoc}
 use Rattle.std.specs.Str.{IsCharBoundary}
+use Rattle.std.proofs.lemmas.Bool.{or_right}
 use Rattle.std.proofs.lemmas.Bool.Decides.{nat_tests}
 use Rattle.std.proofs.lemmas.List.{append-nil, length-drop}
 use Rattle.sp_base.specs.Bytes.{begins_with_byte}
+use Rattle.sp_base.proofs.ListLemmas.{drop_short, index_drop}
+use Rattle.sp_base.proofs.TextLemmas.{rest_after_byte}
+use Rattle.htl_syntax.proofs.Scan.{prefix_ascii}
 use Rattle.htl_text.specs.declared.fault.TextFault.{TextFault}
 use Rattle.htl_text.specs.declared.piece.TemplatePiece.{TemplatePiece}
 use Rattle.htl_text.specs.declared.piece.TemplatePiece.TheVariants.{Plain, Value}
@@ -45,10 +49,6 @@ plain_step all (c ∷ t) = go (opens_expression (c ∷ t)) (escapes (c ∷ t)) r
     go false true ea eb ih = sym (written_nil (template_pieces all 0 (c ∷ t)))
     go false false ea eb ih = rw (ea, eb) (ap (with_plain (c ∷ [])) ih ∙ written_twice (c ∷ []) (take (plain_len t) t) (template_pieces all 0 (drop (plain_len t) t)))
 
-pub some_of : (t : List ℕ) → (eqb (length t) 0) ≡ false → 0 < length t
-some_of [] h = absurd cc
-some_of (c ∷ t) h = omega arith
-
 -- a "}" stands at the place that closes an expression
 pub closing_at : (quotes : Quotes) (n : ℕ) (t : List ℕ) (m : ℕ) → closing quotes n t ≡ Some m → (n ≤ m) × (m - n < length t) × (slice_index t (m - n) ≡ 125)
 unfolding closing
@@ -65,16 +65,6 @@ closing_at quotes n (c ∷ t) m h = go (closes_expression quotes c) refl h (clos
         → (n ≤ m) × (m - n < length (c ∷ t)) × (slice_index (c ∷ t) (m - n) ≡ 125)
     go true e h' ih = let same : n ≡ m = cc in let none : m - n ≡ 0 = omega (arith, same) in (omega (arith, same), omega (arith, none), rw none (found quotes e))
     go false e h' ih = let x = ih h' in let more : m - n ≡ suc (m - (n + 1)) = omega (arith, x.0) in (omega (arith, x.0), omega (arith, more, x.1), rw more x.2)
-
-at_prefix : (c : ℕ) (t : List ℕ) → c < 128 → begins_with_byte c t ≡ true → slice_index t 0 < 128
-unfolding begins_with_byte
-at_prefix c [] lt h = absurd cc
-at_prefix c (d ∷ t) lt h = grind (arith, nat_tests)
-
-at_less : (c : ℕ) (t : List ℕ) → begins_with_byte c t ≡ true → length (drop 1 t) < length t
-unfolding begins_with_byte
-at_less c [] h = absurd cc
-at_less c (d ∷ t) h = omega arith
 
 -- "${" at the beginning
 pub record Opening (t : List ℕ) : Type 0 where
@@ -95,22 +85,17 @@ pub opens_first : (t : List ℕ) → opens_expression t ≡ true → slice_index
 opens_first t h = (opening t h).first
 
 pub opens_second : (t : List ℕ) → opens_expression t ≡ true → slice_index (drop 1 t) 0 < 128
-opens_second t h = at_prefix 123 (drop 1 t) (omega arith) (opening t h).second
+opens_second t h = prefix_ascii 123 (drop 1 t) (omega arith) (opening t h).second
 
 first_less : (t : List ℕ) → length (drop 1 t) ≤ length t
 first_less [] = omega arith
 first_less (c ∷ t) = omega arith
 
-drop_less : (n : ℕ) (t : List ℕ) → length (drop n t) ≤ length t
-drop_less zero t = omega arith
-drop_less (suc n) [] = omega arith
-drop_less (suc n) (c ∷ t) = let x = drop_less n t in omega (arith, x)
-
 pub opens_less : (n : ℕ) (t : List ℕ) → opens_expression t ≡ true → length (drop 1 (drop n (drop 1 (drop 1 t)))) < length t
 opens_less n t h =
-    let a = at_less 123 (drop 1 t) (opening t h).second in
+    let a = rest_after_byte 123 (drop 1 t) (opening t h).second in
     let b = first_less t in
-    let c = drop_less n (drop 1 (drop 1 t)) in
+    let c = drop_short n (drop 1 (drop 1 t)) in
     let d = first_less (drop n (drop 1 (drop 1 t))) in
     omega (arith, a, b, c, d)
 
@@ -125,11 +110,6 @@ closing_within t m h = subst (λ (k : ℕ). k < length t) (minus_zero m) (closin
 
 pub closing_boundary : (t : List ℕ) (m : ℕ) → closing Outside 0 t ≡ Some m → IsCharBoundary t m
 closing_boundary t m h = let x = closing_within t m h in (omega (arith, x), λ lt big. let y = closing_byte t m h in omega (arith, y, big))
-
-index_drop : (m : ℕ) (t : List ℕ) → slice_index (drop m t) 0 ≡ slice_index t m
-index_drop zero t = refl
-index_drop (suc m) [] = refl
-index_drop (suc m) (c ∷ t) = index_drop m t
 
 pub closing_prefix : (t : List ℕ) (m : ℕ) → closing Outside 0 t ≡ Some m → slice_index (drop m t) 0 < 128
 closing_prefix t m h = let y = closing_byte t m h in rw (index_drop m t) (omega (arith, y))
@@ -178,10 +158,6 @@ plain_within (c ∷ t) = go (opens_expression (c ∷ t) || escapes (c ∷ t)) (p
     go true ih = omega arith
     go false ih = omega arith
 
-or_true : (a b : Bool) → b ≡ true → (a || b) ≡ true
-or_true true b e = refl
-or_true false b e = e
-
 -- an opening or an escape stands after the plain bytes, or nothing
 pub plain_stops : (t : List ℕ) → (eqb (length (drop (plain_len t) t)) 0 || (opens_expression (drop (plain_len t) t) || escapes (drop (plain_len t) t))) ≡ true
 unfolding plain_len
@@ -190,7 +166,7 @@ plain_stops (c ∷ t) = go (opens_expression (c ∷ t) || escapes (c ∷ t)) ref
   where
     go : (b : Bool) → (opens_expression (c ∷ t) || escapes (c ∷ t)) ≡ b → (eqb (length (drop (plain_len t) t)) 0 || (opens_expression (drop (plain_len t) t) || escapes (drop (plain_len t) t))) ≡ true
         → (eqb (length (drop (cond b 0 (suc (plain_len t))) (c ∷ t))) 0 || (opens_expression (drop (cond b 0 (suc (plain_len t))) (c ∷ t)) || escapes (drop (cond b 0 (suc (plain_len t))) (c ∷ t)))) ≡ true
-    go true e ih = or_true (eqb (length (c ∷ t)) 0) (opens_expression (c ∷ t) || escapes (c ∷ t)) e
+    go true e ih = or_right (eqb (length (c ∷ t)) 0) (opens_expression (c ∷ t) || escapes (c ∷ t)) e
     go false e ih = ih
 
 stops_first : (t : List ℕ) → 0 < length t → (eqb (length t) 0 || (opens_expression t || escapes t)) ≡ true → slice_index t 0 < 128
@@ -216,9 +192,6 @@ stops_is n rest remainder en eb none = go (eqb (length remainder) 0) (opens_expr
     go true b ea eo h = refl
     go false true ea eo h = refl
     go false false ea eo h = rw (ea, eo, none) at h
-
-pub less_is : (n : ℕ) (rest remainder : List ℕ) → remainder ≡ drop n rest → length remainder ≤ length rest
-less_is n rest remainder e = rw e (drop_less n rest)
 
 -- a text with more at its end is written before what is left
 pub plain_is : (n : ℕ) (old new prefix remainder rest text : List ℕ) → n ≡ plain_len rest → prefix ≡ take n rest → remainder ≡ drop n rest → new ≡ old ++ prefix

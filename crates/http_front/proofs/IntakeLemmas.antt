@@ -1,7 +1,7 @@
 -- What is left to tell after each step of an intake.
-use Rattle.std.proofs.Common.{◌≡◌, ◌<◌, ◌≤◌, ◌⊎◌, inl, inr, ℕ, Bool, true, false, List, [], ◌∷◌, Option, Some, None, Result, Ok, Err, ◌++◌, length, take, drop, refl, sym, ◌∙◌, ap, subst, arith, append_assoc, length-append, ⊎_elim}
+use Rattle.std.proofs.Common.{◌≡◌, ◌<◌, ◌≤◌, ◌⊎◌, inl, inr, ℕ, Bool, true, false, List, [], ◌∷◌, Option, Some, None, Result, Ok, Err, ◌++◌, length, take, drop, sym, ◌∙◌, ap, subst, arith, append_assoc, length-append, ⊎_elim}
 use Rattle.std.specs.Prelude.{IfErr, IfNone, IfOk, IfSome, OnErr}
-use Rattle.std.proofs.lemmas.List.{take-append-drop, length-take-le}
+use Rattle.std.proofs.lemmas.List.{take-append-drop, length-take-le, append-nil}
 use Rattle.httparse.specs.Grammar.{HasNoRequest, MayBecomeRequest}
 use Rattle.sp_base.specs.Requests.{Request}
 use Rattle.http_front.specs.declared.fault.InFault.{InFault}
@@ -15,10 +15,6 @@ use Rattle.http_front.specs.declared.turn.Turn.TheVariants.{Continue, Whole}
 use Rattle.http_front.specs.Turns.{End, Waits, Breaks, longest_head, BeginsAsking, BeginsRefused, HasBody, with_body, AwaitsHead, HasNoHead, StopsIn, BeginsWithRequest, SpellsTurns}
 use Rattle.http_front.specs.Intakes.{TurnsFollow, Continues, EndsIfStoodFor, IntakeLeads, KeepsIfStoodFor, LeadsByTurn, RemainderSpells, Stands, TellsIfStoodFor, rest_of}
 use Rattle.http_front.proofs.TurnLemmas.{begins_append, never_grows, window_full}
-
-append_nil : {A : Type 0} (xs : List A) → xs ++ [] ≡ xs
-append_nil [] = refl
-append_nil (x ∷ xs) = ap (λ ys. x ∷ ys) (append_nil xs)
 
 -- ---- what a stream begins with stays
 
@@ -76,8 +72,6 @@ body_taken a rest more request turns end fits is spells =
       spells,
     )
 
--- ---- one step after another
-
 -- ---- the steps, in the words of the code
 
 pub leads_failed : (old : Intake) (rest : List ℕ) (fault : InFault) → old.phase ≡ Heading → BeginsRefused (rest_of old) fault ⊎ HasNoHead (rest_of old) fault
@@ -92,7 +86,7 @@ stands_failed old fault heading stops = subst (λ p. Continues p (rest_of old ++
 pub stands_waiting : (old : Intake) → old.phase ≡ Heading → AwaitsHead (rest_of old) → length (rest_of old) < longest_head → Stands old Waits
 stands_waiting old heading awaits short =
     subst (λ p. Continues p (rest_of old ++ []) [] Waits) (sym heading)
-    (subst (λ s. StopsIn s Waits) (sym (append_nil (rest_of old))) (inl (awaits, short)))
+    (subst (λ s. StopsIn s Waits) (sym (append-nil (rest_of old))) (inl (awaits, short)))
 
 pub leads_asked : (old : Intake) (rest : List ℕ) (a : AskedHead) (len : ℕ) → old.phase ≡ Heading → rest ≡ drop len (rest_of old) → BeginsAsking (rest_of old) a (drop len (rest_of old))
     → a.awaits_continue ≡ true → (more : List ℕ) (turns : List Turn) (end : End) → Continues (Body a) (rest ++ more) turns end → RemainderSpells old more (Continue ∷ turns) end
@@ -118,7 +112,7 @@ leads_body old phase rest a request body heading is fits made = λ more turns en
 
 pub ends : (i : Intake) (end : End) → Stands i end → EndsIfStoodFor i end
 ends i end stands = λ stream told for.
-    subst (λ s. SpellsTurns s told end) (append_nil stream) (subst (λ ts. SpellsTurns (stream ++ []) ts end) (append_nil told) (for [] [] end stands))
+    subst (λ s. SpellsTurns s told end) (append-nil stream) (subst (λ ts. SpellsTurns (stream ++ []) ts end) (append-nil told) (for [] [] end stands))
 
 pub keeps : (old new : Intake) → IntakeLeads old new → KeepsIfStoodFor old new
 keeps old new leads = λ stream told for more turns end l. for more turns end (leads more turns end l)

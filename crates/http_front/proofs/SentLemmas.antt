@@ -1,12 +1,8 @@
 -- Bytes in two parts beside the same bytes in one.
-use Rattle.std.proofs.Common.{◌≡◌, ◌++◌, ℕ, Bool, true, false, List, length, take, drop, nat_eq, refl, sym, ap, ◌∙◌}
+use Rattle.std.proofs.Common.{◌≡◌, ◌++◌, ℕ, true, false, List, length, take, drop, nat_eq, refl, sym, ap, ◌∙◌}
 use Rattle.std.proofs.lemmas.List.{take-append-drop, take_at, drop_at}
 use Rattle.std.specs.Cmp.Lexicographic.{bytes_decides, pointwise}
-
-same_truth : (a b : Bool) → (a ≡ true → b ≡ true) → (b ≡ true → a ≡ true) → a ≡ b
-same_truth true b there back = sym (there refl)
-same_truth false true there back = back refl
-same_truth false false there back = refl
+use Rattle.sp_base.proofs.BoolLemmas.{same_truth}
 
 -- what follows the head is compared with the body
 pub rest_is : (head body bytes rest : List ℕ) → pointwise nat_eq (take (length head) bytes) head ≡ true → rest ≡ drop (length head) bytes → pointwise nat_eq body rest ≡ pointwise nat_eq (head ++ body) bytes

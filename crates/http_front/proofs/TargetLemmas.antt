@@ -1,16 +1,12 @@
 -- What stands before a place of a target, its last slash, and which bytes are a text.
 use Rattle.std.proofs.Common.{◌≡◌, ◌≢◌, ◌<◌, ◌+◌, ◌-◌, ◌++◌, ℕ, Bool, true, false, cond, List, [], ◌∷◌, Some, None, length, length-append, take, get_or, position, sym, ◌∙◌, ap, refl, arith}
-use Rattle.std.proofs.lemmas.Bool.{ltb-false}
+use Rattle.std.proofs.lemmas.Bool.{ltb-false, false_from_ne_true as not_true}
 use Rattle.std.proofs.lemmas.Bool.Decides.{nat_tests}
 use Rattle.std.proofs.lemmas.List.{take_all, take_more}
 use Rattle.std.proofs.lemmas.Str.{IsUtf8-from_is_utf8, is_utf8-from_IsUtf8}
 use Rattle.std.specs.List.{position_or_len, before_first}
 use Rattle.std.specs.Str.{IsUtf8, is_utf8}
 use Rattle.http_front.specs.Targets.{utf8_text, ends_in_slash, without_slash}
-
-not_true : (b : Bool) → (b ≡ true → ⊥) → b ≡ false
-not_true true other = absurd (other refl)
-not_true false other = refl
 
 first_is : (b : Bool) (n at : ℕ) → Some at ≡ cond b (Some n) None → at ≡ n
 first_is true n at e = cc

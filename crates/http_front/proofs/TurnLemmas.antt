@@ -1,10 +1,12 @@
 -- A stream that goes on: its turns stay, and more may come after them.
-use Rattle.std.proofs.Common.{◌≡◌, ◌<◌, ◌≤◌, ◌-◌, ℕ, zero, suc, Bool, true, false, List, [], ◌∷◌, ◌++◌, Option, Some, None, length, take, refl, sym, ◌∙◌, ap, subst, arith, append_assoc, length-append, ⊎_elim}
-use Rattle.std.proofs.lemmas.Bool.{true≢false}
-use Rattle.std.proofs.lemmas.List.{take-append-le}
+use Rattle.std.proofs.Common.{◌≡◌, ◌<◌, ◌≤◌, ◌-◌, ℕ, zero, suc, Bool, true, false, List, [], ◌∷◌, ◌++◌, None, length, take, refl, sym, ◌∙◌, ap, subst, arith, append_assoc, length-append, ⊎_elim}
+use Rattle.std.proofs.lemmas.Bool.{false≢true, true≢false}
+use Rattle.std.proofs.lemmas.List.{take-append-le, take_all}
 use Rattle.httparse.specs.Grammar.{RequestHead, print_request, ReadsRequest, HasNoRequest, NeverHasRequest}
 use Rattle.httparse.proofs.GrammarLemmas.{ReadsRequest-append, request_prefix_free}
 use Rattle.sp_base.specs.Requests.{Request}
+use Rattle.sp_base.proofs.ListLemmas.{take_none}
+use Rattle.sp_base.proofs.OptionLemmas.{none_or_some}
 use Rattle.http_front.specs.declared.fault.InFault.{InFault}
 use Rattle.http_front.specs.declared.head.AskedHead.{AskedHead}
 use Rattle.http_front.specs.declared.turn.Turn.{Turn}
@@ -13,10 +15,6 @@ use Rattle.http_front.specs.Heads.{HeadParts, parts_of, head_fault, Asks, head_w
 use Rattle.http_front.specs.Turns.{End, Waits, Breaks, longest_head, window, BeginsWith, BeginsAsking, BeginsRefused, HasBody, with_body, StopsIn, BeginsWithRequest, AwaitsAskedBody, SpellsTurns}
 
 -- ---- lists
-
-take_none : (xs : List ℕ) → take 0 xs ≡ []
-take_none [] = refl
-take_none (x ∷ xs) = refl
 
 pub take_over : (n : ℕ) (xs ys : List ℕ) → take n (xs ++ ys) ≡ take n xs ++ take (n - length xs) ys
 take_over zero [] ys = refl
@@ -30,12 +28,6 @@ take_over (suc n) (x ∷ xs) ys =
     let less : suc n - length (x ∷ xs) ≡ n - length xs = omega arith in
     ap (λ zs. x ∷ zs) (take_over n xs ys ∙ ap (λ k. take n xs ++ take k ys) (sym less))
 
-pub take_whole : (n : ℕ) (xs : List ℕ) → length xs ≤ n → take n xs ≡ xs
-take_whole zero [] h = refl
-take_whole zero (x ∷ xs) h = absurd (omega arith)
-take_whole (suc n) [] h = refl
-take_whole (suc n) (x ∷ xs) h = ap (λ zs. x ∷ zs) (take_whole n xs (omega (arith, h)))
-
 -- what stands before is one, where its length is
 leading_same : (xs ys r q : List ℕ) → xs ++ r ≡ ys ++ q → length xs ≡ length ys → (xs ≡ ys) × (r ≡ q)
 leading_same [] [] r q e l = (refl, e)
@@ -46,9 +38,6 @@ leading_same (x ∷ xs) (y ∷ ys) r q e l =
     let tail : xs ++ r ≡ ys ++ q = cc in
     let rest = leading_same xs ys r q tail (omega (arith, l)) in
     (λ i. head i ∷ rest.0 i, rest.1)
-
-none_some : {A : Type 0} (o : Option A) (x : A) → o ≡ None → o ≡ Some x → ⊥
-none_some o x n s = let no : ⊥ = cc (n, s) in no
 
 -- ---- the head with which a stream begins
 
@@ -63,7 +52,7 @@ pub in_window : (s : List ℕ) (h : RequestHead) (rest : List ℕ) → BeginsWit
 in_window s h rest b =
     let n = longest_head in
     let p = print_request h in
-    (take (n - length p) rest, (b.reads.0, ap (take n) b.reads.1 ∙ take_over n p rest ∙ ap (λ xs. xs ++ take (n - length p) rest) (take_whole n p b.fits)))
+    (take (n - length p) rest, (b.reads.0, ap (take n) b.reads.1 ∙ take_over n p rest ∙ ap (λ xs. xs ++ take (n - length p) rest) (take_all n p b.fits)))
 
 pub has_head : (s : List ℕ) (h : RequestHead) (rest : List ℕ) → BeginsWith s h rest → HasNoRequest (window s) → ⊥
 has_head s h rest b none = let found = in_window s h rest b in none h found.0 found.1
@@ -95,7 +84,7 @@ same_asking s more a b r q x y =
 pub not_refused : (s more : List ℕ) (a : AskedHead) (r : List ℕ) (fault : InFault) → BeginsAsking s a r → BeginsRefused (s ++ more) fault → ⊥
 not_refused s more a r fault x y =
     let same = begins_same s more x.head y.head r y.rest x.begins y.begins in
-    none_some (head_fault (parts_of y.head)) fault (subst (λ h. head_fault (parts_of h) ≡ None) same.0 x.asks.faultless) y.refused
+    none_or_some (head_fault (parts_of y.head)) fault (subst (λ h. head_fault (parts_of h) ≡ None) same.0 x.asks.faultless) y.refused
 
 pub not_awaited : (s more : List ℕ) (a : AskedHead) (r : List ℕ) → BeginsAsking s a r → HasNoRequest (window (s ++ more)) → ⊥
 not_awaited s more a r x none = has_head (s ++ more) x.head (r ++ more) (begins_append s more x.head r x.begins) none
@@ -166,9 +155,6 @@ not_asked s more x r rest b a =
     whole_long b.asked b.bytes r rest more b.body
     (subst (λ bytes. length bytes < b.asked.body_length) (sym same.1) (subst (λ h. length a.rest < h.body_length) (sym same.0) a.short))
 
-false_true : false ≡ true → ⊥
-false_true e = true≢false (sym e)
-
 -- The turns of the beginning of a stream are the beginning of its turns.
 pub prefix : (s more : List ℕ) (hs ks : List Turn) (e f : End) → SpellsTurns s hs e → SpellsTurns (s ++ more) ks f → (later : List Turn) × (ks ≡ hs ++ later)
 prefix s more [] ks e f x y = (ks, refl)
@@ -179,11 +165,11 @@ prefix s more (Whole r ∷ hs) (Whole q ∷ ks) e f x y =
     (rest.0, λ i. Whole (sym same.1 i) ∷ rest.1 i)
 prefix s more (Whole r ∷ hs) (Continue ∷ []) e f x y = absurd (not_asked s more false r x.0 x.1 y.0)
 prefix s more (Whole r ∷ hs) (Continue ∷ Continue ∷ ks) e f x y = absurd y
-prefix s more (Whole r ∷ hs) (Continue ∷ Whole q ∷ ks) e f x y = absurd (false_true (request_same s more false true r q x.0 y.0 x.1 y.1).0)
+prefix s more (Whole r ∷ hs) (Continue ∷ Whole q ∷ ks) e f x y = absurd (false≢true (request_same s more false true r q x.0 y.0 x.1 y.1).0)
 prefix s more (Continue ∷ []) [] e f x y = absurd (true≢false (sym x.0.asks ∙ (stops_short s more x.0.asked x.0.rest f x.0.begins y).unasked))
 prefix s more (Continue ∷ []) (Whole q ∷ ks) e f x y =
     let b : BeginsWithRequest (s ++ more) false q y.0 = y.1 in
-    absurd (false_true (asked_same s more false q y.0 x.0 b))
+    absurd (false≢true (asked_same s more false q y.0 x.0 b))
 prefix s more (Continue ∷ []) (Continue ∷ ks) e f x y = (ks, refl)
 prefix s more (Continue ∷ Continue ∷ hs) ks e f x y = absurd x
 prefix s more (Continue ∷ Whole r ∷ hs) [] e f x y = absurd (request_stays s more true r x.0 f x.1 y)

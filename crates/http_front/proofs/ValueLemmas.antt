@@ -14,16 +14,9 @@ use Rattle.percent_encoding.proofs.PercentLemmas.{IsEscapeByte, All-percent_enco
 use Rattle.sp_base.specs.declared.answer.Answer.{Answer}
 use Rattle.sp_base.specs.declared.answer.Mark.{Mark}
 use Rattle.sp_base.specs.declared.answer.Mark.TheVariants.{Plain, NoCache, NoStore, MustRevalidate}
+use Rattle.sp_base.proofs.BoolLemmas.{and_first, and_second}
 use Rattle.http_front.specs.Answers.{plain_value, unless_empty, allowed_methods, directive_of, is_without_content, content_length, connection}
 use Rattle.http_front.specs.FieldValues.{IsPrintable, IsVisible, StaysInItsLine, ValuesStayInTheirLines}
-
-and_first : (a b : Bool) → (a && b) ≡ true → a ≡ true
-and_first true b h = refl
-and_first false b h = h
-
-and_second : (a b : Bool) → (a && b) ≡ true → b ≡ true
-and_second true b h = h
-and_second false b h = absurd (cc)
 
 all_tested : (text : List ℕ) → list_all is_printable_ascii text ≡ true → All IsPrintable text
 all_tested [] h = All-nil IsPrintable

@@ -1,5 +1,5 @@
 -- How many names of files pass a test, told by which these are.
-use Rattle.std.proofs.Common.{◌≡◌, ◌≢◌, ◌≤◌, ◌+◌, Bool, true, false, cond, not, ◌&&◌, List, [], ◌∷◌, Option, Some, None, length, refl, sym, ◌∙◌, ap, arith}
+use Rattle.std.proofs.Common.{◌≡◌, ◌≢◌, ◌≤◌, ◌+◌, Bool, true, false, cond, not, ◌&&◌, List, [], ◌∷◌, None, length, refl, sym, ◌∙◌, ap, arith}
 use Rattle.std.specs.Prelude.{Contains, is_some}
 use Rattle.std.specs.Cmp.{eq_by_cmp_equiv}
 use Rattle.std.specs.Cmp.Lexicographic.{nat_list_cmp_total}
@@ -7,15 +7,17 @@ use Rattle.std.specs.FinMap.{contains_key-keys, entries, entries_sorted, keys}
 use Rattle.std.specs.List.{IsDistinct, filter}
 use Rattle.std.specs.Ordering.{eq_by_cmp}
 use Rattle.std.specs.Set.{is_member}
-use Rattle.std.proofs.lemmas.Bool.{true≢false}
 use Rattle.std.proofs.lemmas.List.Kept.{IsStrictlySortedBy-filter}
 use Rattle.std.proofs.lemmas.Map.Keys.{IsDistinct-from_sorted}
 use Rattle.std.proofs.lemmas.Map.Made.{is_member-filter, length-le_from_is_member}
 use Rattle.std.proofs.lemmas.Map.Views.{list_any-from_Contains}
 use Rattle.sp_base.specs.Names.{by_name}
 use Rattle.sp_base.specs.Texts.{Text}
+use Rattle.sp_base.proofs.BoolLemmas.{and_first, and_second}
+use Rattle.sp_base.proofs.OptionLemmas.{test_from_there, there_from_test}
+use Rattle.sp_base.proofs.OrderingLemmas.{equal_from_test}
 use Rattle.sp_outside.specs.Files.{Files, file_at}
-use Rattle.sp_outside.proofs.HeldNames.{equal, same_name}
+use Rattle.sp_outside.proofs.HeldNames.{same_name}
 use Rattle.sp_outside.proofs.Listing.{rises}
 use Rattle.docroot_changes.specs.Changes.{count_names}
 
@@ -30,35 +32,19 @@ passing test files = filter test (keys files)
 apart : (test : Text → Bool) (files : Files) → IsDistinct is_same (passing test files)
 apart test files = IsDistinct-from_sorted by_name (passing test files) (IsStrictlySortedBy-filter by_name test (keys files) (rises (entries files) (entries_sorted files)))
 
-pub there_some : {A : Type 0} (o : Option A) → o ≢ None → is_some o ≡ true
-there_some None there = absurd (there refl)
-there_some (Some x) there = refl
-
-pub some_there : {A : Type 0} (o : Option A) → is_some o ≡ true → o ≢ None
-some_there None e none = true≢false (sym e)
-some_there (Some x) e none = true≢false (ap is_some none)
-
-first_true : (a b : Bool) → a && b ≡ true → a ≡ true
-first_true true b e = refl
-first_true false b e = absurd (true≢false (sym e))
-
-second_true : (a b : Bool) → a && b ≡ true → b ≡ true
-second_true true b e = e
-second_true false b e = absurd (true≢false (sym e))
-
 -- a name passes and has a file
 member : (test : Text → Bool) (files : Files) (name : Text) → is_member is_same (passing test files) name ≡ (is_some (file_at files name) && test name)
 member test files name =
-    is_member-filter (eq_by_cmp_equiv nat_list_cmp_total) test name (λ x same. ap test (same_name name x (equal (by_name name x) same))) (keys files)
+    is_member-filter (eq_by_cmp_equiv nat_list_cmp_total) test name (λ x same. ap test (same_name name x (equal_from_test (by_name name x) same))) (keys files)
     ∙ ap (λ b. b && test name) (sym (contains_key-keys files name))
 
 passes : (test : Text → Bool) (files : Files) (name : Text) → is_member is_same (passing test files) name ≡ true → (test name ≡ true) × (file_at files name ≢ None)
 passes test files name is =
     let both = sym (member test files name) ∙ is in
-    (second_true (is_some (file_at files name)) (test name) both, some_there (file_at files name) (first_true (is_some (file_at files name)) (test name) both))
+    (and_second (is_some (file_at files name)) (test name) both, there_from_test (file_at files name) (and_first (is_some (file_at files name)) (test name) both))
 
 is_passing : (test : Text → Bool) (files : Files) (name : Text) → test name ≡ true → file_at files name ≢ None → is_member is_same (passing test files) name ≡ true
-is_passing test files name is held = member test files name ∙ ap (λ b. b && test name) (there_some (file_at files name) held) ∙ is
+is_passing test files name is held = member test files name ∙ ap (λ b. b && test name) (test_from_there (file_at files name) held) ∙ is
 
 -- where each name that passes one test passes the other, among other files
 pub count_within : (t u : Text → Bool) (a b : Files) → ((name : Text) → t name ≡ true → file_at a name ≢ None → (u name ≡ true) × (file_at b name ≢ None)) → count_names t a ≤ count_names u b

@@ -5,16 +5,11 @@ use Rattle.std.specs.List.{filter}
 use Rattle.std.proofs.lemmas.Bool.{true≢false}
 use Rattle.std.proofs.lemmas.List.{take_all}
 use Rattle.sp_base.specs.Texts.{Text}
+use Rattle.sp_base.proofs.ListLemmas.{contains_first, contains_later}
 
 -- how many names of a list pass a test
 abbrev pub count : (Text → Bool) → List Text → ℕ
 count test names = length (filter test names)
-
-pub here : (x : Text) (xs : List Text) → Contains (x ∷ xs) x
-here x xs = (0, omega arith, refl)
-
-pub there : (x y : Text) (xs : List Text) → Contains xs y → Contains (x ∷ xs) y
-there x y xs has = (suc has.0, omega (arith, has.1), has.2)
 
 none_there : (y : Text) → Contains [] y → ⊥
 none_there y has = omega (arith, has.1)
@@ -44,7 +39,7 @@ taken : (f p q : Text → Bool) (m : ℕ) (x : Text) (keys : List Text) → (q x
 taken f p q zero x keys mono rest seen = bump (q x) (p x) x (filter q keys) (filter p keys) 0 mono (rest 0 (λ y has. absurd (none_there y has)))
 taken f p q (suc m) x keys mono rest seen =
     let names = take m (filter f keys) in
-    bump_listed (q x) (p x) x (filter q keys) (filter p keys) (length names) (seen x (here x names)) (rest m (λ y has. seen y (there x y names has)))
+    bump_listed (q x) (p x) x (filter q keys) (filter p keys) (length names) (seen x (contains_first x names)) (rest m (λ y has. seen y (contains_later x y names has)))
 
 -- of the names of which a list gives the first, as many fewer are to look at
 pub counted : (f p q : Text → Bool) (m : ℕ) (keys : List Text) → ((x : Text) → q x ≡ true → p x ≡ true) → AreSeen p q (take m (filter f keys)) → count q keys + length (take m (filter f keys)) ≤ count p keys

@@ -7,9 +7,9 @@ use Rattle.std.specs.FinMap.{keys}
 use Rattle.std.specs.List.Sorted.{IsStrictlySortedBy}
 use Rattle.std.specs.Ordering.{is_lt, ordering_reverse}
 use Rattle.std.specs.declared.cmp.Ordering.{Ordering}
-use Rattle.std.specs.declared.cmp.Ordering.TheVariants.{Less, Equal, Greater}
+use Rattle.std.specs.declared.cmp.Ordering.TheVariants.{Less}
 use Rattle.std.proofs.Math.Nat.{eq-or-lt_of_le}
-use Rattle.std.proofs.lemmas.Bool.{true≢false}
+use Rattle.std.proofs.lemmas.Bool.{and_parts, cases_Bool, not-true, not_from_false, or_cases, or_left, or_right, true≢false}
 use Rattle.std.proofs.lemmas.List.{append-nil, drop_all, drop_more, take_more}
 use Rattle.std.proofs.lemmas.List.Elements.{All-contains}
 use Rattle.std.proofs.lemmas.List.Folds.{list_any-append, list_any_at}
@@ -17,6 +17,8 @@ use Rattle.std.proofs.lemmas.Map.Keys.{Less-from_sorted}
 use Rattle.std.proofs.lemmas.Option.{get_or_from_slice_get, slice_get-get_or}
 use Rattle.sp_base.specs.Names.{by_name}
 use Rattle.sp_base.specs.Texts.{Text}
+use Rattle.sp_base.proofs.BoolLemmas.{or_false}
+use Rattle.sp_base.proofs.OrderingLemmas.{less_from_test}
 use Rattle.sp_outside.specs.FileNames.{HasReached, IsNameAfter}
 use Rattle.sp_outside.specs.Files.{Files, IsListing, file_at, has_prefix, names_after}
 use Rattle.docroot_format.specs.Deletions.{begins_with_any}
@@ -29,50 +31,7 @@ use Rattle.invalidation.proofs.CountedFiles.{count_listed, count_parts, count_wi
 use Rattle.invalidation.proofs.LookedAt.{counted}
 use Rattle.invalidation.proofs.TakenFiles.{stays_gone, stays_there, takes_as, takes_none, takes_then}
 
--- ---- truths
-
-pub case : (b : Bool) → (b ≡ true) ⊎ (b ≡ false)
-case true = inl refl
-case false = inr refl
-
-one_of : (a b : Bool) → a || b ≡ true → (a ≡ true) ⊎ (b ≡ true)
-one_of true b e = inl refl
-one_of false b e = inr e
-
-pub both_of : (a b : Bool) → a && b ≡ true → (a ≡ true) × (b ≡ true)
-both_of true b e = (refl, e)
-both_of false b e = absurd (true≢false (sym e))
-
-pub or_left : (a b : Bool) → a ≡ true → a || b ≡ true
-or_left true b e = refl
-or_left false b e = absurd (true≢false (sym e))
-
-or_right : (a b : Bool) → b ≡ true → a || b ≡ true
-or_right true b e = refl
-or_right false b e = e
-
-pub not_true : (b : Bool) → not b ≡ true → b ≡ false
-not_true true e = sym e
-not_true false e = refl
-
-pub is_not : (b : Bool) → b ≡ false → not b ≡ true
-is_not true e = sym e
-is_not false e = refl
-
-false_not : (b : Bool) → b ≡ true → not b ≡ false
-false_not true e = refl
-false_not false e = sym e
-
-neither : (a b : Bool) → a ≡ false → b ≡ false → a || b ≡ false
-neither true b e f = e
-neither false b e f = f
-
 -- ---- names in their order
-
-before : (o : Ordering) → is_lt o ≡ true → o ≡ Less
-before Less e = refl
-before Equal e = absurd (true≢false (sym e))
-before Greater e = absurd (true≢false (sym e))
 
 not_both : (a b : Text) → by_name a b ≡ Less → is_lt (by_name b a) ≡ false
 not_both a b less = ap is_lt (nat_list_cmp_total.antisymm b a) ∙ ap (λ o. is_lt (ordering_reverse o)) less
@@ -115,10 +74,6 @@ no_first (b ∷ name) page none = true≢false none
 at_prefix : (prefixes : List Text) (n : ℕ) (prefix : Text) → n < length prefixes → slice_get prefixes n ≡ Some prefix → get_or prefixes n prefix ≡ prefix
 at_prefix prefixes n prefix lt at = get_or_from_slice_get prefixes n prefix prefix at
 
-or_false : (b : Bool) → b || false ≡ b
-or_false true = refl
-or_false false = refl
-
 stands_at : (prefixes : List Text) (n : ℕ) (prefix name : Text) → n < length prefixes → slice_get prefixes n ≡ Some prefix → begins_with_any (take 1 (drop n prefixes)) name ≡ has_prefix prefix name
 stands_at prefixes n prefix name lt at =
     ap (λ (ps : List Text). begins_with_any (take 1 ps) name) (drop_more prefixes n prefix lt)
@@ -141,13 +96,13 @@ PassedHere prefixes prefix place name = (begins_with_any (take place.prefix pref
 
 passed_is : (prefixes : List Text) (prefix : Text) (place : Place) (name : Text) → place.prefix < length prefixes → slice_get prefixes place.prefix ≡ Some prefix → is_passed prefixes place name ≡ true → PassedHere prefixes prefix place name
 passed_is prefixes prefix place name lt at passed = ⊎_elim (λ a. inl a)
-    (λ b. (let w = both_of _ _ b in inr (sym (stands_at prefixes place.prefix prefix name lt at) ∙ w.0, not_true _ w.1)))
-    (one_of (begins_with_any (take place.prefix prefixes) name) _ passed)
+    (λ b. (let w = and_parts _ _ b in inr (sym (stands_at prefixes place.prefix prefix name lt at) ∙ w.0, not-true _ w.1)))
+    (or_cases (begins_with_any (take place.prefix prefixes) name) _ passed)
 
 is_passed_as : (prefixes : List Text) (prefix : Text) (place : Place) (name : Text) → place.prefix < length prefixes → slice_get prefixes place.prefix ≡ Some prefix → PassedHere prefixes prefix place name → is_passed prefixes place name ≡ true
 is_passed_as prefixes prefix place name lt at passed = ⊎_elim (λ a. or_left _ _ a)
     (λ w. or_right (begins_with_any (take place.prefix prefixes) name) _
-    (ap (λ b. b && not (is_lt (by_name place.last name))) (stands_at prefixes place.prefix prefix name lt at ∙ w.0) ∙ is_not _ w.1)) passed
+    (ap (λ b. b && not (is_lt (by_name place.last name))) (stands_at prefixes place.prefix prefix name lt at ∙ w.0) ∙ not_from_false _ w.1)) passed
 
 -- ---- after a list
 
@@ -171,11 +126,11 @@ now_is : (prefixes : List Text) (prefix : Text) (start now : Place) (most : ℕ)
     → (begins_with_any (take start.prefix prefixes) name ≡ true) ⊎ ((has_prefix prefix name ≡ true) × Reached now most names name)
 now_is prefixes prefix start now most names l name first passed = ⊎_elim
     (λ next. ⊎_elim
-    (λ a. ⊎_elim (λ b. inl b) (λ b. inr (b, inl next.0)) (one_of _ _ (sym (goes_past prefixes start.prefix prefix name l.lt l.at) ∙ ap (λ n. begins_with_any (take n prefixes) name) (sym next.1) ∙ a)))
+    (λ a. ⊎_elim (λ b. inl b) (λ b. inr (b, inl next.0)) (or_cases _ _ (sym (goes_past prefixes start.prefix prefix name l.lt l.at) ∙ ap (λ n. begins_with_any (take n prefixes) name) (sym next.1) ∙ a)))
     (λ b.
-    let w = both_of (begins_with_any (take 1 (drop now.prefix prefixes)) name) _ b in
-    absurd (first (ap (λ n. begins_with_any (take 1 (drop n prefixes)) name) (sym next.1) ∙ w.0) (ap (λ last. is_lt (by_name last name)) (sym next.2) ∙ not_true _ w.1)))
-    (one_of (begins_with_any (take now.prefix prefixes) name) _ passed))
+    let w = and_parts (begins_with_any (take 1 (drop now.prefix prefixes)) name) _ b in
+    absurd (first (ap (λ n. begins_with_any (take 1 (drop n prefixes)) name) (sym next.1) ∙ w.0) (ap (λ last. is_lt (by_name last name)) (sym next.2) ∙ not-true _ w.1)))
+    (or_cases (begins_with_any (take now.prefix prefixes) name) _ passed))
     (λ same.
     let at = subst (λ n. (n < length prefixes) × (slice_get prefixes n ≡ Some prefix)) (sym same.1) (l.lt, l.at) in
     ⊎_elim (λ a. inl (ap (λ n. begins_with_any (take n prefixes) name) (sym same.1) ∙ a)) (λ w. inr (w.0, inr w.1)) (passed_is prefixes prefix now name at.0 at.1 passed))
@@ -204,8 +159,8 @@ still_passed prefixes prefix start now most names l name passed =
           (λ next. absurd (omega (arith, next.0, full)))
           (λ same.
           let some : 0 < length names = omega (arith, l.some, full) in
-          let front = before _ (later start.last now.last names l.listing.rising (last_listed names now.last some same.2)) in
-          ⊎_elim (λ less. absurd (true≢false (sym (ap is_lt (nat_list_cmp_total.trans start.last now.last name front (before _ less))) ∙ w.1))) (λ not_less. not_less) (case (is_lt (by_name now.last name)))) l.after,
+          let front = less_from_test _ (later start.last now.last names l.listing.rising (last_listed names now.last some same.2)) in
+          ⊎_elim (λ less. absurd (true≢false (sym (ap is_lt (nat_list_cmp_total.trans start.last now.last name front (less_from_test _ less))) ∙ w.1))) (λ not_less. not_less) (cases_Bool (is_lt (by_name now.last name)))) l.after,
     ))
     (passed_is prefixes prefix start name l.lt l.at passed))
 
@@ -235,7 +190,7 @@ was_ahead prefixes prefix start now most names apart l name has =
     let front = apart start.prefix prefix name l.at begins in
     let none : is_passed prefixes start name ≡ false = ⊎_elim
     (λ passed. absurd (⊎_elim (λ a. true≢false (sym a ∙ front)) (λ w. true≢false (sym less ∙ w.1)) (passed_is prefixes prefix start name l.lt l.at passed)))
-    (λ e. e) (case (is_passed prefixes start name)) in
+    (λ e. e) (cases_Bool (is_passed prefixes start name)) in
     let past = now_as prefixes prefix start now most names l name (inr (
       begins,
       λ full. ⊎_elim
@@ -270,8 +225,8 @@ gone_or_passed prefixes prefix start now most names over l old new is takes gone
     (λ w. ⊎_elim
     (λ less. inr (⊎_elim
     (λ none. stays_gone (IsPageAmong names) (length names) old new name takes none)
-    (λ some. gone name (over old prefix start.last name most names is (w.0, before _ less, some) (reaches prefixes prefix start now most names l name w.1), page)) (has_none (file_at old name))))
-    (λ past. inl (is_passed_as prefixes prefix start name l.lt l.at (inr (w.0, past)))) (case (is_lt (by_name start.last name))))
+    (λ some. gone name (over old prefix start.last name most names is (w.0, less_from_test _ less, some) (reaches prefixes prefix start now most names l name w.1), page)) (has_none (file_at old name))))
+    (λ past. inl (is_passed_as prefixes prefix start name l.lt l.at (inr (w.0, past)))) (cases_Bool (is_lt (by_name start.last name))))
     (now_is prefixes prefix start now most names l name (λ begins none. no_first name page none) passed)
 
 -- ---- the list gives each name that the walk goes past
@@ -296,13 +251,13 @@ was_passed false p e f = absurd (true≢false (sym e))
 is_listed : (prefixes : List Text) (prefix : Text) (start now : Place) (most : ℕ) (names : List Text) → NothingIsPassedOver → AreNamesApart prefixes → Lists prefixes prefix start now most names → (old : Files)
     → names ≡ take most (names_after old prefix start.last) → (name : Text) → is_to_look_at prefixes (Some start) name ≡ true → is_to_look_at prefixes (Some now) name ≡ false → file_at old name ≢ None → Contains names name
 is_listed prefixes prefix start now most names over apart l old is name ahead behind held =
-    let was = both_of (begins_with_any prefixes name) (not (is_passed prefixes start name)) ahead in
-    let unpassed = not_true (is_passed prefixes start name) was.1 in
+    let was = and_parts (begins_with_any prefixes name) (not (is_passed prefixes start name)) ahead in
+    let unpassed = not-true (is_passed prefixes start name) was.1 in
     ⊎_elim
     (λ a. absurd (true≢false (sym (is_passed_as prefixes prefix start name l.lt l.at (inl a)) ∙ unpassed)))
     (λ w. ⊎_elim
-    (λ less. over old prefix start.last name most names is (w.0, before _ less, held) (reaches prefixes prefix start now most names l name w.1))
-    (λ past. absurd (true≢false (sym (is_passed_as prefixes prefix start name l.lt l.at (inr (w.0, past))) ∙ unpassed))) (case (is_lt (by_name start.last name))))
+    (λ less. over old prefix start.last name most names is (w.0, less_from_test _ less, held) (reaches prefixes prefix start now most names l name w.1))
+    (λ past. absurd (true≢false (sym (is_passed_as prefixes prefix start name l.lt l.at (inr (w.0, past))) ∙ unpassed))) (cases_Bool (is_lt (by_name start.last name))))
     (now_is prefixes prefix start now most names l name (not_first prefixes start.prefix prefix name apart l.lt l.at) (was_passed (begins_with_any prefixes name) (is_passed prefixes now name) was.0 behind))
 
 -- ---- the walk past a list
@@ -326,10 +281,10 @@ walk_list prefixes prefix start now most names over apart lt at listing some aft
     let long = ap length is in
     let parts = count_parts p q old in
     let ahead = count_within (λ name. p name && q name) q old new (λ name both held.
-    let still = (both_of (p name) (q name) both).1 in
+    let still = (and_parts (p name) (q name) both).1 in
     (still, stays_there (IsPageAmong names) (length names) old new name takes (λ page. true≢false (sym still ∙ (was_ahead prefixes prefix start now most names apart l name page.0).1)) held)) in
     let listed = count_listed (λ name. p name && not (q name)) old names (λ name both held.
-    let w = both_of (p name) (not (q name)) both in is_listed prefixes prefix start now most names over apart l old is name w.0 (not_true (q name) w.1) held) in
+    let w = and_parts (p name) (not (q name)) both in is_listed prefixes prefix start now most names over apart l old is name w.0 (not-true (q name) w.1) held) in
     record {
       takes = listed_pages prefixes start.prefix prefix start.last most (length names) names lt at listing (omega arith) old new takes;
       passed = gone_or_passed prefixes prefix start now most names over l old new is takes gone;

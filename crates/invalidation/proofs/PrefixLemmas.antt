@@ -1,13 +1,14 @@
 -- What the names of the files begin with that a flush takes away: the name of the handle's folder, with a dot in place of its slash, and that name or more.
-use Rattle.std.proofs.Common.{◌≡◌, ◌⊎◌, ◌+◌, ◌-◌, ⊎_elim, ℕ, zero, suc, Bool, true, false, cond, ◌||◌, ◌++◌, [], ◌∷◌, Option, Some, None, codes, drop, get_or, is_some, length, take, refl, sym, ◌∙◌, ap, arith, subst}
+use Rattle.std.proofs.Common.{◌≡◌, ◌⊎◌, ⊎_elim, ℕ, zero, suc, Bool, true, false, cond, ◌||◌, ◌++◌, [], ◌∷◌, Option, Some, None, codes, drop, get_or, is_some, length, take, refl, sym, ◌∙◌, ap, arith, subst}
 use Rattle.std.specs.Prelude.{slice_get}
 use Rattle.std.proofs.Math.ListN.{get_or-eq_default}
 use Rattle.std.proofs.Math.Seq.{get_or-append_seam}
-use Rattle.std.proofs.lemmas.Bool.{true≢false}
+use Rattle.std.proofs.lemmas.Bool.{false_from_ne_true, true≢false}
 use Rattle.std.proofs.lemmas.Grind.{flat_map-append}
-use Rattle.std.proofs.lemmas.List.{append-nil, append_cancel_right, length-append, take_all, take_more}
+use Rattle.std.proofs.lemmas.List.{append-nil, append_cancel_right, length-append}
 use Rattle.sp_base.specs.Paths.{name_of, parent_of}
 use Rattle.sp_base.specs.Texts.{Segments, Text}
+use Rattle.sp_base.proofs.TextLemmas.{begins_with}
 use Rattle.sp_outside.specs.Files.{has_prefix}
 use Rattle.cover_rules.specs.Coverage.{handle_of, takes_below}
 use Rattle.cover_rules.specs.Names.{file_name}
@@ -16,19 +17,12 @@ use Rattle.cover_rules.specs.declared.page.PageKey.{PageKey}
 use Rattle.cover_rules.specs.declared.invalidation.Invalidation.{Invalidation}
 use Rattle.docroot_format.specs.Deletions.{begins_with_any, deleted_folder, deleted_prefixes, rendering_prefixes}
 use Rattle.docroot_format.specs.Names.{body_name, folder_name}
-use Rattle.docroot_format.proofs.Inside.{not_true}
-use Rattle.docroot_format.proofs.NameCode.{begins_is}
+use Rattle.docroot_format.proofs.DeletedNames.{parent_and_name}
 use Rattle.docroot_format.proofs.NameLemmas.{append_both}
 use Rattle.cache_files.specs.Pages.{page_body_name, page_head_name}
 use Rattle.invalidation.specs.Walks.{AreNamesApart}
 
 -- ---- the name of a folder
-
-last_parts : (seg : Text) (segs : Segments) → parent_of (seg ∷ segs) ++ name_of (seg ∷ segs) ∷ [] ≡ seg ∷ segs
-last_parts seg segs =
-    let n = length (seg ∷ segs) - 1 in
-    let whole : n + 1 ≡ length (seg ∷ segs) = omega arith in
-    sym (take_more (seg ∷ segs) n [] (omega arith)) ∙ ap (λ (m : ℕ). take m (seg ∷ segs)) whole ∙ take_all (length (seg ∷ segs)) (seg ∷ segs) (omega arith)
 
 abbrev folder_piece : Text → Text
 folder_piece seg = file_name seg ++ 47 ∷ []
@@ -38,7 +32,7 @@ pub last_folder : (seg : Text) (segs : Segments) → folder_name (seg ∷ segs) 
 last_folder seg segs =
     let front = parent_of (seg ∷ segs) in
     let last = name_of (seg ∷ segs) in
-    ap folder_name (sym (last_parts seg segs)) ∙ flat_map-append folder_piece front (last ∷ []) ∙ ap (λ (xs : Text). folder_name front ++ xs) (append-nil (file_name last ++ 47 ∷ [])) ∙ append_both (folder_name front) (file_name last) (47 ∷ [])
+    ap folder_name (sym (parent_and_name seg segs)) ∙ flat_map-append folder_piece front (last ∷ []) ∙ ap (λ (xs : Text). folder_name front ++ xs) (append-nil (file_name last ++ 47 ∷ [])) ∙ append_both (folder_name front) (file_name last) (47 ∷ [])
 
 none_ends : (front : Text) → [] ≡ front ++ 47 ∷ [] → ⊥
 none_ends front e = (let long : 0 ≡ length (front ++ 47 ∷ []) = ap length e in omega (arith, long, length-append front (47 ∷ [])))
@@ -68,7 +62,7 @@ below_folder inv = below_is (takes_below inv.action) (handle_of inv)
 begins_at : (front rest name : Text) (b : ℕ) → has_prefix (front ++ b ∷ rest) name ≡ true → get_or name (length front) 0 ≡ b
 begins_at front rest name b has =
     let more = drop (length (front ++ b ∷ rest)) name in
-    ap (λ (t : Text). get_or t (length front) 0) (begins_is name (front ++ b ∷ rest) has ∙ sym (append_both front (b ∷ rest) more)) ∙ get_or-append_seam front b (rest ++ more) 0
+    ap (λ (t : Text). get_or t (length front) 0) (begins_with name (front ++ b ∷ rest) has ∙ sym (append_both front (b ∷ rest) more)) ∙ get_or-append_seam front b (rest ++ more) 0
 
 both_begin : (front rest name : Text) → has_prefix (front ++ codes ".") name ≡ true → has_prefix (front ++ 47 ∷ rest) name ≡ true → ⊥
 both_begin front rest name dot slash =
@@ -132,7 +126,7 @@ unfolding key_at
 key_of segs key e = key_parts segs key (is_page segs) refl e
 
 begins_not : (front rest name : Text) (b c : ℕ) → get_or name (length front) 0 ≡ c → (c ≡ b → ⊥) → has_prefix (front ++ b ∷ rest) name ≡ false
-begins_not front rest name b c at differ = not_true (has_prefix (front ++ b ∷ rest) name) (λ has. differ (sym at ∙ begins_at front rest name b has))
+begins_not front rest name b c at differ = false_from_ne_true (has_prefix (front ++ b ∷ rest) name) (λ has. differ (sym at ∙ begins_at front rest name b has))
 
 none_begins : (front rest name : Text) (c : ℕ) → get_or name (length front) 0 ≡ c → (c ≡ 46 → ⊥) → (c ≡ 47 → ⊥) → begins_with_any ((front ++ codes ".") ∷ (front ++ 47 ∷ rest) ∷ []) name ≡ false
 none_begins front rest name c at dot slash =

@@ -1,11 +1,11 @@
 -- What a slice makes of the pages, the stamps and the number of the session, from what its parts make of files.
-use Rattle.std.proofs.Common.{◌≡◌, ◌≢◌, ◌⊎◌, inl, inr, ⊎_elim, ℕ, Bool, true, false, not, ◌&&◌, ◌++◌, List, [], ◌∷◌, Option, Some, None, codes, get_or, map, nat_eq, refl, sym, ◌∙◌, ap, arith}
+use Rattle.std.proofs.Common.{◌≡◌, ◌≢◌, ◌⊎◌, inl, inr, ⊎_elim, ℕ, true, false, not, ◌&&◌, Option, Some, None, codes, get_or, map, nat_eq, refl, sym, ◌∙◌, ap, arith}
 use Rattle.std.specs.Prelude.{IsTrue, ◌↔◌, option_and_then, option_map, unwrap_or}
-use Rattle.std.proofs.Math.Seq.{get_or-append_seam}
 use Rattle.std.proofs.lemmas.Bool.{true≢false}
-use Rattle.std.proofs.lemmas.List.{length-append}
 use Rattle.sp_base.specs.Paths.{mangled_segs, name_of, pieces}
 use Rattle.sp_base.specs.Texts.{Segments, Text}
+use Rattle.sp_base.proofs.BoolLemmas.{and_false}
+use Rattle.sp_base.proofs.OptionLemmas.{some_is_not_none}
 use Rattle.sp_outside.specs.FileNames.{has_segments}
 use Rattle.sp_outside.specs.Files.{Files, file_at}
 use Rattle.cover_rules.specs.Coverage.{deletes, handle_of}
@@ -18,6 +18,7 @@ use Rattle.docroot_format.specs.Deletions.{IsDeletedByName}
 use Rattle.docroot_format.specs.Names.{epoch_name, is_page_file, stat_name}
 use Rattle.docroot_format.specs.Readings.{epoch_of, head_of, stat_of}
 use Rattle.docroot_format.proofs.Apart.{pieces_body}
+use Rattle.docroot_format.proofs.FileKinds.{name_of_push}
 use Rattle.cache_files.specs.Epochs.{epoch_after}
 use Rattle.cache_files.specs.HeldStamps.{HoldsStamp, KeepsOrder}
 use Rattle.cache_files.specs.Pages.{head_at, note_of, page_at, page_body_name, page_head_name, stored_page}
@@ -65,17 +66,10 @@ taken_head inv key laws page taken = (laws.head_deleted key page).1 (⊎_elim
     (λ h. inl (⊎_elim (λ e. absurd (laws.head key h.0 page h.1.0 e)) (λ e. ap page_path (laws.heads key h.0 page h.1.0 e) ∙ h.1.1.0) h.1.1.1))
     (λ l. inr l.1) taken)
 
-last_of : (xs : List Text) (x : Text) → name_of (xs ++ x ∷ []) ≡ x
-last_of xs x = ap (λ n. get_or (xs ++ x ∷ []) n []) (omega (arith, length-append xs (x ∷ []))) ∙ get_or-append_seam xs x [] []
-
-and_false : (b : Bool) → b && false ≡ false
-and_false true = refl
-and_false false = refl
-
 -- a .stat file is no page's
 pub stat_no_page : (folder : Segments) → is_page_file (stat_name folder) ≡ false
 stat_no_page folder =
-    let last : name_of (pieces (stat_name folder)) ≡ codes ".stat" = ap name_of (pieces_body (mangled_segs folder) (codes ".stat") refl) ∙ last_of (map file_name (mangled_segs folder)) (codes ".stat") in
+    let last : name_of (pieces (stat_name folder)) ≡ codes ".stat" = ap name_of (pieces_body (mangled_segs folder) (codes ".stat") refl) ∙ name_of_push (map file_name (mangled_segs folder)) (codes ".stat") in
     ap (λ (piece : Text). has_segments (stat_name folder) && not (nat_eq (get_or piece 0 0) 46)) last ∙ and_false (has_segments (stat_name folder))
 
 -- ---- what taking files away makes of a page
@@ -101,9 +95,6 @@ head_left inv most old new laws takes key page = ⊎_elim
     (λ e. inl (ap (λ h. option_map note_of (option_and_then head_of h)) e))
     (λ w. inr (taken_head inv key laws page w.0, ap (λ h. option_map note_of (option_and_then head_of h)) w.1)) (takes.files (page_head_name key))
 
-pub page_gone : (files : Files) (key : PageKey) → file_at files (page_body_name key) ≡ None → page_at files key ≡ None
-page_gone files key none = ap (page_from (file_at files (page_head_name key))) none ∙ no_body (file_at files (page_head_name key))
-
 other_left : (inv : Invalidation) (most : ℕ) (old new : Files) → NameLaws inv → TakesFiles (IsTakenFor inv) most old new → (name : Text) → is_page_file name ≡ false → file_at new name ≡ file_at old name
 other_left inv most old new laws takes name other = ⊎_elim (λ e. e) (λ w. absurd (true≢false (sym (taken_page inv name laws w.0) ∙ other))) (takes.files name)
 
@@ -115,14 +106,11 @@ number_left inv most old new laws takes =
     let same = other_left inv most old new laws takes epoch_name laws.epoch_page in
     record { held = ap (λ found. unwrap_or (option_and_then epoch_of found) 0) same; next = ap epoch_after same }
 
-some_none : {A : Type 0} (a : A) → Some a ≡ None → ⊥
-some_none a e = absurd (cc (e))
-
 held_left : (inv : Invalidation) (most : ℕ) (old new : Files) → NameLaws inv → TakesFiles (IsTakenFor inv) most old new → (stamp : Stamp) → HoldsStamp new stamp → HoldsStamp old stamp
 held_left inv most old new laws takes stamp holds = ⊎_elim
     (λ p. ⊎_elim
     (λ same. inl (p.0, (p.1.0, (p.1.1.0, (sym same ∙ p.1.1.1.0, p.1.1.1.1)))))
-    (λ w. absurd (some_none p.1.1.0 (sym p.1.1.1.0 ∙ w.1))) (head_left inv most old new laws takes p.0 p.1.0))
+    (λ w. absurd (some_is_not_none p.1.1.0 (sym p.1.1.1.0 ∙ w.1))) (head_left inv most old new laws takes p.0 p.1.0))
     (λ f. inr (f.0, (f.1.0, (f.1.1.0, ap (option_and_then stat_of) (sym (other_left inv most old new laws takes (stat_name f.0) (stat_no_page f.0))) ∙ f.1.1.1))))
     holds
 

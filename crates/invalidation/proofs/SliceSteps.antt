@@ -1,5 +1,5 @@
 -- What a slice leaves, from its parts: the opening of the flush, where it is the first, and a walk.
-use Rattle.std.proofs.Common.{◌≡◌, ◌≤◌, ◌+◌, ◌⊎◌, inl, inr, ⊎_elim, ℕ, Bool, true, false, ◌||◌, [], Option, Some, None, Ok, Err, refl, sym, ◌∙◌, ap, arith, subst}
+use Rattle.std.proofs.Common.{◌≡◌, ◌≤◌, ◌+◌, ◌⊎◌, inl, inr, ⊎_elim, ℕ, Bool, true, false, [], Option, Some, None, Ok, Err, refl, sym, ◌∙◌, ap, arith, subst}
 use Rattle.std.specs.Prelude.{IsTrue, IsSome, IfOk, Contains, Result}
 use Rattle.std.specs.Result.{IsErr}
 use Rattle.std.proofs.lemmas.Bool.{true≢false}
@@ -15,6 +15,7 @@ use Rattle.docroot_format.specs.declared.fault.FileFault.{FileFault}
 use Rattle.docroot_format.specs.declared.fault.FileFault.TheVariants.{Disk, NoMemory as OutOfMemory}
 use Rattle.cache_files.specs.Changes.{KeepsPages}
 use Rattle.cache_files.specs.Pages.{page_at, page_body_name}
+use Rattle.cache_files.proofs.PageFiles.{no_page_without_body}
 use Rattle.stat_files.specs.Stamps.{stamp_at}
 use Rattle.docroot_changes.specs.Changes.{IsStampFolder, Told, count_names}
 use Rattle.invalidation.specs.Slices.{IsBehindPlace, IsHandlePage, IsListedPage, IsSlice, IsTakenFor, IsTakenFrom, Progress, SliceLeft, SliceLooked, SliceRemoves, files_taken, folders_of, is_passed, is_to_look_at, most_added, place_or_start, slice_names, stamps_written}
@@ -26,7 +27,7 @@ use Rattle.invalidation.specs.declared.purge.PurgeStep.TheVariants.{More, Done}
 use Rattle.invalidation.proofs.Chains.{told_as, told_both, told_then}
 use Rattle.invalidation.proofs.LookedNames.{end_passed, looked_done, looked_more}
 use Rattle.invalidation.proofs.RemovedFiles.{removed_all, removed_behind, starts_at_none}
-use Rattle.invalidation.proofs.SliceFacts.{NameLaws, head_left, number_left, order_left, page_gone, page_left, stamp_left}
+use Rattle.invalidation.proofs.SliceFacts.{NameLaws, head_left, number_left, order_left, page_left, stamp_left}
 use Rattle.invalidation.proofs.TakenFiles.{takes_as, takes_then}
 use Rattle.invalidation.proofs.Touching.{touches_none}
 
@@ -120,10 +121,6 @@ change_walk level inv stamp (Some place) old mid new same takes = record {
 
 -- ---- how far it is
 
-or_left : (a b : Bool) → a ≡ true → a || b ≡ true
-or_left true b e = refl
-or_left false b e = absurd (true≢false (sym e))
-
 record After (level : ℕ) (inv : Invalidation) (stamp : Stamp) (place : Option Place) (old mid : Files) : Type 0 where
   touched : (f : Segments) → IsStampFolder f → Contains (touched_of level inv) f → stamp_at mid f ≡ Some stamp
   gone : (key : PageKey) → IsPageKey key → deletes inv key ≡ true → (page_path key ≡ handle_of inv) ⊎ IsTrue (is_passed (deleted_prefixes inv) (place_or_start place) (page_body_name key)) → page_at mid key ≡ None
@@ -132,7 +129,7 @@ after_begun : (level : ℕ) (inv : Invalidation) (stamp : Stamp) (place : Option
     → Progress (record { level = level; inv = inv; stamp = stamp; place = place }) (page_at old) (stamp_at old) → After level inv stamp place old mid
 after_begun level inv stamp None old mid laws o progress = record {
   touched = λ f ok has. stamp_left inv 2 o.between mid laws (as_handle inv 2 2 o.between mid (omega arith) o.takes) f ∙ o.touched f ok has;
-  gone = λ key page del behind. ⊎_elim (λ path. page_gone mid key (o.gone (page_body_name key) (key, (page, (path, inl refl))))) (λ passed. absurd (starts_at_none (deleted_prefixes inv) (page_body_name key) (laws.body_page key page) passed)) behind;
+  gone = λ key page del behind. ⊎_elim (λ path. no_page_without_body mid key (o.gone (page_body_name key) (key, (page, (path, inl refl))))) (λ passed. absurd (starts_at_none (deleted_prefixes inv) (page_body_name key) (laws.body_page key page) passed)) behind;
 }
 after_begun level inv stamp (Some place) old mid laws same progress = record {
   touched = λ f ok has. ap (λ files. stamp_at files f) same ∙ progress.touched refl f ok has;
@@ -148,7 +145,7 @@ walked_gone : (level : ℕ) (inv : Invalidation) (stamp : Stamp) (place : Option
 walked_gone level inv stamp place seen old mid new now laws after walked key page del behind =
     let still = λ (none : page_at mid key ≡ None). ⊎_elim (λ e. e ∙ none) (λ w. w.1) (page_left inv seen mid new laws (as_listed inv seen seen mid new (omega arith) walked.takes) key page) in
     ⊎_elim (λ path. still (after.gone key page del (inl path)))
-    (λ passed. ⊎_elim (λ before. still (after.gone key page del (inr before))) (λ none. page_gone new key none) (walked.passed (page_body_name key) (laws.body_page key page) passed)) behind
+    (λ passed. ⊎_elim (λ before. still (after.gone key page del (inr before))) (λ none. no_page_without_body new key none) (walked.passed (page_body_name key) (laws.body_page key page) passed)) behind
 
 -- ---- how many names are to look at
 

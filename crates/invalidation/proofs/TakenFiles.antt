@@ -1,19 +1,19 @@
 -- Files that are taken away, and what that makes of the pages, the stamps and the number of the session.
-use Rattle.std.proofs.Common.{◌≡◌, ◌≢◌, ◌≤◌, ◌+◌, ◌-◌, ◌⊎◌, inl, inr, ⊎_elim, ◌<◌, ℕ, zero, suc, Bool, true, false, cond, not, ◌++◌, take, List, [], ◌∷◌, Option, None, get_or, length, refl, sym, ◌∙◌, ap, subst, arith}
+use Rattle.std.proofs.Common.{◌≡◌, ◌≢◌, ◌≤◌, ◌+◌, ◌-◌, ◌⊎◌, inl, inr, ⊎_elim, ◌<◌, ℕ, Bool, true, false, cond, not, ◌++◌, take, List, [], ◌∷◌, Option, None, get_or, length, refl, sym, ◌∙◌, ap, subst, arith}
 use Rattle.std.specs.Prelude.{IsTrue, Contains, IfErr, OnOk, Result}
 use Rattle.std.specs.Cmp.Lexicographic.{nat_list_cmp_total}
 use Rattle.std.specs.FinMap.{contains_key, entries, get-remove, keys, len, len-entries, len-remove}
 use Rattle.std.specs.Ordering.{eq_by_cmp}
-use Rattle.std.proofs.Math.Nat.{eq-or-lt_of_le}
-use Rattle.std.proofs.Math.Seq.{get_or-append_seam}
-use Rattle.std.proofs.lemmas.List.{get_or_append_left, length-append, length-map, take_more}
+use Rattle.std.proofs.lemmas.List.{length-map, take_more}
 use Rattle.std.proofs.lemmas.List.Filters.{length-filter_both}
 use Rattle.sp_base.specs.Names.{by_name}
 use Rattle.sp_base.specs.Texts.{Text}
+use Rattle.sp_base.proofs.ListLemmas.{last_or_before}
+use Rattle.sp_base.proofs.OrderingLemmas.{equal_from_test}
 use Rattle.sp_outside.specs.Files.{Files, IsOldOrNew, file_at, told_without, without_file}
 use Rattle.sp_outside.specs.declared.disk.DiskFault.{DiskFault}
 use Rattle.docroot_format.specs.Names.{is_page_file}
-use Rattle.sp_outside.proofs.HeldNames.{equal, same_name}
+use Rattle.sp_outside.proofs.HeldNames.{same_name}
 use Rattle.docroot_changes.specs.Changes.{Told}
 use Rattle.docroot_changes.proofs.ToldFiles.{told_made}
 use Rattle.docroot_changes.proofs.CountedNames.{more_names, no_file, same_files}
@@ -70,7 +70,7 @@ stays_there IsTaken most a b name takes other held none = ⊎_elim (λ e. held (
 removed : (IsTaken : Text → Type 0) (files : Files) (name other : Text) → IsTaken name → (b : Bool) → eq_by_cmp by_name other name ≡ b
     → (file_at (without_file files name) other ≡ file_at files other) ⊎ (IsTaken other × (file_at (without_file files name) other ≡ None))
 removed IsTaken files name other is true e =
-    inr (subst IsTaken (sym (same_name other name (equal (by_name other name) e))) is, get-remove nat_list_cmp_total files name other ∙ ap (λ b. cond b None (file_at files other)) e)
+    inr (subst IsTaken (sym (same_name other name (equal_from_test (by_name other name) e))) is, get-remove nat_list_cmp_total files name other ∙ ap (λ b. cond b None (file_at files other)) e)
 removed IsTaken files name other is false e = inl (get-remove nat_list_cmp_total files name other ∙ ap (λ b. cond b None (file_at files other)) e)
 
 pub takes_one : (IsTaken : Text → Type 0) (files : Files) (name : Text) → IsTaken name → TakesFiles IsTaken 1 files (without_file files name)
@@ -84,16 +84,6 @@ told_removed r IsTaken name x y is ok err =
     (λ fault left. ⊎_elim (λ same. told_same (TakesFiles IsTaken 1) x y (takes_none IsTaken 1) same) (λ w. made w.1) left) ok err
 
 -- ---- names gone through one after the other
-
-at_place : (x y : Text) (xs : List Text) (k : ℕ) → k < length (x ∷ xs) → get_or (x ∷ xs) k y ≡ y → (x ≡ y) ⊎ Contains xs y
-at_place x y xs zero lt e = inl e
-at_place x y xs (suc k) lt e = inr (k, omega (arith, lt), e)
-
-pub last_or_before : {A : Type 0} (xs : List A) (last x : A) → Contains (xs ++ last ∷ []) x → Contains xs x ⊎ (x ≡ last)
-last_or_before xs last x has = ⊎_elim
-    (λ same. inr (sym has.2 ∙ ap (λ k. get_or (xs ++ last ∷ []) k x) same ∙ get_or-append_seam xs last [] x))
-    (λ less. inl (has.0, less, sym (get_or_append_left xs (last ∷ []) x has.0 less) ∙ has.2))
-    (eq-or-lt_of_le (omega (arith, has.1, length-append xs (last ∷ []))))
 
 pub taken_more : (names : List Text) (i : ℕ) (name : Text) → i < length names → get_or names i name ≡ name → (a b c : Files) → TakenTo names i a b → TakesFiles (IsThisPage name) 1 b c × (IsTrue (is_page_file name) → file_at c name ≡ None)
     → TakenTo names (i + 1) a c

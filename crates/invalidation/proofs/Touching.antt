@@ -1,22 +1,25 @@
 -- Folders that are touched one after the other.
-use Rattle.std.proofs.Common.{◌≡◌, ◌≢◌, ◌<◌, ◌≤◌, ◌+◌, ◌⊎◌, inl, inr, ⊎_elim, ℕ, Bool, true, false, cond, ◌++◌, List, [], ◌∷◌, Option, Some, None, Ok, Err, get_or, length, take, refl, sym, ◌∙◌, ap, subst, arith}
-use Rattle.std.specs.Prelude.{Contains, IfErr, OnOk, Result, nat_eq}
-use Rattle.std.specs.Cmp.Lexicographic.{nat_list_cmp_total, pointwise, bytes_decides}
+use Rattle.std.proofs.Common.{◌≡◌, ◌<◌, ◌≤◌, ◌+◌, ◌⊎◌, inl, inr, ⊎_elim, ℕ, Bool, true, false, cond, ◌++◌, List, [], ◌∷◌, Option, Some, None, Ok, Err, get_or, length, take, refl, sym, ◌∙◌, ap, subst, arith}
+use Rattle.std.specs.Prelude.{Contains, IfErr, OnOk, Result}
+use Rattle.std.specs.Cmp.Lexicographic.{nat_list_cmp_total}
 use Rattle.std.specs.FinMap.{get-insert}
 use Rattle.std.specs.List.{AllByRecursion, prefix_len, take_while}
 use Rattle.std.specs.Ordering.{eq_by_cmp}
-use Rattle.std.proofs.lemmas.Bool.{true≢false}
-use Rattle.std.proofs.lemmas.List.{length-map, length-take, take_all, take_more}
+use Rattle.std.proofs.lemmas.List.{length-take, take_all, take_more}
 use Rattle.sp_base.specs.Bytes.{AreBytes}
 use Rattle.sp_base.specs.Names.{by_name}
 use Rattle.sp_base.specs.Paths.{mangled_segs, parent_of}
 use Rattle.sp_base.specs.Texts.{Segments, Text}
+use Rattle.sp_base.proofs.ListLemmas.{last_or_before}
+use Rattle.sp_base.proofs.OrderingLemmas.{equal_from_test}
+use Rattle.sp_base.proofs.TextLemmas.{one_text_or_two}
 use Rattle.sp_outside.specs.Files.{Files, file_at, with_file}
-use Rattle.sp_outside.proofs.HeldNames.{equal, same_name}
+use Rattle.sp_outside.proofs.HeldNames.{same_name}
 use Rattle.cover_rules.specs.Coverage.{handle_of, lineage, touched_of}
 use Rattle.cover_rules.specs.Pages.{is_folder_segment}
 use Rattle.cover_rules.specs.declared.invalidation.Invalidation.{Invalidation}
 use Rattle.cover_rules.specs.declared.stamp.Stamp.{Stamp}
+use Rattle.cover_rules.proofs.TouchLemmas.{length-lineage}
 use Rattle.docroot_format.specs.Faults.{IsLeftByFault}
 use Rattle.docroot_format.specs.Names.{stat_name}
 use Rattle.docroot_format.specs.Texts.{stat_text}
@@ -29,18 +32,11 @@ use Rattle.docroot_changes.proofs.ToldFiles.{told_made}
 use Rattle.invalidation.specs.Slices.{IsStatOf}
 use Rattle.invalidation.specs.Walks.{AreTouched, TouchedTo, Touches}
 use Rattle.invalidation.proofs.Chains.{either, told_same}
-use Rattle.invalidation.proofs.TakenFiles.{last_or_before}
 
 abbrev Untaken : Text → Type 0
 Untaken name = ⊥
 
 -- ---- one touch
-
-pub same_or_other : (x y : Text) → (x ≡ y) ⊎ (x ≢ y)
-same_or_other x y = elim (pointwise nat_eq x y) as (λ b. pointwise nat_eq x y ≡ b → (x ≡ y) ⊎ (x ≢ y)) [
-  | true ↦ λ e. inl ((bytes_decides x y).0 e)
-  | false ↦ λ e. inr (λ same. true≢false (sym ((bytes_decides x y).1 same) ∙ e))
-] refl
 
 first : {A : Type 0} (x : A) → Contains (x ∷ []) x
 first x = (0, omega arith, refl)
@@ -55,7 +51,7 @@ StatsApart = (folder other : Segments) → AllByRecursion AreBytes folder → Al
 written : (old : Files) (folder : Segments) (text name : Text) (b : Bool) → eq_by_cmp by_name name (stat_name folder) ≡ b
     → (file_at (with_file old (stat_name folder) text) name ≡ file_at old name) ⊎ ((⊥ × (file_at (with_file old (stat_name folder) text) name ≡ None)) ⊎ (IsStatOf (folder ∷ []) name × (file_at (with_file old (stat_name folder) text) name ≡ Some text)))
 written old folder text name true e =
-    inr (inr ((folder, (first folder, same_name name (stat_name folder) (equal (by_name name (stat_name folder)) e))), get-insert nat_list_cmp_total old (stat_name folder) text name ∙ ap (λ b. cond b (Some text) (file_at old name)) e))
+    inr (inr ((folder, (first folder, same_name name (stat_name folder) (equal_from_test (by_name name (stat_name folder)) e))), get-insert nat_list_cmp_total old (stat_name folder) text name ∙ ap (λ b. cond b (Some text) (file_at old name)) e))
 written old folder text name false e = inl (get-insert nat_list_cmp_total old (stat_name folder) text name ∙ ap (λ b. cond b (Some text) (file_at old name)) e)
 
 touched_one : StatsApart → (old : Files) (folder : Segments) (stamp : Stamp) → IsStampFolder folder → StampSet folder stamp old (files_with_stamp old folder stamp) → Touches (folder ∷ []) 1 stamp old (files_with_stamp old folder stamp)
@@ -65,7 +61,7 @@ touched_one apart old folder stamp may set = record {
       (λ same.
       let is : other ≡ folder = sym ok.docroot.0 ∙ apart other folder ok.bytes may.bytes same ∙ may.docroot.0 in
       inr (subst (λ f. Contains (folder ∷ []) f) (sym is) (first folder), ap (stamp_at (files_with_stamp old folder stamp)) is ∙ set.here))
-      (λ differ. inl (set.beside.stamps other ok (λ e. differ (ap stat_name e)))) (same_or_other (stat_name other) (stat_name folder));
+      (λ differ. inl (set.beside.stamps other ok (λ e. differ (ap stat_name e)))) (one_text_or_two (stat_name other) (stat_name folder));
   files = λ name. written old folder (stat_text stamp) name (eq_by_cmp by_name name (stat_name folder)) refl;
   number = set.beside.number;
   order = set.order;
@@ -160,13 +156,9 @@ touched_all folders i stamp end a b done = (
 
 -- ---- how many folders are touched
 
-length_lineage : (segs : Segments) → length (lineage segs) ≡ length segs + 1
-length_lineage [] = refl
-length_lineage (seg ∷ segs) = (let e = length_lineage segs in let l = length-map (lineage segs) (λ (path : Segments). seg ∷ path) in omega (arith, e, l))
-
 few_of : (only : Bool) (level : ℕ) (segs : Segments) → length segs ≤ level → length (cond only [] (lineage segs)) ≤ level + 1
 few_of true level segs few = omega arith
-few_of false level segs few = (let e = length_lineage segs in omega (arith, e, few))
+few_of false level segs few = (let e = length-lineage segs in omega (arith, e, few))
 
 pub few_touched : (level : ℕ) (inv : Invalidation) → length (touched_of level inv) ≤ level + 1
 few_touched level inv =

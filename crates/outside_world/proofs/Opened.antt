@@ -1,7 +1,8 @@
 -- A connection is open exactly where its opening stands in the log and no end after it.
-use Rattle.std.proofs.Common.{◌≡◌, ◌++◌, ◌==◌, ◌||◌, ◌⊎◌, inl, inr, ℕ, Bool, true, false, cond, List, [], ◌∷◌, refl, sym, ◌∙◌, ap, arith}
+use Rattle.std.proofs.Common.{◌≡◌, ◌++◌, ◌==◌, ◌||◌, ◌⊎◌, inl, inr, ℕ, Bool, true, false, cond, List, [], ◌∷◌, refl, sym, ◌∙◌, ap}
 use Rattle.std.proofs.lemmas.Bool.{true≢false, eqb-true}
 use Rattle.std.specs.List.{list_any}
+use Rattle.sp_base.proofs.NatLemmas.{nat_eq_itself}
 use Rattle.outside_world.specs.declared.world.Happening.TheVariants.{Opened, Piece, Gone, Quiet}
 use Rattle.outside_world.specs.declared.world.WorldEntry.{WorldEntry}
 use Rattle.outside_world.specs.declared.world.WorldEntry.TheVariants.{Came, Sent, Unsent, Shut}
@@ -63,16 +64,13 @@ stays_open c (Unsent d ∷ log) h = stays_open c log h
 stays_open c (Shut d ∷ log) h =
     elim (d == c) as (λ t. (t || list_any (ends_connection c) log) ≡ false → open_after_all c (cond t false true) log ≡ true) [ true ↦ λ h. absurd (true≢false h) | false ↦ stays_open c log ] h
 
-open_after_both : (c : ℕ) (was : Bool) (log later : List WorldEntry) → open_after_all c was (log ++ later) ≡ open_after_all c (open_after_all c was log) later
-open_after_both c was [] later = refl
-open_after_both c was (entry ∷ log) later = open_after_both c (open_after c was entry) log later
-
-itself : (c : ℕ) → (c == c) ≡ true
-itself c = grind arith
+pub open_after_append : (c : ℕ) (was : Bool) (log later : List WorldEntry) → open_after_all c was (log ++ later) ≡ open_after_all c (open_after_all c was log) later
+open_after_append c was [] later = refl
+open_after_append c was (entry ∷ log) later = open_after_append c (open_after c was entry) log later
 
 pub is_connected-from_opening : (log : List WorldEntry) (c : ℕ) → HasOpening log c → is_connected log c ≡ true
 is_connected-from_opening log c o =
     ap (λ l. is_connected l c) o.is
-    ∙ open_after_both c false o.before (Came (Opened c o.peer) ∷ o.later)
-    ∙ ap (λ t. open_after_all c (cond t true (open_after_all c false o.before)) o.later) (itself c)
+    ∙ open_after_append c false o.before (Came (Opened c o.peer) ∷ o.later)
+    ∙ ap (λ t. open_after_all c (cond t true (open_after_all c false o.before)) o.later) (nat_eq_itself c)
     ∙ stays_open c o.later o.endless

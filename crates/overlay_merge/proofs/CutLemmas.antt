@@ -2,7 +2,7 @@
 use Rattle.std.proofs.Common.{◌≡◌, ◌⊎◌, inl, inr, ◌+◌, ◌-◌, ◌<◌, ◌≤◌, ◌&&◌, ◌||◌, ℕ, zero, suc, Bool, true, false, List, [], length, take, refl, sym, ◌∙◌, ap, arith, ⊎_elim}
 use Rattle.std.specs.Prelude.{Any, slice_index_or}
 use Rattle.std.specs.List.{list_any}
-use Rattle.std.proofs.lemmas.Bool.{and_from, and_parts, cases_Bool, cases_lt, false≢true, le-leb, leb-true}
+use Rattle.std.proofs.lemmas.Bool.{and_from, and_parts, cases_Bool, cases_lt, false≢true, le-leb, leb-true, or_cases, or_left, or_right}
 use Rattle.std.proofs.lemmas.List.{get_or-take, length-take-le}
 use Rattle.std.proofs.lemmas.List.Folds.{Any-from_list_any, list_any-from_Any}
 use Rattle.resource_tree.specs.Content.{Content, name_of}
@@ -25,21 +25,13 @@ found (suc n) p e =
     let rest = found n p (sym (ap (λ t. t || some_below n p) none) ∙ e) in
     record { at = rest.at; less = omega (arith, rest.less); has = rest.has }) (cases_Bool (p n))
 
-some_here : (a b : Bool) → a ≡ true → (a || b) ≡ true
-some_here true b e = refl
-some_here false b e = absurd (false≢true e)
-
-some_later : (a b : Bool) → b ≡ true → (a || b) ≡ true
-some_later true b e = refl
-some_later false b e = e
-
 last_or : (n k : ℕ) → k < suc n → (k ≡ n) ⊎ (k < n)
 last_or n k less = ⊎_elim (λ (before : k < n). inr before) (λ (past : n ≤ k). inl (omega (arith, past, less))) (cases_lt k n)
 
 some_from : (n : ℕ) (p : ℕ → Bool) (k : ℕ) → k < n → p k ≡ true → some_below n p ≡ true
 some_from zero p k less has = absurd (omega (arith, less))
 some_from (suc n) p k less has =
-    ⊎_elim (λ (last : k ≡ n). some_here (p n) (some_below n p) (ap p (sym last) ∙ has)) (λ (before : k < n). some_later (p n) (some_below n p) (some_from n p k before has)) (last_or n k less)
+    ⊎_elim (λ (last : k ≡ n). or_left (p n) (some_below n p) (ap p (sym last) ∙ has)) (λ (before : k < n). or_right (p n) (some_below n p) (some_from n p k before has)) (last_or n k less)
 
 -- ---- nodes along a path
 
@@ -100,19 +92,15 @@ hides_kid_from tree n path is =
 abbrev IsHiddenBy : Content → ℕ × List (List ℕ) → Type 0
 IsHiddenBy tree upper = HidesResource tree upper.0 upper.1 ⊎ HidesKid tree upper.0 upper.1
 
-either : (a b : Bool) → (a || b) ≡ true → (a ≡ true) ⊎ (b ≡ true)
-either true b e = inl refl
-either false b e = inr e
-
 hidden_is : (tree : Content) (upper : ℕ × List (List ℕ)) → is_hidden_by tree upper ≡ true → IsHiddenBy tree upper
 hidden_is tree upper e =
     ⊎_elim (λ (r : hides_resource_within tree upper.0 upper.1 ≡ true). inl (hides_resource_is tree upper.0 upper.1 r)) (λ (k : hides_kid_within tree upper.0 upper.1 ≡ true). inr (hides_kid_is tree upper.0 upper.1 k))
-    (either (hides_resource_within tree upper.0 upper.1) (hides_kid_within tree upper.0 upper.1) e)
+    (or_cases (hides_resource_within tree upper.0 upper.1) (hides_kid_within tree upper.0 upper.1) e)
 
 hidden_from : (tree : Content) (upper : ℕ × List (List ℕ)) → IsHiddenBy tree upper → is_hidden_by tree upper ≡ true
 hidden_from tree upper is =
-    ⊎_elim (λ (r : HidesResource tree upper.0 upper.1). some_here (hides_resource_within tree upper.0 upper.1) (hides_kid_within tree upper.0 upper.1) (hides_resource_from tree upper.0 upper.1 r))
-    (λ (k : HidesKid tree upper.0 upper.1). some_later (hides_resource_within tree upper.0 upper.1) (hides_kid_within tree upper.0 upper.1) (hides_kid_from tree upper.0 upper.1 k)) is
+    ⊎_elim (λ (r : HidesResource tree upper.0 upper.1). or_left (hides_resource_within tree upper.0 upper.1) (hides_kid_within tree upper.0 upper.1) (hides_resource_from tree upper.0 upper.1 r))
+    (λ (k : HidesKid tree upper.0 upper.1). or_right (hides_resource_within tree upper.0 upper.1) (hides_kid_within tree upper.0 upper.1) (hides_kid_from tree upper.0 upper.1 k)) is
 
 pub cut_by_node : (tree : Content) (layer : Layer) (above : List Layer) → layer_is_cut tree layer above ≡ true → LayerIsCut tree layer above
 unfolding layer_is_cut
@@ -121,13 +109,13 @@ cut_by_node tree layer above e =
     (λ (other : list_any (is_hidden_by tree) (in_common layer.common above) ≡ true).
     let any = Any-from_list_any (is_hidden_by tree) (in_common layer.common above) other in
     inr (any.0, any.1, any.2, any.3, hidden_is tree any.1 any.4))
-    (either (hides_resource_within tree layer.own layer.path) (list_any (is_hidden_by tree) (in_common layer.common above)) e)
+    (or_cases (hides_resource_within tree layer.own layer.path) (list_any (is_hidden_by tree) (in_common layer.common above)) e)
 
 pub cut_from_node : (tree : Content) (layer : Layer) (above : List Layer) → LayerIsCut tree layer above → layer_is_cut tree layer above ≡ true
 unfolding layer_is_cut
 cut_from_node tree layer above is =
     ⊎_elim (λ (own : HidesResource tree layer.own layer.path).
-    some_here (hides_resource_within tree layer.own layer.path) (list_any (is_hidden_by tree) (in_common layer.common above)) (hides_resource_from tree layer.own layer.path own))
+    or_left (hides_resource_within tree layer.own layer.path) (list_any (is_hidden_by tree) (in_common layer.common above)) (hides_resource_from tree layer.own layer.path own))
     (λ (other : Any (IsHiddenBy tree) (in_common layer.common above)).
-    some_later (hides_resource_within tree layer.own layer.path) (list_any (is_hidden_by tree) (in_common layer.common above))
+    or_right (hides_resource_within tree layer.own layer.path) (list_any (is_hidden_by tree) (in_common layer.common above))
     (list_any-from_Any (is_hidden_by tree) (in_common layer.common above) (other.0, other.1, other.2, other.3, hidden_from tree other.1 other.4))) is

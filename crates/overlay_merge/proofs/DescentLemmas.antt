@@ -3,21 +3,18 @@ use Rattle.std.proofs.Common.{◌≡◌, ◌-◌, ◌<◌, ◌≤◌, ◌++◌, 
 use Rattle.std.specs.Prelude.{is_some, option_and_then, option_map, reverse, unwrap_or}
 use Rattle.std.specs.Option.{option_or}
 use Rattle.std.specs.List.{list_any}
-use Rattle.std.specs.Ordering.{is_eq}
-use Rattle.std.specs.declared.cmp.Ordering.{Ordering}
-use Rattle.std.specs.declared.cmp.Ordering.TheVariants.{Less, Equal, Greater}
-use Rattle.std.specs.Cmp.{IsTotalOrder, tied_itself}
-use Rattle.std.specs.Cmp.Lexicographic.{lists_total, nat_list_cmp_total}
-use Rattle.std.specs.FinMap.{IsAntisymmetric, nat_cmp-IsAntisymmetric, slice_cmp-IsAntisymmetric}
-use Rattle.std.proofs.lemmas.Bool.{true≢false, false≢true, cases_Bool}
+use Rattle.std.proofs.lemmas.Bool.{true≢false, false≢true, cases_Bool, or_left, or_parts, or_right}
 use Rattle.std.proofs.lemmas.List.{append_cancel_right, drop-append-le, take-append-le}
 use Rattle.std.proofs.lemmas.List.Folds.{list_any-append}
 use Rattle.std.proofs.lemmas.List.Sorted.{IsPermutation-reverse, list_any-IsPermutation}
 use Rattle.std.proofs.Math.Seq.{take-length}
 use Rattle.sp_base.specs.Paths.{is_path, path_or_none}
-use Rattle.resource_tree.specs.Content.{Content, IsTree, by_path, kid, node_at, same_path}
+use Rattle.sp_base.proofs.OptionLemmas.{none_from_test}
+use Rattle.sp_base.proofs.PathTests.{path_before}
+use Rattle.resource_tree.specs.Content.{Content, IsTree, kid, node_at, same_path}
 use Rattle.resource_tree.specs.Seen.{Resource, res_at, res_of}
 use Rattle.resource_tree.specs.declared.nodes.Node.{Node}
+use Rattle.resource_tree.proofs.PathLemmas.{path_from_same, same_path_self}
 use Rattle.type_chain.specs.Chain.{super_at}
 use Rattle.type_chain.specs.Types.{place_of}
 use Rattle.url_split.specs.Split.{at_greatest}
@@ -27,37 +24,19 @@ use Rattle.overlay_merge.specs.Layers.{base_at, base_of, descent, has_layer, lay
 use Rattle.overlay_merge.specs.Hiding.{layer_is_cut, resource_list, merged_from, shown_resources}
 use Rattle.overlay_merge.specs.Merged.{has_resource}
 use Rattle.overlay_merge.specs.Walk.{has_kid_node}
-use Rattle.overlay_merge.proofs.PathLemmas.{is_path-first}
 use Rattle.overlay_merge.proofs.LayerLemmas.{base_below, base_ends, base_is, descent-new, descent-none, descent-there, descent-zero}
 use Rattle.overlay_merge.proofs.MergedLemmas.{has_merged}
 
 -- ---- one path or two
 
-equal : (o : Ordering) → is_eq o ≡ true → o ≡ Equal
-equal Less e = absurd (false≢true e)
-equal Equal e = refl
-equal Greater e = absurd (false≢true e)
-
-by_path_total : IsTotalOrder by_path
-by_path_total = lists_total nat_list_cmp_total
-
-by_path_exact : IsAntisymmetric by_path
-by_path_exact = slice_cmp-IsAntisymmetric (slice_cmp-IsAntisymmetric nat_cmp-IsAntisymmetric)
-
-same_path_is : (p q : List (List ℕ)) → same_path p q ≡ true → p ≡ q
-same_path_is p q h = by_path_exact p q (equal _ h)
-
-same_path_itself : (p : List (List ℕ)) → same_path p p ≡ true
-same_path_itself p = ap is_eq (tied_itself by_path_total p)
-
 -- kids of one name are one path where those above them are
 same_kid : (a b : List (List ℕ)) (name : List ℕ) → same_path (kid a name) (kid b name) ≡ same_path a b
 same_kid a b name =
-    ⊎_elim (λ (one : same_path a b ≡ true). ap (λ p. same_path (kid p name) (kid b name)) (same_path_is a b one) ∙ same_path_itself (kid b name) ∙ sym one)
+    ⊎_elim (λ (one : same_path a b ≡ true). ap (λ p. same_path (kid p name) (kid b name)) (path_from_same a b one) ∙ same_path_self (kid b name) ∙ sym one)
     (λ (two : same_path a b ≡ false).
     ⊎_elim (λ (one : same_path (kid a name) (kid b name) ≡ true).
-    let same : a ≡ b = append_cancel_right a b (name ∷ []) (same_path_is (kid a name) (kid b name) one) in
-    absurd (true≢false (sym (same_path_itself b) ∙ ap (λ p. same_path p b) (sym same) ∙ two)))
+    let same : a ≡ b = append_cancel_right a b (name ∷ []) (path_from_same (kid a name) (kid b name) one) in
+    absurd (true≢false (sym (same_path_self b) ∙ ap (λ p. same_path p b) (sym same) ∙ two)))
     (λ (e : same_path (kid a name) (kid b name) ≡ false). e ∙ sym two) (cases_Bool (same_path (kid a name) (kid b name)))) (cases_Bool (same_path a b))
 
 -- ---- the layer below a kid at which no node is
@@ -97,7 +76,7 @@ made_kid : (tree : Content) (path place : List (List ℕ)) (name : List ℕ) (n 
     → option_map (override_layer common) (cond valid (Some (kid (place ++ drop n path) name)) None) ≡ Some layer → IsKidLayer tree path name layer
 made_kid tree path place name n common false layer valid below e = absurd (cc)
 made_kid tree path place name n common true layer valid below e =
-    let shorter : is_path (place ++ drop n path) ≡ true = is_path-first (place ++ drop n path) (name ∷ []) valid in
+    let shorter : is_path (place ++ drop n path) ≡ true = path_before (place ++ drop n path) (name ∷ []) valid in
     record {
       above = override_layer (length path - n) (place ++ drop n path);
       below = below ∙ ap (λ t. option_map (override_layer (length path - n)) (cond t (Some (place ++ drop n path)) None)) shorter;
@@ -142,21 +121,9 @@ more_kids name kids layers k layer so_far is p =
     ∙ ap (λ t. has_layer layers p || (t || false)) (ap (λ q. same_path q (kid p name)) is ∙ same_kid layer.path p name)
     ∙ sym (list_any-append (λ (l : Layer). same_path l.path p) layers (layer ∷ []))
 
-pub or_left : (a b : Bool) → a ≡ true → (a || b) ≡ true
-or_left true b e = refl
-or_left false b e = absurd (false≢true e)
-
-pub or_right : (a b : Bool) → b ≡ true → (a || b) ≡ true
-or_right true b e = refl
-or_right false b e = e
-
 pub or_second : (a b : Bool) → a ≡ false → (a || b) ≡ true → b ≡ true
 or_second true b is e = absurd (true≢false is)
 or_second false b is e = e
-
-pub no_some : (o : Option Node) → is_some o ≡ false → o ≡ None
-no_some None e = refl
-no_some (Some node) e = absurd (true≢false e)
 
 module _ (tree : Content) (good : IsTree (node_at tree)) (name : List ℕ) where
   next_kid : (n : ℕ) (kids layers : List Layer) (top : Option Layer) (layer : Layer)
@@ -183,7 +150,7 @@ module _ (tree : Content) (good : IsTree (node_at tree)) (name : List ℕ) where
       ap (has_kid_node tree name) (descent-new tree n layers layer new)
       ∙ ⊎_elim (λ (here : is_some (node_at tree (kid layer.path name)) ≡ true). or_left (is_some (node_at tree (kid layer.path name))) (has_kid_node tree name kid_rest) here)
       (λ (missing : is_some (node_at tree (kid layer.path name)) ≡ false).
-      let none : node_at tree (kid layer.path name) ≡ None = no_some (node_at tree (kid layer.path name)) missing in
+      let none : node_at tree (kid layer.path name) ≡ None = none_from_test (node_at tree (kid layer.path name)) missing in
       let later : has_node tree rest ≡ true = or_second (is_some (node_at tree top.path)) (has_node tree rest) (ap (λ p. is_some (node_at tree p)) is ∙ missing) some in
       or_right (is_some (node_at tree (kid layer.path name))) (has_kid_node tree name kid_rest)
       (next_kid n (kids ++ top ∷ []) (layers ++ layer ∷ []) (layer_below tree top.path) layer
@@ -239,10 +206,6 @@ none_res : (tree : Content) (path : List (List ℕ)) (o : Option Node) → is_so
 none_res tree path None e = refl
 none_res tree path (Some node) e = absurd (true≢false e)
 
-or_none : (a b : Bool) → (a || b) ≡ false → (a ≡ false) × (b ≡ false)
-or_none true b e = absurd (true≢false e)
-or_none false b e = (refl, e)
-
 cut_none : {A : Type 0} (cut : Bool) (xs : List A) → xs ≡ [] → cond cut [] xs ≡ []
 cut_none true xs e = refl
 cut_none false xs e = e
@@ -252,7 +215,7 @@ pub no_node_merged : (tree : Content) (layers : List Layer) → has_node tree la
 unfolding shown_resources
 no_node_merged tree [] none = refl
 no_node_merged tree (layer ∷ above) none =
-    let both = or_none (is_some (node_at tree layer.path)) (has_node tree above) none in
+    let both = or_parts (is_some (node_at tree layer.path)) (has_node tree above) none in
     ap (λ l. l ++ shown_resources tree above) (cut_none (layer_is_cut tree layer above) (resource_list (res_at tree layer.path)) (none_res tree layer.path (node_at tree layer.path) both.0))
     ∙ no_node_merged tree above both.1
 

@@ -1,10 +1,10 @@
 -- The kids of layers, and their order.
-use Rattle.std.proofs.Common.{◌≡◌, ◌+◌, ◌<◌, ◌++◌, ◌&&◌, ◌||◌, ◌==◌, ℕ, Bool, true, false, not, cond, List, [], ◌∷◌, Option, Some, None, take, drop, length, get_or, refl, sym, ◌∙◌, ap, append_assoc}
+use Rattle.std.proofs.Common.{◌≡◌, ◌+◌, ◌<◌, ◌++◌, ◌&&◌, ◌||◌, ◌==◌, ℕ, Bool, true, false, not, cond, List, [], ◌∷◌, Option, Some, None, drop, length, get_or, refl, sym, ◌∙◌, ap, append_assoc}
 use Rattle.std.specs.Prelude.{is_some, filter, fold, nat_eq, option_map}
 use Rattle.std.specs.List.{list_any}
 use Rattle.std.specs.Cmp.Lexicographic.{pointwise, same_text}
 use Rattle.std.proofs.lemmas.Bool.{false≢true}
-use Rattle.std.proofs.lemmas.List.{drop_more, take_more}
+use Rattle.std.proofs.lemmas.List.{drop_more}
 use Rattle.std.proofs.lemmas.List.Folds.{list_any-append}
 use Rattle.std.proofs.lemmas.List.Sums.{fold-append}
 use Rattle.overlay_merge.proofs.PropertyLemmas.{filter_same}
@@ -12,6 +12,7 @@ use Rattle.overlay_merge.proofs.WalkLemmas.{not_merged}
 use Rattle.std.proofs.lemmas.Map.Views.{any-filter_same}
 use Rattle.std.proofs.lemmas.List.Elements.{All-append, All-cons, All-get_or, All-nil, filter-append}
 use Rattle.sp_base.specs.Paths.{is_path, path_or_none}
+use Rattle.sp_base.proofs.BoolLemmas.{or_assoc}
 use Rattle.resource_tree.specs.Content.{Content, IsTree, kid, node_at}
 use Rattle.resource_tree.specs.Seen.{Resource, res_at, res_of}
 use Rattle.resource_tree.specs.declared.nodes.Node.{Node}
@@ -37,10 +38,6 @@ kid_is tree res name good is =
 
 -- ---- the kids of layers together
 
-or_or : (a b c : Bool) → ((a || b) || c) ≡ (a || (b || c))
-or_or true b c = refl
-or_or false b c = refl
-
 or_both : (a b : Bool) → (a || (not a && b)) ≡ (a || b)
 or_both true b = refl
 or_both false b = refl
@@ -59,7 +56,7 @@ has-fold names [] name = elim (has_text names name) as (λ t. t ≡ (t || false)
 has-fold names (layer ∷ layers) name =
     has-fold (with_kids_of names layer) layers name
     ∙ ap (λ t. t || list_any (λ (l : Resource). has_text l.kids name) layers) (has-with names layer name)
-    ∙ or_or (has_text names name) (has_text layer.kids name) (list_any (λ (l : Resource). has_text l.kids name) layers)
+    ∙ or_assoc (has_text names name) (has_text layer.kids name) (list_any (λ (l : Resource). has_text l.kids name) layers)
 
 -- a name is one of these exactly where a layer has such a kid
 pub has-all_kids : (layers : List Resource) (name : List ℕ) → has_text (all_kids layers) name ≡ list_any (λ (l : Resource). has_text l.kids name) layers
@@ -132,12 +129,6 @@ pub not_there : (tree : Content) (path : List (List ℕ)) → None ≡ path_or_n
 not_there tree path none = sym (ap (λ (l : List Resource). not (length l == 0)) (not_merged tree path (not_path path none)))
 
 -- ---- loops over kids
-
-pub name_more : (items names : List (List ℕ)) (i : ℕ) (item : List ℕ) → items ≡ names → i < length items → item ≡ get_or items i item
-    → take (i + 1) names ≡ take i names ++ item ∷ []
-name_more items names i item same lt is =
-    sym (ap (take (i + 1)) same) ∙ take_more items i item lt ∙ ap (λ ns. take i ns ++ get_or items i item ∷ []) same
-    ∙ ap (λ n. take i names ++ n ∷ []) (sym is)
 
 pub add_more : (before kids more names new : List (List ℕ)) (name : List ℕ) (lower : List Resource) (known : Bool) → more ≡ kids ++ name ∷ []
     → names ≡ before ++ filter (λ n. not (list_any (λ (l : Resource). has_text l.kids n) lower)) kids → known ≡ list_any (λ (l : Resource). has_text l.kids name) lower

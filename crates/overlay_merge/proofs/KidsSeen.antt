@@ -1,9 +1,9 @@
 -- Each kid of what is seen has a resource, and the node that is seen alone keeps its kids.
-use Rattle.std.proofs.Common.{◌≡◌, ◌<◌, ◌≤◌, ◌++◌, ◌||◌, ◌⊎◌, inl, inr, ℕ, Bool, true, false, not, cond, List, [], ◌∷◌, Option, Some, None, length, refl, sym, ◌∙◌, ap, arith, ⊎_elim}
+use Rattle.std.proofs.Common.{◌≡◌, ◌<◌, ◌≤◌, ◌++◌, ℕ, Bool, true, false, not, cond, List, [], ◌∷◌, Option, Some, None, length, refl, sym, ◌∙◌, ap, arith, ⊎_elim}
 use Rattle.std.specs.Prelude.{All, codes, filter, is_some, nat_eq, option_map}
 use Rattle.std.specs.Cmp.Lexicographic.{pointwise, same_text}
 use Rattle.std.specs.FinMap.Entries.{is_sorted}
-use Rattle.std.proofs.lemmas.Bool.{and_parts, false≢true, cases_Bool, cases_lt}
+use Rattle.std.proofs.lemmas.Bool.{and_parts, false≢true, cases_Bool, cases_lt, or_cases}
 use Rattle.std.proofs.lemmas.List.{take-append-le}
 use Rattle.std.proofs.lemmas.Map.Views.{any-filter_same}
 use Rattle.std.proofs.Math.Seq.{take-length}
@@ -57,10 +57,6 @@ is_root_kid a name root named under =
     let second = and_parts (pointwise nat_eq root name) _ parts.1 in
     let same : codes "mnt" ≡ a = same_text (codes "mnt") a (sym parts.0) in
     (ap (λ (s : List ℕ). is_parent_of_roots (s ∷ [])) (sym same), named_root name root (same_text root name (sym second.0)) named)
-
-or_cases : (a b : Bool) → (a || b) ≡ true → (a ≡ true) ⊎ (b ≡ true)
-or_cases true b e = inl refl
-or_cases false b e = inr e
 
 root_kid : (path : List (List ℕ)) (name : List ℕ) → is_merged_path path ≡ false → is_merged_path (kid path name) ≡ true → (is_parent_of_roots path ≡ true) × (is_name_of_root name ≡ true)
 root_kid [] name plain is = absurd (false≢true (sym (short_plain (name ∷ []) (omega arith)) ∙ is))

@@ -1,5 +1,5 @@
 -- What holds of all that is merged.
-use Rattle.std.proofs.Common.{◌≡◌, ◌++◌, ◌&&◌, ℕ, Bool, true, false, cond, List, [], ◌∷◌, Option, Some, None, get_or, length, refl, sym, ◌∙◌, ap}
+use Rattle.std.proofs.Common.{◌≡◌, ◌++◌, ◌&&◌, ℕ, true, false, cond, List, [], ◌∷◌, Option, Some, None, get_or, length, refl, sym, ◌∙◌, ap}
 use Rattle.std.specs.Prelude.{fold, insert, nat_eq, option_map, position, remove, unwrap_or}
 use Rattle.std.specs.List.{list_any}
 use Rattle.std.specs.List.Sorted.{IsPermutation}
@@ -8,6 +8,7 @@ use Rattle.std.proofs.lemmas.Bool.{and_parts}
 use Rattle.std.proofs.lemmas.List.Quantifiers.{position-Some}
 use Rattle.std.proofs.lemmas.List.Sorted.{IsPermutation-insert, IsPermutation-refl, IsPermutation-remove, IsPermutation-trans, list_any-IsPermutation}
 use Rattle.std.proofs.lemmas.Map.Views.{any-filter_same}
+use Rattle.sp_base.proofs.BoolLemmas.{and_false, and_true}
 use Rattle.resource_tree.specs.Content.{Content, kid}
 use Rattle.resource_tree.specs.Seen.{Resource, res_at}
 use Rattle.overlay_merge.specs.declared.layers.Layer.{Layer}
@@ -82,14 +83,6 @@ pub has-layers_kids : (tree : Content) (path : List (List ℕ)) (layers : List R
 has-layers_kids tree path layers name =
     sym (list_any-IsPermutation (pointwise nat_eq name) (kids_there tree path (all_kids layers)) (layers_kids tree path layers) (kids-reorder tree path layers))
     ∙ there-has tree path (all_kids layers) name ∙ ap (λ t. is_merged_there tree (kid path name) && t) (has-all_kids layers name)
-
-and_false : (b : Bool) → (b && false) ≡ false
-and_false true = refl
-and_false false = refl
-
-and_true : (b : Bool) → (b && true) ≡ b
-and_true true = refl
-and_true false = refl
 
 -- none where no layer has it, and else whether something is left at its path
 pub has_no_kid : (tree : Content) (path : List (List ℕ)) (layers : List Resource) (name : List ℕ) → list_any (λ (layer : Resource). has_text layer.kids name) layers ≡ false

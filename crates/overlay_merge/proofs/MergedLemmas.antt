@@ -1,16 +1,13 @@
 -- Whether something is seen at a path.
-use Rattle.std.proofs.Common.{◌≡◌, ◌==◌, ◌<◌, ℕ, arith, Bool, true, false, not, cond, List, [], ◌∷◌, Option, Some, None, length, refl, sym, ◌∙◌, ap}
+use Rattle.std.proofs.Common.{◌≡◌, ◌==◌, ℕ, arith, Bool, true, false, not, cond, List, [], ◌∷◌, Option, Some, None, length, refl, sym, ◌∙◌, ap}
 use Rattle.std.specs.Prelude.{is_some, option_map}
-use Rattle.std.proofs.lemmas.Bool.Decides.{nat_tests}
+use Rattle.sp_base.proofs.NatLemmas.{not_zero}
 use Rattle.resource_tree.specs.Content.{Content, node_at}
 use Rattle.resource_tree.specs.Seen.{Resource, res_of}
 use Rattle.resource_tree.specs.declared.nodes.Node.{Node}
 use Rattle.overlay_merge.specs.Roots.{is_merged_path, is_parent_of_roots}
 use Rattle.overlay_merge.specs.Hiding.{merged_from}
 use Rattle.overlay_merge.specs.Merged.{has_resource, merge, merged_resource, unmerged_resource, without_roots}
-
-pub not_zero : (n : ℕ) → 0 < n → (n == 0) ≡ false
-not_zero n some = grind (arith, nat_tests)
 
 some_merge : (tree : Content) (path : List (List ℕ)) (layers : List Resource) → is_some (merge tree path layers) ≡ not (length layers == 0)
 some_merge tree path [] = refl

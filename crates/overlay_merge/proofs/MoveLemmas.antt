@@ -2,19 +2,18 @@
 use Rattle.std.proofs.Common.{◌≡◌, ◌+◌, ◌<◌, ◌++◌, ◌||◌, ℕ, suc, Bool, true, false, not, cond, List, [], ◌∷◌, Option, Some, None, drop, length, refl, sym, ◌∙◌, ap, arith, length-append}
 use Rattle.std.specs.Prelude.{filter, insert, nat_eq, nat_lt, position, remove, unwrap_or}
 use Rattle.std.specs.List.{list_any, position_or_len}
-use Rattle.std.specs.Cmp.Lexicographic.{pointwise, nat_list_eq_equiv}
-use Rattle.std.proofs.lemmas.Bool.{cond-true, le-ltb, lt-ltb, or_parts, or_from}
+use Rattle.std.specs.Cmp.Lexicographic.{pointwise}
+use Rattle.std.proofs.lemmas.Bool.{cond-true, lt-ltb, or_parts, or_from}
 use Rattle.std.proofs.lemmas.List.Folds.{list_any-append}
 use Rattle.std.proofs.lemmas.List.Elements.{filter-append}
 use Rattle.std.proofs.Math.Seq.{take-append_seam, drop-append_seam}
+use Rattle.sp_base.proofs.NatLemmas.{not_below_itself}
+use Rattle.sp_base.proofs.TextLemmas.{text_itself}
 use Rattle.overlay_merge.specs.Kids.{has_text, names_after_move, names_after_move_from}
 
 -- the names but for one
 abbrev pub but : List ℕ → List (List ℕ) → List (List ℕ)
 but name names = filter (λ q. not (pointwise nat_eq name q)) names
-
-pub self : (name : List ℕ) → pointwise nat_eq name name ≡ true
-self name = nat_list_eq_equiv.refl name
 
 place : {X : Type 0} (p : X → Bool) (xs : List X) (y : X) (ys : List X) → list_any p xs ≡ false → p y ≡ true → position_or_len p (xs ++ y ∷ ys) ≡ length xs
 place p [] y ys none here = ap (λ b. cond (not b) (1 + position_or_len p ys) 0) here
@@ -49,7 +48,7 @@ but_one : (name : List ℕ) (xs ys : List (List ℕ)) → list_any (pointwise na
 but_one name xs ys before after =
     filter-append (λ q. not (pointwise nat_eq name q)) xs (name ∷ ys)
     ∙ ap (λ l. l ++ but name (name ∷ ys)) (but_none name xs before)
-    ∙ ap (λ b. xs ++ cond (not b) (name ∷ but name ys) (but name ys)) (self name) ∙ ap (λ l. xs ++ l) (but_none name ys after)
+    ∙ ap (λ b. xs ++ cond (not b) (name ∷ but name ys) (but name ys)) (text_itself name) ∙ ap (λ l. xs ++ l) (but_none name ys after)
 
 none_but : (p : List ℕ → Bool) (name : List ℕ) (names : List (List ℕ)) → list_any p names ≡ false → list_any p (but name names) ≡ false
 none_but p name [] none = refl
@@ -63,7 +62,7 @@ none_but p name (q ∷ names) none =
 
 has_at : (xs : List (List ℕ)) (y : List ℕ) (ys : List (List ℕ)) → has_text (xs ++ y ∷ ys) y ≡ true
 has_at xs y ys =
-    list_any-append (pointwise nat_eq y) xs (y ∷ ys) ∙ ap (λ b. list_any (pointwise nat_eq y) xs || (b || list_any (pointwise nat_eq y) ys)) (self y)
+    list_any-append (pointwise nat_eq y) xs (y ∷ ys) ∙ ap (λ b. list_any (pointwise nat_eq y) xs || (b || list_any (pointwise nat_eq y) ys)) (text_itself y)
     ∙ elim (list_any (pointwise nat_eq y) xs) as (λ b. (b || true) ≡ true) [ true ↦ refl | false ↦ refl ]
 
 -- a name that is there once is moved directly before another
@@ -73,7 +72,7 @@ pub moved_at : (name other : List ℕ) (names beginning back above below : List 
     → names_after_move name (Some other) names ≡ but name above ++ name ∷ (other ∷ but name below)
 unfolding names_after_move
 moved_at name other names beginning back above below differ name_at prefix_lacks back_lacks other_at above_lacks =
-    let at : position (pointwise nat_eq name) names ≡ Some (length beginning) = ap (position (pointwise nat_eq name)) name_at ∙ position_at (pointwise nat_eq name) beginning name back prefix_lacks (self name) in
+    let at : position (pointwise nat_eq name) names ≡ Some (length beginning) = ap (position (pointwise nat_eq name)) name_at ∙ position_at (pointwise nat_eq name) beginning name back prefix_lacks (text_itself name) in
     let has : has_text names other ≡ true = ap (λ l. has_text l other) other_at ∙ has_at above other below in
     let left_names : but name names ≡ but name above ++ (other ∷ but name below) =
     ap (but name) other_at ∙ filter-append (λ q. not (pointwise nat_eq name q)) above (other ∷ below)
@@ -81,7 +80,7 @@ moved_at name other names beginning back above below differ name_at prefix_lacks
     let left : remove names (length beginning) ≡ but name above ++ (other ∷ but name below) =
     ap (λ l. remove l (length beginning)) name_at ∙ removed beginning name back ∙ sym (ap (but name) name_at ∙ but_one name beginning back prefix_lacks back_lacks) ∙ left_names in
     let where_other : position (pointwise nat_eq other) (but name above ++ (other ∷ but name below)) ≡ Some (length (but name above)) =
-    position_at (pointwise nat_eq other) (but name above) other (but name below) (none_but (pointwise nat_eq other) name above above_lacks) (self other) in
+    position_at (pointwise nat_eq other) (but name above) other (but name below) (none_but (pointwise nat_eq other) name above above_lacks) (text_itself other) in
     ap (λ b. cond b names (names_after_move_from name other names (position (pointwise nat_eq name) names))) differ
     ∙ ap (names_after_move_from name other names) at
     ∙ ap (λ b. cond b (insert (remove names (length beginning)) (unwrap_or (position (pointwise nat_eq other) (remove names (length beginning))) (length (remove names (length beginning)))) name) names) has
@@ -99,11 +98,8 @@ no_place p [] none = refl
 no_place p (x ∷ xs) none =
     ap (λ b. cond (not b) (1 + position_or_len p xs) 0) (or_parts (p x) (list_any p xs) none).0 ∙ ap (λ n. 1 + n) (no_place p xs (or_parts (p x) (list_any p xs) none).1) ∙ omega arith
 
-le-self : (n : ℕ) → nat_lt n n ≡ false
-le-self n = le-ltb n n (omega arith)
-
 position_none : {X : Type 0} (p : X → Bool) (xs : List X) → list_any p xs ≡ false → position p xs ≡ None
-position_none p xs none = ap (λ n. cond (nat_lt n (length xs)) (Some n) None) (no_place p xs none) ∙ ap (λ b. cond b (Some (length xs)) None) (le-self (length xs))
+position_none p xs none = ap (λ n. cond (nat_lt n (length xs)) (Some n) None) (no_place p xs none) ∙ ap (λ b. cond b (Some (length xs)) None) (not_below_itself (length xs))
 
 -- nor where the name isn't there
 pub moved_none : (name other : List ℕ) (names : List (List ℕ)) → list_any (pointwise nat_eq name) names ≡ false → names_after_move name (Some other) names ≡ names

@@ -6,6 +6,7 @@ use Rattle.std.specs.Cmp.Lexicographic.{nat_list_eq_equiv, pointwise}
 use Rattle.std.proofs.lemmas.Bool.{or_parts, not-true}
 use Rattle.std.proofs.lemmas.List.Elements.{All-head, All-tail}
 use Rattle.std.proofs.lemmas.Map.Keys.{IsDistinct-cons, IsDistinct-head, IsDistinct-tail}
+use Rattle.sp_base.proofs.ListLemmas.{all_append, all_filter, all_weaker}
 use Rattle.resource_tree.specs.Content.{Content, IsTree, node_at}
 use Rattle.resource_tree.specs.Seen.{Resource, res_at}
 use Rattle.overlay_merge.specs.declared.order.KidMove.{KidMove}
@@ -14,22 +15,6 @@ use Rattle.overlay_merge.specs.Walk.{AreNodesOf}
 use Rattle.overlay_merge.proofs.KidLemmas.{node_of}
 
 -- ---- no kid is twice among the kids of layers
-
-each_both : {X : Type 0} (P : X → Type 0) (xs ys : List X) → AllByRecursion P xs → AllByRecursion P ys → AllByRecursion P (xs ++ ys)
-each_both P [] ys h k = k
-each_both P (x ∷ xs) ys h k = (h.0, each_both P xs ys h.1 k)
-
-each_from : {X : Type 0} (P Q : X → Type 0) → ((x : X) → P x → Q x) → (xs : List X) → AllByRecursion P xs → AllByRecursion Q xs
-each_from P Q f [] h = tt
-each_from P Q f (x ∷ xs) h = (f x h.0, each_from P Q f xs h.1)
-
-each_filter : {X : Type 0} (P : X → Type 0) (p : X → Bool) (xs : List X) → AllByRecursion P xs → AllByRecursion P (filter p xs)
-each_filter P p [] h = tt
-each_filter P p (x ∷ xs) h =
-    elim (p x) as (λ b. AllByRecursion P (cond b (x ∷ filter p xs) (filter p xs))) [
-      | true ↦ (h.0, each_filter P p xs h.1)
-      | false ↦ each_filter P p xs h.1
-    ]
 
 each_passes : {X : Type 0} (p : X → Bool) (xs : List X) → AllByRecursion (λ x. p x ≡ true) (filter p xs)
 each_passes p [] = tt
@@ -47,17 +32,17 @@ distinct_join [] ys dx dy apart = dy
 distinct_join (x ∷ xs) ys dx dy apart =
     let eq = pointwise nat_eq in
     IsDistinct-cons eq x (xs ++ ys)
-    (each_both (λ y. eq x y ≡ false) xs ys (IsDistinct-head eq x xs dx)
-    (each_from (λ y. has_text (x ∷ xs) y ≡ false) (λ y. eq x y ≡ false) (λ y none. nat_list_eq_equiv.symm x y ∙ (or_parts (eq y x) (has_text xs y) none).0) ys apart))
+    (all_append (λ y. eq x y ≡ false) xs ys (IsDistinct-head eq x xs dx)
+    (all_weaker (λ y. has_text (x ∷ xs) y ≡ false) (λ y. eq x y ≡ false) (λ y none. nat_list_eq_equiv.symm x y ∙ (or_parts (eq y x) (has_text xs y) none).0) ys apart))
     (distinct_join xs ys (IsDistinct-tail eq x xs dx) dy
-    (each_from (λ y. has_text (x ∷ xs) y ≡ false) (λ y. has_text xs y ≡ false) (λ y none. (or_parts (eq y x) (has_text xs y) none).1) ys apart))
+    (all_weaker (λ y. has_text (x ∷ xs) y ≡ false) (λ y. has_text xs y ≡ false) (λ y none. (or_parts (eq y x) (has_text xs y) none).1) ys apart))
 
 distinct_filter : (p : List ℕ → Bool) (xs : List (List ℕ)) → AreDistinct xs → AreDistinct (filter p xs)
 distinct_filter p [] d = d
 distinct_filter p (x ∷ xs) d =
     let eq = pointwise nat_eq in
     elim (p x) as (λ b. AreDistinct (cond b (x ∷ filter p xs) (filter p xs))) [
-      | true ↦ IsDistinct-cons eq x (filter p xs) (each_filter (λ y. eq x y ≡ false) p xs (IsDistinct-head eq x xs d)) (distinct_filter p xs (IsDistinct-tail eq x xs d))
+      | true ↦ IsDistinct-cons eq x (filter p xs) (all_filter (λ y. eq x y ≡ false) p xs (IsDistinct-head eq x xs d)) (distinct_filter p xs (IsDistinct-tail eq x xs d))
       | false ↦ distinct_filter p xs (IsDistinct-tail eq x xs d)
     ]
 
@@ -66,7 +51,7 @@ unfolding with_kids_of
 distinct_with names layer dn dk =
     let p = λ (name : List ℕ). not (has_text names name) in
     distinct_join names (filter p layer.kids) dn (distinct_filter p layer.kids dk)
-    (each_from (λ y. p y ≡ true) (λ y. has_text names y ≡ false) (λ y e. not-true (has_text names y) e) (filter p layer.kids) (each_passes p layer.kids))
+    (all_weaker (λ y. p y ≡ true) (λ y. has_text names y ≡ false) (λ y e. not-true (has_text names y) e) (filter p layer.kids) (each_passes p layer.kids))
 
 distinct_kids : (tree : Content) (res : Resource) → IsTree (node_at tree) → res_at tree res.path ≡ Some res → AreDistinct res.kids
 distinct_kids tree res good is =

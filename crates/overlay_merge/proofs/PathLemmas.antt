@@ -1,24 +1,14 @@
 -- Paths by their first segments.
-use Rattle.std.proofs.Common.{◌≡◌, ◌+◌, ◌-◌, ◌<◌, ◌≤◌, ℕ, true, cond, List, [], ◌∷◌, ◌++◌, drop, take, length, zero, suc, add-zero, refl, sym, ◌∙◌, ap, arith, ⊎_elim, Option, Some, None}
+use Rattle.std.proofs.Common.{◌≡◌, ◌+◌, ◌-◌, ◌<◌, ◌≤◌, ℕ, true, cond, List, [], ◌∷◌, drop, take, length, zero, suc, add-zero, refl, sym, ◌∙◌, ap, arith, ⊎_elim, Option, Some, None}
 use Rattle.std.specs.Prelude.{is_some, slice_index_or}
 use Rattle.std.specs.List.{list_all}
 use Rattle.std.proofs.lemmas.Bool.{and_parts, and_from, false≢true, true≢false, leb-true, le-leb, cases_lt}
-use Rattle.std.proofs.lemmas.List.{take_more, length-append, length-drop}
-use Rattle.std.proofs.lemmas.List.Folds.{list_all-append}
+use Rattle.std.proofs.lemmas.List.{take_more, length-drop}
 use Rattle.sp_base.specs.Paths.{is_path, path_or_none, seg_ok}
 use Rattle.resource_tree.specs.Content.{Content, IsTree, kid, node_at}
 use Rattle.resource_tree.specs.declared.nodes.Node.{Node}
 
 -- ---- other first segments
-
-pub is_path-first : (p r : List (List ℕ)) → is_path (p ++ r) ≡ true → is_path p ≡ true
-is_path-first p r whole =
-    let both = and_parts (list_all seg_ok (p ++ r)) _ whole in
-    let segs = (and_parts (list_all seg_ok p) (list_all seg_ok r) (sym (list_all-append seg_ok p r) ∙ both.0)).0 in
-    let deep = leb-true _ _ both.1 in
-    let size = length-append p r in
-    let short : length p ≤ 64 = omega (arith, deep, size) in
-    and_from _ _ segs (le-leb _ _ short)
 
 pub path_from : (p : List (List ℕ)) → is_path p ≡ true → Some p ≡ path_or_none p
 path_from p e = ap (λ t. cond t (Some p) None) (sym e)

@@ -10,6 +10,7 @@ use Rattle.std.specs.FinMap.Entries.{put, where_key}
 use Rattle.std.proofs.lemmas.List.Folds.{list_any-append}
 use Rattle.sp_base.specs.Names.{by_name}
 use Rattle.sp_base.specs.declared.value.Value.{Value}
+use Rattle.sp_base.proofs.BoolLemmas.{or_false}
 use Rattle.overlay_merge.specs.Hiding.{text_stands_for}
 use Rattle.overlay_merge.specs.Properties.{is_steering, put_all, without_steering}
 
@@ -60,10 +61,6 @@ pub hide_one : (text : List ℕ) (props left : Props) → pointwise nat_eq text 
 hide_one text props left other is =
     is ∙ keep_same (λ key. not (eq_by_cmp by_name text key)) (λ name. not (text_stands_for name text)) props
     (λ name. ap not (sym (texts_ties text name) ∙ sym (ap (λ t. t || pointwise nat_eq text name) other)))
-
-or_false : (b : Bool) → (b || false) ≡ b
-or_false true = refl
-or_false false = refl
 
 not_or : (a b : Bool) → not (a || b) ≡ (not a && not b)
 not_or true b = refl

@@ -1,14 +1,15 @@
 -- How deep what is seen reaches along a path: a node's parent is there, so none is below the first ancestor that is missing.
-use Rattle.std.proofs.Common.{◌≡◌, ◌≤◌, ◌<◌, ◌+◌, ◌-◌, ◌==◌, ◌||◌, ◌&&◌, ◌⊎◌, ℕ, zero, suc, Bool, true, false, not, cond, List, [], ◌∷◌, Some, None, drop, get_or, length, take, refl, sym, ◌∙◌, ap, arith, ⊎_elim}
+use Rattle.std.proofs.Common.{◌≡◌, ◌≤◌, ◌<◌, ◌+◌, ◌-◌, ◌==◌, ◌||◌, ◌⊎◌, ℕ, zero, suc, Bool, true, false, not, cond, List, [], ◌∷◌, Some, None, drop, get_or, length, take, refl, sym, ◌∙◌, ap, arith, ⊎_elim}
 use Rattle.std.specs.Prelude.{codes, is_some, nat_eq, slice_get, slice_index_or}
 use Rattle.std.proofs.lemmas.Option.{get_or_from_slice_get}
 use Rattle.std.specs.Cmp.Lexicographic.{pointwise, same_text}
 use Rattle.std.proofs.lemmas.Bool.{true≢false, false≢true, and_parts, cases_lt, cases_Bool}
 use Rattle.std.proofs.lemmas.List.{take_more, length-take-le}
-use Rattle.std.proofs.Math.Seq.{take-length}
 use Rattle.sp_base.specs.Paths.{is_path, is_under, parent_of}
+use Rattle.sp_base.proofs.BoolLemmas.{and_false}
 use Rattle.resource_tree.specs.Content.{Content, IsTree, kid, name_of, node_at}
 use Rattle.resource_tree.specs.Seen.{Resource}
+use Rattle.resource_tree.proofs.SamePaths.{kid_of_parent}
 use Rattle.overlay_merge.specs.Roots.{is_merged_path, is_overlay, is_override}
 use Rattle.overlay_merge.specs.Layers.{has_node, layers_of, overlay_layers, override_layers}
 use Rattle.overlay_merge.specs.Hiding.{merged_from, shown_resources}
@@ -35,14 +36,6 @@ prefix_of (a ∷ path) (s ∷ q) h =
       same = ap (λ (p : List (List ℕ)). a ∷ p) rest.same ∙ ap (λ (t : List ℕ). t ∷ q) (sym (same_text s a (sym parts.0)));
       within = omega (arith, rest.within);
     }
-
--- a path other than the root is its parent's kid
-kid_of_parent : (q : List (List ℕ)) → 0 < length q → kid (parent_of q) (name_of q) ≡ q
-kid_of_parent [] some = absurd (omega (arith, some))
-kid_of_parent (s ∷ q) some =
-    let size : (length (s ∷ q) - 1) + 1 ≡ length (s ∷ q) = omega arith in
-    let within : length (s ∷ q) - 1 < length (s ∷ q) = omega arith in
-    sym (take_more (s ∷ q) (length (s ∷ q) - 1) [] within) ∙ ap (λ i. take i (s ∷ q)) size ∙ take-length (s ∷ q)
 
 -- no node is at the longer prefixes
 abbrev pub NoneFrom : Content → List (List ℕ) → ℕ → Type 0
@@ -103,13 +96,9 @@ merged_parent tree other is there =
     (λ (small : length other ≤ 2).
     absurd (false≢true (sym (ap (λ (l : List Resource). not (length l == 0)) (root_none tree other small)) ∙ sym (has_merged tree other is) ∙ there))) (cases_lt 2 (length other))
 
-and_no : (t : Bool) → (t && false) ≡ false
-and_no true = refl
-and_no false = refl
-
 pub short_plain : (q : List (List ℕ)) → length q ≤ 1 → is_merged_path q ≡ false
 short_plain [] small = refl
-short_plain (x ∷ []) small = ap (λ t. t || is_override (x ∷ [])) (and_no (pointwise nat_eq (codes "mnt") x)) ∙ and_no (pointwise nat_eq (codes "mnt") x)
+short_plain (x ∷ []) small = ap (λ t. t || is_override (x ∷ [])) (and_false (pointwise nat_eq (codes "mnt") x)) ∙ and_false (pointwise nat_eq (codes "mnt") x)
 short_plain (x ∷ y ∷ q) small = absurd (omega (arith, small))
 
 -- what is known along a path that isn't merged is a node

@@ -1,19 +1,19 @@
 -- What is seen comes from layers that aren't cut.
-use Rattle.std.proofs.Common.{◌≡◌, ◌++◌, ◌||◌, ℕ, suc, Bool, true, false, not, cond, List, [], ◌∷◌, Option, Some, None, get_or, append-nil, append_assoc, refl, sym, ◌∙◌, ap, arith, subst, ⊎_elim}
+use Rattle.std.proofs.Common.{◌≡◌, ◌++◌, ◌||◌, ℕ, Bool, true, false, not, cond, List, [], ◌∷◌, Option, Some, None, get_or, append-nil, append_assoc, refl, sym, ◌∙◌, ap, subst, ⊎_elim}
 use Rattle.std.specs.Prelude.{All, codes, filter, fold, is_some, option_map, unwrap_or}
 use Rattle.std.specs.List.{Contains, list_any}
 use Rattle.std.specs.List.Sorted.{IsPermutation}
-use Rattle.std.specs.declared.cmp.Ordering.{Ordering}
 use Rattle.std.specs.declared.cmp.Ordering.TheVariants.{Less, Equal, Greater}
 use Rattle.std.specs.FinMap.Entries.{below_all, by_order, find, is_sorted, put}
 use Rattle.std.specs.Ordering.{is_lt, ordering_reverse}
 use Rattle.std.specs.Cmp.Lexicographic.{nat_list_cmp_total}
-use Rattle.std.specs.FinMap.{nat_cmp-IsAntisymmetric, slice_cmp-IsAntisymmetric}
-use Rattle.std.proofs.lemmas.Bool.{and_parts, true≢false, false≢true, cases_Bool}
-use Rattle.std.proofs.lemmas.List.Elements.{All-append, All-cons, All-contains_itself, All-filter, All-nil}
+use Rattle.std.proofs.lemmas.Bool.{and_parts, true≢false, false≢true, cases_Bool, or_parts}
+use Rattle.std.proofs.lemmas.List.Elements.{All-append, All-cons, All-contains_itself, All-filter, All-head, All-nil, All-tail}
 use Rattle.sp_base.specs.Names.{by_name}
 use Rattle.sp_base.specs.Paths.{is_path}
 use Rattle.sp_base.specs.declared.value.Value.{Value}
+use Rattle.sp_base.proofs.OrderingLemmas.{less_from_test}
+use Rattle.sp_base.proofs.PropertyLemmas.{same_name}
 use Rattle.resource_tree.specs.Content.{Content, kid, node_at}
 use Rattle.resource_tree.specs.Seen.{Resource, res_at, res_of}
 use Rattle.resource_tree.specs.declared.nodes.Node.{Node}
@@ -30,38 +30,29 @@ use Rattle.overlay_merge.proofs.LawLemmas.{kid-parts, kids-reorder}
 
 -- ---- properties
 
-same_name : (a b : List ℕ) → by_name a b ≡ Equal → a ≡ b
-same_name a b e = slice_cmp-IsAntisymmetric nat_cmp-IsAntisymmetric a b e
-
-pub head_of : {X : Type 0} (P : X → Type 0) (x : X) (xs : List X) → All P (x ∷ xs) → P x
-head_of P x xs all = all 0 x (omega arith)
-
-pub tail_of : {X : Type 0} (P : X → Type 0) (x : X) (xs : List X) → All P (x ∷ xs) → All P xs
-tail_of P x xs all k d less = all (suc k) d (omega (arith, less))
-
 module _ (P : List ℕ × Value → Type 0) where
   all_put : (k : List ℕ) (v : Value) (props : List (List ℕ × Value)) → P (k, v) → All P props → All P (put by_name k v props)
   all_put k v [] here all = All-cons P (k, v) [] here (All-nil P)
   all_put k v (e ∷ es) here all =
       elim (by_name k e.0) as (λ o. by_name k e.0 ≡ o → All P (by_order o ((k, v) ∷ e ∷ es) ((e.0, v) ∷ es) (e ∷ put by_name k v es))) [
         | Less ↦ λ is. All-cons P (k, v) (e ∷ es) here all
-        | Equal ↦ λ is. All-cons P (e.0, v) es (subst (λ (n : List ℕ). P (n, v)) (same_name k e.0 is) here) (tail_of P e es all)
-        | Greater ↦ λ is. All-cons P e (put by_name k v es) (head_of P e es all) (all_put k v es here (tail_of P e es all))
+        | Equal ↦ λ is. All-cons P (e.0, v) es (subst (λ (n : List ℕ). P (n, v)) (same_name k e.0 is) here) (All-tail P e es all)
+        | Greater ↦ λ is. All-cons P e (put by_name k v es) (All-head P e es all) (all_put k v es here (All-tail P e es all))
       ] refl
 
   all_put_all : (lower upper : List (List ℕ × Value)) → All P lower → All P upper → All P (put_all lower upper)
   unfolding put_all
   all_put_all lower [] low up = low
   all_put_all lower ((k, v) ∷ upper) low up =
-      all_put_all (put by_name k v lower) upper (all_put k v lower (head_of P (k, v) upper up) low) (tail_of P (k, v) upper up)
+      all_put_all (put by_name k v lower) upper (all_put k v lower (All-head P (k, v) upper up) low) (All-tail P (k, v) upper up)
 
   all_layers : (lower : List (List ℕ × Value)) (layers : List Resource) → All P lower → All (λ (layer : Resource). All P layer.props) layers → All P (fold with_layer lower layers)
   unfolding with_layer
   all_layers lower [] low up = low
   all_layers lower (layer ∷ layers) low up =
       all_layers (with_layer lower layer) layers
-      (all_put_all (lower_properties_left layer.props lower) layer.props (All-filter (λ (e : List ℕ × Value). not (lists_name (find by_name (codes "sling:hideProperties") layer.props) e.0)) P lower low) (head_of (λ (l : Resource). All P l.props) layer layers up))
-      (tail_of (λ (l : Resource). All P l.props) layer layers up)
+      (all_put_all (lower_properties_left layer.props lower) layer.props (All-filter (λ (e : List ℕ × Value). not (lists_name (find by_name (codes "sling:hideProperties") layer.props) e.0)) P lower low) (All-head (λ (l : Resource). All P l.props) layer layers up))
+      (All-tail (λ (l : Resource). All P l.props) layer layers up)
 
   all_merged : (layers : List Resource) → All (λ (layer : Resource). All P layer.props) layers → All P (merged_props layers)
   unfolding merged_props
@@ -127,9 +118,9 @@ some_layer : (tree : Content) (path : List (List ℕ)) (layers : List Resource) 
     → list_any (λ (layer : Resource). has_text layer.kids name) layers ≡ true → IsKidOfSome tree path name
 some_layer tree path [] name all some = absurd (false≢true some)
 some_layer tree path (layer ∷ layers) name all some =
-    ⊎_elim (λ (here : has_text layer.kids name ≡ true). (layer, head_of (IsOfLayer tree path) layer layers all, here))
+    ⊎_elim (λ (here : has_text layer.kids name ≡ true). (layer, All-head (IsOfLayer tree path) layer layers all, here))
     (λ (none : has_text layer.kids name ≡ false).
-    some_layer tree path layers name (tail_of (IsOfLayer tree path) layer layers all) (sym (ap (λ t. t || list_any (λ (l : Resource). has_text l.kids name) layers) none) ∙ some))
+    some_layer tree path layers name (All-tail (IsOfLayer tree path) layer layers all) (sym (ap (λ t. t || list_any (λ (l : Resource). has_text l.kids name) layers) none) ∙ some))
     (cases_Bool (has_text layer.kids name))
 
 pub seen_kid : (tree : Content) (path : List (List ℕ)) (res : Resource) (name : List ℕ) → is_merged_path path ≡ true → merged_resource tree path ≡ Some res → has_text res.kids name ≡ true
@@ -141,10 +132,6 @@ seen_kid tree path res name is e has =
 
 -- ---- one layer alone
 
-or_none : (a b : Bool) → (a || b) ≡ false → (a ≡ false) × (b ≡ false)
-or_none true b e = absurd (true≢false e)
-or_none false b e = (refl, e)
-
 no_res : (cut : Bool) (o : Option Resource) → o ≡ None → cond cut [] (resource_list o) ≡ []
 no_res true o none = refl
 no_res false o none = ap resource_list none
@@ -155,20 +142,15 @@ ap_none path (Some node) e = absurd (true≢false e)
 
 -- ---- the properties of one layer
 
-less_is : (o : Ordering) → is_lt o ≡ true → o ≡ Less
-less_is Less e = refl
-less_is Equal e = absurd (false≢true e)
-less_is Greater e = absurd (false≢true e)
-
 greater : (a b : List ℕ) → is_lt (by_name b a) ≡ true → by_name a b ≡ Greater
-greater a b less = nat_list_cmp_total.antisymm a b ∙ ap ordering_reverse (less_is (by_name b a) less)
+greater a b less = nat_list_cmp_total.antisymm a b ∙ ap ordering_reverse (less_from_test (by_name b a) less)
 
 -- an entry after all others is put at their end
 put_last : (k : List ℕ) (v : Value) (props : List (List ℕ × Value)) → All (λ (e : List ℕ × Value). by_name k e.0 ≡ Greater) props → put by_name k v props ≡ props ++ (k, v) ∷ []
 put_last k v [] after = refl
 put_last k v (e ∷ es) after =
-    ap (λ o. by_order o ((k, v) ∷ e ∷ es) ((e.0, v) ∷ es) (e ∷ put by_name k v es)) (head_of (λ (x : List ℕ × Value). by_name k x.0 ≡ Greater) e es after)
-    ∙ ap (λ rest. e ∷ rest) (put_last k v es (tail_of (λ (x : List ℕ × Value). by_name k x.0 ≡ Greater) e es after))
+    ap (λ o. by_order o ((k, v) ∷ e ∷ es) ((e.0, v) ∷ es) (e ∷ put by_name k v es)) (All-head (λ (x : List ℕ × Value). by_name k x.0 ≡ Greater) e es after)
+    ∙ ap (λ rest. e ∷ rest) (put_last k v es (All-tail (λ (x : List ℕ × Value). by_name k x.0 ≡ Greater) e es after))
 
 below_in : (x : List ℕ) (props more : List (List ℕ × Value)) (k : List ℕ) (v : Value) → below_all by_name x (props ++ (k, v) ∷ more) ≡ true → is_lt (by_name x k) ≡ true
 below_in x [] more k v e = (and_parts (is_lt (by_name x k)) (below_all by_name x more) e).0
@@ -196,7 +178,7 @@ none_of : (tree : Content) (layers rest : List Layer) → has_node tree layers �
 unfolding shown_resources
 none_of tree [] rest none = refl
 none_of tree (layer ∷ layers) rest none =
-    let both = or_none (is_some (node_at tree layer.path)) (has_node tree layers) none in
+    let both = or_parts (is_some (node_at tree layer.path)) (has_node tree layers) none in
     ap (λ l. l ++ shown_resources tree (layers ++ rest)) (no_res (layer_is_cut tree layer (layers ++ rest)) (option_map (res_of layer.path) (node_at tree layer.path)) (ap_none layer.path (node_at tree layer.path) both.0))
     ∙ none_of tree layers rest both.1
 
@@ -214,7 +196,7 @@ only_layer tree path lower upper layer res valid is layers low up not_cut there 
 
 each_kept : {X : Type 0} (p : X → Bool) (xs : List X) → All (λ x. p x ≡ true) xs → filter p xs ≡ xs
 each_kept p [] each = refl
-each_kept p (x ∷ xs) each = ap (λ t. cond t (x ∷ filter p xs) (filter p xs)) (head_of (λ y. p y ≡ true) x xs each) ∙ ap (λ rest. x ∷ rest) (each_kept p xs (tail_of (λ y. p y ≡ true) x xs each))
+each_kept p (x ∷ xs) each = ap (λ t. cond t (x ∷ filter p xs) (filter p xs)) (All-head (λ y. p y ≡ true) x xs each) ∙ ap (λ rest. x ∷ rest) (each_kept p xs (All-tail (λ y. p y ≡ true) x xs each))
 
 one_kids : (res : Resource) → all_kids (res ∷ []) ≡ res.kids
 unfolding all_kids with_kids_of
@@ -228,8 +210,8 @@ unmoved_by : (tree : Content) (path names kids : List (List ℕ)) → All (λ na
 unfolding names_after_move
 unmoved_by tree path names [] none = refl
 unmoved_by tree path names (name ∷ kids) none =
-    ap (λ wish. fold (λ so_far n. names_after_move n (wish_at tree (kid path n)) so_far) (names_after_move name wish names) kids) (head_of (λ n. wish_at tree (kid path n) ≡ None) name kids none)
-    ∙ unmoved_by tree path names kids (tail_of (λ n. wish_at tree (kid path n) ≡ None) name kids none)
+    ap (λ wish. fold (λ so_far n. names_after_move n (wish_at tree (kid path n)) so_far) (names_after_move name wish names) kids) (All-head (λ n. wish_at tree (kid path n) ≡ None) name kids none)
+    ∙ unmoved_by tree path names kids (All-tail (λ n. wish_at tree (kid path n) ≡ None) name kids none)
 
 pub same_kids : (tree : Content) (path : List (List ℕ)) (res : Resource) → All (λ name. is_merged_there tree (kid path name) ≡ true) res.kids
     → All (λ name. wish_at tree (kid res.path name) ≡ None) res.kids → layers_kids tree path (res ∷ []) ≡ res.kids

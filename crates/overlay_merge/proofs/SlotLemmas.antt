@@ -8,6 +8,7 @@ use Rattle.std.specs.Cmp.Lexicographic.{pointwise, same_text, nat_list_eq_equiv}
 use Rattle.std.proofs.lemmas.Bool.{cases_Bool, eq-eqb, ne_eqb, or_from}
 use Rattle.std.proofs.lemmas.List.Folds.{list_any-append}
 use Rattle.std.proofs.lemmas.List.Elements.{filter-append}
+use Rattle.sp_base.proofs.ListLemmas.{all_weaker}
 use Rattle.overlay_merge.specs.Kids.{names_after_move}
 use Rattle.overlay_merge.specs.Slots.{AreApart, AreSlots, IsIn, IsPut, is_slot, slot_name, names_in, walk}
 use Rattle.overlay_merge.proofs.MoveLemmas.{but, but_none, moved_at}
@@ -21,10 +22,6 @@ all_parts P (s ∷ beginning) back h = let r = all_parts P beginning back h.1 in
 all_insert : (P : ℕ → Type 0) (beginning : List ℕ) (x : ℕ) (back : List ℕ) → AllByRecursion P (beginning ++ back) → P x → AllByRecursion P (beginning ++ x ∷ back)
 all_insert P [] x back h p = (p, h)
 all_insert P (s ∷ beginning) x back h p = (h.0, all_insert P beginning x back h.1 p)
-
-all_from : (P Q : ℕ → Type 0) → ((s : ℕ) → P s → Q s) → (slots : List ℕ) → AllByRecursion P slots → AllByRecursion Q slots
-all_from P Q f [] h = tt
-all_from P Q f (s ∷ slots) h = (f s h.0, all_from P Q f slots h.1)
 
 all_two : (P Q : ℕ → Type 0) (slots : List ℕ) → AllByRecursion P slots → AllByRecursion Q slots → AllByRecursion (λ s. P s × Q s) slots
 all_two P Q [] h k = tt
@@ -166,7 +163,7 @@ names_lack_unknown held slot q slots none = names_lack held slot q slots (no_slo
 
 names_lack_elsewhere : (held : ℕ → List ℕ) (slot : List ℕ → Option ℕ) (q : List ℕ) (t : ℕ) (slots : List ℕ) → slot q ≡ Some t → AllByRecursion (λ s. s ≢ t) slots → list_any (pointwise nat_eq q) (names_in held slot slots) ≡ false
 names_lack_elsewhere held slot q t slots stands apart =
-    names_lack held slot q slots (all_from (λ s. s ≢ t) (λ s. is_slot (slot q) s ≡ false) (λ s differ. ap (λ o. is_slot o s) stands ∙ ne_eqb t s (λ e. differ (sym e))) slots apart)
+    names_lack held slot q slots (all_weaker (λ s. s ≢ t) (λ s. is_slot (slot q) s ≡ false) (λ s differ. ap (λ o. is_slot o s) stands ∙ ne_eqb t s (λ e. differ (sym e))) slots apart)
 
 -- ---- one more name
 
@@ -209,8 +206,8 @@ module _ (before : ℕ → ℕ) (held : ℕ → List ℕ) (slot : List ℕ → O
       let Within = λ (s : ℕ). (0 < s) × (s < suc n) in
       let Wider = λ (s : ℕ). (0 < s) × (s < suc (suc n)) in
       let within : AllByRecursion Within (beginning ++ back) = subst (AllByRecursion Within) was good.within in
-      let fresh : AllByRecursion (λ s. s ≢ suc n) (beginning ++ back) = all_from Within (λ s. s ≢ suc n) (λ s h e. absurd (omega (arith, e, h.1))) (beginning ++ back) within in
-      let wider : AllByRecursion Wider (beginning ++ back) = all_from Within Wider (λ s h. (h.0, omega (arith, h.1))) (beginning ++ back) within in
+      let fresh : AllByRecursion (λ s. s ≢ suc n) (beginning ++ back) = all_weaker Within (λ s. s ≢ suc n) (λ s h e. absurd (omega (arith, e, h.1))) (beginning ++ back) within in
+      let wider : AllByRecursion Wider (beginning ++ back) = all_weaker Within Wider (λ s h. (h.0, omega (arith, h.1))) (beginning ++ back) within in
       record {
         within = subst (AllByRecursion Wider) (sym is) (all_insert Wider beginning (suc n) back wider (omega arith, omega arith));
         apart = subst AreApart (sym is) (apart_insert beginning (suc n) back fresh (subst AreApart was good.apart));
@@ -228,7 +225,7 @@ module _ (before : ℕ → ℕ) (held : ℕ → List ℕ) (slot : List ℕ → O
 
 others_in : (n t : ℕ) (slots : List ℕ) → AllByRecursion (λ s. (0 < s) × (s < suc n)) slots → AllByRecursion (λ s. s ≢ t) slots → AllByRecursion (IsOther n t) slots
 others_in n t slots within apart =
-    all_two (λ s. s < suc n) (λ s. s ≢ t) slots (all_from (λ s. (0 < s) × (s < suc n)) (λ s. s < suc n) (λ s h. h.1) slots within) apart
+    all_two (λ s. s < suc n) (λ s. s ≢ t) slots (all_weaker (λ s. (0 < s) × (s < suc n)) (λ s. s < suc n) (λ s h. h.1) slots within) apart
 
 -- what a name that is put leaves: slots that are good, and the names that are read
 pub record Puts (after : ℕ → ℕ) (holds : ℕ → List ℕ) (stands : List ℕ → Option ℕ) (n : ℕ) (names : List (List ℕ)) : Type 0 where
@@ -244,7 +241,7 @@ module _ (before : ℕ → ℕ) (held : ℕ → List ℕ) (slot : List ℕ → O
       → Puts after holds stands (suc n) (names_in held slot (walk before n 0) ++ name ∷ [])
   put_last put fresh =
       let slots = walk before n 0 in
-      let positive : AllByRecursion (λ s. s ≢ 0) slots = all_from (λ s. (0 < s) × (s < suc n)) (λ s. s ≢ 0) (λ s h e. absurd (omega (arith, e, h.0))) slots good.within in
+      let positive : AllByRecursion (λ s. s ≢ 0) slots = all_weaker (λ s. (0 < s) × (s < suc n)) (λ s. s ≢ 0) (λ s h e. absurd (omega (arith, e, h.0))) slots good.within in
       let links : Links after 0 (suc n ∷ slots) = (put.to_new, links_new before after n 0 put.to_new put.from_new put.others slots (others_in n 0 slots good.within positive) (links_walk before n 0)) in
       let is : walk after (suc n) 0 ≡ suc n ∷ slots = walk_is (suc n ∷ slots) (ap suc (length-walk before n 0)) links in
       record {

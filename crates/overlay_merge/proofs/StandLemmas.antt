@@ -6,12 +6,13 @@ use Rattle.std.specs.Cmp.Lexicographic.{nat_list_eq_equiv, pointwise, same_text}
 use Rattle.std.proofs.lemmas.Bool.{or_from}
 use Rattle.std.proofs.lemmas.List.Elements.{filter-append}
 use Rattle.std.proofs.lemmas.Map.Keys.{IsDistinct-IsPermutation}
+use Rattle.sp_base.proofs.TextLemmas.{text_itself}
 use Rattle.overlay_merge.specs.Hiding.{merged_from}
 use Rattle.overlay_merge.specs.Kids.{has_text, names_after_move}
 use Rattle.overlay_merge.specs.Moves.{AreDistinct, IsNotMoved, UnmovedKidsAreDistinct, StandsBefore, without_name}
 use Rattle.overlay_merge.proofs.KidLemmas.{are_nodes_merged}
 use Rattle.overlay_merge.proofs.LawLemmas.{moved-reorders}
-use Rattle.overlay_merge.proofs.MoveLemmas.{but, but_none, moved_at, moved_none, moved_nowhere, moved_same, self}
+use Rattle.overlay_merge.proofs.MoveLemmas.{but, but_none, moved_at, moved_none, moved_nowhere, moved_same}
 use Rattle.overlay_merge.proofs.OrderLemmas.{distinct_there}
 
 -- where a name stands first
@@ -69,7 +70,7 @@ others_stay name other names distinct differ has_name has_other =
     let moved = moved_at name other names n.above n.below o.above o.below differ n.is n.lacks below o.is o.lacks in
     ap (but name) moved
     ∙ filter-append (λ (q : List ℕ). not (pointwise nat_eq name q)) (but name o.above) (name ∷ other ∷ but name o.below)
-    ∙ ap (λ (b : Bool). but name (but name o.above) ++ cond (not b) (name ∷ but name (other ∷ but name o.below)) (but name (other ∷ but name o.below))) (self name)
+    ∙ ap (λ (b : Bool). but name (but name o.above) ++ cond (not b) (name ∷ but name (other ∷ but name o.below)) (but name (other ∷ but name o.below))) (text_itself name)
     ∙ ap (λ (b : Bool). but name (but name o.above) ++ cond (not b) (other ∷ but name (but name o.below)) (but name (but name o.below))) differ
     ∙ ap (λ (ns : List (List ℕ)). ns ++ other ∷ but name (but name o.below)) (but_twice name o.above)
     ∙ ap (λ (ns : List (List ℕ)). but name o.above ++ other ∷ ns) (but_twice name o.below)

@@ -3,10 +3,12 @@ use Rattle.std.proofs.Common.{◌≡◌, ◌+◌, ◌-◌, ◌<◌, ◌++◌, in
 use Rattle.std.specs.Prelude.{slice_get, option_and_then, option_map, reverse}
 use Rattle.std.specs.Option.{option_or}
 use Rattle.std.proofs.lemmas.Bool.{cases_lt}
-use Rattle.std.proofs.lemmas.Bool.Decides.{nat_tests}
 use Rattle.std.proofs.lemmas.List.{reverse-reverse}
+use Rattle.std.proofs.lemmas.Option.{same_Some}
 use Rattle.sp_base.specs.Texts.{Segments}
 use Rattle.sp_base.specs.Paths.{path_or_none}
+use Rattle.sp_base.proofs.NatLemmas.{below_suc, zero_below_suc}
+use Rattle.sp_base.proofs.OptionLemmas.{option_map-some}
 use Rattle.resource_tree.specs.Content.{Content}
 use Rattle.type_chain.specs.Chain.{super_at}
 use Rattle.type_chain.specs.Types.{place_of}
@@ -15,23 +17,14 @@ use Rattle.overlay_merge.specs.declared.layers.Layer.{Layer}
 use Rattle.overlay_merge.specs.Layers.{base_at, base_of, descent, has_layer, layer_below, layer_by, make_layer, override_layer, override_layers, path_at}
 use Rattle.overlay_merge.specs.Steps.{AreLayerSteps, IsBelow, unless_there}
 
-same_Some : (a b : Layer) → Some a ≡ Some b → a ≡ b
-same_Some a b e = cc
-
-lt_suc : (k n : ℕ) → nat_lt (suc k) (suc n) ≡ nat_lt k n
-lt_suc k n = grind (arith, nat_tests)
-
-lt_first : (n : ℕ) → nat_lt 0 (suc n) ≡ true
-lt_first n = grind (arith, nat_tests)
-
 no_more : (k : ℕ) (a : Layer) → slice_get {X = Layer} [] k ≡ Some a → ⊥
 no_more k a e = cc
 
 descent_first : (tree : Content) (n : ℕ) (above : List Layer) (next : Option Layer) → slice_get (descent tree n above next) 0 ≡ cond (nat_lt 0 n) (unless_there above next) None
 unfolding descent
 descent_first tree zero above next = refl
-descent_first tree (suc n) above None = sym (ap (λ t. cond {A = Option Layer} t None None) (lt_first n))
-descent_first tree (suc n) above (Some layer) = go (has_layer above layer.path) ∙ sym (ap (λ t. cond t (unless_there above (Some layer)) None) (lt_first n))
+descent_first tree (suc n) above None = sym (ap (λ t. cond {A = Option Layer} t None None) (zero_below_suc n))
+descent_first tree (suc n) above (Some layer) = go (has_layer above layer.path) ∙ sym (ap (λ t. cond t (unless_there above (Some layer)) None) (zero_below_suc n))
   where
     go : (x : Bool) → slice_get (cond x [] (layer ∷ descent tree n (above ++ layer ∷ []) (layer_below tree layer.path))) 0 ≡ cond x None (Some layer)
     go true = refl
@@ -53,12 +46,12 @@ descent_next tree (suc n) above (Some layer) k a e = go (has_layer above layer.p
     go true k f ih = absurd (no_more k a f)
     go false zero f ih =
         descent_first tree n (above ++ layer ∷ []) (layer_below tree layer.path)
-        ∙ ap (λ (t : Bool). cond t (unless_there (above ++ layer ∷ []) (layer_below tree layer.path)) None) (sym (lt_suc 0 n))
+        ∙ ap (λ (t : Bool). cond t (unless_there (above ++ layer ∷ []) (layer_below tree layer.path)) None) (sym (below_suc 0 n))
         ∙ ap (λ (b : Layer). cond (nat_lt 1 (suc n)) (unless_there (above ++ layer ∷ []) (layer_below tree b.path)) None) (same_Some layer a f)
     go false (suc k) f ih =
         ih k f
         ∙ ap (λ (ls : List Layer). cond (nat_lt (suc k) n) (unless_there ls (layer_below tree a.path)) None) (append_assoc above (layer ∷ []) (take (suc k) rest))
-        ∙ ap (λ (t : Bool). cond t (unless_there (above ++ layer ∷ take (suc k) rest) (layer_below tree a.path)) None) (sym (lt_suc (suc k) n))
+        ∙ ap (λ (t : Bool). cond t (unless_there (above ++ layer ∷ take (suc k) rest) (layer_below tree a.path)) None) (sym (below_suc (suc k) n))
 
 -- from the path down
 down : Content → Segments → List Layer
@@ -156,13 +149,6 @@ and_then_found : {A B : Type 0} (f : A → Option B) (o : Option A) (y : B) → 
 and_then_found f None y e = absurd cc
 and_then_found f (Some x) y e = (x, refl, e)
 
-map_found : {A B : Type 0} (f : A → B) (o : Option A) (y : B) → option_map f o ≡ Some y → (x : A) × (o ≡ Some x) × (f x ≡ y)
-map_found f None y e = absurd cc
-map_found f (Some x) y e = (x, refl, some_is (f x) y e)
-  where
-    some_is : {C : Type 0} (one other : C) → ◌≡◌ {A = Option C} (Some one) (Some other) → one ≡ other
-    some_is one other g = cc
-
 -- what a path gives at a depth: the depth, and the super type's text of the node there
 abbrev named_at : Content → Segments → ℕ → Option (ℕ × List ℕ)
 named_at tree path n = option_map (base_at n) (super_at tree (take n path))
@@ -176,11 +162,11 @@ unfolding layer_below base_of
 below_found tree path layer e =
     let base = and_then_found (layer_by tree path) (at_greatest (named_at tree path) (suc (length path))) layer e in
     let g = greatest (named_at tree path) (suc (length path)) base.0 base.1 in
-    let named = map_found (base_at g.at) (super_at tree (take g.at path)) base.0 g.gives in
+    let named = option_map-some (base_at g.at) (super_at tree (take g.at path)) base.0 g.gives in
     let low = g.within in
     let depth : g.at ≡ base.0.0 = ap (λ (b : ℕ × List ℕ). b.0) named.2 in
     let text : named.0 ≡ base.0.1 = ap (λ (b : ℕ × List ℕ). b.1) named.2 in
-    let made = map_found (override_layer (length path - base.0.0)) (option_and_then (λ place. path_at place path base.0.0) (place_of tree base.0.1)) layer base.2 in
+    let made = option_map-some (override_layer (length path - base.0.0)) (option_and_then (λ place. path_at place path base.0.0) (place_of tree base.0.1)) layer base.2 in
     let placed = and_then_found (λ place. path_at place path base.0.0) (place_of tree base.0.1) made.0 made.1 in
     let path_is : made.0 ≡ layer.path = ap (λ (l : Layer). l.path) made.2 in
     record {

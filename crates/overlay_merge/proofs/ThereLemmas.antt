@@ -3,10 +3,14 @@ use Rattle.std.proofs.Common.{◌≡◌, ◌+◌, ◌-◌, ◌<◌, ◌≤◌, �
 use Rattle.std.specs.Prelude.{All, is_some, nat_eq, option_and_then, option_map, reverse, slice_index_or, take, unwrap_or}
 use Rattle.std.specs.List.{list_any}
 use Rattle.std.specs.Cmp.Lexicographic.{pointwise}
-use Rattle.std.proofs.lemmas.Bool.{false≢true, cases_Bool}
+use Rattle.std.proofs.lemmas.Bool.{false≢true, cases_Bool, and_right, or_left, or_right}
 use Rattle.std.proofs.lemmas.List.{drop-append-le}
+use Rattle.std.proofs.lemmas.List.Elements.{All-head, All-tail}
 use Rattle.std.proofs.lemmas.List.Sorted.{All-permutation, IsPermutation-reverse, IsPermutation-sym}
 use Rattle.sp_base.specs.Paths.{is_path, path_or_none}
+use Rattle.sp_base.proofs.NatLemmas.{not_zero}
+use Rattle.sp_base.proofs.OptionLemmas.{none_from_test}
+use Rattle.sp_base.proofs.TextLemmas.{text_itself}
 use Rattle.resource_tree.specs.Content.{Content, IsTree, kid, node_at}
 use Rattle.resource_tree.specs.Seen.{Resource, res_at, res_of}
 use Rattle.resource_tree.specs.declared.nodes.Node.{Node}
@@ -18,13 +22,10 @@ use Rattle.overlay_merge.specs.Hiding.{hides_kid_at, hides_kid_within, hides_res
 use Rattle.overlay_merge.specs.Cut.{HasRoomFor, HidesNothing, NoLayerIsCut}
 use Rattle.overlay_merge.specs.Kids.{has_text, is_merged_there}
 use Rattle.overlay_merge.specs.Walk.{has_kid_node}
-use Rattle.overlay_merge.proofs.DescentLemmas.{AreKids, any-reverse, base_kid, base_less, more_kids, no_some, none_kids, or_left, or_right, or_second}
+use Rattle.overlay_merge.proofs.DescentLemmas.{AreKids, any-reverse, base_kid, base_less, more_kids, none_kids, or_second}
 use Rattle.overlay_merge.proofs.KidLemmas.{kid_is, node_of}
 use Rattle.overlay_merge.proofs.LayerLemmas.{base_is, below_is, descent-new, descent-none, descent-there, descent-zero, no_rest}
-use Rattle.overlay_merge.proofs.MergedLemmas.{not_zero}
-use Rattle.overlay_merge.proofs.MoveLemmas.{self}
 use Rattle.overlay_merge.proofs.ReachLemmas.{no_layers}
-use Rattle.overlay_merge.proofs.SeenLemmas.{head_of, tail_of}
 
 -- ---- the layer below a kid at which no node is
 
@@ -80,7 +81,7 @@ first_room tree name (suc n) layers first room there =
     ⊎_elim (λ (repeats : has_layer layers first.path ≡ true).
     absurd (false≢true (sym (ap (has_kid_node tree name) (descent-there tree (suc n) layers first repeats)) ∙ there)))
     (λ (new : has_layer layers first.path ≡ false).
-    head_of (λ (layer : Layer). is_path (kid layer.path name) ≡ true) first (descent tree n (layers ++ first ∷ []) (layer_below tree first.path))
+    All-head (λ (layer : Layer). is_path (kid layer.path name) ≡ true) first (descent tree n (layers ++ first ∷ []) (layer_below tree first.path))
     (subst (HaveRoom name) (descent-new tree n layers first new) room)) (cases_Bool (has_layer layers first.path))
 
 module _ (tree : Content) (good : IsTree (node_at tree)) (name : List ℕ) where
@@ -105,11 +106,11 @@ module _ (tree : Content) (good : IsTree (node_at tree)) (name : List ℕ) where
       let kid_rest = descent tree n (kids ++ top ∷ []) (layer_below tree top.path) in
       let some : (is_some (node_at tree (kid layer.path name)) || has_kid_node tree name rest) ≡ true = sym (ap (has_kid_node tree name) (descent-new tree n layers layer new)) ∙ there in
       let more : AreKids name (kids ++ top ∷ []) (layers ++ layer ∷ []) = more_kids name kids layers top layer are is in
-      let below_room : HaveRoom name rest = tail_of (λ (l : Layer). is_path (kid l.path name) ≡ true) layer rest (subst (HaveRoom name) (descent-new tree n layers layer new) room) in
+      let below_room : HaveRoom name rest = All-tail (λ (l : Layer). is_path (kid l.path name) ≡ true) layer rest (subst (HaveRoom name) (descent-new tree n layers layer new) room) in
       ap (has_node tree) (descent-new tree n kids top fresh)
       ∙ ⊎_elim (λ (here : is_some (node_at tree (kid layer.path name)) ≡ true). or_left (is_some (node_at tree top.path)) (has_node tree kid_rest) (ap (λ p. is_some (node_at tree p)) is ∙ here))
       (λ (missing : is_some (node_at tree (kid layer.path name)) ≡ false).
-      let none : node_at tree (kid layer.path name) ≡ None = no_some (node_at tree (kid layer.path name)) missing in
+      let none : node_at tree (kid layer.path name) ≡ None = none_from_test (node_at tree (kid layer.path name)) missing in
       let later : has_kid_node tree name rest ≡ true = or_second (is_some (node_at tree (kid layer.path name))) (has_kid_node tree name rest) missing some in
       or_right (is_some (node_at tree top.path)) (has_node tree kid_rest)
       (ap (λ p. has_node tree (descent tree n (kids ++ top ∷ []) (layer_below tree p))) is
@@ -181,7 +182,7 @@ kid_of_one tree name (l ∷ lower) upper layer there =
 
 has_itself : (names : List (List ℕ)) (k : ℕ) (d : List ℕ) → k < length names → has_text names (get_or names k d) ≡ true
 has_itself [] k d less = absurd (omega (arith, less))
-has_itself (name ∷ names) zero d less = or_left (pointwise nat_eq name name) (has_text names name) (self name)
+has_itself (name ∷ names) zero d less = or_left (pointwise nat_eq name name) (has_text names name) (text_itself name)
 has_itself (name ∷ names) (suc k) d less =
     or_right (pointwise nat_eq (get_or names k d) name) (has_text names (get_or names k d)) (has_itself names k d (omega (arith, less)))
 
@@ -203,22 +204,18 @@ none_below : (n : ℕ) (p : ℕ → Bool) → ((k : ℕ) → p k ≡ false) → 
 none_below zero p none = refl
 none_below (suc n) p none = ap (λ t. t || some_below n p) (none n) ∙ none_below n p none
 
-and_none : (a b : Bool) → b ≡ false → (a && b) ≡ false
-and_none true b e = e
-and_none false b e = refl
-
 any_none : {X : Type 0} (p : X → Bool) (xs : List X) → ((x : X) → p x ≡ false) → list_any p xs ≡ false
 any_none p [] none = refl
 any_none p (x ∷ xs) none = ap (λ t. t || list_any p xs) (none x) ∙ any_none p xs none
 
 no_resource : (tree : Content) (n : ℕ) (path : List (List ℕ)) → HidesNothing tree → hides_resource_within tree n path ≡ false
 no_resource tree n path hides =
-    none_below (length path + 1) (λ k. is_within n path k && hides_resource_at tree (take k path)) (λ k. and_none (is_within n path k) (hides_resource_at tree (take k path)) (hides.resources (take k path)))
+    none_below (length path + 1) (λ k. is_within n path k && hides_resource_at tree (take k path)) (λ k. and_right (is_within n path k) (hides_resource_at tree (take k path)) (hides.resources (take k path)))
 
 no_kid : (tree : Content) (n : ℕ) (path : List (List ℕ)) → HidesNothing tree → hides_kid_within tree n path ≡ false
 no_kid tree n path hides =
     none_below (length path) (λ k. is_within n path k && hides_kid_at tree (take k path) (slice_index_or path k []))
-    (λ k. and_none (is_within n path k) (hides_kid_at tree (take k path) (slice_index_or path k [])) (hides.kids (take k path) (slice_index_or path k [])))
+    (λ k. and_right (is_within n path k) (hides_kid_at tree (take k path) (slice_index_or path k [])) (hides.kids (take k path) (slice_index_or path k [])))
 
 pub nothing_cut : (tree : Content) (path : List (List ℕ)) → HidesNothing tree → NoLayerIsCut tree path
 unfolding layer_is_cut

@@ -1,5 +1,6 @@
 -- When notes agree with files, note by note.
 use Rattle.std.proofs.Common.{◌≡◌, ◌≢◌, ◌⊎◌, ◌==◌, ℕ, Bool, true, false, not, List, Option, Some, None, inl, inr, ⊎_elim, length, refl, sym, ◌∙◌, ap, subst, option_map, nat_eq}
+use Rattle.std.proofs.lemmas.Option.{none-some}
 use Rattle.std.specs.Prelude.{Contains, IfSome, if◌then◌else◌, nat_le, option_and_then}
 use Rattle.sp_base.specs.Texts.{Segments, Text}
 use Rattle.sp_outside.specs.Files.{Files, file_at}
@@ -21,9 +22,6 @@ use Rattle.page_index.specs.Notes.{head_noted, known_page, page_from, page_noted
 use Rattle.page_index.specs.declared.index.PageIndex.{PageIndex}
 use Rattle.page_index.specs.declared.page_note.PageNote.{PageNote}
 
-pub none_some : {A : Type 0} (x : A) → None ≡ Some x → ⊥
-none_some x e = absurd (cc e)
-
 -- ---- one note
 
 -- the note of a page is what the files give
@@ -41,14 +39,14 @@ from_parts files key None heads pages = tt
 from_parts files key (Some note) heads pages = record { head = heads note.head refl; page = pages }
 
 to_head : (files : Files) (key : PageKey) (o : Option PageNote) → PageAgrees files key o → (head : Option HeadNote) → option_map (λ n. n.head) o ≡ Some head → head_at files key ≡ head
-to_head files key None agrees head e = absurd (none_some head e)
+to_head files key None agrees head e = absurd (none-some head e)
 to_head files key (Some note) agrees head e = agrees.head ∙ same note.head head e
   where
     same : (x y : Option HeadNote) → Some x ≡ Some y → x ≡ y
     same x y e = cc e
 
 to_page : (files : Files) (key : PageKey) (o : Option PageNote) → PageAgrees files key o → (page : Page) → option_and_then page_from o ≡ Some page → page_at files key ≡ Some page
-to_page files key None agrees page e = absurd (none_some page e)
+to_page files key None agrees page e = absurd (none-some page e)
 to_page files key (Some note) agrees page e = agrees.page page e
 
 -- the notes agree page by page, and stamp by stamp
@@ -81,7 +79,7 @@ same_or_none files key o p h agrees = ⊎_elim (λ e. same_note files key o p e 
 
 pub same_or_no_stamp : (o p : Option (Option Stamp)) (stamp now : Option Stamp) → (p ≡ o) ⊎ (p ≡ None) → (o ≡ Some stamp → now ≡ stamp) → p ≡ Some stamp → now ≡ stamp
 same_or_no_stamp o p stamp now (inl e) agrees is = agrees (sym e ∙ is)
-same_or_no_stamp o p stamp now (inr e) agrees is = absurd (none_some stamp (sym e ∙ is))
+same_or_no_stamp o p stamp now (inr e) agrees is = absurd (none-some stamp (sym e ∙ is))
 
 pub fewer_agrees : (old new : PageIndex) (files : Files) → IsFewer old new → Agrees old files → Agrees new files
 fewer_agrees old new files fewer agrees =
@@ -97,13 +95,13 @@ pub files_agree : (index : PageIndex) (old new : Files)
 files_agree index old new pages stamps agrees =
     agrees_by index new
     (λ key good. ⊎_elim (λ none. no_note new key (page_noted index key) none) (λ same. moved old new key (page_noted index key) same.0 same.1 (pages_of index old agrees key good)) (pages key good))
-    (λ folder stamp good is. ⊎_elim (λ none. absurd (none_some stamp (sym none ∙ is))) (λ same. same ∙ agrees.stamps folder stamp good is) (stamps folder good))
+    (λ folder stamp good is. ⊎_elim (λ none. absurd (none-some stamp (sym none ∙ is))) (λ same. same ∙ agrees.stamps folder stamp good is) (stamps folder good))
 
 -- ---- what is noted of a head
 
 pub none_from_head : (o : Option PageNote) → option_map (λ n. n.head) o ≡ None → o ≡ None
 none_from_head None e = refl
-none_from_head (Some note) e = absurd (none_some note.head (sym e))
+none_from_head (Some note) e = absurd (none-some note.head (sym e))
 
 pub none_in_head : (o : Option PageNote) → o ≡ None → option_map (λ n. n.head) o ≡ None
 none_in_head o e = ap (option_map (λ (n : PageNote). n.head)) e
@@ -141,17 +139,17 @@ body_is head bytes page e = by (length bytes == head.length) e
       where
         one : Some (plain_page head.stamp head.kind bytes) ≡ Some page → plain_page head.stamp head.kind bytes ≡ page
         one e = cc e
-    by false e = absurd (none_some page e)
+    by false e = absurd (none-some page e)
 
 -- the page under a head is the page of the files, where it is made of the body that a hit read
 read_body : (head : HeadNote) (o : Option Text) (page : Page) (body : Text) → option_and_then (page_under head) o ≡ Some page → page.answer.body ≡ body → page_under head body ≡ Some page
-read_body head None page body e is = absurd (none_some page e)
+read_body head None page body e is = absurd (none-some page e)
 read_body head (Some bytes) page body e is = subst (λ b. page_under head b ≡ Some page) (sym (body_is head bytes page e) ∙ is) e
 
 module _ (files : Files) (key : PageKey) (law : page_at files key ≡ option_and_then (known_at files key) (head_at files key)) (page : Page) (body : Text)
     (here : page_at files key ≡ Some page) (is : page.answer.body ≡ body) where
   kept_page : (head : Option HeadNote) → head_at files key ≡ head → (p : Page) → option_and_then (λ h. option_and_then (page_under h) (Some body)) head ≡ Some p → page_at files key ≡ Some p
-  kept_page None at p e = absurd (none_some p e)
+  kept_page None at p e = absurd (none-some p e)
   kept_page (Some head) at p e =
       let there : option_and_then (page_under head) (file_at files (page_body_name key)) ≡ Some page = sym (ap (option_and_then (known_at files key)) at) ∙ sym law ∙ here in
       here ∙ sym (read_body head (file_at files (page_body_name key)) page body there is) ∙ e
@@ -160,7 +158,7 @@ module _ (files : Files) (key : PageKey) (law : page_at files key ≡ option_and
       → (p : Page) → option_and_then (λ h. option_and_then (page_under h) kept) note.head ≡ Some p → page_at files key ≡ Some p
   after note agrees kept (inl same) p e = agrees.page p (ap (λ k. option_and_then (λ h. option_and_then (page_under h) k) note.head) (sym same) ∙ e)
   after note agrees kept (inr (inl none)) p e =
-      absurd (none_some p (sym (ap (λ k. option_and_then (λ h. option_and_then (page_under h) k) note.head) none ∙ no_body note.head) ∙ e))
+      absurd (none-some p (sym (ap (λ k. option_and_then (λ h. option_and_then (page_under h) k) note.head) none ∙ no_body note.head) ∙ e))
   after note agrees kept (inr (inr some)) p e = kept_page note.head agrees.head p (ap (λ k. option_and_then (λ h. option_and_then (page_under h) k) note.head) (sym some) ∙ e)
 
   kept_is : (hits : ℕ) (kept : Option Text) → (body_after hits kept body ≡ kept) ⊎ ((body_after hits kept body ≡ None) ⊎ (body_after hits kept body ≡ Some body))
@@ -182,4 +180,4 @@ counted_agrees files key law page body here is o agrees = counted files key law 
 
 -- a note that was just made agrees, where the files have its head
 pub fresh_agrees : (files : Files) (key : PageKey) (head : Option HeadNote) → head_at files key ≡ head → NoteAgrees files key (fresh_note key head)
-fresh_agrees files key head is = record { head = is; page = λ page e. absurd (none_some page (sym (no_body head) ∙ e)) }
+fresh_agrees files key head is = record { head = is; page = λ page e. absurd (none-some page (sym (no_body head) ∙ e)) }

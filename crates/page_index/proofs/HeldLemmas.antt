@@ -1,6 +1,6 @@
 -- Notes at their places, one by one and in sum.
 use Rattle.std.proofs.Common.{◌≡◌, ◌≢◌, ◌⊎◌, ◌≤◌, ◌<◌, ◌+◌, ◌&&◌, ◌||◌, ℕ, Bool, true, false, not, cond, List, [], ◌∷◌, Option, Some, None, inl, inr, ⊎_elim, length, refl, sym, ◌∙◌, ap, subst, arith}
-use Rattle.std.specs.Prelude.{IfSome, IsSome, if◌then◌else◌, is_some, nat_le, nat_lt, option_and_then, option_map}
+use Rattle.std.specs.Prelude.{IfSome, IsSome, if◌then◌else◌, nat_le, nat_lt, option_and_then}
 use Rattle.std.specs.BTreeMap.{insert_entry, is_at}
 use Rattle.std.specs.Cmp.{eq_by_cmp_equiv, nat_cmp_total}
 use Rattle.std.specs.List.{filter, sum_by, IsDistinct}
@@ -159,11 +159,6 @@ bounded_more old new bytes more t bound room longer heavier =
       kept = (let k = bound.kept in omega (arith, k, heavier));
       small = small;
     }
-
--- whether there is a note is told by a lent one
-pub is_some-map : {A B : Type 0} (f : A → B) (o : Option A) → is_some (option_map f o) ≡ is_some o
-is_some-map f None = refl
-is_some-map f (Some x) = refl
 
 -- where a generation has no room, neither has one with more notes, for more bytes
 pub no_room : (old mid : HeldNotes) (less more : ℕ) → length mid.notes ≤ length old.notes → mid.bytes ≡ old.bytes → less ≤ more → has_room mid less ≡ false → has_room old more ≡ false

@@ -1,8 +1,9 @@
 -- What the calls make of the notes, and what changes of the files leave of them.
-use Rattle.std.proofs.Common.{◌≡◌, ◌≢◌, ◌⊎◌, ◌≤◌, ℕ, true, false, cond, Bor, Ok, Err, Option, Some, None, inl, inr, ⊎_elim, length, option_map, refl, sym, ◌∙◌, ap, subst, arith}
+use Rattle.std.proofs.Common.{◌≡◌, ◌≢◌, ◌⊎◌, ◌≤◌, ℕ, true, false, cond, Bor, Option, Some, None, inl, inr, ⊎_elim, length, option_map, refl, sym, ◌∙◌, ap, subst, arith}
 use Rattle.std.specs.Option.{option_or}
-use Rattle.std.specs.Prelude.{Contains, IfSome, OnErr, OnOk, Result, is_some}
+use Rattle.std.specs.Prelude.{Contains, IfSome, is_some}
 use Rattle.std.proofs.lemmas.Bool.{cases_Bool, true≢false}
+use Rattle.std.proofs.lemmas.Option.{same_Some}
 use Rattle.sp_base.specs.Texts.{Segments}
 use Rattle.sp_outside.specs.Files.{Files}
 use Rattle.cover_rules.specs.Coverage.{deletes, touched_of}
@@ -19,7 +20,7 @@ use Rattle.page_index.specs.Limits.{longest_kept, most_young}
 use Rattle.page_index.specs.Notes.{held_stamp, page_noted, stamp_noted}
 use Rattle.page_index.specs.declared.index.PageIndex.{PageIndex}
 use Rattle.page_index.specs.declared.page_note.PageNote.{PageNote}
-use Rattle.page_index.proofs.AgreementLemmas.{NoteAgrees, PageAgrees, agrees_by, covered_by, files_agree, none_from_head, none_some, none_stays, pages_of, same_note, same_or_no_stamp, same_or_none}
+use Rattle.page_index.proofs.AgreementLemmas.{NoteAgrees, PageAgrees, agrees_by, covered_by, files_agree, none_from_head, none_stays, pages_of, same_note, same_or_no_stamp, same_or_none}
 use Rattle.page_index.proofs.HeldLemmas.{no_room, this_place}
 use Rattle.page_index.proofs.StampLemmas.{gone_here}
 use Rattle.page_index.proofs.KeyLemmas.{folder_apart, folder_is, folder_itself, key_apart, key_is, key_itself}
@@ -83,15 +84,12 @@ set_covered key bytes set old new level inv sets none =
     (λ other differ del before. none_stays (page_noted old other) (page_noted new other) (stays _ _ _ (sets.others other differ)) before))
     (λ folder has before. sets.stamps folder ∙ before)
 
-some_stamp : (x y : Option Stamp) → Some x ≡ Some y → x ≡ y
-some_stamp x y e = cc e
-
 pub stamp_agrees : (folder : Segments) (stamp : Option Stamp) (old new : PageIndex) (files : Files) → SetsStamp folder (Some stamp) old new → stamp_at files folder ≡ stamp → Agrees old files → Agrees new files
 stamp_agrees folder stamp old new files sets at agrees =
     agrees_by new files
     (λ key good. same_note files key (page_noted old key) (page_noted new key) (sets.pages key) (pages_of old files agrees key good))
     (each_folder (λ f. (s : Option Stamp) → IsStampFolder f → stamp_noted new f ≡ Some s → stamp_at files f ≡ s) folder
-    (λ s good is. at ∙ some_stamp stamp s (sym sets.here ∙ is))
+    (λ s good is. at ∙ same_Some stamp s (sym sets.here ∙ is))
     (λ other differ s good is. same_or_no_stamp (stamp_noted old other) (stamp_noted new other) s (stamp_at files other) (stays _ _ _ (sets.others other differ)) (agrees.stamps other s good) is))
 
 pub stamp_covered : (folder : Segments) (stamp : Option Stamp) (old new : PageIndex) (level : ℕ) (inv : Invalidation) → SetsStamp folder (Some stamp) old new → (Contains (touched_of level inv) folder → ⊥)
@@ -196,18 +194,6 @@ pub taken_set : (old mid new : PageIndex) (key : PageKey) (note : PageNote) (o :
     → note.key ≡ key → weight_of note ≤ longest_kept → SetsPage note.key (weight_of note) o mid new → SetsPage key longest_kept o old new
 taken_set old mid new key note o forgets fewer same is le sets = then_set old mid new key (weight_of note) longest_kept o forgets fewer same le (subst (λ k. SetsPage k (weight_of note) o mid new) is sets)
 
-pub on_ok : {T E P Q : Type 0} (r : Result T E) → (P → Q) → OnOk r P → OnOk r Q
-on_ok (Ok x) f p = f p
-on_ok (Err e) f p = tt
-
-pub on_err : {T E P Q : Type 0} (r : Result T E) → (P → Q) → OnErr r P → OnErr r Q
-on_err (Ok x) f p = tt
-on_err (Err e) f p = f p
-
-pub if_err : {T E P : Type 0} (r : Result T E) → P → OnErr r P
-if_err (Ok x) p = tt
-if_err (Err e) p = p
-
 -- where nothing is lent there is nothing
 pub none_lent : (r : Option (Bor PageNote)) → is_some r ≡ false → option_map (λ x. x.now) r ≡ None
 none_lent None e = refl
@@ -254,6 +240,3 @@ taken_older key place old older is young gone others =
 
 pub noted_older : (key : PageKey) (place : ℕ) (index : PageIndex) (o : Option PageNote) → place ≡ place_of key → held_note index.young place key ≡ None → held_note index.older place key ≡ o → page_noted index key ≡ o
 noted_older key place index o is young older = in_older index key o (subst (λ p. held_note index.young p key ≡ None) is young) (subst (λ p. held_note index.older p key ≡ o) is older)
-
-pub no_longer_than : (n : ℕ) → n ≤ n
-no_longer_than n = omega arith

@@ -1,19 +1,17 @@
 -- Keys and folders that the tests of notes take for the same are the same.
-use Rattle.std.proofs.Common.{◌≡◌, ◌≢◌, ◌&&◌, ℕ, Bool, true, false, List, refl, sym, ◌∙◌, ap, subst}
-use Rattle.std.specs.Cmp.{IsTotalOrder, eq_by_cmp_equiv}
-use Rattle.std.specs.Cmp.Lexicographic.{bytes_decides, lists_total, nat_list_cmp_total, pointwise}
+use Rattle.std.proofs.Common.{◌≡◌, ◌≢◌, ℕ, true, false, List, refl, sym, ◌∙◌, ap, subst}
+use Rattle.std.specs.Cmp.{eq_by_cmp_equiv}
+use Rattle.std.specs.Cmp.Lexicographic.{bytes_decides, pointwise}
 use Rattle.std.specs.Prelude.{nat_eq}
 use Rattle.std.specs.Ordering.{eq_by_cmp}
-use Rattle.std.proofs.lemmas.Bool.{false_from_ne_true, true≢false}
+use Rattle.std.proofs.lemmas.Bool.{and_from, and_parts, false_from_ne_true, true≢false}
 use Rattle.std.proofs.lemmas.Map.Views.{tells_apart}
 use Rattle.sp_base.specs.PathExact.{exact_paths}
 use Rattle.sp_base.specs.Paths.{by_path}
 use Rattle.sp_base.specs.Texts.{Segments}
+use Rattle.sp_base.proofs.OrderingLemmas.{by_path_total}
 use Rattle.cover_rules.specs.declared.page.PageKey.{PageKey}
 use Rattle.page_index.specs.Held.{same_folder, same_key}
-
-pub by_path_total : IsTotalOrder by_path
-by_path_total = lists_total nat_list_cmp_total
 
 pub folder_itself : (folder : Segments) → same_folder folder folder ≡ true
 folder_itself folder = (eq_by_cmp_equiv by_path_total).refl folder
@@ -24,19 +22,12 @@ folder_is folder other same = tells_apart exact_paths folder other same
 pub folder_apart : (folder other : Segments) → other ≢ folder → same_folder folder other ≡ false
 folder_apart folder other differ = false_from_ne_true (same_folder folder other) (λ same. differ (sym (folder_is folder other same)))
 
-and_both : (x y : Bool) → (x && y) ≡ true → (x ≡ true) × (y ≡ true)
-and_both true y e = (refl, e)
-and_both false y e = absurd (true≢false (sym e))
-
-both_and : (x y : Bool) → x ≡ true → y ≡ true → (x && y) ≡ true
-both_and x y e f = ap (λ z. z && y) e ∙ f
-
 pub key_itself : (key : PageKey) → same_key key key ≡ true
-key_itself key = both_and _ _ (folder_itself key.folder) ((bytes_decides key.file key.file).1 refl)
+key_itself key = and_from _ _ (folder_itself key.folder) ((bytes_decides key.file key.file).1 refl)
 
 pub key_is : (key other : PageKey) → same_key key other ≡ true → key ≡ other
 key_is key other same =
-    let parts = and_both (eq_by_cmp by_path key.folder other.folder) (pointwise nat_eq key.file other.file) same in
+    let parts = and_parts (eq_by_cmp by_path key.folder other.folder) (pointwise nat_eq key.file other.file) same in
     let folder : key.folder ≡ other.folder = folder_is key.folder other.folder parts.0 in
     let file : key.file ≡ other.file = (bytes_decides key.file other.file).0 parts.1 in
     λ i. record { folder = folder i; file = file i }

@@ -1,8 +1,7 @@
 -- Notes of stamps.
-use Rattle.std.proofs.Common.{◌≡◌, ◌⊎◌, ◌≤◌, ◌<◌, ◌+◌, ℕ, Bool, true, false, cond, get_or, List, Ok, Err, Option, Some, None, inl, inr, ⊎_elim, length, refl, sym, ◌∙◌, ap, subst, arith}
+use Rattle.std.proofs.Common.{◌≡◌, ◌⊎◌, ◌≤◌, ◌<◌, ◌+◌, ℕ, Bool, true, false, cond, get_or, List, Option, Some, None, inl, inr, ⊎_elim, length, refl, sym, ◌∙◌, ap, subst, arith}
 use Rattle.std.specs.Map.{lookup}
 use Rattle.std.specs.Option.{option_or}
-use Rattle.std.specs.Prelude.{OnErr, Result}
 use Rattle.std.proofs.lemmas.Bool.{cases_lt}
 use Rattle.std.proofs.lemmas.List.{get_or_default}
 use Rattle.sp_base.specs.Texts.{Segments}
@@ -78,7 +77,3 @@ pub put_beside : (folder other : Segments) (young older now : StampNotes) (stamp
     → same_folder folder other ≡ false → option_or (stamp_in_notes now other) (stamp_in_notes older other) ≡ option_or (stamp_in_notes young other) (stamp_in_notes older other)
 put_beside folder other young older now stamp updates apart =
     ap (λ x. option_or x (stamp_in_notes older other)) (updates ∙ ap (λ b. cond b (Some stamp) (stamp_in_notes young other)) apart)
-
-pub on_err : {T E P Q : Type 0} (r : Result T E) → (P → Q) → OnErr r P → OnErr r Q
-on_err (Ok x) f p = tt
-on_err (Err e) f p = f p

@@ -1,5 +1,6 @@
 -- Where something is to be put in too deep.
 use Rattle.std.proofs.Common.{◌≡◌, ◌⊎◌, inl, inr, ℕ, zero, suc, Bool, true, false, ◌||◌, List, [], ◌∷◌, ◌++◌, Option, Some, None, refl, ap, sym, ◌∙◌}
+use Rattle.std.proofs.lemmas.Bool.{or_cases, or_right}
 use Rattle.resource_tree.specs.Content.{Content}
 use Rattle.htl_blocks.specs.Parts.{Part, Byte, Round, Script, Resource, is_inclusion}
 use Rattle.publisher.specs.Pages.{Page, Place, Written, inclusion, part_page, parts_page, put_in, written_page}
@@ -15,14 +16,6 @@ record DeepPart (put : Part → Page) (ps : List Part) : Type 0 where
   puts : is_inclusion part ≡ true
   deep : (put part).is_deep ≡ true
 
-pub either : (a b : Bool) → (a || b) ≡ true → (a ≡ true) ⊎ (b ≡ true)
-either true b e = inl refl
-either false b e = inr e
-
-pub or_right : (a b : Bool) → b ≡ true → (a || b) ≡ true
-or_right true b e = refl
-or_right false b e = e
-
 part_deep : (put : Part → Page) (p : Part) → (part_page put p).is_deep ≡ true → (is_inclusion p ≡ true) × ((put p).is_deep ≡ true)
 part_deep put (Byte c) e = absurd cc
 part_deep put Round e = absurd cc
@@ -37,7 +30,7 @@ deep_part put (Resource name) puts e = e
 
 deep_found : (put : Part → Page) (ps : List Part) → (parts_page put ps).is_deep ≡ true → DeepPart put ps
 deep_found put [] e = let clash : false ≡ true = ap (λ (page : Page). page.is_deep) (sym (parts_none put)) ∙ e in absurd cc
-deep_found put (p ∷ ps) e = go (either (part_page put p).is_deep (parts_page put ps).is_deep (ap (λ (page : Page). page.is_deep) (sym (parts_more put p ps)) ∙ e)) (deep_found put ps)
+deep_found put (p ∷ ps) e = go (or_cases (part_page put p).is_deep (parts_page put ps).is_deep (ap (λ (page : Page). page.is_deep) (sym (parts_more put p ps)) ∙ e)) (deep_found put ps)
   where
     go : ((part_page put p).is_deep ≡ true) ⊎ ((parts_page put ps).is_deep ≡ true) → ((parts_page put ps).is_deep ≡ true → DeepPart put ps) → DeepPart put (p ∷ ps)
     go (inl here) later = let x = part_deep put p here in record { before = []; part = p; after = ps; whole = refl; puts = x.0; deep = x.1 }

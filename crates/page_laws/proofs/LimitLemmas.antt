@@ -1,6 +1,6 @@
 -- Which pages are refused.
-use Rattle.std.proofs.Common.{◌≡◌, ◌↔◌, ◌⊎◌, inl, inr, ◌<◌, nat_le, nat_lt, ℕ, Bool, true, false, cond, ◌||◌, List, [], length, refl, ap, sym, ◌∙◌, arith}
-use Rattle.std.proofs.lemmas.Bool.Decides.{nat_tests}
+use Rattle.std.proofs.Common.{◌≡◌, ◌↔◌, ◌⊎◌, inl, inr, ◌<◌, nat_le, nat_lt, Bool, true, false, cond, ◌||◌, List, [], length, refl, ap, sym, ◌∙◌, arith}
+use Rattle.std.proofs.lemmas.Bool.{leb-false, lt-leb, lt-ltb, ltb-true, or_cases, or_left, or_right}
 use Rattle.sp_base.specs.Limits.{most_rendered_bytes}
 use Rattle.sp_base.specs.declared.answer.Answer.{Answer}
 use Rattle.sp_base.specs.declared.answer.Mark.{Mark}
@@ -13,23 +13,7 @@ use Rattle.publisher.specs.Errors.{answer_with_body}
 use Rattle.publisher.specs.Pages.{Page, Place, bindings_at, is_over, most_levels, page_of}
 use Rattle.publisher.specs.Rendering.{html_kind, page_answer}
 use Rattle.page_laws.specs.Limits.{PassesLimit}
-use Rattle.page_laws.proofs.DepthLemmas.{deep_nests, either, nests_deep, or_right}
-
-less : (n m : ℕ) → nat_lt n m ≡ true → n < m
-less n m e = grind (arith, nat_tests)
-
-is_less : (n m : ℕ) → n < m → nat_lt n m ≡ true
-is_less n m e = grind (arith, nat_tests)
-
-above : (n m : ℕ) → nat_le n m ≡ false → m < n
-above n m e = grind (arith, nat_tests)
-
-is_above : (n m : ℕ) → m < n → nat_le n m ≡ false
-is_above n m e = grind (arith, nat_tests)
-
-or_left : (a b : Bool) → a ≡ true → (a || b) ≡ true
-or_left true b e = refl
-or_left false b e = absurd cc
+use Rattle.page_laws.proofs.DepthLemmas.{deep_nests, nests_deep}
 
 -- ---- the status of a page
 
@@ -50,22 +34,22 @@ is_refused false false mark page e = refl
 
 -- what makes a page over
 over_means : (page : Page) → is_over page ≡ true → (page.is_deep ≡ true) ⊎ ((most_inclusions < page.inclusions) ⊎ (most_rounds < page.rounds))
-over_means page e = go (either page.is_deep (nat_lt most_inclusions page.inclusions || nat_lt most_rounds page.rounds) e)
+over_means page e = go (or_cases page.is_deep (nat_lt most_inclusions page.inclusions || nat_lt most_rounds page.rounds) e)
   where
     counted : (nat_lt most_inclusions page.inclusions ≡ true) ⊎ (nat_lt most_rounds page.rounds ≡ true) → (page.is_deep ≡ true) ⊎ ((most_inclusions < page.inclusions) ⊎ (most_rounds < page.rounds))
-    counted (inl f) = inr (inl (less most_inclusions page.inclusions f))
-    counted (inr f) = inr (inr (less most_rounds page.rounds f))
+    counted (inl f) = inr (inl (ltb-true most_inclusions page.inclusions f))
+    counted (inr f) = inr (inr (ltb-true most_rounds page.rounds f))
 
     go : (page.is_deep ≡ true) ⊎ ((nat_lt most_inclusions page.inclusions || nat_lt most_rounds page.rounds) ≡ true) → (page.is_deep ≡ true) ⊎ ((most_inclusions < page.inclusions) ⊎ (most_rounds < page.rounds))
     go (inl f) = inl f
-    go (inr f) = counted (either (nat_lt most_inclusions page.inclusions) (nat_lt most_rounds page.rounds) f)
+    go (inr f) = counted (or_cases (nat_lt most_inclusions page.inclusions) (nat_lt most_rounds page.rounds) f)
 
 means_over : (page : Page) → (page.is_deep ≡ true) ⊎ ((most_inclusions < page.inclusions) ⊎ (most_rounds < page.rounds)) → is_over page ≡ true
 means_over page (inl deep) = or_left page.is_deep (nat_lt most_inclusions page.inclusions || nat_lt most_rounds page.rounds) deep
 means_over page (inr (inl more)) =
-    or_right page.is_deep (nat_lt most_inclusions page.inclusions || nat_lt most_rounds page.rounds) (or_left (nat_lt most_inclusions page.inclusions) (nat_lt most_rounds page.rounds) (is_less most_inclusions page.inclusions more))
+    or_right page.is_deep (nat_lt most_inclusions page.inclusions || nat_lt most_rounds page.rounds) (or_left (nat_lt most_inclusions page.inclusions) (nat_lt most_rounds page.rounds) (lt-ltb most_inclusions page.inclusions more))
 means_over page (inr (inr more)) =
-    or_right page.is_deep (nat_lt most_inclusions page.inclusions || nat_lt most_rounds page.rounds) (or_right (nat_lt most_inclusions page.inclusions) (nat_lt most_rounds page.rounds) (is_less most_rounds page.rounds more))
+    or_right page.is_deep (nat_lt most_inclusions page.inclusions || nat_lt most_rounds page.rounds) (or_right (nat_lt most_inclusions page.inclusions) (nat_lt most_rounds page.rounds) (lt-ltb most_rounds page.rounds more))
 
 over_passes : (tree : Content) (place : Place) (blocks : List Block) → is_over (page_of tree place blocks) ≡ true → PassesLimit tree place blocks
 over_passes tree place blocks e = go (over_means (page_of tree place blocks) e)
@@ -78,14 +62,14 @@ over_passes tree place blocks e = go (over_means (page_of tree place blocks) e)
 -- a page that passes a limit is over, or too long
 passes_over : (tree : Content) (place : Place) (blocks : List Block) → PassesLimit tree place blocks
     → (is_over (page_of tree place blocks) ≡ true) ⊎ (nat_le (length (page_of tree place blocks).text) most_rendered_bytes ≡ false)
-passes_over tree place blocks (PassesLimit.TooLong more) = inr (is_above (length (page_of tree place blocks).text) most_rendered_bytes more)
+passes_over tree place blocks (PassesLimit.TooLong more) = inr (lt-leb (length (page_of tree place blocks).text) most_rendered_bytes more)
 passes_over tree place blocks (PassesLimit.TooMuchPutIn more) = inl (means_over (page_of tree place blocks) (inr (inl more)))
 passes_over tree place blocks (PassesLimit.TooManyRounds more) = inl (means_over (page_of tree place blocks) (inr (inr more)))
 passes_over tree place blocks (PassesLimit.TooDeep nests) = inl (means_over (page_of tree place blocks) (inl (nests_deep tree most_levels place (blocks_parts (bindings_at place []) blocks) nests)))
 
 refused_passes : (tree : Content) (place : Place) (blocks : List Block) → (is_over (page_of tree place blocks) ≡ true) ⊎ (nat_le (length (page_of tree place blocks).text) most_rendered_bytes ≡ false) → PassesLimit tree place blocks
 refused_passes tree place blocks (inl over) = over_passes tree place blocks over
-refused_passes tree place blocks (inr long) = PassesLimit.TooLong (above (length (page_of tree place blocks).text) most_rendered_bytes long)
+refused_passes tree place blocks (inr long) = PassesLimit.TooLong (leb-false (length (page_of tree place blocks).text) most_rendered_bytes long)
 
 pub refused_is : (tree : Content) (mark : Mark) (place : Place) (blocks : List Block) (answer : Answer) → answer ≡ page_answer mark (page_of tree place blocks) → (answer.status ≡ 500) ↔ PassesLimit tree place blocks
 refused_is tree mark place blocks answer is =

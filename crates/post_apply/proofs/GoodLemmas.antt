@@ -1,25 +1,26 @@
 -- The content after a POST is good, since each of its steps leaves it so.
 use Rattle.std.proofs.Common.{◌≡◌, ◌∙◌, ◌<◌, ◌≤◌, ◌+◌, ◌-◌, ap, sym, refl, subst, arith, ⊎_elim, ℕ, List, [], ◌∷◌, ◌++◌, Option, Some, None, length, drop, Bool, true, false, cond, append_assoc}
-use Rattle.std.specs.Prelude.{◌&&◌, ◌==◌, IsTrue, IsSome, IfOk, Ok, Err, is_some, is_none, not, nat_le, nat_lt}
+use Rattle.std.specs.Prelude.{◌==◌, IsTrue, IsSome, IfOk, Ok, Err, is_some, is_none, not, nat_lt}
 use Rattle.std.specs.List.{list_all}
 use Rattle.std.specs.List.Sorted.{IsStrictlySortedBy}
 use Rattle.std.specs.Map.{keys_of}
 use Rattle.std.specs.Option.{option_map_or}
-use Rattle.std.proofs.lemmas.Bool.{cases_Bool, true≢false, false≢true}
+use Rattle.std.proofs.lemmas.Bool.{cases_Bool, true≢false, false≢true, and_parts}
 use Rattle.std.proofs.lemmas.Bool.Decides.{nat_tests}
-use Rattle.std.proofs.lemmas.List.{length-append, take-append-drop}
-use Rattle.std.proofs.lemmas.List.Folds.{list_all_at, list_all-append}
+use Rattle.std.proofs.lemmas.List.{take-append-drop}
+use Rattle.std.proofs.lemmas.List.Folds.{list_all_at}
 use Rattle.std.proofs.lemmas.List.Kept.{IsStrictlySortedBy-filter}
-use Rattle.sp_base.specs.Paths.{is_path, is_under, most_segments, path_or_none, seg_ok}
+use Rattle.sp_base.specs.Paths.{is_path, is_under, path_or_none, seg_ok}
 use Rattle.sp_base.specs.declared.value.Value.{Value}
+use Rattle.sp_base.proofs.OrderingLemmas.{by_path_total}
+use Rattle.sp_base.proofs.PathTests.{path_before}
 use Rattle.resource_tree.specs.declared.nodes.Node.{Node}
 use Rattle.resource_tree.specs.declared.places.Place.{Place}
 use Rattle.resource_tree.specs.declared.faults.TreeFault.{TreeFault}
 use Rattle.resource_tree.specs.declared.faults.TreeFault.TheVariants.{FullTree, NoSuch, RootFixed, Taken, TooDeep}
-use Rattle.resource_tree.specs.Content.{Content, HasSegmentNames, IsGood, by_path, empty_node, kid, most_nodes, name_of, node_at, parent_of, prop_at}
+use Rattle.resource_tree.specs.Content.{Content, IsGood, by_path, empty_node, kid, most_nodes, name_of, node_at, parent_of, prop_at}
 use Rattle.resource_tree.specs.Changes.{change_at, clearing, create_fault, creation, fixed_fault, has_prop_at, order_fault, removal, reordering, set_fault, update, with_kid, with_order, with_value, without_kid, without_value}
 use Rattle.resource_tree.specs.Moves.{copy, copy_fault, ends_fault, first_fault, is_too_deep, move_fault, part, part_size_fault, part_there, relocation, target_fault}
-use Rattle.resource_tree.proofs.PathLemmas.{by_path_total}
 use Rattle.resource_tree.proofs.EntriesInOrder.{sorted-insert_entry}
 use Rattle.resource_tree.proofs.Without.{keys_of-filter}
 use Rattle.resource_tree.proofs.Patching.{sorted-patching}
@@ -29,6 +30,7 @@ use Rattle.resource_tree.proofs.Reordering.{IsGood-reordering, can_move}
 use Rattle.resource_tree.proofs.Removal.{IsGood-removal}
 use Rattle.resource_tree.proofs.Copied.{IsGood-copy, is_free, sorted-change_at}
 use Rattle.resource_tree.proofs.Relocated.{IsGood-relocation, may_go}
+use Rattle.tree_draft.proofs.DraftLemmas.{no_names}
 use Rattle.post_plan.specs.declared.spot.Spot.{Spot}
 use Rattle.post_plan.specs.declared.spot.Carry.{Carry}
 use Rattle.post_plan.specs.declared.operation.CarryOp.{CarryOp}
@@ -49,25 +51,8 @@ use Rattle.post_apply.specs.Posting.{PostEffect, PostedNode, carry, content_afte
 
 -- ---- paths
 
-both : (a b : Bool) → a && b ≡ true → (a ≡ true) × (b ≡ true)
-both true b h = (refl, h)
-both false b h = absurd (false≢true h)
-
-true_both : (a b : Bool) → a ≡ true → b ≡ true → a && b ≡ true
-true_both a b p q = rw (p, q) refl
-
-le_less : (n m k : ℕ) → nat_le (n + m) k ≡ true → nat_le n k ≡ true
-le_less n m k h = grind (arith, nat_tests)
-
-prefix_path : (xs ys : List (List ℕ)) → is_path (xs ++ ys) ≡ true → is_path xs ≡ true
-prefix_path xs ys h =
-    let parts = both (list_all seg_ok (xs ++ ys)) (nat_le (length (xs ++ ys)) most_segments) h in
-    let names = both (list_all seg_ok xs) (list_all seg_ok ys) (sym (list_all-append seg_ok xs ys) ∙ parts.0) in
-    true_both (list_all seg_ok xs) (nat_le (length xs) most_segments) names.0
-    (le_less (length xs) (length ys) most_segments (ap (λ (n : ℕ). nat_le n most_segments) (sym (length-append xs ys)) ∙ parts.1))
-
 parent_path : (path : List (List ℕ)) → is_path path ≡ true → is_path (parent_of path) ≡ true
-parent_path path valid = prefix_path (parent_of path) (drop (length path - 1) path) (ap is_path (take-append-drop (length path - 1) path) ∙ valid)
+parent_path path valid = path_before (parent_of path) (drop (length path - 1) path) (ap is_path (take-append-drop (length path - 1) path) ∙ valid)
 
 within : (path : List (List ℕ)) → (length path == 0) ≡ false → length path - 1 < length path
 within [] e = absurd (true≢false e)
@@ -78,7 +63,7 @@ name_ok : (path : List (List ℕ)) → is_path path ≡ true → (length path ==
 name_ok path valid some =
     ⊎_elim
     (λ this. this)
-    (λ no. absurd (true≢false (sym (both (list_all seg_ok path) _ valid).0 ∙ list_all_at seg_ok path (length path - 1) [] (within path some) no)))
+    (λ no. absurd (true≢false (sym (and_parts (list_all seg_ok path) _ valid).0 ∙ list_all_at seg_ok path (length path - 1) [] (within path some) no)))
     (cases_Bool (seg_ok (name_of path)))
 
 -- ---- one step after another
@@ -126,13 +111,10 @@ turns : {X : Type 0} (step : Content → X → ApplyOutcome Content) (fits : X �
 unfolding in_turn
 turns step fits keeps [] tree all good = good
 turns step fits keeps (x ∷ more) tree all good =
-    let parts = both (fits x) (list_all fits more) all in
+    let parts = and_parts (fits x) (list_all fits more) all in
     chained (step tree x) (in_turn step more) (keeps tree x parts.0 good) (λ t g. turns step fits keeps more t parts.1 g)
 
 -- ---- nodes that are made
-
-no_names : HasSegmentNames []
-no_names name there_ = absurd (false≢true there_)
 
 good_made : (tree : Content) (path : List (List ℕ)) → is_path path ≡ true → IsGood tree → Good (creation_outcome tree path)
 good_made tree path valid good =
@@ -148,7 +130,7 @@ unfolding with_nodes_below
 good_below [] path tree valid good = good
 good_below (name ∷ names) path tree valid good =
     let longer : is_path (kid path name ++ names) ≡ true = ap is_path (append_assoc path (name ∷ []) names) ∙ valid in
-    chained (with_node tree (kid path name)) (with_nodes_below (kid path name) names) (good_node tree (kid path name) (prefix_path (kid path name) names longer) good) (λ t g. good_below names (kid path name) t longer g)
+    chained (with_node tree (kid path name)) (with_nodes_below (kid path name) names) (good_node tree (kid path name) (path_before (kid path name) names longer) good) (λ t g. good_below names (kid path name) t longer g)
 
 good_way : (path : List (List ℕ)) (tree : Content) → is_path path ≡ true → IsGood tree → Good (with_way path tree)
 good_way path tree valid good = good_below path [] tree valid good
@@ -276,7 +258,7 @@ good_bring moves from to tree valid good =
 
 good_carry_at : (moves : Bool) (node : List (List ℕ)) (tree : Content) (carry : Carry) → carry_has_paths carry ≡ true → IsGood tree → Good (carry_at moves node tree carry)
 good_carry_at moves node tree carry valid good =
-    let ends = both (spot_has_path carry.from) (spot_has_path carry.to) valid in
+    let ends = and_parts (spot_has_path carry.from) (spot_has_path carry.to) valid in
     at_spot node carry.to (λ to. path_of_spot node carry.from >>= λ from. bring moves from to tree) ends.1 (λ to fits.
     at_spot node carry.from (λ from. bring moves from to tree) ends.0 (λ from _. good_bring moves from to tree fits good))
 
@@ -300,10 +282,10 @@ good_placed node (Some place) tree good =
 
 good_modified : (op : ModifyOp) (at : PostedNode) → names_paths (Modify op) ≡ true → is_path at.node ≡ true → IsGood at.content → Good (modify_outcome op at)
 good_modified op at all valid good =
-    let rest = (both (is_path op.target) _ all).1 in
-    let deletes = both (list_all spot_has_path op.deletes) _ rest in
-    let moves = both (list_all carry_has_paths op.moves) _ deletes.1 in
-    let copies = both (list_all carry_has_paths op.copies) (list_all set_has_path op.sets) moves.1 in
+    let rest = (and_parts (is_path op.target) _ all).1 in
+    let deletes = and_parts (list_all spot_has_path op.deletes) _ rest in
+    let moves = and_parts (list_all carry_has_paths op.moves) _ deletes.1 in
+    let copies = and_parts (list_all carry_has_paths op.copies) (list_all set_has_path op.sets) moves.1 in
     chained (with_way at.node at.content) _ (good_way at.node at.content valid good) (λ creation_outcome a.
     chained (in_turn (delete_at at.node) op.deletes creation_outcome) _ (turns (delete_at at.node) spot_has_path (λ t x f g. good_delete_at at.node t x f g) op.deletes creation_outcome deletes.0 a) (λ less b.
     chained (in_turn (carry_at true at.node) op.moves less) _ (turns (carry_at true at.node) carry_has_paths (λ t x f g. good_carry_at true at.node t x f g) op.moves less moves.0 b) (λ moved c.
@@ -324,7 +306,7 @@ good_posted_node target (Some wish) tree valid good =
 
 good_modify : (op : ModifyOp) (tree : Content) → names_paths (Modify op) ≡ true → IsGood tree → IfOk (modify op tree) GoodPosted
 good_modify op tree all good =
-    followed GoodPostedNode GoodPosted (posted_node_of op.target op.fresh tree) (modify_at op) (good_posted_node op.target op.fresh tree (both (is_path op.target) _ all).0 good) (λ at g.
+    followed GoodPostedNode GoodPosted (posted_node_of op.target op.fresh tree) (modify_at op) (good_posted_node op.target op.fresh tree (and_parts (is_path op.target) _ all).0 good) (λ at g.
     followed (λ (t : Content). IsGood t) GoodPosted (modify_outcome op at) _ (good_modified op at all g.1 g.0) (λ t h. h))
 
 good_remove : (path : List (List ℕ)) (tree : Content) → IsGood tree → IfOk (remove path tree) GoodPosted

@@ -17,6 +17,7 @@ use Rattle.resource_tree.specs.Moves.{copy, copy_fault, move_fault, part, path_t
 use Rattle.resource_tree.specs.Patches.{patching}
 use Rattle.resource_tree.proofs.PathLemmas.{cases_path, kid_parts, same_path_apart}
 use Rattle.resource_tree.proofs.NodeLookups.{node_at-insert_entry_same, node_at-insert_entry_other, there-change_at}
+use Rattle.resource_tree.proofs.Relocated.{some_under}
 use Rattle.resource_tree.proofs.Under.{under_self}
 use Rattle.resource_tree.proofs.Removal.{node_at-removal}
 use Rattle.post_apply.specs.declared.fault.ApplyFault.TheVariants.{Tree}
@@ -27,11 +28,6 @@ use Rattle.post_apply.specs.Carries.{bring, bring_node, bring_value, carry_outco
 use Rattle.post_apply.specs.Posting.{content_placed}
 use Rattle.post_laws.specs.Places.{IsApart}
 use Rattle.post_laws.proofs.StepLemmas.{beside_part, by_test, followed, kid_outside, okay, other_change, refused, unless_begun, unless_holds}
-
-still : (b : Bool) (change : Node → Node) (o : Option Node) → is_some (cond b (option_map change o) o) ≡ is_some o
-still true change None = refl
-still true change (Some node) = refl
-still false change o = refl
 
 module _ (tree : Content) (q : List (List ℕ)) where
   -- the path is as before, and those of its kids that were there are there
@@ -70,7 +66,7 @@ module _ (tree : Content) (q : List (List ℕ)) where
       kids name there_ =
           let out = kid_outside q place outside no_parent name in
           ap is_some (node_at-removal t place (kid q name)) ∙ ap (λ b. is_some (cond b None (cond (same_path (parent_of place) (kid q name)) (option_map (without_kid (name_of place)) (node_at t (kid q name))) (node_at t (kid q name))))) out
-          ∙ still (same_path (parent_of place) (kid q name)) (without_kid (name_of place)) (node_at t (kid q name)) ∙ stays.1 name there_
+          ∙ some_under (same_path (parent_of place) (kid q name)) (without_kid (name_of place)) (node_at t (kid q name)) ∙ stays.1 name there_
 
   pub kept_removed : (t : Content) (place : List (List ℕ)) → IsApart tree q place → Stays t → Keeps (removal_outcome t place)
   kept_removed t place apart stays = unless_holds Stays (fixed_fault t place) (removal t place) (λ _. taken t place apart.outside apart.no_parent stays)

@@ -6,6 +6,7 @@ use Rattle.std.specs.BTreeMap.{insert_entry}
 use Rattle.std.proofs.lemmas.Bool.{false≢true, false_from_ne_true}
 use Rattle.sp_base.specs.Paths.{is_under, path_or_none, seg_ok}
 use Rattle.sp_base.specs.declared.value.Value.{Value}
+use Rattle.sp_base.proofs.OptionLemmas.{none_from_test}
 use Rattle.resource_tree.specs.declared.nodes.Node.{Node}
 use Rattle.resource_tree.specs.declared.places.Place.{Place}
 use Rattle.resource_tree.specs.declared.faults.TreeFault.TheVariants.{Taken}
@@ -16,7 +17,6 @@ use Rattle.resource_tree.specs.Moves.{copy, copy_fault, move_fault, part, path_t
 use Rattle.resource_tree.specs.Patches.{patching}
 use Rattle.resource_tree.proofs.PathLemmas.{cases_path, kid_parts}
 use Rattle.resource_tree.proofs.NodeLookups.{node_at-insert_entry_other, there-change_at}
-use Rattle.resource_tree.proofs.Creation.{none_from}
 use Rattle.resource_tree.proofs.Removal.{node_at-removal}
 use Rattle.resource_tree.proofs.Under.{under_self}
 use Rattle.post_plan.specs.declared.spot.Spot.{Spot}
@@ -53,7 +53,7 @@ module _ (path : List (List ℕ)) where
 
   -- no node is there after a change either
   none_changed : (t : Content) (at : List (List ℕ)) (change : Node → Node) → node_at t path ≡ None → node_at (change_at t at change) path ≡ None
-  none_changed t at change none = none_from _ (there-change_at t at change path ∙ ap is_some none)
+  none_changed t at change none = none_from_test _ (there-change_at t at change path ∙ ap is_some none)
 
   none_removed : (t : Content) (place : List (List ℕ)) → node_at t path ≡ None → node_at (removal t place) path ≡ None
   none_removed t place none = node_at-removal t place path ∙ go (is_under path place) (same_path (parent_of place) path) (node_at t path) none
@@ -192,7 +192,7 @@ module _ (path : List (List ℕ)) where
       go (Some node) e =
           let is_node = good.shape.nodes (parent_of path) node e in
           ⊎_elim
-          (λ (root : path ≡ []). none_from (prop_at node (name_of path)) (false_from_ne_true _ (λ is.
+          (λ (root : path ≡ []). none_from_test (prop_at node (name_of path)) (false_from_ne_true _ (λ is.
           false≢true (sym (ap (λ (p : List (List ℕ)). seg_ok (name_of p)) root) ∙ is_node.names (name_of path) is))))
           (λ (deep : path ≢ []). is_node.apart (name_of path) (is_node.kids (name_of path) ∙ ap (λ (p : List (List ℕ)). is_some (node_at tree p)) (kid_parts path deep) ∙ there_))
           (cases_path path [])
@@ -249,8 +249,8 @@ module _ (path : List (List ℕ)) where
       (λ none. go none (has_prop_at t (parent_of path) (name_of path)) refl)
     where
       go : is_some (node_at t path) ≡ false → (b : Bool) → has_prop_at t (parent_of path) (name_of path) ≡ b → Gone (cond b (clearing t (parent_of path) (name_of path)) t)
-      go none true e = record { no_node = none_changed t (parent_of path) (without_value (name_of path)) (none_from (node_at t path) none); no_property = prop_cleared_own path t }
-      go none false e = record { no_node = none_from (node_at t path) none; no_property = none_there path t e }
+      go none true e = record { no_node = none_changed t (parent_of path) (without_value (name_of path)) (none_from_test (node_at t path) none); no_property = prop_cleared_own path t }
+      go none false e = record { no_node = none_from_test (node_at t path) none; no_property = none_there path t e }
 
   -- each of some steps
   turns : {X : Type 0} (P : Content → Type 0) (step : Content → X → ApplyOutcome Content) (Clear : X → Type 0) → ((t : Content) (x : X) → Clear x → P t → IfOk (step t x) P) → (xs : List X) (t : Content)

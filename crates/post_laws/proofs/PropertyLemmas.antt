@@ -12,12 +12,13 @@ use Rattle.std.proofs.lemmas.Map.Views.{tells_apart}
 use Rattle.sp_base.specs.Names.{by_name}
 use Rattle.sp_base.specs.Paths.{is_under}
 use Rattle.sp_base.specs.declared.value.Value.{Value}
+use Rattle.sp_base.proofs.OptionLemmas.{none_from_test}
 use Rattle.resource_tree.specs.declared.nodes.Node.{Node}
 use Rattle.resource_tree.specs.Content.{Content, by_path, empty_node, kid, name_of, node_at, parent_of, prop_at, same_path}
 use Rattle.resource_tree.specs.Changes.{change_at, clearing, create_fault, creation, has_prop_at, removal, with_kid, with_value, without_kid, without_value}
 use Rattle.resource_tree.proofs.PathLemmas.{cases_path, kid_parts, path_from_same, same_path_self}
 use Rattle.resource_tree.proofs.NodeLookups.{node_at-change_at, node_at-insert_entry_other, node_at-insert_entry_same}
-use Rattle.resource_tree.proofs.Creation.{no_fault, none_from}
+use Rattle.resource_tree.proofs.Creation.{no_fault}
 use Rattle.resource_tree.proofs.Removal.{node_at-removal}
 use Rattle.resource_tree.proofs.Under.{under_kid, under_root, under_self}
 use Rattle.resource_tree.proofs.Update.{prop_at-with_value, prop_at-without_value}
@@ -143,7 +144,7 @@ module _ (path : List (List ℕ)) where
     where
       go : (o : Option Node) → option_map_or (λ (node : Node). is_some (prop_at node (name_of path))) o false ≡ false → option_and_then its o ≡ None
       go None e = refl
-      go (Some node) e = none_from (its node) e
+      go (Some node) e = none_from_test (its node) e
 
 -- ---- what a node that is made finds
 
@@ -152,4 +153,4 @@ nothing_free tree path e =
     let first = no_fault (is_none (node_at tree (parent_of path))) _ _ e in
     let second = no_fault (is_some (node_at tree path)) _ _ first.1 in
     let third = no_fault (has_prop_at tree (parent_of path) (name_of path)) _ _ second.1 in
-    (none_from (node_at tree path) second.0, third.0)
+    (none_from_test (node_at tree path) second.0, third.0)

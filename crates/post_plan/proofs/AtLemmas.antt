@@ -1,6 +1,7 @@
 -- The last `@` of a name.
 use Rattle.std.proofs.Common.{◌≡◌, ◌≢◌, ◌<◌, ◌-◌, ◌+◌, ℕ, zero, suc, Bool, true, false, not, ◌||◌, List, [], ◌∷◌, Option, Some, drop, length, get_or, refl, ap, ◌∙◌, arith}
 use Rattle.std.specs.List.{list_any, suffix_len, slice_range}
+use Rattle.std.proofs.lemmas.Bool.{or_right}
 use Rattle.std.proofs.lemmas.Bool.Decides.{nat_tests}
 use Rattle.std.proofs.lemmas.List.Sums.{suffix_len_is}
 use Rattle.post_plan.specs.declared.suffix.Suffix.{Suffix}
@@ -17,14 +18,10 @@ none_at : (t : List ℕ) → ((i : ℕ) → i < length t → get_or t i 0 ≢ 64
 none_at [] h = refl
 none_at (b ∷ t) h = ap (λ (x : Bool). x || list_any is_at_sign t) (differs b (h 0 (omega arith))) ∙ none_at t (λ i lt. h (suc i) (omega arith))
 
-or_true : (x y : Bool) → y ≡ true → x || y ≡ true
-or_true true y h = refl
-or_true false y h = h
-
 some_at : (t : List ℕ) (at : ℕ) → at < length t → get_or t at 0 ≡ 64 → list_any is_at_sign t ≡ true
 some_at [] at lt e = absurd (omega (arith, lt))
 some_at (b ∷ t) zero lt e = ap (λ (x : Bool). x || list_any is_at_sign t) (equals b e)
-some_at (b ∷ t) (suc at) lt e = or_true (is_at_sign b) (list_any is_at_sign t) (some_at t at (omega (arith, lt)) e)
+some_at (b ∷ t) (suc at) lt e = or_right (is_at_sign b) (list_any is_at_sign t) (some_at t at (omega (arith, lt)) e)
 
 remainder : (t : List ℕ) (at : ℕ) → at < length t → get_or t at 0 ≡ 64 → ((i : ℕ) → at < i → i < length t → get_or t i 0 ≢ 64) → suffix_len (λ b. not (is_at_sign b)) t ≡ length t - (at + 1)
 remainder t at lt e after =

@@ -1,10 +1,11 @@
 -- A made name by the runs of its word, and which bytes it has.
 use Rattle.std.proofs.Common.{◌≡◌, ◌<◌, ◌≤◌, ℕ, zero, suc, Bool, true, false, cond, not, ◌&&◌, ◌||◌, eqb, List, [], ◌∷◌, ◌++◌, take, length, map, refl, ap, sym, ◌∙◌, subst, arith, min, length-take}
 use Rattle.std.specs.Prelude.{nat_lt}
-use Rattle.std.proofs.lemmas.Bool.{and_parts, and_from, not-true, lt-ltb, ne_eqb}
+use Rattle.std.proofs.lemmas.Bool.{and_parts, and_from, not-true, ne_eqb}
 use Rattle.std.proofs.lemmas.Bool.Decides.{nat_tests}
 use Rattle.std.specs.Char.{is_ascii_alphanumeric, to_ascii_lowercase}
 use Rattle.std.specs.List.{list_all, flat_map}
+use Rattle.sp_base.proofs.NatLemmas.{zero_below_suc}
 use Rattle.post_plan.specs.NewNames.{name_bytes, or_node, made_name, longest_made}
 use Rattle.post_plan.specs.MadeNames.{NameRun, bytes_of_run, run_name, is_run, is_other_byte, are_apart, alternate, AreRunsOf, HasRuns, is_made_byte, HasTwoMarks}
 
@@ -84,14 +85,11 @@ one_kept b is = rw is refl
 one_other : (b : ℕ) → is_ascii_alphanumeric b ≡ false → is_run (NameRun.Other (b ∷ [])) ≡ true
 one_other b is = rw is refl
 
-some_bytes : (n : ℕ) → nat_lt 0 (suc n) ≡ true
-some_bytes n = lt-ltb 0 (suc n) (omega arith)
-
 more_kept : (b : ℕ) (bs : List ℕ) → is_ascii_alphanumeric b ≡ true → is_run (NameRun.Kept bs) ≡ true → is_run (NameRun.Kept (b ∷ bs)) ≡ true
-more_kept b bs is e = and_from (nat_lt 0 (suc (length bs))) (list_all is_ascii_alphanumeric (b ∷ bs)) (some_bytes (length bs)) (rw is (and_parts (nat_lt 0 (length bs)) (list_all is_ascii_alphanumeric bs) e).1)
+more_kept b bs is e = and_from (nat_lt 0 (suc (length bs))) (list_all is_ascii_alphanumeric (b ∷ bs)) (zero_below_suc (length bs)) (rw is (and_parts (nat_lt 0 (length bs)) (list_all is_ascii_alphanumeric bs) e).1)
 
 more_other : (b : ℕ) (bs : List ℕ) → is_ascii_alphanumeric b ≡ false → is_run (NameRun.Other bs) ≡ true → is_run (NameRun.Other (b ∷ bs)) ≡ true
-more_other b bs is e = and_from (nat_lt 0 (suc (length bs))) (list_all is_other_byte (b ∷ bs)) (some_bytes (length bs)) (rw is (and_parts (nat_lt 0 (length bs)) (list_all is_other_byte bs) e).1)
+more_other b bs is e = and_from (nat_lt 0 (suc (length bs))) (list_all is_other_byte (b ∷ bs)) (zero_below_suc (length bs)) (rw is (and_parts (nat_lt 0 (length bs)) (list_all is_other_byte bs) e).1)
 
 -- one more byte before the runs
 with_byte : (b : ℕ) (word : List ℕ) (runs : List NameRun) → AreRunsOf word runs → HasRuns (b ∷ word)

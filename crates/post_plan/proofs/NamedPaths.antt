@@ -1,12 +1,13 @@
 -- What a form asks for names paths alone.
 use Rattle.std.proofs.Common.{◌≡◌, ◌∙◌, ap, sym, refl, ℕ, List, [], ◌∷◌, ◌++◌, Option, Some, None, length, map, Bool, true, false, cond}
-use Rattle.std.specs.Prelude.{◌&&◌, ◌==◌, ◌-◌, IfSome, Result, Ok, Err, filter, nat_le, not, option_and_then, take, unwrap_or}
+use Rattle.std.specs.Prelude.{◌==◌, ◌-◌, IfSome, Result, Ok, Err, filter, nat_le, not, option_and_then, take, unwrap_or}
 use Rattle.std.specs.List.{cons_option, filter_map, list_all}
 use Rattle.std.specs.Result.{result_ok}
-use Rattle.std.proofs.lemmas.Bool.{false≢true}
+use Rattle.std.proofs.lemmas.Bool.{and_from, and_parts}
 use Rattle.sp_base.specs.Paths.{is_path, parent_of, path_in, path_of, path_or_none}
 use Rattle.sp_base.specs.declared.path.PathFault.{PathFault}
 use Rattle.sp_base.specs.declared.hint.Hint.{Hint}
+use Rattle.sp_base.proofs.ListLemmas.{list_all_filter}
 use Rattle.resource_tree.specs.MergeRoots.{is_merged_path}
 use Rattle.post_plan.specs.declared.fault.PlanFault.{PlanFault}
 use Rattle.post_plan.specs.declared.suffix.Suffix.{Suffix}
@@ -26,42 +27,29 @@ use Rattle.post_plan.specs.OperationPaths.{AsksForPaths, carry_has_paths, ends_a
 
 -- ---- lists of which all pass
 
-true_both : (a b : Bool) → a ≡ true → b ≡ true → a && b ≡ true
-true_both a b p q = rw (p, q) refl
-
-both_true : (a b : Bool) → a && b ≡ true → (a ≡ true) × (b ≡ true)
-both_true true b h = (refl, h)
-both_true false b h = absurd (false≢true h)
-
 all_true : {X : Type 0} (xs : List X) → list_all (λ _. true) xs ≡ true
 all_true [] = refl
 all_true (x ∷ xs) = all_true xs
 
 picked_one : {X Y : Type 0} (fits : Y → Bool) (f : X → Option Y) (o : Option Y) (xs : List X) → IfSome o (λ (y : Y). fits y ≡ true) → list_all fits (filter_map f xs) ≡ true → list_all fits (cons_option o (filter_map f xs)) ≡ true
 picked_one fits f None xs is all = all
-picked_one fits f (Some y) xs is all = true_both (fits y) (list_all fits (filter_map f xs)) is all
+picked_one fits f (Some y) xs is all = and_from (fits y) (list_all fits (filter_map f xs)) is all
 
 all_picked : {X Y : Type 0} (was : X → Bool) (fits : Y → Bool) (f : X → Option Y) → ((x : X) → was x ≡ true → IfSome (f x) (λ (y : Y). fits y ≡ true)) → (xs : List X) → list_all was xs ≡ true → list_all fits (filter_map f xs) ≡ true
 all_picked was fits f keeps [] all = refl
 all_picked was fits f keeps (x ∷ xs) all =
-    let parts = both_true (was x) (list_all was xs) all in
+    let parts = and_parts (was x) (list_all was xs) all in
     picked_one fits f (f x) xs (keeps x parts.0) (all_picked was fits f keeps xs parts.1)
 
 kept_one : {X : Type 0} (fits test : X → Bool) (x : X) (xs : List X) (b : Bool) → fits x ≡ true → list_all fits (filter test xs) ≡ true → list_all fits (cond b (x ∷ filter test xs) (filter test xs)) ≡ true
-kept_one fits test x xs true is all = true_both (fits x) (list_all fits (filter test xs)) is all
+kept_one fits test x xs true is all = and_from (fits x) (list_all fits (filter test xs)) is all
 kept_one fits test x xs false is all = all
-
-all_kept : {X : Type 0} (fits test : X → Bool) (xs : List X) → list_all fits xs ≡ true → list_all fits (filter test xs) ≡ true
-all_kept fits test [] all = refl
-all_kept fits test (x ∷ xs) all =
-    let parts = both_true (fits x) (list_all fits xs) all in
-    kept_one fits test x xs (test x) parts.0 (all_kept fits test xs parts.1)
 
 all_mapped : {X Y : Type 0} (f : X → Y) (fits : Y → Bool) (xs : List X) → list_all (λ (x : X). fits (f x)) xs ≡ true → list_all fits (map f xs) ≡ true
 all_mapped f fits [] all = refl
 all_mapped {X} f fits (x ∷ xs) all =
-    let parts = both_true (fits (f x)) (list_all (λ (x : X). fits (f x)) xs) all in
-    true_both (fits (f x)) (list_all fits (map f xs)) parts.0 (all_mapped f fits xs parts.1)
+    let parts = and_parts (fits (f x)) (list_all (λ (x : X). fits (f x)) xs) all in
+    and_from (fits (f x)) (list_all fits (map f xs)) parts.0 (all_mapped f fits xs parts.1)
 
 -- ---- what may be there
 
@@ -163,18 +151,18 @@ module _ (valid : (text : List ℕ) (path : List (List ℕ)) → path_of text �
       all_picked (λ _. true) entry_has_path (parameter_entry node) (λ p _. entry_has node p) (content_where (any_marked pairs) pairs) (all_true (content_where (any_marked pairs) pairs))
 
   deletes_have : (es : List Entry) → list_all entry_has_path es ≡ true → list_all spot_has_path (deleted_spots es) ≡ true
-  deletes_have es all = all_mapped (λ (e : Entry). e.spot) spot_has_path (with_suffix DeleteSuffix es) (all_kept entry_has_path (λ e. same_suffix DeleteSuffix e.suffix) es all)
+  deletes_have es all = all_mapped (λ (e : Entry). e.spot) spot_has_path (with_suffix DeleteSuffix es) (list_all_filter entry_has_path (λ e. same_suffix DeleteSuffix e.suffix) es all)
 
   carry_has : (node : List (List ℕ)) (e : Entry) → entry_has_path e ≡ true → IfSome (entry_carry node e) (λ (c : Carry). carry_has_paths c ≡ true)
   carry_has node e is = go (spot_of node e.word) (spot_has node e.word)
     where
       go : (o : Option Spot) → HasPathIf o → IfSome (carry_by o e.spot) (λ (c : Carry). carry_has_paths c ≡ true)
       go None from = tt
-      go (Some spot) from = true_both (spot_has_path spot) (spot_has_path e.spot) from is
+      go (Some spot) from = and_from (spot_has_path spot) (spot_has_path e.spot) from is
 
   carries_have : (node : List (List ℕ)) (suffix : Suffix) (es : List Entry) → list_all entry_has_path es ≡ true → list_all carry_has_paths (carries node suffix es) ≡ true
   carries_have node suffix es all =
-      all_picked entry_has_path carry_has_paths (entry_carry node) (carry_has node) (with_suffix suffix es) (all_kept entry_has_path (λ e. same_suffix suffix e.suffix) es all)
+      all_picked entry_has_path carry_has_paths (entry_carry node) (carry_has node) (with_suffix suffix es) (list_all_filter entry_has_path (λ e. same_suffix suffix e.suffix) es all)
 
   set_has : (pairs : List (List ℕ × List ℕ)) (es : List Entry) (spot : Spot) → spot_has_path spot ≡ true → IfSome (set_of pairs es spot) (λ (s : PropSet). set_has_path s ≡ true)
   set_has pairs es spot is = go (hint_at es spot) (set_words pairs es spot)
@@ -187,8 +175,8 @@ module _ (valid : (text : List ℕ) (path : List (List ℕ)) → path_of text �
   unfolding distinct
   distinct_have [] all = refl
   distinct_have (s ∷ more) all =
-      let parts = both_true (spot_has_path s) (list_all spot_has_path more) all in
-      true_both (spot_has_path s) _ parts.0 (all_kept spot_has_path (λ t. not (same_spot s t)) (distinct more) (distinct_have more parts.1))
+      let parts = and_parts (spot_has_path s) (list_all spot_has_path more) all in
+      and_from (spot_has_path s) _ parts.0 (list_all_filter spot_has_path (λ t. not (same_spot s t)) (distinct more) (distinct_have more parts.1))
 
   sets_have : (pairs : List (List ℕ × List ℕ)) (es : List Entry) → list_all entry_has_path es ≡ true → list_all set_has_path (sets pairs es) ≡ true
   sets_have pairs es all =
@@ -201,7 +189,7 @@ module _ (valid : (text : List ℕ) (path : List (List ℕ)) → path_of text �
   dest_is (Some path) is = is
 
   ends_are : (target : List (List ℕ)) (pairs : List (List ℕ × List ℕ)) → is_path target ≡ true → ends_are_paths (carry_operation target pairs) ≡ true
-  ends_are target pairs is = true_both (is_path target) _ is (dest_is (goal_of target (dest_word pairs)) (goal_is target (dest_word pairs)))
+  ends_are target pairs is = and_from (is_path target) _ is (dest_is (goal_of target (dest_word pairs)) (goal_is target (dest_word pairs)))
 
   operation_has : (verb : Option Verb) (target : List (List ℕ)) (star : Bool) (pairs : List (List ℕ × List ℕ)) → is_path target ≡ true → names_paths (operation_by verb target star pairs) ≡ true
   operation_has None target star pairs is = is
@@ -213,10 +201,10 @@ module _ (valid : (text : List ℕ) (path : List (List ℕ)) → path_of text �
       let node = relative_node target star pairs in
       let es = entries node pairs in
       let all = entries_have node pairs in
-      true_both (is_path target) _ is
-      (true_both (list_all spot_has_path (deleted_spots es)) _ (deletes_have es all)
-      (true_both (list_all carry_has_paths (carries node MoveFrom es)) _ (carries_have node MoveFrom es all)
-      (true_both (list_all carry_has_paths (carries node CopyFrom es)) (list_all set_has_path (sets pairs es)) (carries_have node CopyFrom es all) (sets_have pairs es all))))
+      and_from (is_path target) _ is
+      (and_from (list_all spot_has_path (deleted_spots es)) _ (deletes_have es all)
+      (and_from (list_all carry_has_paths (carries node MoveFrom es)) _ (carries_have node MoveFrom es all)
+      (and_from (list_all carry_has_paths (carries node CopyFrom es)) (list_all set_has_path (sets pairs es)) (carries_have node CopyFrom es all) (sets_have pairs es all))))
 
   planned_is : (fault : Option PlanFault) (asked op : Op) → operation_unless_fault fault asked ≡ Ok op → asked ≡ op
   planned_is None asked op e = cc

@@ -4,23 +4,21 @@ use Rattle.std.specs.Prelude.{IsTrue, nat_le, slice_index_or}
 use Rattle.std.specs.List.{list_all}
 use Rattle.std.specs.Result.{result_ok}
 use Rattle.std.proofs.lemmas.List.Folds.{list_all-map}
-use Rattle.std.proofs.lemmas.Bool.Decides.{nat_tests}
 use Rattle.std.proofs.lemmas.List.Splits.{slice_split_at, slice_split_none}
 use Rattle.std.proofs.lemmas.List.Elements.{All-from_get_or}
 use Rattle.std.proofs.lemmas.List.{append-nil, length-map}
+use Rattle.std.proofs.lemmas.Option.{slice_get_within}
 use Rattle.sp_base.specs.PathTexts.{spelling_of}
 use Rattle.sp_base.specs.Paths.{is_path, most_segments, path_in, path_of, path_or_none, pieces, seg_ok, text_of}
+use Rattle.sp_base.proofs.TextLemmas.{not_slash}
 use Rattle.post_plan.specs.Spots.{own_name}
-
-lacks : (b : ℕ) → b ≢ 47 → (b == 47) ≡ false
-lacks b h = grind (arith, nat_tests)
 
 pub first_of : (text inside after : List ℕ) → text ≡ inside ++ (47 ∷ after) → ((i : ℕ) → i < length inside → get_or inside i 0 ≢ 47) → pieces text ≡ inside ∷ pieces after
 first_of text inside after parts none =
-    ap pieces parts ∙ slice_split_at (λ b. b == 47) inside 47 after (All-from_get_or (λ b. (b == 47) ≡ false) inside 0 (λ i lt. lacks (get_or inside i 0) (none i lt))) refl
+    ap pieces parts ∙ slice_split_at (λ b. b == 47) inside 47 after (All-from_get_or (λ b. (b == 47) ≡ false) inside 0 (λ i lt. not_slash (get_or inside i 0) (none i lt))) refl
 
 pub only_of : (text : List ℕ) → ((i : ℕ) → i < length text → get_or text i 0 ≢ 47) → pieces text ≡ text ∷ []
-only_of text none = slice_split_none (λ b. b == 47) text (All-from_get_or (λ b. (b == 47) ≡ false) text 0 (λ i lt. lacks (get_or text i 0) (none i lt)))
+only_of text none = slice_split_none (λ b. b == 47) text (All-from_get_or (λ b. (b == 47) ≡ false) text 0 (λ i lt. not_slash (get_or text i 0) (none i lt)))
 
 -- the last piece
 pub last_there : (ps : List (List ℕ)) (n : ℕ) (p : List ℕ) → slice_get ps n ≡ Some p → slice_index_or ps n [] ≡ p
@@ -69,14 +67,9 @@ none_at [] n e = omega arith
 none_at (a ∷ t) zero e = absurd cc
 none_at (a ∷ t) (suc n) e = let ih = none_at t n e in omega arith
 
-within_at : (t : List (List ℕ)) (n : ℕ) (name : List ℕ) → slice_get t n ≡ Some name → n < length t
-within_at [] n name e = absurd cc
-within_at (a ∷ t) zero name e = omega arith
-within_at (a ∷ t) (suc n) name e = let ih = within_at t n name e in omega arith
-
 pub own_one : (base target : List (List ℕ)) (name : List ℕ) → Some name ≡ slice_get target (length target - 1) → path_or_none (base ++ name ∷ []) ≡ path_or_none (base ++ own_name target)
 own_one base target name e =
-    let lt = within_at target (length target - 1) name (sym e) in
+    let lt = slice_get_within target (length target - 1) name (sym e) in
     ap (λ (l : List (List ℕ)). path_or_none (base ++ l)) (sym (last_at target (length target - 1) name (sym e) (omega (arith, lt))))
 
 pub own_none : (base target : List (List ℕ)) → None ≡ slice_get target (length target - 1) → is_path base ≡ true → Some base ≡ path_or_none (base ++ own_name target)

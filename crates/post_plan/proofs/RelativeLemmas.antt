@@ -1,20 +1,17 @@
 -- Steps of a relative path.
-use Rattle.std.proofs.Common.{◌≡◌, ◌<◌, ◌≤◌, ◌-◌, ◌+◌, ◌==◌, ◌&&◌, ℕ, Bool, true, false, cond, List, [], ◌∷◌, ◌++◌, Option, Some, None, take, length, map, Bor, codes, refl, ap, sym, ◌∙◌, arith}
+use Rattle.std.proofs.Common.{◌≡◌, ◌<◌, ◌≤◌, ◌-◌, ◌+◌, ◌==◌, ℕ, Bool, true, false, cond, List, [], ◌∷◌, ◌++◌, Option, Some, None, take, length, map, Bor, codes, refl, ap, sym, ◌∙◌, arith}
 use Rattle.std.specs.Prelude.{option_and_then}
 use Rattle.std.specs.Str.{bytes_eq}
 use Rattle.std.proofs.lemmas.List.{length-map, take-map}
 use Rattle.sp_base.specs.Paths.{seg_ok, pieces}
+use Rattle.sp_base.proofs.BoolLemmas.{and_second}
 use Rattle.post_plan.specs.RelativePaths.{RelativePath, relative_parent, relative_path_step, relative_path_from}
-
-and_right : (x y : Bool) → x && y ≡ true → y ≡ true
-and_right true y h = h
-and_right false y h = absurd cc
 
 pub dots_length : (piece : List ℕ) → bytes_eq piece (codes "..") ≡ true → length piece ≡ 2
 dots_length [] e = absurd cc
-dots_length (a ∷ []) e = absurd (let f : false ≡ true = and_right _ _ e in cc)
+dots_length (a ∷ []) e = absurd (let f : false ≡ true = and_second _ _ e in cc)
 dots_length (a ∷ b ∷ []) e = refl
-dots_length (a ∷ b ∷ c ∷ t) e = absurd (let f : false ≡ true = and_right _ _ (and_right _ _ e) in cc)
+dots_length (a ∷ b ∷ c ∷ t) e = absurd (let f : false ≡ true = and_second _ _ (and_second _ _ e) in cc)
 
 abbrev some : RelativePath → Option RelativePath
 some relative = Some relative

@@ -7,6 +7,7 @@ use Rattle.std.specs.List.{cons_option, filter_map}
 use Rattle.std.proofs.lemmas.List.{append-nil}
 use Rattle.std.proofs.lemmas.Option.{slice_get-get_or}
 use Rattle.std.proofs.lemmas.List.Folds.{list_any-append}
+use Rattle.sp_base.proofs.BoolLemmas.{or_false}
 use Rattle.post_plan.specs.declared.spot.Spot.{Spot}
 use Rattle.post_plan.specs.declared.operation.PropSet.{PropSet}
 use Rattle.post_plan.specs.Entries.{Entry, same_spot, distinct, set_of, sets, set_here, sets_from, is_spot_named}
@@ -17,10 +18,6 @@ same_path s t = sym (lists_ties (slice_cmp nat_cmp) texts_ties s t)
 -- whether no entry names the spot
 abbrev fresh : List Entry → Spot → Bool
 fresh es spot = not (is_spot_named spot es)
-
-or_false : (b : Bool) → b || false ≡ b
-or_false true = refl
-or_false false = refl
 
 pub named_push : (before : List Entry) (e : Entry) (spot : Spot) → is_spot_named spot (before ++ e ∷ []) ≡ is_spot_named spot before || same_spot e.spot spot
 named_push before e spot = list_any-append (λ f. same_spot f.spot spot) before (e ∷ []) ∙ ap (λ (b : Bool). is_spot_named spot before || b) (or_false (same_spot e.spot spot))

@@ -1,5 +1,5 @@
 -- Spots by numbers, and the list of entries that they stand for.
-use Rattle.std.proofs.Common.{◌≡◌, ◌<◌, ◌≤◌, ◌+◌, ◌==◌, ℕ, zero, suc, Bool, true, false, cond, not, ◌&&◌, ◌||◌, List, [], ◌∷◌, ◌++◌, Option, Some, None, map, filter, take, drop, length, get_or, slice_get, is_some, refl, ap, sym, ◌∙◌, arith, append-nil, append_assoc, Result, Ok, Err, IfOk}
+use Rattle.std.proofs.Common.{◌≡◌, ◌<◌, ◌≤◌, ◌+◌, ◌==◌, ℕ, zero, suc, Bool, true, false, cond, not, ◌&&◌, ◌||◌, List, [], ◌∷◌, ◌++◌, Option, Some, None, map, filter, take, drop, length, get_or, slice_get, is_some, refl, ap, sym, ◌∙◌, arith, append-nil, append_assoc, Result, Ok, Err, IfOk, one-add}
 use Rattle.std.specs.Prelude.{option_and_then, unwrap_or}
 use Rattle.std.specs.Borrow.{Bor}
 use Rattle.std.specs.BTreeMap.{BTreeMap, get_by, is_at}
@@ -8,10 +8,11 @@ use Rattle.std.specs.declared.cmp.Ordering.{Ordering}
 use Rattle.std.specs.Cmp.Lexicographic.{nat_list_eq_equiv, pointwise, same_text, slice_cmp}
 use Rattle.std.specs.Ordering.{bool_cmp, is_eq, nat_cmp, ordering_then}
 use Rattle.std.specs.Str.{bytes_eq}
-use Rattle.std.proofs.lemmas.Bool.{and_parts, eq-eqb, eqb-true, false≢true, true≢false}
-use Rattle.std.proofs.lemmas.List.{length-map}
+use Rattle.std.proofs.lemmas.Bool.{and_parts, eq-eqb, eqb-true, false≢true, or_parts, true≢false}
+use Rattle.std.proofs.lemmas.List.{length-map, map_push}
 use Rattle.std.proofs.lemmas.Option.{slice_get-get_or}
 use Rattle.sp_base.specs.Bytes.{first_text}
+use Rattle.sp_base.proofs.NatLemmas.{nat_eq_itself}
 use Rattle.post_plan.specs.declared.suffix.Suffix.{Suffix}
 use Rattle.post_plan.specs.declared.suffix.Suffix.TheVariants.{Plain, TypeHint, DefaultValue, ValueFrom, IgnoreBlanks}
 use Rattle.post_plan.specs.declared.spot.Spot.{Spot}
@@ -93,13 +94,6 @@ noted_new before after spot key n is none updates other =
 
 -- ---- first places
 
-or_none : (a b : Bool) → (a || b) ≡ false → (a ≡ false) × (b ≡ false)
-or_none true b e = absurd (true≢false e)
-or_none false b e = (refl, e)
-
-one_more : (n : ℕ) → 1 + n ≡ suc n
-one_more n = omega arith
-
 -- an entry that no earlier one is alike is the first of its spot
 pub first_here : (es : List Entry) (n : ℕ) (e : Entry) (spot : Spot) → slice_get es n ≡ Some e → is_spot_named spot (take n es) ≡ false → same_spot e.spot spot ≡ true → first_place es spot ≡ n
 first_here [] n e spot here none same = absurd cc
@@ -107,8 +101,8 @@ first_here (f ∷ es) zero e spot here none same =
     let is : f ≡ e = cc in
     ap (λ t. cond (not t) (1 + first_place es spot) 0) (ap (λ (x : Entry). same_spot x.spot spot) is ∙ same)
 first_here (f ∷ es) (suc n) e spot here none same =
-    let both = or_none (same_spot f.spot spot) (is_spot_named spot (take n es)) none in
-    ap (λ t. cond (not t) (1 + first_place es spot) 0) both.0 ∙ ap (λ k. 1 + k) (first_here es n e spot here both.1 same) ∙ one_more n
+    let both = or_parts (same_spot f.spot spot) (is_spot_named spot (take n es)) none in
+    ap (λ t. cond (not t) (1 + first_place es spot) 0) both.0 ∙ ap (λ k. 1 + k) (first_here es n e spot here both.1 same) ∙ one-add n
 
 -- and where one of the first n is, the place is less
 pub first_before : (es : List Entry) (n : ℕ) (spot : Spot) → is_spot_named spot (take n es) ≡ true → first_place es spot < n
@@ -215,10 +209,6 @@ places_start es first places empty none =
         let no : Some k ≡ None = sym found ∙ ap (lookup (is_at (spot_cmp spot))) empty in
         cc
 
-map_more : (f : Entry → ℕ) (es : List Entry) (e : Entry) → map f (es ++ e ∷ []) ≡ map f es ++ f e ∷ []
-map_more f [] e = refl
-map_more f (x ∷ es) e = ap (λ (l : List ℕ). f x ∷ l) (map_more f es e)
-
 -- what is noted may be told in other words
 notes_as : (es : List Entry) (n m : ℕ) (noted other : Spot → Option ℕ) → m ≡ n → ((spot : Spot) → other spot ≡ noted spot) → NotesPlaces es n noted → NotesPlaces es m other
 notes_as es n m noted other one same notes = record {
@@ -239,7 +229,7 @@ places_step es n e before after places next place spot lt at spot_is so_far foun
     let first_of : Entry → ℕ = λ f. first_place es f.spot in
     let all : next ≡ map first_of (take (n + 1) es) =
     pushed ∙ ap (λ (l : List ℕ). l ++ place ∷ []) so_far.0 ∙ ap (λ k. map first_of (take n es) ++ k ∷ []) number
-    ∙ sym (map_more first_of (take n es) e) ∙ sym (ap (map first_of) (take_more es n e here)) ∙ sym (ap (λ k. map first_of (take k es)) one)
+    ∙ sym (map_push first_of (take n es) e) ∙ sym (ap (map first_of) (take_more es n e here)) ∙ sym (ap (λ k. map first_of (take k es)) one)
     in
     (all, notes_as es (suc n) (n + 1) (noted_after (place_noted before) e.spot n) (place_noted after) one (λ other. noted other ∙ ap (λ s. noted_after (place_noted before) s n other) spot_is) (notes_step es n e (place_noted before) so_far.1 here same))
 
@@ -264,14 +254,11 @@ filter_within p q (e ∷ es) each = by (p e) refl (q e) refl (filter_within p q 
     by false ps true qt rest = absurd (false≢true (sym ps ∙ each e qt))
     by false ps false qt rest = ap (λ b. filter q (cond b (e ∷ filter p es) (filter p es))) ps ∙ rest ∙ sym (ap (λ b. cond b (e ∷ filter q es) (filter q es)) qt)
 
-number_is : (n : ℕ) → (n == n) ≡ true
-number_is n = eq-eqb n n refl
-
 own_words : (es : List Entry) (spot : Spot) (n : ℕ) → first_place es spot ≡ n → (suffix : Suffix) → words_at spot suffix (numbered es n) ≡ words_at spot suffix es
 own_words es spot n first suffix =
     ap (map (λ (e : Entry). e.word)) (filter_within (λ e. first_place es e.spot == n) (is_of_spot spot suffix) es (λ e is.
     let both = and_parts (same_suffix suffix e.suffix) (same_spot spot e.spot) is in
-    ap (λ k. k == n) (ap (first_place es) (sym (same_spot_is spot e.spot both.1)) ∙ first) ∙ number_is n))
+    ap (λ k. k == n) (ap (first_place es) (sym (same_spot_is spot e.spot both.1)) ∙ first) ∙ nat_eq_itself n))
 
 abbrev set_with : List (List ℕ × List ℕ) → Spot → (Suffix → List (List ℕ)) → Option PropSet
 set_with pairs spot words = set_by spot (option_and_then hint_of (first_text (words TypeHint)))

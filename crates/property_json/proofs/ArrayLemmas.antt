@@ -1,11 +1,11 @@
 -- The tokens of an array and of properties, one more item at a time.
-use Rattle.std.proofs.Common.{◌≡◌, ◌+◌, ◌<◌, ◌≤◌, ◌++◌, ◌^◌, ℕ, ℤ, pos, negsuc, SFits, w64, Bool, true, List, [], ◌∷◌, length, take, get_or, slice_get, Some, None, refl, sym, ◌∙◌, ap, subst, arith, append_assoc}
+use Rattle.std.proofs.Common.{◌≡◌, ◌+◌, ◌<◌, ◌≤◌, ◌++◌, ◌^◌, ℕ, ℤ, pos, negsuc, SFits, w64, Bool, true, List, [], ◌∷◌, length, take, get_or, slice_get, Some, refl, sym, ◌∙◌, ap, subst, arith, append_assoc}
 use Rattle.std.specs.Prelude.{flat_map}
 use Rattle.std.specs.List.{list_all}
 use Rattle.std.proofs.lemmas.Bool.{lt-ltb, and_parts}
 use Rattle.std.proofs.lemmas.List.{take_more, append-nil, take_all}
 use Rattle.std.proofs.lemmas.List.Concat.{flat_map-append}
-use Rattle.std.proofs.lemmas.Option.{slice_get_within, get_or_from_slice_get, slice_get-get_or}
+use Rattle.std.proofs.lemmas.Option.{slice_get_within, get_or_from_slice_get}
 use Rattle.json.specs.Json.{Json, array, Members, no_members}
 use Rattle.json.specs.Token.{Token}
 use Rattle.json.specs.Tree.{json_tokens, items_tokens, members_tokens}
@@ -89,10 +89,6 @@ object_is start begun mid end ps none b a e =
     ap print
     (e ∙ ap (λ ts. ts ++ Token.end_object ∷ []) (a.tokens ∙ ap (λ ts. ts ++ property_tokens ps) (b ∙ ap (λ ts. ts ++ Token.begin_object ∷ []) none))
     ∙ ap (λ ts. Token.begin_object ∷ ts) (sym (members_are ps no_members)))
-
-pub no_place : {A : Type 0} (xs : List A) (i : ℕ) → None ≡ slice_get xs i → i < length xs → ⊥
-no_place {A} [] i e lt = omega (arith, lt)
-no_place {A} (x ∷ xs) i e lt = cc (e, slice_get-get_or (x ∷ xs) i x lt)
 
 -- ---- numbers of 64 bits
 

@@ -6,15 +6,13 @@ use Rattle.std.specs.Result.{result_ok}
 use Rattle.std.specs.Str.{all_ascii_digits}
 use Rattle.std.specs.Str.Parse.{ParsesUnsigned, digits_value}
 use Rattle.std.proofs.lemmas.Bool.Decides.{nat_tests}
-use Rattle.std.proofs.lemmas.Str.Parse.{IsNumeralModel, numerals_by_value, tells_all_ascii_digits, parse_gives, digits_value_short}
+use Rattle.std.proofs.lemmas.Str.Parse.{parse_gives, digits_value_short}
+use Rattle.sp_base.proofs.TextLemmas.{digits_are_numerals}
 use Rattle.publisher.specs.Depths.{is_depth}
 
 pub all_digits : (word : List ℕ) → list_all is_ascii_digit word ≡ all_ascii_digits word
 all_digits [] = refl
 all_digits (b ∷ word) = ap (λ rest. is_ascii_digit b && rest) (all_digits word)
-
-own : IsNumeralModel (λ ds. all_ascii_digits ds ≡ true) (digits_value 10)
-own = numerals_by_value (λ ds. all_ascii_digits ds ≡ true) tells_all_ascii_digits
 
 record Spelled (word : List ℕ) : Type 0 where
   digits : all_ascii_digits word ≡ true
@@ -27,5 +25,5 @@ spelled word is = grind (arith, nat_tests)
 pub depth_value : {E : Type 0} (word : List ℕ) (r : Result ℕ E) → is_depth word ≡ true → ParsesUnsigned 32 10 word r → result_ok r ≡ Some (digits_value 10 word)
 depth_value word r is h =
     let s = spelled word is in
-    let small : digits_value 10 word < 2 ^ 32 = omega (arith, digits_value_short own word 9 s.digits s.few) in
-    ap result_ok (parse_gives own 32 word r h s.digits s.some small)
+    let small : digits_value 10 word < 2 ^ 32 = omega (arith, digits_value_short digits_are_numerals word 9 s.digits s.few) in
+    ap result_ok (parse_gives digits_are_numerals 32 word r h s.digits s.some small)

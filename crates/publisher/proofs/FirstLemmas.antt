@@ -1,19 +1,23 @@
 -- The scripts that are remembered are those that the search finds, and stay so under a patch that changes no script and no super type.
 use Rattle.std.proofs.Common.{◌≡◌, ◌⊎◌, inl, inr, ◌+◌, ◌∷◌, [], ℕ, zero, suc, Bool, true, false, cond, List, Option, Some, None, Result, Ok, Err, IfOk, OnOk, OnErr, length, refl, sym, ◌∙◌, ap, arith, subst}
 use Rattle.std.specs.Prelude.{◌++◌, ◌==◌, ◌&&◌, ◌||◌, not, is_some, codes, flat_map, if◌then◌else◌, min, nat_eq, option_and_then, slice_get, take}
-use Rattle.std.specs.Cmp.Lexicographic.{bytes_decides, pointwise}
+use Rattle.std.specs.Cmp.Lexicographic.{pointwise}
 use Rattle.std.specs.List.{list_any}
 use Rattle.std.specs.Option.{option_or}
-use Rattle.std.proofs.lemmas.Bool.{and_parts, or_parts, true≢false}
+use Rattle.std.proofs.lemmas.Bool.{and_parts, or_from, or_parts}
 use Rattle.std.proofs.lemmas.Bool.Decides.{nat_tests}
+use Rattle.std.proofs.lemmas.Option.{same_Some}
 use Rattle.sp_base.specs.Paths.{is_empty, most_segments, path_of, text_of}
 use Rattle.sp_base.specs.Texts.{Properties, Segments, Text}
 use Rattle.sp_base.specs.declared.path.PathFault.{PathFault}
+use Rattle.sp_base.proofs.ListLemmas.{any_next}
+use Rattle.sp_base.proofs.OptionLemmas.{none_from_test}
 use Rattle.resource_tree.specs.Content.{Content, IsGood, name_of, node_at, same_path}
 use Rattle.resource_tree.specs.Patches.{PatchEntries, entry_at, left_by, patching_at}
 use Rattle.resource_tree.specs.declared.nodes.Node.{Node}
 use Rattle.resource_tree.specs.declared.patch.PatchNode.{PatchNode}
 use Rattle.resource_tree.specs.declared.patch.PatchNode.TheVariants as patch_node
+use Rattle.resource_tree.proofs.PathLemmas.{path_from_same}
 use Rattle.url_split.specs.declared.decompose.Parts.{Parts}
 use Rattle.type_chain.specs.Types.{places, type_of}
 use Rattle.type_chain.specs.Chain.{chain_of, first_of, line, line_from, most_types, own_super, super_at, super_of, super_text, super_type, type_text, until_repeat, with_default}
@@ -25,7 +29,6 @@ use Rattle.script_rank.specs.declared.naming.Naming.{Naming}
 use Rattle.script_rank.specs.declared.naming.Naming.TheVariants.{SelectorsAndExtension, Selectors, LabelAndExtension, Extension, Label, Method}
 use Rattle.publisher.specs.FirstScripts.{AreAmongFirsts, AreFirst, ChangesNoScript, IsFirst, IsOf, KeepsSupers, KeptFirsts, first_at, names_super, super_in}
 use Rattle.publisher.specs.declared.first_scripts.FirstScript.{FirstScript}
-use Rattle.publisher.proofs.ForgetLemmas.{any_next, both_false, same_one}
 
 -- ---- what a search asks beside the tree
 
@@ -74,17 +77,6 @@ same_search tree chain a b extension selectors = λ i. first_of (λ naming. same
 
 -- ---- what is remembered
 
--- lists of texts that are equal text by text are one
-pub texts_equal : (xs ys : List Text) → pointwise (pointwise nat_eq) xs ys ≡ true → xs ≡ ys
-texts_equal [] [] same = refl
-texts_equal [] (y ∷ ys) same = absurd (cc (same))
-texts_equal (x ∷ xs) [] same = absurd (cc (same))
-texts_equal (x ∷ xs) (y ∷ ys) same =
-    let parts = and_parts (pointwise nat_eq x y) (pointwise (pointwise nat_eq) xs ys) same in
-    let first = (bytes_decides x y).0 parts.0 in
-    let more = texts_equal xs ys parts.1 in
-    λ i. first i ∷ more i
-
 -- what was found for a resource and a request is found for all of which this is
 found_is_first : (tree : Content) (first : FirstScript) (props : Properties) (parts : Parts) → IsOf first props parts
     → first.script ≡ search_result tree (chain_of tree props) parts → IsFirst tree first
@@ -102,15 +94,12 @@ none_remembered tree firsts none number first is = absurd (none_at number first 
 pub among_none : (old new : KeptFirsts) → new ≡ [] → AreAmongFirsts old new
 among_none old new none number first is = absurd (none_at number first (ap (λ f. first_at f number) (sym none) ∙ is))
 
-some_first : (a b : FirstScript) → Some a ≡ Some b → a ≡ b
-some_first a b e = cc
-
 -- one that is remembered was before, or is the new one
 abbrev pub IsOldOrNew : KeptFirsts → FirstScript → ℕ → FirstScript → Type 0
 IsOldOrNew old first number other = (first_at old number ≡ Some other) ⊎ (other ≡ first)
 
 put_cases : (b : Bool) (old : KeptFirsts) (first : FirstScript) (number : ℕ) (other : FirstScript) → cond b (Some first) (first_at old number) ≡ Some other → IsOldOrNew old first number other
-put_cases true old first number other is = inr (sym (some_first first other is))
+put_cases true old first number other is = inr (sym (same_Some first other is))
 put_cases false old first number other is = inl is
 
 pub put_either : {A E : Type 0} (r : Result A E) (Put : Type 0) (old new : KeptFirsts) (number : ℕ) (first : FirstScript) → OnOk r Put
@@ -216,17 +205,13 @@ left_alike : (row : PatchNode) (old : Option Node) → left_by (Some row) old �
 left_alike (patch_node.Node node) old = refl
 left_alike patch_node.Gone old = refl
 
-none_of : {A : Type 0} (o : Option A) → is_some o ≡ false → o ≡ None
-none_of None e = refl
-none_of (Some a) e = absurd (true≢false e)
-
 by_entry : (tree : Content) (path : Segments) (entry : Segments × PatchNode) (rest : Option PatchNode) (b : Bool) → same_path path entry.0 ≡ b → names_super tree entry ≡ false
     → super_in (left_by rest (node_at tree path)) ≡ super_in (node_at tree path) → super_in (left_by (cond b (Some entry.1) rest) (node_at tree path)) ≡ super_in (node_at tree path)
 by_entry tree path entry rest false same names is = is
 by_entry tree path entry rest true same names is =
     let parts = or_parts (is_some (super_in (node_at tree entry.0))) (is_some (super_in (left_by (Some entry.1) None))) names in
-    let before : super_in (node_at tree path) ≡ None = ap (λ p. super_in (node_at tree p)) (same_one path entry.0 same) ∙ none_of (super_in (node_at tree entry.0)) parts.0 in
-    ap super_in (left_alike entry.1 (node_at tree path)) ∙ none_of (super_in (left_by (Some entry.1) None)) parts.1 ∙ sym before
+    let before : super_in (node_at tree path) ≡ None = ap (λ p. super_in (node_at tree p)) (path_from_same path entry.0 same) ∙ none_from_test (super_in (node_at tree entry.0)) parts.0 in
+    ap super_in (left_alike entry.1 (node_at tree path)) ∙ none_from_test (super_in (left_by (Some entry.1) None)) parts.1 ∙ sym before
 
 keeps : (tree : Content) (path : Segments) (entries : PatchEntries) → list_any (names_super tree) entries ≡ false → super_in (left_by (entry_at entries path) (node_at tree path)) ≡ super_in (node_at tree path)
 keeps tree path [] none = refl
@@ -239,7 +224,7 @@ keeps_supers tree patch none path = keeps tree path patch none
 
 pub names_none_next : (tree : Content) (patch : PatchEntries) (i : ℕ) (entry : Segments × PatchNode) → slice_get patch i ≡ Some entry → list_any (names_super tree) (take i patch) ≡ false
     → names_super tree entry ≡ false → list_any (names_super tree) (take (i + 1) patch) ≡ false
-names_none_next tree patch i entry is so_far none = any_next (names_super tree) patch i entry is ∙ both_false (list_any (names_super tree) (take i patch)) (names_super tree entry) so_far none
+names_none_next tree patch i entry is so_far none = any_next (names_super tree) patch i entry is ∙ or_from (list_any (names_super tree) (take i patch)) (names_super tree entry) so_far none
 
 pub still_first : (tree after : Content) (patch : PatchEntries) (change : ScriptPathsChange) (firsts : KeptFirsts) → AreFirst tree firsts → IsScriptChangeOf tree patch change → KeepsSupers tree patch
     → ChangesNoScript change → IsGood after → ((path : Segments) → node_at after path ≡ patching_at tree patch path) → AreFirst after firsts

@@ -1,58 +1,30 @@
 -- Readings that are forgotten with the texts that a patch changes.
-use Rattle.std.proofs.Common.{◌≡◌, ◌+◌, ◌-◌, ◌∷◌, [], ℕ, Bool, true, false, cond, List, Option, Some, None, length, take, refl, sym, ◌∙◌, ap, arith, length-append}
-use Rattle.std.specs.Prelude.{◌||◌, option_and_then, option_map, slice_get, codes, nat_eq}
-use Rattle.std.specs.Cmp.{IsTotalOrder, eq_by_cmp_equiv}
-use Rattle.std.specs.Cmp.Lexicographic.{lists_total, nat_list_cmp_total, pointwise}
+use Rattle.std.proofs.Common.{◌≡◌, ◌+◌, ◌∷◌, [], ℕ, Bool, true, false, cond, List, Option, Some, None, take, refl, sym, ◌∙◌, ap}
+use Rattle.std.specs.Prelude.{option_and_then, option_map, slice_get, codes, nat_eq}
+use Rattle.std.specs.Cmp.Lexicographic.{pointwise}
 use Rattle.std.specs.List.{list_any}
 use Rattle.std.specs.Map.{lookup}
-use Rattle.std.proofs.lemmas.Bool.{false_from_ne_true, or_parts, true≢false}
-use Rattle.std.proofs.lemmas.List.Folds.{list_any_more}
-use Rattle.std.proofs.lemmas.Map.Views.{tells_apart}
-use Rattle.std.proofs.lemmas.Option.{get_or_from_slice_get, slice_get_within}
-use Rattle.std.proofs.Math.Seq.{take-append_seam, get_or-append_seam}
-use Rattle.sp_base.specs.PathExact.{exact_paths}
+use Rattle.std.proofs.lemmas.Bool.{false_from_ne_true, or_from, or_parts, true≢false}
+use Rattle.std.proofs.lemmas.Option.{none-some}
 use Rattle.sp_base.specs.Paths.{fault_of, parent_of, unless_fault}
 use Rattle.sp_base.specs.Properties.{text_in}
 use Rattle.sp_base.specs.declared.path.PathFault.{PathFault}
-use Rattle.resource_tree.specs.Content.{Content, by_path, kid, name_of, node_at, same_path}
+use Rattle.sp_base.proofs.ListLemmas.{any_next}
+use Rattle.resource_tree.specs.Content.{Content, name_of, node_at, same_path}
 use Rattle.resource_tree.specs.Patches.{PatchEntries, left_by, patching_at}
 use Rattle.resource_tree.specs.declared.nodes.Node.{Node}
 use Rattle.resource_tree.specs.declared.patch.PatchNode.{PatchNode}
+use Rattle.resource_tree.proofs.PathLemmas.{name_of-kid, parent_of-kid, path_from_same, same_path_self}
 use Rattle.script_rank.specs.Ranking.{node_of, script_text}
 use Rattle.script_rank.specs.Noting.{text_path}
 use Rattle.publisher.specs.declared.templates.Reading.{Reading}
 use Rattle.publisher.specs.Kept.{AreAmong, AreReadings, AreUnpatched, KeptReadings, reading_at}
 use Rattle.publisher.specs.Readings.{reading_of}
 
--- ---- paths
-
-length-kid : (p : List (List ℕ)) (name : List ℕ) → length (kid p name) ≡ length p + 1
-length-kid p name = length-append p (name ∷ [])
-
-parent_of-kid : (p : List (List ℕ)) (name : List ℕ) → parent_of (kid p name) ≡ p
-parent_of-kid p name =
-    let size : length (kid p name) - 1 ≡ length p = omega (arith, length-kid p name) in rw size (take-append_seam p (name ∷ []))
-
-name_of-kid : (p : List (List ℕ)) (name : List ℕ) → name_of (kid p name) ≡ name
-name_of-kid p name =
-    let size : length (kid p name) - 1 ≡ length p = omega (arith, length-kid p name) in rw size (get_or-append_seam p name [] [])
-
-by_path_total : IsTotalOrder by_path
-by_path_total = lists_total nat_list_cmp_total
-
-same_self : (p : List (List ℕ)) → same_path p p ≡ true
-same_self p = (eq_by_cmp_equiv by_path_total).refl p
-
-pub same_one : (p q : List (List ℕ)) → same_path p q ≡ true → p ≡ q
-same_one p q h = tells_apart exact_paths p q h
-
 -- ---- one script is forgotten
 
-none_is : (reading : Reading) → None ≡ Some reading → ⊥
-none_is reading e = cc
-
 among_by : (b : Bool) (old : Option Reading) (reading : Reading) → cond b None old ≡ Some reading → (b ≡ false) × (old ≡ Some reading)
-among_by true old reading e = absurd (none_is reading e)
+among_by true old reading e = absurd (none-some reading e)
 among_by false old reading e = (refl, e)
 
 -- the readings but the one of a script
@@ -64,14 +36,14 @@ pub text_without : (old new : KeptReadings) (at path : List (List ℕ)) (reading
 text_without old new at path reading is e =
     let apart = (among_by (same_path (parent_of at) path) (reading_at old path) reading (sym (is path) ∙ e)).0 in
     false_from_ne_true (same_path (text_path path) at) (λ same.
-    let one : parent_of at ≡ path = sym (ap parent_of (same_one (text_path path) at same)) ∙ parent_of-kid path (codes "jcr:content") in
-    true≢false (sym (same_self path) ∙ ap (λ p. same_path p path) (sym one) ∙ apart))
+    let one : parent_of at ≡ path = sym (ap parent_of (path_from_same (text_path path) at same)) ∙ parent_of-kid path (codes "jcr:content") in
+    true≢false (sym (same_path_self path) ∙ ap (λ p. same_path p path) (sym one) ∙ apart))
 
 -- no script's text stands at a path with another name
 pub not_a_text : (at path : List (List ℕ)) → pointwise nat_eq (name_of at) (codes "jcr:content") ≡ false → same_path (text_path path) at ≡ false
 not_a_text at path other =
     false_from_ne_true (same_path (text_path path) at) (λ same.
-    let name : name_of at ≡ codes "jcr:content" = sym (ap name_of (same_one (text_path path) at same)) ∙ name_of-kid path (codes "jcr:content") in
+    let name : name_of at ≡ codes "jcr:content" = sym (ap name_of (path_from_same (text_path path) at same)) ∙ name_of-kid path (codes "jcr:content") in
     true≢false (sym (ap (λ n. pointwise nat_eq n (codes "jcr:content")) name) ∙ other))
 
 -- ---- those of a patch are forgotten, entry by entry
@@ -88,20 +60,13 @@ pub record Forgets (first : KeptReadings) (entries : PatchEntries) (kept : KeptR
 pub forgets_none : (kept : KeptReadings) → Forgets kept [] kept
 forgets_none kept = record { among = λ path reading e. e; clear = λ path reading e. refl }
 
-pub both_false : (a b : Bool) → a ≡ false → b ≡ false → (a || b) ≡ false
-both_false true b e f = e
-both_false false b e f = f
-
-pub any_next : {X : Type 0} (test : X → Bool) (xs : List X) (i : ℕ) (x : X) → slice_get xs i ≡ Some x → list_any test (take (i + 1) xs) ≡ (list_any test (take i xs) || test x)
-any_next test xs i x is = list_any_more test xs i x (slice_get_within xs i x is) ∙ ap (λ y. list_any test (take i xs) || test y) (get_or_from_slice_get xs i x x is)
-
 pub forgets_next : (first old new : KeptReadings) (patch : PatchEntries) (i : ℕ) (at : List (List ℕ)) (entry : PatchNode) → slice_get patch i ≡ Some (at, entry) → Forgets first (take i patch) old → AreAmong old new
     → ((path : List (List ℕ)) (reading : Reading) → reading_at new path ≡ Some reading → same_path (text_path path) at ≡ false) → Forgets first (take (i + 1) patch) new
 forgets_next first old new patch i at entry is so_far fewer forgotten = record {
   among = λ path reading e. so_far.among path reading (fewer path reading e);
   clear = λ path reading e.
       let test = λ (r : List (List ℕ) × PatchNode). same_path (text_path path) r.0 in
-      any_next test patch i (at, entry) is ∙ both_false (list_any test (take i patch)) (test (at, entry)) (so_far.clear path reading (fewer path reading e)) (forgotten path reading e);
+      any_next test patch i (at, entry) is ∙ or_from (list_any test (take i patch)) (test (at, entry)) (so_far.clear path reading (fewer path reading e)) (forgotten path reading e);
 }
 
 lookup_of_none : (test : List (List ℕ) → Bool) (entries : PatchEntries) → list_any (λ (entry : List (List ℕ) × PatchNode). test entry.0) entries ≡ false → lookup test entries ≡ None

@@ -1,16 +1,13 @@
 -- The content after a request is good: a POST's target is a path, so the operation names paths, and that leaves the content good.
-use Rattle.std.proofs.Common.{◌≡◌, ◌∙◌, ◌-◌, ◌+◌, ap, sym, refl, arith, ℕ, List, ◌++◌, Option, Some, None, length, take, drop, Bool, true, false, cond}
-use Rattle.std.specs.Prelude.{◌&&◌, IfOk, IfSome, Result, Ok, Err, option_map, nat_le}
-use Rattle.std.specs.List.{list_all}
+use Rattle.std.proofs.Common.{◌≡◌, ◌∙◌, ◌-◌, ap, refl, ℕ, List, Option, Some, None, length, take, drop, Bool, true, false, cond}
+use Rattle.std.specs.Prelude.{IfOk, IfSome, Result, Ok, Err, option_map}
 use Rattle.std.specs.Option.{option_or}
 use Rattle.std.specs.Result.{result_ok}
-use Rattle.std.proofs.lemmas.Bool.{false≢true}
-use Rattle.std.proofs.lemmas.Bool.Decides.{nat_tests}
-use Rattle.std.proofs.lemmas.List.{length-append, take-append-drop}
-use Rattle.std.proofs.lemmas.List.Folds.{list_all-append}
-use Rattle.sp_base.specs.Paths.{is_path, most_segments, parent_of, path_in, path_of, seg_ok}
+use Rattle.std.proofs.lemmas.List.{take-append-drop}
+use Rattle.sp_base.specs.Paths.{is_path, parent_of, path_in, path_of}
 use Rattle.sp_base.specs.declared.path.PathFault.{PathFault}
 use Rattle.sp_base.specs.declared.answer.Ask.{Ask}
+use Rattle.sp_base.proofs.PathTests.{path_before}
 use Rattle.resource_tree.specs.Content.{Content, IsGood}
 use Rattle.overlay_merge.specs.Merged.{has_resource}
 use Rattle.url_maps.specs.declared.answer.MapAnswer.{MapAnswer}
@@ -34,25 +31,8 @@ use Rattle.publisher.specs.PostLaws.{RequestsKeepContentGood}
 
 -- ---- the parent of a path
 
-both : (a b : Bool) → a && b ≡ true → (a ≡ true) × (b ≡ true)
-both true b h = (refl, h)
-both false b h = absurd (false≢true h)
-
-true_both : (a b : Bool) → a ≡ true → b ≡ true → a && b ≡ true
-true_both a b p q = rw (p, q) refl
-
-le_less : (n m k : ℕ) → nat_le (n + m) k ≡ true → nat_le n k ≡ true
-le_less n m k h = grind (arith, nat_tests)
-
-prefix_path : (xs ys : List (List ℕ)) → is_path (xs ++ ys) ≡ true → is_path xs ≡ true
-prefix_path xs ys h =
-    let parts = both (list_all seg_ok (xs ++ ys)) (nat_le (length (xs ++ ys)) most_segments) h in
-    let names = both (list_all seg_ok xs) (list_all seg_ok ys) (sym (list_all-append seg_ok xs ys) ∙ parts.0) in
-    true_both (list_all seg_ok xs) (nat_le (length xs) most_segments) names.0
-    (le_less (length xs) (length ys) most_segments (ap (λ (n : ℕ). nat_le n most_segments) (sym (length-append xs ys)) ∙ parts.1))
-
 parent_path : (path : List (List ℕ)) → is_path path ≡ true → is_path (parent_of path) ≡ true
-parent_path path valid = prefix_path (parent_of path) (drop (length path - 1) path) (ap is_path (take-append-drop (length path - 1) path) ∙ valid)
+parent_path path valid = path_before (parent_of path) (drop (length path - 1) path) (ap is_path (take-append-drop (length path - 1) path) ∙ valid)
 
 -- ---- one step after another
 

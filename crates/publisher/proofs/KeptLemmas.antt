@@ -2,6 +2,7 @@
 use Rattle.std.proofs.Common.{◌≡◌, ◌⊎◌, inl, inr, ℕ, Bool, true, false, cond, List, Some, OnOk, OnErr, Ok, Err, refl, sym, ◌∙◌, ap}
 use Rattle.std.specs.Prelude.{Result, option_map}
 use Rattle.std.proofs.lemmas.Map.Views.{tells_apart}
+use Rattle.std.proofs.lemmas.Option.{same_Some}
 use Rattle.sp_base.specs.PathExact.{exact_paths}
 use Rattle.resource_tree.specs.Content.{Content, same_path}
 use Rattle.script_rank.specs.Ranking.{script_text}
@@ -9,16 +10,13 @@ use Rattle.publisher.specs.declared.templates.Reading.{Reading}
 use Rattle.publisher.specs.Kept.{KeptReadings, reading_at}
 use Rattle.publisher.specs.Readings.{reading_of}
 
-some_same : {A : Type 0} (a b : A) → Some a ≡ Some b → a ≡ b
-some_same a b e = cc
-
 -- a reading that is kept was kept before, or is the new one
 abbrev pub IsOldOrNew : KeptReadings → List (List ℕ) → Reading → List (List ℕ) → Reading → Type 0
 IsOldOrNew old script reading path kept = (reading_at old path ≡ Some kept) ⊎ ((path ≡ script) × (kept ≡ reading))
 
 put_cases : (b : Bool) (old : KeptReadings) (script : List (List ℕ)) (reading : Reading) (path : List (List ℕ)) (kept : Reading) → same_path script path ≡ b
     → cond b (Some reading) (reading_at old path) ≡ Some kept → IsOldOrNew old script reading path kept
-put_cases true old script reading path kept same is = inr (sym (tells_apart exact_paths script path same), sym (some_same reading kept is))
+put_cases true old script reading path kept same is = inr (sym (tells_apart exact_paths script path same), sym (same_Some reading kept is))
 put_cases false old script reading path kept same is = inl is
 
 pub old_or_new : {A E : Type 0} (r : Result A E) (Put : Type 0) (old new : KeptReadings) (script : List (List ℕ)) (reading : Reading) → OnOk r Put

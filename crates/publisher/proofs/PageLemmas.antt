@@ -1,9 +1,11 @@
 -- Pages that are gathered one after another.
+use Rattle.std.proofs.lemmas.Bool.{or_from}
 use Rattle.std.proofs.lemmas.Bool.Decides.{nat_tests}
 use Rattle.std.proofs.Common.{◌≡◌, ◌⊎◌, nat_lt, nat_le, ◌≢◌, ◌≤◌, ◌<◌, ◌+◌, ◌||◌, inl, inr, ℕ, Bool, true, false, cond, List, [], ◌∷◌, ◌++◌, length, Result, Ok, Err, refl, ap, sym, subst, ◌∙◌, arith, append_assoc, length-append, append-nil}
 use Rattle.std.proofs.lemmas.List.Sums.{sum_by-append}
 use Rattle.sp_base.specs.Limits.{most_rendered_bytes}
 use Rattle.sp_base.specs.Texts.{Text}
+use Rattle.sp_base.proofs.BoolLemmas.{or_assoc, or_false, or_true}
 use Rattle.htl_blocks.specs.Parts.{Part, Byte, Round, Script, Resource, inclusions, is_inclusion, is_round, rounds, seen, text_of_parts, text_parts}
 use Rattle.htl_blocks.specs.Refused.{most_inclusions, most_rounds}
 use Rattle.publisher.specs.declared.page_fault.PageFault.{PageFault}
@@ -15,14 +17,6 @@ use Rattle.publisher.specs.Gathering.{Gathered, IsPassed, PassLimits}
 
 pub page_same : (a b : Page) → a.text ≡ b.text → a.inclusions ≡ b.inclusions → a.rounds ≡ b.rounds → a.is_deep ≡ b.is_deep → a ≡ b
 page_same a b text inclusions rounds deep = λ i. record { text = text i; inclusions = inclusions i; rounds = rounds i; is_deep = deep i }
-
-or_false : (b : Bool) → (b || false) ≡ b
-or_false true = refl
-or_false false = refl
-
-or_assoc : (a b c : Bool) → ((a || b) || c) ≡ (a || (b || c))
-or_assoc true b c = refl
-or_assoc false b c = refl
 
 pub joined_blank : (a : Page) → joined a blank ≡ a
 joined_blank a =
@@ -112,10 +106,6 @@ rounds_apart put (Resource name ∷ ps) =
 
 -- ---- limits
 
-or_true : (b : Bool) → (b || true) ≡ true
-or_true true = refl
-or_true false = refl
-
 -- A limit that is passed with what waits is passed with a page that has as much.
 pub passed_then : (w v : Waiting) (a b : Page) → v.text ≤ w.text + length b.text → v.inclusions ≤ w.inclusions + b.inclusions → IsPassed v a → IsPassed w (joined a b)
 passed_then w v a b text included (inl deep) = inl (ap (λ d. d || b.is_deep) deep)
@@ -197,10 +187,6 @@ stopped w f old a b h known = subst (IsPassed w) (joined_assoc old a b) (passed_
 
 -- ---- the answer
 
-or_both : (a b : Bool) → a ≡ false → b ≡ false → (a || b) ≡ false
-or_both true b x y = x
-or_both false b x y = y
-
 above : (n m : ℕ) (b : Bool) → nat_lt n m ≡ b → m ≤ n → b ≡ false
 above n m true is h = absurd (let no : ⊥ = grind (arith, nat_tests) in no)
 above n m false is h = refl
@@ -212,8 +198,8 @@ below n m false is h = absurd (let no : ⊥ = grind (arith, nat_tests) in no)
 -- a page within its limits isn't over them
 pub not_over : (page : Page) → page.inclusions ≤ most_inclusions → page.rounds ≤ most_rounds → page.is_deep ≡ false → is_over page ≡ false
 not_over page included repeated deep =
-    or_both page.is_deep (nat_lt most_inclusions page.inclusions || nat_lt most_rounds page.rounds) deep
-    (or_both (nat_lt most_inclusions page.inclusions) (nat_lt most_rounds page.rounds) (above most_inclusions page.inclusions (nat_lt most_inclusions page.inclusions) refl included) (above most_rounds page.rounds (nat_lt most_rounds page.rounds) refl repeated))
+    or_from page.is_deep (nat_lt most_inclusions page.inclusions || nat_lt most_rounds page.rounds) deep
+    (or_from (nat_lt most_inclusions page.inclusions) (nat_lt most_rounds page.rounds) (above most_inclusions page.inclusions (nat_lt most_inclusions page.inclusions) refl included) (above most_rounds page.rounds (nat_lt most_rounds page.rounds) refl repeated))
 
 -- a page that passes a limit is over them, or its text is too long
 pub over_or_long : (page : Page) → IsPassed nothing page → (is_over page ≡ true) ⊎ (most_rendered_bytes < length page.text)

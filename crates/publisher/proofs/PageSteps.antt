@@ -1,8 +1,8 @@
 -- One step of putting a page together.
-use Rattle.std.proofs.Common.{inl, ◌≡◌, ◌≢◌, ◌≤◌, ◌<◌, ◌+◌, ◌-◌, ℕ, zero, suc, Bool, true, false, List, [], ◌∷◌, ◌++◌, Option, Some, None, Result, length, take, drop, get_or, refl, ap, sym, subst, ◌∙◌, arith, append-nil, length-append, cond}
+use Rattle.std.proofs.Common.{inl, ◌≡◌, ◌≢◌, ◌≤◌, ◌<◌, ◌+◌, ◌-◌, ℕ, zero, suc, Bool, true, false, List, [], ◌∷◌, ◌++◌, Option, Some, None, Result, length, take, drop, get_or, refl, ap, sym, subst, ◌∙◌, arith, length-append, cond}
 use Rattle.std.specs.Prelude.{if◌then◌else◌, option_map}
 use Rattle.std.specs.List.{flat_map}
-use Rattle.std.proofs.lemmas.List.{take_all, take_more, take-append-drop}
+use Rattle.std.proofs.lemmas.List.{take_all, take-append-drop}
 use Rattle.std.proofs.lemmas.List.Concat.{flat_map-append}
 use Rattle.std.proofs.lemmas.List.Sums.{sum_by-append}
 use Rattle.sp_base.specs.Paths.{parent_of}
@@ -14,6 +14,7 @@ use Rattle.overlay_merge.specs.Roots.{is_merged_path}
 use Rattle.type_chain.specs.Chain.{chain_of}
 use Rattle.script_rank.specs.Search.{search_result as first_script}
 use Rattle.htl_blocks.specs.Parts.{Part, Script, Resource as ResourcePart, inclusions, is_inclusion, part_text, rounds, seen, text_of_parts}
+use Rattle.htl_blocks.proofs.WrittenLemmas.{parts_of_one_more}
 use Rattle.publisher.specs.declared.page_fault.PageFault.{PageFault}
 use Rattle.publisher.specs.declared.page_fault.PageFault.TheVariants.{NoMemory}
 use Rattle.publisher.specs.declared.waiting.Waiting.{Waiting}
@@ -54,16 +55,11 @@ pieces_stop w f put old ps h known = parts_pass w put old ps (h known)
 
 -- ---- one piece after another
 
-one_more : {X : Type 0} (g : X → List Part) (xs : List X) (i : ℕ) (d x : X) → i < length xs → x ≡ get_or xs i d → flat_map g (take i xs) ++ g x ≡ flat_map g (take (i + 1) xs)
-one_more {X} g xs i d x lt is =
-    ap (λ (ps : List Part). flat_map g (take i xs) ++ ps) (sym (append-nil (g x))) ∙ sym (flat_map-append g (take i xs) (x ∷ []))
-    ∙ ap (flat_map g) (ap (λ (y : X). take i xs ++ y ∷ []) is ∙ sym (take_more xs i d lt))
-
 more_is : {X : Type 0} (put : Part → Page) (g : X → List Part) (old mid : Page) (xs : List X) (i : ℕ) (d x : X) → i < length xs → x ≡ get_or xs i d → mid ≡ joined old (parts_page put (flat_map g (take i xs)))
     → joined mid (parts_page put (g x)) ≡ joined old (parts_page put (flat_map g (take (i + 1) xs)))
 more_is put g old mid xs i d x lt is known =
     ap (λ (m : Page). joined m (parts_page put (g x))) known ∙ joined_assoc old (parts_page put (flat_map g (take i xs))) (parts_page put (g x))
-    ∙ ap (joined old) (sym (parts_append put (flat_map g (take i xs)) (g x)) ∙ ap (parts_page put) (one_more g xs i d x lt is))
+    ∙ ap (joined old) (sym (parts_append put (flat_map g (take i xs)) (g x)) ∙ ap (parts_page put) (parts_of_one_more g xs i d x lt is))
 
 pub each_more : {X : Type 0} (put : Part → Page) (g : X → List Part) (old mid new : Page) (xs : List X) (i : ℕ) (d x : X) → i < length xs → x ≡ get_or xs i d → mid ≡ joined old (parts_page put (flat_map g (take i xs)))
     → new ≡ joined mid (parts_page put (g x)) → new ≡ joined old (parts_page put (flat_map g (take (i + 1) xs)))
@@ -90,7 +86,7 @@ all_left least all is = let small = is.0 in let few = is.1 in record { text = om
 pub one_less : {X : Type 0} (g : X → List Part) (xs : List X) (i : ℕ) (d x : X) (left now new : Waiting) → i < length xs → x ≡ get_or xs i d → IsSizeOf now (g x) → new.text ≡ left.text - now.text → new.inclusions ≡ left.inclusions - now.inclusions
     → IsLeft left (flat_map g (take i xs)) (flat_map g xs) → IsLeft new (flat_map g (take (i + 1) xs)) (flat_map g xs)
 one_less g xs i d x left now new lt is size text included known =
-    let more = one_more g xs i d x lt is in
+    let more = parts_of_one_more g xs i d x lt is in
     let longer = sym (ap (λ (ps : List Part). length (text_of_parts ps)) more) ∙ text_append (flat_map g (take i xs)) (g x) in
     let further = sym (ap inclusions more) ∙ inclusions_append (flat_map g (take i xs)) (g x) in
     let rest = flat_map g (drop (i + 1) xs) in
@@ -128,7 +124,7 @@ each_done {X} put g old new xs i le known = known ∙ ap (λ (ys : List X). join
 pub least_more : {X : Type 0} (g : X → List Part) (xs : List X) (i : ℕ) (d x : X) (least now new : Waiting) → i < length xs → x ≡ get_or xs i d → IsSizeOf now (g x) → new.text ≤ least.text + now.text → new.inclusions ≤ least.inclusions + now.inclusions
     → IsLeastOf least (flat_map g (take i xs)) → IsLeastOf new (flat_map g (take (i + 1) xs))
 least_more g xs i d x least now new lt is size text included known =
-    let more = one_more g xs i d x lt is in
+    let more = parts_of_one_more g xs i d x lt is in
     let longer = sym (ap (λ (ps : List Part). length (text_of_parts ps)) more) ∙ text_append (flat_map g (take i xs)) (g x) in
     let further = sym (ap inclusions more) ∙ inclusions_append (flat_map g (take i xs)) (g x) in
     let a = known.0 in

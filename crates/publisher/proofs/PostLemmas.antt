@@ -1,9 +1,10 @@
 -- What leaves the content as it is.
-use Rattle.std.proofs.Common.{◌≡◌, ◌≢◌, ℕ, Bool, true, false, cond, List, Ok, Err, refl, sym, ◌∙◌, ap, ⊎_elim}
+use Rattle.std.proofs.Common.{◌≡◌, ◌≢◌, ℕ, Bool, true, false, cond, List, Ok, Err, refl, ◌∙◌, ap, ⊎_elim}
 use Rattle.std.specs.Prelude.{◌||◌, codes, nat_eq, if◌then◌else◌}
-use Rattle.std.specs.Cmp.Lexicographic.{pointwise, same_text}
+use Rattle.std.specs.Cmp.Lexicographic.{pointwise}
 use Rattle.std.proofs.lemmas.Bool.{or_cases}
 use Rattle.sp_base.specs.declared.answer.Ask.{Ask}
+use Rattle.sp_base.proofs.TextLemmas.{text_is}
 use Rattle.resource_tree.specs.Content.{Content}
 use Rattle.url_maps.specs.declared.answer.MapAnswer.{MapAnswer}
 use Rattle.url_maps.specs.declared.answer.MapAnswer.TheVariants.{Inside, Away}
@@ -16,17 +17,13 @@ use Rattle.publisher.specs.Rendering.{content_after_request, is_post, is_read, m
 
 -- ---- methods
 
--- a method that is this one
-named : (method word : List ℕ) → pointwise nat_eq method word ≡ true → method ≡ word
-named method word is = same_text method word (sym is)
-
 read_is_no_post : (method : List ℕ) → is_read method ≡ true → is_post method ≡ false
 read_is_no_post method read =
-    ⊎_elim (λ get. ap is_post (named method (codes "GET") get)) (λ head. ap is_post (named method (codes "HEAD") head))
+    ⊎_elim (λ get. ap is_post (text_is method (codes "GET") get)) (λ head. ap is_post (text_is method (codes "HEAD") head))
     (or_cases (pointwise nat_eq method (codes "GET")) (pointwise nat_eq method (codes "HEAD")) read)
 
 post_is_no_read : (method : List ℕ) → is_post method ≡ true → is_read method ≡ false
-post_is_no_read method post = ap is_read (named method (codes "POST") post)
+post_is_no_read method post = ap is_read (text_is method (codes "POST") post)
 
 pub reads_keep : (tree : Content) (ask : Ask) → is_read ask.method ≡ true → content_after_request tree ask ≡ tree
 unfolding content_after_request

@@ -1,27 +1,21 @@
 -- The line that tells of a POST is short.
 use Rattle.std.proofs.Common.{◌≡◌, ◌+◌, ◌*◌, ◌≤◌, ◌++◌, ◌∷◌, [], ℕ, Bool, true, false, List, length, refl, arith, length-append}
-use Rattle.std.specs.Prelude.{◌&&◌, codes, decimal, flat_map, nat_le, not, if◌then◌else◌}
+use Rattle.std.specs.Prelude.{codes, decimal, flat_map, nat_le, if◌then◌else◌}
 use Rattle.std.specs.List.{list_all}
 use Rattle.std.proofs.lemmas.Bool.{and_parts}
 use Rattle.std.proofs.lemmas.Fmt.{length-decimal-le}
 use Rattle.std.proofs.lemmas.Bool.Decides.{nat_tests}
 use Rattle.sp_base.specs.Limits.{most_rendered_bytes}
-use Rattle.sp_base.specs.Paths.{has_slash, is_dots, is_empty, is_long, is_path, seg_ok, text_of}
+use Rattle.sp_base.specs.Paths.{is_path, seg_ok, text_of}
+use Rattle.url_split.proofs.StartLemmas.{short_segment}
 use Rattle.post_apply.specs.declared.report.PostReport.{PostReport}
 use Rattle.publisher.specs.Posting.{report_line, report_status}
-
-segment_short : (seg : List ℕ) → seg_ok seg ≡ true → length seg ≤ 200
-segment_short seg ok =
-    let names = and_parts (not (is_empty seg)) (not (is_dots seg) && (not (is_long seg) && not (has_slash seg))) ok in
-    let short = and_parts (not (is_dots seg)) (not (is_long seg) && not (has_slash seg)) names.1 in
-    let fits : not (is_long seg) ≡ true = (and_parts (not (is_long seg)) (not (has_slash seg)) short.1).0 in
-    grind (arith, nat_tests)
 
 spelling_short : (path : List (List ℕ)) → list_all seg_ok path ≡ true → length (flat_map (λ s. 47 ∷ s) path) ≤ length path * 201
 spelling_short [] ok = omega arith
 spelling_short (seg ∷ path) ok =
     let parts = and_parts (seg_ok seg) (list_all seg_ok path) ok in
-    let first = segment_short seg parts.0 in
+    let first = short_segment seg parts.0 in
     let more = spelling_short path parts.1 in
     let size = length-append (47 ∷ seg) (flat_map (λ s. 47 ∷ s) path) in
     omega (arith, first, more, size)

@@ -4,6 +4,7 @@ use Rattle.std.specs.Prelude.{if◌then◌else◌, codes, nat_eq, option_map, op
 use Rattle.std.specs.List.{list_any}
 use Rattle.std.specs.Cmp.Lexicographic.{nat_list_eq_equiv, pointwise}
 use Rattle.std.proofs.lemmas.Bool.{false≢true}
+use Rattle.std.proofs.lemmas.Option.{same_Some}
 use Rattle.sp_base.specs.Limits.{most_rendered_bytes}
 use Rattle.sp_base.specs.Texts.{Segments}
 use Rattle.sp_base.specs.declared.value.Value.{Value}
@@ -36,13 +37,10 @@ pub record IsWhole (tree : Content) (path : List (List ℕ)) (res : Resource) : 
   pub seen_is : merged_resource tree path ≡ Some whole
   pub same : res ≡ record whole { kids = res.kids }
 
-some-same : (a b : Resource) → Some a ≡ Some b → a ≡ b
-some-same a b e = cc
-
 whole-of : (tree : Content) (path : List (List ℕ)) (res : Resource) (is : Option Resource) → merged_resource tree path ≡ is → option_map without_kids is ≡ Some res → IsWhole tree path res
 whole-of tree path res None at e = absurd (let no : ⊥ = cc in no)
 whole-of tree path res (Some whole) at e =
-    let same : without_kids whole ≡ res = some-same (without_kids whole) res e in
+    let same : without_kids whole ≡ res = same_Some (without_kids whole) res e in
     record { whole = whole; seen_is = at; same = subst (λ r. r ≡ record whole { kids = r.kids }) same refl }
 
 pub alone-whole : (tree : Content) (path : List (List ℕ)) (res : Resource) → merged_alone tree path ≡ Some res → IsWhole tree path res
@@ -88,15 +86,12 @@ alone-none tree path is = by_root (is_merged_path path) is
     by_root true e = none-of (merged_resource tree path) e
     by_root false e = e
 
-reading-same : (a b : Reading) → Some a ≡ Some b → a ≡ b
-reading-same a b e = cc
-
 -- by the reading of the script
 pub read-written : (tree : Content) (parts : Parts) (res : Resource) (script : Segments) (text : Option (List ℕ)) (reading : Reading) → IsSeenAlone tree parts res → Some reading ≡ option_map reading_of text
     → script_representation tree res script reading ≡ seen_answer (option_map (script_with_text script) text) tree parts
 read-written tree parts res script None reading alone is = absurd (let no : ⊥ = cc in no)
 read-written tree parts res script (Some text) reading alone is =
-    ap (script_representation tree res script) (reading-same reading (reading_of text) is) ∙ written-whole tree parts res (script_with_text script text) alone
+    ap (script_representation tree res script) (same_Some reading (reading_of text) is) ∙ written-whole tree parts res (script_with_text script text) alone
 
 -- where there is no reading there is no script
 pub unread : (script : Segments) (text : Option (List ℕ)) → None ≡ option_map reading_of text → option_map (script_with_text script) text ≡ None

@@ -1,6 +1,7 @@
 -- The tests that try every cutting of a text say what the language does.
 use Rattle.std.proofs.Common.{◌≡◌, ◌↔◌, ◌⊎◌, inl, inr, ℕ, zero, suc, ◌+◌, Bool, true, false, ◌&&◌, ◌||◌, List, [], ◌∷◌, ◌++◌, length, IsTrue, IfOk, Result, Ok, Err, refl, ap, sym, ◌∙◌, subst, arith}
 use Rattle.std.proofs.lemmas.List.{length-append}
+use Rattle.sp_base.proofs.BoolLemmas.{or_true}
 use Rattle.regex_rules.specs.declared.repeat.Repeat.{Repeat}
 use Rattle.regex_rules.specs.declared.repeat.Repeat.TheVariants.{Once, Optional, Any, AtLeastOnce}
 use Rattle.regex_rules.specs.declared.character.OneChar.{OneChar}
@@ -59,10 +60,6 @@ tells_cut {P = P} {Q = Q} p q sp sq (c ∷ cs) =
 tells_times : {P : Texts} (p : List ℕ → Bool) → Tells p P → (number : ℕ) → Tells (is_times number p) (Times number P)
 tells_times p sp zero cs = tells_empty cs
 tells_times {P = P} p sp (suc number) cs = tells_cut {P = P} {Q = Times number P} p (is_times number p) sp (tells_times p sp number) cs
-
-or_true : (b : Bool) → b || true ≡ true
-or_true true = refl
-or_true false = refl
 
 at_most_there : {P : Texts} (p : List ℕ → Bool) → Tells p P → (most : ℕ) (cs : List ℕ) → is_times_at_most most p cs ≡ true → (number : ℕ) × Times number P cs
 at_most_there p sp zero cs e = (0, (tells_times p sp 0 cs).0 e)

@@ -1,8 +1,10 @@
 -- What a reading says: a pattern, or where the text stops being the beginning of one.
 use Rattle.std.proofs.Common.{◌≡◌, inl, inr, ℕ, Bool, true, false, cond, ◌==◌, ◌+◌, List, [], ◌∷◌, ◌++◌, length, Option, Some, None, Ok, Err, Result, refl, ap, sym, ◌∙◌, subst, append_assoc, arith}
 use Rattle.std.specs.Prelude.{encode_utf8, encode_utf8_all, nat_le, nat_lt}
+use Rattle.std.proofs.lemmas.Bool.{eqb-true}
 use Rattle.std.proofs.lemmas.Bool.Decides.{nat_tests}
 use Rattle.std.proofs.lemmas.List.{append-nil, length-append}
+use Rattle.sp_base.proofs.TextLemmas.{encode_append}
 use Rattle.regex_rules.specs.declared.character.CharRange.{CharRange}
 use Rattle.regex_rules.specs.declared.repeat.Repeat.TheVariants.{Optional, Any, AtLeastOnce}
 use Rattle.regex_rules.specs.declared.place.Place.{Place}
@@ -17,7 +19,7 @@ use Rattle.regex_rules.specs.Spelling.{Bounds, range, is_special, is_meant, is_r
 use Rattle.regex_rules.specs.Faults.{BeginsPattern, GoesOnTo, GoesNowhere, place_behind, IsFault, IsUnended}
 use Rattle.regex_rules.specs.Reading.{Step, with_repeat, in_mode, reader_in_class, at_places, row_repeated, opened, special, in_a_row, class_first, class_next, class_goes_on, spanned, class_hyphen, class_last_escaped, step, step_in, may_end, finished, then_read, read_from, unread}
 use Rattle.regex_rules.proofs.StandLemmas.{HoldsRow, row_goes_on, goes_on_before, row_whole}
-use Rattle.regex_rules.proofs.SoundLemmas.{equals, HoldsSome, HoldsMember, HoldsIn, Holds, Sound, begin_row, escape_sound, first_sound, begun_sound, member_sound, spanned_sound, hyphen_held, last_held, class_escape_sound, last_escape_sound, step_sound}
+use Rattle.regex_rules.proofs.SoundLemmas.{HoldsSome, HoldsMember, HoldsIn, Holds, Sound, begin_row, escape_sound, first_sound, begun_sound, member_sound, spanned_sound, hyphen_held, last_held, class_escape_sound, last_escape_sound, step_sound}
 use Rattle.regex_rules.proofs.LeadLemmas.{whole_read}
 
 -- ---- what is held goes on
@@ -93,7 +95,7 @@ open_agrees cs c at r on e = go (strict.may_open r.depth)
   where
     go : (b : Bool) → Agrees cs c at (cond b (Ok (at_places r (r.places ++ Open ∷ []) (r.depth + 1))) (Err (TooDeep at))) (opened unlimited at r) (opened no_bounds at r)
     go true = Agrees.goes
-    go false = Agrees.deep (equals c 40 e) refl on
+    go false = Agrees.deep (eqb-true c 40 e) refl on
 
 repeat_agrees : (cs : List ℕ) (c at : ℕ) (r : Reader) (o : Option (List Place)) → Agrees cs c at (row_repeated at r o) (row_repeated at r o) (row_repeated at r o)
 repeat_agrees cs c at r None = Agrees.stray
@@ -205,13 +207,9 @@ abbrev pub Says : List ℕ → Result (List Place) PatternFault → Type 0
 Says text (Ok places) = (tree : Tree) × IsPattern text tree × (places ≡ places_of tree)
 Says text (Err fault) = IsFault fault text
 
-bytes_append : (xs ys : List ℕ) → encode_utf8_all (xs ++ ys) ≡ encode_utf8_all xs ++ encode_utf8_all ys
-bytes_append [] ys = refl
-bytes_append (x ∷ xs) ys = ap (λ (l : List ℕ). encode_utf8 x ++ l) (bytes_append xs ys) ∙ sym (append_assoc (encode_utf8 x) (encode_utf8_all xs) (encode_utf8_all ys))
-
 place_next : (cs : List ℕ) (c : ℕ) → place_behind (cs ++ c ∷ []) ≡ place_behind cs + length (encode_utf8 c)
 place_next cs c =
-    ap length (bytes_append cs (c ∷ [])) ∙ length-append (encode_utf8_all cs) (encode_utf8 c ++ []) ∙ ap (λ (l : List ℕ). place_behind cs + length l) (append-nil (encode_utf8 c))
+    ap length (encode_append cs (c ∷ [])) ∙ length-append (encode_utf8_all cs) (encode_utf8 c ++ []) ∙ ap (λ (l : List ℕ). place_behind cs + length l) (append-nil (encode_utf8 c))
 
 pub one_read_from : (bounds : Bounds) (at : ℕ) (r : Reader) (c : ℕ) (rest : List ℕ) (s : Step) → step bounds at c r ≡ s
     → read_from bounds at r (c ∷ rest) ≡ then_read (λ next. read_from bounds (at + length (encode_utf8 c)) next rest) s
@@ -296,7 +294,7 @@ told_end : (cs : List ℕ) (at : ℕ) (r : Reader) → Told cs at r → Says cs 
 told_end cs at r t = go (may_end r.mode) refl (r.depth == 0) refl
   where
     go : (b : Bool) → may_end r.mode ≡ b → (z : Bool) → (r.depth == 0) ≡ z → Says cs (finished at r)
-    go true may true none = rw (may, none) (ends_in r.mode cs r may (equals r.depth 0 none) t.holds)
+    go true may true none = rw (may, none) (ends_in r.mode cs r may (eqb-true r.depth 0 none) t.holds)
     go true may false some = rw (may, some) (inl (unended cs at r t (rw (may, some) refl)))
     go false may z is = rw may (inl (unended cs at r t (rw may refl)))
 

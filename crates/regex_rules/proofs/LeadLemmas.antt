@@ -1,5 +1,6 @@
 -- What is spelled is read.
 use Rattle.std.proofs.Common.{◌≡◌, ℕ, suc, Bool, true, false, ◌==◌, ◌+◌, ◌-◌, List, [], ◌∷◌, ◌++◌, length, Some, Ok, Err, refl, ap, sym, ◌∙◌, subst, append_assoc, arith}
+use Rattle.std.proofs.lemmas.Bool.{eqb-true}
 use Rattle.std.proofs.lemmas.Bool.Decides.{nat_tests}
 use Rattle.std.proofs.lemmas.List.{append-nil}
 use Rattle.std.specs.Prelude.{encode_utf8}
@@ -234,9 +235,6 @@ close_sign bounds places depth repeat at =
 
 -- ---- rows
 
-more_places : (xs ys zs : List Place) → xs ++ ys ++ zs ≡ xs ++ (ys ++ zs)
-more_places xs ys zs = append_assoc xs ys zs
-
 close_step : (bounds : Bounds) (at depth : ℕ) (places : List Place) → step bounds at 41 (reader_in_row places (depth + 1)) ≡ Ok (reader_in_row (places ++ Close Once ∷ []) depth)
 close_step bounds at depth places =
     let some : (depth + 1 == 0) ≡ false = grind (arith, nat_tests) in
@@ -293,9 +291,6 @@ end_read bounds places _ at IsAnchor.present = refl
 fault_is_none : (fault : PatternFault) (places : List Place) → Err fault ≡ Ok places → ⊥
 fault_is_none fault places e = absurd cc
 
-same_number : (c d : ℕ) → (c == d) ≡ true → c ≡ d
-same_number c d h = grind (arith, nat_tests)
-
 -- a text that doesn't begin with `^`
 begin_read : (bounds : Bounds) (cs : List ℕ) (places : List Place) → read_from bounds 0 (reader_in_row [] 0) cs ≡ Ok places → read_from bounds 0 unread cs ≡ Ok places
 unfolding read_from
@@ -304,7 +299,7 @@ begin_read bounds (c ∷ cs) places e = go (c == 94) refl
   where
     go : (b : Bool) → (c == 94) ≡ b → read_from bounds 0 unread (c ∷ cs) ≡ Ok places
     go true is =
-        let f : read_from bounds 0 (reader_in_row [] 0) (94 ∷ cs) ≡ Ok places = subst (λ (d : ℕ). read_from bounds 0 (reader_in_row [] 0) (d ∷ cs) ≡ Ok places) (same_number c 94 is) e in
+        let f : read_from bounds 0 (reader_in_row [] 0) (94 ∷ cs) ≡ Ok places = subst (λ (d : ℕ). read_from bounds 0 (reader_in_row [] 0) (d ∷ cs) ≡ Ok places) (eqb-true c 94 is) e in
         absurd (fault_is_none _ places f)
     go false not =
         let same : step bounds 0 c unread ≡ step bounds 0 c (reader_in_row [] 0) = rw not refl in

@@ -1,7 +1,7 @@
 -- A text that reaches no place, and isn't empty, is the beginning of none in the language.
 use Rattle.std.proofs.Common.{◌≡◌, ℕ, Bool, true, false, ◌&&◌, ◌||◌, List, [], ◌∷◌, refl, ap, sym, ◌∙◌, subst}
 use Rattle.std.specs.Prelude.{set, replicate, length, IfOk, Result, Ok, Err, ⊤}
-use Rattle.std.proofs.lemmas.Bool.{true≢false}
+use Rattle.std.proofs.lemmas.Bool.{and_right, or_from, true≢false}
 use Rattle.regex_rules.specs.declared.place.Place.{Place}
 use Rattle.regex_rules.specs.declared.place.Place.TheVariants.{One, Open, Bar, Close}
 use Rattle.regex_rules.specs.declared.level.Level.{Level}
@@ -45,14 +45,6 @@ none_past : (b lacks more : Bool) → b ≡ false → more ≡ false → ((b && 
 none_past false lacks more e f = f
 none_past true lacks more e f = absurd cc
 
-none_or : (a b : Bool) → a ≡ false → b ≡ false → (a || b) ≡ false
-none_or false b e f = f
-none_or true b e f = absurd cc
-
-none_and : (a b : Bool) → b ≡ false → (a && b) ≡ false
-none_and true b e = e
-none_and false b e = refl
-
 still_begun : (enters : Bool) → enters ≡ false → Still (begun enters)
 still_begun enters e = record { enters = e; here = e; arrives = refl; earlier = refl }
 
@@ -69,23 +61,23 @@ lost_place c (One one repeat) level around marks lost =
     let none = none_takes level.here (may_go_on repeat) (is_one one c) lost.still.here in
     record { still = still_past level (may_lack repeat) ((level.here || (may_go_on repeat && false)) && is_one one c) lost.still none; all = lost.all; off = off_append marks ((level.here || (may_go_on repeat && false)) && is_one one c) lost.off none }
 lost_place c Open level around marks lost = record {
-  still = still_begun (level.here || false) (none_or level.here false lost.still.here refl);
+  still = still_begun (level.here || false) (or_from level.here false lost.still.here refl);
   all = (lost.still, lost.all);
   off = off_append marks false lost.off refl;
 }
 lost_place c Bar level around marks lost = record {
-  still = record { enters = lost.still.enters; here = lost.still.enters; arrives = refl; earlier = none_or level.earlier_arrives level.arrives lost.still.earlier lost.still.arrives };
+  still = record { enters = lost.still.enters; here = lost.still.enters; arrives = refl; earlier = or_from level.earlier_arrives level.arrives lost.still.earlier lost.still.arrives };
   all = lost.all;
   off = off_append marks false lost.off refl;
 }
 lost_place c (Close repeat) level [] marks lost = lost
 lost_place c (Close repeat) level (frame ∷ around) marks lost =
-    let none = none_or level.earlier_arrives level.arrives lost.still.earlier lost.still.arrives in
+    let none = or_from level.earlier_arrives level.arrives lost.still.earlier lost.still.arrives in
     record {
       still = still_past frame.level (may_lack repeat || (level.earlier_lacks || level.lacks)) (level.earlier_arrives || level.arrives) lost.all.0 none;
       all = lost.all.1;
       off = off_append (set marks frame.slot (may_go_on repeat && (level.earlier_arrives || level.arrives))) (level.earlier_arrives || level.arrives)
-          (off_set marks frame.slot (may_go_on repeat && (level.earlier_arrives || level.arrives)) lost.off (none_and (may_go_on repeat) (level.earlier_arrives || level.arrives) none)) none;
+          (off_set marks frame.slot (may_go_on repeat && (level.earlier_arrives || level.arrives)) lost.off (and_right (may_go_on repeat) (level.earlier_arrives || level.arrives) none)) none;
     }
 
 lost_walked : (c : ℕ) (places : List Place) (olds : List Bool) (walk : Walk) → AreOff olds → IsLost walk → IsLost (walked c places olds walk)
@@ -107,7 +99,7 @@ lost_matched places olds answer text [] c held off m inside =
     let walk = walked c places olds (at (begun false) [] []) in
     let lost = lost_step c places olds off in
     let yes : walk_answer walk ≡ true = (end_matched places walk.marks (walk_answer walk) false text (more_matched places olds answer false text [] c held m)).1 inside in
-    true≢false (sym yes ∙ none_or walk.level.earlier_arrives walk.level.arrives lost.still.earlier lost.still.arrives)
+    true≢false (sym yes ∙ or_from walk.level.earlier_arrives walk.level.arrives lost.still.earlier lost.still.arrives)
 lost_matched places olds answer text (d ∷ rest) c held off m inside =
     let walk = walked c places olds (at (begun false) [] []) in
     lost_matched places walk.marks (walk_answer walk) text rest d held (lost_step c places olds off).off (more_matched places olds answer false text (d ∷ rest) c held m) inside

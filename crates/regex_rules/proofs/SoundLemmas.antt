@@ -1,5 +1,6 @@
 -- What a reader holds of the characters that it has taken.
 use Rattle.std.proofs.Common.{◌≡◌, ℕ, suc, Bool, true, false, cond, ◌==◌, ◌+◌, ◌-◌, List, [], ◌∷◌, ◌++◌, Option, Some, None, Ok, Err, refl, ap, sym, ◌∙◌, subst, append_assoc, arith}
+use Rattle.std.proofs.lemmas.Bool.{eqb-true}
 use Rattle.std.proofs.lemmas.Bool.Decides.{nat_tests}
 use Rattle.std.proofs.lemmas.List.{append-nil}
 use Rattle.regex_rules.specs.declared.character.CharRange.{CharRange}
@@ -17,9 +18,6 @@ use Rattle.regex_rules.specs.Spelling.{Bounds, range, is_special, is_meant, is_r
 use Rattle.regex_rules.specs.Faults.{place_behind}
 use Rattle.regex_rules.specs.Reading.{Step, with_repeat, in_mode, reader_in_class, at_places, with_place, row_repeated, opened, bracket_closed, ended, special, in_a_row, escaped, class_closed, class_goes_on, class_first, class_begun, class_next, spanned, class_hyphen, class_last, class_escaped, class_last_escaped, step_in}
 use Rattle.regex_rules.proofs.StandLemmas.{HoldsRow, row_more, row_bar, row_again, row_open, row_close, row_begins}
-
-pub equals : (c d : ℕ) → (c == d) ≡ true → c ≡ d
-equals c d h = grind (arith, nat_tests)
 
 pub by_if : {A : Type 0} (P : A → Type 0) (b : Bool) (x y : A) → (b ≡ true → P x) → (b ≡ false → P y) → P (cond b x y)
 by_if P true x y f g = f refl
@@ -80,10 +78,10 @@ begin_row bounds cs places depth e f g = rw (e, f, g) (row_begins bounds [] IsAn
 
 -- at a character that is known
 at_char : (bounds : Bounds) (cs : List ℕ) (places : List Place) (depth c k : ℕ) → (c == k) ≡ true → HoldsRow bounds (cs ++ k ∷ []) places depth → HoldsRow bounds (cs ++ c ∷ []) places depth
-at_char bounds cs places depth c k e h = subst (λ (d : ℕ). HoldsRow bounds (cs ++ d ∷ []) places depth) (sym (equals c k e)) h
+at_char bounds cs places depth c k e h = subst (λ (d : ℕ). HoldsRow bounds (cs ++ d ∷ []) places depth) (sym (eqb-true c k e)) h
 
 snoc_at : (cs : List ℕ) (c k : ℕ) → (c == k) ≡ true → cs ++ c ∷ [] ≡ cs ++ k ∷ []
-snoc_at cs c k e = ap (λ (d : ℕ). cs ++ d ∷ []) (equals c k e)
+snoc_at cs c k e = ap (λ (d : ℕ). cs ++ d ∷ []) (eqb-true c k e)
 
 repeat_sound : (bounds : Bounds) (cs : List ℕ) (c at k : ℕ) (r : Reader) (repeat : Repeat) → (c == k) ≡ true → sign_of repeat ≡ k ∷ [] → HoldsRow bounds cs r.places r.depth
     → Sound bounds cs c (row_repeated at r (with_repeat repeat r.places))
@@ -113,7 +111,7 @@ close_sound bounds cs c at r e row =
 
 end_sound : (bounds : Bounds) (cs : List ℕ) (c at : ℕ) (r : Reader) → (c == 36) ≡ true → HoldsRow bounds cs r.places r.depth → Sound bounds cs c (ended at r)
 end_sound bounds cs c at r e row =
-    by_if (Sound bounds cs c) (r.depth == 0) (Ok (in_mode r mode.End)) (Err (BadPattern at)) (λ none. (cs, row, equals r.depth 0 none, snoc_at cs c 36 e)) (λ some. tt)
+    by_if (Sound bounds cs c) (r.depth == 0) (Ok (in_mode r mode.End)) (Err (BadPattern at)) (λ none. (cs, row, eqb-true r.depth 0 none, snoc_at cs c 36 e)) (λ some. tt)
 
 special_sound : (bounds : Bounds) (cs : List ℕ) (c at : ℕ) (r : Reader) → HoldsRow bounds cs r.places r.depth → Sound bounds cs c (special bounds at c r)
 special_sound bounds cs c at r row =
@@ -137,7 +135,7 @@ row_sound bounds cs c at r row =
 begin_sound : (bounds : Bounds) (cs : List ℕ) (c at : ℕ) (r : Reader) → cs ≡ [] → r.places ≡ [] → r.depth ≡ 0 → Sound bounds cs c (step_in bounds mode.Begin at c r)
 begin_sound bounds cs c at r none places depth =
     by_if (Sound bounds cs c) (c == 94) (Ok (in_mode r mode.Row)) (in_a_row bounds at c r) (λ e.
-    let one : cs ++ c ∷ [] ≡ 94 ∷ [] = ap (λ (l : List ℕ). l ++ c ∷ []) none ∙ ap (λ (d : ℕ). d ∷ []) (equals c 94 e) in
+    let one : cs ++ c ∷ [] ≡ 94 ∷ [] = ap (λ (l : List ℕ). l ++ c ∷ []) none ∙ ap (λ (d : ℕ). d ∷ []) (eqb-true c 94 e) in
     rw (one, places, depth) (row_begins bounds (94 ∷ []) IsAnchor.present))
     (λ n. row_sound bounds cs c at r (begin_row bounds cs r.places r.depth none places depth))
 
@@ -254,7 +252,7 @@ begun_sound bounds cs before c at r here row plain none e =
       row = row;
       negation = IsNegation.others;
       spelled = AreRanges.none;
-      parts = ap (λ (l : List ℕ). l ++ c ∷ []) e ∙ append_assoc before (91 ∷ []) (c ∷ []) ∙ ap (λ (d : ℕ). before ++ (91 ∷ d ∷ [])) (equals c 94 f);
+      parts = ap (λ (l : List ℕ). l ++ c ∷ []) e ∙ append_assoc before (91 ∷ []) (c ∷ []) ∙ ap (λ (d : ℕ). before ++ (91 ∷ d ∷ [])) (eqb-true c 94 f);
     }) (λ n. first_sound bounds cs c at r here (class_of_begin bounds cs before r row plain none e))
 
 next_sound : (bounds : Bounds) (cs : List ℕ) (c at : ℕ) (r : Reader) (ranges : List CharRange) (hyphen : Step) → at ≡ place_behind cs → HoldsSome bounds cs r.places r.depth r.negated ranges
@@ -281,7 +279,7 @@ member_sound bounds cs c at first place r here h =
       class = h.class;
       member = h.member;
       here = h.here;
-      parts = more_parts h.before h.own [] c cs h.parts ∙ ap (λ (d : ℕ). h.before ++ (h.own ++ (d ∷ []))) (equals c 45 e);
+      parts = more_parts h.before h.own [] c cs h.parts ∙ ap (λ (d : ℕ). h.before ++ (h.own ++ (d ∷ []))) (eqb-true c 45 e);
     })
 
 pub spanned_sound : (bounds : Bounds) (cs : List ℕ) (c at : ℕ) (r : Reader) → at ≡ place_behind cs → HoldsSome bounds cs r.places r.depth r.negated r.ranges → Sound bounds cs c (step_in bounds mode.Spanned at c r)
@@ -315,7 +313,7 @@ hyphen_sound bounds cs c at first place r h =
       class = h.class;
       member = h.member;
       here = h.here;
-      parts = more_parts h.before h.own (45 ∷ []) c cs h.parts ∙ ap (λ (d : ℕ). h.before ++ (h.own ++ (45 ∷ d ∷ []))) (equals c 92 e);
+      parts = more_parts h.before h.own (45 ∷ []) c cs h.parts ∙ ap (λ (d : ℕ). h.before ++ (h.own ++ (45 ∷ d ∷ []))) (eqb-true c 92 e);
     }) (λ n92. tt)))
     (λ plain. span_sound bounds cs (c ∷ []) c c at first place r h.before h.own h.class h.member (IsMember.itself plain) (more_parts h.before h.own (45 ∷ []) c cs h.parts))
 

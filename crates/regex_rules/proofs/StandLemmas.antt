@@ -1,6 +1,8 @@
 -- What stands within the brackets that are open, and how it is completed.
-use Rattle.std.proofs.Common.{◌≡◌, ℕ, zero, suc, true, List, [], ◌∷◌, ◌++◌, Option, Some, None, refl, ap, sym, ◌∙◌, subst, append_assoc}
+use Rattle.std.proofs.Common.{◌≡◌, ℕ, zero, suc, true, List, [], ◌∷◌, ◌++◌, Some, None, refl, ap, sym, ◌∙◌, subst, append_assoc}
 use Rattle.std.proofs.lemmas.List.{append-nil}
+use Rattle.std.proofs.lemmas.Option.{same_Some}
+use Rattle.sp_base.proofs.OptionLemmas.{none_or_some}
 use Rattle.regex_rules.specs.declared.character.OneChar.{OneChar}
 use Rattle.regex_rules.specs.declared.repeat.Repeat.{Repeat}
 use Rattle.regex_rules.specs.declared.repeat.Repeat.TheVariants.{Once, Optional, Any, AtLeastOnce}
@@ -30,18 +32,11 @@ stands_more bounds _ cs own places new rows more (Stands.deeper before inside ou
 
 -- ---- repetitions
 
-some_is : {A : Type 0} (x y : A) → Some x ≡ Some y → x ≡ y
-some_is x y e = cc
-
 repeat_none : (repeat : Repeat) (places : List Place) (place : Place) → with_repeat repeat (place ∷ []) ≡ None → with_repeat repeat (places ++ place ∷ []) ≡ None
 unfolding with_repeat
 repeat_none repeat [] place e = e
 repeat_none repeat (p ∷ []) place e = ap (before_place p) e
 repeat_none repeat (p ∷ q ∷ places) place e = ap (before_place p) (repeat_none repeat (q ∷ places) place e)
-
-none_some : {A : Type 0} (o : Option A) (x : A) → o ≡ None → o ≡ Some x → ⊥
-none_some None x e f = absurd cc
-none_some (Some y) x e f = absurd cc
 
 -- rows of which the last piece stands so often
 record Again (bounds : Bounds) (depth : ℕ) (cs : List ℕ) (front later : List Place) (repeat : Repeat) : Type 0 where
@@ -68,10 +63,7 @@ close_none repeat = (refl, refl, refl)
 -- a last place that can't be repeated
 no_repeat : {B : Type 0} (repeat : Repeat) (front xs later : List Place) (place : Place) → with_repeat repeat (place ∷ []) ≡ None → with_repeat repeat (front ++ (xs ++ place ∷ [])) ≡ Some later → B
 no_repeat repeat front xs later place none e =
-    absurd (none_some (with_repeat repeat (front ++ xs ++ place ∷ [])) later (repeat_none repeat (front ++ xs) place none) (ap (with_repeat repeat) (append_assoc front xs (place ∷ [])) ∙ e))
-
-nil_right : (own : List ℕ) → own ++ [] ≡ own
-nil_right own = append-nil own
+    absurd (none_or_some (with_repeat repeat (front ++ xs ++ place ∷ [])) later (repeat_none repeat (front ++ xs) place none) (ap (with_repeat repeat) (append_assoc front xs (place ∷ [])) ∙ e))
 
 once_more : (before own sign cs : List ℕ) → cs ≡ before ++ (own ++ []) → cs ++ sign ≡ before ++ (own ++ sign)
 once_more before own sign cs e = ap (λ (l : List ℕ). l ++ sign) (e ∙ ap (λ (l : List ℕ). before ++ l) (append-nil own)) ∙ append_assoc before own sign
@@ -81,11 +73,11 @@ bracket_places rows inner repeat = append_assoc (places_of rows) (Open ∷ place
 
 again : (bounds : Bounds) (depth : ℕ) (cs : List ℕ) (front later : List Place) (rows : Tree) (repeat : Repeat) → Spells bounds depth cs rows → with_repeat repeat front ≡ None
     → with_repeat repeat (front ++ places_of rows) ≡ Some later → Again bounds depth cs front later repeat
-again bounds depth _ front later _ repeat Spells.nothing none e = absurd (none_some (with_repeat repeat (front ++ [])) later (ap (with_repeat repeat) (append-nil front) ∙ none) e)
+again bounds depth _ front later _ repeat Spells.nothing none e = absurd (none_or_some (with_repeat repeat (front ++ [])) later (ap (with_repeat repeat) (append-nil front) ∙ none) e)
 again bounds depth cs front later _ repeat (Spells.one {rows} {char} before own Once spelled is f) none e = record {
   more = Char rows char repeat;
   spelled = Spells.one before own repeat spelled is (once_more before own (sign_of repeat) cs f);
-  same = sym (some_is (front ++ places_of rows ++ One char repeat ∷ []) later (sym (one_again repeat (front ++ places_of rows) char) ∙ ap (with_repeat repeat) (append_assoc front (places_of rows) (One char Once ∷ [])) ∙ e))
+  same = sym (same_Some (front ++ places_of rows ++ One char repeat ∷ []) later (sym (one_again repeat (front ++ places_of rows) char) ∙ ap (with_repeat repeat) (append_assoc front (places_of rows) (One char Once ∷ [])) ∙ e))
       ∙ append_assoc front (places_of rows) (One char repeat ∷ []);
 }
 again bounds depth cs front later _ repeat (Spells.one {rows} {char} before own Optional spelled is f) none e = no_repeat repeat front (places_of rows) later (One char Optional) (one_none repeat char).0 e
@@ -97,7 +89,7 @@ again bounds depth cs front later _ repeat (Spells.bracket {rows} {inner} before
       more = Bracket rows inner repeat;
       spelled = Spells.bracket before inside repeat spelled may within
           (ap (λ (l : List ℕ). l ++ sign_of repeat) f ∙ append_assoc before (40 ∷ inside ++ (41 ∷ [])) (sign_of repeat) ∙ ap (λ (l : List ℕ). before ++ (40 ∷ l)) (append_assoc inside (41 ∷ []) (sign_of repeat)));
-      same = sym (some_is (front ++ xs ++ Close repeat ∷ []) later
+      same = sym (same_Some (front ++ xs ++ Close repeat ∷ []) later
           (sym (close_again repeat (front ++ xs)) ∙ ap (with_repeat repeat) (append_assoc front xs (Close Once ∷ []) ∙ ap (λ (l : List Place). front ++ l) (bracket_places rows inner Once)) ∙ e))
           ∙ append_assoc front xs (Close repeat ∷ []) ∙ ap (λ (l : List Place). front ++ l) (bracket_places rows inner repeat);
     }

@@ -1,6 +1,6 @@
 -- Sets of texts: cuttings, repetitions, and what more than nothing of a set reaches.
 use Rattle.std.proofs.Common.{◌≡◌, ◌↔◌, ◌⊎◌, inl, inr, ℕ, zero, suc, Bool, true, false, ◌&&◌, ◌||◌, List, [], ◌∷◌, ◌++◌, refl, ap, sym, ◌∙◌, subst, append_assoc}
-use Rattle.std.proofs.lemmas.List.{append-nil}
+use Rattle.std.proofs.lemmas.List.{append-nil, same_from_push}
 use Rattle.regex_rules.specs.declared.repeat.Repeat.{Repeat}
 use Rattle.regex_rules.specs.declared.repeat.Repeat.TheVariants.{Once, Optional, Any, AtLeastOnce}
 use Rattle.regex_rules.specs.declared.character.OneChar.{OneChar}
@@ -59,17 +59,6 @@ ends_empty (x ∷ xs) ys e = absurd cc
 
 pub cons_is_some : {A : Type 0} (x : A) (xs : List A) → (x ∷ xs ≡ []) → ⊥
 cons_is_some x xs e = absurd cc
-
-pub snoc_is : (xs ys : List ℕ) (c d : ℕ) → xs ++ c ∷ [] ≡ ys ++ d ∷ [] → (xs ≡ ys) × (c ≡ d)
-snoc_is [] [] c d e = (refl, cc)
-snoc_is [] (y ∷ []) c d e = absurd cc
-snoc_is [] (y ∷ z ∷ ys) c d e = absurd cc
-snoc_is (x ∷ []) [] c d e = absurd cc
-snoc_is (x ∷ z ∷ xs) [] c d e = absurd cc
-snoc_is (x ∷ xs) (y ∷ ys) c d e =
-    let ih = snoc_is xs ys c d cc in
-    let head : x ≡ y = cc in
-    (ap (λ (z : ℕ). z ∷ xs) head ∙ ap (λ (l : List ℕ). y ∷ l) ih.0, ih.1)
 
 -- ---- cuttings
 
@@ -195,7 +184,7 @@ one_end Q one w c = (λ s. (w, c ∷ [], s.0, (c, s.1, refl), cons_is_some c [],
   where
     back : Reach Q (IsOne one) (w ++ c ∷ []) → Q w × (is_one one c ≡ true)
     back (xs, ys, q, (d, fits, f), some, e) =
-        let same = snoc_is w xs c d (e ∙ ap (λ (l : List ℕ). xs ++ l) f) in
+        let same = same_from_push w xs c d (e ∙ ap (λ (l : List ℕ). xs ++ l) f) in
         (subst Q (sym same.0) q, subst (λ (n : ℕ). is_one one n ≡ true) (sym same.1) fits)
 
 -- nothing more is reached by nothing

@@ -3,6 +3,7 @@ use Rattle.std.proofs.Common.{◌≡◌, ◌≢◌, ◌≤◌, ◌<◌, ◌/◌,
 use Rattle.std.specs.Prelude.{flat_map, nat_le}
 use Rattle.std.specs.List.{list_all}
 use Rattle.std.specs.Fmt.{decimal}
+use Rattle.std.proofs.lemmas.Bool.{and_parts}
 use Rattle.std.proofs.lemmas.Bool.Decides.{nat_tests}
 use Rattle.std.proofs.lemmas.Fmt.{decimal_injective}
 use Rattle.sp_base.specs.Bytes.{is_visible_ascii}
@@ -18,7 +19,7 @@ use Rattle.replay_text.specs.declared.event_line.EventLine.TheVariants.{Direct, 
 use Rattle.replay_text.specs.declared.event_line.Flight.{Flight}
 use Rattle.replay_text.specs.declared.event_line.Flight.TheVariants.{First, Numbered}
 use Rattle.replay_text.proofs.LineLaws.{newlines-append}
-use Rattle.replay_text.proofs.NumberLemmas.{both_true, one_number, decimal_not_first, newlines-decimal}
+use Rattle.replay_text.proofs.NumberLemmas.{one_number, decimal_not_first, newlines-decimal}
 use Rattle.replay_text.proofs.Escapes.{one_quoted}
 use Rattle.std.proofs.lemmas.List.{append-nil}
 use Rattle.replay_text.specs.Quoting.{not_blank}
@@ -32,12 +33,12 @@ visible_is_no_newline b e = grind (arith, nat_tests)
 newlines-visible : (text : List ℕ) → list_all is_visible_ascii text ≡ true → newlines text ≡ 0
 newlines-visible [] e = refl
 newlines-visible (b ∷ text) e =
-    let parts = both_true (is_visible_ascii b) (list_all is_visible_ascii text) e in
+    let parts = and_parts (is_visible_ascii b) (list_all is_visible_ascii text) e in
     let apart = visible_is_no_newline b parts.0 in
     rw apart (omega (arith, newlines-visible text parts.1))
 
 newlines-target : (text : List ℕ) → is_target text ≡ true → newlines text ≡ 0
-newlines-target text is = newlines-visible text (both_true (not (eqb (length text) 0)) (list_all is_visible_ascii text) is).1
+newlines-target text is = newlines-visible text (and_parts (not (eqb (length text) 0)) (list_all is_visible_ascii text) is).1
 
 above_is_no_newline : (b : ℕ) → 11 ≤ b → eqb b 10 ≡ false
 above_is_no_newline b le = grind (arith, nat_tests)

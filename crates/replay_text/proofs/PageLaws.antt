@@ -1,12 +1,13 @@
 -- The text of a page's path tells its key.
-use Rattle.std.proofs.Common.{◌≡◌, ◌++◌, ◌&&◌, ◌∙◌, ℕ, zero, suc, Bool, true, false, List, [], ◌∷◌, Some, None, sym, ap, refl, take, if◌then◌else◌}
+use Rattle.std.proofs.Common.{◌≡◌, ◌++◌, ◌&&◌, ◌∙◌, ℕ, zero, suc, Bool, true, List, [], ◌∷◌, Some, sym, ap, refl, take}
+use Rattle.std.proofs.lemmas.Bool.{and_parts}
 use Rattle.std.specs.Prelude.{IsTrue}
 use Rattle.std.specs.List.{list_all}
 use Rattle.sp_base.specs.Paths.{is_path, mangled_segs, name_of, parent_of, pieces, text_of}
 use Rattle.sp_base.specs.PathTexts.{spelling_of, lack_slashes, segs_in}
+use Rattle.sp_base.proofs.OptionLemmas.{cond_some_same}
 use Rattle.cover_rules.specs.Pages.{is_page, key_at, page_key_of, page_path, page_text}
 use Rattle.cover_rules.specs.declared.page.PageKey.{PageKey}
-use Rattle.replay_text.proofs.NumberLemmas.{both_true}
 use Rattle.run_events.specs.Named.{IsPage}
 
 -- two keys of pages have two texts
@@ -20,24 +21,20 @@ all-take : (p : List ℕ → Bool) (k : ℕ) (segs : List (List ℕ)) → list_a
 all-take p zero segs e = refl
 all-take p (suc k) [] e = refl
 all-take p (suc k) (seg ∷ segs) e =
-    let parts = both_true (p seg) (list_all p segs) e in
+    let parts = and_parts (p seg) (list_all p segs) e in
     all_of p seg (take k segs) parts.0 (all-take p k segs parts.1)
 
 all-append : (p : List ℕ → Bool) (a b : List (List ℕ)) → list_all p a ≡ true → list_all p b ≡ true → list_all p (a ++ b) ≡ true
 all-append p [] b e f = f
 all-append p (seg ∷ a) b e f =
-    let parts = both_true (p seg) (list_all p a) e in
+    let parts = and_parts (p seg) (list_all p a) e in
     all_of p seg (a ++ b) parts.0 (all-append p a b parts.1 f)
-
-chosen : (t : Bool) (made key : PageKey) → (if t then Some made else None) ≡ Some key → made ≡ key
-chosen true made key e = cc
-chosen false made key e = cc
 
 folder_is : (path : List (List ℕ)) (key : PageKey) → page_key_of path ≡ Some key → key.folder ≡ parent_of (mangled_segs path)
 unfolding key_at
 folder_is path key e =
     let made : PageKey = record { folder = parent_of (mangled_segs path); file = name_of (mangled_segs path) } in
-    ap (λ (k : PageKey). k.folder) (sym (chosen (is_page (mangled_segs path)) made key e))
+    ap (λ (k : PageKey). k.folder) (sym (cond_some_same (is_page (mangled_segs path)) made key e))
 
 -- a path that isn't the root is spelled by its segments alone
 spelled_by : (folder segs : List (List ℕ)) (text : List ℕ) → spelling_of segs ≡ 47 ∷ text → text_of (folder ++ segs) ≡ spelling_of (folder ++ segs)

@@ -40,14 +40,14 @@ after_line A B line rest n one to from w b refused =
     let count : newlines leading + n ≡ 1 + n = omega (arith, newlines-append line (10 ∷ [])) in
     subst (λ t. IsRefusedAt A t (1 + n)) (whole rest) (subst (λ k. IsRefusedAt A (leading ++ rest) k) count r0)
 
-are_push : (acts : List EventLine) (act : EventLine) → AreActs acts → IsEventLine act → AreActs (acts ++ act ∷ [])
-are_push [] act oks ok = (ok, tt)
-are_push (a ∷ acts) act oks ok = (oks.0, are_push acts act oks.1 ok)
+pub acts_push : (acts : List EventLine) (act : EventLine) → AreActs acts → IsEventLine act → AreActs (acts ++ act ∷ [])
+acts_push [] act oks ok = (ok, tt)
+acts_push (a ∷ acts) act oks ok = (oks.0, acts_push acts act oks.1 ok)
 
-lines_push : (acts : List EventLine) (act : EventLine) → text_of_lines (map line_of (acts ++ act ∷ [])) ≡ text_of_lines (map line_of acts) ++ (line_of act ++ 10 ∷ [])
-lines_push [] act = refl
-lines_push (a ∷ acts) act =
-    ap (λ t. line_of a ++ 10 ∷ t) (lines_push acts act) ∙ sym (append_assoc (line_of a) (10 ∷ text_of_lines (map line_of acts)) (line_of act ++ 10 ∷ []))
+pub lines_of_acts_push : (acts : List EventLine) (act : EventLine) → text_of_lines (map line_of (acts ++ act ∷ [])) ≡ text_of_lines (map line_of acts) ++ (line_of act ++ 10 ∷ [])
+lines_of_acts_push [] act = refl
+lines_of_acts_push (a ∷ acts) act =
+    ap (λ t. line_of a ++ 10 ∷ t) (lines_of_acts_push acts act) ∙ sym (append_assoc (line_of a) (10 ∷ text_of_lines (map line_of acts)) (line_of act ++ 10 ∷ []))
 
 pub passed_act : (text rest line after : List ℕ) (act : EventLine) (before : ℕ) → Passed text rest before
     → FirstLine rest line after → IsEventLine act → line ≡ line_of act → Passed text after (before + 1)
@@ -57,9 +57,9 @@ passed_act text rest line after act before p f ok e =
     let leading = text_of_lines (map line_of p.acts) in
     record {
       acts = p.acts ++ act ∷ [];
-      are = are_push p.acts act p.are ok;
+      are = acts_push p.acts act p.are ok;
       text_is = p.text_is ∙ ap (λ t. leading ++ t) (here ∙ sym (append_assoc (line_of act) (10 ∷ []) after))
-          ∙ sym (append_assoc leading (line_of act ++ 10 ∷ []) after) ∙ ap (λ t. t ++ after) (sym (lines_push p.acts act));
+          ∙ sym (append_assoc leading (line_of act ++ 10 ∷ []) after) ∙ ap (λ t. t ++ after) (sym (lines_of_acts_push p.acts act));
       refused = λ n h.
           let r = after_line Acts Acts (line_of act) after n one (after_act act ok) (before_acts act ok) (text_of_lines (act_lines [])) no_acts h in
           let r1 : IsRefusedAt Acts text (before + (1 + n)) = p.refused (1 + n) (subst (λ t. IsRefusedAt Acts t (1 + n)) (sym here) r) in

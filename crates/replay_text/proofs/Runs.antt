@@ -3,7 +3,7 @@ use Rattle.std.proofs.Common.{◌≡◌, ◌+◌, ◌-◌, ◌%◌, ◌^◌, ◌
 use Rattle.std.specs.Prelude.{flat_map}
 use Rattle.std.specs.Bool.{OnTrue}
 use Rattle.std.specs.List.{prefix_len}
-use Rattle.std.proofs.lemmas.Bool.{agree_below, agree_below_at, not-true, eqb-true}
+use Rattle.std.proofs.lemmas.Bool.{agree_below, agree_below_at, not-true, eqb-true, OnTrue_from as on_true}
 use Rattle.std.proofs.lemmas.Simd.{map-map, mask_l-mod, length-chunk, leading_from_mask_l}
 use Rattle.std.proofs.lemmas.Grind.{flat_map-append}
 use Rattle.std.proofs.lemmas.List.{length-map, take-append-drop, take_all}
@@ -36,10 +36,6 @@ all_pass : (q : ℕ → Bool) (xs : List ℕ) → prefix_len q xs ≡ length xs 
 all_pass q [] e k lt = absurd (omega arith)
 all_pass q (x ∷ xs) e zero lt = (all_byte (q x) _ (length xs) (prefix_len-le-length q xs) e).0
 all_pass q (x ∷ xs) e (suc k) lt = all_pass q xs (all_byte (q x) _ (length xs) (prefix_len-le-length q xs) e).1 k (omega arith)
-
-on_true : (b : Bool) (P : Type 0) → (b ≡ true → P) → OnTrue b P
-on_true true P f = f refl
-on_true false P f = tt
 
 -- no lane of a block stops, so each of its bytes is plain
 no_lane : (d : List ℕ) (i n : ℕ) (z : List ℕ) (f : ℕ → ℕ) → i + n ≤ length d → n ≤ 64 → ((k : ℕ) → Fits w8 (get_or d k 0)) → z ≡ map f (chunk i n d)

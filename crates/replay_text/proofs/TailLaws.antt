@@ -122,13 +122,9 @@ refuses_farm text block NoMemory e r = tt
 
 -- ---- what a tail spells
 
-list_assoc : (a b c : List (List ℕ)) → (a ++ b) ++ c ≡ a ++ (b ++ c)
-list_assoc [] b c = refl
-list_assoc (x ∷ a) b c = ap (λ t. x ∷ t) (list_assoc a b c)
-
 -- the lines of a block, its dot, and lines after it
 pub dotted : (block lines : List (List ℕ)) → (block ++ codes "." ∷ []) ++ lines ≡ block ++ codes "." ∷ lines
-dotted block lines = list_assoc block (codes "." ∷ []) lines
+dotted block lines = append_assoc block (codes "." ∷ []) lines
 
 pub tail_with_farm : (text block farm bytes : List ℕ) → text ≡ codes "farm" ++ 10 ∷ block → SpellsFarm block farm bytes → SpellsTail text (Some farm) bytes
 tail_with_farm text block farm bytes e s = record {

@@ -1,5 +1,6 @@
 -- A transcript is read back: what it tells of its events, and that it depends on nothing else.
 use Rattle.std.proofs.Common.{◌≡◌, ◌+◌, ◌<◌, ◌≤◌, ◌++◌, ◌∙◌, ℕ, List, [], ◌∷◌, codes, map, sym, ap, refl, arith, drop, get_or, append_assoc}
+use Rattle.std.proofs.lemmas.List.{append_cancel_left}
 use Rattle.std.specs.Prelude.{flat_map}
 use Rattle.std.specs.Fmt.{decimal}
 use Rattle.run_events.specs.declared.note.Failure.TheVariants.{Disk}
@@ -139,11 +140,6 @@ transcript_ends : (n : ℕ) (events : List (List Note)) → Ends (transcript_fro
 transcript_ends n [] = omega arith
 transcript_ends n (notes ∷ events) = omega arith
 
--- what is the same in two lists, from their beginning on
-same_rest : (a x y : List ℕ) → a ++ x ≡ a ++ y → x ≡ y
-same_rest [] x y e = e
-same_rest (b ∷ a) x y e = same_rest a x y (ap (drop 1) e)
-
 event_spread : (n : ℕ) (notes : List Note) (r : List ℕ)
     → event_text n notes ++ r ≡ (codes "@ " ++ decimal n ++ 10 ∷ []) ++ (flat_map line_text (told_notes notes) ++ r)
 event_spread n notes r =
@@ -161,7 +157,7 @@ told_events keys handles n (x ∷ a) (y ∷ b) p q e =
     let tb = transcript_from (n + 1) b in
     let tx = flat_map line_text (told_notes x) in
     let ty = flat_map line_text (told_notes y) in
-    let rest = same_rest (codes "@ " ++ decimal n ++ 10 ∷ []) (tx ++ ta) (ty ++ tb) (sym (event_spread n x ta) ∙ e ∙ event_spread n y tb) in
+    let rest = append_cancel_left (codes "@ " ++ decimal n ++ 10 ∷ []) (tx ++ ta) (ty ++ tb) (sym (event_spread n x ta) ∙ e ∙ event_spread n y tb) in
     let head = one_notes keys handles (told_notes x) (told_notes y) ta tb (told_lined x p.0) (told_lined y q.0) (transcript_ends (n + 1) a) (transcript_ends (n + 1) b) rest in
     let tail = told_events keys handles (n + 1) a b p.1 q.1 head.1 in
     cc (head.0, tail)

@@ -1,15 +1,13 @@
 -- A text has one first word: it ends at the first blank. No number has a blank.
-use Rattle.std.proofs.Common.{◌≡◌, ◌+◌, ◌<◌, ◌≤◌, ◌++◌, ◌&&◌, ℕ, Bool, List, [], ◌∷◌, length, take, drop, nat_eq, Option, Some, None, IfSome, IfNone, Result, Ok, Err, IfOk, ◌∙◌, ap, sym, subst, refl, arith, eqb, get_or, ⊎_elim, codes, true, false, ◌==◌, not}
+use Rattle.std.proofs.Common.{◌≡◌, ◌+◌, ◌<◌, ◌≤◌, ◌++◌, ◌&&◌, ℕ, Bool, List, [], ◌∷◌, length, take, Option, Some, None, IfNone, Result, Ok, Err, IfOk, ◌∙◌, ap, sym, subst, refl, arith, eqb, get_or, ⊎_elim, codes, true, false, ◌==◌, not}
 use Rattle.std.proofs.lemmas.Bool.{false≢true, cases_Bool}
 use Rattle.std.proofs.lemmas.Bool.Decides.{nat_tests}
-use Rattle.std.proofs.lemmas.List.{take_more, take-append-drop, take_at}
-use Rattle.std.specs.Cmp.Lexicographic.{bytes_decides, pointwise}
+use Rattle.std.proofs.lemmas.List.{take_more, append_cancel_left}
 use Rattle.std.proofs.lemmas.Fmt.{decimal_is_IsNumeral}
 use Rattle.std.proofs.lemmas.Str.Parse.{digit_from_value}
 use Rattle.std.specs.Str.Parse.{AllDigits}
 use Rattle.std.proofs.lemmas.List.Sums.{AllPass-from_list_all, list_all-from_AllPass}
 use Rattle.std.specs.List.{list_all}
-use Rattle.std.specs.Option.{MatchOption}
 use Rattle.std.specs.Fmt.{decimal}
 use Rattle.replay_text.specs.Transcript.{IsConnectionNumber}
 use Rattle.sp_base.specs.Bytes.{is_visible_ascii}
@@ -59,28 +57,6 @@ pub no_flight : (word : List ℕ) → (word ≡ codes "first" → ⊥) → ((n :
 no_flight word not_first none First is e = not_first e
 no_flight word not_first none (Numbered n) is e = none n is.0 is.1 e
 
--- a text is stripped of a word where it begins with it
-pub IfSome-cases : {A : Type 0} (o : Option A) (P : Type 0) (Q R : A → Type 0) → MatchOption o P Q → ((x : A) → Q x → R x) → IfSome o R
-IfSome-cases None P Q R h f = tt
-IfSome-cases (Some x) P Q R h f = f x h
-
-pub IfNone-cases : {A : Type 0} (o : Option A) (P N : Type 0) (Q : A → Type 0) → MatchOption o P Q → (P → N) → IfNone o N
-IfNone-cases None P N Q h f = f h
-IfNone-cases (Some x) P N Q h f = tt
-
-pub stripped : (text prefix rest : List ℕ) → pointwise nat_eq (take (length prefix) text) prefix ≡ true → rest ≡ drop (length prefix) text → text ≡ prefix ++ rest
-stripped text prefix rest e is =
-    sym (take-append-drop (length prefix) text) ∙ ap (λ (t : List ℕ). t ++ drop (length prefix) text) ((bytes_decides (take (length prefix) text) prefix).0 e) ∙ ap (λ (t : List ℕ). prefix ++ t) (sym is)
-
-pub unstripped : (text prefix more : List ℕ) → pointwise nat_eq (take (length prefix) text) prefix ≡ false → text ≡ prefix ++ more → ⊥
-unstripped text prefix more e is =
-    cc (e, (bytes_decides (take (length prefix) text) prefix).1 (ap (take (length prefix)) is ∙ take_at prefix more (length prefix) refl))
-
--- what begins alike goes on alike
-pub same_after : (word xs ys : List ℕ) → word ++ xs ≡ word ++ ys → xs ≡ ys
-same_after [] xs ys e = e
-same_after (b ∷ word) xs ys e = same_after word xs ys (cc (e))
-
 pub IfOkNone-weaker : {A E : Type 0} (r : Result (Option A) E) (P Q : Type 0) → (P → Q) → IfOk r (λ o. IfNone o P) → IfOk r (λ o. IfNone o Q)
 IfOkNone-weaker (Ok None) P Q f h = f h
 IfOkNone-weaker (Ok (Some x)) P Q f h = tt
@@ -102,7 +78,7 @@ decimal_no_blank n small = digits_no_blank (decimal n) (decimal_is_IsNumeral n (
 pub one_numbered : (word line rest other : List ℕ) (c d : ℕ) → c < 18446744073709551616 → d < 18446744073709551616 → line ≡ connection_text word c rest → line ≡ connection_text word d other → rest ≡ other
 one_numbered word line rest other c d is_c is_d e f =
     (one_first_word (decimal c) (decimal d) rest other (decimal_no_blank c is_c) (decimal_no_blank d is_d)
-    (same_after word (decimal c ++ 32 ∷ rest) (decimal d ++ 32 ∷ other) (sym e ∙ f))).1
+    (append_cancel_left word (decimal c ++ 32 ∷ rest) (decimal d ++ 32 ∷ other) (sym e ∙ f))).1
 
 -- a line about a connection does
 pub one_connection : (word line rest other : List ℕ) (c d : ℕ) → IsConnectionNumber c → IsConnectionNumber d → line ≡ connection_text word c rest → line ≡ connection_text word d other → rest ≡ other

@@ -8,6 +8,7 @@ use Rattle.std.proofs.lemmas.Bool.{cases_Bool, false≢true, true≢false, false
 use Rattle.std.proofs.lemmas.List.{length-map}
 use Rattle.std.proofs.lemmas.Map.{keys-set_value}
 use Rattle.sp_base.specs.Paths.{is_path, is_under}
+use Rattle.sp_base.proofs.OptionLemmas.{none_from_test}
 use Rattle.resource_tree.specs.declared.nodes.Node.{Node}
 use Rattle.resource_tree.specs.declared.faults.TreeFault.TheVariants.{TooDeep, FullTree}
 use Rattle.resource_tree.specs.declared.patch.PatchNode.TheVariants as patch_node
@@ -18,7 +19,7 @@ use Rattle.resource_tree.specs.Moves.{path_there, part, part_there, copy, copy_a
 use Rattle.resource_tree.proofs.PathLemmas.{kid_parts, same_path_self, same_path_apart}
 use Rattle.resource_tree.proofs.NodeLookups.{node_at-change_at, length-change_at}
 use Rattle.resource_tree.proofs.Patching.{node_at-patching}
-use Rattle.resource_tree.proofs.Creation.{no_fault, not_none, none_from, some_from, IsGood-from}
+use Rattle.resource_tree.proofs.Creation.{no_fault, not_none, some_from, IsGood-from}
 use Rattle.resource_tree.proofs.Under.{under_own_kid}
 use Rattle.resource_tree.proofs.PartLemmas.{under_split, prefix}
 use Rattle.resource_tree.proofs.Copying.{PutsPart, IsTree-put_part, there-back}
@@ -45,7 +46,7 @@ is_free tree source target e =
       source_there = not_none _ a.0;
       parent_there = not_none _ b.0;
       not_root = λ root. true≢false (sym (ap (λ (p : List (List ℕ)). length p == 0) root) ∙ c.0);
-      free = none_from _ f.0;
+      free = none_from_test _ f.0;
       untaken = g.0;
     }
 
@@ -102,7 +103,7 @@ module _ (tree : Content) (source target : List (List ℕ)) (good : IsGood tree)
   pub free_below : (q : List (List ℕ)) → is_under q target ≡ true → node_at tree q ≡ None
   free_below q under =
       let split = under_split target q under in
-      none_from _ (false_from_ne_true _ (λ there_. false≢true (sym (ap is_some can.free) ∙ prefix tree good.shape target split.rest (ap (λ p. is_some (node_at tree p)) split.whole ∙ there_))))
+      none_from_test _ (false_from_ne_true _ (λ there_. false≢true (sym (ap is_some can.free) ∙ prefix tree good.shape target split.rest (ap (λ p. is_some (node_at tree p)) split.whole ∙ there_))))
 
   pub parent_apart : (q : List (List ℕ)) → is_under q target ≡ true → same_path (parent_of target) q ≡ false
   parent_apart q under =
@@ -140,7 +141,7 @@ module _ (tree : Content) (source target : List (List ℕ)) (good : IsGood tree)
       fits = subst (λ (p : List (List ℕ)). (q : List (List ℕ)) → is_under q p ≡ true → IsSome (node_at tree (path_there p source q)) → IsTrue (is_path q)) (sym parts) is_a_path;
       was = above_is;
       free = ap (node_at tree) parts ∙ can.free;
-      untaken = none_from _ (sym (ap (λ o. option_map_or (λ node. is_some (prop_at node (name_of target))) o false) above_is) ∙ can.untaken);
+      untaken = none_from_test _ (sym (ap (λ o. option_map_or (λ node. is_some (prop_at node (name_of target))) o false) above_is) ∙ can.untaken);
       there = node_at-copy (parent_of target)
           ∙ (let apart = ap (is_under (parent_of target)) (sym parts) ∙ under_own_kid (parent_of target) (name_of target) in let self = same_path_self (parent_of target) in rw (apart, self, above_is));
       below = subst (λ (p : List (List ℕ)). (q : List (List ℕ)) → is_under q p ≡ true → node_at (copy tree source target) q ≡ node_at tree (path_there p source q)) (sym parts) below;

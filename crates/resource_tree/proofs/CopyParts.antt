@@ -15,13 +15,14 @@ use Rattle.std.proofs.lemmas.Map.Keys.{IsDistinct-from_sorted, IsDistinct-tail, 
 use Rattle.std.proofs.lemmas.Map.Entries.{none_past_head}
 use Rattle.sp_base.specs.PathExact.{exact_paths}
 use Rattle.sp_base.specs.Paths.{is_under}
+use Rattle.sp_base.proofs.OrderingLemmas.{by_path_total}
 use Rattle.resource_tree.specs.declared.nodes.Node.{Node}
 use Rattle.resource_tree.specs.declared.patch.PatchNode.{PatchNode}
 use Rattle.resource_tree.specs.declared.patch.PatchNode.TheVariants as patch_node
 use Rattle.resource_tree.specs.Content.{Content, by_path, same_path, node_at}
 use Rattle.resource_tree.specs.Patches.{PatchEntries, entry_at, over, patching}
 use Rattle.resource_tree.specs.Moves.{path_there, part, part_there}
-use Rattle.resource_tree.proofs.PathLemmas.{by_path_total, path_from_same, same_path_self}
+use Rattle.resource_tree.proofs.PathLemmas.{path_from_same, same_path_self}
 use Rattle.resource_tree.proofs.Copying.{there-back}
 use Rattle.resource_tree.proofs.PartThere.{under_there, entry_at-part_there}
 use Rattle.resource_tree.proofs.EntriesInOrder.{length-in_order, in_order-same}

@@ -7,6 +7,7 @@ use Rattle.std.proofs.lemmas.List.{append_assoc}
 use Rattle.std.proofs.Math.Seq.{drop-append_seam}
 use Rattle.std.proofs.lemmas.Map.Keys.{IsDistinct-push}
 use Rattle.sp_base.specs.Paths.{is_path, is_under}
+use Rattle.sp_base.proofs.BoolLemmas.{or_false}
 use Rattle.resource_tree.specs.declared.nodes.Node.{Node}
 use Rattle.resource_tree.specs.Content.{kid, has_kid, prop_at, IsNodeOf, IsTree}
 use Rattle.resource_tree.specs.Changes.{with_kid}
@@ -47,10 +48,6 @@ there-self source target =
     append_nil : (p : List (List ℕ)) → p ++ [] ≡ p
     append_nil [] = refl
     append_nil (s ∷ p) = ap (λ r. s ∷ r) (append_nil p)
-
-or_false : (b : Bool) → (b || false) ≡ b
-or_false true = refl
-or_false false = refl
 
 -- the map with a part of another under a kid of a node that names it last
 pub record PutsPart (from at now : List (List ℕ) → Option Node) (source above : List (List ℕ)) (name : List ℕ) (node : Node) : Type 0 where

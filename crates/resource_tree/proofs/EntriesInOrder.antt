@@ -1,6 +1,6 @@
 -- What entries in order have in common with the entries as they lie.
-use Rattle.std.proofs.Common.{◌≡◌, Bool, true, false, cond, T, List, [], ◌∷◌, ◌++◌, ◌&&◌, refl, sym, ◌∙◌, ap, subst, length, ◌+◌, arith, Some, None}
-use Rattle.std.specs.Prelude.{Option, is_some, Result, Ok, Err, IsOk, OnOk}
+use Rattle.std.proofs.Common.{◌≡◌, Bool, true, false, cond, T, List, [], ◌∷◌, ◌++◌, refl, sym, ◌∙◌, ap, subst, length, ◌+◌, arith, Some, None}
+use Rattle.std.specs.Prelude.{Option, is_some}
 use Rattle.std.specs.declared.cmp.Ordering.{Ordering}
 use Rattle.std.specs.declared.cmp.Ordering.TheVariants.{Less, Equal, Greater}
 use Rattle.std.specs.Ordering.{match_ordering, is_lt, is_eq, eq_by_cmp}
@@ -16,24 +16,9 @@ use Rattle.std.proofs.lemmas.Map.Keys.{sorted_head, sorted_tail, IsDistinct-from
 use Rattle.std.proofs.lemmas.Map.Entries.{none_past_head}
 use Rattle.std.proofs.lemmas.Map.Lookups.{CmpEqualImpliesEq}
 use Rattle.std.proofs.lemmas.Map.Views.{tells_apart}
+use Rattle.sp_base.proofs.BoolLemmas.{T_both, T_first, T_second}
+use Rattle.sp_base.proofs.OrderingLemmas.{less_from_T}
 use Rattle.resource_tree.specs.InOrder.{in_order}
-
-less : (o : Ordering) → T (is_lt o) → o ≡ Less
-less Less p = refl
-less Equal p = absurd p
-less Greater p = absurd p
-
-first : (a b : Bool) → T (a && b) → T a
-first true b p = tt
-first false b p = p
-
-second : (a b : Bool) → T (a && b) → T b
-second true b p = p
-second false b p = absurd p
-
-both : (a b : Bool) → T a → T b → T (a && b)
-both true b p q = q
-both false b p q = p
 
 module _ {K X : Type 0} (R : K → K → Ordering) where
   find-is-lookup : (q : K) (es : List (K × X)) → find R q es ≡ lookup (is_at (R q)) es
@@ -51,20 +36,20 @@ module _ {K X : Type 0} (R : K → K → Ordering) where
 
   below_from_test : (k : K) (es : List (K × X)) → T (below_all R k es) → AllByRecursion (λ y. R k y ≡ Less) (keys_of es)
   below_from_test k [] h = tt
-  below_from_test k (e ∷ es) h = (less _ (first _ _ h), below_from_test k es (second _ _ h))
+  below_from_test k (e ∷ es) h = (less_from_T _ (T_first _ _ h), below_from_test k es (T_second _ _ h))
 
   test_from_below : (k : K) (es : List (K × X)) → AllByRecursion (λ y. R k y ≡ Less) (keys_of es) → T (below_all R k es)
   test_from_below k [] h = tt
-  test_from_below k (e ∷ es) h = both _ _ (subst (λ r. T (is_lt r)) (sym h.0) tt) (test_from_below k es h.1)
+  test_from_below k (e ∷ es) h = T_both _ _ (subst (λ r. T (is_lt r)) (sym h.0) tt) (test_from_below k es h.1)
 
   sorted_from_test : (es : List (K × X)) → T (is_sorted R es) → IsStrictlySortedBy R (keys_of es)
   unfolding IsStrictlySortedBy
   sorted_from_test [] h = tt
-  sorted_from_test (e ∷ es) h = (below_from_test e.0 es (first _ _ h), sorted_from_test es (second _ _ h))
+  sorted_from_test (e ∷ es) h = (below_from_test e.0 es (T_first _ _ h), sorted_from_test es (T_second _ _ h))
 
   test_from_sorted : (es : List (K × X)) → IsStrictlySortedBy R (keys_of es) → T (is_sorted R es)
   test_from_sorted [] h = tt
-  test_from_sorted (e ∷ es) h = both _ _ (test_from_below e.0 es (sorted_head R e.0 (keys_of es) h)) (test_from_sorted es (sorted_tail R e.0 (keys_of es) h))
+  test_from_sorted (e ∷ es) h = T_both _ _ (test_from_below e.0 es (sorted_head R e.0 (keys_of es) h)) (test_from_sorted es (sorted_tail R e.0 (keys_of es) h))
 
   all_without : (P : K → Type 0) (test : K → Bool) (es : List (K × X)) → AllByRecursion P (keys_of es) → AllByRecursion P (keys_of (remove_entry test es))
   all_without P test [] a = tt
@@ -174,8 +159,3 @@ module _ {K X : Type 0} (R : K → K → Ordering) (o : IsTotalOrder R) where
 pub nil_in_order : {K X : Type 0} (R : K → K → Ordering) (es : List (K × X)) → es ≡ [] → in_order R es ≡ []
 unfolding in_order
 nil_in_order R es e = ap (in_order R) e
-
--- what is so where a call succeeds, of a call that does
-pub from_ok : {A E P : Type 0} (r : Result A E) → IsOk r → OnOk r P → P
-from_ok (Ok x) ok p = p
-from_ok (Err e) ok p = absurd (true≢false (sym ok))

@@ -7,11 +7,11 @@ use Rattle.std.specs.List.{IsDistinct}
 use Rattle.std.specs.Ordering.{eq_by_cmp}
 use Rattle.std.specs.Map.{keys_of}
 use Rattle.sp_base.specs.PathExact.{exact_paths}
+use Rattle.sp_base.proofs.OrderingLemmas.{by_path_total}
 use Rattle.resource_tree.specs.InOrder.{in_order}
 use Rattle.resource_tree.proofs.EntriesInOrder.{fresh, in_order-push}
 use Rattle.resource_tree.specs.declared.nodes.Node.{Node}
 use Rattle.resource_tree.specs.Content.{Content, by_path, same_path}
-use Rattle.resource_tree.proofs.PathLemmas.{by_path_total}
 
 -- a loop over the entries of a table that adds a copy of each, after one more
 pub copied_more : (all rest left : Content) (copy new : Content) (seen : List (Bor (List (List ℕ)) × Bor Node)) (item : Bor (List (List ℕ)) × Bor Node) (path : List (List ℕ)) (node : Node) → IsDistinct (eq_by_cmp by_path) (keys_of all)

@@ -7,6 +7,7 @@ use Rattle.std.proofs.lemmas.Bool.{cases_Bool}
 use Rattle.std.proofs.lemmas.List.Sorted.{IsPermutation-insert, list_any-IsPermutation}
 use Rattle.std.proofs.lemmas.Map.Keys.{IsDistinct-head, IsDistinct-tail, IsDistinct-cons, IsDistinct-IsPermutation}
 use Rattle.std.proofs.lemmas.Map.Views.{any-filter_same}
+use Rattle.sp_base.proofs.ListLemmas.{all_filter}
 use Rattle.resource_tree.specs.declared.nodes.Node.{Node}
 use Rattle.resource_tree.specs.declared.places.Place.{Place}
 use Rattle.resource_tree.specs.Kids.{other_kids, place_among}
@@ -16,10 +17,6 @@ use Rattle.resource_tree.proofs.NodeChange.{Replaces}
 
 abbrev same : List ℕ → List ℕ → Bool
 same = pointwise nat_eq
-
-all_filter : (P : List ℕ → Type 0) (p : List ℕ → Bool) (xs : List (List ℕ)) → AllByRecursion P xs → AllByRecursion P (filter p xs)
-all_filter P p [] h = tt
-all_filter P p (x ∷ xs) h = elim (p x) as (λ b. AllByRecursion P (cond b (x ∷ filter p xs) (filter p xs))) [ true ↦ (h.0, all_filter P p xs h.1) | false ↦ all_filter P p xs h.1 ]
 
 pub IsDistinct-filter : (p : List ℕ → Bool) (xs : List (List ℕ)) → IsDistinct same xs → IsDistinct same (filter p xs)
 IsDistinct-filter p [] h = h

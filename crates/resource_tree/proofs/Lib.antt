@@ -19,3 +19,4 @@ pub mod Without
 pub mod PartLemmas
 pub mod Removal
 pub mod Relocated
+pub mod SamePaths

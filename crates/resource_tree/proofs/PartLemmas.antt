@@ -8,6 +8,7 @@ use Rattle.std.proofs.lemmas.Bool.{cases_Bool, false≢true, true≢false, and_p
 use Rattle.std.proofs.lemmas.List.{take_more, map-append, append-nil, append_assoc}
 use Rattle.std.proofs.lemmas.List.Folds.{list_any-append, list_all-append, list_any_at}
 use Rattle.sp_base.specs.Paths.{is_under, seg_ok}
+use Rattle.sp_base.proofs.ListLemmas.{all_append}
 use Rattle.resource_tree.specs.declared.nodes.Node.{Node}
 use Rattle.resource_tree.specs.Content.{Content, same_path, node_at, kid, empty_node, IsTree}
 use Rattle.resource_tree.specs.Changes.{kids_at}
@@ -18,10 +19,6 @@ use Rattle.resource_tree.proofs.Under.{under_self, under_kid}
 
 kid_append : (p : List (List ℕ)) (name : List ℕ) (s : List (List ℕ)) → kid p name ++ s ≡ p ++ name ∷ s
 kid_append p name s = append_assoc p (name ∷ []) s
-
-all_append : {A : Type 0} (P : A → Type 0) (xs ys : List A) → AllByRecursion P xs → AllByRecursion P ys → AllByRecursion P (xs ++ ys)
-all_append P [] ys a b = b
-all_append P (x ∷ xs) ys a b = (a.0, all_append P xs ys a.1 b)
 
 all_any : (P : List (List ℕ) → Type 0) (q : List (List ℕ)) (xs : List (List (List ℕ))) → AllByRecursion P xs → list_any (same_path q) xs ≡ true → P q
 all_any P q [] a found = absurd (false≢true found)

@@ -10,17 +10,18 @@ use Rattle.std.proofs.lemmas.List.{take_more, map-append}
 use Rattle.std.proofs.lemmas.List.Folds.{list_any-append, list_any_at}
 use Rattle.std.proofs.lemmas.Map.{lookup-set_value}
 use Rattle.sp_base.specs.Paths.{is_under}
+use Rattle.sp_base.proofs.OptionLemmas.{none_from_test}
+use Rattle.sp_base.proofs.OrderingLemmas.{by_path_total}
 use Rattle.resource_tree.specs.declared.nodes.Node.{Node}
 use Rattle.resource_tree.specs.declared.patch.PatchNode.{PatchNode}
 use Rattle.resource_tree.specs.declared.patch.PatchNode.TheVariants as patch_node
 use Rattle.resource_tree.specs.Content.{Content, same_path, node_at}
 use Rattle.resource_tree.specs.Patches.{PatchEntries, entry_at, with_entry}
 use Rattle.resource_tree.specs.Moves.{path_there, part_there}
-use Rattle.resource_tree.proofs.PathLemmas.{by_path_total, path_from_same, same_path_self}
-use Rattle.resource_tree.proofs.Creation.{none_from}
+use Rattle.resource_tree.proofs.PathLemmas.{path_from_same, same_path_self}
 use Rattle.resource_tree.proofs.Copying.{there-back}
 
-under_append : (p r : List (List ℕ)) → is_under (p ++ r) p ≡ true
+pub under_append : (p r : List (List ℕ)) → is_under (p ++ r) p ≡ true
 under_append [] [] = refl
 under_append [] (s ∷ r) = refl
 under_append (s ∷ p) r = and_from _ _ (nat_list_eq_equiv.refl s) (under_append p r)
@@ -120,7 +121,7 @@ entry_at-with_entry entries p q n =
     ∙ entry_at-push entries p q n
     ∙ ap (λ b. cond (is_some (entry_at entries q)) (entry_at entries q) (cond b (Some n) None)) turn
     ∙ ⊎_elim
-    (λ is. let gone : entry_at entries q ≡ None = ap (entry_at entries) (sym (path_from_same p q is)) ∙ none_from _ none in rw (is, gone))
+    (λ is. let gone : entry_at entries q ≡ None = ap (entry_at entries) (sym (path_from_same p q is)) ∙ none_from_test _ none in rw (is, gone))
     (λ other. ap (λ b. cond (is_some (entry_at entries q)) (entry_at entries q) (cond b (Some n) None)) other ∙ either (entry_at entries q) ∙ sym (ap (λ b. cond b (Some n) (entry_at entries q)) other))
     (cases_Bool (same_path p q)))
     (cases_Bool (is_some (entry_at entries p)))

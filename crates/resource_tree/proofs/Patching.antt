@@ -10,12 +10,13 @@ use Rattle.std.proofs.lemmas.Bool.{cases_Bool}
 use Rattle.std.proofs.lemmas.Map.{lookup-remove_entry, lookup-none}
 use Rattle.std.proofs.lemmas.Map.Keys.{IsDistinct-from_sorted, IsDistinct-tail}
 use Rattle.std.proofs.lemmas.Map.Entries.{none_past_head}
+use Rattle.sp_base.proofs.OrderingLemmas.{by_path_total}
 use Rattle.indexmap.specs.IndexMap.{insert_entry}
 use Rattle.resource_tree.specs.declared.patch.PatchNode.{PatchNode}
 use Rattle.resource_tree.specs.declared.patch.PatchNode.TheVariants as patch_node
 use Rattle.resource_tree.specs.Content.{Content, by_path, same_path, node_at}
 use Rattle.resource_tree.specs.Patches.{PatchEntries, entry_at, with_entry, over, patching, patching_at, left_by}
-use Rattle.resource_tree.proofs.PathLemmas.{by_path_total, path_from_same}
+use Rattle.resource_tree.proofs.PathLemmas.{path_from_same}
 use Rattle.resource_tree.proofs.EntriesInOrder.{lookup-insert_entry, sorted-insert_entry, sorted-remove_entry}
 
 under_cond : {A : Type 0} (b : Bool) (x : A) (xs ys : List A) → (x ∷ cond b xs ys) ≡ cond b (x ∷ xs) (x ∷ ys)

@@ -4,12 +4,13 @@ use Rattle.std.specs.Prelude.{is_some, is_none, IsSome, IsTrue, option_map, unwr
 use Rattle.std.specs.Option.{option_map_or}
 use Rattle.std.specs.List.Sorted.{IsStrictlySortedBy}
 use Rattle.std.specs.Map.{keys_of, set_value}
-use Rattle.std.proofs.lemmas.Bool.{cases_Bool, true≢false, false_from_ne_true}
+use Rattle.std.proofs.lemmas.Bool.{cases_Bool, true≢false, false_from_ne_true, or_parts}
 use Rattle.std.proofs.lemmas.List.{length-map}
 use Rattle.std.proofs.lemmas.List.Filters.{length-filter_both}
 use Rattle.std.proofs.lemmas.List.Kept.{IsStrictlySortedBy-filter}
 use Rattle.std.proofs.lemmas.Map.{keys-set_value}
 use Rattle.sp_base.specs.Paths.{is_path, is_under}
+use Rattle.sp_base.proofs.OptionLemmas.{none_from_test}
 use Rattle.resource_tree.specs.declared.nodes.Node.{Node}
 use Rattle.resource_tree.specs.declared.faults.TreeFault.TheVariants.{TooDeep}
 use Rattle.resource_tree.specs.declared.patch.PatchNode.TheVariants as patch_node
@@ -20,7 +21,7 @@ use Rattle.resource_tree.specs.Moves.{path_there, part, part_there, is_too_deep,
 use Rattle.resource_tree.proofs.PathLemmas.{same_path_self, same_path_apart}
 use Rattle.resource_tree.proofs.NodeLookups.{node_at-change_at, length-change_at}
 use Rattle.resource_tree.proofs.Patching.{node_at-patching, sorted-patching}
-use Rattle.resource_tree.proofs.Creation.{no_fault, none_from, some_from, IsGood-from}
+use Rattle.resource_tree.proofs.Creation.{no_fault, some_from, IsGood-from}
 use Rattle.resource_tree.proofs.Removal.{node_at-removal, IsTree-removal}
 use Rattle.resource_tree.proofs.Under.{under_kid, under_own_kid, under_self}
 use Rattle.resource_tree.proofs.Without.{keys_of-filter}
@@ -36,10 +37,6 @@ pub record MayGo (tree : Content) (source target : List (List ℕ)) : Type 0 whe
   pub not_below : is_under target source ≡ false
   pub not_above : is_under source target ≡ false
 
-neither : (a b : Bool) → (a || b) ≡ false → (a ≡ false) × (b ≡ false)
-neither true b h = absurd (true≢false h)
-neither false b h = (refl, h)
-
 pub may_go : (tree : Content) (source target : List (List ℕ)) → ends_fault tree source target ≡ None → MayGo tree source target
 may_go tree source target e =
     let a = no_fault (is_none (node_at tree source)) _ _ e in
@@ -49,7 +46,7 @@ may_go tree source target e =
     let d = no_fault (is_none (node_at tree (parent_of target))) _ _ c.1 in
     let f = no_fault (length target == 0) _ _ d.1 in
     let g = no_fault (is_under target source || is_under source target) _ _ f.1 in
-    let beside = neither (is_under target source) (is_under source target) g.0 in
+    let beside = or_parts (is_under target source) (is_under source target) g.0 in
     record {
       free = is_free tree source target root.1;
       source_not_root = λ is. true≢false (sym (ap (λ (p : List (List ℕ)). length p == 0) is) ∙ root.0);
@@ -69,7 +66,7 @@ none_under false true f None e = refl
 none_under false false f None e = refl
 none_under false b f (Some n) e = absurd (true≢false (ap is_some e))
 
-some_under : (a : Bool) (f : Node → Node) (o : Option Node) → is_some (cond a (option_map f o) o) ≡ is_some o
+pub some_under : (a : Bool) (f : Node → Node) (o : Option Node) → is_some (cond a (option_map f o) o) ≡ is_some o
 some_under true f None = refl
 some_under true f (Some n) = refl
 some_under false f o = refl
@@ -90,7 +87,7 @@ keys-change_at tree path change =
       | Some node ↦ keys-set_value (same_path path) tree (change node)
     ]
 
-length-keys : (tree : Content) → length (keys_of tree) ≡ length tree
+pub length-keys : (tree : Content) → length (keys_of tree) ≡ length tree
 length-keys tree = length-map tree _
 
 -- as many as there were
@@ -179,7 +176,7 @@ module _ (tree : Content) (source target : List (List ℕ)) (good : IsGood tree)
       fits = subst (λ (p : List (List ℕ)). (q : List (List ℕ)) → is_under q p ≡ true → IsSome (node_at tree (path_there p source q)) → IsTrue (is_path q)) (sym target_parts) (is_a_path tree source target good can.free fits);
       was = above_is;
       free = ap (node_at from) target_parts ∙ node_at-removal tree source target ∙ gone_below target (under_self target);
-      untaken = none_from _ (sym (ap (λ o. option_map_or (λ node. is_some (prop_at node (name_of target))) o false) above_is) ∙ untaken);
+      untaken = none_from_test _ (sym (ap (λ o. option_map_or (λ node. is_some (prop_at node (name_of target))) o false) above_is) ∙ untaken);
       there = node_at-relocation (parent_of target)
           ∙ (let outside = ap (is_under (parent_of target)) (sym target_parts) ∙ under_own_kid (parent_of target) (name_of target) in let self = same_path_self (parent_of target) in rw (outside, self) (ap (option_map (with_kid (name_of target))) (sym (node_at-removal tree source (parent_of target)) ∙ above_is)));
       below = subst (λ (p : List (List ℕ)). (q : List (List ℕ)) → is_under q p ≡ true → node_at (relocation tree source target) q ≡ node_at tree (path_there p source q)) (sym target_parts) below;

@@ -4,11 +4,11 @@ use Rattle.std.specs.Prelude.{is_some, slice_index_or}
 use Rattle.std.specs.List.{All, IsDistinct}
 use Rattle.std.specs.Map.{keys_of}
 use Rattle.std.proofs.lemmas.Map.Made.{is_some-lookup}
+use Rattle.sp_base.proofs.OrderingLemmas.{by_path_total}
 use Rattle.resource_tree.specs.Content.{Content, by_path, node_at, same_path}
 use Rattle.resource_tree.specs.InOrder.{in_order}
 use Rattle.resource_tree.specs.Rows.{AreRowsOf}
 use Rattle.resource_tree.proofs.EntriesInOrder.{lookup-in_order}
-use Rattle.resource_tree.proofs.PathLemmas.{by_path_total}
 
 pub rows_as_they_lie : (es : Content) → All (λ e. node_at es e.0 ≡ Some e.1) es → IsDistinct same_path (keys_of es) → AreRowsOf (in_order by_path es) es
 rows_as_they_lie es found once = record {

@@ -11,10 +11,11 @@ use Rattle.std.proofs.lemmas.List.Kept.{IsStrictlySortedBy-filter}
 use Rattle.std.proofs.lemmas.Map.Entries.{lookup-filter-keys}
 use Rattle.sp_base.specs.PathExact.{exact_paths}
 use Rattle.sp_base.specs.Paths.{is_under}
+use Rattle.sp_base.proofs.OrderingLemmas.{by_path_total}
 use Rattle.resource_tree.specs.declared.nodes.Node.{Node}
 use Rattle.resource_tree.specs.Content.{Content, by_path, same_path, node_at}
 use Rattle.resource_tree.specs.Changes.{without_under}
-use Rattle.resource_tree.proofs.PathLemmas.{path_from_same, by_path_total}
+use Rattle.resource_tree.proofs.PathLemmas.{path_from_same}
 use Rattle.resource_tree.proofs.EntriesInOrder.{same_in_order}
 
 pub keys_of-filter : (p : List (List ℕ) → Bool) (tree : Content) → keys_of (filter (λ e. p e.0) tree) ≡ filter p (keys_of tree)

@@ -1,6 +1,7 @@
 -- Hosts that are at fault.
 use Rattle.std.proofs.Common.{◌≡◌, ◌≢◌, ◌⊎◌, inl, inr, ℕ, Bool, true, false, cond, eqb, List, [], Option, Some, None, Ok, Err, codes, length, refl, ap, sym, ◌∙◌, subst}
 use Rattle.sp_base.specs.Limits.{greatest_port}
+use Rattle.sp_base.proofs.ListLemmas.{nil_from_test}
 use Rattle.glob_rules.specs.Reading.{glob_of}
 use Rattle.glob_rules.specs.declared.fault.GlobFault.{GlobFault}
 use Rattle.glob_rules.specs.declared.piece.GlobPiece.{GlobPiece}
@@ -12,7 +13,7 @@ use Rattle.any_config.specs.declared.node.AnyNode.{AnyNode}
 use Rattle.rule_laws.specs.FarmFaults.{IsNoWord, IsBadHostText, IsBadHost}
 use Rattle.rule_laws.specs.FarmTable.{IsServedHost}
 use Rattle.rule_laws.proofs.MemberLemmas.{word_found, word_only}
-use Rattle.rule_laws.proofs.HostLemmas.{Cut, colon_at, cut_of, no_bytes, no_colon, served_found, served_only}
+use Rattle.rule_laws.proofs.HostLemmas.{Cut, colon_at, cut_of, no_colon, served_found, served_only}
 use Rattle.rule_laws.proofs.FaultLemmas.{Row, bad_number, fault_is, glob_fails, no_word, split}
 
 -- no glob reads this text, told by a name
@@ -66,7 +67,7 @@ bytes_of : (name : List ℕ) → name ≢ [] → eqb (length name) 0 ≡ false
 bytes_of name some = go (eqb (length name) 0) refl
   where
     go : (x : Bool) → eqb (length name) 0 ≡ x → x ≡ false
-    go true is = absurd (some (no_bytes name is))
+    go true is = absurd (some (nil_from_test name is))
     go false is = refl
 
 pub host_row : (fault : FarmFault) (m : List ℕ × AnyNode) → Row (served_host m) ((h : VirtualHost) × IsServedHost m h) fault (IsBadHost m fault)
@@ -88,7 +89,7 @@ host_row fault m = record {
         side (inr bad) = bad
 
     go : (x : Bool) → eqb (length m.0) 0 ≡ x → cond x (host_word m.1) (Err (BadKind m.0)) ≡ Err fault → IsBadHost m fault
-    go true is e = of_word (no_bytes m.0 is) e
+    go true is e = of_word (nil_from_test m.0 is) e
     go false is e = subst (λ (f : FarmFault). IsBadHost m f) (fault_is (BadKind m.0) fault e) (IsBadHost.Named (some_bytes m.0 is))
 
     unnamed : (f : FarmFault) → m.0 ≡ [] → host_word m.1 ≡ Err f → cond (eqb (length m.0) 0) (host_word m.1) (Err (BadKind m.0)) ≡ Err f

@@ -1,9 +1,10 @@
 -- Hosts, and the one at which the publisher is asked.
-use Rattle.std.proofs.Common.{◌≡◌, ℕ, Bool, true, false, cond, eqb, List, [], ◌∷◌, ◌++◌, Option, Some, None, Ok, Err, codes, length, refl, ap, sym, ◌∙◌, subst, arith}
+use Rattle.std.proofs.Common.{◌≡◌, ℕ, Bool, true, false, cond, eqb, List, [], ◌∷◌, ◌++◌, Option, Some, None, Ok, Err, codes, length, refl, ap, sym, ◌∙◌, subst}
 use Rattle.std.specs.Prelude.{unwrap_or}
 use Rattle.std.specs.List.{AllZip}
 use Rattle.std.proofs.lemmas.Bool.{eqb-true, eqb-false, ne_eqb}
 use Rattle.sp_base.specs.Limits.{greatest_port, http_port}
+use Rattle.sp_base.proofs.ListLemmas.{nil_from_test}
 use Rattle.glob_rules.specs.Reading.{glob_of}
 use Rattle.any_config.specs.Farms.{◌>>=◌, decimal, member_word, or_bad, glob, cut_again, at_last_colon, host_cut, host, served_host, asked_cut, asked_in, publisher_address, name_or_localhost}
 use Rattle.any_config.specs.Read.{Members}
@@ -73,10 +74,6 @@ host_made name text part g port (IsHostText.AtPort {host = before} {port = digit
 
 -- ---- served hosts
 
-pub no_bytes : (name : List ℕ) → eqb (length name) 0 ≡ true → name ≡ []
-no_bytes [] e = refl
-no_bytes (c ∷ name) e = let f = eqb-true (length (c ∷ name)) 0 e in absurd (omega (arith, f))
-
 pub served_found : (m : List ℕ × AnyNode) (h : VirtualHost) → served_host m ≡ Ok h → IsServedHost m h
 unfolding served_host
 served_found m h e = go (eqb (length m.0) 0) refl e
@@ -85,7 +82,7 @@ served_found m h e = go (eqb (length m.0) 0) refl e
     go true is f =
         let w = bind_found (member_word (codes "virtualhosts") m.1) (λ text. host (codes "virtualhosts") text) h f in
         let cut = host_found (codes "virtualhosts") w.0 h w.2 in
-        record { text = w.0; name = cut.0; unnamed = no_bytes m.0 is; word = word_found (codes "virtualhosts") m.1 w.0 w.1; cut = cut.1; reads = cut.2 }
+        record { text = w.0; name = cut.0; unnamed = nil_from_test m.0 is; word = word_found (codes "virtualhosts") m.1 w.0 w.1; cut = cut.1; reads = cut.2 }
     go false is f = absurd cc
 
 pub served_only : (m : List ℕ × AnyNode) (h : VirtualHost) → IsServedHost m h → served_host m ≡ Ok h

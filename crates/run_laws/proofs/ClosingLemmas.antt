@@ -2,6 +2,7 @@
 use Rattle.std.proofs.Common.{◌≡◌, ℕ, ◌||◌, Bool, true, false, cond, List, [], ◌∷◌, Option, Some, None, refl, ap, sym, subst, ◌∙◌}
 use Rattle.std.specs.Prelude.{if◌then◌else◌}
 use Rattle.std.proofs.lemmas.List.Folds.{list_any-append}
+use Rattle.sp_base.proofs.BoolLemmas.{or_false}
 use Rattle.http_front.specs.Turns.{End}
 use Rattle.http_front.specs.declared.turn.Turn.{Turn}
 use Rattle.http_front.specs.declared.turn.Turn.TheVariants.{Continue, Whole}
@@ -15,12 +16,8 @@ use Rattle.run_laws.proofs.PastLemmas.{Past, longer}
 abbrev IsClosing : Connection → Type 0
 IsClosing d = d.closing ≡ some_closes d.slots
 
-or-none : (b : Bool) → (b || false) ≡ b
-or-none true = refl
-or-none false = refl
-
 closing-slot : (slot : Slot) (d : Connection) → IsClosing d → IsClosing (with_slot slot d)
-closing-slot slot d is = ap (λ b. b || slot.closes) is ∙ ap (λ b. some_closes d.slots || b) (sym (or-none slot.closes)) ∙ sym (list_any-append (λ (s : Slot). s.closes) d.slots (slot ∷ []))
+closing-slot slot d is = ap (λ b. b || slot.closes) is ∙ ap (λ b. some_closes d.slots || b) (sym (or_false slot.closes)) ∙ sym (list_any-append (λ (s : Slot). s.closes) d.slots (slot ∷ []))
 
 closing-turn : (turn : Option Turn) (d : Connection) → IsClosing d → IsClosing (after_turn turn d)
 closing-turn None d is = is

@@ -1,5 +1,6 @@
 -- What is known of each note of an event, in the state in which it comes.
 use Rattle.std.proofs.Common.{◌≡◌, ℕ, ◌+◌, Bool, true, false, List, [], ◌∷◌, Option, Some, None, Result, Ok, Err, IsTrue, refl, subst, ap, inl, inr}
+use Rattle.std.proofs.lemmas.Bool.{true_from_ne_false}
 use Rattle.sp_base.specs.declared.answer.Answer.{Answer}
 use Rattle.sp_base.specs.Requests.{Request}
 use Rattle.cover_rules.specs.declared.page.PageKey.{PageKey}
@@ -98,10 +99,6 @@ AllCome m w [] = Unit {0}
 AllCome m w (note ∷ notes) = Comes m w note × AllCome m (state_after_note w note) notes
 
 -- ---- a request
-up-of : (b : Bool) → (b ≡ false → ⊥) → IsTrue b
-up-of true not_down = refl
-up-of false not_down = absurd (not_down refl)
-
 begins-comes : (m : Conditions) (w : RunState) (c : ℕ) (request : Request) (full : Bool) (inv : Invalidation) (note : Note) → w.slicing ≡ None → treated_request (due_of_connection w c) ≡ Some request → IsTrue (is_up w.log) → BeginsFlush full w c inv note → Comes m w note
 begins-comes m w c request true inv note none treated up is = rw is tt
 begins-comes m w c request false inv note none treated up is = rw is (record { request = request; treated = treated; up = up; next = refl }, none)
@@ -120,13 +117,13 @@ permitted-key w k key same permitted = subst (IsPermitted w) same permitted
 first-comes : (m : Conditions) (w : RunState) (c : ℕ) (request : Request) (note : Note) → w.slicing ≡ None → treated_request (due_of_connection w c) ≡ Some request → IsFirstPoint m w c request note points → Comes m w note
 first-comes m w c request note none treated (inl crowded) = rw crowded.1 tt
 first-comes m w c request note none treated (inr (_, inl fallen)) = rw fallen.1 tt
-first-comes m w c request note none treated (inr (_, inr (up, inl inv))) = invalidation-comes m w c request (allows w.farm.clients (peer_of (w.connection c))) note none treated (up-of (is_up w.log) up) inv.1
+first-comes m w c request note none treated (inr (_, inr (up, inl inv))) = invalidation-comes m w c request (allows w.farm.clients (peer_of (w.connection c))) note none treated (true_from_ne_false (is_up w.log) up) inv.1
 first-comes m w c request note none treated (inr (_, inr (up, inr (_, inl hidden)))) = rw hidden.1 tt
 first-comes m w c request note none treated (inr (_, inr (up, inr (_, inr (_, inl held))))) =
-    rw held.1.2 (record { request = request; treated = treated; up = up-of (is_up w.log) up; key_is = held.1.1; permitted = permitted-key w (key_of w request) held.1.0 held.1.1 held.0 })
+    rw held.1.2 (record { request = request; treated = treated; up = true_from_ne_false (is_up w.log) up; key_is = held.1.1; permitted = permitted-key w (key_of w request) held.1.0 held.1.1 held.0 })
 first-comes m w c request note none treated (inr (_, inr (up, inr (_, inr (_, inr (owed, inl full)))))) = rw full.1 tt
 first-comes m w c request note none treated (inr (_, inr (up, inr (_, inr (_, inr (owed, inr (_, inl free))))))) =
-    rw free.1 (record { request = request; treated = treated; up = up-of (is_up w.log) up; next = refl; key_is = refl; unowed = owed }, none)
+    rw free.1 (record { request = request; treated = treated; up = true_from_ne_false (is_up w.log) up; next = refl; key_is = refl; unowed = owed }, none)
 first-comes m w c request note none treated (inr (_, inr (up, inr (_, inr (_, inr (owed, inr (_, inr (never, _)))))))) = absurd never
 
 -- ---- a note that is due

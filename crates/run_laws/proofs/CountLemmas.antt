@@ -7,6 +7,8 @@ use Rattle.std.proofs.lemmas.Map.{update_apart, update_here}
 use Rattle.std.proofs.lemmas.Bool.{cases_eq, ne_eqb}
 use Rattle.sp_base.specs.declared.answer.Answer.{Answer}
 use Rattle.sp_base.specs.Requests.{Request}
+use Rattle.sp_base.proofs.BoolLemmas.{or_first, or_second, or_swapped}
+use Rattle.sp_base.proofs.OptionLemmas.{is_some-option_map}
 use Rattle.cover_rules.specs.declared.page.PageKey.{PageKey}
 use Rattle.cover_rules.specs.declared.invalidation.Invalidation.{Invalidation}
 use Rattle.http_front.specs.declared.turn.Turn.TheVariants.{Continue, Whole}
@@ -35,19 +37,6 @@ above-rising : (a : ℕ) (numbers : List ℕ) → AreAbove a numbers → AreNumb
 above-rising a [] above = tt
 above-rising a (b ∷ numbers) above = above.1
 
-or-left : (a b : Bool) → (a || b) ≡ false → a ≡ false
-or-left false b e = refl
-or-left true b e = e
-
-or-right : (a b : Bool) → (a || b) ≡ false → b ≡ false
-or-right false b e = e
-or-right true b e = absurd (let never : ⊥ = cc in never)
-
-or-swap : (a b c : Bool) → (a || (b || c)) ≡ (b || (a || c))
-or-swap true true c = refl
-or-swap true false c = refl
-or-swap false b c = refl
-
 -- one number more
 abbrev with_number : ℕ → List ℕ → List ℕ
 with_number c [] = c ∷ []
@@ -60,9 +49,9 @@ above-with a c (d ∷ numbers) less above none = by_test (nat_lt c d) refl (abov
     by_test : (b : Bool) → nat_lt c d ≡ b → (d < c → AreAbove d numbers → is_among c numbers ≡ false → AreAbove d (with_number c numbers)) → AreAbove a (if b then c ∷ d ∷ numbers else d ∷ with_number c numbers)
     by_test true e rest = (less, (grind (arith, e), above.1))
     by_test false e rest =
-        let apart = or-left (nat_eq d c) (is_among c numbers) none in
+        let apart = or_first (nat_eq d c) (is_among c numbers) none in
         let more : d < c = grind (arith, e, apart) in
-        (above.0, rest more above.1 (or-right (nat_eq d c) (is_among c numbers) none))
+        (above.0, rest more above.1 (or_second (nat_eq d c) (is_among c numbers) none))
 
 rising-with : (c : ℕ) (numbers : List ℕ) → AreNumbersRising numbers → is_among c numbers ≡ false → AreNumbersRising (with_number c numbers)
 rising-with c [] rising none = tt
@@ -71,9 +60,9 @@ rising-with c (d ∷ numbers) rising none = by_test (nat_lt c d) refl
     by_test : (b : Bool) → nat_lt c d ≡ b → AreNumbersRising (if b then c ∷ d ∷ numbers else d ∷ with_number c numbers)
     by_test true e = (grind (arith, e), rising)
     by_test false e =
-        let apart = or-left (nat_eq d c) (is_among c numbers) none in
+        let apart = or_first (nat_eq d c) (is_among c numbers) none in
         let more : d < c = grind (arith, e, apart) in
-        above-with d c numbers more rising (or-right (nat_eq d c) (is_among c numbers) none)
+        above-with d c numbers more rising (or_second (nat_eq d c) (is_among c numbers) none)
 
 among-with : (q c : ℕ) (numbers : List ℕ) → is_among q (with_number c numbers) ≡ (nat_eq c q || is_among q numbers)
 among-with q c [] = refl
@@ -81,7 +70,7 @@ among-with q c (d ∷ numbers) = by_test (nat_lt c d) (among-with q c numbers)
   where
     by_test : (b : Bool) → is_among q (with_number c numbers) ≡ (nat_eq c q || is_among q numbers) → is_among q (if b then c ∷ d ∷ numbers else d ∷ with_number c numbers) ≡ (nat_eq c q || is_among q (d ∷ numbers))
     by_test true rest = refl
-    by_test false rest = ap (λ b. nat_eq d q || b) rest ∙ or-swap (nat_eq d q) (nat_eq c q) (is_among q numbers)
+    by_test false rest = ap (λ b. nat_eq d q || b) rest ∙ or_swapped (nat_eq d q) (nat_eq c q) (is_among q numbers)
 
 length-with : (c : ℕ) (numbers : List ℕ) → length (with_number c numbers) ≡ length numbers + 1
 length-with c [] = refl
@@ -163,13 +152,9 @@ pub record SameThere (w v : RunState) : Type 0 where
 counted-same : (w v : RunState) → SameThere w v → AreConnectionsCounted w → AreConnectionsCounted v
 counted-same w v same counted = record { numbers = counted.numbers; rising = counted.rising; each = λ c. same.there c ∙ counted.each c; count = same.count ∙ counted.count }
 
-some-map : {A B : Type 0} (f : A → B) (o : Option A) → is_some (option_map f o) ≡ is_some o
-some-map f None = refl
-some-map f (Some a) = refl
-
 pub there-map : (connection : ℕ → Option Connection) (c : ℕ) (f : Connection → Connection) (q : ℕ) → is_some (update nat_eq connection c (option_map f (connection c)) q) ≡ is_some (connection q)
 there-map connection c f q = ⊎_elim
-    (λ same. subst (λ x. is_some (update nat_eq connection c (option_map f (connection c)) x) ≡ is_some (connection x)) same (ap is_some (update_here connection c (option_map f (connection c))) ∙ some-map f (connection c)))
+    (λ same. subst (λ x. is_some (update nat_eq connection c (option_map f (connection c)) x) ≡ is_some (connection x)) same (ap is_some (update_here connection c (option_map f (connection c))) ∙ is_some-option_map f (connection c)))
     (λ apart. ap is_some (update_apart connection c (option_map f (connection c)) q (λ e. apart (sym e))))
     (cases_eq c q)
 

@@ -1,5 +1,6 @@
 -- What happens in an event that leaves no choice is determined by its step and by how the stream ends.
 use Rattle.std.proofs.Common.{◌≡◌, ◌⊎◌, ℕ, ◌<◌, ◌≤◌, ◌+◌, ◌++◌, ◌||◌, Bool, true, false, List, [], ◌∷◌, Option, Some, None, Result, Ok, Err, IsTrue, refl, ap, sym, subst, ◌∙◌, inl, inr, append-nil, arith, ⊎_elim}
+use Rattle.std.proofs.lemmas.List.{append_cancel_left}
 use Rattle.std.specs.Prelude.{nat_eq}
 use Rattle.std.specs.Map.{update}
 use Rattle.std.specs.Option.{option_map}
@@ -159,15 +160,11 @@ on-none w c g h none = ap (λ o. record w { connection = update nat_eq w.connect
 on-some : (w : RunState) (c : ℕ) (g h : Connection → Connection) (k : Connection) → w.connection c ≡ Some k → g k ≡ h k → on_connection w c g ≡ on_connection w c h
 on-some w c g h k some same = ap (λ o. record w { connection = update nat_eq w.connection c o }) (ap (option_map g) some ∙ ap Some same ∙ sym (ap (option_map h) some))
 
-append-left : (a b c : List Turn) → a ++ b ≡ a ++ c → b ≡ c
-append-left [] b c e = e
-append-left (x ∷ a) b c e = append-left a b c (let tail : a ++ b ≡ a ++ c = cc in tail)
-
 turns-one : Beginnings → (stream : List ℕ) (turns a b : List Turn) (end last : End) → SpellsTurns stream (turns ++ a) end → SpellsTurns stream (turns ++ b) last → a ≡ b
 turns-one law stream turns a b end last one two =
     let first = law stream [] (turns ++ a) (turns ++ b) end last one (subst (λ s. SpellsTurns s (turns ++ b) last) (sym (append-nil stream)) two) in
     let second = law stream [] (turns ++ b) (turns ++ a) last end two (subst (λ s. SpellsTurns s (turns ++ a) end) (sym (append-nil stream)) one) in
-    append-left turns a b (no-more (turns ++ a) (turns ++ b) first.0 second.0 first.1 second.1)
+    append_cancel_left turns a b (no-more (turns ++ a) (turns ++ b) first.0 second.0 first.1 second.1)
 
 closed-fed : (bytes : List ℕ) (turns : List Turn) (ends : End) (k : Connection) → k.closing ≡ true → with_piece bytes turns ends k ≡ k
 closed-fed bytes turns ends k e = rw e refl

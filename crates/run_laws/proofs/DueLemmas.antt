@@ -15,6 +15,7 @@ use Rattle.cache_log.specs.Entries.{LogEntry, FlushOutcome}
 use Rattle.connections.specs.declared.awaited.Awaited.{Awaited}
 use Rattle.connections.specs.Slots.{Response, Slot, is_answered}
 use Rattle.connections.specs.Connections.{Close, Connection, Due, Nothing, Refuse, Send, Treat, due, due_at_slot, due_at_turn, due_without_sending, fresh, next_turn, slots_with_end, with_end, with_piece, with_sent}
+use Rattle.connections.proofs.PlaceLemmas.{length-filled}
 use Rattle.run_events.specs.declared.conditions.Conditions.{Conditions}
 use Rattle.run_events.specs.declared.flying.Flying.{Flying}
 use Rattle.run_events.specs.declared.flying.Flushing.{Flushing}
@@ -22,7 +23,6 @@ use Rattle.run_events.specs.declared.note.Note.{Note}
 use Rattle.run_events.specs.declared.note.Note.TheVariants.{Ask as asked, Hit, Local, Flush, Sliced, Done, Failed, Rendered, Kept, Unkept, Passed, Lost, Sent, Shut, Refused, Idle, Up, Down}
 use Rattle.run_events.specs.States.{RunState}
 use Rattle.run_events.specs.Moves.{GivesDue, GivesNext, Serves, Settles, due_if_open, due_of_connection, first_sliced, flying_at, flush_at, on_connection, over_with, state_after_ask, state_after_ending, state_after_flush, state_after_hit, state_after_note, state_after_notes, treated_request}
-use Rattle.run_laws.proofs.EachLemmas.{length-filled}
 use Rattle.run_laws.proofs.FormLemmas.{IsDueNote, IsRequestNote, IsSliceNote, next-form}
 
 -- ---- a connection without a turn that is due

@@ -1,14 +1,14 @@
 -- Slots that are answered each by its own request's answer.
-use Rattle.std.proofs.Common.{◌≡◌, ℕ, ◌<◌, ◌≤◌, ◌++◌, zero, suc, Bool, true, false, cond, List, [], ◌∷◌, Some, None, length, refl, ap, sym, subst, ◌∙◌, arith}
-use Rattle.std.specs.Prelude.{◌==◌, if◌then◌else◌, slice_get}
+use Rattle.std.proofs.Common.{◌≡◌, ℕ, ◌≤◌, ◌++◌, Bool, true, false, cond, List, [], ◌∷◌, Some, None, length, refl, ap, sym, subst, ◌∙◌, arith}
+use Rattle.std.specs.Prelude.{slice_get}
 use Rattle.sp_base.specs.Requests.{Request}
-use Rattle.error_answers.specs.Errors.{error_answer}
 use Rattle.http_front.specs.declared.turn.Turn.{Turn}
 use Rattle.http_front.specs.declared.turn.Turn.TheVariants.{Continue, Whole}
 use Rattle.connections.specs.Slots.{Awaits, Cached, Fixed, Interim, Response, Says, Slot, interim_slot, is_awaiting, is_same_awaited, local_response}
 use Rattle.connections.specs.declared.awaited.Awaited.{Awaited}
 use Rattle.connections.specs.declared.awaited.Awaited.TheVariants.{Flight, Flush}
 use Rattle.connections.specs.Connections.{slots_with_end, with_response}
+use Rattle.connections.proofs.TurnLemmas.{filled-none, local-waits}
 use Rattle.run_laws.specs.Owned.{AreEach, ByStatus, Treating}
 
 pub each-map : (P Q : Treating → Request → Response → Type 0) → ((treating : Treating) (request : Request) (response : Response) → P treating request response → Q treating request response)
@@ -20,11 +20,6 @@ each-map P Q next [] (Whole r ∷ turns) (s ∷ slots) all = absurd all
 each-map P Q next (x ∷ treatings) (Whole r ∷ turns) (s ∷ slots) all = (next x r s.response all.0, each-map P Q next treatings turns slots all.1)
 
 -- ---- a turn or a fault gets its slot
-pub some-within : {A : Type 0} (xs : List A) (i : ℕ) (x : A) → slice_get xs i ≡ Some x → i < length xs
-some-within [] i x at = absurd (let no : ⊥ = cc in no)
-some-within (y ∷ xs) zero x at = omega arith
-some-within (y ∷ xs) (suc i) x at = omega (arith, some-within xs i x at)
-
 pub each-push : (P : Treating → Request → Response → Type 0) (treatings : List Treating) (turns : List Turn) (slots : List Slot) (treating : Treating) (request : Request) (slot : Slot) → AreEach P treatings turns slots
     → slice_get turns (length slots) ≡ Some (Whole request) → P treating request slot.response → AreEach P (treatings ++ treating ∷ []) turns (slots ++ slot ∷ [])
 each-push P treatings [] [] treating request slot all at is = absurd (let no : ⊥ = cc in no)
@@ -79,29 +74,11 @@ awaiting-is n Fixed e = absurd (let never : ⊥ = cc in never)
 awaiting-is n (Says answer) e = absurd (let never : ⊥ = cc in never)
 awaiting-is n (Cached farm log key) e = absurd (let never : ⊥ = cc in never)
 
-pub local-answered : (n : Awaited) (status : ℕ) → is_awaiting n (local_response status) ≡ false
-local-answered n status = by_test (status == 507)
-  where
-    by_test : (b : Bool) → is_awaiting n (if b then Fixed else Says (error_answer status)) ≡ false
-    by_test true = refl
-    by_test false = refl
-
-filled-none : (n : Awaited) (a : Response) (slots : List Slot) → slots ≡ [] → slots_with_end n a slots ≡ []
-filled-none n a slots e = rw e refl
-
-pub length-filled : (n : Awaited) (a : Response) (slots : List Slot) → length (slots_with_end n a slots) ≡ length slots
-length-filled n a [] = refl
-length-filled n a (s ∷ slots) = by_test (is_awaiting n s.response) (length-filled n a slots)
-  where
-    by_test : (b : Bool) → length (slots_with_end n a slots) ≡ length slots → length (cond b (with_response a s ∷ slots) (s ∷ slots_with_end n a slots)) ≡ length (s ∷ slots)
-    by_test true rest = refl
-    by_test false rest = omega (arith, rest)
-
 pub each-filled : (P Q : Treating → Request → Response → Type 0) (n : Awaited) (a : Response) → ((treating : Treating) (request : Request) (response : Response) → P treating request response → Q treating request response)
     → ((treating : Treating) (request : Request) → P treating request (Awaits n) → Q treating request a) → (treatings : List Treating) (turns : List Turn) (slots : List Slot) → AreEach P treatings turns slots → AreEach Q treatings turns (slots_with_end n a slots)
 each-filled P Q n a next lands treatings turns [] all = all
 each-filled P Q n a next lands treatings [] (s ∷ slots) all =
-    let still : is_awaiting n s.response ≡ false = ap (is_awaiting n) all.response_is ∙ local-answered n all.status in
+    let still : is_awaiting n s.response ≡ false = ap (is_awaiting n) all.response_is ∙ local-waits n all.status in
     rw still (record { status = all.status; noted = all.noted; last = filled-none n a slots all.last; response_is = all.response_is })
 each-filled P Q n a next lands treatings (Continue ∷ turns) (s ∷ slots) all =
     let still : is_awaiting n s.response ≡ false = ap (is_awaiting n) all.0 in

@@ -19,7 +19,6 @@ pub mod KeptLemmas
 pub mod RunKeptLemmas
 pub mod StreamLemmas
 pub mod CuttingLemmas
-pub mod StillLemmas
 pub mod RenderLemmas
 pub mod CountLemmas
 pub mod EachLemmas

@@ -5,6 +5,7 @@ use Rattle.std.specs.Map.{update}
 use Rattle.std.specs.List.{Contains}
 use Rattle.sp_base.specs.declared.answer.Answer.{Answer}
 use Rattle.sp_base.specs.Requests.{Request}
+use Rattle.sp_base.proofs.ListLemmas.{contains_first}
 use Rattle.any_config.specs.declared.farm.Farm.{Farm}
 use Rattle.cover_rules.specs.declared.page.PageKey.{PageKey}
 use Rattle.cover_rules.specs.declared.invalidation.Invalidation.{Invalidation}
@@ -13,7 +14,7 @@ use Rattle.cache_log.specs.Flown.{IsLanding, IsPermittedBy, IsPermittedHit, IsUn
 use Rattle.cache_log.specs.Hits.{Covers, IsClear, MayHit}
 use Rattle.cache_log.specs.Rules.{Allowed, CallConditions, IsIdle, IsLegal, KeepsBound}
 use Rattle.cache_log.proofs.LegalLemmas.{legal-place}
-use Rattle.cache_log.proofs.PlaceLemmas.{first-within, rest-within}
+use Rattle.cache_log.proofs.PlaceLemmas.{rest-within}
 use Rattle.connections.specs.Connections.{Connection, fresh}
 use Rattle.connections.specs.Slots.{Response}
 use Rattle.run_events.specs.declared.flying.Flying.{Flying}
@@ -180,7 +181,7 @@ hits-fresh permits after s events begins run later key log is answer hit since f
 -- ---- replies in flight
 clear-begun : (farm : Farm) (flush : ℕ) (inv : Invalidation) (before : List LogEntry) (n : ℕ) (key : PageKey) (earlier : List LogEntry) → ((other : Option PageKey) → Contains earlier (Asked n other) → ⊥) → Covers farm inv key → IsClear farm (earlier ++ Begun flush inv ∷ before) n key → ⊥
 clear-begun farm flush inv before n key [] none covers clear = clear.0 covers
-clear-begun farm flush inv before n key (Asked m k ∷ earlier) none covers (inl here) = none k (subst (λ x. Contains (Asked m k ∷ earlier) (Asked x k)) here.0 (first-within (Asked m k) earlier))
+clear-begun farm flush inv before n key (Asked m k ∷ earlier) none covers (inl here) = none k (subst (λ x. Contains (Asked m k ∷ earlier) (Asked x k)) here.0 (contains_first (Asked m k) earlier))
 clear-begun farm flush inv before n key (Asked m k ∷ earlier) none covers (inr clear) = clear-begun farm flush inv before n key earlier (λ other h. none other (rest-within (Asked m k) earlier (Asked n other) h)) covers clear.1
 clear-begun farm flush inv before n key (Begun v i ∷ earlier) none covers clear = clear-begun farm flush inv before n key earlier (λ other h. none other (rest-within (Begun v i) earlier (Asked n other) h)) covers clear.1
 clear-begun farm flush inv before n key (e ∷ earlier) none covers clear = clear-begun farm flush inv before n key earlier (λ other h. none other (rest-within e earlier (Asked n other) h)) covers clear

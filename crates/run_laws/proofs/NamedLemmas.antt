@@ -1,5 +1,5 @@
 -- In every run each key of a note is that of a page, and each handle a path.
-use Rattle.std.proofs.Common.{◌≡◌, ◌+◌, ◌++◌, ◌||◌, ◌&&◌, ◌∙◌, ℕ, zero, suc, Bool, true, false, not, cond, List, [], ◌∷◌, Option, Some, None, Result, Ok, Err, length, map, refl, ap, sym, subst, inl, inr, ⊎_elim}
+use Rattle.std.proofs.Common.{◌≡◌, ◌+◌, ◌++◌, ◌&&◌, ◌∙◌, ℕ, zero, suc, Bool, true, false, not, cond, List, [], ◌∷◌, Option, Some, None, Result, Ok, Err, length, map, refl, ap, sym, subst, inl, inr, ⊎_elim}
 use Rattle.std.specs.Prelude.{if◌then◌else◌, nat_eq, nat_le, slice_get}
 use Rattle.std.specs.List.{find}
 use Rattle.std.specs.Map.{update}
@@ -8,6 +8,7 @@ use Rattle.std.proofs.lemmas.Map.{update_apart, update_here}
 use Rattle.std.proofs.lemmas.Bool.{cases_eq}
 use Rattle.sp_base.specs.declared.answer.Answer.{Answer}
 use Rattle.sp_base.specs.Requests.{Request}
+use Rattle.sp_base.proofs.BoolLemmas.{or_first}
 use Rattle.glob_rules.specs.Rules.{allows}
 use Rattle.cover_rules.specs.declared.page.PageKey.{PageKey}
 use Rattle.cover_rules.specs.declared.invalidation.Invalidation.{Invalidation}
@@ -93,12 +94,8 @@ TurnsHavePaths connection = (c : ℕ) (k : Connection) → connection c ≡ Some
 abbrev Keeps : Connection → Connection → Type 0
 Keeps c d = d.closing ≡ false → (c.closing ≡ false) × (d.turns ≡ c.turns)
 
-or-left : (a b : Bool) → (a || b) ≡ false → a ≡ false
-or-left false b e = refl
-or-left true b e = e
-
 slot-keeps : (slot : Slot) (c : Connection) → Keeps c (with_slot slot c)
-slot-keeps slot c e = (or-left c.closing slot.closes e, refl)
+slot-keeps slot c e = (or_first c.closing slot.closes e, refl)
 
 turn-keeps : (turn : Option Turn) (c : Connection) → Keeps c (after_turn turn c)
 turn-keeps None c e = (e, refl)

@@ -1,10 +1,11 @@
 -- Which request a flight in the air is for, and what was rendered for it.
-use Rattle.std.proofs.Common.{◌≡◌, ◌≢◌, ℕ, ◌+◌, ◌<◌, ◌≤◌, ◌++◌, Bool, true, false, List, [], ◌∷◌, Option, Some, None, length, map, refl, ap, sym, subst, ◌∙◌, arith, inl, inr, ⊎_elim, append_assoc, length-append}
+use Rattle.std.proofs.Common.{◌≡◌, ◌≢◌, ℕ, ◌+◌, ◌<◌, ◌≤◌, ◌++◌, Bool, true, false, List, [], ◌∷◌, Some, None, length, map, refl, ap, sym, subst, ◌∙◌, arith, inl, inr, ⊎_elim, append_assoc, length-append}
 use Rattle.std.specs.Prelude.{nat_eq, if◌then◌else◌}
 use Rattle.std.specs.Option.{option_map}
 use Rattle.std.proofs.lemmas.Bool.{cases_eq, ne_eqb}
 use Rattle.sp_base.specs.declared.answer.Answer.{Answer}
 use Rattle.sp_base.specs.Requests.{Request}
+use Rattle.sp_base.proofs.OptionLemmas.{option_map-some}
 use Rattle.connections.specs.declared.awaited.Awaited.TheVariants.{Flight, Flush}
 use Rattle.connections.specs.Slots.{Awaits, Cached, Fixed, Interim, Response, Says, local_response}
 use Rattle.run_events.specs.declared.flying.Flying.{Flying}
@@ -316,10 +317,6 @@ moved-lost flights most n f outcomes here within are = record {
         never
 
 -- ---- a flight is rendered
-some-map : {A B : Type 0} (g : A → B) (o : Option A) (b : B) → option_map g o ≡ Some b → (a : A) × (o ≡ Some a) × (g a ≡ b)
-some-map g None b e = absurd (let no : ⊥ = cc in no)
-some-map g (Some a) b e = (a, refl, let same : g a ≡ b = cc in same)
-
 request-rendered : (m : ℕ) (answer : Answer) (f : Flying) → (with_rendered_at m answer f).request ≡ f.request
 request-rendered m answer f = by_test (nat_eq f.number m)
   where
@@ -333,7 +330,7 @@ moved-rendered flights most g answer out_of_memory outcomes here are = record {
   asked = λ n request is. record {
     within = is.within;
     same = λ f there.
-        let from = some-map (with_rendered_at g.number answer) (flying_at n flights) f (sym (at-rendered n g.number answer flights) ∙ there) in
+        let from = option_map-some (with_rendered_at g.number answer) (flying_at n flights) f (sym (at-rendered n g.number answer flights) ∙ there) in
         ap (λ (h : Flying). h.request) (sym from.2) ∙ request-rendered g.number answer from.0 ∙ is.same from.0 from.1;
   };
   grown = record { rendered = later-rendered outcomes.renders (rendering ∷ []); lost = λ n was. was; ended = λ v status was. was };
@@ -341,7 +338,7 @@ moved-rendered flights most g answer out_of_memory outcomes here are = record {
   unlost = λ n is was. was;
   air_is = record {
     rendered = λ n f other there has.
-        let from = some-map (with_rendered_at g.number answer) (flying_at n flights) f (sym (at-rendered n g.number answer flights) ∙ there) in
+        let from = option_map-some (with_rendered_at g.number answer) (flying_at n flights) f (sym (at-rendered n g.number answer flights) ∙ there) in
         by_number n f other from.0 from.1 from.2 has (nat_eq from.0.number g.number) refl;
     lost = λ n was. still n (are.lost n was);
   };

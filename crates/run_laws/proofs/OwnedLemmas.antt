@@ -4,6 +4,7 @@ use Rattle.std.specs.Prelude.{if◌then◌else◌, nat_eq, slice_get}
 use Rattle.std.specs.Option.{option_map}
 use Rattle.std.specs.Map.{update}
 use Rattle.std.proofs.lemmas.Map.{update_here}
+use Rattle.std.proofs.lemmas.Option.{slice_get_within}
 use Rattle.sp_base.specs.declared.answer.Answer.{Answer}
 use Rattle.sp_base.specs.Requests.{Request}
 use Rattle.cover_rules.specs.declared.page.PageKey.{PageKey}
@@ -21,6 +22,8 @@ use Rattle.connections.specs.Connections.{Close, Connection, Due, Nothing, Refus
 use Rattle.connections.specs.Connections as model
 use Rattle.connections.specs.Histories.{IsAtRest}
 use Rattle.connections.specs.declared.sending.Sending.{Sending}
+use Rattle.connections.proofs.PlaceLemmas.{length-filled}
+use Rattle.connections.proofs.TurnLemmas.{local-waits}
 use Rattle.run_events.specs.declared.conditions.Conditions.{Conditions}
 use Rattle.run_events.specs.declared.flying.Flying.{Flying}
 use Rattle.run_events.specs.declared.flying.Flushing.{Flushing}
@@ -31,7 +34,7 @@ use Rattle.run_events.specs.States.{RunState}
 use Rattle.run_laws.specs.Histories.{sent_by}
 use Rattle.run_laws.specs.Owned.{AreEach, ByFlight, ByFlush, ByHit, ByStatus, FlushEnding, HasFlushEnding, IsOfFlight, Outcomes, Treating, treated_by}
 use Rattle.run_laws.proofs.AskLemmas.{Numbered, are-rising}
-use Rattle.run_laws.proofs.EachLemmas.{each-fault, each-filled, each-interim, each-map, each-more, each-push, length-filled, local-answered, some-within}
+use Rattle.run_laws.proofs.EachLemmas.{each-fault, each-filled, each-interim, each-map, each-more, each-push}
 use Rattle.run_laws.proofs.FormLemmas.{IsRequestNote, treated-form}
 use Rattle.run_laws.proofs.HistoryLemmas.{Held, asked-changes, flush-changes, hit-changes}
 use Rattle.run_laws.proofs.OutcomeLemmas.{Agrees, IsAskedFor, IsOfAir, IsOver, Moved, asked-new, flights-moved, moved-asked, moved-ended, moved-same, with_endings}
@@ -133,7 +136,7 @@ or-true false e = let never : ⊥ = cc in never
 owns-interim : (w : RunState) (outcomes : Outcomes) (treatings : List Treating) (d : Connection) → next_turn d ≡ Some Continue → Owns w outcomes treatings d → Owns w outcomes treatings (with_slot interim_slot d)
 owns-interim w outcomes treatings d next owns = record {
   each = each-interim (IsOfAir w.flights (flights_asked w.log) outcomes) treatings d.turns d.slots owns.each next;
-  room = λ stays. omega (arith, some-within d.turns (length d.slots) Continue next, length-append d.slots (interim_slot ∷ []));
+  room = λ stays. omega (arith, slice_get_within d.turns (length d.slots) Continue next, length-append d.slots (interim_slot ∷ []));
 }
 
 owns-turn : (w : RunState) (outcomes : Outcomes) (treatings : List Treating) (d : Connection) (o : Option Turn) → next_turn d ≡ o → Owns w outcomes treatings d → Owns w outcomes treatings (after_turn o d)
@@ -152,7 +155,7 @@ owns-request : (w : RunState) (outcomes : Outcomes) (treatings : List Treating) 
     → IsOfAir w.flights (flights_asked w.log) outcomes treating request slot.response → Owns w outcomes treatings d → Owns w outcomes (treatings ++ treating ∷ []) (with_turn_slot slot d)
 owns-request w outcomes treatings d treating request slot next is owns = owns-advanced w outcomes (treatings ++ treating ∷ []) (with_slot slot d) (record {
   each = each-push (IsOfAir w.flights (flights_asked w.log) outcomes) treatings d.turns d.slots treating request slot owns.each next is;
-  room = λ stays. omega (arith, some-within d.turns (length d.slots) (Whole request) next, length-append d.slots (slot ∷ []));
+  room = λ stays. omega (arith, slice_get_within d.turns (length d.slots) (Whole request) next, length-append d.slots (slot ∷ []));
 })
 
 owns-fault : (w : RunState) (outcomes : Outcomes) (treatings : List Treating) (d : Connection) (slot : Slot) (status : ℕ) → next_turn d ≡ None → d.closing ≡ false → slot.closes ≡ true → slot.response ≡ local_response status → Owns w outcomes treatings d
@@ -317,7 +320,7 @@ owns-landed w v outcomes all treatings n answer d moves good owns = record {
     self = grind arith
 
     lands : (treating : Treating) (request : Request) → IsOfAir w.flights (flights_asked w.log) outcomes treating request (Awaits (flight_awaited n)) → IsOfAir v.flights (flights_asked v.log) all treating request (Says answer)
-    lands (ByStatus status) request is = absurd (let waits : true ≡ false = sym self ∙ ap (is_awaiting (flight_awaited n)) is ∙ local-answered (flight_awaited n) status in let never : ⊥ = cc in never)
+    lands (ByStatus status) request is = absurd (let waits : true ≡ false = sym self ∙ ap (is_awaiting (flight_awaited n)) is ∙ local-waits (flight_awaited n) status in let never : ⊥ = cc in never)
     lands (ByHit farm log key) request is = absurd (cc is)
     lands (ByFlush u) request is = absurd is
     lands (ByFlight k) request is = good k request is.0 is.1
@@ -334,7 +337,7 @@ owns-flushed w v outcomes all treatings u status d moves ended owns = record {
     self = grind arith
 
     ends : (treating : Treating) (request : Request) → IsOfAir w.flights (flights_asked w.log) outcomes treating request (Awaits (flush_awaited u)) → IsOfAir v.flights (flights_asked v.log) all treating request (Says (error_answer status))
-    ends (ByStatus other) request is = absurd (let waits : true ≡ false = sym self ∙ ap (is_awaiting (flush_awaited u)) is ∙ local-answered (flush_awaited u) other in let never : ⊥ = cc in never)
+    ends (ByStatus other) request is = absurd (let waits : true ≡ false = sym self ∙ ap (is_awaiting (flush_awaited u)) is ∙ local-waits (flush_awaited u) other in let never : ⊥ = cc in never)
     ends (ByHit farm log key) request is = absurd (cc is)
     ends (ByFlush k) request is = (status, subst (λ x. HasFlushEnding all.endings x status) is ended, refl)
     ends (ByFlight k) request is = absurd is

@@ -1,9 +1,10 @@
 -- A connection's past: what came, what was sent, and which stream it has read.
-use Rattle.std.proofs.Common.{◌≡◌, ℕ, ◌<◌, ◌++◌, ◌||◌, Bool, true, false, List, [], ◌∷◌, Option, Some, None, refl, ap, sym, subst, ◌∙◌, arith, inl, append-nil, append_assoc, length-append}
+use Rattle.std.proofs.Common.{◌≡◌, ℕ, ◌<◌, ◌++◌, Bool, true, false, List, [], ◌∷◌, Option, Some, None, refl, ap, sym, subst, ◌∙◌, arith, inl, append-nil, append_assoc, length-append}
 use Rattle.std.specs.Prelude.{if◌then◌else◌, length}
 use Rattle.std.proofs.lemmas.List.Elements.{All-nil, All-push}
 use Rattle.std.proofs.lemmas.Str.{IsUtf8-from_ascii}
 use Rattle.std.proofs.lemmas.Str.Ascii.{IsAscii-cons, IsAscii-nil}
+use Rattle.sp_base.proofs.BoolLemmas.{or_first}
 use Rattle.httparse.specs.Grammar.{RequestHead, IsRequestHead, HasNoRequest, MayBecomeRequest, is_token_byte, is_uri_byte, print_blank, print_end, print_request, print_section, print_version, lf}
 use Rattle.http_front.specs.Turns.{End, SpellsTurns, Waits}
 use Rattle.http_front.specs.declared.turn.Turn.{Turn}
@@ -35,12 +36,8 @@ same-then a b c first next = record {
   closing = λ e. first.closing (next.closing e);
 }
 
-or-false : (a b : Bool) → (a || b) ≡ false → a ≡ false
-or-false false b e = refl
-or-false true b e = e
-
 same-slot : (slot : Slot) (d : Connection) → Same d (with_slot slot d)
-same-slot slot d = record { stream = refl; turns = refl; ends = refl; closing = or-false d.closing slot.closes }
+same-slot slot d = record { stream = refl; turns = refl; ends = refl; closing = or_first d.closing slot.closes }
 
 same-turn : (turn : Option Turn) (d : Connection) → Same d (after_turn turn d)
 same-turn None d = same-here d

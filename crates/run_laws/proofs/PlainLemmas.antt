@@ -2,13 +2,14 @@
 use Rattle.std.proofs.Common.{◌≡◌, ℕ, zero, suc, ◌++◌, Bool, true, false, List, [], ◌∷◌, Option, Some, None, refl, subst, cond}
 use Rattle.std.specs.Prelude.{if◌then◌else◌, slice_get}
 use Rattle.std.specs.List.{AllByRecursion}
-use Rattle.http_front.specs.Turns.{Breaks, End, Waits}
+use Rattle.http_front.specs.Turns.{End}
 use Rattle.http_front.specs.declared.turn.Turn.{Turn}
 use Rattle.http_front.specs.declared.turn.Turn.TheVariants.{Continue, Whole}
 use Rattle.connections.specs.declared.awaited.Awaited.{Awaited}
 use Rattle.connections.specs.Slots.{Cached, Response, Slot, interim_slot, is_answered, is_awaiting}
-use Rattle.connections.specs.Connections.{Close, Connection, Due, Nothing, Refuse, Send, Treat, after_turn, due_at_end, due_at_slot, due_at_turn, due_without_sending, fresh, next_turn, slots_with_end, with_due_continue, with_end, with_piece, with_response, with_sent, with_slot}
+use Rattle.connections.specs.Connections.{Close, Connection, Due, Refuse, Send, Treat, after_turn, due_at_end, due_at_slot, due_without_sending, fresh, next_turn, slots_with_end, with_due_continue, with_end, with_piece, with_response, with_sent, with_slot}
 use Rattle.connections.specs.Connections as model
+use Rattle.connections.proofs.HistoryLemmas.{without_sending-no-send}
 
 -- the response isn't any of those that a hit may give
 abbrev pub IsPlain : Response → Type 0
@@ -58,16 +59,6 @@ plain-at (s ∷ slots) zero slot are at = let same : s ≡ slot = cc at in subst
 plain-at (s ∷ slots) (suc i) slot are at = plain-at slots i slot are.1 at
 
 -- ---- what is due to be sent
-turn-no-send : (o : Option Turn) (ends : End) (slot : Slot) → due_at_turn o ends ≡ Send slot → ⊥
-turn-no-send None Waits slot e = let never : ⊥ = cc in never
-turn-no-send None (Breaks fault) slot e = let never : ⊥ = cc in never
-turn-no-send (Some turn) ends slot e = let never : ⊥ = cc in never
-
-without_sending-no-send : (over closing : Bool) (o : Option Turn) (ends : End) (slot : Slot) → cond over Close (cond closing Nothing (due_at_turn o ends)) ≡ Send slot → ⊥
-without_sending-no-send true closing o ends slot e = let never : ⊥ = cc in never
-without_sending-no-send false true o ends slot e = let never : ⊥ = cc in never
-without_sending-no-send false false o ends slot e = turn-no-send o ends slot e
-
 pub plain-due : (c : Connection) (slot : Slot) → ArePlain c.slots → model.due c ≡ Send slot → IsPlain slot.response
 plain-due c slot are e = by_over c.over e
   where

@@ -13,9 +13,10 @@ use Rattle.run_events.specs.declared.step.Step.TheVariants as step
 use Rattle.run_events.specs.Events.{Event, HappensBy, IsOrFixed, RenderTo, Run, after_event, is_unrendered, picked_flight, state_after_events, state_before_notes}
 use Rattle.run_events.specs.Moves.{content_rendered, flying_at, published_for, state_after_note, state_after_notes}
 use Rattle.run_events.specs.States.{RunState, Start, start_of}
+use Rattle.run_events.proofs.NoteLemmas.{AreStillNotes, IsStillNote, SameContent}
+use Rattle.run_events.proofs.StillEvents.{IsStillStep, step-same, step-still}
 use Rattle.run_laws.specs.Renders.{ArePublished, IsNeverFixed, Rendering, rendered_by, rendering_of, renders_in, renders_of}
 use Rattle.run_laws.proofs.AskLemmas.{Numbered, picked-there, step-numbered}
-use Rattle.run_laws.proofs.StillLemmas.{AreStillNotes, IsStillNote, IsStillStep, SameContent, step-same, step-still}
 
 -- ---- an event without a render
 note-renders : (w : RunState) (out_of_memory : Bool) (note : Note) → IsStillNote note → rendered_by w out_of_memory note ≡ []

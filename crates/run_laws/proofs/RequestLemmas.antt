@@ -8,6 +8,7 @@ use Rattle.sp_base.specs.Requests.{Request}
 use Rattle.sp_base.specs.Fields.{field_of}
 use Rattle.sp_base.specs.Paths.{is_path, path_in, path_of, unmangled_segs}
 use Rattle.sp_base.specs.declared.path.PathFault.{PathFault}
+use Rattle.sp_base.proofs.OptionLemmas.{cond_some_same}
 use Rattle.glob_rules.specs.Rules.{allows}
 use Rattle.any_config.specs.declared.farm.Farm.{Farm}
 use Rattle.cover_rules.specs.Pages.{page_key_of, page_text}
@@ -107,14 +108,10 @@ turns-have-paths reads stream (Continue ∷ Continue ∷ turns) end spells = abs
 turns-have-paths reads stream (Continue ∷ Whole request ∷ turns) end spells = (request-path reads stream true request spells.0 spells.1, turns-have-paths reads spells.0 turns end spells.2)
 
 -- ---- the key of a request
-allowed-same : (allowed : Bool) (k key : PageKey) → (if allowed then Some k else None) ≡ Some key → k ≡ key
-allowed-same true k key e = cc (e)
-allowed-same false k key e = absurd (let never : ⊥ = cc in never)
-
 kept-key : (farm : Farm) (may : Bool) (at : Option PageKey) (key : PageKey) → (if may then option_and_then (allowed_key farm) at else None) ≡ Some key → at ≡ Some key
 kept-key farm false at key e = absurd (let never : ⊥ = cc in never)
 kept-key farm true None key e = absurd (let never : ⊥ = cc in never)
-kept-key farm true (Some k) key e = ap (λ x. Some x) (allowed-same (allows farm.rules (page_text k)) k key e)
+kept-key farm true (Some k) key e = ap (λ x. Some x) (cond_some_same (allows farm.rules (page_text k)) k key e)
 
 -- it is a page's
 pub key-of-page : KeysAreOfPaths → (farm : Farm) (request : Request) (key : Option PageKey) → HasPath request → cache_key farm request ≡ key → IsPage key

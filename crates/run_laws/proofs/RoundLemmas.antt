@@ -22,10 +22,11 @@ use Rattle.run_events.specs.declared.step.Step.TheVariants as step
 use Rattle.run_events.specs.States.{AirRises, RunState}
 use Rattle.run_events.specs.Moves.{due_of_connection, flying_at, flush_at, has_number, new_flight, over_with, state_after_ask, state_after_ending, state_after_flush, state_after_hit, state_after_note, state_after_notes, treated_request, with_rendered, with_rendered_at, air_without}
 use Rattle.run_events.specs.Events.{DeliverAs, DeliverTo, Event, HappensBy, LeadsNotes, LoseTo, PurgeTo, RenderTo, going, is_any, is_rendered, is_unrendered, most_connections, opening, picked_flight, state_after_going, state_after_opening, state_before_notes}
+use Rattle.run_events.proofs.NoteLemmas.{AreStillNotes, IsStillNote}
+use Rattle.run_events.proofs.StillEvents.{IsStillStep, step-still}
 use Rattle.run_laws.specs.Rounds.{AreUnrendered, BringsBytes, LeavesFlights, LeavesUnrendered, TreatsNoTurn}
 use Rattle.run_laws.proofs.DueLemmas.{HasNoTurns, IsSendingNote, OnlySend, ending-turns, over-turns, serves-send}
 use Rattle.run_laws.proofs.FormLemmas.{AreCutNotes, IsCutNote, IsLandingNote, IsSliceNote, landing-form, restart-cut, slice-form}
-use Rattle.run_laws.proofs.StillLemmas.{AreStillNotes, IsStillNote, IsStillStep, step-still}
 
 -- ---- the first flight
 others-stay : (n least : ℕ) (flights : List Flying) (most : ℕ) → n ≤ least → AirRises least flights most → air_without n flights ≡ flights

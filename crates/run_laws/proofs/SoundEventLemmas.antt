@@ -114,10 +114,6 @@ come-append : (m : Conditions) (w : RunState) (notes more : List Note) → AllCo
 come-append m w [] more come rest = rest
 come-append m w (note ∷ notes) more come rest = (come.0, come-append m (state_after_note w note) notes more come.1 rest)
 
-notes-append : (w : RunState) (notes more : List Note) → state_after_notes w (notes ++ more) ≡ state_after_notes (state_after_notes w notes) more
-notes-append w [] more = refl
-notes-append w (note ∷ notes) more = notes-append (state_after_note w note) notes more
-
 -- each flight in the air is lost
 losses-come : (m : Conditions) (w : RunState) (flights : List Flying) → IsSound w → w.flights ≡ flights → AllCome m w (map (λ (f : Flying). Lost f.number) flights)
 losses-come m w [] sound is = tt

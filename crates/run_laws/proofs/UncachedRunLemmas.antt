@@ -23,6 +23,7 @@ use Rattle.run_events.specs.Points.{call_conditions}
 use Rattle.run_events.specs.Moves.{due_of_connection, flying_at, flush_at, over_with, state_after_ask, state_after_ending, state_after_flush, state_after_hit, state_after_note, state_after_notes, treated_request}
 use Rattle.run_events.specs.Restarts.{EndsRestart, Restarts, cut_notes, without_connections}
 use Rattle.run_events.specs.Events.{Event, HappensBy, Run, after_event, state_before_notes}
+use Rattle.run_events.proofs.NoteLemmas.{notes_append}
 use Rattle.run_laws.specs.Determined.{AreDetermined, LeavesNoChoice, event_steps}
 use Rattle.run_laws.specs.Logs.{IsBeginning}
 use Rattle.run_laws.specs.Brought.{AreUnhindered, IsUnhindered, StepsAskNoCache, TurnsAskNoCache, UncachedRunsLeaveNoChoice}
@@ -80,10 +81,6 @@ note-reach w note none = refl
 notes-reach : (w : RunState) (notes : List Note) → AllByRecursion IsFree notes → reach (state_after_notes w notes).log ≡ reach w.log
 notes-reach w [] free = refl
 notes-reach w (note ∷ notes) free = notes-reach (state_after_note w note) notes free.1 ∙ note-reach w note free.0.1
-
-notes-then : (w : RunState) (notes more : List Note) → state_after_notes w (notes ++ more) ≡ state_after_notes (state_after_notes w notes) more
-notes-then w [] more = refl
-notes-then w (note ∷ notes) more = notes-then (state_after_note w note) notes more
 
 -- ---- notes of an event
 -- they leave no choice, and the epochs come no further than by one
@@ -163,7 +160,7 @@ restart-free w e unhindered room restarts =
     let cuts = cuts-free w restarts.connections in
     let same : reach v.log ≡ reach w.log = notes-reach (without_connections w) (cut_notes w restarts.connections) cuts in
     let last = last-free e.conditions v restarts.last unhindered.disk_worked unhindered.had_memory (omega (arith, same, room)) restarts.ends in
-    let state : state_after_notes (without_connections w) e.body ≡ state_after_note v restarts.last = ap (state_after_notes (without_connections w)) restarts.notes_are ∙ notes-then (without_connections w) (cut_notes w restarts.connections) (restarts.last ∷ []) in
+    let state : state_after_notes (without_connections w) e.body ≡ state_after_note v restarts.last = ap (state_after_notes (without_connections w)) restarts.notes_are ∙ notes_append (without_connections w) (cut_notes w restarts.connections) (restarts.last ∷ []) in
     record {
       no_choice = rw restarts.notes_are (no-choice-append (cut_notes w restarts.connections) (restarts.last ∷ []) (no-choices (cut_notes w restarts.connections) cuts) (last.0, tt));
       near = rw state (omega (arith, same, last.1));

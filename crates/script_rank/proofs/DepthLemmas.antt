@@ -1,13 +1,12 @@
 -- A path has at most 64 segments, so the name of no script has more selectors.
-use Rattle.std.proofs.Common.{◌≡◌, ◌+◌, ◌≤◌, ◌++◌, ℕ, zero, suc, Bool, true, false, cond, List, [], ◌∷◌, Option, Some, None, Ok, Err, length, take, refl, subst, arith, nat_lt, codes}
+use Rattle.std.proofs.Common.{◌≡◌, ◌+◌, ◌≤◌, ◌++◌, ℕ, zero, suc, Bool, true, false, cond, List, [], ◌∷◌, Some, Ok, Err, length, take, refl, subst, arith, codes}
 use Rattle.std.specs.Prelude.{◌==◌, slice_get, if◌then◌else◌, flat_map}
 use Rattle.std.specs.List.{list_any, position, onto_first}
 use Rattle.std.proofs.lemmas.List.{length-take}
-use Rattle.std.proofs.lemmas.Bool.Decides.{nat_tests}
-use borrow.Author.Tests.{ltb-false}
-use Rattle.sp_base.specs.Paths.{is_empty, is_dots, is_long, pieces, fault_of, unless_fault, size_fault, path_or_fault, path_of, text_of}
-use Rattle.sp_base.specs.declared.path.PathFault.{PathFault}
-use Rattle.sp_base.specs.declared.path.PathFault.TheVariants.{NotAbsolute, EmptySegment, DotSegment, TooDeep}
+use Rattle.sp_base.specs.Paths.{is_empty, is_dots, is_long, pieces, fault_of, path_or_fault, path_of, text_of}
+use Rattle.sp_base.specs.declared.path.PathFault.TheVariants.{NotAbsolute}
+use Rattle.sp_base.proofs.NatLemmas.{zero_from_test}
+use Rattle.sp_base.proofs.PathTests.{no_fault_of_path, pieces_fit}
 use Rattle.resource_tree.specs.Content.{Content, name_of}
 use Rattle.type_chain.specs.declared.type_name.TypeName.{TypeName}
 use Rattle.url_split.specs.declared.decompose.Parts.{Parts}
@@ -17,26 +16,9 @@ use Rattle.script_rank.specs.Ranking.{Candidate, IsOffered, Key, after_slashes, 
 
 -- ---- a path that was read has at most 64 segments
 
-fits : (deep : Bool) (n : ℕ) → nat_lt 64 n ≡ deep → (if deep then Some TooDeep else None) ≡ None → n ≤ 64
-fits true n is h = absurd (cc)
-fits false n is h = ltb-false 64 n is
-
-size_fits : (long : Option ℕ) (n : ℕ) → size_fault long n ≡ None → n ≤ 64
-size_fits None n h = fits (nat_lt 64 n) n refl h
-size_fits (Some place) n h = absurd (cc)
-
-pieces_fit : (empty dots : Bool) (long : Option ℕ) (n : ℕ) → (if empty then Some EmptySegment else (if dots then Some DotSegment else size_fault long n)) ≡ None → n ≤ 64
-pieces_fit true dots long n h = absurd (cc)
-pieces_fit false true long n h = absurd (cc)
-pieces_fit false false long n h = size_fits long n h
-
-no_fault : (fault : Option PathFault) (segs path : List (List ℕ)) → unless_fault fault segs ≡ Ok path → fault ≡ None
-no_fault None segs path h = refl
-no_fault (Some fault) segs path h = absurd (cc)
-
 checked-short : (segs path : List (List ℕ)) → path_or_fault segs ≡ Ok path → length segs ≤ 64
 checked-short segs path e =
-    pieces_fit (list_any is_empty segs) (list_any is_dots segs) (position is_long segs) (length segs) (no_fault (fault_of segs) segs path e)
+    pieces_fit (list_any is_empty segs) (list_any is_dots segs) (position is_long segs) (length segs) (no_fault_of_path (fault_of segs) segs path e)
 
 -- ---- so its text has at most 64 slashes
 
@@ -59,12 +41,9 @@ pieces-length (b ∷ text) =
       | false ↦ onto-length b (pieces text) (slashes text) (pieces-length text)
     ]
 
-zero_test : (n : ℕ) → (n == 0) ≡ true → n ≡ 0
-zero_test n e = grind (arith, nat_tests)
-
 root-slashes : (text : List ℕ) → is_empty text ≡ true → slashes text ≡ 0
 root-slashes [] e = refl
-root-slashes (b ∷ text) e = absurd (omega (arith, zero_test (length (b ∷ text)) e))
+root-slashes (b ∷ text) e = absurd (omega (arith, zero_from_test (length (b ∷ text)) e))
 
 rest-slashes : (text : List ℕ) (p : List (List ℕ)) → (if is_empty text then Ok [] else path_or_fault (pieces text)) ≡ Ok p → 1 + slashes text ≤ 64
 rest-slashes text p e =

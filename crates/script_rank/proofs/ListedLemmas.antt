@@ -19,8 +19,10 @@ use Rattle.std.proofs.lemmas.Map.Lookups.{exact_bytes}
 use Rattle.sp_base.specs.Texts.{Segments}
 use Rattle.sp_base.specs.PathExact.{exact_paths}
 use Rattle.sp_base.specs.Paths.{by_path, is_under}
+use Rattle.sp_base.proofs.BoolLemmas.{or_false}
+use Rattle.sp_base.proofs.OrderingLemmas.{by_path_total}
 use Rattle.resource_tree.specs.Content.{same_path}
-use Rattle.resource_tree.proofs.PathLemmas.{by_path_total, path_from_same}
+use Rattle.resource_tree.proofs.PathLemmas.{path_from_same}
 use Rattle.resource_tree.proofs.Under.{under_root, under_self}
 use Rattle.script_rank.specs.Index.{has_path}
 use Rattle.script_rank.specs.ScriptPlaceSearch.{has_under}
@@ -266,10 +268,6 @@ pub gone_more : (first old new gone : List Segments) (i : ℕ) (x q : Segments) 
 gone_more first old new gone i x q within item so_far one =
     one ∙ ap (λ b. b && not (same_path q x)) so_far ∙ both_gone (has_path first q) (has_path (take i gone) q) (same_path q x)
     ∙ ap (λ b. has_path first q && not b) (ap (λ y. has_path (take i gone) q || same_path q y) item ∙ sym (list_any_more (same_path q) gone i x within))
-
-or_false : (a : Bool) → (a || false) ≡ a
-or_false true = refl
-or_false false = refl
 
 pub any_last : (xs : List Segments) (x q : Segments) → has_path (xs ++ x ∷ []) q ≡ (has_path xs q || same_path q x)
 any_last xs x q = list_any-append (same_path q) xs (x ∷ []) ∙ ap (λ b. has_path xs q || b) (or_false (same_path q x))

@@ -1,10 +1,11 @@
 -- The namings of a request stand in the order of their ranks, each with its weight.
 use Rattle.std.proofs.Common.{◌≡◌, ◌+◌, ◌-◌, ◌*◌, ◌<◌, ◌≤◌, ◌++◌, ℕ, zero, suc, Bool, true, false, List, [], ◌∷◌, Some, length, refl, sym, ◌∙◌, ap, subst, ⊎_elim, arith, append_assoc, append-nil}
-use Rattle.std.specs.Prelude.{◌==◌, IsTrue, slice_get, if◌then◌else◌}
+use Rattle.std.specs.Prelude.{IsTrue, slice_get, if◌then◌else◌}
 use Rattle.std.specs.List.{AllByRecursion}
 use Rattle.std.proofs.lemmas.Bool.{cases_eq}
-use Rattle.std.proofs.lemmas.Bool.Decides.{nat_tests}
+use Rattle.std.proofs.lemmas.Option.{same_Some}
 use Rattle.sp_base.specs.Paths.{is_empty}
+use Rattle.sp_base.proofs.NatLemmas.{not_zero, positive}
 use Rattle.url_split.specs.declared.decompose.Parts.{Parts}
 use Rattle.script_rank.specs.declared.naming.Naming.{Naming}
 use Rattle.script_rank.specs.declared.naming.Naming.TheVariants.{SelectorsAndExtension, Selectors, LabelAndExtension, Extension, Label, Method}
@@ -118,9 +119,6 @@ namings-fall parts =
       | false ↦ with-falls html (most_selectors parts) (without_selectors html) (without-below html) (without-falls html)
     ]
 
-same_Some : {A : Type 0} (x y : A) → Some x ≡ Some y → x ≡ y
-same_Some x y e = cc
-
 below-at : (n : ℕ) (xs : List Naming) (j : ℕ) (s : Naming) → AllBelow n xs → slice_get xs j ≡ Some s → weight s < n
 below-at n [] j s h e = absurd (cc)
 below-at n (x ∷ xs) zero s h e = subst (λ y. weight y < n) (same_Some x s e) h.0
@@ -154,9 +152,6 @@ offered-at parts [] i r h e = absurd (cc)
 offered-at parts (x ∷ xs) zero r h e = subst (IsOffered parts) (same_Some x r e) h.0
 offered-at parts (x ∷ xs) (suc i) r h e = offered-at parts xs i r h.1 e
 
-some_length : (n : ℕ) → (n == 0) ≡ false → 0 < n
-some_length n e = grind (arith, nat_tests)
-
 -- there is an extension, and the naming is offered
 pub sound : (parts : Parts) (i : ℕ) (r : Naming) → slice_get (namings parts) i ≡ Some r → (0 < length parts.extension) × IsOffered parts r
 sound parts i r e =
@@ -165,7 +160,7 @@ sound parts i r e =
     elim (is_empty parts.extension) as (λ t. is_empty parts.extension ≡ t → slice_get (if t then [] else all) i ≡ Some r → (0 < length parts.extension) × IsOffered parts r) [
       | true ↦ λ none h. absurd (cc)
       | false ↦ λ some h. (
-        some_length (length parts.extension) some,
+        positive (length parts.extension) some,
         offered-at parts all i r (with-offered parts html (most_selectors parts) (without_selectors html) (λ is. is) (omega arith) (without-offered parts html (λ is. is))) h,
       )
     ] refl e
@@ -219,13 +214,10 @@ among parts false Label is h few = absurd (cc (is, h))
 among parts true Method is h few = remainder true (most_selectors parts) (without_selectors true) _ (later _ _ _ (later _ _ _ (later _ _ _ (first _ _))))
 among parts false Method is h few = absurd (cc (is, h))
 
-full : (n : ℕ) → 0 < n → (n == 0) ≡ false
-full n h = grind (arith, nat_tests)
-
 pub complete : (parts : Parts) (r : Naming) → 0 < length parts.extension → IsOffered parts r → selectors_in r ≤ 64 → Has r (namings parts)
 complete parts r asked offered few =
     let html = is_html parts in
-    subst (λ t. Has r (if t then [] else from html (most_selectors parts) (without_selectors html))) (sym (full (length parts.extension) asked)) (among parts html r refl offered few)
+    subst (λ t. Has r (if t then [] else from html (most_selectors parts) (without_selectors html))) (sym (not_zero (length parts.extension) asked)) (among parts html r refl offered few)
 
 -- ---- the namings that are added one by one
 

@@ -1,21 +1,24 @@
 -- A text of a place, a slash and a name is read as the place with the name below it. No script is below a place that has no kids, or at or below which none
 -- is listed.
-use Rattle.std.proofs.Common.{◌≡◌, ◌≢◌, ◌<◌, ◌++◌, ◌==◌, ℕ, Bool, true, false, cond, not, ◌||◌, List, [], ◌∷◌, Option, Some, None, Result, Ok, Err, length, refl, sym, ◌∙◌, ap, subst, ⊎_elim, arith, append_assoc, append-nil, length-append, codes}
+use Rattle.std.proofs.Common.{◌≡◌, ◌≢◌, ◌++◌, ◌==◌, ℕ, true, false, cond, ◌||◌, List, [], ◌∷◌, Option, Some, None, Result, Ok, Err, length, refl, sym, ◌∙◌, ap, subst, ⊎_elim, arith, append_assoc, append-nil, length-append, codes}
 use Rattle.std.specs.Prelude.{flat_map, is_some, IsSome, nat_eq, slice_index, if◌then◌else◌}
-use Rattle.std.specs.Cmp.Lexicographic.{nat_list_eq_equiv, pointwise}
+use Rattle.std.specs.Cmp.Lexicographic.{pointwise}
 use Rattle.std.specs.Option.{IfNone, MatchOption}
 use Rattle.std.specs.List.{AllByRecursion, list_all, list_any, onto_first}
-use Rattle.std.proofs.lemmas.Bool.{and_from, and_parts, cases_Bool, true≢false}
+use Rattle.std.proofs.lemmas.Bool.{and_parts, cases_Bool, eqb-true, not-false, or_right, true≢false}
 use Rattle.std.proofs.lemmas.Bool.Decides.{nat_tests}
 use Rattle.sp_base.specs.Texts.{Segments}
-use Rattle.sp_base.specs.Paths.{path_or_fault, child_of, fault_of, has_slash, is_dots, is_empty, is_long, is_path, is_under, path_of, pieces, seg_ok, text_of, unless_fault}
+use Rattle.sp_base.specs.Paths.{path_or_fault, child_of, fault_of, has_slash, is_empty, is_path, is_under, path_of, pieces, seg_ok, text_of, unless_fault}
 use Rattle.sp_base.specs.declared.path.PathFault.{PathFault}
 use Rattle.sp_base.specs.declared.path.PathFault.TheVariants.{EmptySegment}
+use Rattle.sp_base.proofs.NatLemmas.{not_zero}
+use Rattle.sp_base.proofs.PathTests.{segment_has_no_slash}
+use Rattle.sp_base.proofs.PathText.{prefix_piece}
 use Rattle.url_split.specs.Split.{known_one}
 use Rattle.resource_tree.specs.Content.{Content, IsTree, kid, name_of, node_at, same_path}
 use Rattle.resource_tree.specs.declared.nodes.Node.{Node}
+use Rattle.resource_tree.proofs.PartThere.{under_append}
 use Rattle.resource_tree.proofs.PathLemmas.{path_from_same}
-use Rattle.resource_tree.proofs.Under.{under_root}
 use Rattle.type_chain.specs.ScriptPlaces.{has_kids}
 use Rattle.script_rank.specs.Index.{has_path}
 use Rattle.script_rank.specs.Ranking.{is_script, is_script_name}
@@ -27,40 +30,16 @@ use Rattle.script_rank.specs.ScriptPlaceSearch.{has_under, script_below}
 abbrev pub LackSlashes : List (List ℕ) → Type 0
 LackSlashes segs = AllByRecursion (λ seg. has_slash seg ≡ false) segs
 
-not_is : (a : Bool) → not a ≡ true → a ≡ false
-not_is true e = absurd (cc)
-not_is false e = refl
-
-seg_lacks : (seg : List ℕ) → seg_ok seg ≡ true → has_slash seg ≡ false
-seg_lacks seg ok =
-    let rest = (and_parts (not (is_empty seg)) _ ok).1 in
-    let more = (and_parts (not (is_dots seg)) _ rest).1 in
-    not_is (has_slash seg) (and_parts (not (is_long seg)) _ more).1
-
 all_lack : (segs : List (List ℕ)) → list_all seg_ok segs ≡ true → LackSlashes segs
 all_lack [] ok = tt
 all_lack (seg ∷ segs) ok =
     let both = and_parts (seg_ok seg) (list_all seg_ok segs) ok in
-    (seg_lacks seg both.0, all_lack segs both.1)
+    (segment_has_no_slash seg both.0, all_lack segs both.1)
 
 pub path_lacks : (segs : List (List ℕ)) → is_path segs ≡ true → LackSlashes segs
 path_lacks segs path = all_lack segs (and_parts (list_all seg_ok segs) _ path).0
 
 -- ---- a place's text with a name below it
-
-or_first : (a b : Bool) → (a || b) ≡ false → a ≡ false
-or_first true b e = e
-or_first false b e = refl
-
-or_second : (a b : Bool) → (a || b) ≡ false → b ≡ false
-or_second true b e = absurd (cc)
-or_second false b e = e
-
-first_piece : (seg rest : List ℕ) (parts : List (List ℕ)) → has_slash seg ≡ false → pieces rest ≡ [] ∷ parts → pieces (seg ++ rest) ≡ seg ∷ parts
-first_piece [] rest parts h e = e
-first_piece (b ∷ seg) rest parts h e =
-    ap (λ t. cond t ([] ∷ pieces (seg ++ rest)) (onto_first b (pieces (seg ++ rest)))) (or_first (b == 47) (has_slash seg) h)
-    ∙ ap (onto_first b) (first_piece seg rest parts (or_second (b == 47) (has_slash seg) h) e)
 
 abbrev spelled : List (List ℕ) → List ℕ
 spelled segs = flat_map (λ s. 47 ∷ s) segs
@@ -69,10 +48,7 @@ pieces-below : (segs : List (List ℕ)) (name : List ℕ) → LackSlashes segs �
 pieces-below [] name lack = refl
 pieces-below (seg ∷ segs) name lack =
     ap (λ parts. [] ∷ parts)
-    (ap pieces (append_assoc seg (spelled segs) (47 ∷ name)) ∙ first_piece seg (spelled segs ++ 47 ∷ name) (segs ++ pieces name) lack.0 (pieces-below segs name lack.1))
-
-not_zero : (n : ℕ) → 0 < n → (n == 0) ≡ false
-not_zero n some = grind (arith, nat_tests)
+    (ap pieces (append_assoc seg (spelled segs) (47 ∷ name)) ∙ prefix_piece seg (spelled segs ++ 47 ∷ name) (segs ++ pieces name) lack.0 (pieces-below segs name lack.1))
 
 full : (text name : List ℕ) → is_empty (text ++ 47 ∷ name) ≡ false
 full text name = not_zero (length (text ++ 47 ∷ name)) (omega (arith, length-append text (47 ∷ name)))
@@ -116,14 +92,10 @@ none_in : (xs : List (List ℕ)) (name : List ℕ) → (length xs == 0) ≡ true
 none_in [] name e = refl
 none_in (x ∷ xs) name e = let none : length (x ∷ xs) ≡ 0 = grind (arith, nat_tests) in absurd (omega (arith, none))
 
-not_false : (a : Bool) → not a ≡ false → a ≡ true
-not_false true e = refl
-not_false false e = absurd (cc)
-
 no_kid : {at : List (List ℕ) → Option Node} → IsTree at → (place : List (List ℕ)) (name : List ℕ) (o : Option Node) → at place ≡ o → has_kids o ≡ false → IsSome (at (kid place name)) → ⊥
 no_kid {at} good place name None is none there = true≢false (sym (good.parents place name there) ∙ ap is_some is)
 no_kid {at} good place name (Some node) is none there =
-    true≢false (sym there ∙ sym ((good.nodes place node is).kids name) ∙ none_in node.kids name (not_false (length node.kids == 0) none))
+    true≢false (sym there ∙ sym ((good.nodes place node is).kids name) ∙ none_in node.kids name (not-false (length node.kids == 0) none))
 
 none_below : {at : List (List ℕ) → Option Node} → IsTree at → (place : List (List ℕ)) (name : List ℕ) (rest : List (List ℕ)) → has_kids (at place) ≡ false → IsSome (at (place ++ name ∷ rest)) → ⊥
 none_below {at} good place name rest none there =
@@ -136,21 +108,13 @@ no_script tree path none script = none (and_parts (is_some (node_at tree path)) 
 pub none_without_kids : (tree : Content) (place : Segments) → IsTree (node_at tree) → has_kids (node_at tree place) ≡ false → HasNoneBelow tree place
 none_without_kids tree place good none name rest script = no_script tree (place ++ name ∷ rest) (none_below good place name rest none) script
 
-under_start : (place more : Segments) → is_under (place ++ more) place ≡ true
-under_start [] more = under_root more
-under_start (s ∷ place) more = and_from (pointwise nat_eq s s) (is_under (place ++ more) place) (nat_list_eq_equiv.refl s) (under_start place more)
-
-or_yes : (a b : Bool) → b ≡ true → (a || b) ≡ true
-or_yes true b e = refl
-or_yes false b e = e
-
 listed_under : (scripts : List Segments) (place more : Segments) → has_path scripts (place ++ more) ≡ true → has_under scripts place ≡ true
 listed_under [] place more e = e
 listed_under (path ∷ scripts) place more e = ⊎_elim
     (λ (same : same_path (place ++ more) path ≡ true).
-    ap (λ b. b || has_under scripts place) (sym (ap (λ p. is_under p place) (path_from_same (place ++ more) path same)) ∙ under_start place more))
+    ap (λ b. b || has_under scripts place) (sym (ap (λ p. is_under p place) (path_from_same (place ++ more) path same)) ∙ under_append place more))
     (λ (other : same_path (place ++ more) path ≡ false).
-    or_yes (is_under path place) (has_under scripts place) (listed_under scripts place more (sym (ap (λ b. b || has_path scripts (place ++ more)) other) ∙ e)))
+    or_right (is_under path place) (has_under scripts place) (listed_under scripts place more (sym (ap (λ b. b || has_path scripts (place ++ more)) other) ∙ e)))
     (cases_Bool (same_path (place ++ more) path))
 
 -- at or below which none is listed
@@ -196,14 +160,11 @@ script_none tree (seg ∷ segs) name none lack =
 
 -- ---- a text without a slash at its beginning
 
-same_byte : (a b : ℕ) → (a == b) ≡ true → a ≡ b
-same_byte a b e = grind (arith, nat_tests)
-
 begins_otherwise : (text : List ℕ) → ((rest : List ℕ) → text ≢ 47 ∷ rest) → (slice_index text 0 == 47) ≡ false
 begins_otherwise [] none = refl
 begins_otherwise (b ∷ text) none =
     elim (b == 47) as (λ t. (b == 47) ≡ t → t ≡ false) [
-      | true ↦ λ e. absurd (none text (ap (λ n. n ∷ text) (same_byte b 47 e)))
+      | true ↦ λ e. absurd (none text (ap (λ n. n ∷ text) (eqb-true b 47 e)))
       | false ↦ λ e. refl
     ] refl
 

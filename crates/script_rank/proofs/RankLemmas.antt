@@ -1,8 +1,8 @@
 -- What the search comes to first ranks first.
-use Rattle.std.proofs.Common.{◌≡◌, ◌≢◌, ◌<◌, ◌≤◌, ◌++◌, ℕ, zero, suc, Bool, true, false, cond, List, Option, Some, None, Result, Ok, Err, refl, sym, ◌∙◌, ap, subst, ⊎_elim, inl, inr, arith, codes}
+use Rattle.std.proofs.Common.{◌≡◌, ◌≢◌, ◌<◌, ◌≤◌, ◌++◌, ℕ, zero, suc, Bool, true, false, cond, List, Option, Some, None, Result, Ok, Err, refl, sym, ◌∙◌, ap, subst, ⊎_elim, inl, inr, arith, codes, lt_irrefl}
 use Rattle.std.specs.Prelude.{slice_get, IfOk, IfSome, IfNone}
 use Rattle.std.proofs.lemmas.Bool.{cases_eq, cases_lt}
-use Rattle.std.proofs.lemmas.Option.{cond_some}
+use Rattle.std.proofs.lemmas.Option.{cond_some, same_Some}
 use Rattle.sp_base.specs.Paths.{path_of, text_of}
 use Rattle.sp_base.specs.declared.path.PathFault.{PathFault}
 use Rattle.resource_tree.specs.Content.{Content, name_of}
@@ -16,9 +16,6 @@ use Rattle.script_rank.specs.Search.{at_naming, at_place, at_type, search_result
 use Rattle.script_rank.proofs.NamingLemmas.{weight, better-weight, namings-fall, falls-at, sound, complete}
 use Rattle.script_rank.proofs.DepthLemmas.{few_selectors}
 use Rattle.script_rank.proofs.SearchLemmas.{Hit, hit, none-at}
-
-same_Some : {A : Type 0} (x y : A) → Some x ≡ Some y → x ≡ y
-same_Some x y e = cc
 
 -- one place of a list has one item
 one_item : {A : Type 0} (xs : List A) (i j : ℕ) (x y : A) → i ≡ j → slice_get xs i ≡ Some x → slice_get xs j ≡ Some y → x ≡ y
@@ -93,9 +90,6 @@ way tree chain parts path e =
     record { naming = n; type = t; place = p; spelling = hit (script_at tree p.item) names path p.gives }
 
 -- between keys of one naming the type, the place and the spelling decide
-not_less : (n : ℕ) → n < n → ⊥
-not_less n h = omega (arith, h)
-
 not_above : (b : Bool) → IsAbove b b → ⊥
 not_above true h = cc (h.1)
 not_above false h = cc (h.0)
@@ -105,7 +99,7 @@ ThenBetter k l = IsLessInTurn (k.type < l.type) (k.type ≡ l.type) (IsLessInTur
 
 better-same : (k l : Key) → k.naming ≡ l.naming → IsBetter k l → ThenBetter k l
 better-same k l same better = ⊎_elim
-    (λ less. absurd (not_less (selectors_in l.naming) (subst (λ n. selectors_in l.naming < selectors_in n) same less)))
+    (λ less. absurd (lt_irrefl (selectors_in l.naming) (subst (λ n. selectors_in l.naming < selectors_in n) same less)))
     (λ p. ⊎_elim
     (λ above. absurd (not_above (has_extension l.naming) (subst (λ n. IsAbove (has_extension n) (has_extension l.naming)) same above)))
     (λ q. ⊎_elim

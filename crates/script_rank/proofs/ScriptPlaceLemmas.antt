@@ -4,10 +4,10 @@ use Rattle.std.specs.Prelude.{flat_map, slice_get, IfOk}
 use Rattle.std.specs.List.{AllByRecursion, list_all}
 use Rattle.std.specs.Option.{option_or}
 use Rattle.std.proofs.lemmas.Bool.{and_parts}
-use Rattle.std.proofs.lemmas.Bool.Decides.{nat_tests}
 use Rattle.sp_base.specs.Texts.{Segments}
 use Rattle.sp_base.specs.Paths.{path_or_fault, fault_of, is_path, unless_fault}
 use Rattle.sp_base.specs.declared.path.PathFault.{PathFault}
+use Rattle.sp_base.proofs.NatLemmas.{zero_from_test}
 use Rattle.resource_tree.specs.Content.{Content, IsGood, name_of, node_at}
 use Rattle.type_chain.specs.Chain.{first_of}
 use Rattle.type_chain.specs.ScriptPlaces.{AreScriptPlacesOf, has_kids, script_places_of}
@@ -194,10 +194,7 @@ answers_listed tree scripts types script_places script_places' parts r lists h s
     value
 
 -- without a script place there is no script
-none_from_zero : (n : ℕ) → (n == 0) ≡ true → n ≡ 0
-none_from_zero n e = grind (arith, nat_tests)
-
 pub no_script_place : (tells : Segments → Bool) (script_places : List ScriptPlace) (parts : Parts) → (length script_places == 0) ≡ true → script_place_search tells script_places parts ≡ None
 unfolding at_script_places
 no_script_place tells [] parts e = first_none (at_script_places tells parts []) (namings parts) (λ j naming is. refl)
-no_script_place tells (script_place ∷ script_places) parts e = absurd (omega (arith, none_from_zero (length (script_place ∷ script_places)) e))
+no_script_place tells (script_place ∷ script_places) parts e = absurd (omega (arith, zero_from_test (length (script_place ∷ script_places)) e))

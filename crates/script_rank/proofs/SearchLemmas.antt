@@ -1,5 +1,6 @@
 -- What the first item that gives something says of those before it.
 use Rattle.std.proofs.Common.{◌≡◌, ◌<◌, ℕ, zero, suc, List, [], ◌∷◌, Option, Some, None, refl, sym, ◌∙◌, ap, arith}
+use Rattle.std.proofs.lemmas.Option.{same_Some}
 use Rattle.std.specs.Prelude.{slice_get}
 use Rattle.std.specs.Option.{option_or}
 use Rattle.type_chain.specs.Chain.{first_of}
@@ -11,9 +12,6 @@ pub record Hit {A B : Type 0} (f : A → Option B) (xs : List A) (y : B) : Type 
   pub here : slice_get xs at ≡ Some item
   pub gives : f item ≡ Some y
   pub before : (j : ℕ) (x : A) → j < at → slice_get xs j ≡ Some x → f x ≡ None
-
-same_Some : {A : Type 0} (x y : A) → Some x ≡ Some y → x ≡ y
-same_Some x y e = cc
 
 earlier : {A B : Type 0} (f : A → Option B) (x : A) (xs : List A) (n : ℕ) → f x ≡ None → ((j : ℕ) (w : A) → j < n → slice_get xs j ≡ Some w → f w ≡ None)
     → (j : ℕ) (w : A) → j < suc n → slice_get (x ∷ xs) j ≡ Some w → f w ≡ None

@@ -13,12 +13,15 @@ use Rattle.std.proofs.lemmas.List.Folds.{list_any_more}
 use Rattle.std.proofs.lemmas.Map.{lookup-none}
 use Rattle.std.proofs.lemmas.Map.Entries.{none_past_head}
 use Rattle.std.proofs.lemmas.Map.Keys.{IsDistinct-tail}
-use Rattle.std.proofs.lemmas.Option.{get_or_from_slice_get, slice_get-get_or, slice_get_within}
+use Rattle.std.proofs.lemmas.Option.{get_or_from_slice_get, same_Some, slice_get-get_or, slice_get_within}
 use Rattle.std.proofs.lemmas.List.{get_or_append_left, take_all}
 use Rattle.sp_base.specs.Texts.{Segments}
 use Rattle.sp_base.specs.Paths.{fault_of, is_path, parent_of, unless_fault}
 use Rattle.sp_base.specs.Properties.{text_in}
 use Rattle.sp_base.specs.declared.path.PathFault.{PathFault}
+use Rattle.sp_base.proofs.BoolLemmas.{and_false, and_with_true, or_false}
+use Rattle.sp_base.proofs.ListLemmas.{any_next}
+use Rattle.sp_base.proofs.OrderingLemmas.{by_path_total}
 use Rattle.sp_base.proofs.PathParts.{checked_path}
 use Rattle.resource_tree.specs.Content.{Content, IsGood, by_path, kid, name_of, node_at, same_path}
 use Rattle.resource_tree.specs.Patches.{PatchEntries, entry_at, left_by, patching_at}
@@ -26,7 +29,7 @@ use Rattle.resource_tree.specs.Rows.{AreRowsOf}
 use Rattle.resource_tree.specs.declared.nodes.Node.{Node}
 use Rattle.resource_tree.specs.declared.patch.PatchNode.{PatchNode}
 use Rattle.resource_tree.specs.declared.patch.PatchNode.TheVariants as patch_node
-use Rattle.resource_tree.proofs.PathLemmas.{by_path_total, kid_parts, length-kid, name_of-kid, parent_of-kid, path_from_same, same_path_self}
+use Rattle.resource_tree.proofs.PathLemmas.{kid_parts, length-kid, name_of-kid, parent_of-kid, path_from_same, same_path_self}
 use Rattle.script_rank.specs.Index.{ScriptPathsChange, ScriptPaths, IsScriptChangeOf, IsScriptIndexOf, has_path}
 use Rattle.script_rank.specs.Noting.{AddsScript, NotesScriptEntry, has_text, has_text_there, is_named_script, is_script_text, is_script_text_there, is_text_path, leaves_script_text, text_path}
 use Rattle.script_rank.specs.Ranking.{is_script, is_script_name, node_of, script_text}
@@ -101,14 +104,6 @@ text_path_is at is =
     let named = (and_parts (pointwise nat_eq (name_of at) (codes "jcr:content")) (is_named_script (slice_get at (length at - 2))) is).0 in
     sym (kid_parts at (not_root at is)) ∙ ap (kid (parent_of at)) (same_text (name_of at) (codes "jcr:content") (sym named))
 
-and_none : (a : Bool) → (a && false) ≡ false
-and_none true = refl
-and_none false = refl
-
-or_none : (a : Bool) → (a || false) ≡ a
-or_none true = refl
-or_none false = refl
-
 -- of a path that may hold a text the script is its parent
 pub parent_same : (at path : Segments) → is_text_path at ≡ true → same_path path (parent_of at) ≡ same_path (text_path path) at
 parent_same at path is = ⊎_elim
@@ -124,27 +119,23 @@ parent_same at path is = ⊎_elim
 -- ---- one more script
 
 adds_nothing_by : (a s t : Bool) → (s && t) ≡ false → a ≡ (a || (s && t))
-adds_nothing_by a s t e = sym (ap (λ b. a || b) e ∙ or_none a)
+adds_nothing_by a s t e = sym (ap (λ b. a || b) e ∙ or_false a)
 
 pub adds_none : (at : Segments) (holds : Bool) (paths : List Segments) → holds ≡ false → AddsScript at holds paths paths
-adds_none at holds paths none path = adds_nothing_by (has_path paths path) (same_path (text_path path) at) holds (ap (λ b. same_path (text_path path) at && b) none ∙ and_none (same_path (text_path path) at))
+adds_none at holds paths none path = adds_nothing_by (has_path paths path) (same_path (text_path path) at) holds (ap (λ b. same_path (text_path path) at && b) none ∙ and_false (same_path (text_path path) at))
 
 any_push : (test : Segments → Bool) (xs : List Segments) (x : Segments) → list_any test (xs ++ x ∷ []) ≡ (list_any test xs || test x)
-any_push test [] x = or_none (test x)
+any_push test [] x = or_false (test x)
 any_push test (y ∷ xs) x = ap (λ b. test y || b) (any_push test xs x) ∙ or_assoc (test y) (list_any test xs) (test x)
   where
     or_assoc : (a b c : Bool) → (a || (b || c)) ≡ ((a || b) || c)
     or_assoc true b c = refl
     or_assoc false b c = refl
 
-and_yes : (s t : Bool) → t ≡ true → s ≡ (s && t)
-and_yes true t e = sym e
-and_yes false t e = refl
-
 pub adds_one : (at script : Segments) (holds : Bool) (old new : List Segments) → is_text_path at ≡ true → holds ≡ true → script ≡ parent_of at → new ≡ old ++ script ∷ [] → AddsScript at holds old new
 adds_one at script holds old new is tested parent pushed path =
     ap (λ xs. has_path xs path) pushed ∙ any_push (same_path path) old script
-    ∙ ap (λ b. has_path old path || b) (ap (same_path path) parent ∙ parent_same at path is ∙ and_yes (same_path (text_path path) at) holds tested)
+    ∙ ap (λ b. has_path old path || b) (ap (same_path path) parent ∙ parent_same at path is ∙ and_with_true (same_path (text_path path) at) holds tested)
 
 -- what is found where the text of a script may stand is found with that test
 pub adds_named : (at : Segments) (holds : Bool) (old new : List Segments) → is_text_path at ≡ true → AddsScript at holds old new → AddsScript at (is_text_path at && holds) old new
@@ -177,9 +168,6 @@ scripts_more see rows i row old new within item so_far one path =
 any_map : {R : Type 0} (see : R → Segments × Node) (at : Segments) (rows : List R) → list_any (is_row see at) rows ≡ list_any (is_row (λ r. r) at) (map see rows)
 any_map see at [] = refl
 any_map see at (row ∷ rows) = ap (λ b. is_row see at row || b) (any_map see at rows)
-
-same_Some : {A : Type 0} (x y : A) → Some x ≡ Some y → x ≡ y
-same_Some x y e = cc
 
 -- a row with a path is the node there
 row_is : (tree : Content) (at : Segments) (row : Segments × Node) → node_at tree row.0 ≡ Some row.1 → same_path at row.0 ≡ true → node_at tree at ≡ Some row.1
@@ -220,7 +208,7 @@ each tree rows are k row is =
 
 rows_are : (tree rows : Content) (at : Segments) (o : Option Node) → AreRowsOf tree rows → node_at tree at ≡ o → list_any (is_row (λ r. r) at) rows ≡ is_script_text_there at o
 rows_are tree rows at None are is =
-    let none = and_none (is_text_path at) in
+    let none = and_false (is_text_path at) in
     rows_none tree at rows (ap (is_script_text_there at) is ∙ none) (each tree rows are) ∙ sym none
 rows_are tree rows at (Some node) are is = by (is_script_text at node) refl
   where
@@ -252,9 +240,6 @@ pub record AreNoted (tree : Content) (entries : PatchEntries) (change : ScriptPa
   pub added : (path : Segments) → has_path change.added path ≡ list_any (is_entry (becomes tree) (text_path path)) entries
   pub gone : (path : Segments) → has_path change.gone path ≡ list_any (is_entry (ends tree) (text_path path)) entries
 
-any_next : {X : Type 0} (test : X → Bool) (xs : List X) (i : ℕ) (x : X) → slice_get xs i ≡ Some x → list_any test (take (i + 1) xs) ≡ (list_any test (take i xs) || test x)
-any_next test xs i x is = list_any_more test xs i x (slice_get_within xs i x is) ∙ ap (λ y. list_any test (take i xs) || test y) (get_or_from_slice_get xs i x x is)
-
 pub noted_next : (tree : Content) (patch : PatchEntries) (i : ℕ) (at : Segments) (row : PatchNode) (old new : ScriptPathsChange) → slice_get patch i ≡ Some (at, row) → AreNoted tree (take i patch) old
     → NotesScriptEntry at (is_script_text_there at (node_at tree at)) (leaves_script_text at row) old new → AreNoted tree (take (i + 1) patch) new
 noted_next tree patch i at row old new is so_far one = record {
@@ -281,7 +266,7 @@ entry_is test at (entry ∷ entries) once = ⊎_elim
     (λ (e : same_path at entry.0 ≡ true).
     let rest : entry_at entries at ≡ None = lookup-none (same_path at) entries (none_past_head (eq_by_cmp_equiv by_path_total) at entry entries once e) in
     ap (λ t. (t && test entry.0 entry.1) || list_any (is_entry test at) entries) e
-    ∙ ap (λ b. test entry.0 entry.1 || b) (entry_none test at entries rest) ∙ or_none (test entry.0 entry.1)
+    ∙ ap (λ b. test entry.0 entry.1 || b) (entry_none test at entries rest) ∙ or_false (test entry.0 entry.1)
     ∙ ap (λ p. test p entry.1) (sym (path_from_same at entry.0 e))
     ∙ sym (ap (λ t. option_map_or (test at) (cond t (Some entry.1) (entry_at entries at)) false) e))
     (λ (e : same_path at entry.0 ≡ false).

@@ -1,16 +1,13 @@
 -- The log of a world, and which connections are open after it.
-use Rattle.std.proofs.Common.{◌≡◌, ◌++◌, ℕ, Bool, false, List, [], ◌∷◌, Option, Some, None, ap, refl, append_assoc}
+use Rattle.std.proofs.Common.{◌≡◌, ◌++◌, ℕ, false, List, [], ◌∷◌, Option, Some, None, ap, refl, append_assoc}
 use Rattle.std.proofs.lemmas.List.{append-nil}
-use Rattle.outside_world.specs.Worlds.{is_connected, open_after, open_after_all, told_more}
+use Rattle.outside_world.specs.Worlds.{is_connected, open_after, told_more}
 use Rattle.outside_world.specs.declared.world.WorldEntry.{WorldEntry}
-
-pub open_append : (c : ℕ) (was : Bool) (log more : List WorldEntry) → open_after_all c was (log ++ more) ≡ open_after_all c (open_after_all c was log) more
-open_append c was [] more = refl
-open_append c was (e ∷ log) more = open_append c (open_after c was e) log more
+use Rattle.outside_world.proofs.Opened.{open_after_append}
 
 -- a connection after one entry more
 pub open_more : (log : List WorldEntry) (c : ℕ) (e : WorldEntry) → is_connected (log ++ e ∷ []) c ≡ open_after c (is_connected log c) e
-open_more log c e = open_append c false log (e ∷ [])
+open_more log c e = open_after_append c false log (e ∷ [])
 
 pub told_nothing : (told : Option (List WorldEntry)) → told_more told [] ≡ told
 told_nothing None = refl

@@ -17,6 +17,7 @@ use Rattle.run_events.specs.declared.step.Step.TheVariants.{Opened, Piece, Gone,
 use Rattle.run_events.specs.States.{RunState}
 use Rattle.run_events.specs.Moves.{state_after_note, state_after_notes}
 use Rattle.run_events.specs.Events.{Event, Happens, HappensBy, after_event, condition_notes, going, most_connections, notes_of, opening, state_after_opening, state_before_notes}
+use Rattle.run_events.proofs.NoteLemmas.{notes_append}
 use Rattle.run_laws.specs.Addressed.{AddsNoConnection, AreAddressed, IsAddressed, WasThereOrOpenedIfThere, LeavesSession, opened_by_step}
 use Rattle.serve_loop.specs.Turns.{IsFailedAt, entries_of_note, entries_of_notes}
 use Rattle.serve_loop.specs.Hands.{AreOfOpen, IsOfOpen}
@@ -158,10 +159,6 @@ pub entries_of_event : (e : Event) → entries_of_notes (notes_of e) ≡ entries
 entries_of_event e =
     flat_map-append entries_of_note e.body (condition_notes e.conditions)
     ∙ (ap (λ es. entries_of_notes e.body ++ es) (conditions_tell_nothing e.conditions.disk_failed e.conditions.out_of_memory) ∙ append-nil (entries_of_notes e.body))
-
-notes_append : (u : RunState) (one two : List Note) → state_after_notes u (one ++ two) ≡ state_after_notes (state_after_notes u one) two
-notes_append u [] two = refl
-notes_append u (n ∷ one) two = notes_append (state_after_note u n) one two
 
 state_of_event : (w : RunState) (e : Event) → state_after_notes (state_before_notes w e e.step) (notes_of e) ≡ after_event w e
 state_of_event w e =

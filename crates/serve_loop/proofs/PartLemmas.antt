@@ -2,7 +2,7 @@
 use Rattle.std.proofs.Common.{◌≡◌, ◌≢◌, ◌++◌, ◌∙◌, ◌⊎◌, inl, inr, ⊎_elim, ℕ, Bool, true, false, List, [], ◌∷◌, Option, Some, None, IsSome, is_some, sym, ap, subst, refl, if◌then◌else◌}
 use Rattle.std.specs.List.{AllByRecursion, find}
 use Rattle.std.proofs.lemmas.Bool.{false≢true}
-use Rattle.std.proofs.lemmas.Option.{none-some}
+use Rattle.std.proofs.lemmas.Option.{none-some, same_Some}
 use Rattle.outside_world.specs.declared.world.Happening.{Happening}
 use Rattle.outside_world.specs.declared.world.Happening.TheVariants.{Opened as opened_news, Piece as piece_news, Gone as gone_news, Quiet}
 use Rattle.outside_world.specs.declared.world.WorldEntry.{WorldEntry}
@@ -31,9 +31,6 @@ use Rattle.serve_loop.proofs.TurnLemmas.{events_of_both}
 abbrev pub StaysIdle : Type 0
 StaysIdle = (w : RunState) (e : Event) → HasNothingDue w → Happens w e → HasNothingDue (after_event w e)
 
-some_step : (a b : Step) → Some a ≡ Some b → a ≡ b
-some_step a b e = cc e
-
 -- ---- which step is due
 
 some_left : (flights : List Flying) → is_some (find is_unrendered flights) ≡ true → AreUnrendered flights → FirstLeft flights
@@ -50,7 +47,7 @@ due_after_rounds w has = ap (λ b. if b then Some (Render First) else (if is_flu
 
 flushes_there : (flushes : List Flushing) (step : Step) → (if is_flushing flushes then Some Purge else None) ≡ Some step → (step ≡ Purge) × (flushes ≢ [])
 flushes_there [] step is = absurd (none-some step is)
-flushes_there (flush ∷ flushes) step is = (sym (some_step Purge step is), λ e. cc e)
+flushes_there (flush ∷ flushes) step is = (sym (same_Some Purge step is), λ e. cc e)
 
 flushes_gone : (flushes : List Flushing) → (if is_flushing flushes then Some Purge else None) ≡ None → flushes ≡ []
 flushes_gone [] is = refl
@@ -60,7 +57,7 @@ due_slice : (w : RunState) (step : Step) → has_unrendered w ≡ false → due_
 due_slice w step has is = flushes_there w.flushes step (sym (due_after_rounds w has) ∙ is)
 
 due_render : (w : RunState) (step : Step) → has_unrendered w ≡ true → due_step Renders w ≡ Some step → step ≡ Render First
-due_render w step has is = sym (some_step (Render First) step (sym (render_due w has) ∙ is))
+due_render w step has is = sym (same_Some (Render First) step (sym (render_due w has) ∙ is))
 
 then_delivers : (w : RunState) (b : Bool) → has_unrendered w ≡ b → stage_after Renders w ≡ (if b then Delivers else Rests)
 then_delivers w b has = ap (λ x. if x then Delivers else Rests) has
@@ -118,11 +115,11 @@ after_rounds laws w e false has nothing happens is at =
     subst (λ s. FlightsAt s (after_event w e).flights) (sym (then_delivers w false has)) (laws.same w e nothing happens (subst LeavesFlights (sym step_is) tt) ∙ none_left w.flights has at)
 
 after_due : FlightLaws → (stage : Stage) (w : RunState) (e : Event) → HasNothingDue w → Happens w e → due_step stage w ≡ Some e.step → FlightsAt stage w.flights → FlightsAt (stage_after stage w) (after_event w e).flights
-after_due laws (Begins step) w e nothing happens is at = laws.unrendered w e happens (subst LeavesUnrendered (some_step step e.step is) (news_render_none step at.0)) (subst AreUnrendered (sym at.1) tt)
+after_due laws (Begins step) w e nothing happens is at = laws.unrendered w e happens (subst LeavesUnrendered (same_Some step e.step is) (news_render_none step at.0)) (subst AreUnrendered (sym at.1) tt)
 after_due laws Renders w e nothing happens is at = after_rounds laws w e (has_unrendered w) refl nothing happens is at
-after_due laws Delivers w e nothing happens is at = subst AreUnrendered (sym (laws.landed w e at.flying at.later nothing happens (sym (some_step (Deliver First) e.step is)) at.flights_are at.rendered)) at.unrendered
+after_due laws Delivers w e nothing happens is at = subst AreUnrendered (sym (laws.landed w e at.flying at.later nothing happens (sym (same_Some (Deliver First) e.step is)) at.flights_are at.rendered)) at.unrendered
 after_due laws Rests w e nothing happens is at = absurd (none-some e.step is)
-after_due laws (Goes c later) w e nothing happens is at = subst (FlightsAt later) (sym (laws.same w e nothing happens (subst LeavesFlights (some_step (Gone c) e.step is) tt))) at
+after_due laws (Goes c later) w e nothing happens is at = subst (FlightsAt later) (sym (laws.same w e nothing happens (subst LeavesFlights (same_Some (Gone c) e.step is) tt))) at
 after_due laws Stops w e nothing happens is at = absurd (none-some e.step is)
 
 handed_at : (h : HandedOn) (stage : Stage) (flights : List Flying) → FlightsAt stage flights → FlightsAt (stage_handed h stage) flights
@@ -274,11 +271,11 @@ kind_at_renders w step false has is at =
     })
 
 kind_of : (stage : Stage) (w : RunState) (step : Step) → IsEarly stage → due_step stage w ≡ Some step → FlightsAt stage w.flights → ComesBefore stage w step ⊎ IsTheSlice stage w step
-kind_of (Begins s) w step early is at = inl (record { no_slice = λ purge. news_slice_none s early (some_step s step is ∙ purge); early = tt })
+kind_of (Begins s) w step early is at = inl (record { no_slice = λ purge. news_slice_none s early (same_Some s step is ∙ purge); early = tt })
 kind_of Renders w step early is at = kind_at_renders w step (has_unrendered w) refl is at
-kind_of Delivers w step early is at = inl (record { no_slice = λ purge. (let no : Deliver First ≡ Purge = some_step (Deliver First) step is ∙ purge in cc no); early = tt })
+kind_of Delivers w step early is at = inl (record { no_slice = λ purge. (let no : Deliver First ≡ Purge = same_Some (Deliver First) step is ∙ purge in cc no); early = tt })
 kind_of Rests w step early is at = absurd early
-kind_of (Goes c later) w step early is at = inl (record { no_slice = λ purge. (let no : Gone c ≡ Purge = some_step (Gone c) step is ∙ purge in cc no); early = early })
+kind_of (Goes c later) w step early is at = inl (record { no_slice = λ purge. (let no : Gone c ≡ Purge = same_Some (Gone c) step is ∙ purge in cc no); early = early })
 kind_of Stops w step early is at = absurd early
 
 none_unfinished : (stage : Stage) (w : RunState) → IsEarly stage → MayRest true stage w → FlightsAt stage w.flights → w.flushes ≡ []
@@ -297,7 +294,7 @@ rest_goes Renders w (n ∷ made) late due = absurd late
 rest_goes Delivers w (n ∷ made) late due = absurd late
 rest_goes Rests w (n ∷ made) late due = absurd (none-some n.event.step due.0)
 rest_goes (Goes c later) w (n ∷ made) late due =
-    (subst IsGoing (some_step (Gone c) n.event.step due.0) tt, rest_goes (stage_handed n.handed later) (after_event w n.event) made (handed_late n.handed later (after_event w n.event) made late due.2) due.2)
+    (subst IsGoing (same_Some (Gone c) n.event.step due.0) tt, rest_goes (stage_handed n.handed later) (after_event w n.event) made (handed_late n.handed later (after_event w n.event) made late due.2) due.2)
 rest_goes Stops w (n ∷ made) late due = absurd late
 
 made_slice : FlightLaws → StaysIdle → (stage : Stage) (w : RunState) (made : List HandedEvent) → IsEarly stage → HasNothingDue w → Run w (events_made made) → AreDue true stage w made → FlightsAt stage w.flights → HasOneSlice w made
@@ -388,7 +385,7 @@ none_goes_at_renders w c false has is = (let no : Gone c ≡ Purge = (due_slice 
 none_goes : (stage : Stage) (w : RunState) (c : ConnectionId) → IsPlain stage → due_step stage w ≡ Some (Gone c) → ⊥
 none_goes (Begins step) w c plain is = plain
 none_goes Renders w c plain is = none_goes_at_renders w c (has_unrendered w) refl is
-none_goes Delivers w c plain is = (let no : Deliver First ≡ Gone c = some_step (Deliver First) (Gone c) is in cc no)
+none_goes Delivers w c plain is = (let no : Deliver First ≡ Gone c = same_Some (Deliver First) (Gone c) is in cc no)
 none_goes Rests w c plain is = none-some (Gone c) is
 none_goes (Goes d later) w c plain is = plain
 none_goes Stops w c plain is = none-some (Gone c) is
@@ -398,7 +395,7 @@ goes_as_handed : (h : HandedOn) (notes : List Note) (entries : List WorldEntry) 
     → (before : List WorldEntry) × (entries ≡ before ++ Unsent c ∷ shut_entry c ∷ [])
 goes_as_handed All notes entries stage w c plain handed is = absurd (none_goes stage w c plain is)
 goes_as_handed (FailedAt d) notes entries stage w c plain handed is =
-    let step : Gone d ≡ Gone c = some_step (Gone d) (Gone c) is in
+    let step : Gone d ≡ Gone c = same_Some (Gone d) (Gone c) is in
     let same : d ≡ c = cc step in
     (entries_of_notes handed.before, subst (λ (x : ConnectionId). entries ≡ entries_of_notes handed.before ++ Unsent x ∷ shut_entry x ∷ []) same handed.entries_are)
 goes_as_handed NoMemory notes entries stage w c plain handed is = absurd (none-some (Gone c) is)
@@ -420,10 +417,10 @@ news_reached (gone_news c) = tt
 news_reached Quiet = tt
 
 news_goes : (news : Happening) (w : RunState) (c : ConnectionId) → due_step (stage_of news) w ≡ Some (Gone c) → news ≡ gone_news c
-news_goes (opened_news d peer) w c is = absurd (let no : Opened d peer ≡ Gone c = some_step (Opened d peer) (Gone c) is in cc no)
-news_goes (piece_news d bytes) w c is = absurd (let no : Piece d bytes ≡ Gone c = some_step (Piece d bytes) (Gone c) is in cc no)
+news_goes (opened_news d peer) w c is = absurd (let no : Opened d peer ≡ Gone c = same_Some (Opened d peer) (Gone c) is in cc no)
+news_goes (piece_news d bytes) w c is = absurd (let no : Piece d bytes ≡ Gone c = same_Some (Piece d bytes) (Gone c) is in cc no)
 news_goes (gone_news d) w c is =
-    let step : Gone d ≡ Gone c = some_step (Gone d) (Gone c) is in
+    let step : Gone d ≡ Gone c = same_Some (Gone d) (Gone c) is in
     let same : d ≡ c = cc step in
     ap (λ (x : ConnectionId). gone_news x) same
 news_goes Quiet w c is = absurd (none_goes Renders w c tt is)

@@ -7,11 +7,8 @@ use Rattle.std.proofs.lemmas.Bool.{false≢true}
 use Rattle.std.proofs.lemmas.Bool.Decides.{nat_tests}
 use Rattle.std.proofs.lemmas.List.{get_or-drop, length-drop}
 use Rattle.std.proofs.lemmas.Str.{IsCharBoundary-after_ascii}
+use Rattle.sp_base.proofs.BoolLemmas.{and_second}
 use Rattle.site_faults.specs.Scripts.{opens_at}
-
-second : (a b : Bool) → (a && b) ≡ true → b ≡ true
-second true b e = e
-second false b e = absurd (false≢true e)
 
 -- a text that begins with an opening has a brace behind its first byte
 brace_after : (s : List ℕ) → starts_with nat_eq s (codes "${") ≡ true → (1 < length s) × (get_or s 1 0 ≡ 123)
@@ -31,7 +28,7 @@ brace_after (a ∷ b ∷ s) e = (omega arith, is_brace (nat_eq 36 a) (nat_eq 123
 -- a text can be cut after the `${`
 pub opening_boundary : (t : List ℕ) (place : ℕ) → IsUtf8 t → opens_at t place ≡ true → IsCharBoundary t (place + 2)
 opening_boundary t place utf8 opens =
-    let is = brace_after (drop place t) (second (nat_le place (length t)) (starts_with nat_eq (drop place t) (codes "${")) opens) in
+    let is = brace_after (drop place t) (and_second (nat_le place (length t)) (starts_with nat_eq (drop place t) (codes "${")) opens) in
     let left : length (drop place t) ≡ length t - place = length-drop place t in
     let brace : get_or t (place + 1) 0 ≡ 123 = sym (get_or-drop place t 1 0) ∙ is.1 in
     let within = is.0 in

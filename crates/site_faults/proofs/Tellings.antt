@@ -1,30 +1,20 @@
 -- What is told of scripts while the nodes of a content are walked over.
-use Rattle.std.proofs.Common.{◌≡◌, ◌<◌, ◌≤◌, ◌+◌, ℕ, Bool, true, false, List, [], ◌∷◌, Option, Some, None, map, take, length, get_or, refl, sym, ◌∙◌, ap}
+use Rattle.std.proofs.Common.{◌≡◌, ◌<◌, ◌≤◌, ◌+◌, ℕ, Bool, true, false, List, Option, Some, None, map, take, length, get_or, refl, sym, ◌∙◌, ap}
 use Rattle.std.specs.Prelude.{◌||◌, ◌&&◌, is_some, option_and_then, if◌then◌else◌}
-use Rattle.std.specs.Cmp.{IsTotalOrder, eq_by_cmp_equiv}
-use Rattle.std.specs.Cmp.Lexicographic.{lists_total, nat_list_cmp_total}
 use Rattle.std.specs.List.{list_any}
-use Rattle.std.specs.Map.{keys_of, lookup}
+use Rattle.std.specs.Map.{lookup}
 use Rattle.std.proofs.lemmas.List.{take_all}
 use Rattle.std.proofs.lemmas.List.Folds.{list_any_more}
-use Rattle.std.proofs.lemmas.Map.Views.{tells_apart}
-use Rattle.sp_base.specs.PathExact.{exact_paths}
 use Rattle.resource_tree.specs.declared.nodes.Node.{Node}
-use Rattle.resource_tree.specs.Content.{Content, by_path, name_of, node_at, same_path}
+use Rattle.resource_tree.specs.Content.{Content, name_of, node_at, same_path}
 use Rattle.resource_tree.specs.Rows.{AreRowsOf}
+use Rattle.resource_tree.proofs.PathLemmas.{path_from_same}
+use Rattle.resource_tree.proofs.SamePaths.{same_path_swapped}
+use Rattle.url_maps.proofs.ClaimLemmas.{any_of_keys}
 use Rattle.script_rank.specs.Ranking.{is_script_name, script_text}
 use Rattle.site_faults.specs.declared.script_fault.ScriptFault.{ScriptFault}
 use Rattle.site_faults.specs.Scripts.{fault_of_text, is_script_path, script_fault_at}
 use Rattle.site_faults.specs.Telling.{Tells}
-
-path_from_same : (p q : List (List ℕ)) → same_path p q ≡ true → p ≡ q
-path_from_same p q h = tells_apart exact_paths p q h
-
-by_path_total : IsTotalOrder by_path
-by_path_total = lists_total nat_list_cmp_total
-
-same_path_flips : (p q : List (List ℕ)) → same_path p q ≡ same_path q p
-same_path_flips p q = (eq_by_cmp_equiv by_path_total).symm p q
 
 -- what is told of these rows, by their paths
 abbrev pub TellsRows : {R : Type 0} → (R → List (List ℕ)) → Content → List R → List (List (List ℕ) × ScriptFault) → Type 0
@@ -46,14 +36,10 @@ tells_more key tree all i row old new within item so_far is q =
     let fault = script_fault_at tree path in
     is q
     ∙ ap (λ z. if same_path path q && is_some fault then fault else z) (so_far q)
-    ∙ ap (λ b. if b && is_some fault then fault else (if list_any (λ r. same_path q (key r)) (take i all) then script_fault_at tree q else None)) (same_path_flips path q)
+    ∙ ap (λ b. if b && is_some fault then fault else (if list_any (λ r. same_path q (key r)) (take i all) then script_fault_at tree q else None)) (same_path_swapped path q)
     ∙ gather (list_any (λ r. same_path q (key r)) (take i all)) (same_path q path) (script_fault_at tree q) fault (λ one. ap (script_fault_at tree) (sym (path_from_same q path one)))
     ∙ ap (λ z. if z then script_fault_at tree q else None)
     (ap (λ r. list_any (λ o. same_path q (key o)) (take i all) || same_path q (key r)) item ∙ sym (list_any_more (λ r. same_path q (key r)) all i row within))
-
-any_keys : {R : Type 0} (f : R → List (List ℕ) × Node) (q : List (List ℕ)) (all : List R) → list_any (same_path q) (keys_of (map f all)) ≡ list_any (λ r. same_path q (f r).0) all
-any_keys f q [] = refl
-any_keys f q (r ∷ all) = ap (λ b. same_path q (f r).0 || b) (any_keys f q all)
 
 there_alone : {X : Type 0} (node script named text : Bool) (fault : Option X)
     → (if node then (if script && (named && (node && text)) then fault else None) else None) ≡ (if script && (named && (node && text)) then fault else None)
@@ -67,5 +53,5 @@ pub tells_all : {R : Type 0} (f : R → List (List ℕ) × Node) (tree : Content
     → TellsRows (λ r. (f r).0) tree (take i all) told → (q : List (List ℕ)) → lookup (same_path q) told ≡ script_fault_at tree q
 tells_all f tree all i told are end is q =
     is q ∙ ap (λ rs. if list_any (λ r. same_path q (f r).0) rs then script_fault_at tree q else None) (take_all i all end)
-    ∙ ap (λ z. if z then script_fault_at tree q else None) (sym (any_keys f q all) ∙ are.paths q)
+    ∙ ap (λ z. if z then script_fault_at tree q else None) (sym (any_of_keys f q all) ∙ are.paths q)
     ∙ there_alone (is_some (node_at tree q)) (is_script_path q) (is_script_name (name_of q)) (is_some (script_text tree q)) (option_and_then fault_of_text (script_text tree q))

@@ -1,5 +1,5 @@
 -- The counts of lists of notes add up: they are a homomorphism from lists to counts.
-use Rattle.std.proofs.Common.{◌≡◌, ◌+◌, ◌<◌, ◌≤◌, ◌++◌, ◌∙◌, [], ◌∷◌, ap, sym, ℕ, Bool, List, length, length-append, take, get_or, append_assoc, arith}
+use Rattle.std.proofs.Common.{◌≡◌, ◌+◌, ◌<◌, ◌≤◌, ◌++◌, ◌∙◌, [], ◌∷◌, ap, sym, ℕ, Bool, List, length, length-append, take, get_or, append_assoc, arith, add_assoc}
 use Rattle.std.specs.Prelude.{cond, flat_map}
 use Rattle.std.specs.List.{count_by}
 use Rattle.std.proofs.lemmas.List.Sums.{sum_by-append}
@@ -33,25 +33,22 @@ counts_add m n xs ys = λ i.
       dry = counted is_out_of_memory_note xs ys i;
     }
 
-sums : (a b c : ℕ) → (a + b) + c ≡ a + (b + c)
-sums a b c = omega arith
-
 pub plus_assoc : (a b c : Counts) → plus (plus a b) c ≡ plus a (plus b c)
 plus_assoc a b c = λ i.
     record {
-      events = sums a.events b.events c.events i;
-      asks = sums a.asks b.asks c.asks i;
-      hits = sums a.hits b.hits c.hits i;
-      kept = sums a.kept b.kept c.kept i;
-      passed = sums a.passed b.passed c.passed i;
-      unkept = sums a.unkept b.unkept c.unkept i;
-      lost = sums a.lost b.lost c.lost i;
-      flushes = sums a.flushes b.flushes c.flushes i;
-      done = sums a.done b.done c.done i;
-      failed = sums a.failed b.failed c.failed i;
-      sent = sums a.sent b.sent c.sent i;
-      hurt = sums a.hurt b.hurt c.hurt i;
-      dry = sums a.dry b.dry c.dry i;
+      events = add_assoc a.events b.events c.events i;
+      asks = add_assoc a.asks b.asks c.asks i;
+      hits = add_assoc a.hits b.hits c.hits i;
+      kept = add_assoc a.kept b.kept c.kept i;
+      passed = add_assoc a.passed b.passed c.passed i;
+      unkept = add_assoc a.unkept b.unkept c.unkept i;
+      lost = add_assoc a.lost b.lost c.lost i;
+      flushes = add_assoc a.flushes b.flushes c.flushes i;
+      done = add_assoc a.done b.done c.done i;
+      failed = add_assoc a.failed b.failed c.failed i;
+      sent = add_assoc a.sent b.sent c.sent i;
+      hurt = add_assoc a.hurt b.hurt c.hurt i;
+      dry = add_assoc a.dry b.dry c.dry i;
     }
 
 nothing : (n : ℕ) → n ≡ n + 0

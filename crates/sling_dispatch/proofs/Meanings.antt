@@ -1,8 +1,10 @@
 -- What an ending means for what was written, at each step of the program.
-use Rattle.std.proofs.Common.{◌≡◌, ◌≢◌, ◌≤◌, ◌+◌, ◌++◌, ◌∷◌, [], inl, inr, ⊎_elim, arith, refl, ℕ, List, Option, Some, None, IfSome, IfOk, OnErr, Result, Ok, Err, false, length, take, sym, ◌∙◌, ap, subst}
+use Rattle.std.proofs.Common.{◌≡◌, ◌≢◌, ◌≤◌, ◌+◌, ◌++◌, inl, inr, ⊎_elim, arith, ℕ, List, Option, Some, None, IfSome, IfOk, OnErr, Result, Ok, Err, false, length, take, sym, ◌∙◌, ap, subst}
 use Rattle.std.proofs.lemmas.List.{append-nil}
 use Rattle.std.proofs.lemmas.Bool.{cases_lt}
+use Rattle.sp_base.proofs.ListLemmas.{take_none}
 use Rattle.sp_outside.specs.Told.{held_after, before_taking, IsAtEnd}
+use Rattle.sockets.proofs.Giving.{held_after-nil}
 use Rattle.content_json.specs.ContentOf.{content as content_of}
 use Rattle.content_json.specs.declared.fault.ContentFault.{ContentFault}
 use Rattle.content_json.specs.declared.fault.ContentFault.TheVariants.{NoMemory as no_memory}
@@ -15,7 +17,6 @@ use Rattle.sling_dispatch.specs.InnerEndings.{IsDueIn, IsDueOf, IsContentOr, IsF
 use Rattle.sling_dispatch.specs.Farms.{farm_in, farm_text, is_out_of_memory}
 use Rattle.sling_dispatch.specs.declared.farms.FarmRefusal.{FarmRefusal}
 use Rattle.replay_text.specs.declared.scenario.Scenario.{Scenario}
-use Rattle.sling_dispatch.proofs.Writing.{added-nothing}
 use Rattle.sling_dispatch.specs.declared.ending.Ending.{Ending}
 use Rattle.sling_dispatch.specs.declared.ending.Ending.TheVariants.{Done, Usage, SourceFailed, SinkFailed, Refused, ContentRefused, FarmRefused, DocrootFailed, WorldFailed, InputFailed, NotOpened, NoMemory}
 
@@ -40,18 +41,14 @@ means_weaker D E to WorldFailed sink m = whole_weaker D E to WorldFailed sink m
 means_weaker D E to InputFailed sink m = whole_weaker D E to InputFailed sink m
 means_weaker D E to NotOpened sink m = whole_weaker D E to NotOpened sink m
 
-none_taken : (text : List ℕ) → take 0 text ≡ []
-none_taken [] = refl
-none_taken (b ∷ text) = refl
-
 -- Of what is due nothing was written, and memory ran out.
 pub nothing_written : (D : Writing → Type 0) (w : Writing) → D w → (sink : StreamReport (List ℕ)) → sink.new ≡ sink.old → HasNotFailed sink → Means D NoMemory sink
 nothing_written D w due sink e not_failed =
-    (record { writing = w; due = due; wrote = (0, e ∙ sym (ap (held_after sink.old) (none_taken (output_of w)) ∙ added-nothing sink.old)) }, not_failed)
+    (record { writing = w; due = due; wrote = (0, e ∙ sym (ap (held_after sink.old) (take_none (output_of w)) ∙ held_after-nil sink.old)) }, not_failed)
 
 -- Nothing was written, and memory ran out.
 pub out_of_memory : (D : Writing → Type 0) → D Nothing → (sink : StreamReport (List ℕ)) → sink.new ≡ sink.old → HasNotFailed sink → Means D NoMemory sink
-out_of_memory D due sink e not_failed = (record { writing = Nothing; due = due; wrote = (0, e ∙ sym (added-nothing sink.old)) }, not_failed)
+out_of_memory D due sink e not_failed = (record { writing = Nothing; due = due; wrote = (0, e ∙ sym (held_after-nil sink.old)) }, not_failed)
 
 -- What came of writing a text that is due, of which good was to be the ending.
 pub told_line : (D : Writing → Type 0) (w : Writing) (good ending : Ending) (text : List ℕ) (sink : StreamReport (List ℕ)) → D w

@@ -5,7 +5,7 @@ use Rattle.std.specs.List.{find}
 use Rattle.std.specs.Map.{update}
 use Rattle.std.specs.Option.{option_map}
 use Rattle.std.proofs.lemmas.Map.{update_apart, update_here}
-use Rattle.std.proofs.lemmas.Bool.{cases_eq}
+use Rattle.std.proofs.lemmas.Bool.{both_ways, cases_eq, or_left, or_right}
 use Rattle.sp_base.specs.declared.answer.Answer.{Answer}
 use Rattle.sp_base.specs.declared.answer.Ask.{Ask}
 use Rattle.sp_base.specs.Requests.{Request}
@@ -260,14 +260,10 @@ or-none true b never = absurd (never refl)
 or-none false true never = absurd (never refl)
 or-none false false never = refl
 
-no-other : (b : Bool) → b ≡ false → b ≡ true → ⊥
-no-other true e f = cc (e)
-no-other false e f = cc (f)
-
 begins-fits : (top : ℕ) (w : RunState) (c : ℕ) (full : Bool) (inv : Invalidation) (note : Note) → is_full_of_flushes w ≡ full → StateFits top w → c < 4294967296 → BeginsFlush full w c inv note → NoteFits top w note
 begins-fits top w c true inv note full fits small gives = rw gives (local-fits top w c 503 fits small (omega arith))
 begins-fits top w c false inv note full fits small gives =
-    let room : nat_le 9223372036854775808 (stamps_drawn w.log) ≡ false = or-none (nat_le 256 (length w.flushes)) _ (no-other _ full) in
+    let room : nat_le 9223372036854775808 (stamps_drawn w.log) ≡ false = or-none (nat_le 256 (length w.flushes)) _ (both_ways _ full) in
     let drawn : stamps_drawn w.log < 9223372036854775808 = grind (arith, room) in
     let most : flushes_begun w.log + 1 ≤ 9223372036854775808 = omega (arith, drawn) in
     rw gives (record { numbers = omega (arith, most); state = flush-fits top w (flushes_begun w.log + 1) c inv (treated_request (due_of_connection w c)) fits drawn most small })
@@ -356,17 +352,9 @@ shuts-fit top w (c ∷ numbers) all fits =
     record { numbers = (one.numbers, rest.numbers); state = rest.state }
 
 -- the numbers of open connections
-or-right : (a b : Bool) → b ≡ true → (a || b) ≡ true
-or-right true b e = refl
-or-right false b e = e
-
-or-here : (a b : Bool) → a ≡ true → (a || b) ≡ true
-or-here true b e = refl
-or-here false b e = absurd (let never : ⊥ = cc in never)
-
 each-short : (numbers : List ℕ) → ((c : ℕ) → is_among c numbers ≡ true → c < 4294967296) → NumbersAreShort numbers
 each-short [] all = tt
-each-short (c ∷ numbers) all = (all c (or-here (nat_eq c c) (is_among c numbers) (eq-eqb c c refl)), each-short numbers (λ d there. all d (or-right (nat_eq c d) (is_among d numbers) there)))
+each-short (c ∷ numbers) all = (all c (or_left (nat_eq c c) (is_among c numbers) (eq-eqb c c refl)), each-short numbers (λ d there. all d (or_right (nat_eq c d) (is_among d numbers) there)))
 
 open-short : (w : RunState) (numbers : List ℕ) → OpenFit w.connection → AreOpen w numbers → NumbersAreShort numbers
 open-short w numbers fits open_ = each-short numbers (λ c there. fits c (open_.each c ∙ there))

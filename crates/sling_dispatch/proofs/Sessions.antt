@@ -1,13 +1,14 @@
 -- The events that were made so far are a run, and their lines were written or are gathered.
 use Rattle.std.proofs.Common.{◌≡◌, ◌≤◌, ◌+◌, ◌++◌, ℕ, List, [], ◌∷◌, Option, Some, None, Ok, Err, inl, inr, length, map, suc, take, sym, ◌∙◌, ap, subst, refl, arith, append_assoc, length-append}
 use Rattle.std.specs.List.{filter_map, cons_option}
-use Rattle.std.proofs.lemmas.List.{take_all, append-nil}
+use Rattle.std.proofs.lemmas.List.{take_all, append-nil, append_assoc as list_assoc, append-nil as list_nil, map_push}
 use Rattle.std.proofs.lemmas.List.Elements.{filter_map-append}
 use Rattle.std.proofs.Math.Seq.{take-append-add}
 use Rattle.sp_outside.specs.Told.{held_after}
 use Rattle.sp_outside.specs.Causes.{HasSinkCause}
 use Rattle.sp_outside.specs.declared.sink.SinkFault.{SinkFault}
 use Rattle.sp_outside.specs.declared.sink.SinkFault.TheVariants.{Failed as sink_failed, NoMemory as sink_memory}
+use Rattle.sockets.proofs.Giving.{held_after-append, held_after-nil}
 use Rattle.resource_tree.specs.Content.{Content}
 use Rattle.content_json.specs.ContentOf.{content as content_of}
 use Rattle.any_config.specs.declared.farm.Farm.{Farm}
@@ -32,7 +33,6 @@ use Rattle.sling_dispatch.specs.declared.ending.Ending.{Ending}
 use Rattle.sling_dispatch.specs.declared.ending.Ending.TheVariants.{Done, NoMemory}
 use Rattle.sling_dispatch.specs.declared.session.Session.{Session}
 use Rattle.sling_dispatch.proofs.ArmedLemmas.{Fit, armed_after, fit_plan, fit_event, armed_plan, armed_event, after_plan, after_event_armed, armed_by}
-use Rattle.sling_dispatch.proofs.Writing.{added-added, added-nothing}
 
 transcript_push : (n : ℕ) (events : List (List Note)) (notes : List Note)
     → transcript_from n (events ++ notes ∷ []) ≡ transcript_from n events ++ event_text (n + length events) notes
@@ -43,18 +43,6 @@ transcript_push n (first ∷ events) notes =
     let e : n + 1 + length events ≡ n + length (first ∷ events) = omega arith in
     ap (λ t. event_text n first ++ t) (transcript_push (n + 1) events notes ∙ ap (λ k. transcript_from (n + 1) events ++ event_text k notes) e)
     ∙ sym (append_assoc (event_text n first) (transcript_from (n + 1) events) (event_text (n + length (first ∷ events)) notes))
-
-map_push : {A B : Type 0} (f : A → B) (xs : List A) (x : A) → map f (xs ++ x ∷ []) ≡ map f xs ++ f x ∷ []
-map_push f [] x = refl
-map_push f (y ∷ xs) x = ap (λ t. f y ∷ t) (map_push f xs x)
-
-list_nil : {A : Type 0} (a : List A) → a ++ [] ≡ a
-list_nil [] = refl
-list_nil (x ∷ a) = ap (λ t. x ∷ t) (list_nil a)
-
-list_assoc : {A : Type 0} (a b c : List A) → (a ++ b) ++ c ≡ a ++ (b ++ c)
-list_assoc [] b c = refl
-list_assoc (x ∷ a) b c = ap (λ t. x ∷ t) (list_assoc a b c)
 
 length_map : {A B : Type 0} (f : A → B) (xs : List A) → length (map f xs) ≡ length xs
 length_map f [] = refl
@@ -106,7 +94,7 @@ played_none tree farm acts s old are stands unarmed event = (
     count_is = sym event;
     stands = stands;
     sent = [];
-    written = sym (added-nothing old);
+    written = sym (held_after-nil old);
     text_is = refl;
   },
   refl,
@@ -235,7 +223,7 @@ played_sent tree farm acts rest s old mid new gathered sent left p e same = reco
   count_is = p.count_is;
   stands = p.stands;
   sent = p.sent ++ sent;
-  written = e ∙ ap (λ m. held_after m sent) p.written ∙ added-added old p.sent sent;
+  written = e ∙ ap (λ m. held_after m sent) p.written ∙ held_after-append old p.sent sent;
   text_is = p.text_is ∙ ap (λ t. p.sent ++ t) (sym same) ∙ sym (append_assoc p.sent sent left);
 }
 
@@ -263,7 +251,7 @@ prefix_due tree farm acts rest k t mid gathered sink p e s same reads farm_reads
       due = (refl, (p.left, session_of tree farm acts rest t _ _ gathered s same reads farm_reads p));
       wrote = (
         long + k,
-        e ∙ ap (λ m. held_after m (take k gathered)) p.written ∙ added-added sink.old p.sent (take k gathered)
+        e ∙ ap (λ m. held_after m (take k gathered)) p.written ∙ held_after-append sink.old p.sent (take k gathered)
             ∙ ap (held_after sink.old) (sym (take-append-add p.sent gathered k) ∙ ap (take (long + k)) (sym p.text_is)),
       );
     }
@@ -290,10 +278,6 @@ played_stopped tree farm acts rest t mid gathered ending sink p (inr (inl told))
 played_stopped tree farm acts rest t mid gathered ending sink p (inr (inr told)) =
     subst (λ x. PlaysAll tree farm acts x sink) (sym told.0) (broken_off tree farm acts rest told.1.0 t mid gathered sink_memory sink p told.1.1 told.2)
 
-pub no_bytes : (xs : List ℕ) → length xs ≡ 0 → xs ≡ []
-no_bytes [] e = refl
-no_bytes (x ∷ xs) e = absurd (omega (arith, e))
-
 -- no act is left where no byte is
 pub none_left : (rest : List ℕ) (left : List EventLine) → IsActs rest left → rest ≡ [] → left ≡ []
 none_left rest [] are e = refl
@@ -310,7 +294,7 @@ played_all tree farm acts rest t mid gathered ending sink whole p (inl told) =
       writing = Events s p.events;
       due = (refl, (p.left, session));
       ends = (refl, subst (λ (left : List EventLine). IsSession s left p.events) (none_left rest p.left p.left_are whole) session);
-      wrote = (told.1 ∙ ap (λ m. held_after m gathered) p.written ∙ added-added sink.old p.sent gathered ∙ ap (held_after sink.old) (sym p.text_is), told.2);
+      wrote = (told.1 ∙ ap (λ m. held_after m gathered) p.written ∙ held_after-append sink.old p.sent gathered ∙ ap (held_after sink.old) (sym p.text_is), told.2);
     })
 played_all tree farm acts rest t mid gathered ending sink whole p (inr (inl told)) =
     subst (λ x. PlaysAll tree farm acts x sink) (sym told.0) (broken_off tree farm acts rest told.1.0 t mid gathered sink_failed sink p told.1.1 told.2)

@@ -95,10 +95,6 @@ length-map : {A B : Type 0} (f : A → B) (xs : List A) → length (map f xs) �
 length-map f [] = refl
 length-map f (x ∷ xs) = ap (λ n. suc n) (length-map f xs)
 
-length-both : {A : Type 0} (a b : List A) → length (a ++ b) ≡ length a + length b
-length-both [] b = omega arith
-length-both (x ∷ a) b = omega (arith, length-both a b)
-
 -- each line has its newline
 lines-few : (lines : List (List ℕ)) → length lines ≤ length (text_of_lines lines)
 lines-few [] = omega arith
@@ -130,7 +126,7 @@ events-few s left events session =
     let host = asked_publisher_host session.farm in
     let steps : length events ≡ length (filter_map (step_of host) session.made) = sym (length-map (λ (e : Event). e.step) events) ∙ ap length session.steps in
     let lines : List (List ℕ) = map line_of (session.made ++ left) in
-    omega (arith, steps, steps-few host session.made, length-both session.made left, length-map line_of (session.made ++ left), lines-few lines, ap length session.acts.bytes_are)
+    omega (arith, steps, steps-few host session.made, length-append session.made left, length-map line_of (session.made ++ left), lines-few lines, ap length session.acts.bytes_are)
 
 -- ---- sessions
 abbrev pub NotesNamePages : Type 0

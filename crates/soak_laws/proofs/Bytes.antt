@@ -1,19 +1,16 @@
 -- Digits, and texts with digits in them: visible bytes, which stand for themselves within quotes.
-use Rattle.std.proofs.Common.{◌≡◌, ◌≤◌, ◌<◌, ◌^◌, ◌++◌, ◌&&◌, ◌∙◌, ℕ, Bool, true, false, List, [], ◌∷◌, ap, refl, arith, eqb}
+use Rattle.std.proofs.Common.{◌≡◌, ◌≤◌, ◌<◌, ◌^◌, ◌++◌, ◌&&◌, ◌∙◌, ℕ, true, false, List, [], ◌∷◌, ap, refl, arith, eqb}
 use Rattle.std.specs.Prelude.{flat_map, nat_le}
 use Rattle.std.specs.Fmt.{decimal}
 use Rattle.std.specs.List.{list_all}
 use Rattle.std.specs.Str.Parse.{AllDigits}
+use Rattle.std.proofs.lemmas.Bool.{and_parts}
 use Rattle.std.proofs.lemmas.Bool.Decides.{nat_tests}
 use Rattle.std.proofs.lemmas.Fmt.{decimal_is_IsNumeral}
 use Rattle.std.proofs.lemmas.Grind.{flat_map-append}
 use Rattle.std.proofs.lemmas.Str.Parse.{digit_from_value}
 use Rattle.sp_base.specs.Bytes.{AreBytes, is_visible_ascii}
 use Rattle.replay_text.specs.Transcript.{quoted_byte}
-
-pub both_true : (a b : Bool) → (a && b) ≡ true → (a ≡ true) × (b ≡ true)
-both_true true b e = (refl, e)
-both_true false b e = absurd (let no : ⊥ = cc (e) in no)
 
 -- ---- digits
 
@@ -41,7 +38,7 @@ visible_digits (b ∷ bytes) d = ap (λ t. t && list_all is_visible_ascii bytes)
 pub visible-append : (a b : List ℕ) → list_all is_visible_ascii a ≡ true → list_all is_visible_ascii b ≡ true → list_all is_visible_ascii (a ++ b) ≡ true
 visible-append [] b p q = q
 visible-append (x ∷ a) b p q =
-    let parts = both_true (is_visible_ascii x) (list_all is_visible_ascii a) p in
+    let parts = and_parts (is_visible_ascii x) (list_all is_visible_ascii a) p in
     ap (λ t. t && list_all is_visible_ascii (a ++ b)) parts.0 ∙ visible-append a b parts.1 q
 
 -- ---- bytes within quotes
@@ -83,12 +80,8 @@ below b e = grind (arith, nat_tests)
 pub bytes_by : (bytes : List ℕ) → list_all (λ b. nat_le b 255) bytes ≡ true → AreBytes bytes
 bytes_by [] e = tt
 bytes_by (b ∷ bytes) e =
-    let parts = both_true (nat_le b 255) (list_all (λ c. nat_le c 255) bytes) e in (below b parts.0, bytes_by bytes parts.1)
+    let parts = and_parts (nat_le b 255) (list_all (λ c. nat_le c 255) bytes) e in (below b parts.0, bytes_by bytes parts.1)
 
 pub bytes_of_digits : (bytes : List ℕ) → AreDigits bytes → AreBytes bytes
 bytes_of_digits [] d = tt
 bytes_of_digits (b ∷ bytes) d = (omega (arith, d.1), bytes_of_digits bytes d.2)
-
-pub bytes-append : (a b : List ℕ) → AreBytes a → AreBytes b → AreBytes (a ++ b)
-bytes-append [] b p q = q
-bytes-append (x ∷ a) b p q = (p.0, bytes-append a b p.1 q)

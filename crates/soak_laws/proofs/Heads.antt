@@ -3,7 +3,8 @@ use Rattle.std.proofs.Common.{◌≡◌, ◌≢◌, ◌≤◌, ◌+◌, ◌*◌,
 use Rattle.std.specs.Prelude.{nat_le}
 use Rattle.std.specs.Fmt.{digits}
 use Rattle.std.specs.List.{list_all}
-use Rattle.std.proofs.lemmas.Bool.Decides.{nat_tests}
+use Rattle.std.proofs.lemmas.Bool.{and_parts, leb-true}
+use Rattle.sp_base.proofs.NatLemmas.{zero_from_test}
 use Rattle.replay_text.specs.EventLines.{line_of}
 use Rattle.replay_text.specs.Languages.{IsRefusedWithin}
 use Rattle.replay_text.specs.Lines.{AreLines, newlines, text_of_lines}
@@ -13,17 +14,13 @@ use Rattle.replay_text.specs.declared.scenario.Scenario.{Scenario}
 use Rattle.soak_scenarios.specs.Drafts.{Draft, begun_draft, with_text}
 use Rattle.soak_scenarios.specs.Sites.{apps_member, content_line, farm_lines, folder_members, page_members, pages_order}
 use Rattle.soak_scenarios.specs.Soaks.{generated_text, scenario_head, with_drawn_blocks}
-use Rattle.soak_laws.proofs.Bytes.{both_true}
 use Rattle.soak_laws.proofs.Lines.{Drafted}
-use Rattle.soak_laws.proofs.Rounds.{blocks_drafted, le_by}
-
-is_zero : (n : ℕ) → (n == 0) ≡ true → n ≡ 0
-is_zero n e = grind (arith, nat_tests)
+use Rattle.soak_laws.proofs.Rounds.{blocks_drafted}
 
 are_lines : (block : List (List ℕ)) → list_all (λ line. newlines line == 0) block ≡ true → AreLines block
 are_lines [] e = tt
 are_lines (line ∷ block) e =
-    let parts = both_true (newlines line == 0) (list_all (λ l. newlines l == 0) block) e in (is_zero (newlines line) parts.0, are_lines block parts.1)
+    let parts = and_parts (newlines line == 0) (list_all (λ l. newlines l == 0) block) e in (zero_from_test (newlines line) parts.0, are_lines block parts.1)
 
 no_dot : (line : List ℕ) → 2 ≤ length line → line ≢ codes "."
 no_dot line long e = absurd (omega (arith, ap length e, long))
@@ -31,7 +28,7 @@ no_dot line long e = absurd (omega (arith, ap length e, long))
 no_dots : (block : List (List ℕ)) → list_all (λ line. nat_le 2 (length line)) block ≡ true → HaveNoDot block
 no_dots [] e = tt
 no_dots (line ∷ block) e =
-    let parts = both_true (nat_le 2 (length line)) (list_all (λ l. nat_le 2 (length l)) block) e in (no_dot line (le_by 2 (length line) parts.0), no_dots block parts.1)
+    let parts = and_parts (nat_le 2 (length line)) (list_all (λ l. nat_le 2 (length l)) block) e in (no_dot line (leb-true 2 (length line) parts.0), no_dots block parts.1)
 
 -- ---- the content
 
@@ -99,7 +96,7 @@ head_then rest =
 
 head_short : length scenario_head ≤ 100000
 unfolding scenario_head content_line apps_member folder_members page_members pages_order farm_lines digits
-head_short = le_by (length scenario_head) 100000 refl
+head_short = leb-true (length scenario_head) 100000 refl
 
 -- the scenario of these acts
 abbrev pub scenario_of_acts : List EventLine → Scenario

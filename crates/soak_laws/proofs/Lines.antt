@@ -1,10 +1,11 @@
 -- A draft is the head of a scenario, and lines of acts that can be asked for.
-use Rattle.std.proofs.Common.{◌≡◌, ◌≤◌, ◌+◌, ◌*◌, ◌++◌, ◌∙◌, ℕ, List, [], ◌∷◌, length, map, ap, sym, refl, arith, append_assoc, append-nil, length-append}
+use Rattle.std.proofs.Common.{◌≡◌, ◌≤◌, ◌+◌, ◌*◌, ◌++◌, ◌∙◌, ℕ, List, [], ◌∷◌, length, map, ap, sym, arith, append_assoc, append-nil, length-append}
 use Rattle.std.specs.Fmt.{decimal}
 use Rattle.replay_text.specs.EventLines.{line_of, IsEventLine}
 use Rattle.replay_text.specs.Lines.{text_of_lines}
 use Rattle.replay_text.specs.Scenario.{AreActs}
 use Rattle.replay_text.specs.declared.event_line.EventLine.{EventLine}
+use Rattle.replay_text.proofs.ReadingActs.{acts_push, lines_of_acts_push}
 use Rattle.soak_scenarios.specs.Drafts.{Draft, Piece, Words, Draw, drawn, given, with_draw, with_text, written}
 use Rattle.soak_scenarios.specs.Soaks.{scenario_head}
 
@@ -15,22 +16,13 @@ pub record Drafted (lines : ℕ) (d : Draft) : Type 0 where
   pub text_is : d.text ≡ scenario_head ++ text_of_lines (map line_of acts)
   pub short : length d.text ≤ length scenario_head + 128 * lines
 
-are_push : (acts : List EventLine) (act : EventLine) → AreActs acts → IsEventLine act → AreActs (acts ++ act ∷ [])
-are_push [] act are is = (is, tt)
-are_push (x ∷ acts) act are is = (are.0, are_push acts act are.1 is)
-
-lines_push : (acts : List EventLine) (act : EventLine) → text_of_lines (map line_of (acts ++ act ∷ [])) ≡ text_of_lines (map line_of acts) ++ (line_of act ++ 10 ∷ [])
-lines_push [] act = refl
-lines_push (x ∷ acts) act =
-    ap (λ t. line_of x ++ 10 ∷ t) (lines_push acts act) ∙ sym (append_assoc (line_of x) (10 ∷ text_of_lines (map line_of acts)) (line_of act ++ 10 ∷ []))
-
 -- one line more
 pub line_more : (lines : ℕ) (d e : Draft) (act : EventLine) → Drafted lines d → IsEventLine act → length (line_of act) ≤ 127 → e.text ≡ d.text ++ (line_of act ++ 10 ∷ []) → Drafted (lines + 1) e
 line_more lines d e act p is short told = record {
   acts = p.acts ++ act ∷ [];
-  are = are_push p.acts act p.are is;
+  are = acts_push p.acts act p.are is;
   text_is = told ∙ ap (λ t. t ++ (line_of act ++ 10 ∷ [])) p.text_is ∙ append_assoc scenario_head (text_of_lines (map line_of p.acts)) (line_of act ++ 10 ∷ [])
-      ∙ ap (λ t. scenario_head ++ t) (sym (lines_push p.acts act));
+      ∙ ap (λ t. scenario_head ++ t) (sym (lines_of_acts_push p.acts act));
   short = omega (arith, p.short, short, ap length told, length-append d.text (line_of act ++ 10 ∷ []), length-append (line_of act) (10 ∷ []));
 }
 

@@ -1,12 +1,14 @@
 -- Each round of a block writes lines of acts that can be asked for.
-use Rattle.std.proofs.Common.{◌≡◌, ◌≤◌, ◌<◌, ◌+◌, ◌*◌, ◌++◌, ◌==◌, ◌∙◌, ℕ, zero, suc, Bool, true, false, if◌then◌else◌, List, [], ◌∷◌, length, codes, ap, sym, refl, arith, append_assoc, length-append, eqb}
+use Rattle.std.proofs.Common.{◌≡◌, ◌≤◌, ◌<◌, ◌+◌, ◌*◌, ◌++◌, ◌==◌, ◌∙◌, ℕ, zero, suc, Bool, true, false, if◌then◌else◌, List, [], ◌∷◌, length, codes, ap, sym, refl, arith, append_assoc, length-append}
 use Rattle.std.specs.Prelude.{nat_le}
 use Rattle.std.specs.Fmt.{decimal, digits}
 use Rattle.std.specs.List.{list_all}
-use Rattle.std.proofs.lemmas.Bool.Decides.{nat_tests}
+use Rattle.std.proofs.lemmas.Bool.{leb-true}
 use Rattle.std.proofs.lemmas.Fmt.{length-decimal-le}
 use Rattle.std.proofs.lemmas.Nat.{mod_below}
 use Rattle.sp_base.specs.Bytes.{AreBytes, is_visible_ascii}
+use Rattle.sp_base.proofs.NatLemmas.{not_zero}
+use Rattle.sp_base.proofs.TextBytes.{both_are_bytes as bytes-append}
 use Rattle.cover_rules.specs.declared.invalidation.Action.TheVariants.{Activate}
 use Rattle.sp_outside.specs.declared.mem_disk.Way.TheVariants.{New}
 use Rattle.replay_text.specs.EventLines.{is_target, line_of, IsEventLine}
@@ -16,11 +18,8 @@ use Rattle.replay_text.specs.declared.event_line.EventLine.TheVariants.{Open, Cl
 use Rattle.replay_text.specs.declared.event_line.Flight.TheVariants.{First}
 use Rattle.soak_scenarios.specs.Drafts.{Draft, Piece, Words, drawn, given, with_draw, with_text, written}
 use Rattle.soak_scenarios.specs.Soaks.{closing_line, flush_line, get_line, opening_text, post_line, seldom_line, usual_line, with_block, with_drawn_blocks, with_drawn_round, with_rounds, with_seldom_line}
-use Rattle.soak_laws.proofs.Bytes.{bytes-append, bytes_by, bytes_of_digits, decimal_has_digits, quoted_around, visible-append, visible_digits}
+use Rattle.soak_laws.proofs.Bytes.{bytes_by, bytes_of_digits, decimal_has_digits, quoted_around, visible-append, visible_digits}
 use Rattle.soak_laws.proofs.Lines.{Drafted, added, line_more, lines_room, pieces_add, same_text}
-
-pub le_by : (m n : ℕ) → nat_le m n ≡ true → m ≤ n
-le_by m n e = grind (arith, nat_tests)
 
 -- ---- what is drawn
 
@@ -58,12 +57,9 @@ path_visible i j tail low few seen =
     (visible-append (codes "/p") (decimal j ++ tail) refl
     (visible-append (decimal j) tail (visible_digits (decimal j) (decimal_has_digits j (omega (arith, few)))) seen)))
 
-some_is : (n : ℕ) → 0 < n → eqb n 0 ≡ false
-some_is n some = grind (arith, nat_tests)
-
 path_is_target : (i j : ℕ) (tail : List ℕ) → i < 4 → j < 16 → list_all is_visible_ascii tail ≡ true → is_target (page_path i j tail) ≡ true
 path_is_target i j tail low few seen =
-    let some = some_is (length (page_path i j tail)) (path_length i j tail low few).1 in rw some (path_visible i j tail low few seen)
+    let some = not_zero (length (page_path i j tail)) (path_length i j tail low few).1 in rw some (path_visible i j tail low few seen)
 
 -- ---- lines
 
@@ -195,19 +191,19 @@ WritesTo lines d pieces = Drafted (lines + 2) (written pieces d)
 usual_drafted : (lines block draw : ℕ) (d : Draft) → block < 1000 → Drafted lines d → Drafted (lines + 2) (written (usual_line block draw) d)
 usual_drafted lines block draw d low p =
     if_either (WritesTo lines d) (nat_le draw 3) _ _ (get_drafted lines block d low p)
-    (if_either (WritesTo lines d) (nat_le draw 7) _ _ (one_line lines d (Words (codes "render first\n") ∷ []) (Render First) p tt (le_by (length (line_of (Render First))) 127 refl) refl)
-    (if_either (WritesTo lines d) (nat_le draw 11) _ _ (one_line lines d (Words (codes "deliver first\n") ∷ []) (Deliver First) p tt (le_by (length (line_of (Deliver First))) 127 refl) refl)
-    (if_either (WritesTo lines d) (draw == 12) _ _ (one_line lines d (Words (codes "lose first\n") ∷ []) (Lose First) p tt (le_by (length (line_of (Lose First))) 127 refl) refl)
+    (if_either (WritesTo lines d) (nat_le draw 7) _ _ (one_line lines d (Words (codes "render first\n") ∷ []) (Render First) p tt (leb-true (length (line_of (Render First))) 127 refl) refl)
+    (if_either (WritesTo lines d) (nat_le draw 11) _ _ (one_line lines d (Words (codes "deliver first\n") ∷ []) (Deliver First) p tt (leb-true (length (line_of (Deliver First))) 127 refl) refl)
+    (if_either (WritesTo lines d) (draw == 12) _ _ (one_line lines d (Words (codes "lose first\n") ∷ []) (Lose First) p tt (leb-true (length (line_of (Lose First))) 127 refl) refl)
     (if_either (WritesTo lines d) (draw == 13) _ _ (post_drafted lines block d low p) (flush_drafted lines block d low p)))))
 
 seldom_drafted : (lines block draw : ℕ) (d : Draft) → block < 1000 → Drafted lines d → Drafted (lines + 2) (written (seldom_line block draw) d)
 unfolding digits
 seldom_drafted lines block draw d low p =
     let restarted = with_text (codes "restart\n") d in
-    let two = open_more (lines + 1) block restarted low (line_more lines d restarted Restart p tt (le_by (length (line_of Restart)) 127 refl) refl) in
+    let two = open_more (lines + 1) block restarted low (line_more lines d restarted Restart p tt (leb-true (length (line_of Restart)) 127 refl) refl) in
     if_either (WritesTo lines d) (draw == 0) _ _ (lines_room (lines + 1 + 1) (lines + 2) (with_text (opening_text block) restarted) (omega arith) two)
-    (if_either (WritesTo lines d) (draw == 1) _ _ (one_line lines d (Words (codes "fail 2 new\n") ∷ []) (Fail 2 New) p (omega arith, omega arith) (le_by (length (line_of (Fail 2 New))) 127 refl) refl)
-    (one_line lines d (Words (codes "purge\n") ∷ []) Purge p tt (le_by (length (line_of Purge)) 127 refl) refl))
+    (if_either (WritesTo lines d) (draw == 1) _ _ (one_line lines d (Words (codes "fail 2 new\n") ∷ []) (Fail 2 New) p (omega arith, omega arith) (leb-true (length (line_of (Fail 2 New))) 127 refl) refl)
+    (one_line lines d (Words (codes "purge\n") ∷ []) Purge p tt (leb-true (length (line_of Purge)) 127 refl) refl))
 
 round_drafted : (lines block : ℕ) (d : Draft) → block < 1000 → Drafted lines d → Drafted (lines + 2) (with_drawn_round block d)
 round_drafted lines block d low p =

@@ -12,3 +12,11 @@ pub mod PathRest
 pub mod MangledLemmas
 pub mod TextBytes
 pub mod PathBytes
+pub mod BoolLemmas
+pub mod ListLemmas
+pub mod NatLemmas
+pub mod OptionLemmas
+pub mod OrderingLemmas
+pub mod PathTests
+pub mod ResultLemmas
+pub mod TextLemmas

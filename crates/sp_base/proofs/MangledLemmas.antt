@@ -1,21 +1,16 @@
 -- Mangling a segment and unmangling it, by the namespace prefix that it begins with.
 use Rattle.std.proofs.Common.{ℕ, Bool, true, false, cond, codes, T, List, [], ◌∷◌, ◌++◌, ◌&&◌, ◌||◌, ◌==◌, ◌≤◌, Ok, length, drop, map, take, Bor, nat_lt, refl, sym, ◌∙◌, ap, subst, ◌≡◌, arith, length-append, nat_eq}
+use Rattle.std.proofs.lemmas.Bool.{cond-false, cond-true}
 use Rattle.std.proofs.lemmas.Bool.Decides.{nat_tests}
 use Rattle.std.proofs.lemmas.List.{take-append-drop, map-append, length-map}
 use Rattle.std.specs.Cmp.Lexicographic.{bytes_decides, pointwise}
 use Rattle.std.specs.List.{list_all, list_any, starts_with}
 use Rattle.sp_base.specs.Paths.{is_path, is_empty, is_long, seg_ok, mangled_of, unless_fault, is_mangled, is_namespaced, mangled_seg, mangled_segs, unmangled_seg, unmangled_segs, pieces}
 use Rattle.sp_base.specs.PathTexts.{spelling_of, segs_in}
-use Rattle.sp_base.proofs.PathLemmas.{both, first, is_not, lacks_of, lacks_slash, mangled_on, no_fault, or_first, or_second, pieces_lack, second, small_back, small_le, test_true, true_test}
+use Rattle.sp_base.proofs.BoolLemmas.{T_both, T_first, T_second, and_first, and_second, or_first, or_second, true_from_T}
+use Rattle.sp_base.proofs.ListLemmas.{cons_is_some}
+use Rattle.sp_base.proofs.PathLemmas.{is_not, lacks_of, lacks_slash, mangled_on, no_fault, pieces_lack, small_back, small_le, true_test}
 use Rattle.sp_base.proofs.PathText.{spelled-more, pieces-spelled}
-
-and_first : (a b : Bool) → (a && b) ≡ true → a ≡ true
-and_first true b e = refl
-and_first false b e = e
-
-and_second : (a b : Bool) → (a && b) ≡ true → b ≡ true
-and_second true b e = e
-and_second false b e = absurd (subst T (sym e) tt)
 
 -- a segment with a mark is the mark and one byte or more
 parts_after : (mark seg : List ℕ) (rest : List ℕ) → seg ≡ mark ++ rest → nat_lt (length mark) (length seg) ≡ true → (x : ℕ) × (more : List ℕ) × (seg ≡ mark ++ x ∷ more)
@@ -30,41 +25,32 @@ split_mark mark seg h =
     parts_after mark seg (drop (length mark) seg) (sym (take-append-drop (length mark) seg) ∙ ap (λ (t : List ℕ). t ++ drop (length mark) seg) (sym leading))
     (and_second (starts_with nat_eq seg mark) _ h)
 
-then_is : {A : Type 0} (b : Bool) (x y : A) → b ≡ true → cond b x y ≡ x
-then_is b x y e = ap (λ t. cond t x y) e
-
-else_is : {A : Type 0} (b : Bool) (x y : A) → b ≡ false → cond b x y ≡ y
-else_is b x y e = ap (λ t. cond t x y) e
-
-some_left : (x : ℕ) (more : List ℕ) → (length (x ∷ more) == 0) ≡ false
-some_left x more = grind (arith, nat_tests)
-
 pub jcr_mangled : (x : ℕ) (more : List ℕ) → mangled_seg (codes "jcr:" ++ x ∷ more) ≡ codes "_jcr_" ++ x ∷ more
-jcr_mangled x more = then_is _ _ _ (mangled_on (codes "jcr:") (codes "jcr:" ++ x ∷ more) refl (some_left x more))
+jcr_mangled x more = cond-true _ _ _ (mangled_on (codes "jcr:") (codes "jcr:" ++ x ∷ more) refl (cons_is_some x more))
 
 pub sling_mangled : (x : ℕ) (more : List ℕ) → mangled_seg (codes "sling:" ++ x ∷ more) ≡ codes "_sling_" ++ x ∷ more
-sling_mangled x more = then_is _ _ _ (mangled_on (codes "sling:") (codes "sling:" ++ x ∷ more) refl (some_left x more))
+sling_mangled x more = cond-true _ _ _ (mangled_on (codes "sling:") (codes "sling:" ++ x ∷ more) refl (cons_is_some x more))
 
 pub nt_mangled : (x : ℕ) (more : List ℕ) → mangled_seg (codes "nt:" ++ x ∷ more) ≡ codes "_nt_" ++ x ∷ more
-nt_mangled x more = then_is _ _ _ (mangled_on (codes "nt:") (codes "nt:" ++ x ∷ more) refl (some_left x more))
+nt_mangled x more = cond-true _ _ _ (mangled_on (codes "nt:") (codes "nt:" ++ x ∷ more) refl (cons_is_some x more))
 
 pub cq_mangled : (x : ℕ) (more : List ℕ) → mangled_seg (codes "cq:" ++ x ∷ more) ≡ codes "_cq_" ++ x ∷ more
-cq_mangled x more = then_is _ _ _ (mangled_on (codes "cq:") (codes "cq:" ++ x ∷ more) refl (some_left x more))
+cq_mangled x more = cond-true _ _ _ (mangled_on (codes "cq:") (codes "cq:" ++ x ∷ more) refl (cons_is_some x more))
 
 jcr_back : (x : ℕ) (more : List ℕ) → unmangled_seg (codes "_jcr_" ++ x ∷ more) ≡ codes "jcr:" ++ x ∷ more
-jcr_back x more = then_is _ _ _ (mangled_on (codes "_jcr_") (codes "_jcr_" ++ x ∷ more) refl (some_left x more))
+jcr_back x more = cond-true _ _ _ (mangled_on (codes "_jcr_") (codes "_jcr_" ++ x ∷ more) refl (cons_is_some x more))
 
 sling_back : (x : ℕ) (more : List ℕ) → unmangled_seg (codes "_sling_" ++ x ∷ more) ≡ codes "sling:" ++ x ∷ more
-sling_back x more = then_is _ _ _ (mangled_on (codes "_sling_") (codes "_sling_" ++ x ∷ more) refl (some_left x more))
+sling_back x more = cond-true _ _ _ (mangled_on (codes "_sling_") (codes "_sling_" ++ x ∷ more) refl (cons_is_some x more))
 
 nt_back : (x : ℕ) (more : List ℕ) → unmangled_seg (codes "_nt_" ++ x ∷ more) ≡ codes "nt:" ++ x ∷ more
-nt_back x more = then_is _ _ _ (mangled_on (codes "_nt_") (codes "_nt_" ++ x ∷ more) refl (some_left x more))
+nt_back x more = cond-true _ _ _ (mangled_on (codes "_nt_") (codes "_nt_" ++ x ∷ more) refl (cons_is_some x more))
 
 cq_back : (x : ℕ) (more : List ℕ) → unmangled_seg (codes "_cq_" ++ x ∷ more) ≡ codes "cq:" ++ x ∷ more
-cq_back x more = then_is _ _ _ (mangled_on (codes "_cq_") (codes "_cq_" ++ x ∷ more) refl (some_left x more))
+cq_back x more = cond-true _ _ _ (mangled_on (codes "_cq_") (codes "_cq_" ++ x ∷ more) refl (cons_is_some x more))
 
 four_false : {A : Type 0} (a b c d : Bool) (v w x y z : A) → a ≡ false → b ≡ false → c ≡ false → d ≡ false → cond a v (cond b w (cond c x (cond d y z))) ≡ z
-four_false a b c d v w x y z e f g h = else_is a v (cond b w (cond c x (cond d y z))) e ∙ else_is b w (cond c x (cond d y z)) f ∙ else_is c x (cond d y z) g ∙ else_is d y z h
+four_false a b c d v w x y z e f g h = cond-false a v (cond b w (cond c x (cond d y z))) e ∙ cond-false b w (cond c x (cond d y z)) f ∙ cond-false c x (cond d y z) g ∙ cond-false d y z h
 
 -- a segment begins with one of the prefixes and goes on, or stays as it is
 pub mangled_cases : (P : List ℕ → Type 0) (seg : List ℕ) → ((x : ℕ) (more : List ℕ) → P (codes "jcr:" ++ x ∷ more)) → ((x : ℕ) (more : List ℕ) → P (codes "sling:" ++ x ∷ more))
@@ -141,7 +127,7 @@ seg_lacks seg = mangled_cases (λ s. T (lacks_slash s) → T (lacks_slash (mangl
 
 pub mangled_lacks : (segs : List (List ℕ)) → T (list_all lacks_slash segs) → T (list_all lacks_slash (mangled_segs segs))
 mangled_lacks [] h = tt
-mangled_lacks (seg ∷ segs) h = both _ _ (seg_lacks seg (first _ _ h)) (mangled_lacks segs (second _ _ h))
+mangled_lacks (seg ∷ segs) h = T_both _ _ (seg_lacks seg (T_first _ _ h)) (mangled_lacks segs (T_second _ _ h))
 
 -- the segments of the mangled text
 pub mangled_in : (text rest : List ℕ) → text ≡ spelling_of (mangled_segs (pieces rest)) → (segs_in text ≡ mangled_segs (pieces rest)) × (spelling_of (segs_in text) ≡ text)
@@ -166,10 +152,10 @@ segs_back segs h = ap (drop 1) (pieces-spelled segs h)
 -- a mangled segment is one unless it is too long
 full_ok : (b : ℕ) (seg : List ℕ) → (b == 46) ≡ false → T (lacks_slash (b ∷ seg)) → is_long (b ∷ seg) ≡ false → T (seg_ok (b ∷ seg))
 full_ok b seg dot lacks long =
-    let full : is_empty (b ∷ seg) ≡ false = some_left b seg in
+    let full : is_empty (b ∷ seg) ≡ false = cons_is_some b seg in
     let first_differs : (pointwise nat_eq (b ∷ seg) (codes ".") || pointwise nat_eq (b ∷ seg) (codes "..")) ≡ false =
     ap (λ t. (t && pointwise nat_eq seg []) || (t && pointwise nat_eq seg (codes "."))) dot in
-    both _ _ (is_not _ full) (both _ _ (is_not _ first_differs) (both _ _ (is_not _ long) lacks))
+    T_both _ _ (is_not _ full) (T_both _ _ (is_not _ first_differs) (T_both _ _ (is_not _ long) lacks))
 
 ok_after : (seg : List ℕ) → T (seg_ok seg) → is_long (mangled_seg seg) ≡ false → T (seg_ok (mangled_seg seg))
 ok_after seg = mangled_cases (λ s. T (seg_ok s) → is_long (mangled_seg s) ≡ false → T (seg_ok (mangled_seg s))) seg
@@ -181,16 +167,16 @@ ok_after seg = mangled_cases (λ s. T (seg_ok s) → is_long (mangled_seg s) ≡
 
 all_after : (segs : List (List ℕ)) → T (list_all seg_ok segs) → list_any is_long (mangled_segs segs) ≡ false → T (list_all seg_ok (mangled_segs segs))
 all_after [] h long = tt
-all_after (seg ∷ segs) h long = both _ _ (ok_after seg (first _ _ h) (or_first _ _ long)) (all_after segs (second _ _ h) (or_second _ _ long))
+all_after (seg ∷ segs) h long = T_both _ _ (ok_after seg (T_first _ _ h) (or_first _ _ long)) (all_after segs (T_second _ _ h) (or_second _ _ long))
 
 pub fits : (path : List (List ℕ)) → is_path path ≡ true → list_any is_long (mangled_segs path) ≡ false → mangled_of path ≡ Ok (mangled_segs path)
 fits path h long =
     let t = true_test (is_path path) h in
-    let few : length (mangled_segs path) ≤ 64 = omega (arith, small_back (length path) (second _ _ t), length-map path mangled_seg) in
-    ap (λ fault. unless_fault fault (mangled_segs path)) (no_fault (mangled_segs path) (all_after path (first _ _ t) long) few)
+    let few : length (mangled_segs path) ≤ 64 = omega (arith, small_back (length path) (T_second _ _ t), length-map path mangled_seg) in
+    ap (λ fault. unless_fault fault (mangled_segs path)) (no_fault (mangled_segs path) (all_after path (T_first _ _ t) long) few)
 
 pub mangled_path : (path : List (List ℕ)) → is_path path ≡ true → list_any is_long (mangled_segs path) ≡ false → is_path (mangled_segs path) ≡ true
 mangled_path path h long =
     let t = true_test (is_path path) h in
-    let few : length (mangled_segs path) ≤ 64 = omega (arith, small_back (length path) (second _ _ t), length-map path mangled_seg) in
-    test_true _ (both _ _ (all_after path (first _ _ t) long) (small_le (length (mangled_segs path)) few))
+    let few : length (mangled_segs path) ≤ 64 = omega (arith, small_back (length path) (T_second _ _ t), length-map path mangled_seg) in
+    true_from_T _ (T_both _ _ (all_after path (T_first _ _ t) long) (small_le (length (mangled_segs path)) few))

@@ -4,7 +4,7 @@ use Rattle.std.specs.List.{AllByRecursion}
 use Rattle.sp_base.specs.Bytes.{AreBytes}
 use Rattle.sp_base.specs.Paths.{is_namespaced, mangled_segs, mangled_by, mangled_seg}
 use Rattle.sp_base.specs.PathTexts.{spelling_of}
-use Rattle.sp_base.proofs.TextBytes.{both_bytes, text_bytes}
+use Rattle.sp_base.proofs.TextBytes.{both_are_bytes, text_bytes}
 
 first_bytes : (a b : List ℕ) → AreBytes (a ++ b) → AreBytes a
 first_bytes [] b p = tt
@@ -33,7 +33,7 @@ chosen_bytes true x y p q = p
 chosen_bytes false x y p q = q
 
 marked_bytes : (prefix mark seg : List ℕ) → AreBytes mark → AreBytes seg → AreBytes (mangled_by prefix mark seg)
-marked_bytes prefix mark seg m p = both_bytes mark (drop (length prefix) seg) m (dropped_bytes (length prefix) seg p)
+marked_bytes prefix mark seg m p = both_are_bytes mark (drop (length prefix) seg) m (dropped_bytes (length prefix) seg p)
 
 jcr : AreBytes (codes "_jcr_")
 jcr = (omega arith, (omega arith, (omega arith, (omega arith, (omega arith, tt)))))

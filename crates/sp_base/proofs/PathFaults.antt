@@ -1,5 +1,6 @@
 -- What is wrong with pieces after the segments of a path.
 use Rattle.std.proofs.Common.{ℕ, Bool, true, false, cond, ◌||◌, ◌==◌, List, [], ◌∷◌, ◌++◌, ◌+◌, ◌<◌, ◌≤◌, Option, Some, None, IfSome, length, length-append, ltb, refl, sym, ◌∙◌, ap, ◌≡◌, arith}
+use Rattle.std.proofs.lemmas.Bool.{or_from}
 use Rattle.std.proofs.lemmas.Bool.Decides.{nat_tests}
 use Rattle.std.proofs.lemmas.Iterator.Adapters.{position_from-zero}
 use Rattle.std.proofs.lemmas.List.Folds.{list_any-append}
@@ -10,7 +11,8 @@ use Rattle.std.specs.Option.{option_map}
 use Rattle.sp_base.specs.declared.path.PathFault.TheVariants.{EmptySegment, DotSegment}
 use Rattle.sp_base.specs.Paths.{is_empty, is_dots, is_long, pieces, fault_of, size_fault, is_path}
 use Rattle.sp_base.specs.PathTexts.{is_unfit, fault_after}
-use Rattle.sp_base.proofs.PathLemmas.{or_first, or_second, none_empty, none_dots, none_long, all_short, path_ok}
+use Rattle.sp_base.proofs.BoolLemmas.{or_first, or_second}
+use Rattle.sp_base.proofs.PathLemmas.{none_empty, none_dots, none_long, all_short, path_ok}
 
 pub position-shift : (n m : ℕ) (parts : List (List ℕ)) → position_from is_long (n + m) parts ≡ option_map (λ i. n + i) (position_from is_long m parts)
 position-shift n m [] = refl
@@ -71,14 +73,10 @@ fault_after_path segs rest h =
     ∙ ap (λ t. cond t (Some DotSegment) (size_fault (position_from is_long n rest) (n + length rest))) (none_dots rest (path_ok rest h))
     ∙ ap (λ o. size_fault o (n + length rest)) long
 
-or_false : (a b : Bool) → a ≡ false → b ≡ false → (a || b) ≡ false
-or_false true b e f = e
-or_false false b e f = f
-
 none_fit : (p : List ℕ → Bool) → ((part : List ℕ) → is_unfit part ≡ false → p part ≡ false) → (parts : List (List ℕ))
     → list_any is_unfit parts ≡ false → list_any p parts ≡ false
 none_fit p h [] e = refl
-none_fit p h (part ∷ parts) e = or_false (p part) (list_any p parts) (h part (or_first _ _ e)) (none_fit p h parts (or_second _ _ e))
+none_fit p h (part ∷ parts) e = or_from (p part) (list_any p parts) (h part (or_first _ _ e)) (none_fit p h parts (or_second _ _ e))
 
 -- pieces that are all fit are too many or good
 pub fit_fault : (n : ℕ) (parts : List (List ℕ)) → list_any is_unfit parts ≡ false → fault_after n parts ≡ size_fault None (n + length parts)

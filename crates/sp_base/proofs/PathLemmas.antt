@@ -1,5 +1,6 @@
 -- Pieces of a text have no slash, and pieces without a fault are a path.
 use Rattle.std.proofs.Common.{IfOk, IfErr, Result, codes, map, lit≤, lit<, length-append, ◌<◌, drop, nat_eq, Ok, Err, ◌≡◌, ◌≢◌, ℕ, zero, suc, ◌+◌, ◌≤◌, Bool, true, false, cond, not, ◌&&◌, ◌||◌, T, List, [], ◌∷◌, ◌++◌, Option, Some, None, length, take, refl, sym, ◌∙◌, ap, subst, arith, nat_lt, ◌==◌, nat_le}
+use Rattle.std.proofs.lemmas.Bool.{eqb-true, le-ltb}
 use Rattle.std.proofs.lemmas.Bool.Decides.{nat_tests}
 use Rattle.std.proofs.lemmas.Iterator.Adapters.{position_from-zero}
 use Rattle.std.proofs.lemmas.List.{length-take, take-append-drop, take_at, length-drop, length-map}
@@ -9,18 +10,8 @@ use Rattle.std.specs.Option.{MatchOption, IfNone}
 use Rattle.sp_base.specs.declared.path.PathFault.{PathFault}
 use Rattle.sp_base.specs.declared.path.PathFault.TheVariants.{EmptySegment, DotSegment, TooDeep}
 use Rattle.sp_base.specs.Paths.{seg_ok, is_empty, is_dots, is_long, has_slash, pieces, fault_of, size_fault, is_path, path_of, child_of, path_or_fault, unless_fault, is_mangled, unmangled_by, unmangled_seg}
-
-pub both : (a b : Bool) → T a → T b → T (a && b)
-both true b p q = q
-both false b p q = p
-
-pub first : (a b : Bool) → T (a && b) → T a
-first true b p = tt
-first false b p = p
-
-pub second : (a b : Bool) → T (a && b) → T b
-second true b p = p
-second false b p = absurd p
+use Rattle.sp_base.proofs.BoolLemmas.{T_both, T_first, T_second, false_from_T_not, or_first, or_second, true_from_T}
+use Rattle.sp_base.proofs.NatLemmas.{not_zero}
 
 abbrev pub lacks_slash : List ℕ → Bool
 lacks_slash seg = not (has_slash seg)
@@ -28,7 +19,7 @@ lacks_slash seg = not (has_slash seg)
 onto_first_lacks : (b : ℕ) (parts : List (List ℕ)) → (b == 47) ≡ false → T (list_all lacks_slash parts) → T (list_all lacks_slash (onto_first b parts))
 onto_first_lacks b [] e h = subst (λ t. T (not (t || false) && true)) (sym e) tt
 onto_first_lacks b (part ∷ parts) e h =
-    both _ _ (subst (λ t. T (not (t || has_slash part))) (sym e) (first _ _ h)) (second _ _ h)
+    T_both _ _ (subst (λ t. T (not (t || has_slash part))) (sym e) (T_first _ _ h)) (T_second _ _ h)
 
 pub pieces_lack : (text : List ℕ) → T (list_all lacks_slash (pieces text))
 pieces_lack [] = tt
@@ -40,30 +31,22 @@ pieces_lack (b ∷ text) =
 
 pub all-append : (p : List ℕ → Bool) (xs ys : List (List ℕ)) → T (list_all p xs) → T (list_all p ys) → T (list_all p (xs ++ ys))
 all-append p [] ys h k = k
-all-append p (x ∷ xs) ys h k = both _ _ (first _ _ h) (all-append p xs ys (second _ _ h) k)
+all-append p (x ∷ xs) ys h k = T_both _ _ (T_first _ _ h) (all-append p xs ys (T_second _ _ h) k)
 
 pub lacks_of : (seg : List ℕ) → T (seg_ok seg) → T (lacks_slash seg)
-lacks_of seg h = second (not (is_long seg)) (lacks_slash seg) (second (not (is_dots seg)) _ (second (not (is_empty seg)) _ h))
+lacks_of seg h = T_second (not (is_long seg)) (lacks_slash seg) (T_second (not (is_dots seg)) _ (T_second (not (is_empty seg)) _ h))
 
 pub path_lacks : (segs : List (List ℕ)) → T (list_all seg_ok segs) → T (list_all lacks_slash segs)
 path_lacks [] h = tt
-path_lacks (seg ∷ segs) h = both _ _ (lacks_of seg (first _ _ h)) (path_lacks segs (second _ _ h))
+path_lacks (seg ∷ segs) h = T_both _ _ (lacks_of seg (T_first _ _ h)) (path_lacks segs (T_second _ _ h))
 
 pub all-take : (p : List ℕ → Bool) (xs : List (List ℕ)) (n : ℕ) → T (list_all p xs) → T (list_all p (take n xs))
 all-take p [] zero h = tt
 all-take p [] (suc n) h = tt
 all-take p (x ∷ xs) zero h = tt
-all-take p (x ∷ xs) (suc n) h = both _ _ (first _ _ h) (all-take p xs n (second _ _ h))
+all-take p (x ∷ xs) (suc n) h = T_both _ _ (T_first _ _ h) (all-take p xs n (T_second _ _ h))
 
 -- what the absence of each fault says
-pub or_first : (a b : Bool) → (a || b) ≡ false → a ≡ false
-or_first true b e = e
-or_first false b e = refl
-
-pub or_second : (a b : Bool) → (a || b) ≡ false → b ≡ false
-or_second true b e = absurd (subst T e tt)
-or_second false b e = e
-
 pub is_not : (a : Bool) → a ≡ false → T (not a)
 is_not a e = subst (λ t. T (not t)) (sym e) tt
 
@@ -79,9 +62,9 @@ pub all_ok : (segs : List (List ℕ)) → list_any is_empty segs ≡ false → l
     → T (list_all lacks_slash segs) → T (list_all seg_ok segs)
 all_ok [] e d l h = tt
 all_ok (seg ∷ segs) e d l h =
-    both _ _
-    (both _ _ (is_not (is_empty seg) (or_first _ _ e)) (both _ _ (is_not (is_dots seg) (or_first _ _ d)) (both _ _ (is_not (is_long seg) (or_first _ _ l)) (first _ _ h))))
-    (all_ok segs (or_second _ _ e) (or_second _ _ d) (or_second _ _ l) (second _ _ h))
+    T_both _ _
+    (T_both _ _ (is_not (is_empty seg) (or_first _ _ e)) (T_both _ _ (is_not (is_dots seg) (or_first _ _ d)) (T_both _ _ (is_not (is_long seg) (or_first _ _ l)) (T_first _ _ h))))
+    (all_ok segs (or_second _ _ e) (or_second _ _ d) (or_second _ _ l) (T_second _ _ h))
 
 short_enough : (n : ℕ) → cond (nat_lt 64 n) (Some TooDeep) None ≡ None → n ≤ 64
 short_enough n e =
@@ -94,10 +77,6 @@ sized : (o : Option ℕ) (n : ℕ) → size_fault o n ≡ None → (o ≡ None) 
 sized (Some place) n e = absurd (cc)
 sized None n e = (refl, short_enough n e)
 
-pub test_true : (b : Bool) → T b → b ≡ true
-test_true true h = refl
-test_true false h = absurd h
-
 pub true_test : (b : Bool) → b ≡ true → T b
 true_test b e = subst T (sym e) tt
 
@@ -105,17 +84,17 @@ pub small_le : (n : ℕ) → n ≤ 64 → T (nat_le n 64)
 small_le n h = true_test (nat_le n 64) (grind (arith, nat_tests))
 
 pub small_back : (n : ℕ) → T (nat_le n 64) → n ≤ 64
-small_back n h = let e = test_true (nat_le n 64) h in grind (arith, nat_tests)
+small_back n h = let e = true_from_T (nat_le n 64) h in grind (arith, nat_tests)
 
 -- the first segments of a path are a path
 pub first_path : (segs : List (List ℕ)) (n : ℕ) → is_path segs ≡ true → is_path (take n segs) ≡ true
 first_path segs n h =
     let t = true_test (is_path segs) h in
-    let shorter : length (take n segs) ≤ 64 = omega (arith, small_back (length segs) (second _ _ t), length-take n segs) in
-    test_true _ (both _ _ (all-take seg_ok segs n (first _ _ t)) (small_le (length (take n segs)) shorter))
+    let shorter : length (take n segs) ≤ 64 = omega (arith, small_back (length segs) (T_second _ _ t), length-take n segs) in
+    true_from_T _ (T_both _ _ (all-take seg_ok segs n (T_first _ _ t)) (small_le (length (take n segs)) shorter))
 
 pub path_ok : (segs : List (List ℕ)) → is_path segs ≡ true → T (list_all seg_ok segs)
-path_ok segs h = first _ _ (true_test (is_path segs) h)
+path_ok segs h = T_first _ _ (true_test (is_path segs) h)
 
 pub path_pieces : (segs : List (List ℕ)) → is_path segs ≡ true → T (list_all lacks_slash segs)
 path_pieces segs h = path_lacks segs (path_ok segs h)
@@ -130,12 +109,9 @@ path_from segs h none =
             | true ↦ λ d m. absurd (cc)
             | false ↦ λ d m.
                 let s = sized (position is_long segs) (length segs) m in
-                test_true _ (both _ _ (all_ok segs e d (no_long segs 0 (sym (position_from-zero is_long segs) ∙ s.0)) h) (small_le (length segs) s.1))
+                true_from_T _ (T_both _ _ (all_ok segs e d (no_long segs 0 (sym (position_from-zero is_long segs) ∙ s.0)) h) (small_le (length segs) s.1))
           ] refl n
     ] refl none
-
-pub test_eq : (a b : ℕ) → (a == b) ≡ true → a ≡ b
-test_eq a b e = grind (arith, nat_tests)
 
 pub of_pieces : (text rest : List ℕ) → text ≡ 47 ∷ rest → is_empty rest ≡ false → path_of text ≡ path_or_fault (pieces rest)
 of_pieces text rest e full = ap path_of e ∙ ap (λ t. cond t (Ok []) (path_or_fault (pieces rest))) full
@@ -146,23 +122,19 @@ pieces_whole [] h = refl
 pieces_whole (b ∷ name) h =
     ap (λ t. cond t ([] ∷ pieces name) (onto_first b (pieces name))) (or_first _ _ h) ∙ ap (onto_first b) (pieces_whole name (or_second _ _ h))
 
-pub not_is : (a : Bool) → T (not a) → a ≡ false
-not_is true h = absurd h
-not_is false h = refl
-
 ok_whole : (name : List ℕ) → seg_ok name ≡ true → pieces name ≡ name ∷ []
-ok_whole name h = pieces_whole name (not_is _ (lacks_of name (true_test (seg_ok name) h)))
+ok_whole name h = pieces_whole name (false_from_T_not _ (lacks_of name (true_test (seg_ok name) h)))
 
-pub made_is : (fault : Option PathFault) (segs p : List (List ℕ)) → unless_fault fault segs ≡ Ok p → p ≡ segs
-made_is None segs p e = cc (e)
-made_is (Some fault) segs p e = absurd (cc (e))
+pub path_made_is : (fault : Option PathFault) (segs p : List (List ℕ)) → unless_fault fault segs ≡ Ok p → p ≡ segs
+path_made_is None segs p e = cc (e)
+path_made_is (Some fault) segs p e = absurd (cc (e))
 
 pub child_whole : (segs : List (List ℕ)) (name : List ℕ) (p : List (List ℕ)) → child_of segs name ≡ Ok p → seg_ok name ≡ true → p ≡ segs ++ name ∷ []
-child_whole segs name p e ok = made_is (fault_of (segs ++ pieces name)) (segs ++ pieces name) p e ∙ ap (λ more. segs ++ more) (ok_whole name ok)
+child_whole segs name p e ok = path_made_is (fault_of (segs ++ pieces name)) (segs ++ pieces name) p e ∙ ap (λ more. segs ++ more) (ok_whole name ok)
 
-any_none : (p : List ℕ → Bool) (segs : List (List ℕ)) → ((seg : List ℕ) → T (seg_ok seg) → p seg ≡ false) → T (list_all seg_ok segs) → list_any p segs ≡ false
-any_none p [] none h = refl
-any_none p (seg ∷ segs) none h = ap (λ t. t || list_any p segs) (none seg (first _ _ h)) ∙ any_none p segs none (second _ _ h)
+pub no_segment_is : (p : List ℕ → Bool) (segs : List (List ℕ)) → ((seg : List ℕ) → T (seg_ok seg) → p seg ≡ false) → T (list_all seg_ok segs) → list_any p segs ≡ false
+no_segment_is p [] none h = refl
+no_segment_is p (seg ∷ segs) none h = ap (λ t. t || list_any p segs) (none seg (T_first _ _ h)) ∙ no_segment_is p segs none (T_second _ _ h)
 
 pub none_long : (segs : List (List ℕ)) (n : ℕ) → list_any is_long segs ≡ false → position_from is_long n segs ≡ None
 none_long [] n e = refl
@@ -170,13 +142,13 @@ none_long (seg ∷ segs) n e =
     ap (λ t. cond t (Some n) (position_from is_long (n + 1) segs)) (or_first _ _ e) ∙ none_long segs (n + 1) (or_second _ _ e)
 
 pub none_empty : (segs : List (List ℕ)) → T (list_all seg_ok segs) → list_any is_empty segs ≡ false
-none_empty segs h = any_none is_empty segs (λ seg ok. not_is _ (first (not (is_empty seg)) _ ok)) h
+none_empty segs h = no_segment_is is_empty segs (λ seg ok. false_from_T_not _ (T_first (not (is_empty seg)) _ ok)) h
 
 pub none_dots : (segs : List (List ℕ)) → T (list_all seg_ok segs) → list_any is_dots segs ≡ false
-none_dots segs h = any_none is_dots segs (λ seg ok. not_is _ (first (not (is_dots seg)) _ (second (not (is_empty seg)) _ ok))) h
+none_dots segs h = no_segment_is is_dots segs (λ seg ok. false_from_T_not _ (T_first (not (is_dots seg)) _ (T_second (not (is_empty seg)) _ ok))) h
 
 pub all_short : (segs : List (List ℕ)) → T (list_all seg_ok segs) → list_any is_long segs ≡ false
-all_short segs h = any_none is_long segs (λ seg ok. not_is _ (first (not (is_long seg)) _ (second (not (is_dots seg)) _ (second (not (is_empty seg)) _ ok)))) h
+all_short segs h = no_segment_is is_long segs (λ seg ok. false_from_T_not _ (T_first (not (is_long seg)) _ (T_second (not (is_dots seg)) _ (T_second (not (is_empty seg)) _ ok)))) h
 
 pub no_fault : (segs : List (List ℕ)) → T (list_all seg_ok segs) → length segs ≤ 64 → fault_of segs ≡ None
 no_fault segs h small =
@@ -191,7 +163,7 @@ no_fault segs h small =
 
 pub child_fits : (segs : List (List ℕ)) (name : List ℕ) → is_path segs ≡ true → seg_ok name ≡ true → length segs < 64 → child_of segs name ≡ Ok (segs ++ name ∷ [])
 child_fits segs name path ok less =
-    let each = all-append seg_ok segs (name ∷ []) (first _ _ (true_test (is_path segs) path)) (both _ _ (true_test (seg_ok name) ok) tt) in
+    let each = all-append seg_ok segs (name ∷ []) (T_first _ _ (true_test (is_path segs) path)) (T_both _ _ (true_test (seg_ok name) ok) tt) in
     let small : length (segs ++ name ∷ []) ≤ 64 = omega (arith, length-append segs (name ∷ []), less) in
     ap (λ more. path_or_fault (segs ++ more)) (ok_whole name ok) ∙ ap (λ fault. unless_fault fault (segs ++ name ∷ [])) (no_fault (segs ++ name ∷ []) each small)
 
@@ -212,9 +184,6 @@ has_mark mark seg e =
     let leading : mark ≡ take (length mark) seg = sym (ap (take (length mark)) e ∙ take_at mark (drop (length mark) seg) (length mark) refl) in
     (bytes_decides mark (take (length mark) seg)).1 leading
 
-at_most : (m n : ℕ) → n ≤ m → nat_lt m n ≡ false
-at_most m n h = grind (arith, nat_tests)
-
 longer : (m n k : ℕ) → (k == 0) ≡ false → n ≡ m + k → nat_lt m n ≡ true
 longer m n k h e = grind (arith, nat_tests)
 
@@ -223,9 +192,9 @@ not_mangled mark seg lacks = ap (λ b. b && nat_lt (length mark) (length seg)) (
 
 pub mangled_alone : (mark seg : List ℕ) → seg ≡ mark ++ drop (length mark) seg → (length (drop (length mark) seg) == 0) ≡ true → is_mangled mark seg ≡ false
 mangled_alone mark seg e none =
-    let zero_left = test_eq (length (drop (length mark) seg)) 0 none in
+    let zero_left = eqb-true (length (drop (length mark) seg)) 0 none in
     let long : nat_lt (length mark) (length seg) ≡ false =
-    at_most (length mark) (length seg) (omega (arith, zero_left, ap length e, length-append mark (drop (length mark) seg))) in
+    le-ltb (length mark) (length seg) (omega (arith, zero_left, ap length e, length-append mark (drop (length mark) seg))) in
     ap (λ b. b && nat_lt (length mark) (length seg)) (has_mark mark seg e) ∙ long
 
 pub mangled_on : (mark seg : List ℕ) → seg ≡ mark ++ drop (length mark) seg → (length (drop (length mark) seg) == 0) ≡ false → is_mangled mark seg ≡ true
@@ -253,20 +222,17 @@ lacks-append [] b h k = k
 lacks-append (x ∷ a) b h k = ap (λ t. t || has_slash (a ++ b)) (or_first _ _ h) ∙ lacks-append a b (or_second _ _ h) k
 
 short_left : (n : ℕ) → T (not (nat_lt 200 n)) → n ≤ 200
-short_left n h = let e = not_is (nat_lt 200 n) h in grind (arith, nat_tests)
-
-not_empty : (n : ℕ) → 0 < n → (n == 0) ≡ false
-not_empty n h = grind (arith, nat_tests)
+short_left n h = let e = false_from_T_not (nat_lt 200 n) h in grind (arith, nat_tests)
 
 kept : (mark prefix seg : List ℕ) → 0 < length prefix → is_dots (unmangled_by mark prefix seg) ≡ false
     → length prefix ≤ length mark → length prefix ≤ 200 → has_slash prefix ≡ false → T (seg_ok seg) → T (seg_ok (unmangled_by mark prefix seg))
 kept mark prefix seg full dots le small slash h =
-    let rest = second (not (is_dots seg)) _ (second (not (is_empty seg)) _ h) in
-    let long = short_left (length seg) (first (not (is_long seg)) _ rest) in
-    let lacks = not_is (has_slash seg) (second (not (is_long seg)) _ rest) in
+    let rest = T_second (not (is_dots seg)) _ (T_second (not (is_empty seg)) _ h) in
+    let long = short_left (length seg) (T_first (not (is_long seg)) _ rest) in
+    let lacks = false_from_T_not (has_slash seg) (T_second (not (is_long seg)) _ rest) in
     let size : length (prefix ++ drop (length mark) seg) ≤ 200 =
     omega (arith, long, le, small, length-append prefix (drop (length mark) seg), length-drop (length mark) seg) in
-    both _ _ (is_not _ (not_empty (length (prefix ++ drop (length mark) seg)) (omega (arith, full, length-append prefix (drop (length mark) seg))))) (both _ _ (is_not _ dots) (both _ _ (is_not _ (at_most 200 (length (prefix ++ drop (length mark) seg)) size))
+    T_both _ _ (is_not _ (not_zero (length (prefix ++ drop (length mark) seg)) (omega (arith, full, length-append prefix (drop (length mark) seg))))) (T_both _ _ (is_not _ dots) (T_both _ _ (is_not _ (le-ltb 200 (length (prefix ++ drop (length mark) seg)) size))
     (is_not _ (lacks-append prefix (drop (length mark) seg) slash (lacks-drop (length mark) seg lacks)))))
 
 unmangled_ok : (seg : List ℕ) → T (seg_ok seg) → T (seg_ok (unmangled_seg seg))
@@ -293,13 +259,13 @@ unmangled_ok seg h =
 
 all_unmangled : (segs : List (List ℕ)) → T (list_all seg_ok segs) → T (list_all seg_ok (map unmangled_seg segs))
 all_unmangled [] h = tt
-all_unmangled (seg ∷ segs) h = both _ _ (unmangled_ok seg (first _ _ h)) (all_unmangled segs (second _ _ h))
+all_unmangled (seg ∷ segs) h = T_both _ _ (unmangled_ok seg (T_first _ _ h)) (all_unmangled segs (T_second _ _ h))
 
 pub unmangled_path : (segs : List (List ℕ)) → is_path segs ≡ true → is_path (map unmangled_seg segs) ≡ true
 unmangled_path segs h =
     let t = true_test (is_path segs) h in
-    let few : length (map unmangled_seg segs) ≤ 64 = omega (arith, small_back (length segs) (second _ _ t), length-map segs unmangled_seg) in
-    test_true _ (both _ _ (all_unmangled segs (first _ _ t)) (small_le (length (map unmangled_seg segs)) few))
+    let few : length (map unmangled_seg segs) ≤ 64 = omega (arith, small_back (length segs) (T_second _ _ t), length-map segs unmangled_seg) in
+    true_from_T _ (T_both _ _ (all_unmangled segs (T_first _ _ t)) (small_le (length (map unmangled_seg segs)) few))
 
 pub IfNone-from : {A : Type 0} (r : Option A) (P : Type 0) (Q : A → Type 0) → MatchOption r P Q → IfNone r P
 IfNone-from None P Q h = h

@@ -1,7 +1,7 @@
 -- The last segment of a path's text, and how a path and its text give each other.
 use Rattle.std.proofs.Common.{◌≡◌, ◌≢◌, ◌<◌, ◌-◌, ◌+◌, ◌==◌, ◌||◌, ◌++◌, ◌∷◌, [], List, ℕ, zero, suc, Bool, true, false, cond, T, Option, Some, None, Ok, Err, Bor, IfSome, length, length-append, take, drop, get_or, slice_get, option_copied, refl, sym, ⊎_elim, ◌∙◌, ap, arith, ◌&&◌}
 use Rattle.std.proofs.Math.Seq.{drop-cons, get_or-append_seam}
-use Rattle.std.proofs.lemmas.Bool.{cases_Bool, true≢false}
+use Rattle.std.proofs.lemmas.Bool.{cases_Bool, eqb-true, true≢false}
 use Rattle.std.proofs.lemmas.Bool.Decides.{nat_tests}
 use Rattle.std.proofs.lemmas.List.{take-append-drop, get_or-drop}
 use Rattle.std.proofs.lemmas.List.Folds.{list_all_at}
@@ -13,13 +13,13 @@ use Rattle.sp_base.specs.declared.path.PathFault.{PathFault}
 use Rattle.sp_base.specs.declared.path.PathFault.TheVariants.{NotAbsolute}
 use Rattle.sp_base.specs.Paths.{has_slash, is_empty, pieces, seg_ok, is_path, path_of, text_of, path_or_fault, unless_fault, fault_of, path_or_none}
 use Rattle.sp_base.specs.PathTexts.{segs_in, spelling_of}
-use Rattle.sp_base.proofs.PathLemmas.{lacks_slash, pieces_whole, pieces_lack, path_from, path_pieces, path_ok, made_is, no_fault, small_back, second, true_test, test_eq}
+use Rattle.sp_base.proofs.BoolLemmas.{T_second, and_first}
+use Rattle.sp_base.proofs.NatLemmas.{suc_is_not_zero}
+use Rattle.sp_base.proofs.PathLemmas.{lacks_slash, pieces_whole, pieces_lack, path_from, path_pieces, path_ok, no_fault, small_back, true_test, path_made_is}
 use Rattle.sp_base.proofs.PathText.{pieces-spelled, spelled-pieces}
+use Rattle.sp_base.proofs.TextLemmas.{not_slash}
 
 -- ---- the last segment
-
-not_slash : (b : ℕ) → b ≢ 47 → (b == 47) ≡ false
-not_slash b h = grind (arith, nat_tests)
 
 none_slash : (w : List ℕ) → ((i : ℕ) → i < length w → get_or w i 0 ≢ 47) → has_slash w ≡ false
 none_slash [] h = refl
@@ -70,17 +70,13 @@ pub last_lacking : (text : List ℕ) → ((i : ℕ) → i < length text → get_
 unfolding segs_in
 last_lacking text none = ap (λ ps. slice_get (drop 1 ps) (length (drop 1 ps) - 1)) (sym (pieces_whole text (none_slash text none)))
 
-left : (a b : Bool) → (a && b) ≡ true → a ≡ true
-left true b e = refl
-left false b e = absurd (true≢false (sym e))
-
 -- each segment of a path is one that a path may have
 segment_ok : (path : List (List ℕ)) (n : ℕ) (name : List ℕ) → IsTrue (is_path path) → Some name ≡ slice_get path n → IsTrue (seg_ok name)
 segment_ok path n name valid at =
     let there = sym at in
     ⊎_elim
     (λ yes. yes)
-    (λ no. absurd (true≢false (sym (left (list_all seg_ok path) _ valid) ∙ list_all_at seg_ok path n [] (slice_get_within path n name there) (ap seg_ok (get_or_from_slice_get path n name [] there) ∙ no))))
+    (λ no. absurd (true≢false (sym (and_first (list_all seg_ok path) _ valid) ∙ list_all_at seg_ok path n [] (slice_get_within path n name there) (ap seg_ok (get_or_from_slice_get path n name [] there) ∙ no))))
     (cases_Bool (seg_ok name))
 
 pub last_ok : (o : Option (Bor (List ℕ))) (path : List (List ℕ)) (n : ℕ) → IsTrue (is_path path) → option_copied o ≡ slice_get path n → IfSome o (λ name. IsTrue (seg_ok name.now))
@@ -91,15 +87,12 @@ last_ok (Some name) path n valid at = segment_ok path n name.now valid at
 
 -- the pieces of a path are without a fault
 pub checked_path : (segs : List (List ℕ)) → is_path segs ≡ true → path_or_fault segs ≡ Ok segs
-checked_path segs h = ap (λ fault. unless_fault fault segs) (no_fault segs (path_ok segs h) (small_back (length segs) (second _ _ (true_test (is_path segs) h))))
-
-not_none : (n : ℕ) → (suc n == 0) ≡ false
-not_none n = grind (arith, nat_tests)
+checked_path segs h = ap (λ fault. unless_fault fault segs) (no_fault segs (path_ok segs h) (small_back (length segs) (T_second _ _ (true_test (is_path segs) h))))
 
 read_full : (seg : List ℕ) (segs : List (List ℕ)) → seg_ok seg ≡ true → is_path (seg ∷ segs) ≡ true → cond (is_empty (seg ++ spelling_of segs)) (Ok []) (path_or_fault (pieces (seg ++ spelling_of segs))) ≡ Ok (seg ∷ segs)
 read_full [] segs ok h = absurd (true_test _ ok)
 read_full (b ∷ seg) segs ok h =
-    let some : is_empty (b ∷ seg ++ spelling_of segs) ≡ false = not_none (length (seg ++ spelling_of segs)) in
+    let some : is_empty (b ∷ seg ++ spelling_of segs) ≡ false = suc_is_not_zero (length (seg ++ spelling_of segs)) in
     ap (λ t. cond t (Ok []) (path_or_fault (pieces (b ∷ seg ++ spelling_of segs)))) some ∙ ap path_or_fault (ap (drop 1) (pieces-spelled ((b ∷ seg) ∷ segs) (path_pieces ((b ∷ seg) ∷ segs) h))) ∙ checked_path ((b ∷ seg) ∷ segs) h
 
 head_ok : (a b : Bool) → T (a && b) → a ≡ true
@@ -111,14 +104,14 @@ read_back [] h = refl
 read_back (seg ∷ segs) h = read_full seg segs (head_ok (seg_ok seg) (list_all seg_ok segs) (path_ok (seg ∷ segs) h)) h
 
 made_text : (fault : Option PathFault) (segs path : List (List ℕ)) (text : List ℕ) → unless_fault fault segs ≡ Ok path → text_of segs ≡ text → text_of path ≡ text
-made_text fault segs path text e h = ap text_of (made_is fault segs path e) ∙ h
+made_text fault segs path text e h = ap text_of (path_made_is fault segs path e) ∙ h
 
 full_text : (ps : List (List ℕ)) (text : List ℕ) → 0 < length ps → spelling_of ps ≡ text → text_of ps ≡ text
 full_text [] text h e = absurd (omega (arith, h))
 full_text (p ∷ ps) text h e = e
 
 spells_rest : (empty : Bool) (rest : List ℕ) (path : List (List ℕ)) → is_empty rest ≡ empty → cond empty (Ok []) (path_or_fault (pieces rest)) ≡ Ok path → text_of path ≡ 47 ∷ rest
-spells_rest true [] path is e = ap text_of (made_is None [] path e)
+spells_rest true [] path is e = ap text_of (path_made_is None [] path e)
 spells_rest true (b ∷ rest) path is e = absurd (grind (arith, nat_tests))
 spells_rest false rest path is e = made_text (fault_of (pieces rest)) (pieces rest) path (47 ∷ rest) e (full_text (pieces rest) (47 ∷ rest) (some_piece rest) (spelled-pieces rest))
 
@@ -126,16 +119,16 @@ pub spells_its_text : (text : List ℕ) (path : List (List ℕ)) → path_of tex
 spells_its_text [] path e = absurd (cc e)
 spells_its_text (b ∷ rest) path e =
     elim (b == 47) as (λ t. (b == 47) ≡ t → cond t (cond (is_empty rest) (Ok []) (path_or_fault (pieces rest))) (Err NotAbsolute) ≡ Ok path → text_of path ≡ b ∷ rest) [
-      | true ↦ λ is h. spells_rest (is_empty rest) rest path refl h ∙ ap (λ n. n ∷ rest) (sym (test_eq b 47 is))
+      | true ↦ λ is h. spells_rest (is_empty rest) rest path refl h ∙ ap (λ n. n ∷ rest) (sym (eqb-true b 47 is))
       | false ↦ λ is h. absurd (cc h)
     ] refl e
 
 valid_made : (fault : Option PathFault) (segs path : List (List ℕ)) → fault_of segs ≡ fault → T (list_all lacks_slash segs) → unless_fault fault segs ≡ Ok path → is_path path ≡ true
-valid_made None segs path none lacks e = ap is_path (made_is None segs path e) ∙ path_from segs lacks none
+valid_made None segs path none lacks e = ap is_path (path_made_is None segs path e) ∙ path_from segs lacks none
 valid_made (Some fault) segs path none lacks e = absurd (cc e)
 
 valid_rest : (empty : Bool) (rest : List ℕ) (path : List (List ℕ)) → cond empty (Ok []) (path_or_fault (pieces rest)) ≡ Ok path → is_path path ≡ true
-valid_rest true rest path e = ap is_path (made_is None [] path e)
+valid_rest true rest path e = ap is_path (path_made_is None [] path e)
 valid_rest false rest path e = valid_made (fault_of (pieces rest)) (pieces rest) path refl (pieces_lack rest) e
 
 pub reads_valid : (text : List ℕ) (path : List (List ℕ)) → path_of text ≡ Ok path → is_path path ≡ true

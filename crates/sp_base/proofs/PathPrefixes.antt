@@ -1,17 +1,19 @@
 -- The prefixes of a path's text that read as paths.
-use Rattle.std.proofs.Common.{◌≡◌, ◌<◌, ◌≤◌, ◌-◌, ◌+◌, ◌++◌, ◌∷◌, [], List, ℕ, lit<, zero, suc, Bool, true, false, cond, T, None, Ok, length, length-append, take, drop, get_or, nat_eq, refl, sym, ◌∙◌, ap, arith, ◌⊎◌, inl, inr, ⊎_elim, ◌==◌, ◌&&◌, ◌||◌, codes}
+use Rattle.std.proofs.Common.{◌≡◌, ◌<◌, ◌≤◌, ◌-◌, ◌+◌, ◌++◌, ◌∷◌, [], List, ℕ, lit<, zero, suc, Bool, true, false, cond, T, None, Ok, length, length-append, take, drop, get_or, nat_eq, refl, sym, ◌∙◌, ap, arith, ◌⊎◌, inl, inr, ⊎_elim, ◌==◌, ◌||◌, codes}
 use Rattle.std.proofs.Math.Seq.{get_or-append_seam, take-append-add, take-append_seam}
 use Rattle.std.proofs.lemmas.Bool.{cases_lt}
 use Rattle.std.proofs.lemmas.Bool.Decides.{nat_tests}
 use Rattle.std.proofs.lemmas.List.{append-nil, take-append-drop, take-append-le, take-take, get_or-take, length-take-le, length-take}
 use Rattle.std.proofs.lemmas.List.Concat.{flat_map-append}
 use Rattle.std.proofs.lemmas.List.Folds.{length-flat_map-take}
-use Rattle.std.specs.Cmp.Lexicographic.{bytes_decides, pointwise}
+use Rattle.std.specs.Cmp.Lexicographic.{pointwise}
 use Rattle.std.specs.List.{list_all}
 use Rattle.sp_base.specs.Paths.{is_empty, pieces, is_path, path_of, parent_of, text_of, is_under, path_or_fault, fault_of, has_slash}
 use Rattle.sp_base.specs.PathTexts.{spelling_of}
-use Rattle.sp_base.proofs.PathLemmas.{lacks_slash, path_pieces, made_is, all-append, all-take, both, not_is, is_not, first, second, or_first, or_second}
+use Rattle.sp_base.proofs.BoolLemmas.{T_both, T_first, T_second, false_from_T_not, or_first, or_second}
+use Rattle.sp_base.proofs.PathLemmas.{lacks_slash, path_pieces, all-append, all-take, is_not, path_made_is}
 use Rattle.sp_base.proofs.PathText.{pieces-spelled}
+use Rattle.sp_base.proofs.TextLemmas.{segments_themselves}
 
 -- a prefix of a text of segments ends in a segment: k bytes are j segments, a slash and i bytes of the next
 record IsEnd (segs : List (List ℕ)) (k : ℕ) : Type 0 where
@@ -58,18 +60,18 @@ lacks-take (suc n) (b ∷ seg) h = ap (λ t. t || has_slash (take n seg)) (or_fi
 
 lacks_at : (segs : List (List ℕ)) (j : ℕ) → T (list_all lacks_slash segs) → has_slash (get_or segs j []) ≡ false
 lacks_at [] j h = refl
-lacks_at (seg ∷ segs) zero h = not_is (has_slash seg) (first (lacks_slash seg) _ h)
-lacks_at (seg ∷ segs) (suc j) h = lacks_at segs j (second (lacks_slash seg) _ h)
+lacks_at (seg ∷ segs) zero h = false_from_T_not (has_slash seg) (T_first (lacks_slash seg) _ h)
+lacks_at (seg ∷ segs) (suc j) h = lacks_at segs j (T_second (lacks_slash seg) _ h)
 
 end_lacks : (segs : List (List ℕ)) (j i : ℕ) → is_path segs ≡ true → T (list_all lacks_slash (take j segs ++ take i (get_or segs j []) ∷ []))
 end_lacks segs j i h =
     all-append lacks_slash (take j segs) (take i (get_or segs j []) ∷ []) (all-take lacks_slash segs j (path_pieces segs h))
-    (both _ _ (is_not _ (lacks-take i (get_or segs j []) (lacks_at segs j (path_pieces segs h)))) tt)
+    (T_both _ _ (is_not _ (lacks-take i (get_or segs j []) (lacks_at segs j (path_pieces segs h)))) tt)
 
 -- what is read of such a text: the root, of a slash alone, or its segments
-read_cases : (b : Bool) (qs path : List (List ℕ)) → cond b (Ok []) (path_or_fault qs) ≡ Ok path → ((b ≡ true) × (path ≡ [])) ⊎ (path ≡ qs)
-read_cases true qs path e = inl (refl, made_is None [] path e)
-read_cases false qs path e = inr (made_is (fault_of qs) qs path e)
+pub root_or_path : (b : Bool) (qs path : List (List ℕ)) → cond b (Ok []) (path_or_fault qs) ≡ Ok path → ((b ≡ true) × (path ≡ [])) ⊎ (path ≡ qs)
+root_or_path true qs path e = inl (refl, path_made_is None [] path e)
+root_or_path false qs path e = inr (path_made_is (fault_of qs) qs path e)
 
 none_after : (rest : List ℕ) → is_empty rest ≡ true → length (47 ∷ rest) ≡ 1
 none_after rest e = grind (arith, nat_tests)
@@ -82,17 +84,13 @@ read_of (q ∷ qs) path some h e =
     ⊎_elim
     (λ (r : (is_empty rest ≡ true) × (path ≡ [])). inl (none_after rest r.0, r.1))
     (λ (r : path ≡ pieces rest). inr (r ∙ parts))
-    (read_cases (is_empty rest) (pieces rest) path e)
+    (root_or_path (is_empty rest) (pieces rest) path e)
 
-same_segs : (segs : List (List ℕ)) → pointwise (pointwise nat_eq) segs segs ≡ true
-same_segs [] = refl
-same_segs (seg ∷ segs) = ap (λ t. t && pointwise (pointwise nat_eq) segs segs) ((bytes_decides seg seg).1 refl) ∙ same_segs segs
+pub under_take : (path : List (List ℕ)) (j : ℕ) → j ≤ length path → is_under path (take j path) ≡ true
+under_take path j h = ap (λ n. pointwise (pointwise nat_eq) (take j path) (take n path)) (length-take-le j path h) ∙ segments_themselves (take j path)
 
-under_take : (path : List (List ℕ)) (j : ℕ) → j ≤ length path → is_under path (take j path) ≡ true
-under_take path j h = ap (λ n. pointwise (pointwise nat_eq) (take j path) (take n path)) (length-take-le j path h) ∙ same_segs (take j path)
-
-parent_end : (segs : List (List ℕ)) (w : List ℕ) → parent_of (segs ++ w ∷ []) ≡ segs
-parent_end segs w =
+pub parent_of_push : (segs : List (List ℕ)) (w : List ℕ) → parent_of (segs ++ w ∷ []) ≡ segs
+parent_of_push segs w =
     let n : length (segs ++ w ∷ []) - 1 ≡ length segs = omega (arith, length-append segs (w ∷ [])) in
     ap (λ m. take m (segs ++ w ∷ [])) n ∙ take-append_seam segs (w ∷ [])
 
@@ -120,7 +118,7 @@ read_by path k read h within r e =
           (read_of qs read (omega (arith, length-append (take r.j path) (take r.i (get_or path r.j []) ∷ []))) (end_lacks path r.j r.i h) (ap path_of (sym r.is) ∙ e));
     }
 
-root_under : (path : List (List ℕ)) (read : List (List ℕ)) → read ≡ [] → is_under path (parent_of read) ≡ true
+pub root_under : (path : List (List ℕ)) (read : List (List ℕ)) → read ≡ [] → is_under path (parent_of read) ≡ true
 root_under [] read e = ap (λ q. is_under [] (parent_of q)) e
 root_under (seg ∷ segs) read e = ap (λ q. is_under (seg ∷ segs) (parent_of q)) e
 
@@ -128,7 +126,7 @@ read_under : (path : List (List ℕ)) (k : ℕ) (read : List (List ℕ)) → IsR
 read_under path k read r = ⊎_elim
     (λ (root : (k ≡ 1) × (read ≡ [])). root_under path read root.1)
     (λ (same : read ≡ take r.end.j path ++ take r.end.i (get_or path r.end.j []) ∷ []).
-    ap (λ q. is_under path (parent_of q)) same ∙ ap (is_under path) (parent_end (take r.end.j path) (take r.end.i (get_or path r.end.j []))) ∙ under_take path r.end.j (omega (arith, r.end.there)))
+    ap (λ q. is_under path (parent_of q)) same ∙ ap (is_under path) (parent_of_push (take r.end.j path) (take r.end.i (get_or path r.end.j []))) ∙ under_take path r.end.j (omega (arith, r.end.there)))
     r.path_is
 
 end_within : (path : List (List ℕ)) (k n : ℕ) (r : IsEnd path k) → r.j < n → k ≤ length (text_of (take n path))
@@ -147,17 +145,17 @@ read_within path k n read r few = ⊎_elim
     end_within path k n r.end (omega (arith, few, ap length same, length-append (take r.end.j path) (take r.end.i (get_or path r.end.j []) ∷ []), length-take-le r.end.j path (omega (arith, r.end.there)))))
     r.path_is
 
-no_read : (read : List (List ℕ)) → path_of [] ≡ Ok read → ⊥
-no_read read e = cc (e)
+pub nothing_is_no_path : (read : List (List ℕ)) → path_of [] ≡ Ok read → ⊥
+nothing_is_no_path read e = cc (e)
 
 read_root : (k : ℕ) (read : List (List ℕ)) → k ≤ 1 → path_of (take k (codes "/")) ≡ Ok read → (k ≡ 1) × (read ≡ [])
-read_root zero read h e = absurd (no_read read e)
-read_root (suc zero) read h e = (refl, made_is None [] read e)
+read_root zero read h e = absurd (nothing_is_no_path read e)
+read_root (suc zero) read h e = (refl, path_made_is None [] read e)
 read_root (suc (suc k)) read h e = absurd (omega (arith, h))
 
 pub prefix_under : (path read : List (List ℕ)) (k : ℕ) → is_path path ≡ true → k ≤ length (text_of path) → path_of (take k (text_of path)) ≡ Ok read → is_under path (parent_of read) ≡ true
 prefix_under [] read k h within e = root_under [] read (read_root k read within e).1
-prefix_under (seg ∷ segs) read zero h within e = absurd (no_read read e)
+prefix_under (seg ∷ segs) read zero h within e = absurd (nothing_is_no_path read e)
 prefix_under (seg ∷ segs) read (suc k) h within e =
     read_under (seg ∷ segs) (suc k) read (read_by (seg ∷ segs) (suc k) read h within (ends (seg ∷ segs) (suc k) (omega arith) within) e)
 

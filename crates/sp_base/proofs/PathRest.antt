@@ -6,11 +6,9 @@ use Rattle.std.proofs.lemmas.Bool.Decides.{nat_tests}
 use Rattle.std.proofs.lemmas.List.Splits.{length-slice_split}
 use Rattle.sp_base.specs.Paths.{path_or_fault, child_of, fault_of, is_empty, is_path, path_of, path_or_none, pieces, text_of, unless_fault}
 use Rattle.sp_base.specs.declared.path.PathFault.{PathFault}
+use Rattle.sp_base.proofs.TextLemmas.{not_slash}
 
 -- ---- the pieces after the first
-
-not_slash : (b : ℕ) → b ≢ 47 → (b == 47) ≡ false
-not_slash b h = grind (arith, nat_tests)
 
 is_slash : (b : ℕ) → b ≡ 47 → (b == 47) ≡ true
 is_slash b h = grind (arith, nat_tests)

@@ -1,12 +1,14 @@
 -- A path's text and its segments give each other back.
 use Rattle.std.proofs.Common.{ℕ, Bool, true, false, cond, T, List, [], ◌∷◌, ◌++◌, ◌==◌, length, drop, map, Bor, append_assoc, refl, sym, ◌∙◌, ap, subst, ◌≡◌, ◌≢◌, arith}
+use Rattle.std.proofs.lemmas.Bool.{eqb-true}
 use Rattle.std.proofs.lemmas.List.{flat_map_more, map-append}
 use Rattle.std.proofs.lemmas.List.Concat.{flat_map-append}
 use Rattle.std.proofs.lemmas.List.Splits.{length-slice_split}
 use Rattle.std.specs.List.{list_all, onto_first, count_by}
 use Rattle.sp_base.specs.Paths.{has_slash, pieces, is_path, unmangled_segs, unmangled_seg}
 use Rattle.sp_base.specs.PathTexts.{spelling_of, segs_in, IsPathText}
-use Rattle.sp_base.proofs.PathLemmas.{lacks_slash, path_pieces, pieces_lack, all-append, first, second, not_is, or_first, or_second, test_eq}
+use Rattle.sp_base.proofs.BoolLemmas.{T_first, T_second, false_from_T_not, or_first, or_second}
+use Rattle.sp_base.proofs.PathLemmas.{lacks_slash, path_pieces, pieces_lack, all-append}
 
 -- a slash before each piece of a text is a slash and the text
 spelled-onto : (b : ℕ) (parts : List (List ℕ)) (text : List ℕ) → spelling_of parts ≡ 47 ∷ text → spelling_of (onto_first b parts) ≡ 47 ∷ b ∷ text
@@ -19,12 +21,12 @@ pub spelled-pieces : (text : List ℕ) → spelling_of (pieces text) ≡ 47 ∷ 
 spelled-pieces [] = refl
 spelled-pieces (b ∷ text) =
     elim (b == 47) as (λ t. (b == 47) ≡ t → spelling_of (cond t ([] ∷ pieces text) (onto_first b (pieces text))) ≡ 47 ∷ b ∷ text) [
-      | true ↦ λ e. ap (λ more. 47 ∷ more) (spelled-pieces text) ∙ ap (λ n. 47 ∷ n ∷ text) (sym (test_eq b 47 e))
+      | true ↦ λ e. ap (λ more. 47 ∷ more) (spelled-pieces text) ∙ ap (λ n. 47 ∷ n ∷ text) (sym (eqb-true b 47 e))
       | false ↦ λ e. spelled-onto b (pieces text) text (spelled-pieces text)
     ] refl
 
 -- and segments that are spelled are the pieces after the first slash
-prefix_piece : (seg rest : List ℕ) (parts : List (List ℕ)) → has_slash seg ≡ false → pieces rest ≡ [] ∷ parts → pieces (seg ++ rest) ≡ seg ∷ parts
+pub prefix_piece : (seg rest : List ℕ) (parts : List (List ℕ)) → has_slash seg ≡ false → pieces rest ≡ [] ∷ parts → pieces (seg ++ rest) ≡ seg ∷ parts
 prefix_piece [] rest parts h e = e
 prefix_piece (b ∷ seg) rest parts h e =
     ap (λ t. cond t ([] ∷ pieces (seg ++ rest)) (onto_first b (pieces (seg ++ rest)))) (or_first _ _ h) ∙ ap (onto_first b) (prefix_piece seg rest parts (or_second _ _ h) e)
@@ -32,7 +34,7 @@ prefix_piece (b ∷ seg) rest parts h e =
 pub pieces-spelled : (segs : List (List ℕ)) → T (list_all lacks_slash segs) → pieces (spelling_of segs) ≡ [] ∷ segs
 pieces-spelled [] h = refl
 pieces-spelled (seg ∷ segs) h =
-    ap (λ parts. [] ∷ parts) (prefix_piece seg (spelling_of segs) segs (not_is _ (first (lacks_slash seg) _ h)) (pieces-spelled segs (second (lacks_slash seg) _ h)))
+    ap (λ parts. [] ∷ parts) (prefix_piece seg (spelling_of segs) segs (false_from_T_not _ (T_first (lacks_slash seg) _ h)) (pieces-spelled segs (T_second (lacks_slash seg) _ h)))
 
 pub segs_in-spelled : (segs : List (List ℕ)) → is_path segs ≡ true → segs_in (spelling_of segs) ≡ segs
 unfolding segs_in
@@ -40,7 +42,7 @@ segs_in-spelled segs h = ap (drop 1) (pieces-spelled segs (path_pieces segs h))
 
 all-drop : (p : List ℕ → Bool) (parts : List (List ℕ)) → T (list_all p parts) → T (list_all p (drop 1 parts))
 all-drop p [] h = tt
-all-drop p (part ∷ parts) h = second (p part) _ h
+all-drop p (part ∷ parts) h = T_second (p part) _ h
 
 pub segs_lack : (text : List ℕ) → T (list_all lacks_slash (segs_in text))
 unfolding segs_in

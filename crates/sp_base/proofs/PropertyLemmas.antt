@@ -1,12 +1,11 @@
 -- Lists of properties in the order of their names: what a search, a write and a removal make of them.
-use Rattle.std.proofs.Common.{◌≡◌, ℕ, zero, suc, ◌+◌, ◌<◌, Bool, true, false, not, ◌&&◌, T, List, [], ◌∷◌, ◌++◌, Some, None, length, get_or, take, drop, refl, sym, ◌∙◌, ap, subst, arith, add-one}
+use Rattle.std.proofs.Common.{◌≡◌, ℕ, zero, suc, ◌+◌, ◌<◌, Bool, not, T, List, [], ◌∷◌, ◌++◌, Some, None, length, get_or, take, drop, refl, sym, ◌∙◌, ap, subst, arith, add-one}
 use Rattle.std.proofs.lemmas.List.{take-append-drop, take-set, drop-set}
 use Rattle.std.proofs.Math.Seq.{drop-cons}
 use Rattle.std.proofs.Common.{cond}
 use Rattle.std.proofs.Math.ListN.{set}
 use Rattle.std.specs.List.{remove}
-use Rattle.std.specs.Ordering.{is_lt, is_eq, eq_by_cmp, ordering_reverse}
-use Rattle.std.specs.declared.cmp.Ordering.{Ordering}
+use Rattle.std.specs.Ordering.{is_eq, eq_by_cmp, ordering_reverse}
 use Rattle.std.specs.declared.cmp.Ordering.TheVariants.{Less, Equal, Greater}
 use Rattle.std.specs.Cmp.{IsTotalOrder}
 use Rattle.std.specs.Cmp.Lexicographic.{nat_list_cmp_total}
@@ -16,29 +15,11 @@ use Rattle.std.proofs.lemmas.Cmp.{tied_itself}
 use Rattle.sp_base.specs.declared.value.Value.{Value}
 use Rattle.sp_base.specs.Properties.{by_name}
 use Rattle.sp_base.specs.PropertyPlaces.{all_before, IsAt, IsGap}
+use Rattle.sp_base.proofs.BoolLemmas.{T_both, T_first, T_second}
+use Rattle.sp_base.proofs.OrderingLemmas.{T_from_less, less_from_T}
 
 abbrev Props : Type 0
 Props = List (List ℕ × Value)
-
-both : (a b : Bool) → T a → T b → T (a && b)
-both true b p q = q
-both false b p q = p
-
-first : (a b : Bool) → T (a && b) → T a
-first true b p = tt
-first false b p = p
-
-second : (a b : Bool) → T (a && b) → T b
-second true b p = p
-second false b p = absurd p
-
-less_is : (o : Ordering) → T (is_lt o) → o ≡ Less
-less_is Less p = refl
-less_is Equal p = absurd p
-less_is Greater p = absurd p
-
-is_less : (o : Ordering) → o ≡ Less → T (is_lt o)
-is_less o e = subst (λ r. T (is_lt r)) (sym e) tt
 
 total : IsTotalOrder by_name
 total = nat_list_cmp_total
@@ -55,22 +36,22 @@ less_back x y e = total.antisymm y x ∙ ap ordering_reverse e
 below_less : (x y : List ℕ) (es : Props) → by_name x y ≡ Less → T (below_all by_name y es) → T (below_all by_name x es)
 below_less x y [] p h = tt
 below_less x y (e ∷ es) p h =
-    both _ _ (is_less _ (total.trans x y e.0 p (less_is _ (first _ _ h)))) (below_less x y es p (second _ _ h))
+    T_both _ _ (T_from_less _ (total.trans x y e.0 p (less_from_T _ (T_first _ _ h)))) (below_less x y es p (T_second _ _ h))
 
 below_at : (x : List ℕ) (es : Props) (i : ℕ) (d : List ℕ × Value) → T (below_all by_name x es) → i < length es → d ≡ get_or es i d → by_name x d.0 ≡ Less
 below_at x [] i d h lt is = absurd (omega (arith, lt))
-below_at x (e ∷ es) zero d h lt is = ap (λ (p : List ℕ × Value). by_name x p.0) is ∙ less_is _ (first _ _ h)
-below_at x (e ∷ es) (suc i) d h lt is = below_at x es i d (second _ _ h) (omega (arith, lt)) is
+below_at x (e ∷ es) zero d h lt is = ap (λ (p : List ℕ × Value). by_name x p.0) is ∙ less_from_T _ (T_first _ _ h)
+below_at x (e ∷ es) (suc i) d h lt is = below_at x es i d (T_second _ _ h) (omega (arith, lt)) is
 
 -- the names up to one that is before this one are before it
 before_to : (name : List ℕ) (es : Props) (i : ℕ) (d : List ℕ × Value) → T (is_sorted by_name es) → i < length es → d ≡ get_or es i d
     → by_name d.0 name ≡ Less → all_before name (take (suc i) es)
 before_to name [] i d s lt is less = absurd (omega (arith, lt))
-before_to name (e ∷ es) zero d s lt is less = both _ _ (is_less _ (ap (λ (p : List ℕ × Value). by_name p.0 name) (sym is) ∙ less)) tt
+before_to name (e ∷ es) zero d s lt is less = T_both _ _ (T_from_less _ (ap (λ (p : List ℕ × Value). by_name p.0 name) (sym is) ∙ less)) tt
 before_to name (e ∷ es) (suc i) d s lt is less =
     let shorter : i < length es = omega (arith, lt) in
-    both _ _ (is_less _ (total.trans e.0 d.0 name (below_at e.0 es i d (first _ _ s) shorter is) less))
-    (before_to name es i d (second _ _ s) shorter is less)
+    T_both _ _ (T_from_less _ (total.trans e.0 d.0 name (below_at e.0 es i d (T_first _ _ s) shorter is) less))
+    (before_to name es i d (T_second _ _ s) shorter is less)
 
 pub before_more : (name : List ℕ) (es : Props) (i : ℕ) (d : List ℕ × Value) → T (is_sorted by_name es) → i < length es → d ≡ get_or es i d
     → by_name name d.0 ≡ Greater → all_before name (take (i + 1) es)
@@ -82,15 +63,15 @@ pub after_from : (name : List ℕ) (es : Props) (i : ℕ) (d : List ℕ × Value
 after_from name [] i d s lt is less = absurd (omega (arith, lt))
 after_from name (e ∷ es) zero d s lt is less =
     let here = ap (λ (p : List ℕ × Value). by_name name p.0) (sym is) ∙ less in
-    both _ _ (is_less _ here) (below_less name e.0 es here (first _ _ s))
-after_from name (e ∷ es) (suc i) d s lt is less = after_from name es i d (second _ _ s) (omega (arith, lt)) is less
+    T_both _ _ (T_from_less _ here) (below_less name e.0 es here (T_first _ _ s))
+after_from name (e ∷ es) (suc i) d s lt is less = after_from name es i d (T_second _ _ s) (omega (arith, lt)) is less
 
 before_name : (es : Props) (i : ℕ) (d : List ℕ × Value) → T (is_sorted by_name es) → i < length es → d ≡ get_or es i d → all_before d.0 (take i es)
 before_name [] i d s lt is = absurd (omega (arith, lt))
 before_name (e ∷ es) zero d s lt is = tt
 before_name (e ∷ es) (suc i) d s lt is =
     let shorter : i < length es = omega (arith, lt) in
-    both _ _ (is_less _ (below_at e.0 es i d (first _ _ s) shorter is)) (before_name es i d (second _ _ s) shorter is)
+    T_both _ _ (T_from_less _ (below_at e.0 es i d (T_first _ _ s) shorter is)) (before_name es i d (T_second _ _ s) shorter is)
 
 parts_at : (es : Props) (i : ℕ) (d : List ℕ × Value) → i < length es → d ≡ get_or es i d → es ≡ take i es ++ d ∷ drop (i + 1) es
 parts_at es i d lt is =
@@ -118,25 +99,25 @@ found_at name es i (key, value) s lt is tie =
 find_prefix : (name : List ℕ) (leading rest : Props) → all_before name leading → find by_name name (leading ++ rest) ≡ find by_name name rest
 find_prefix name [] rest h = refl
 find_prefix name (e ∷ leading) rest h =
-    ap (λ o. cond (is_eq o) (Some e.1) (find by_name name (leading ++ rest))) (greater_back e.0 name (less_is _ (first _ _ h)))
-    ∙ find_prefix name leading rest (second _ _ h)
+    ap (λ o. cond (is_eq o) (Some e.1) (find by_name name (leading ++ rest))) (greater_back e.0 name (less_from_T _ (T_first _ _ h)))
+    ∙ find_prefix name leading rest (T_second _ _ h)
 
 find_after : (name : List ℕ) (rest : Props) → T (below_all by_name name rest) → find by_name name rest ≡ None
 find_after name [] h = refl
 find_after name (e ∷ rest) h =
-    ap (λ o. cond (is_eq o) (Some e.1) (find by_name name rest)) (less_is _ (first _ _ h)) ∙ find_after name rest (second _ _ h)
+    ap (λ o. cond (is_eq o) (Some e.1) (find by_name name rest)) (less_from_T _ (T_first _ _ h)) ∙ find_after name rest (T_second _ _ h)
 
 put_prefix : (name : List ℕ) (value : Value) (leading rest : Props) → all_before name leading → put by_name name value (leading ++ rest) ≡ leading ++ put by_name name value rest
 put_prefix name value [] rest h = refl
 put_prefix name value (e ∷ leading) rest h =
     ap (λ o. by_order o ((name, value) ∷ e ∷ (leading ++ rest)) ((e.0, value) ∷ (leading ++ rest)) (e ∷ put by_name name value (leading ++ rest)))
-    (greater_back e.0 name (less_is _ (first _ _ h)))
-    ∙ ap (λ es. e ∷ es) (put_prefix name value leading rest (second _ _ h))
+    (greater_back e.0 name (less_from_T _ (T_first _ _ h)))
+    ∙ ap (λ es. e ∷ es) (put_prefix name value leading rest (T_second _ _ h))
 
 put_after : (name : List ℕ) (value : Value) (rest : Props) → T (below_all by_name name rest) → put by_name name value rest ≡ (name, value) ∷ rest
 put_after name value [] h = refl
 put_after name value (e ∷ rest) h =
-    ap (λ o. by_order o ((name, value) ∷ e ∷ rest) ((e.0, value) ∷ rest) (e ∷ put by_name name value rest)) (less_is _ (first _ _ h))
+    ap (λ o. by_order o ((name, value) ∷ e ∷ rest) ((e.0, value) ∷ rest) (e ∷ put by_name name value rest)) (less_from_T _ (T_first _ _ h))
 
 abbrev is_other : List ℕ → List ℕ → Bool
 is_other name key = not (eq_by_cmp by_name name key)
@@ -145,18 +126,18 @@ others_prefix : (name : List ℕ) (leading rest : Props) → all_before name lea
 others_prefix name [] rest h = refl
 others_prefix name (e ∷ leading) rest h =
     ap (λ o. cond (not (is_eq o)) (e ∷ where_key by_name (is_other name) (leading ++ rest)) (where_key by_name (is_other name) (leading ++ rest)))
-    (greater_back e.0 name (less_is _ (first _ _ h)))
-    ∙ ap (λ es. e ∷ es) (others_prefix name leading rest (second _ _ h))
+    (greater_back e.0 name (less_from_T _ (T_first _ _ h)))
+    ∙ ap (λ es. e ∷ es) (others_prefix name leading rest (T_second _ _ h))
 
 others_after : (name : List ℕ) (rest : Props) → T (below_all by_name name rest) → where_key by_name (is_other name) rest ≡ rest
 others_after name [] h = refl
 others_after name (e ∷ rest) h =
-    ap (λ o. cond (not (is_eq o)) (e ∷ where_key by_name (is_other name) rest) (where_key by_name (is_other name) rest)) (less_is _ (first _ _ h))
-    ∙ ap (λ es. e ∷ es) (others_after name rest (second _ _ h))
+    ap (λ o. cond (not (is_eq o)) (e ∷ where_key by_name (is_other name) rest) (where_key by_name (is_other name) rest)) (less_from_T _ (T_first _ _ h))
+    ∙ ap (λ es. e ∷ es) (others_after name rest (T_second _ _ h))
 
 sorted_rest : (leading rest : Props) → T (is_sorted by_name (leading ++ rest)) → T (is_sorted by_name rest)
 sorted_rest [] rest h = h
-sorted_rest (e ∷ leading) rest h = sorted_rest leading rest (second _ _ h)
+sorted_rest (e ∷ leading) rest h = sorted_rest leading rest (T_second _ _ h)
 
 pub find_at : (name : List ℕ) (es : Props) (i : ℕ) → (p : IsAt name es i) → find by_name name es ≡ Some p.value
 find_at name es i p =
@@ -185,7 +166,7 @@ others_at name es i p s =
     let sorted = sorted_rest (take i es) ((name, p.value) ∷ rest) (subst (λ list. T (is_sorted by_name list)) p.parts s) in
     ap (where_key by_name (is_other name)) p.parts ∙ others_prefix name (take i es) ((name, p.value) ∷ rest) p.before
     ∙ ap (λ o. take i es ++ cond (not (is_eq o)) ((name, p.value) ∷ where_key by_name (is_other name) rest) (where_key by_name (is_other name) rest)) (tied_itself total name)
-    ∙ ap (λ list. take i es ++ list) (others_after name rest (first _ _ sorted))
+    ∙ ap (λ list. take i es ++ list) (others_after name rest (T_first _ _ sorted))
 
 pub others_gap : (name : List ℕ) (es : Props) (i : ℕ) → IsGap name es i → where_key by_name (is_other name) es ≡ es
 others_gap name es i p =

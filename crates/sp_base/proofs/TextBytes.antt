@@ -4,9 +4,9 @@ use Rattle.std.proofs.lemmas.Bool.{and_parts}
 use lib.Utf8.{scalar, scalars, scalar_cases, encode, encodes}
 use Rattle.sp_base.specs.Bytes.{AreBytes}
 
-pub both_bytes : (a b : List ℕ) → AreBytes a → AreBytes b → AreBytes (a ++ b)
-both_bytes [] b p q = q
-both_bytes (x ∷ a) b p q = (p.0, both_bytes a b p.1 q)
+pub both_are_bytes : (a b : List ℕ) → AreBytes a → AreBytes b → AreBytes (a ++ b)
+both_are_bytes [] b p q = q
+both_are_bytes (x ∷ a) b p q = (p.0, both_are_bytes a b p.1 q)
 
 below : (c : ℕ) → scalar c ≡ true → c < 1114112
 below c e = ⊎_elim (λ h. omega (arith, h)) (λ h. h.1) (scalar_cases c e)
@@ -24,7 +24,7 @@ char_bytes c e = encoded c (nat_lt c 128) (nat_lt c 2048) (nat_lt c 65536) refl 
 
 chars_bytes : (cs : List ℕ) → scalars cs ≡ true → AreBytes (encodes cs)
 chars_bytes [] e = tt
-chars_bytes (c ∷ cs) e = let p = and_parts _ _ e in both_bytes (encode c) (encodes cs) (char_bytes c p.0) (chars_bytes cs p.1)
+chars_bytes (c ∷ cs) e = let p = and_parts _ _ e in both_are_bytes (encode c) (encodes cs) (char_bytes c p.0) (chars_bytes cs p.1)
 
 pub text_bytes : (text : List ℕ) → IsUtf8 text → AreBytes text
 text_bytes text u = subst AreBytes u.1.1 (chars_bytes u.0 u.1.0)

@@ -1,19 +1,22 @@
 -- With which files a disk begins: what the removal of those that were found makes of the files below a folder.
-use Rattle.std.proofs.Common.{◌≡◌, ◌≢◌, ◌+◌, ◌<◌, ◌≤◌, ◌&&◌, not, ◌⊎◌, inl, inr, ℕ, zero, suc, Bool, true, false, cond, List, [], ◌∷◌, Option, Some, None, get_or, length, refl, sym, ◌∙◌, ap, subst, arith}
+use Rattle.std.proofs.Common.{◌≡◌, ◌≢◌, ◌+◌, ◌<◌, ◌≤◌, ◌&&◌, not, ◌⊎◌, inl, inr, ℕ, zero, suc, Bool, true, false, cond, List, Option, Some, None, get_or, length, refl, sym, ◌∙◌, ap, subst, arith}
 use Rattle.std.specs.Prelude.{IfSome, option_map}
 use Rattle.std.specs.Cmp.Lexicographic.{nat_list_cmp_total}
 use Rattle.std.specs.FinMap.{contains_key, empty, get, get-empty, get-insert, get-remove}
 use Rattle.std.specs.Option.{is_some}
 use Rattle.std.specs.Ordering.{eq_by_cmp}
-use Rattle.std.proofs.lemmas.Bool.{true≢false}
+use Rattle.std.proofs.lemmas.Bool.{false_from_ne_true, true≢false}
+use Rattle.std.proofs.lemmas.List.{get_or_default}
 use Rattle.sp_base.specs.Names.{by_name}
+use Rattle.sp_base.proofs.BoolLemmas.{and_second}
+use Rattle.sp_base.proofs.OptionLemmas.{none_from_test, there_from_test}
 use Rattle.sp_outside.specs.FileNames.{is_below, is_beside, is_inside, is_left, is_own}
 use Rattle.sp_outside.specs.Files.{Files, IsOldOrNew, file_at, told_with, told_without, without_file}
 use Rattle.sp_outside.specs.FolderFiles.{IsNamesOf, WhileTold, boot_file, disk_files, files_begun, is_kept, is_same_boot, session_file}
 use Rattle.sp_outside.specs.NameIndex.{IsRestKept, IsSameBut, IsTaken, IsTakenOrNot}
 use Rattle.sp_outside.specs.declared.disk.DiskFault.{DiskFault}
 use Rattle.sp_outside.proofs.DiskFiles.{inside_at, outside_at, same_files}
-use Rattle.sp_outside.proofs.NameSets.{not_true, one_key, removed, removed_other}
+use Rattle.sp_outside.proofs.NameSets.{one_key, removed, removed_other}
 
 -- ---- files that are told before and after
 
@@ -61,7 +64,7 @@ put_but : (old : Option Files) (name bytes : List ℕ) → WhileTold (IsSameBut 
 put_but None name bytes = tt
 put_but (Some files) name bytes = λ other apart.
     get-insert nat_list_cmp_total files name bytes other
-    ∙ ap (λ b. cond b (Some bytes) (get files other)) (not_true (eq_by_cmp by_name other name) (λ same. apart (one_key other name same)))
+    ∙ ap (λ b. cond b (Some bytes) (get files other)) (false_from_ne_true (eq_by_cmp by_name other name) (λ same. apart (one_key other name same)))
 
 pub noted : (old new : Option Files) (name bytes : List ℕ) → new ≡ told_with old name bytes → WhileTold (IsSameBut name) old new
 noted old new name bytes is = subst (WhileTold (IsSameBut name) old) (sym is) (put_but old name bytes)
@@ -74,7 +77,7 @@ gone_but : (old : Option Files) (name : List ℕ) → WhileTold (IsSameBut name)
 gone_but None name = tt
 gone_but (Some files) name = λ other apart.
     get-remove nat_list_cmp_total files name other
-    ∙ ap (λ b. cond b None (get files other)) (not_true (eq_by_cmp by_name other name) (λ same. apart (one_key other name same)))
+    ∙ ap (λ b. cond b None (get files other)) (false_from_ne_true (eq_by_cmp by_name other name) (λ same. apart (one_key other name same)))
 
 pub cleared : (old new : Option Files) (name : List ℕ) → new ≡ told_without old name → WhileTold (IsSameBut name) old new
 cleared old new name is = subst (WhileTold (IsSameBut name) old) (sym is) (gone_but old name)
@@ -115,18 +118,6 @@ pub record IsCleared (found : List (List ℕ)) (at : ℕ) (first now : Files) : 
   pub fewer : (name : List ℕ) → contains_key now name ≡ true → contains_key first name ≡ true
   pub ahead : (name : List ℕ) → contains_key (disk_files now) name ≡ true → IsAhead found at name
 
-pub there : {X : Type 0} (o : Option X) → is_some o ≡ true → o ≢ None
-there None e none = true≢false (sym e)
-there (Some x) e none = true≢false (ap is_some none)
-
-pub there_some : {X : Type 0} (o : Option X) → o ≢ None → is_some o ≡ true
-there_some None there = absurd (there refl)
-there_some (Some x) there = refl
-
-pub no_some : {X : Type 0} (o : Option X) → is_some o ≡ false → o ≡ None
-no_some None e = refl
-no_some (Some x) e = absurd (true≢false e)
-
 inside_of : (files : Files) (name : List ℕ) (b : Bool) → is_inside name ≡ b → contains_key (disk_files files) name ≡ true → is_inside name ≡ true
 inside_of files name true is has = is
 inside_of files name false is has = absurd (true≢false (sym has ∙ ap is_some (outside_at files name is)))
@@ -141,13 +132,8 @@ begins_clearing found None names = tt
 begins_clearing found (Some files) names = record {
   rest = λ name outside. refl;
   fewer = λ name has. has;
-  ahead = λ name has. let at = (names name).1 (there (get files name) (disk_has files name has).1) in (at.0, omega arith, at.1, at.2);
+  ahead = λ name has. let at = (names name).1 (there_from_test (get files name) (disk_has files name has).1) in (at.0, omega arith, at.1, at.2);
 }
-
-pub same_default : (xs : List (List ℕ)) (k : ℕ) (x y : List ℕ) → k < length xs → get_or xs k x ≡ get_or xs k y
-same_default [] k x y lt = absurd (omega (arith, lt))
-same_default (z ∷ xs) zero x y lt = refl
-same_default (z ∷ xs) (suc k) x y lt = same_default xs k x y (omega (arith, lt))
 
 at_or_after : (at k : ℕ) → at ≤ k → (k ≡ at) ⊎ (at + 1 ≤ k)
 at_or_after zero zero le = inl refl
@@ -161,7 +147,7 @@ at_or_after (suc at) (suc k) le = elim (at_or_after at k (omega (arith, le))) [
 -- past a name that isn't one of those still to come
 passed : (found : List (List ℕ)) (at : ℕ) (item name : List ℕ) → item ≡ get_or found at item → (item ≡ name → ⊥) → IsAhead found at name → IsAhead found (at + 1) name
 passed found at item name is other ahead = elim (at_or_after at ahead.0 ahead.1) [
-  | inl same ↦ absurd (other (is ∙ same_default found at item name (subst (λ k. k < length found) same ahead.2)
+  | inl same ↦ absurd (other (is ∙ get_or_default found at item name (subst (λ k. k < length found) same ahead.2)
       ∙ subst (λ k. get_or found k name ≡ name) same ahead.3))
   | inr more ↦ (ahead.0, more, ahead.2, ahead.3)
 ]
@@ -181,7 +167,7 @@ passes_over found at item (Some first) (Some now) is outside so_far = record {
 -- a removal of one of the disk's keeps each file that is none
 rest_stays : (files : Files) (name q : List ℕ) → is_inside name ≡ true → is_inside q ≡ false → file_at (without_file files name) q ≡ file_at files q
 rest_stays files name q inside outside =
-    get-remove nat_list_cmp_total files name q ∙ ap (λ b. cond b None (get files q)) (not_true (eq_by_cmp by_name q name) (λ same.
+    get-remove nat_list_cmp_total files name q ∙ ap (λ b. cond b None (get files q)) (false_from_ne_true (eq_by_cmp by_name q name) (λ same.
     true≢false (sym inside ∙ sym (ap is_inside (one_key q name same)) ∙ outside)))
 
 fewer_stay : (files : Files) (name q : List ℕ) (e : Bool) → eq_by_cmp by_name q name ≡ e → contains_key (without_file files name) q ≡ true → (contains_key files q ≡ true) × (e ≡ false)
@@ -217,7 +203,7 @@ unlinks found at item a b c is inside so_far gone = subst (IsCleared found (at +
 -- at the end no file of the disk is left
 none_left : (found : List (List ℕ)) (at : ℕ) (first now : Files) → length found ≤ at → IsCleared found at first now → disk_files now ≡ empty
 none_left found at first now end so_far = same_files (disk_files now) empty (λ name.
-    no_some (get (disk_files now) name) (not_true (contains_key (disk_files now) name) (λ has.
+    none_from_test (get (disk_files now) name) (false_from_ne_true (contains_key (disk_files now) name) (λ has.
     let ahead = so_far.ahead name has in omega (arith, end, ahead.1, ahead.2)))
     ∙ sym (get-empty by_name name))
 
@@ -249,15 +235,11 @@ not_kept_told boot found at (Some first) (Some now) so_far = still_not_kept boot
 
 -- ---- each call of the opening
 
-second_true : (a b : Bool) → a && b ≡ true → b ≡ true
-second_true true b e = e
-second_true false b e = absurd (true≢false (sym e))
-
 pub below_of_inside : (name : List ℕ) → is_inside name ≡ true → is_below name ≡ true
-below_of_inside name inside = second_true (not (is_beside name)) (is_below name) inside
+below_of_inside name inside = and_second (not (is_beside name)) (is_below name) inside
 
 pub below_of_left : (name : List ℕ) → is_left name ≡ true → is_below name ≡ true
-below_of_left name left = second_true (not (is_own name)) (is_below name) (second_true (is_beside name) _ left)
+below_of_left name left = and_second (not (is_own name)) (is_below name) (and_second (is_beside name) _ left)
 
 outside_first : (a b c d : Bool) → a && (c && d) ≡ true → not a && b ≡ false
 outside_first true b c d e = refl

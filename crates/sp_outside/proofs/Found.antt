@@ -5,12 +5,14 @@ use Rattle.std.specs.FinMap.{contains_key, empty, get, get-empty, insert}
 use Rattle.std.specs.Option.{is_some}
 use Rattle.std.specs.Ordering.{eq_by_cmp}
 use Rattle.std.proofs.lemmas.Bool.{true≢false}
+use Rattle.std.proofs.lemmas.List.{get_or_default}
 use Rattle.sp_base.specs.Names.{by_name}
+use Rattle.sp_base.proofs.OptionLemmas.{test_from_there, there_from_test}
 use Rattle.sp_outside.specs.FileNames.{is_inside}
 use Rattle.sp_outside.specs.Files.{Files, file_at}
 use Rattle.sp_outside.specs.FolderFiles.{FolderState, IsNamesOf, WhileTold, boot_file, disk_files, files_begun, files_held, is_same_boot}
 use Rattle.sp_outside.specs.NameIndex.{IsIndex, IsLeftTaken, IsNamesOfDisk, NameSet}
-use Rattle.sp_outside.proofs.Begun.{disk_has, same_default, there, there_some}
+use Rattle.sp_outside.proofs.Begun.{disk_has}
 use Rattle.sp_outside.proofs.DiskFiles.{inside_at, outside_at}
 use Rattle.sp_outside.proofs.Indexed.{Knows, open_held}
 use Rattle.sp_outside.proofs.Left.{before_or_at, left_disk}
@@ -30,7 +32,7 @@ no_names_yet found name = (
 this_or_before : (found : List (List ℕ)) (at : ℕ) (item name : List ℕ) → item ≡ get_or found at item → ((k : ℕ) × (k < at + 1) × (k < length found) × (get_or found k name ≡ name))
     → (item ≡ name) ⊎ ((k : ℕ) × (k < at) × (k < length found) × (get_or found k name ≡ name))
 this_or_before found at item name is place = elim (before_or_at at place.0 place.1) [
-  | inl same ↦ inl (is ∙ same_default found at item name (subst (λ k. k < length found) same place.2) ∙ subst (λ k. get_or found k name ≡ name) same place.3)
+  | inl same ↦ inl (is ∙ get_or_default found at item name (subst (λ k. k < length found) same place.2) ∙ subst (λ k. get_or found k name ≡ name) same place.3)
   | inr less ↦ inr (place.0, less, place.2, place.3)
 ]
 
@@ -46,7 +48,7 @@ add_step found at item names new true inside lt is so_far added name = (
   λ has.
       elim (eq_by_cmp by_name name item) as (λ e. eq_by_cmp by_name name item ≡ e → (is_inside name ≡ true) × ((k : ℕ) × (k < at + 1) × (k < length found) × (get_or found k name ≡ name))) [
         | true ↦ λ t. let same : item ≡ name = sym (one_key name item t) in
-            (sym (ap is_inside same) ∙ inside, (at, omega arith, lt, same_default found at name item lt ∙ sym is ∙ same))
+            (sym (ap is_inside same) ∙ inside, (at, omega arith, lt, get_or_default found at name item lt ∙ sym is ∙ same))
         | false ↦ λ t.
             let old = (so_far name).0 (sym (inserted_other names item tt name t) ∙ sym (ap (λ n. contains_key n name) added) ∙ has) in
             (old.0, (old.1.0, omega (arith, old.1.1), old.1.2, old.1.3))
@@ -81,8 +83,8 @@ all_added found at names end so_far name = (
 index_found : (found : List (List ℕ)) (names : NameSet) (old new : Files) → IsNamesOf old found → IsNamesOfDisk found names → disk_files new ≡ disk_files old
     → IsIndex (disk_files new) names empty
 index_found found names old new all inside same = subst (λ held. IsIndex held names empty) (sym same) (record {
-  listed = λ name has. let is = disk_has old name has in (inside name).1 (is.0, (all name).1 (there (get old name) is.1));
-  backed = λ name has sure. let is = (inside name).0 has in ap is_some (inside_at old name is.0) ∙ there_some (get old name) ((all name).0 is.1);
+  listed = λ name has. let is = disk_has old name has in (inside name).1 (is.0, (all name).1 (there_from_test (get old name) is.1));
+  backed = λ name has sure. let is = (inside name).0 has in ap is_some (inside_at old name is.0) ∙ test_from_there (get old name) ((all name).0 is.1);
 })
 
 index_none : (new : Files) → disk_files new ≡ empty → IsIndex (disk_files new) empty empty

@@ -11,15 +11,15 @@ use Rattle.std.proofs.lemmas.Map.{lookup-remove_entry}
 use Rattle.std.proofs.lemmas.Map.Keys.{IsDistinct-from_sorted}
 use Rattle.std.specs.BTreeMap.{insert_entry, is_at}
 use Rattle.std.specs.Map.{lookup, remove_entry, keys_of}
-use Rattle.std.specs.Ordering.{eq_by_cmp, is_eq, match_ordering, nat_cmp}
+use Rattle.std.specs.Ordering.{eq_by_cmp, match_ordering, nat_cmp}
 use Rattle.std.specs.Cmp.Lexicographic.{slice_cmp, nat_list_cmp_total}
 use Rattle.std.specs.FinMap.{get, insert, remove, get-insert, get-remove, get-from_entries, same_map, slice_cmp-IsAntisymmetric, nat_cmp-IsAntisymmetric, IsAntisymmetric}
 use Rattle.std.specs.FinMap.Entries.{find, put, find-put, by_order}
-use Rattle.std.specs.declared.cmp.Ordering.{Ordering}
 use Rattle.std.specs.declared.cmp.Ordering.TheVariants.{Less, Equal, Greater}
 use Rattle.std.specs.declared.string.String.{String}
 use Rattle.std.specs.declared.alloc.Global.{Global}
 use Rattle.sp_base.specs.Names.{by_name}
+use Rattle.sp_base.proofs.OrderingLemmas.{equal_from_test}
 use Rattle.sp_outside.specs.Files.{IsName}
 use Rattle.sp_outside.specs.NameEntries.{NameEntries, entries_by_bytes, kept_by_name}
 
@@ -53,11 +53,6 @@ held_with key kept held = same_map nat_list_cmp_total same_name _ _ (λ q.
     ∙ ap (cond (eq_by_cmp by_name q (string_bytes key)) (Some kept)) (sym (get-from_entries nat_list_cmp_total (entries_by_bytes held) q))
     ∙ sym (get-insert nat_list_cmp_total (kept_by_name held) (string_bytes key) kept q))
 
-pub equal : (o : Ordering) → is_eq o ≡ true → o ≡ Equal
-equal Less e = absurd (true≢false (sym e))
-equal Equal e = refl
-equal Greater e = absurd (true≢false (sym e))
-
 find_is : {X : Type 0} (name : List ℕ) (es : List (List ℕ × X)) → find by_name name es ≡ lookup (eq_by_cmp by_name name) es
 find_is name [] = refl
 find_is name (e ∷ es) = ap (cond (eq_by_cmp by_name name e.0) (Some e.1)) (find_is name es)
@@ -85,7 +80,7 @@ names_rise [] h = h
 names_rise (e ∷ held) h = (above e.0 held h.0, names_rise held h.1)
 
 one_name : (name x y : List ℕ) → eq_by_cmp by_name name x ≡ true → eq_by_cmp by_name name y ≡ eq_by_cmp by_name x y
-one_name name x y e = ap (λ n. eq_by_cmp by_name n y) (same_name name x (equal (by_name name x) e))
+one_name name x y e = ap (λ n. eq_by_cmp by_name n y) (same_name name x (equal_from_test (by_name name x) e))
 
 -- a removal at a name is one in the map
 pub held_without : {X : Type 0} (name : List ℕ) (held : NameEntries X) → IsStrictlySortedBy string_cmp (keys_of held)
@@ -106,6 +101,6 @@ pub found_size : {X : Type 0} (name : List ℕ) (held : NameEntries X) → All (
 found_size name [] sizes e = absurd (true≢false (sym e))
 found_size {X} name (e ∷ held) sizes is =
     elim (is_key name e.0) as (λ b. is_key name e.0 ≡ b → is_some (cond b (Some e.1) (lookup (is_key name) held)) ≡ true → IsName name) [
-      | true ↦ λ t _. subst IsName (sym (same_name name (string_bytes e.0) (equal (by_name name (string_bytes e.0)) t))) (sizes zero e.0 (omega arith))
+      | true ↦ λ t _. subst IsName (sym (same_name name (string_bytes e.0) (equal_from_test (by_name name (string_bytes e.0)) t))) (sizes zero e.0 (omega arith))
       | false ↦ λ _ more. found_size name held (λ k d lt. sizes (suc k) d (omega (arith, lt))) more
     ] refl is

@@ -4,7 +4,8 @@ use Rattle.std.specs.Prelude.{⊤, IfErr, IfSome, OnOk}
 use Rattle.std.specs.Cmp.Lexicographic.{nat_list_cmp_total}
 use Rattle.std.specs.FinMap.{get, get-remove}
 use Rattle.std.specs.Ordering.{eq_by_cmp}
-use Rattle.std.proofs.lemmas.Bool.{true≢false}
+use Rattle.std.proofs.lemmas.Bool.{false_from_ne_true, true≢false}
+use Rattle.std.proofs.lemmas.List.{get_or_default}
 use Rattle.sp_base.specs.Names.{by_name}
 use Rattle.sp_outside.specs.Causes.{HasDiskCause}
 use Rattle.sp_outside.specs.FileNames.{is_left}
@@ -13,8 +14,8 @@ use Rattle.sp_outside.specs.FolderFiles.{HasNoFault, WhileTold, disk_files}
 use Rattle.sp_outside.specs.NameIndex.{IsLeftGone, IsLeftOrNot, IsLeftTaken, IsWithout}
 use Rattle.sp_outside.specs.declared.disk.DiskFault.{DiskFault}
 use Rattle.sp_outside.specs.declared.disk.DiskFault.TheVariants.{Failed, NoMemory}
-use Rattle.sp_outside.proofs.Begun.{inside_same, outside_of_left, same_default, while_gone, while_same, while_then}
-use Rattle.sp_outside.proofs.NameSets.{not_true, one_key, same_key}
+use Rattle.sp_outside.proofs.Begun.{inside_same, outside_of_left, while_gone, while_same, while_then}
+use Rattle.sp_outside.proofs.NameSets.{one_key, same_key}
 
 -- ---- faults
 
@@ -66,7 +67,7 @@ none_stays files name q none =
 
 others_stay : (files : Files) (name q : List ℕ) → is_left name ≡ true → is_left q ≡ false → file_at (without_file files name) q ≡ file_at files q
 others_stay files name q left other =
-    get-remove nat_list_cmp_total files name q ∙ ap (λ b. cond b None (get files q)) (not_true (eq_by_cmp by_name q name) (λ same.
+    get-remove nat_list_cmp_total files name q ∙ ap (λ b. cond b None (get files q)) (false_from_ne_true (eq_by_cmp by_name q name) (λ same.
     true≢false (sym left ∙ sym (ap is_left (one_key q name same)) ∙ other)))
 
 gone_itself : (files : Files) (name : List ℕ) → file_at (without_file files name) name ≡ None
@@ -110,7 +111,7 @@ step_gone : (found : List (List ℕ)) (at : ℕ) (item : List ℕ) (a b : Files)
     → (is_left item ≡ true → IsWithout item a b) → IsGoneTo found (at + 1) b
 step_gone found at item a b is so_far left gone k before lt named = elim (before_or_at at k before) [
   | inl same ↦ none_at item (get_or found k []) a b
-      (ap (λ n. get_or found n []) same ∙ same_default found at [] item (subst (λ n. n < length found) same lt) ∙ sym is) gone named
+      (ap (λ n. get_or found n []) same ∙ get_or_default found at [] item (subst (λ n. n < length found) same lt) ∙ sym is) gone named
   | inr less ↦ still_none item (get_or found k []) a b left (so_far k less lt named)
 ]
 
@@ -127,7 +128,7 @@ none_gone_yet found (Some files) = λ k before lt named. absurd (omega (arith, b
 
 whole_gone : (found : List (List ℕ)) (at : ℕ) (files : Files) → length found ≤ at → IsGoneTo found at files → IsLeftGone found files
 whole_gone found at files end so_far name has left =
-    let same : get_or found has.0 [] ≡ name = same_default found has.0 [] name has.1 ∙ has.2 in
+    let same : get_or found has.0 [] ≡ name = get_or_default found has.0 [] name has.1 ∙ has.2 in
     subst (λ n. file_at files n ≡ None) same (so_far has.0 (omega (arith, has.1, end)) has.1 (ap is_left same ∙ left))
 
 pub all_left_gone : (found : List (List ℕ)) (at : ℕ) (told : Option Files) → length found ≤ at → IfSome told (IsGoneTo found at) → IfSome told (IsLeftGone found)
@@ -137,4 +138,4 @@ all_left_gone found at (Some files) end so_far = whole_gone found at files end s
 -- ---- what it leaves of the disk
 
 pub left_disk : (old new : Files) → IsLeftTaken old new → disk_files new ≡ disk_files old
-left_disk old new taken = inside_same old new (λ name inside. taken.kept name (not_true (is_left name) (λ left. true≢false (sym inside ∙ outside_of_left name left))))
+left_disk old new taken = inside_same old new (λ name inside. taken.kept name (false_from_ne_true (is_left name) (λ left. true≢false (sym inside ∙ outside_of_left name left))))

@@ -1,85 +1,52 @@
 -- The names of a list are those of files, and none that it came to is left out.
-use Rattle.std.proofs.Common.{◌≡◌, ◌≢◌, ◌<◌, ◌&&◌, ◌||◌, ◌⊎◌, inl, inr, ℕ, zero, suc, Bool, true, false, cond, List, [], ◌∷◌, Option, Some, None, get_or, length, take, refl, sym, ◌∙◌, ap, subst, arith}
+use Rattle.std.proofs.Common.{◌≡◌, ◌≢◌, ◌<◌, ◌&&◌, ◌⊎◌, inl, inr, ℕ, zero, suc, Bool, true, false, cond, List, [], ◌∷◌, length, take, refl, sym, ◌∙◌, ap, subst, arith}
 use Rattle.std.specs.Prelude.{Contains, ◌↔◌}
 use Rattle.std.specs.Cmp.{eq_by_cmp_equiv}
 use Rattle.std.specs.Cmp.Lexicographic.{nat_list_cmp_total}
 use Rattle.std.specs.FinMap.{FinMap, contains_key, contains_key-keys, entries, entries_sorted, keys}
 use Rattle.std.specs.List.{AllByRecursion, filter, list_any}
 use Rattle.std.specs.List.Sorted.{IsStrictlySortedBy}
-use Rattle.std.specs.Option.{is_some}
 use Rattle.std.specs.Ordering.{eq_by_cmp, is_lt}
-use Rattle.std.specs.declared.cmp.Ordering.{Ordering}
-use Rattle.std.specs.declared.cmp.Ordering.TheVariants.{Less, Equal, Greater}
-use Rattle.std.proofs.lemmas.Bool.{true≢false}
+use Rattle.std.specs.declared.cmp.Ordering.TheVariants.{Less}
+use Rattle.std.proofs.lemmas.Bool.{or_cases, true≢false}
 use Rattle.std.proofs.lemmas.List.Elements.{All-contains, All-contains_itself, All-filter, filter_passes}
 use Rattle.std.proofs.lemmas.List.Kept.{IsStrictlySortedBy-filter}
 use Rattle.std.proofs.lemmas.Map.Views.{list_any-from_Contains}
 use Rattle.sp_base.specs.Names.{by_name}
+use Rattle.sp_base.proofs.BoolLemmas.{and_first, and_second}
+use Rattle.sp_base.proofs.ListLemmas.{contains_first, contains_later, first_or_later}
+use Rattle.sp_base.proofs.OptionLemmas.{test_from_there, there_from_test}
+use Rattle.sp_base.proofs.OrderingLemmas.{equal_from_test, less_from_test}
 use Rattle.sp_outside.specs.FileNames.{HasReached, IsNameAfter}
 use Rattle.sp_outside.specs.Files.{Files, file_at, has_prefix, names_after, names_from}
 use Rattle.sp_outside.specs.FolderFiles.{IsNamesOf}
-use Rattle.sp_outside.proofs.HeldNames.{equal, same_name}
+use Rattle.sp_outside.proofs.HeldNames.{same_name}
 use Rattle.sp_outside.proofs.Listing.{rises, wanted}
 
 -- ---- elements
 
-pub here : (x : List ℕ) (xs : List (List ℕ)) → Contains (x ∷ xs) x
-here x xs = (0, omega arith, refl)
-
-pub there : (x y : List ℕ) (xs : List (List ℕ)) → Contains xs y → Contains (x ∷ xs) y
-there x y xs has = (suc has.0, omega (arith, has.1), has.2)
-
-at_place : (x y : List ℕ) (xs : List (List ℕ)) (k : ℕ) → k < length (x ∷ xs) → get_or (x ∷ xs) k y ≡ y → (x ≡ y) ⊎ Contains xs y
-at_place x y xs zero lt e = inl e
-at_place x y xs (suc k) lt e = inr (k, omega (arith, lt), e)
-
 pub first_or_rest : (x y : List ℕ) (xs : List (List ℕ)) → Contains (x ∷ xs) y → (x ≡ y) ⊎ Contains xs y
-first_or_rest x y xs has = at_place x y xs has.0 has.1 has.2
+first_or_rest x y xs has = first_or_later x y xs has.0 has.1 has.2
 
 kept_by : (test : List ℕ → Bool) (xs : List (List ℕ)) (x : List ℕ) → Contains xs x → test x ≡ true → Contains (filter test xs) x
 kept_by test [] x has passes = absurd (omega (arith, has.1))
 kept_by test (y ∷ xs) x has passes = elim (first_or_rest y x xs has) [
   | inl same ↦ subst (λ (l : List (List ℕ)). Contains l x) (sym (ap (λ b. cond b (y ∷ filter test xs) (filter test xs)) (ap test same ∙ passes)))
-      (subst (λ z. Contains (z ∷ filter test xs) x) (sym same) (here x (filter test xs)))
+      (subst (λ z. Contains (z ∷ filter test xs) x) (sym same) (contains_first x (filter test xs)))
   | inr more ↦ elim (test y) as (λ b. Contains (cond b (y ∷ filter test xs) (filter test xs)) x) [
-    | true ↦ there y x (filter test xs) (kept_by test xs x more passes)
+    | true ↦ contains_later y x (filter test xs) (kept_by test xs x more passes)
     | false ↦ kept_by test xs x more passes
   ]
 ]
 
 -- ---- the names of files
 
-some_there : {A : Type 0} (o : Option A) → is_some o ≡ true → o ≢ None
-some_there None e none = true≢false (sym e)
-some_there (Some x) e none = true≢false (ap is_some none)
-
-there_some : {A : Type 0} (o : Option A) → o ≢ None → is_some o ≡ true
-there_some None there = absurd (there refl)
-there_some (Some x) there = refl
-
-one_true : (a b : Bool) → a || b ≡ true → (a ≡ true) ⊎ (b ≡ true)
-one_true true b e = inl refl
-one_true false b e = inr e
-
 among : (name : List ℕ) (names : List (List ℕ)) → list_any (eq_by_cmp by_name name) names ≡ true → Contains names name
 among name [] e = absurd (true≢false (sym e))
-among name (other ∷ names) e = elim (one_true (eq_by_cmp by_name name other) (list_any (eq_by_cmp by_name name) names) e) [
-  | inl same ↦ subst (λ x. Contains (x ∷ names) name) (same_name name other (equal (by_name name other) same)) (here name names)
-  | inr more ↦ there other name names (among name names more)
+among name (other ∷ names) e = elim (or_cases (eq_by_cmp by_name name other) (list_any (eq_by_cmp by_name name) names) e) [
+  | inl same ↦ subst (λ x. Contains (x ∷ names) name) (same_name name other (equal_from_test (by_name name other) same)) (contains_first name names)
+  | inr more ↦ contains_later other name names (among name names more)
 ]
-
-first_true : (a b : Bool) → a && b ≡ true → a ≡ true
-first_true true b e = refl
-first_true false b e = absurd (true≢false (sym e))
-
-second_true : (a b : Bool) → a && b ≡ true → b ≡ true
-second_true true b e = e
-second_true false b e = absurd (true≢false (sym e))
-
-less_is : (o : Ordering) → is_lt o ≡ true → o ≡ Less
-less_is Less e = refl
-less_is Equal e = absurd (true≢false (sym e))
-less_is Greater e = absurd (true≢false (sym e))
 
 pub of_names : {X : Type 0} (kept : FinMap by_name X) (prefix after name : List ℕ)
     → Contains (names_from (keys kept) prefix after) name ↔ ((has_prefix prefix name ≡ true) × (by_name after name ≡ Less) × (contains_key kept name ≡ true))
@@ -88,8 +55,8 @@ of_names kept prefix after name =
       λ has.
           let passes = All-contains (λ n. wanted prefix after n ≡ true) names name (filter_passes (wanted prefix after) (keys kept)) has in
           let known = All-contains (Contains (keys kept)) names name (All-filter (wanted prefix after) (Contains (keys kept)) (keys kept) (All-contains_itself (keys kept))) has in (
-            first_true _ _ passes,
-            less_is _ (second_true (has_prefix prefix name) _ passes),
+            and_first _ _ passes,
+            less_from_test _ (and_second (has_prefix prefix name) _ passes),
             contains_key-keys kept name ∙ list_any-from_Contains (eq_by_cmp_equiv nat_list_cmp_total) name (keys kept) known,
           ),
       λ is.
@@ -101,15 +68,15 @@ of_names kept prefix after name =
 pub of_files : (files : Files) (prefix after name : List ℕ) → Contains (names_after files prefix after) name ↔ IsNameAfter files prefix after name
 of_files files prefix after name =
     let is = of_names files prefix after name in (
-      λ has. let named = is.0 has in (named.0, named.1, some_there (file_at files name) named.2),
-      λ named. is.1 (named.0, named.1, there_some (file_at files name) named.2),
+      λ has. let named = is.0 has in (named.0, named.1, there_from_test (file_at files name) named.2),
+      λ named. is.1 (named.0, named.1, test_from_there (file_at files name) named.2),
     )
 
 -- all names are exactly those of files
 pub all_names_of : (files : Files) (names : List (List ℕ)) → names ≡ keys files → IsNamesOf files names
 all_names_of files names is name = (
-  λ has. some_there (file_at files name) (contains_key-keys files name ∙ list_any-from_Contains (eq_by_cmp_equiv nat_list_cmp_total) name (keys files) (subst (λ (l : List (List ℕ)). Contains l name) is has)),
-  λ stands. subst (λ (l : List (List ℕ)). Contains l name) (sym is) (among name (keys files) (sym (contains_key-keys files name) ∙ there_some (file_at files name) stands)),
+  λ has. there_from_test (file_at files name) (contains_key-keys files name ∙ list_any-from_Contains (eq_by_cmp_equiv nat_list_cmp_total) name (keys files) (subst (λ (l : List (List ℕ)). Contains l name) is has)),
+  λ stands. subst (λ (l : List (List ℕ)). Contains l name) (sym is) (among name (keys files) (sym (contains_key-keys files name) ∙ test_from_there (file_at files name) stands)),
 )
 
 -- ---- names that rise
@@ -128,10 +95,10 @@ unfolding IsStrictlySortedBy
 reached zero names listed name rising has first last = absurd (omega (arith, first.1))
 reached (suc n) [] listed name rising has first last = absurd (omega (arith, has.1))
 reached (suc n) (next ∷ names) listed name rising has first last = elim (first_or_rest next name names has) [
-  | inl same ↦ subst (λ x. Contains (x ∷ take n names) name) (sym same) (here name (take n names))
+  | inl same ↦ subst (λ x. Contains (x ∷ take n names) name) (sym same) (contains_first name (take n names))
   | inr more ↦ elim (first_or_rest next listed (take n names) first) [
     | inl same ↦ absurd (last (subst (λ x. by_name x name ≡ Less) same (above next names name rising.0 more)))
-    | inr later ↦ there next name (take n names) (reached n names listed name rising.1 more later last)
+    | inr later ↦ contains_later next name (take n names) (reached n names listed name rising.1 more later last)
   ]
 ]
 

@@ -8,8 +8,7 @@ use Rattle.std.specs.Map.{keys_of}
 use Rattle.std.specs.Map.Iter.{deref_pair}
 use Rattle.std.specs.BTreeMap.Range.{range_contains}
 use Rattle.std.specs.Ordering.{is_le, is_lt}
-use Rattle.std.specs.declared.cmp.Ordering.{Ordering}
-use Rattle.std.specs.declared.cmp.Ordering.TheVariants.{Less, Equal, Greater}
+use Rattle.std.specs.declared.cmp.Ordering.TheVariants.{Less}
 use Rattle.std.specs.declared.ops.Bound.{Bound}
 use Rattle.std.specs.declared.ops.Bound.TheVariants.{Included, Excluded, Unbounded}
 use Rattle.std.specs.declared.string.String.{String}
@@ -17,13 +16,15 @@ use Rattle.std.specs.declared.alloc.Global.{Global}
 use Rattle.std.specs.Cmp.Lexicographic.{nat_list_cmp_total}
 use Rattle.std.specs.FinMap.{FinMap, keys, entries, entries_sorted, from_sorted, get-from_entries, get-from_sorted, entries-from_sorted, same_map}
 use Rattle.std.specs.FinMap.Entries.{is_sorted, below_all}
-use Rattle.std.proofs.lemmas.Bool.{true≢false}
+use Rattle.std.proofs.lemmas.Bool.{false_from_ne_true, true≢false}
 use Rattle.std.proofs.lemmas.Str.{IsUtf8-string_bytes}
 use Rattle.std.proofs.Math.Seq.{get_or-append_seam}
 use Rattle.std.proofs.lemmas.List.{append-nil, length-append, map-append, take_all, take_at, length-take}
 use Rattle.std.proofs.lemmas.List.Kept.{IsStrictlySortedBy-filter}
 use Rattle.std.proofs.lemmas.List.Elements.{filter-append, filter_passes, All-filter, All-take}
 use Rattle.sp_base.specs.Names.{by_name}
+use Rattle.sp_base.proofs.BoolLemmas.{T_both, T_first, T_second, and_first, and_second, and_true}
+use Rattle.sp_base.proofs.OrderingLemmas.{T_from_less, less_from_T, less_from_test}
 use Rattle.sp_outside.specs.Files.{IsName, IsListing, has_prefix, names_from}
 use Rattle.sp_outside.specs.NameEntries.{NameEntries, IsFirstPlace, entries_by_bytes, kept_by_name}
 use Rattle.sp_outside.proofs.HeldNames.{same_name}
@@ -33,35 +34,15 @@ use Rattle.sp_outside.proofs.Prefixes.{after_both, rest_both, prefix_between, pr
 abbrev pub names_of : {X : Type 0} → NameEntries X → List (List ℕ)
 names_of held = map (λ e. string_bytes e.0) held
 
-both : (a b : Bool) → T a → T b → T (a && b)
-both true b p q = q
-both false b p q = p
-
-first : (a b : Bool) → T (a && b) → T a
-first true b p = tt
-first false b p = p
-
-second : (a b : Bool) → T (a && b) → T b
-second true b p = p
-second false b p = absurd p
-
-less : (o : Ordering) → T (is_lt o) → o ≡ Less
-less Less p = refl
-less Equal p = absurd p
-less Greater p = absurd p
-
-is_less : (o : Ordering) → o ≡ Less → T (is_lt o)
-is_less o e = subst (λ r. T (is_lt r)) (sym e) tt
-
 below : {X : Type 0} (key : String Global) (held : NameEntries X) → AllByRecursion (λ other. string_cmp key other ≡ Less) (keys_of held)
     → T (below_all by_name (string_bytes key) (entries_by_bytes held))
 below key [] h = tt
-below key (e ∷ held) h = both _ _ (is_less _ h.0) (below key held h.1)
+below key (e ∷ held) h = T_both _ _ (T_from_less _ h.0) (below key held h.1)
 
 sorted_named : {X : Type 0} (held : NameEntries X) → IsStrictlySortedBy string_cmp (keys_of held) → T (is_sorted by_name (entries_by_bytes held))
 unfolding IsStrictlySortedBy
 sorted_named [] h = tt
-sorted_named (e ∷ held) h = both _ _ (below e.0 held h.0) (sorted_named held h.1)
+sorted_named (e ∷ held) h = T_both _ _ (below e.0 held h.0) (sorted_named held h.1)
 
 entries_held : {X : Type 0} (held : NameEntries X) → IsStrictlySortedBy string_cmp (keys_of held) → entries (kept_by_name held) ≡ entries_by_bytes held
 entries_held held rising =
@@ -88,14 +69,6 @@ texts_held [] k d lt = absurd (omega (arith, lt))
 texts_held (e ∷ held) zero d lt = IsUtf8-string_bytes e.0
 texts_held (e ∷ held) (suc k) d lt = texts_held held k d (omega (arith, lt))
 
-first_true : (a b : Bool) → a && b ≡ true → a ≡ true
-first_true true b e = refl
-first_true false b e = absurd (true≢false (sym e))
-
-second_true : (a b : Bool) → a && b ≡ true → b ≡ true
-second_true true b e = e
-second_true false b e = absurd (true≢false (sym e))
-
 abbrev in_range : {X : Type 0} → Bound (String Global) → String Global × X → Bool
 in_range start e = range_contains string_cmp start Unbounded e.0
 
@@ -106,10 +79,6 @@ wanted prefix after name = has_prefix prefix name && is_lt (by_name after name)
 same_true : (a b c : Bool) → (a ≡ true → b ≡ c) → a && b ≡ a && c
 same_true true b c e = e refl
 same_true false b c e = refl
-
-and_true : (b : Bool) → b && true ≡ b
-and_true true = refl
-and_true false = refl
 
 from_place : (prefix after : List ℕ) (start : Bound (String Global)) → IsFirstPlace prefix after start → (key : String Global)
     → wanted prefix after (string_bytes key) ≡ has_prefix prefix (string_bytes key) && range_contains string_cmp start Unbounded key
@@ -125,10 +94,10 @@ from_place prefix after Unbounded is key = absurd is
 place_first : (prefix after : List ℕ) (start : Bound (String Global)) → IsFirstPlace prefix after start → (key : String Global)
     → range_contains string_cmp start Unbounded key ≡ true → is_le (by_name prefix (string_bytes key)) ≡ true
 place_first prefix after (Included place) is key e =
-    sym (ap (λ p. is_le (by_name p (string_bytes key))) is.0) ∙ first_true _ _ e
+    sym (ap (λ p. is_le (by_name p (string_bytes key))) is.0) ∙ and_first _ _ e
 place_first prefix after (Excluded place) is key e =
     rest_both after prefix (string_bytes key) (by_name after prefix) refl is.1
-    (sym (ap (λ p. is_lt (by_name p (string_bytes key))) is.0) ∙ first_true _ _ e)
+    (sym (ap (λ p. is_lt (by_name p (string_bytes key))) is.0) ∙ and_first _ _ e)
 place_first prefix after Unbounded is key e = absurd is
 
 ranged : {X : Type 0} (prefix after : List ℕ) (start : Bound (String Global)) → IsFirstPlace prefix after start → (held : NameEntries X)
@@ -226,17 +195,13 @@ unfolding IsStrictlySortedBy
 rest_above [] item rest h = h.0
 rest_above (e ∷ seen) item rest h = rest_above seen item rest h.1
 
-not_true : (b : Bool) → (b ≡ true → ⊥) → b ≡ false
-not_true true none = absurd (none refl)
-not_true false none = refl
-
 -- after a name that isn't before the prefix and doesn't begin with it no name does
 none_after : {X : Type 0} (prefix : List ℕ) (item : String Global × X) (rest : NameEntries X) → is_le (by_name prefix (string_bytes item.0)) ≡ true
     → has_prefix prefix (string_bytes item.0) ≡ false → AllByRecursion (λ other. string_cmp item.0 other ≡ Less) (keys_of rest)
     → filter (has_prefix prefix) (names_of rest) ≡ []
 none_after prefix item [] le lacks above = refl
 none_after prefix item (e ∷ rest) le lacks above =
-    let none : has_prefix prefix (string_bytes e.0) ≡ false = not_true _ (λ has.
+    let none : has_prefix prefix (string_bytes e.0) ≡ false = false_from_ne_true _ (λ has.
     true≢false (sym (prefix_between prefix (string_bytes item.0) (string_bytes e.0) le (ap is_lt above.0) has) ∙ lacks)) in
     ap (λ b. cond b (string_bytes e.0 ∷ filter (has_prefix prefix) (names_of rest)) (filter (has_prefix prefix) (names_of rest))) none
     ∙ none_after prefix item rest le lacks above.1
@@ -274,23 +239,18 @@ lacking {X} prefix after start held range items item rest names most rising plac
 
 -- ---- what every listing is
 
-less_is : (o : Ordering) → is_lt o ≡ true → o ≡ Less
-less_is Less e = refl
-less_is Equal e = absurd (true≢false (sym e))
-less_is Greater e = absurd (true≢false (sym e))
-
 recursion : {X : Type 0} (P : X → Type 0) (xs : List X) → All P xs → AllByRecursion P xs
 recursion P [] h = tt
 recursion P (x ∷ xs) h = (h zero x (omega arith), recursion P xs (λ k d lt. h (suc k) d (omega (arith, lt))))
 
 all_above : {X : Type 0} (name : List ℕ) (es : List (List ℕ × X)) → T (below_all by_name name es) → AllByRecursion (λ other. by_name name other ≡ Less) (map (λ e. e.0) es)
 all_above name [] h = tt
-all_above name (e ∷ es) h = (less _ (first _ _ h), all_above name es (second _ _ h))
+all_above name (e ∷ es) h = (less_from_T _ (T_first _ _ h), all_above name es (T_second _ _ h))
 
 pub rises : {X : Type 0} (es : List (List ℕ × X)) → T (is_sorted by_name es) → IsStrictlySortedBy by_name (map (λ e. e.0) es)
 unfolding IsStrictlySortedBy
 rises [] h = tt
-rises (e ∷ es) h = (all_above e.0 es (first _ _ h), rises es (second _ _ h))
+rises (e ∷ es) h = (all_above e.0 es (T_first _ _ h), rises es (T_second _ _ h))
 
 above_take : (name : List ℕ) (n : ℕ) (names : List (List ℕ)) → AllByRecursion (λ other. by_name name other ≡ Less) names → AllByRecursion (λ other. by_name name other ≡ Less) (take n names)
 above_take name zero names h = tt
@@ -314,9 +274,9 @@ listing kept prefix after most sizes texts =
     let passes = filter_passes (wanted prefix after) (keys kept) in
     record {
       rising = begins after (take most names)
-          (recursion _ (take most names) (All-take (λ name. by_name after name ≡ Less) most names (λ k d lt. less_is _ (second_true _ _ (passes k d lt)))))
+          (recursion _ (take most names) (All-take (λ name. by_name after name ≡ Less) most names (λ k d lt. less_from_test _ (and_second _ _ (passes k d lt)))))
           (take_rises most names (IsStrictlySortedBy-filter by_name (wanted prefix after) (keys kept) (rises (entries kept) (entries_sorted kept))));
-      prefixed = All-take (λ name. IsTrue (has_prefix prefix name)) most names (λ k d lt. first_true _ _ (passes k d lt));
+      prefixed = All-take (λ name. IsTrue (has_prefix prefix name)) most names (λ k d lt. and_first _ _ (passes k d lt));
       sizes = All-take IsName most names (All-filter (wanted prefix after) IsName (keys kept) sizes);
       texts = All-take IsUtf8 most names (All-filter (wanted prefix after) IsUtf8 (keys kept) texts);
       few = omega (arith, length-take most names);

@@ -6,7 +6,8 @@ use Rattle.std.specs.FinMap.{FinMap, contains_key, get, insert, remove, get-inse
 use Rattle.std.specs.Option.{is_some}
 use Rattle.std.specs.Ordering.{eq_by_cmp}
 use Rattle.sp_base.specs.Names.{by_name}
-use Rattle.sp_outside.proofs.HeldNames.{equal, same_name}
+use Rattle.sp_base.proofs.OrderingLemmas.{equal_from_test}
+use Rattle.sp_outside.proofs.HeldNames.{same_name}
 
 -- ---- names that are the same
 
@@ -14,13 +15,9 @@ pub same_key : (name : List ℕ) → eq_by_cmp by_name name name ≡ true
 same_key name = (eq_by_cmp_equiv nat_list_cmp_total).refl name
 
 pub one_key : (name other : List ℕ) → eq_by_cmp by_name name other ≡ true → name ≡ other
-one_key name other e = same_name name other (equal (by_name name other) e)
+one_key name other e = same_name name other (equal_from_test (by_name name other) e)
 
 -- ---- tests
-
-pub not_true : (b : Bool) → (b ≡ true → ⊥) → b ≡ false
-not_true true none = absurd (none refl)
-not_true false none = refl
 
 some_of : {X : Type 0} (b : Bool) (x : X) (o : Option X) → is_some (cond b (Some x) o) ≡ cond b true (is_some o)
 some_of true x o = refl

@@ -1,26 +1,17 @@
 -- In the order of names those with a prefix stand together, and the prefix itself is where they begin.
-use Rattle.std.proofs.Common.{◌≡◌, ◌<◌, ◌⊎◌, ⊎_elim, inl, inr, ℕ, Bool, true, false, ◌&&◌, List, [], ◌∷◌, nat_eq, refl, sym, ◌∙◌, ap, subst, arith}
+use Rattle.std.proofs.Common.{◌≡◌, ◌<◌, ◌⊎◌, ⊎_elim, inl, inr, ℕ, true, false, List, [], ◌∷◌, refl, sym, ◌∙◌, ap, subst, arith}
 use Rattle.std.specs.Cmp.{ranks}
 use Rattle.std.specs.Cmp.Lexicographic.{nat_list_cmp_total}
 use Rattle.std.specs.Ordering.{is_le, is_lt, nat_cmp, ordering_reverse, ordering_then, MatchOrdering}
 use Rattle.std.specs.declared.cmp.Ordering.{Ordering}
 use Rattle.std.specs.declared.cmp.Ordering.TheVariants.{Less, Equal, Greater}
-use Rattle.std.proofs.lemmas.Bool.{true≢false}
-use Rattle.std.proofs.lemmas.Bool.Decides.{nat_tests}
+use Rattle.std.proofs.lemmas.Bool.{and_from, eq-eqb, eqb-true, true≢false}
 use Rattle.sp_base.specs.Names.{by_name}
+use Rattle.sp_base.proofs.BoolLemmas.{and_first, and_second}
+use Rattle.sp_base.proofs.NatLemmas.{below_from_cmp}
+use Rattle.sp_base.proofs.OrderingLemmas.{less_from_test}
 use Rattle.sp_outside.specs.Files.{has_prefix}
 use Rattle.sp_outside.proofs.HeldNames.{same_name}
-
-first : (a b : Bool) → a && b ≡ true → a ≡ true
-first true b e = refl
-first false b e = absurd (true≢false (sym e))
-
-second : (a b : Bool) → a && b ≡ true → b ≡ true
-second true b e = e
-second false b e = absurd (true≢false (sym e))
-
-pair : (a b : Bool) → a ≡ true → b ≡ true → a && b ≡ true
-pair a b ea eb = ap (λ x. x && b) ea ∙ eb
 
 -- what a comparison that goes on tells of its first step
 le_step : (o rest : Ordering) → is_le (ordering_then o rest) ≡ true → (o ≡ Less) ⊎ ((o ≡ Equal) × (is_le rest ≡ true))
@@ -38,9 +29,6 @@ then_le Less rest e more = refl
 then_le Equal rest e more = more
 then_le Greater rest e more = absurd (true≢false (sym e))
 
-less : (x y : ℕ) → nat_cmp x y ≡ Less → x < y
-less x y e = subst (λ r. MatchOrdering r (x < y) (x ≡ y) (y < x)) e (ranks x y)
-
 same : (x y : ℕ) → nat_cmp x y ≡ Equal → x ≡ y
 same x y e = subst (λ r. MatchOrdering r (x < y) (x ≡ y) (y < x)) e (ranks x y)
 
@@ -49,19 +37,13 @@ le_of_same x y Less m e = refl
 le_of_same x y Equal m e = refl
 le_of_same x y Greater m e = absurd (omega (arith, m, e))
 
-equal : (x y : ℕ) → nat_eq x y ≡ true → x ≡ y
-equal x y e = grind (arith, nat_tests)
-
-is_equal : (x y : ℕ) → x ≡ y → nat_eq x y ≡ true
-is_equal x y e = grind (arith, nat_tests)
-
 -- a name that begins with a prefix isn't before it
 pub prefix_first : (prefix name : List ℕ) → has_prefix prefix name ≡ true → is_le (by_name prefix name) ≡ true
 prefix_first [] [] e = refl
 prefix_first [] (b ∷ name) e = refl
 prefix_first (a ∷ prefix) [] e = absurd (true≢false (sym e))
 prefix_first (a ∷ prefix) (b ∷ name) e =
-    then_le (nat_cmp a b) (by_name prefix name) (le_of_same a b (nat_cmp a b) (ranks a b) (equal a b (first _ _ e))) (prefix_first prefix name (second _ _ e))
+    then_le (nat_cmp a b) (by_name prefix name) (le_of_same a b (nat_cmp a b) (ranks a b) (eqb-true a b (and_first _ _ e))) (prefix_first prefix name (and_second _ _ e))
 
 -- between a prefix and a name that begins with it each name does
 pub prefix_between : (prefix x y : List ℕ) → is_le (by_name prefix x) ≡ true → is_lt (by_name x y) ≡ true → has_prefix prefix y ≡ true → has_prefix prefix x ≡ true
@@ -69,11 +51,11 @@ prefix_between [] x y le lt e = refl
 prefix_between (a ∷ prefix) [] y le lt e = absurd (true≢false (sym le))
 prefix_between (a ∷ prefix) (c ∷ x) [] le lt e = absurd (true≢false (sym e))
 prefix_between (a ∷ prefix) (c ∷ x) (b ∷ y) le lt e =
-    let same_ends : a ≡ b = equal a b (first _ _ e) in
-    ⊎_elim (λ l. ⊎_elim (λ k. absurd (omega (arith, less a c l, less c b k, same_ends))) (λ k. absurd (omega (arith, less a c l, same c b k.0, same_ends)))
+    let same_ends : a ≡ b = eqb-true a b (and_first _ _ e) in
+    ⊎_elim (λ l. ⊎_elim (λ k. absurd (omega (arith, below_from_cmp a c l, below_from_cmp c b k, same_ends))) (λ k. absurd (omega (arith, below_from_cmp a c l, same c b k.0, same_ends)))
     (lt_step (nat_cmp c b) (by_name x y) lt))
-    (λ l. ⊎_elim (λ k. absurd (omega (arith, same a c l.0, less c b k, same_ends)))
-    (λ k. pair _ _ (is_equal a c (same a c l.0)) (prefix_between prefix x y l.1 k.1 (second _ _ e)))
+    (λ l. ⊎_elim (λ k. absurd (omega (arith, same a c l.0, below_from_cmp c b k, same_ends)))
+    (λ k. and_from _ _ (eq-eqb a c (same a c l.0)) (prefix_between prefix x y l.1 k.1 (and_second _ _ e)))
     (lt_step (nat_cmp c b) (by_name x y) lt))
     (le_step (nat_cmp a c) (by_name prefix x) le)
 
@@ -83,15 +65,10 @@ after_both after prefix name Less e before le = ap is_lt (nat_list_cmp_total.tra
 after_both after prefix name Equal e before le = ap is_lt (ap (by_name after) (sym (same_name prefix name e)) ∙ before)
 after_both after prefix name Greater e before le = absurd (true≢false (sym le))
 
-lt_less : (o : Ordering) → is_lt o ≡ true → o ≡ Less
-lt_less Less e = refl
-lt_less Equal e = absurd (true≢false (sym e))
-lt_less Greater e = absurd (true≢false (sym e))
-
 -- and one after a name that isn't before a prefix isn't before the prefix either
 pub rest_both : (after prefix name : List ℕ) (o : Ordering) → by_name after prefix ≡ o → is_lt o ≡ false → is_lt (by_name after name) ≡ true → is_le (by_name prefix name) ≡ true
 rest_both after prefix name Less e none lt = absurd (true≢false none)
-rest_both after prefix name Equal e none lt = ap is_le (ap (λ n. by_name n name) (sym (same_name after prefix e)) ∙ lt_less _ lt)
+rest_both after prefix name Equal e none lt = ap is_le (ap (λ n. by_name n name) (sym (same_name after prefix e)) ∙ less_from_test _ lt)
 rest_both after prefix name Greater e none lt =
     let turned : by_name prefix after ≡ Less = nat_list_cmp_total.antisymm prefix after ∙ ap ordering_reverse e in
-    ap is_le (nat_list_cmp_total.trans prefix after name turned (lt_less _ lt))
+    ap is_le (nat_list_cmp_total.trans prefix after name turned (less_from_test _ lt))

@@ -1,15 +1,7 @@
 -- What follows from what a call answered.
 use Rattle.std.proofs.Common.{◌≡◌, true, Result, Ok, Err, sym}
-use Rattle.std.specs.Prelude.{IfErr, IfOk, OnErr, OnOk, is_ok}
+use Rattle.std.specs.Prelude.{IfErr, OnOk, is_ok}
 use Rattle.std.proofs.lemmas.Bool.{true≢false}
-
-pub on_ok : {T E : Type 0} {P Q : Type 0} (r : Result T E) → (P → Q) → OnOk r P → OnOk r Q
-on_ok (Ok x) f p = f p
-on_ok (Err e) f p = tt
-
-pub if_ok : {T E : Type 0} {P Q : T → Type 0} (r : Result T E) → ((x : T) → P x → Q x) → IfOk r P → IfOk r Q
-if_ok (Ok x) f p = f x p
-if_ok (Err e) f p = tt
 
 pub if_err : {T E : Type 0} {P Q : E → Type 0} (r : Result T E) → ((e : E) → P e → Q e) → IfErr r P → IfErr r Q
 if_err (Ok x) f p = tt
@@ -23,11 +15,3 @@ either (Err e) f h p q = h e q
 pub where_ok : {T E : Type 0} {P : Type 0} (r : Result T E) → is_ok r ≡ true → OnOk r P → P
 where_ok (Ok x) is p = p
 where_ok (Err e) is p = absurd (true≢false (sym is))
-
-pub on_err : {T E : Type 0} {P : Type 0} (r : Result T E) → P → OnErr r P
-on_err (Ok x) p = tt
-on_err (Err e) p = p
-
-pub on_any : {T E : Type 0} {P : Type 0} (r : Result T E) → P → OnOk r P
-on_any (Ok x) p = p
-on_any (Err e) p = tt

@@ -8,16 +8,17 @@ use Rattle.std.specs.List.Sorted.{IsStrictlySortedBy}
 use Rattle.std.specs.Option.{is_some}
 use Rattle.std.specs.Ordering.{is_eq}
 use Rattle.std.specs.declared.cmp.Ordering.TheVariants.{Less}
-use Rattle.std.proofs.lemmas.Bool.{true≢false}
+use Rattle.std.proofs.lemmas.Bool.{false_from_ne_true, true≢false}
 use Rattle.std.proofs.lemmas.List.Kept.{IsStrictlySortedBy-filter}
 use Rattle.sp_base.specs.Names.{by_name}
+use Rattle.sp_base.proofs.ListLemmas.{contains_first, contains_later}
 use Rattle.sp_outside.specs.Files.{Files, names_after, names_from}
 use Rattle.sp_outside.specs.FolderFiles.{disk_files}
 use Rattle.sp_outside.specs.NameIndex.{IsIndex, NameSet}
 use Rattle.sp_outside.proofs.Indexed.{Knows}
-use Rattle.sp_outside.proofs.Listed.{above, first_or_rest, here, of_names, there}
+use Rattle.sp_outside.proofs.Listed.{above, first_or_rest, of_names}
 use Rattle.sp_outside.proofs.Listing.{rises, wanted}
-use Rattle.sp_outside.proofs.NameSets.{not_true, same_key}
+use Rattle.sp_outside.proofs.NameSets.{same_key}
 
 not_less : (name : List ℕ) → by_name name name ≡ Less → ⊥
 not_less name less = true≢false (sym (same_key name) ∙ ap is_eq less)
@@ -28,7 +29,7 @@ not_both x y less more = not_less x (nat_list_cmp_total.trans x y x less more)
 -- of one more name that is the same the rest has the same names too
 rest_has : (x y : List ℕ) (xs ys : List (List ℕ)) → y ≡ x → AllByRecursion (λ other. by_name x other ≡ Less) xs
     → ((name : List ℕ) → Contains (x ∷ xs) name → Contains (y ∷ ys) name) → (name : List ℕ) → Contains xs name → Contains ys name
-rest_has x y xs ys same rising to name has = elim (first_or_rest y name ys (to name (there x name xs has))) [
+rest_has x y xs ys same rising to name has = elim (first_or_rest y name ys (to name (contains_later x name xs has))) [
   | inl is ↦ absurd (not_less x (subst (λ n. by_name x n ≡ Less) (sym is ∙ same) (above x xs name rising has)))
   | inr more ↦ more
 ]
@@ -47,10 +48,10 @@ pub same_lists : (xs ys : List (List ℕ)) → IsStrictlySortedBy by_name xs →
     → ((name : List ℕ) → Contains xs name → Contains ys name) → ((name : List ℕ) → Contains ys name → Contains xs name) → xs ≡ ys
 unfolding IsStrictlySortedBy
 same_lists [] [] up rising to from = refl
-same_lists [] (y ∷ ys) up rising to from = absurd (omega (arith, (from y (here y ys)).1))
-same_lists (x ∷ xs) [] up rising to from = absurd (omega (arith, (to x (here x xs)).1))
+same_lists [] (y ∷ ys) up rising to from = absurd (omega (arith, (from y (contains_first y ys)).1))
+same_lists (x ∷ xs) [] up rising to from = absurd (omega (arith, (to x (contains_first x xs)).1))
 same_lists (x ∷ xs) (y ∷ ys) up rising to from =
-    let same : y ≡ x = first_same x y xs ys up.0 rising.0 (to x (here x xs)) (from y (here y ys)) in
+    let same : y ≡ x = first_same x y xs ys up.0 rising.0 (to x (contains_first x xs)) (from y (contains_first y ys)) in
     let rest : xs ≡ ys = same_lists xs ys up.1 rising.1 (rest_has x y xs ys same up.0 to) (rest_has y x ys xs (sym same) rising.0 from) in
     ap (λ name. name ∷ xs) (sym same) ∙ ap (λ names. y ∷ names) rest
 
@@ -69,7 +70,7 @@ listed_same files names doubts prefix after index none =
     same_lists (names_from (keys names) prefix after) (names_after files prefix after) (names_rise names prefix after) (names_rise files prefix after)
     (λ name has.
     let is = (of_names names prefix after name).0 has in
-    let sure : contains_key doubts name ≡ false = not_true (contains_key doubts name) (λ in_doubt.
+    let sure : contains_key doubts name ≡ false = false_from_ne_true (contains_key doubts name) (λ in_doubt.
     no_doubt doubts prefix after name none ((of_names doubts prefix after name).1 (is.0, is.1, in_doubt))) in
     (of_names files prefix after name).1 (is.0, is.1, index.backed name is.2 sure))
     (λ name has.

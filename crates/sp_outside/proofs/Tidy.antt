@@ -5,7 +5,7 @@ use Rattle.std.specs.Cmp.Lexicographic.{nat_list_cmp_total}
 use Rattle.std.specs.FinMap.{get, get-insert, get-remove}
 use Rattle.std.specs.Option.{is_some}
 use Rattle.std.specs.Ordering.{eq_by_cmp}
-use Rattle.std.proofs.lemmas.Bool.{true≢false}
+use Rattle.std.proofs.lemmas.Bool.{false_from_ne_true, true≢false}
 use Rattle.std.proofs.lemmas.Bool.Decides.{Decides-eqb}
 use Rattle.std.proofs.lemmas.List.{append_assoc}
 use Rattle.std.proofs.lemmas.Slice.Eq.{ends_is}
@@ -17,7 +17,7 @@ use Rattle.sp_outside.specs.NameIndex.{IsLeftGone, IsLeftTaken, IsRestKept}
 use Rattle.sp_outside.specs.declared.disk.DiskFault.{DiskFault}
 use Rattle.sp_outside.proofs.Begun.{outside_of_left, while_map, while_same, while_then}
 use Rattle.sp_outside.proofs.Left.{none_stays}
-use Rattle.sp_outside.proofs.NameSets.{not_true, one_key}
+use Rattle.sp_outside.proofs.NameSets.{one_key}
 
 -- ---- the names of the folder's own files
 
@@ -62,13 +62,13 @@ own_of_left old new = while_map IsLeftTaken IsOwnKept old new (λ a b taken name
 own_put : (old : Option Files) (name bytes : List ℕ) → is_inside name ≡ true → WhileTold IsOwnKept old (told_with old name bytes)
 own_put None name bytes inside = tt
 own_put (Some files) name bytes inside = λ q own apart.
-    get-insert nat_list_cmp_total files name bytes q ∙ ap (λ b. cond b (Some bytes) (get files q)) (not_true (eq_by_cmp by_name q name) (λ same.
+    get-insert nat_list_cmp_total files name bytes q ∙ ap (λ b. cond b (Some bytes) (get files q)) (false_from_ne_true (eq_by_cmp by_name q name) (λ same.
     true≢false (sym inside ∙ sym (ap is_inside (one_key q name same)) ∙ own_outside q own)))
 
 own_removal : (old : Option Files) (name : List ℕ) → is_inside name ≡ true → WhileTold IsOwnKept old (told_without old name)
 own_removal None name inside = tt
 own_removal (Some files) name inside = λ q own apart.
-    get-remove nat_list_cmp_total files name q ∙ ap (λ b. cond b None (get files q)) (not_true (eq_by_cmp by_name q name) (λ same.
+    get-remove nat_list_cmp_total files name q ∙ ap (λ b. cond b None (get files q)) (false_from_ne_true (eq_by_cmp by_name q name) (λ same.
     true≢false (sym inside ∙ sym (ap is_inside (one_key q name same)) ∙ own_outside q own)))
 
 pub own_with : (old new : Option Files) (name bytes : List ℕ) → is_inside name ≡ true → new ≡ told_with old name bytes → WhileTold IsOwnKept old new
@@ -109,7 +109,7 @@ tidy found (Some a) (Some b) (Some c) names rest taken gone = none_is_left found
 put_left : (told : Option Files) (name bytes : List ℕ) → is_inside name ≡ true → IfSome told HasNoneLeft → IfSome (told_with told name bytes) HasNoneLeft
 put_left None name bytes inside none = tt
 put_left (Some files) name bytes inside none = λ q left.
-    get-insert nat_list_cmp_total files name bytes q ∙ ap (λ b. cond b (Some bytes) (get files q)) (not_true (eq_by_cmp by_name q name) (λ same.
+    get-insert nat_list_cmp_total files name bytes q ∙ ap (λ b. cond b (Some bytes) (get files q)) (false_from_ne_true (eq_by_cmp by_name q name) (λ same.
     true≢false (sym inside ∙ sym (ap is_inside (one_key q name same)) ∙ outside_of_left q left))) ∙ none q left
 
 pub tidy_with : (old new : Option Files) (name bytes : List ℕ) → is_inside name ≡ true → new ≡ told_with old name bytes → IfSome old HasNoneLeft → IfSome new HasNoneLeft

@@ -5,9 +5,9 @@ use Rattle.std.specs.List.{All}
 use Rattle.std.specs.Ordering.{is_lt, ordering_then}
 use Rattle.std.specs.declared.cmp.Ordering.{Ordering}
 use Rattle.std.specs.declared.cmp.Ordering.TheVariants.{Less, Equal, Greater}
-use Rattle.std.proofs.lemmas.Bool.{true≢false}
-use Rattle.std.proofs.lemmas.Bool.Decides.{nat_tests}
+use Rattle.std.proofs.lemmas.Bool.{eqb-true, ltb-true, true≢false}
 use Rattle.std.proofs.lemmas.Map.Views.{All-after_first}
+use Rattle.std.proofs.lemmas.List.Elements.{All-contains}
 use Rattle.sp_base.specs.Bytes.{AreBytes}
 use Rattle.sp_base.specs.Names.{by_name}
 use Rattle.sp_base.proofs.TextBytes.{text_bytes}
@@ -25,12 +25,6 @@ after_less (suc n) before other [] (b ∷ next) bytes lt = after_less n (before 
 after_less (suc n) before other (a ∷ name) [] bytes lt = after_less n (before * 257 + (a + 1)) (other * 257) name [] bytes.1 (omega (arith, lt, bytes.0))
 after_less (suc n) before other (a ∷ name) (b ∷ next) bytes lt = after_less n (before * 257 + (a + 1)) (other * 257 + (b + 1)) name next bytes.1 (omega (arith, lt, bytes.0))
 
-less_of : (a b : ℕ) → nat_lt a b ≡ true → a < b
-less_of a b e = grind (arith, nat_tests)
-
-equal_of : (a b : ℕ) → nat_eq a b ≡ true → a ≡ b
-equal_of a b e = grind (arith, nat_tests)
-
 -- where a text is before another, its first byte is less, or the same and its rest is before
 first_less : (l e : Bool) (rest : Ordering) → ordering_then (cond l Less (cond e Equal Greater)) rest ≡ Less → (l ≡ true) ⊎ ((e ≡ true) × (rest ≡ Less))
 first_less true e rest h = inl refl
@@ -46,8 +40,8 @@ number_rises zero before [] (b ∷ next) less bytes few some = absurd (omega (ar
 number_rises (suc n) before [] (b ∷ next) less bytes few some = after_less n (before * 257) (before * 257 + (b + 1)) [] next tt (omega arith)
 number_rises zero before (a ∷ name) (b ∷ next) less bytes few some = absurd (omega (arith, some))
 number_rises (suc n) before (a ∷ name) (b ∷ next) less bytes few some = elim (first_less (nat_lt a b) (nat_eq a b) (by_name name next) less) [
-  | inl lt ↦ after_less n (before * 257 + (a + 1)) (before * 257 + (b + 1)) name next bytes.1 (omega (arith, less_of a b lt))
-  | inr same ↦ subst (λ c. name_number n (before * 257 + (a + 1)) name < name_number n (before * 257 + (c + 1)) next) (equal_of a b same.0)
+  | inl lt ↦ after_less n (before * 257 + (a + 1)) (before * 257 + (b + 1)) name next bytes.1 (omega (arith, ltb-true a b lt))
+  | inr same ↦ subst (λ c. name_number n (before * 257 + (a + 1)) name < name_number n (before * 257 + (c + 1)) next) (eqb-true a b same.0)
       (number_rises n (before * 257 + (a + 1)) name next same.1 bytes.1 (omega (arith, few)) (omega (arith, some)))
 ]
 
@@ -65,19 +59,15 @@ no_end n names bytes few rises =
     let least : (k : ℕ) → k ≤ name_number n 0 (names k) = numbers n names bytes few rises in
     omega (arith, least (name_number n 1 []), after_less n 0 1 (names (name_number n 1 [])) [] (bytes (name_number n 1 [])) (omega arith))
 
--- what holds of each element holds of one that is there
-of_one : {X : Type 0} (P : X → Type 0) (xs : List X) (x : X) → All P xs → Contains xs x → P x
-of_one P xs x all one = subst P one.2 (all one.0 x one.1)
-
 pub later : (prefix after : List ℕ) (most : ℕ) (names : List (List ℕ)) → IsListing prefix after most names → All (λ name. by_name after name ≡ Less) names
 later prefix after most names listing = All-after_first by_name after names listing.rising
 
 pub ends : (prefix : List ℕ) (most : ℕ) (after : ℕ → List ℕ) (lists : ℕ → List (List ℕ)) → IsEndlessWalk prefix most after lists → ⊥
 ends prefix most after lists walk =
     no_end longest_file_name (λ k. after (k + 1))
-    (λ k. text_bytes (after (k + 1)) (of_one IsUtf8 (lists k) (after (k + 1)) (walk.listed k).texts (walk.goes_on k)))
-    (λ k. (of_one IsName (lists k) (after (k + 1)) (walk.listed k).sizes (walk.goes_on k)).1)
-    (λ k. of_one (λ name. by_name (after (k + 1)) name ≡ Less) (lists (k + 1)) (after (k + 1 + 1)) (later prefix (after (k + 1)) most (lists (k + 1)) (walk.listed (k + 1))) (walk.goes_on (k + 1)))
+    (λ k. text_bytes (after (k + 1)) (All-contains IsUtf8 (lists k) (after (k + 1)) (walk.listed k).texts (walk.goes_on k)))
+    (λ k. (All-contains IsName (lists k) (after (k + 1)) (walk.listed k).sizes (walk.goes_on k)).1)
+    (λ k. All-contains (λ name. by_name (after (k + 1)) name ≡ Less) (lists (k + 1)) (after (k + 1 + 1)) (later prefix (after (k + 1)) most (lists (k + 1)) (walk.listed (k + 1))) (walk.goes_on (k + 1)))
 
 -- ---- how many names are left
 
@@ -88,5 +78,5 @@ fewer n after name less bytes more few some = omega (arith, after_less n 0 1 nam
 pub fewer_left : (prefix after name : List ℕ) (most : ℕ) (names : List (List ℕ)) → IsUtf8 after → length after ≤ longest_file_name → IsListing prefix after most names → Contains names name
     → names_left name < names_left after
 fewer_left prefix after name most names text few listing has =
-    fewer longest_file_name after name (of_one (λ other. by_name after other ≡ Less) names name (later prefix after most names listing) has)
-    (text_bytes after text) (text_bytes name (of_one IsUtf8 names name listing.texts has)) few (of_one IsName names name listing.sizes has).1
+    fewer longest_file_name after name (All-contains (λ other. by_name after other ≡ Less) names name (later prefix after most names listing) has)
+    (text_bytes after text) (text_bytes name (All-contains IsUtf8 names name listing.texts has)) few (All-contains IsName names name listing.sizes has).1

@@ -1,9 +1,7 @@
 -- The order of stamps.
-use Rattle.std.proofs.Common.{◌≡◌, ◌⊎◌, ◌<◌, ◌^◌, ◌&&◌, ◌||◌, inl, inr, ℕ, zero, suc, true, false, List, [], ◌∷◌, take, nat_eq, nat_lt, refl, arith}
+use Rattle.std.proofs.Common.{◌≡◌, ◌⊎◌, ◌<◌, ◌^◌, ◌&&◌, ◌||◌, inl, inr, ℕ, true, false, nat_eq, nat_lt, refl, arith}
 use Rattle.std.proofs.lemmas.Bool.{cases_lt}
 use Rattle.std.proofs.lemmas.Bool.Decides.{nat_tests}
-use Rattle.std.specs.List.{AllByRecursion}
-use Rattle.sp_base.specs.Bytes.{AreBytes}
 use Rattle.sp_base.specs.Limits.{greatest_u64}
 use Rattle.cover_rules.specs.declared.stamp.Stamp.{Stamp}
 use Rattle.stat_files.specs.Outdated.{is_older}
@@ -64,8 +62,3 @@ greatest_last e c p q = grind (arith, nat_tests)
 -- no stamp is newer than the greatest
 pub greatest_not_older : (page : Stamp) → page.epoch < 2 ^ 64 → page.count < 2 ^ 64 → is_older greatest_stamp page ≡ false
 greatest_not_older page epoch count = greatest_last page.epoch page.count epoch count
-
-pub first_bytes : (n : ℕ) (segs : List (List ℕ)) → AllByRecursion AreBytes segs → AllByRecursion AreBytes (take n segs)
-first_bytes zero segs p = tt
-first_bytes (suc n) [] p = tt
-first_bytes (suc n) (seg ∷ segs) p = (p.0, first_bytes n segs p.1)

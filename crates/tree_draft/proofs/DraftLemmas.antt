@@ -1,6 +1,6 @@
 -- The content of a draft, by look-ups, and how many nodes it has.
 use Rattle.std.proofs.Common.{◌≡◌, ◌+◌, ℕ, Bool, true, false, cond, List, [], length, refl, sym, ◌∙◌, ap, Some, None, Option, ⊎_elim, arith}
-use Rattle.std.specs.Prelude.{is_some, IfOk, OnOk, Result, Ok, Err, option_map, unwrap_or}
+use Rattle.std.specs.Prelude.{is_some, option_map, unwrap_or}
 use Rattle.std.specs.Ordering.{eq_by_cmp}
 use Rattle.std.specs.Cmp.{eq_by_cmp_equiv}
 use Rattle.std.specs.BTreeMap.{insert_entry}
@@ -11,13 +11,14 @@ use Rattle.std.proofs.lemmas.Bool.{cases_Bool, true≢false, false≢true}
 use Rattle.std.proofs.lemmas.Map.{lookup-remove_entry}
 use Rattle.std.proofs.lemmas.Map.Keys.{IsDistinct-from_sorted}
 use Rattle.sp_base.specs.PathExact.{exact_paths}
+use Rattle.sp_base.proofs.OrderingLemmas.{by_path_total}
 use Rattle.resource_tree.specs.declared.nodes.Node.{Node}
 use Rattle.resource_tree.specs.declared.patch.PatchNode.{PatchNode}
 use Rattle.resource_tree.specs.declared.patch.PatchNode.TheVariants as patch_node
 use Rattle.resource_tree.specs.Content.{Content, HasSegmentNames, by_path, same_path, node_at, parent_of, name_of, empty_node}
 use Rattle.resource_tree.specs.Changes.{change_at, creation, with_kid}
 use Rattle.resource_tree.specs.Patches.{PatchEntries, entry_at, with_entry, over, patching, left_by}
-use Rattle.resource_tree.proofs.PathLemmas.{by_path_total, path_from_same, same_path_self}
+use Rattle.resource_tree.proofs.PathLemmas.{path_from_same, same_path_self}
 use Rattle.resource_tree.proofs.NodeLookups.{node_at-change_at, length-change_at, length-insert_entry}
 use Rattle.resource_tree.proofs.EntriesInOrder.{same_in_order, lookup-insert_entry, sorted-insert_entry, sorted-remove_entry}
 use Rattle.resource_tree.proofs.Patching.{node_at-patching, sorted-patching}
@@ -163,17 +164,3 @@ created-is old put new path parent is_put is_new above =
 
 pub no_names : HasSegmentNames []
 no_names name there_ = absurd (false≢true there_)
-
--- ---- what is so where a call succeeds
-
-pub on_ok : {A E P : Type 0} (r : Result A E) → P → OnOk r P
-on_ok (Ok x) p = p
-on_ok (Err e) p = tt
-
-pub on_ok_then : {A E P Q : Type 0} (r : Result A E) → (P → Q) → OnOk r P → OnOk r Q
-on_ok_then (Ok x) f p = f p
-on_ok_then (Err e) f p = tt
-
-pub if_ok_then : {A E : Type 0} {P Q : A → Type 0} (r : Result A E) → ((x : A) → P x → Q x) → IfOk r P → IfOk r Q
-if_ok_then (Ok x) f p = f x p
-if_ok_then (Err e) f p = tt

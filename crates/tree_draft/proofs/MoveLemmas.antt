@@ -1,12 +1,11 @@
 -- A part that a draft puts at a target, and when a node may be taken from its place for that.
-use Rattle.std.proofs.Common.{◌≡◌, ◌==◌, ◌&&◌, ℕ, Bool, true, false, not, cond, List, length, refl, sym, ◌∙◌, ap, Some, None, Option}
+use Rattle.std.proofs.Common.{◌≡◌, ◌==◌, ◌&&◌, ℕ, Bool, true, false, not, cond, List, length, sym, ◌∙◌, ap, None}
 use Rattle.std.specs.Prelude.{is_none, is_some, option_map}
 use Rattle.std.specs.Ordering.{eq_by_cmp}
 use Rattle.std.specs.List.{IsDistinct, list_any}
 use Rattle.std.specs.Map.{keys_of}
 use Rattle.std.proofs.lemmas.Bool.{true≢false, false_from_ne_true}
 use Rattle.sp_base.specs.Paths.{is_path, is_under}
-use Rattle.resource_tree.specs.declared.nodes.Node.{Node}
 use Rattle.resource_tree.specs.Content.{Content, by_path, same_path, node_at, parent_of, name_of}
 use Rattle.resource_tree.specs.Changes.{change_at, fixed_fault, removal, with_kid, without_kid}
 use Rattle.resource_tree.specs.Patches.{PatchEntries, entry_at, patching, left_by}
@@ -18,7 +17,7 @@ use Rattle.resource_tree.proofs.Removal.{node_at-removal}
 use Rattle.resource_tree.proofs.Patching.{node_at-patching, sorted-patching}
 use Rattle.resource_tree.proofs.CopyParts.{any_same, once_there}
 use Rattle.resource_tree.proofs.Copied.{sorted-change_at}
-use Rattle.resource_tree.proofs.Relocated.{MayGo}
+use Rattle.resource_tree.proofs.Relocated.{MayGo, some_under}
 use Rattle.tree_draft.proofs.DraftLemmas.{IsOrdered, same_content}
 
 -- entries in another order are the same patch, where each path has one
@@ -53,11 +52,6 @@ fixed_not tree source target e =
     let there_ = a.0 in
     let deep = (no_fault (length source == 0) _ _ b.1).0 in
     rw (there_, deep)
-
-some_under : (a : Bool) (f : Node → Node) (o : Option Node) → is_some (cond a (option_map f o) o) ≡ is_some o
-some_under true f None = refl
-some_under true f (Some n) = refl
-some_under false f o = refl
 
 -- the parent of the target stays when the source is taken away
 pub parent_stays : (tree new : Content) (source target : List (List ℕ)) → MayGo tree source target → new ≡ removal tree source → is_some (node_at new (parent_of target)) ≡ true

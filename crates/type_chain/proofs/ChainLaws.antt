@@ -1,9 +1,11 @@
 -- The chain in the subject's words: distinct types, 32 at most before the default type, each the super type of the one before.
-use Rattle.std.proofs.Common.{◌≡◌, ◌+◌, ◌<◌, ◌≤◌, ◌⊎◌, ◌++◌, ℕ, zero, suc, Bool, true, false, cond, ◌||◌, List, [], ◌∷◌, Option, Some, None, length, refl, sym, ◌∙◌, ap, subst, inl, inr, ⊎_elim, arith, length-append}
+use Rattle.std.proofs.Common.{◌≡◌, ◌+◌, ◌<◌, ◌≤◌, ◌⊎◌, ◌++◌, ℕ, zero, suc, Bool, true, false, cond, List, [], ◌∷◌, Option, Some, None, length, refl, sym, ◌∙◌, ap, subst, inl, inr, ⊎_elim, arith, length-append}
 use Rattle.std.specs.Prelude.{slice_get}
 use Rattle.std.specs.List.{before_first, IsDistinct, AllByRecursion}
 use Rattle.std.proofs.lemmas.List.Folds.{list_any-append}
+use Rattle.std.proofs.lemmas.Option.{same_Some}
 use Rattle.sp_base.specs.declared.value.Value.{Value}
+use Rattle.sp_base.proofs.BoolLemmas.{or_first, or_second, or_true}
 use Rattle.resource_tree.specs.Content.{Content}
 use Rattle.type_chain.specs.declared.type_name.TypeName.{TypeName}
 use Rattle.type_chain.specs.Types.{same_type, type_of}
@@ -50,13 +52,9 @@ chain-length tree props =
 
 -- ---- the default type
 
-or_last : (a : Bool) → (a || true) ≡ true
-or_last true = refl
-or_last false = refl
-
 with-has : (there : Bool) (types : List TypeName) → has_type default_type types ≡ there → has_type default_type (cond there types (types ++ default_type ∷ [])) ≡ true
 with-has true types e = e
-with-has false types e = list_any-append (λ other. same_type other default_type) types (default_type ∷ []) ∙ or_last (has_type default_type types)
+with-has false types e = list_any-append (λ other. same_type other default_type) types (default_type ∷ []) ∙ or_true (has_type default_type types)
 
 pub chain-default : (tree : Content) (props : List (List ℕ × Value)) → has_type default_type (chain_of tree props) ≡ true
 unfolding chain_of
@@ -102,14 +100,6 @@ unfolding IsDistinct
 until-distinct [] = tt
 until-distinct (x ∷ xs) = (before-none_same x (until_repeat xs), before-distinct (same_type x) (until_repeat xs) (until-distinct xs))
 
-or_first : (a b : Bool) → (a || b) ≡ false → a ≡ false
-or_first true b e = absurd (cc)
-or_first false b e = refl
-
-or_second : (a b : Bool) → (a || b) ≡ false → b ≡ false
-or_second true b e = absurd (cc)
-or_second false b e = e
-
 push-none_same : (x y : TypeName) (xs : List TypeName) → none_same x xs → same_type x y ≡ false → none_same x (xs ++ y ∷ [])
 push-none_same x y [] h e = (e, tt)
 push-none_same x y (z ∷ xs) h e = (h.0, push-none_same x y xs h.1 e)
@@ -131,9 +121,6 @@ chain-distinct tree props =
     with-distinct (has_type default_type types) types refl (until-distinct (line_from tree own (super_of tree props own)))
 
 -- ---- each the super type of the one before
-
-same_Some : (a b : TypeName) → Some a ≡ Some b → a ≡ b
-same_Some a b e = cc
 
 before-get : (p : TypeName → Bool) (xs : List TypeName) (k : ℕ) (a : TypeName) → slice_get (before_first p xs) k ≡ Some a → slice_get xs k ≡ Some a
 before-get p [] k a e = e

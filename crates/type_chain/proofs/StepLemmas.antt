@@ -1,10 +1,12 @@
 -- The chain step by step: what follows each type, and that nothing else does.
-use Rattle.std.proofs.Common.{◌≡◌, ◌+◌, ◌<◌, ◌≤◌, ◌⊎◌, ◌||◌, ◌++◌, inl, inr, ⊎_elim, ℕ, zero, suc, Bool, true, false, cond, nat_lt, List, [], ◌∷◌, Option, Some, None, length, take, refl, sym, ◌∙◌, ap, subst, arith, append_assoc, take_all}
+use Rattle.std.proofs.Common.{◌≡◌, ◌+◌, ◌<◌, ◌≤◌, ◌⊎◌, ◌++◌, inl, inr, ⊎_elim, ℕ, zero, suc, Bool, true, false, cond, nat_lt, List, [], ◌∷◌, Option, Some, None, length, take, refl, sym, ◌∙◌, ap, subst, arith, append_assoc, take_all}
 use Rattle.std.specs.Prelude.{slice_get, option_and_then}
 use Rattle.std.specs.Option.{option_or}
-use Rattle.std.proofs.lemmas.Bool.{true≢false}
-use Rattle.std.proofs.lemmas.Bool.Decides.{nat_tests}
+use Rattle.std.proofs.lemmas.Bool.{le-ltb, lt-ltb, true≢false}
+use Rattle.std.proofs.lemmas.Option.{same_Some}
 use Rattle.sp_base.specs.declared.value.Value.{Value}
+use Rattle.sp_base.proofs.BoolLemmas.{or_false}
+use Rattle.sp_base.proofs.NatLemmas.{below_suc, zero_below_suc}
 use Rattle.resource_tree.specs.Content.{Content}
 use Rattle.type_chain.specs.declared.type_name.TypeName.{TypeName}
 use Rattle.type_chain.specs.Types.{same_type, type_of}
@@ -12,9 +14,6 @@ use Rattle.type_chain.specs.Chain.{chain_of, default_type, has_type, line, line_
 use Rattle.type_chain.specs.ScriptPlaces.{only}
 use Rattle.type_chain.specs.Steps.{AreOwnTypes, AreSteps, super_after, unless_type_there}
 use Rattle.type_chain.proofs.ChainLemmas.{fresh, fresh-none}
-
-same_Some : (a b : TypeName) → Some a ≡ Some b → a ≡ b
-same_Some a b e = cc
 
 -- ---- the types up to the first repeat
 
@@ -59,17 +58,11 @@ fresh-next seen (x ∷ types) (suc k) a e =
 
 -- ---- the line of super types
 
-lt_suc : (k n : ℕ) → nat_lt (suc k) (suc n) ≡ nat_lt k n
-lt_suc k n = grind (arith, nat_tests)
-
-lt_first : (n : ℕ) → nat_lt 0 (suc n) ≡ true
-lt_first n = grind (arith, nat_tests)
-
 line-first : (tree : Content) (n : ℕ) (next : Option TypeName) → slice_get (line tree n next) 0 ≡ cond (nat_lt 0 n) next None
 unfolding line
 line-first tree zero next = refl
-line-first tree (suc n) None = sym (ap (λ t. cond t None None) (lt_first n))
-line-first tree (suc n) (Some type) = sym (ap (λ t. cond t (Some type) None) (lt_first n))
+line-first tree (suc n) None = sym (ap (λ t. cond t None None) (zero_below_suc n))
+line-first tree (suc n) (Some type) = sym (ap (λ t. cond t (Some type) None) (zero_below_suc n))
 
 line-next : (tree : Content) (n : ℕ) (next : Option TypeName) (k : ℕ) (a : TypeName) → slice_get (line tree n next) k ≡ Some a
     → slice_get (line tree n next) (suc k) ≡ cond (nat_lt (suc k) n) (super_type tree a) None
@@ -77,8 +70,8 @@ unfolding line
 line-next tree zero next k a e = absurd (cc)
 line-next tree (suc n) None k a e = absurd (cc)
 line-next tree (suc n) (Some type) zero a e =
-    line-first tree n (super_type tree type) ∙ ap (λ t. cond t (super_type tree type) None) (sym (lt_suc 0 n)) ∙ ap (λ b. cond (nat_lt 1 (suc n)) (super_type tree b) None) (same_Some type a e)
-line-next tree (suc n) (Some type) (suc k) a e = line-next tree n (super_type tree type) k a e ∙ ap (λ t. cond t (super_type tree a) None) (sym (lt_suc (suc k) n))
+    line-first tree n (super_type tree type) ∙ ap (λ t. cond t (super_type tree type) None) (sym (below_suc 0 n)) ∙ ap (λ b. cond (nat_lt 1 (suc n)) (super_type tree b) None) (same_Some type a e)
+line-next tree (suc n) (Some type) (suc k) a e = line-next tree n (super_type tree type) k a e ∙ ap (λ t. cond t (super_type tree a) None) (sym (below_suc (suc k) n))
 
 from-first : (tree : Content) (props : List (List ℕ × Value)) (own : Option TypeName) → slice_get (line_from tree own (super_of tree props own)) 0 ≡ option_or own (super_of tree props None)
 from-first tree props None = line-first tree 32 (super_of tree props None)
@@ -89,7 +82,7 @@ from-next : (tree : Content) (props : List (List ℕ × Value)) (own : Option Ty
 from-next tree props None k a e = line-next tree 32 (super_of tree props None) k a e
 from-next tree props (Some own) zero a e = line-first tree 31 (super_of tree props (Some own))
 from-next tree props (Some own) (suc k) a e =
-    line-next tree 31 (super_of tree props (Some own)) k a e ∙ ap (λ t. cond t (super_type tree a) None) (sym (lt_suc (suc k) 31))
+    line-next tree 31 (super_of tree props (Some own)) k a e ∙ ap (λ t. cond t (super_type tree a) None) (sym (below_suc (suc k) 31))
 
 -- ---- the steps of a chain
 
@@ -179,10 +172,6 @@ take_zero : (types : List TypeName) → take 0 types ≡ []
 take_zero [] = refl
 take_zero (x ∷ types) = refl
 
-or_false : (a : Bool) → (a || false) ≡ a
-or_false true = refl
-or_false false = refl
-
 cond_none : (b : Bool) → cond {A = Option TypeName} b None None ≡ None
 cond_none true = refl
 cond_none false = refl
@@ -234,12 +223,6 @@ after_more tree props None k type more = refl
 after_more tree props (Some own) zero type more = absurd (omega (arith, more))
 after_more tree props (Some own) (suc k) type more = refl
 
-below : (m n : ℕ) → m < n → nat_lt m n ≡ true
-below m n h = grind (arith, nat_tests)
-
-not_below : (m n : ℕ) → n ≤ m → nat_lt m n ≡ false
-not_below m n h = grind (arith, nat_tests)
-
 module _ (tree : Content) (props : List (List ℕ × Value)) where
   abbrev own_part : List TypeName
   own_part = own_types tree props (type_of (type_text props))
@@ -279,7 +262,7 @@ super_follows tree props k type next more room e apart above new =
     let one : k + 1 ≡ suc k = omega arith in
     let fresh_one = subst (λ n. has_type next (take n (chain_of tree props)) ≡ false) one new in
     let less : suc k < 32 = omega (arith, room) in
-    let own = next_own tree props k type more e apart ∙ ap (λ t. cond t (unless_type_there (take (suc k) (chain_of tree props)) (super_type tree type)) None) (below (suc k) 32 less)
+    let own = next_own tree props k type more e apart ∙ ap (λ t. cond t (unless_type_there (take (suc k) (chain_of tree props)) (super_type tree type)) None) (lt-ltb (suc k) 32 less)
     ∙ ap (unless_type_there (take (suc k) (chain_of tree props))) above ∙ ap (λ t. cond t None (Some next)) fresh_one in
     subst (λ n. slice_get (chain_of tree props) n ≡ Some next) (sym one) (chain_get tree props (suc k) next own)
 
@@ -291,7 +274,7 @@ chain_ends tree props k type more e apart ends =
     let own = next_own tree props k type more e apart in
     let last : slice_get (own_types tree props (type_of (type_text props))) (suc k) ≡ None = ⊎_elim
     (λ none. own ∙ ap (λ o. cond (nat_lt (suc k) 32) o None) (subst (λ n. unless_type_there (take n (chain_of tree props)) (super_type tree type) ≡ None) one none) ∙ cond_none (nat_lt (suc k) 32))
-    (λ full. let long : 32 ≤ suc k = omega (arith, full) in own ∙ ap (λ t. cond t (unless_type_there (take (suc k) (chain_of tree props)) (super_type tree type)) None) (not_below (suc k) 32 long))
+    (λ full. let long : 32 ≤ suc k = omega (arith, full) in own ∙ ap (λ t. cond t (unless_type_there (take (suc k) (chain_of tree props)) (super_type tree type)) None) (le-ltb (suc k) 32 long))
     ends in
     subst (λ n. (slice_get (chain_of tree props) n ≡ Some default_type) ⊎ (slice_get (chain_of tree props) n ≡ None)) (sym one)
     (chain_end tree props k type (own_at tree props k type e apart) last)

@@ -10,10 +10,12 @@ use Rattle.sp_base.specs.Paths.{is_path, parent_of, seg_ok, text_of}
 use Rattle.resource_tree.specs.declared.nodes.Node.{Node}
 use Rattle.resource_tree.specs.Content.{Content, IsTree, kid, node_at, prop_at}
 use Rattle.resource_tree.specs.Changes.{kids_at}
+use Rattle.resource_tree.proofs.PathLemmas.{parent_of-kid}
 use Rattle.sp_base.specs.Properties.{value_texts}
+use Rattle.sp_base.proofs.ListLemmas.{find_passes}
 use Rattle.url_maps.specs.Aliases.{IsAlias, has_alias}
 use Rattle.url_maps.specs.Claims.{claims_alias, node_claims_alias, spells_alias}
-use Rattle.url_maps.proofs.PathLemmas.{IsReadBack, length_kid-is, parent_of-kid, spells_is, valid_sibling}
+use Rattle.url_maps.proofs.PathLemmas.{IsReadBack, length_kid-is, spells_is, valid_sibling}
 
 -- ---- searches in lists
 
@@ -38,23 +40,11 @@ find_any test (x ∷ xs) any =
     record { item = rest.item; is = ap (λ b. cond b (Some x) (find test xs)) fails ∙ rest.is; passes = rest.passes })
     (cases_Bool (test x))
 
-pub find_passes : {X : Type 0} (test : X → Bool) (xs : List X) (x : X) → find test xs ≡ Some x → test x ≡ true
-find_passes test [] x is = cc
-find_passes test (y ∷ xs) x is =
-    ⊎_elim
-    (λ (passes_it : test y ≡ true). let e : Some y ≡ Some x = sym (ap (λ b. cond b (Some y) (find test xs)) passes_it) ∙ is in let same : y ≡ x = cc in ap test (sym same) ∙ passes_it)
-    (λ (fails : test y ≡ false). find_passes test xs x (sym (ap (λ b. cond b (Some y) (find test xs)) fails) ∙ is))
-    (cases_Bool (test y))
-
 -- ---- claims and aliases
 
 pub not_root : (q : List (List ℕ)) → 0 < length q → (length q == 0) ≡ false
 not_root [] some = absurd (omega (arith, some))
 not_root (s ∷ q) some = grind (arith, nat_tests)
-
-pub empty_from : {X : Type 0} (xs : List X) → length xs ≡ 0 → xs ≡ []
-empty_from [] e = refl
-empty_from (x ∷ xs) e = absurd (omega (arith, e))
 
 -- what a claimant of a text is: a node that is below another and has an alias that the text spells
 pub record Claimant (tree : Content) (q : List (List ℕ)) (text : List ℕ) : Type 0 where

@@ -7,11 +7,14 @@ use Rattle.std.specs.Cmp.Lexicographic.{pointwise}
 use Rattle.std.specs.Option.{option_map_or, option_or}
 use Rattle.std.specs.Ordering.{is_lt}
 use Rattle.std.specs.declared.cmp.Ordering.TheVariants.{Less}
-use Rattle.std.proofs.lemmas.Bool.{cases_Bool, true≢false, false≢true, and_parts, and_from, cases_lt, cases_eq}
+use Rattle.std.proofs.lemmas.Bool.{cases_Bool, true≢false, false≢true, and_parts, and_from, cases_lt, cases_eq, not-true}
+use Rattle.std.proofs.lemmas.Option.{same_Some}
 use Rattle.sp_base.specs.Paths.{is_path, parent_of, path_of, text_of}
 use Rattle.resource_tree.specs.declared.nodes.Node.{Node}
 use Rattle.resource_tree.specs.Content.{Content, IsTree, kid, name_of, node_at, prop_at, same_path}
 use Rattle.resource_tree.specs.Changes.{kids_at}
+use Rattle.resource_tree.proofs.PathLemmas.{kid_name, kid_parent, path_from_same, same_path_self}
+use Rattle.resource_tree.proofs.SamePaths.{kid_of_parent}
 use Rattle.url_maps.specs.declared.answer.MapAnswer.{MapAnswer}
 use Rattle.url_maps.specs.declared.pairs.Pair.{Pair}
 use Rattle.url_maps.specs.declared.pairs.PairKind.TheVariants.{Mapping, Pattern, Alias, VanityPath}
@@ -25,19 +28,17 @@ use Rattle.url_maps.specs.Search.{IsBest, IsFirstPath, IsMappingOf, IsMappingPai
 use Rattle.url_maps.specs.Turns.{IsMapped, Turns, leads, most_turns, text_after}
 use Rattle.url_maps.specs.VanityPaths.{has_vanity_path, vanity_page, vanity_cmp, with_slash}
 use Rattle.sp_base.specs.Properties.{value_texts}
+use Rattle.sp_base.proofs.BoolLemmas.{or_true}
+use Rattle.sp_base.proofs.OrderingLemmas.{less_from_test}
 use Rattle.regex_rules.specs.Fronts.{may_cut}
 use Rattle.url_maps.proofs.LawLemmas.{alias_path}
 use Rattle.url_maps.proofs.MappingLemmas.{IsSpelled, no_node_pair, no_path_pair, no_plain_pair, pair_at_node}
 use Rattle.url_maps.proofs.PairLemmas.{best_alias, best_last, best_mapping, best_pattern, goes_on_cut, mapping_pair, none_best, none_of}
 use Rattle.url_maps.proofs.PatternLemmas.{pattern_is}
-use Rattle.url_maps.proofs.PathLemmas.{IsReadBack, kid_name, kid_parent, kid_parts, path_from_same, same_path_self, valid_name}
-use Rattle.url_maps.proofs.VanityLemmas.{after_first, less_from, vanity_total}
+use Rattle.url_maps.proofs.PathLemmas.{IsReadBack, valid_name}
+use Rattle.url_maps.proofs.VanityLemmas.{after_first, vanity_total}
 
 -- ---- patterns
-
-not_true : (b : Bool) → not b ≡ true → b ≡ false
-not_true true e = absurd (false≢true e)
-not_true false e = refl
 
 plain_from : (tree : Content) (path : List (List ℕ)) (n d : ℕ) → list_all (λ depth. not (has_match tree (take depth path))) (range_with_len d n) ≡ true
     → (k : ℕ) → d ≤ k → k < d + n → has_match tree (take k path) ≡ false
@@ -45,7 +46,7 @@ plain_from tree path zero d all k low high = absurd (omega (arith, low, high))
 plain_from tree path (suc n) d all k low high =
     let parts = and_parts (not (has_match tree (take d path))) (list_all (λ depth. not (has_match tree (take depth path))) (range_with_len (d + 1) n)) all in
     ⊎_elim
-    (λ (same : k ≡ d). ap (λ i. has_match tree (take i path)) same ∙ not_true (has_match tree (take d path)) parts.0)
+    (λ (same : k ≡ d). ap (λ i. has_match tree (take i path)) same ∙ not-true (has_match tree (take d path)) parts.0)
     (λ (other : k ≢ d). plain_from tree path n (d + 1) parts.1 k (omega (arith, low, other)) (omega (arith, high)))
     (cases_eq k d)
 
@@ -74,10 +75,6 @@ key_listed (e ∷ entries) q there =
     ap (λ b. b || list_any (same_path q) (keys_of entries)) not_here
     ∙ key_listed entries q (sym (ap (λ b. is_some (cond b (Some e.1) (lookup (same_path q) entries))) not_here) ∙ there))
     (cases_Bool (same_path q e.0))
-
-or_true : (b : Bool) → (b || true) ≡ true
-or_true true = refl
-or_true false = refl
 
 filter_keeps : (f : List (List ℕ) → Bool) (q : List (List ℕ)) (xs : List (List (List ℕ))) → f q ≡ true → list_any (same_path q) xs ≡ true → list_any (same_path q) (filter f xs) ≡ true
 filter_keeps f q [] passes_it any = any
@@ -108,9 +105,6 @@ filter_passes f q (x ∷ xs) any =
 
 -- ---- the earliest of some nodes
 
-some_same : {A : Type 0} (a b : A) → Some a ≡ Some b → a ≡ b
-some_same a b e = cc
-
 earliest_none : (tree : Content) (paths : List (List (List ℕ))) → earliest tree paths ≡ None → paths ≡ []
 earliest_none tree [] none = refl
 earliest_none tree (q ∷ paths) none = cc
@@ -129,7 +123,7 @@ earliest_is read tree [] path valid is = cc
 earliest_is read tree (q ∷ paths) path valid is =
     elim (earliest tree paths) as (λ o. earliest tree paths ≡ o → Some (earlier tree q o) ≡ Some path → IsFirstPath tree (q ∷ paths) path) [
       | None ↦ λ none one.
-          let same : q ≡ path = some_same q path one in
+          let same : q ≡ path = same_Some q path one in
           let alone : paths ≡ [] = earliest_none tree paths none in
           subst (λ (p : List (List ℕ)). IsFirstPath tree (q ∷ paths) p) same (record {
             among = head_among q paths;
@@ -143,8 +137,8 @@ earliest_is read tree (q ∷ paths) path valid is =
           let next_among : list_any (same_path next) (q ∷ paths) ≡ true = ap (λ b. same_path next q || b) before.among ∙ or_true (same_path next q) in
           ⊎_elim
           (λ (less : is_lt (vanity_cmp tree q next) ≡ true).
-          let same : q ≡ path = some_same q path (sym (ap (λ b. Some (cond b q next)) less) ∙ one) in
-          let is_less = less_from (vanity_cmp tree q next) less in
+          let same : q ≡ path = same_Some q path (sym (ap (λ b. Some (cond b q next)) less) ∙ one) in
+          let is_less = less_from_test (vanity_cmp tree q next) less in
           subst (λ (p : List (List ℕ)). IsFirstPath tree (q ∷ paths) p) same (record {
             among = head_among q paths;
             first = λ other among. ⊎_elim
@@ -156,7 +150,7 @@ earliest_is read tree (q ∷ paths) path valid is =
                 (cases_Bool (same_path other q));
           }))
           (λ (not_less : is_lt (vanity_cmp tree q next) ≡ false).
-          let same : next ≡ path = some_same next path (sym (ap (λ b. Some (cond b q next)) not_less) ∙ one) in
+          let same : next ≡ path = same_Some next path (sym (ap (λ b. Some (cond b q next)) not_less) ∙ one) in
           subst (λ (p : List (List ℕ)). IsFirstPath tree (q ∷ paths) p) same (record {
             among = next_among;
             first = λ other among. ⊎_elim
@@ -226,7 +220,7 @@ module _ (read : IsReadBack) (spelled : IsSpelled) (valid : (text : List ℕ) (p
   free_alias_is prefix path at none =
       let parent = parent_of path in
       let below = below_root path none in
-      let whole = kid_parts path below in
+      let whole = kid_of_parent path below in
       let test : List ℕ → Bool = λ sibling. has_alias tree (kid parent sibling) (name_of path) in
       elim (find test (kids_at tree parent)) as (λ o. find test (kids_at tree parent) ≡ o → IsOf Alias tree None prefix (option_map (pair_inside Alias) (option_map (kid parent) o))) [
         | None ↦ λ lacks pair is has.

@@ -13,36 +13,26 @@ use Rattle.std.proofs.lemmas.List.Folds.{list_any-append, list_any_more}
 use Rattle.std.proofs.lemmas.Map.{lookup-none}
 use Rattle.std.proofs.lemmas.Map.Keys.{IsDistinct-tail}
 use Rattle.std.proofs.lemmas.Map.Entries.{none_past_head}
-use Rattle.std.proofs.lemmas.Option.{get_or_from_slice_get, slice_get_within}
-use Rattle.std.specs.Cmp.Lexicographic.{lists_total, nat_list_cmp_total}
-use Rattle.std.specs.Cmp.{IsTotalOrder}
+use Rattle.sp_base.proofs.BoolLemmas.{and_false, and_with_true, or_assoc, or_false, or_first, or_second}
+use Rattle.sp_base.proofs.ListLemmas.{any_next}
+use Rattle.sp_base.proofs.OrderingLemmas.{by_path_total}
+use Rattle.sp_base.proofs.TextLemmas.{bytes_eq_swapped}
 use Rattle.resource_tree.specs.declared.nodes.Node.{Node}
 use Rattle.resource_tree.specs.declared.patch.PatchNode.{PatchNode}
 use Rattle.resource_tree.specs.declared.patch.PatchNode.TheVariants as patch_node
 use Rattle.resource_tree.specs.Content.{Content, by_path, node_at, same_path}
 use Rattle.resource_tree.specs.Patches as patches
+use Rattle.resource_tree.proofs.PathLemmas.{path_from_same}
 use Rattle.url_maps.specs.Claims.{AreClaims, ClaimRows, claimants, claims_vanity_path, node_claims_vanity_path}
 use Rattle.url_maps.specs.Changes.{AreChanged, LeavesOthers, claimants_over, patched_vanity_path}
 use Rattle.url_maps.specs.Noting.{Notes, NotesEntry, has_row, is_at_some, untouched_paths, left_vanity_path, claimants_so_far}
-use Rattle.url_maps.proofs.ClaimLemmas.{and_false, more_words, no_words, or_false, text_sym}
-use Rattle.url_maps.proofs.PathLemmas.{path_from_same}
+use Rattle.url_maps.proofs.ClaimLemmas.{more_words, no_words}
 
 -- ---- one text
-
-by_path_total : IsTotalOrder by_path
-by_path_total = lists_total nat_list_cmp_total
-
-or_assoc : (a b c : Bool) → ((a || b) || c) ≡ (a || (b || c))
-or_assoc true b c = refl
-or_assoc false b c = refl
 
 any_optional : (q : List (List ℕ)) (path : Option (List (List ℕ))) → list_any (same_path q) (option_to_list path) ≡ is_at_some path q
 any_optional q None = refl
 any_optional q (Some path) = or_false (same_path q path)
-
-and_one : (x b : Bool) → b ≡ true → x ≡ (x && b)
-and_one true b is = sym is
-and_one false b is = refl
 
 or_true : (x b : Bool) → b ≡ true → true ≡ (x || b)
 or_true true b is = refl
@@ -59,21 +49,21 @@ notes_one rows patch text path old new is = record {
       ap (λ o. list_any (same_path q) (option_map_or (λ paths. paths) o (untouched_paths patch (claimants rows t)))) row
       ∙ list_any-append (same_path q) (claimants_so_far rows patch old text) (option_to_list path)
       ∙ ap (λ s. list_any (same_path q) (claimants_so_far rows patch old s) || list_any (same_path q) (option_to_list path)) (same_text text t (sym same))
-      ∙ ap (λ x. list_any (same_path q) (claimants_so_far rows patch old t) || x) (any_optional q path ∙ and_one (is_at_some path q) (bytes_eq t text) (text_sym t text ∙ same)))
+      ∙ ap (λ x. list_any (same_path q) (claimants_so_far rows patch old t) || x) (any_optional q path ∙ and_with_true (is_at_some path q) (bytes_eq t text) (bytes_eq_swapped t text ∙ same)))
       (λ (other : bytes_eq text t ≡ false).
       let row : lookup (bytes_eq t) new ≡ lookup (bytes_eq t) old = is t ∙ ap (λ b. cond b (Some (claimants_so_far rows patch old text ++ option_to_list path)) (lookup (bytes_eq t) old)) other in
       ap (λ o. list_any (same_path q) (option_map_or (λ paths. paths) o (untouched_paths patch (claimants rows t)))) row
       ∙ no_words (list_any (same_path q) (claimants_so_far rows patch old t)) (is_at_some path q)
-      ∙ ap (λ b. list_any (same_path q) (claimants_so_far rows patch old t) || (is_at_some path q && b)) (sym (text_sym t text ∙ other)))
+      ∙ ap (λ b. list_any (same_path q) (claimants_so_far rows patch old t) || (is_at_some path q && b)) (sym (bytes_eq_swapped t text ∙ other)))
       (cases_Bool (bytes_eq text t));
   has = λ t.
       ⊎_elim
       (λ (same : bytes_eq text t ≡ true).
       ap is_some (is t ∙ ap (λ b. cond b (Some (claimants_so_far rows patch old text ++ option_to_list path)) (lookup (bytes_eq t) old)) same)
-      ∙ or_true (has_row old t) (bytes_eq t text) (text_sym t text ∙ same))
+      ∙ or_true (has_row old t) (bytes_eq t text) (bytes_eq_swapped t text ∙ same))
       (λ (other : bytes_eq text t ≡ false).
       ap is_some (is t ∙ ap (λ b. cond b (Some (claimants_so_far rows patch old text ++ option_to_list path)) (lookup (bytes_eq t) old)) other)
-      ∙ sym (ap (λ b. has_row old t || b) (text_sym t text ∙ other) ∙ or_false (has_row old t)))
+      ∙ sym (ap (λ b. has_row old t || b) (bytes_eq_swapped t text ∙ other) ∙ or_false (has_row old t)))
       (cases_Bool (bytes_eq text t));
 }
 
@@ -121,9 +111,6 @@ pub record AreNoted (rows : ClaimRows) (patch : patches.PatchEntries) (before : 
   pub claims : (t : List ℕ) (q : List (List ℕ)) → list_any (same_path q) (claimants_so_far rows patch changed t) ≡ (list_any (same_path q) (untouched_paths patch (claimants rows t)) || list_any (λ row. same_path q row.0 && left row.0 row.1 t) done)
   pub has : (t : List ℕ) → has_row changed t ≡ list_any (λ row. before row.0 t || left row.0 row.1 t) done
 
-any_next : {X : Type 0} (test : X → Bool) (xs : List X) (i : ℕ) (x : X) → slice_get xs i ≡ Some x → list_any test (take (i + 1) xs) ≡ (list_any test (take i xs) || test x)
-any_next test xs i x is = list_any_more test xs i x (slice_get_within xs i x is) ∙ ap (λ y. list_any test (take i xs) || test y) (get_or_from_slice_get xs i x x is)
-
 pub noted_next : (rows : ClaimRows) (patch : patches.PatchEntries) (before : List (List ℕ) → List ℕ → Bool) (left : List (List ℕ) → PatchNode → List ℕ → Bool) (i : ℕ) (path : List (List ℕ)) (row : PatchNode) (old new : ClaimRows)
     → slice_get patch i ≡ Some (path, row) → AreNoted rows patch before left (take i patch) old → NotesEntry rows patch path (before path) (left path row) old new → AreNoted rows patch before left (take (i + 1) patch) new
 noted_next rows patch before left i path row old new is so_far one = record {
@@ -140,7 +127,7 @@ noted_next rows patch before left i path row old new is so_far one = record {
 -- ---- all entries
 
 any_cond : (q p : List (List ℕ)) (b : Bool) (ps : List (List (List ℕ))) → list_any (same_path q) (cond b (p ∷ ps) ps) ≡ ((same_path q p && b) || list_any (same_path q) ps)
-any_cond q p true ps = ap (λ x. x || list_any (same_path q) ps) (and_one (same_path q p) true refl)
+any_cond q p true ps = ap (λ x. x || list_any (same_path q) ps) (and_with_true (same_path q p) true refl)
 any_cond q p false ps = ap (λ x. x || list_any (same_path q) ps) (sym (and_false (same_path q p)))
 
 gather : (s b l c : Bool) → (s ≡ true → b ≡ c) → ((s && b) || (l && c)) ≡ ((s || l) && c)
@@ -149,14 +136,6 @@ gather true true false c same = same refl
 gather true false true c same = refl
 gather true false false c same = same refl
 gather false b l c same = refl
-
-first_false : (a b : Bool) → (a || b) ≡ false → a ≡ false
-first_false true b is = is
-first_false false b is = refl
-
-last_false : (a b : Bool) → (a || b) ≡ false → b ≡ false
-last_false true b is = absurd (true≢false is)
-last_false false b is = is
 
 -- which of the paths pass a test
 pub any_filter : (q : List (List ℕ)) (test : List (List ℕ) → Bool) (paths : List (List (List ℕ))) → list_any (same_path q) (filter test paths) ≡ (list_any (same_path q) paths && test q)
@@ -201,9 +180,9 @@ row_fails q test (r ∷ patch) row is none =
     let here : q ≡ r.0 = path_from_same q r.0 same in
     let found : Some r.1 ≡ Some row = sym (ap (λ b. cond b (Some r.1) (patches.entry_at patch q)) same) ∙ is in
     let one : r.1 ≡ row = cc in
-    ap (λ p. test p row) here ∙ ap (test r.0) (sym one) ∙ first_false (test r.0 r.1) (list_any (λ x. test x.0 x.1) patch) none)
+    ap (λ p. test p row) here ∙ ap (test r.0) (sym one) ∙ or_first (test r.0 r.1) (list_any (λ x. test x.0 x.1) patch) none)
     (λ (other : same_path q r.0 ≡ false).
-    row_fails q test patch row (sym (ap (λ b. cond b (Some r.1) (patches.entry_at patch q)) other) ∙ is) (last_false (test r.0 r.1) (list_any (λ x. test x.0 x.1) patch) none))
+    row_fails q test patch row (sym (ap (λ b. cond b (Some r.1) (patches.entry_at patch q)) other) ∙ is) (or_second (test r.0 r.1) (list_any (λ x. test x.0 x.1) patch) none))
     (cases_Bool (same_path q r.0))
 
 settled : (before : Bool) (left : PatchNode → Bool) (row : Option PatchNode) → ((before && is_none row) || option_map_or left row false) ≡ option_map_or left row before
@@ -214,7 +193,7 @@ settled false left (Some row) = refl
 
 unsettled : (before : Bool) (left : PatchNode → Bool) (row : Option PatchNode) → ((r : PatchNode) → row ≡ Some r → (before || left r) ≡ false) → before ≡ option_map_or left row before
 unsettled before left None none = refl
-unsettled before left (Some r) none = first_false before (left r) (none r refl) ∙ sym (last_false before (left r) (none r refl))
+unsettled before left (Some r) none = or_first before (left r) (none r refl) ∙ sym (or_second before (left r) (none r refl))
 
 -- the claims after all entries
 pub changed_by : (rows : ClaimRows) (patch : patches.PatchEntries) (before after : List (List ℕ) → List ℕ → Bool) (left : List (List ℕ) → PatchNode → List ℕ → Bool) (changed : ClaimRows) → AreClaims before rows → IsDistinct (eq_by_cmp by_path) (keys_of patch)
@@ -240,7 +219,7 @@ leaves_others rows tree patch changed noted_all t q none claims =
     elim (patches.entry_at patch q) as (λ o. patches.entry_at patch q ≡ o → patches.left_by o (node_at tree q) ≡ node_at tree q) [
       | None ↦ λ is. refl
       | Some row ↦ λ is.
-          absurd (true≢false (sym claims ∙ first_false (claims_vanity_path tree q t) (left_vanity_path q row t)
+          absurd (true≢false (sym claims ∙ or_first (claims_vanity_path tree q t) (left_vanity_path q row t)
           (row_fails q (λ p r. claims_vanity_path tree p t || left_vanity_path p r t) patch row is (sym (noted_all.has t) ∙ ap is_some none))))
     ] refl
 
@@ -288,6 +267,6 @@ over_head false paths o p new old is = is
 pub over_last : {K : Type 0} (f : K → List ℕ) (es : List (K × List (List (List ℕ)))) (key : K) (paths : List (List (List ℕ))) (old new : ClaimRows) → ((t : List ℕ) → claimants new t ≡ cond (bytes_eq (f key) t) paths (claimants old t)) → (t : List ℕ)
     → claimants_over (map (λ (e : K × List (List (List ℕ))). (f e.0, e.1)) es) new t ≡ claimants_over (map (λ (e : K × List (List (List ℕ))). (f e.0, e.1)) (es ++ (key, paths) ∷ [])) old t
 over_last f [] key paths old new is t =
-    is t ∙ ap (λ b. cond b paths (claimants old t)) (text_sym (f key) t) ∙ over_one (bytes_eq t (f key)) paths (claimants old t)
+    is t ∙ ap (λ b. cond b paths (claimants old t)) (bytes_eq_swapped (f key) t) ∙ over_one (bytes_eq t (f key)) paths (claimants old t)
 over_last f (e ∷ es) key paths old new is t =
     over_head (bytes_eq t (f e.0)) e.1 _ _ (claimants new t) (claimants old t) (over_last f es key paths old new is t)

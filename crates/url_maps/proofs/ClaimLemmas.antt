@@ -1,11 +1,11 @@
 -- Who claims a text after one more claim, and after a node's.
 use Rattle.std.proofs.Common.{◌≡◌, ◌<◌, ◌≤◌, ◌+◌, ℕ, Bool, true, false, cond, List, [], ◌∷◌, ◌++◌, Option, Some, None, map, take, length, get_or, refl, sym, ◌∙◌, ap, subst, arith, ⊎_elim}
-use Rattle.std.specs.Prelude.{◌||◌, ◌&&◌, ◌==◌, not, codes, is_some, Result, Ok, Err, IsOk, OnOk}
+use Rattle.std.specs.Prelude.{◌||◌, ◌&&◌, ◌==◌, not, codes, is_some}
 use Rattle.std.specs.List.{list_any}
 use Rattle.std.specs.Map.{keys_of, lookup}
 use Rattle.std.specs.Option.{option_map_or}
-use Rattle.std.proofs.lemmas.Bool.{and_parts, cases_Bool, false_from_ne_true, true≢false}
-use Rattle.std.specs.Cmp.Lexicographic.{nat_list_eq_equiv, same_text}
+use Rattle.std.proofs.lemmas.Bool.{and_parts, cases_Bool}
+use Rattle.std.specs.Cmp.Lexicographic.{same_text}
 use Rattle.std.proofs.lemmas.Bool.Decides.{nat_tests}
 use Rattle.std.proofs.lemmas.List.{get_or-map, length-map, take_all}
 use Rattle.std.proofs.lemmas.List.Folds.{list_any-append, list_any_more}
@@ -14,26 +14,16 @@ use Rattle.std.specs.Str.{bytes_eq}
 use Rattle.resource_tree.specs.Content.{Content, node_at, same_path}
 use Rattle.resource_tree.specs.Content.{prop_at}
 use Rattle.resource_tree.specs.Rows.{AreRowsOf}
+use Rattle.resource_tree.proofs.PathLemmas.{path_from_same}
 use Rattle.url_maps.specs.Claims.{AddsClaims, AreClaims, ClaimsAreWithin, ClaimRows, claimants, claims_alias, claims_vanity_path, node_claims_alias, node_claims_vanity_path, spells_alias, spells_vanity_path}
 use Rattle.sp_base.specs.Properties.{value_texts}
-use Rattle.url_maps.proofs.PathLemmas.{path_from_same}
+use Rattle.sp_base.proofs.BoolLemmas.{and_false, and_true, or_false}
+use Rattle.sp_base.proofs.TextLemmas.{bytes_eq_swapped}
 
 -- a look-up through other names of the keys
 pub lookup_shown : {K B X : Type 0} (f : K → B) (test : B → Bool) (es : List (K × X)) → lookup test (map (λ (e : K × X). (f e.0, e.1)) es) ≡ lookup (λ k. test (f k)) es
 lookup_shown f test [] = refl
 lookup_shown f test ((k, v) ∷ es) = ap (λ r. cond (test (f k)) (Some v) r) (lookup_shown f test es)
-
-pub or_false : (x : Bool) → (x || false) ≡ x
-or_false true = refl
-or_false false = refl
-
-and_true : (x : Bool) → (x && true) ≡ x
-and_true true = refl
-and_true false = refl
-
-pub and_false : (x : Bool) → (x && false) ≡ false
-and_false true = refl
-and_false false = refl
 
 -- one more claimant, of the texts of a test
 pub one_more : (q path : List (List ℕ)) (old new : List (List (List ℕ))) (b : Bool) → new ≡ cond b (old ++ path ∷ []) old → list_any (same_path q) new ≡ (list_any (same_path q) old || (same_path q path && b))
@@ -72,13 +62,6 @@ there_and test None = refl
 there_and test (Some node) = refl
 
 -- ---- the claims after a call
-
-pub text_sym : (a b : List ℕ) → bytes_eq a b ≡ bytes_eq b a
-text_sym a b =
-    ⊎_elim
-    (λ (same : bytes_eq a b ≡ true). same ∙ sym (ap (bytes_eq b) (same_text a b (sym same)) ∙ nat_list_eq_equiv.refl b))
-    (λ (other : bytes_eq a b ≡ false). other ∙ sym (false_from_ne_true (bytes_eq b a) (λ same. true≢false (sym (nat_list_eq_equiv.refl a) ∙ ap (bytes_eq a) (sym (same_text b a (sym same))) ∙ other))))
-    (cases_Bool (bytes_eq a b))
 
 -- the claimants of a table, by its look-ups
 pub claimants_shown : {K : Type 0} (f : K → List ℕ) (entries : List (K × List (List (List ℕ)))) (text : List ℕ) → claimants (map (λ (e : K × List (List (List ℕ))). (f e.0, e.1)) entries) text ≡ option_map_or (λ paths. paths) (lookup (λ k. bytes_eq text (f k)) entries) []
@@ -136,7 +119,7 @@ not_added rows path text there t q =
 -- one more claimant of one text
 pub added : (rows more : ClaimRows) (path : List (List ℕ)) (text : List ℕ) → ((t : List ℕ) → claimants more t ≡ cond (bytes_eq text t) (claimants rows t ++ path ∷ []) (claimants rows t)) → (test : List ℕ → Bool)
     → ((t : List ℕ) → test t ≡ bytes_eq t text) → AddsClaims path test rows more
-added rows more path text is test same t q = one_more q path (claimants rows t) (claimants more t) (bytes_eq text t) (is t) ∙ ap (λ b. list_any (same_path q) (claimants rows t) || (same_path q path && b)) (text_sym text t ∙ sym (same t))
+added rows more path text is test same t q = one_more q path (claimants rows t) (claimants more t) (bytes_eq text t) (is t) ∙ ap (λ b. list_any (same_path q) (claimants rows t) || (same_path q path && b)) (bytes_eq_swapped text t ∙ sym (same t))
 
 -- the claims of the first words
 pub words_more : {W : Type 0} (first rows more : ClaimRows) (path : List (List ℕ)) (test : List ℕ → W → Bool) (words : List W) (i : ℕ) (word : W) → i < length words → word ≡ get_or words i word
@@ -164,16 +147,16 @@ row_there f tree all i row are within item =
     subst (λ (e : List (List ℕ) × Node). node_at tree e.0 ≡ Some e.1) (get_or-map f all i row (f row) within ∙ ap f (sym item))
     (are.nodes i (f row) (omega (arith, within, length-map all f)))
 
-any_keys : {R : Type 0} (f : R → List (List ℕ) × Node) (q : List (List ℕ)) (all : List R) → list_any (same_path q) (keys_of (map f all)) ≡ list_any (λ r. same_path q (f r).0) all
-any_keys f q [] = refl
-any_keys f q (r ∷ all) = ap (λ b. same_path q (f r).0 || b) (any_keys f q all)
+pub any_of_keys : {R : Type 0} (f : R → List (List ℕ) × Node) (q : List (List ℕ)) (all : List R) → list_any (same_path q) (keys_of (map f all)) ≡ list_any (λ r. same_path q (f r).0) all
+any_of_keys f q [] = refl
+any_of_keys f q (r ∷ all) = ap (λ b. same_path q (f r).0 || b) (any_of_keys f q all)
 
 -- the claims of all rows
 all_rows : {R : Type 0} (f : R → List (List ℕ) × Node) (tree : Content) (q : List (List ℕ)) (test : Node → Bool) (all : List R) (i : ℕ) (x : Bool) → AreRowsOf tree (map f all) → length all ≤ i
     → x ≡ (list_any (λ r. same_path q (f r).0) (take i all) && option_map_or test (node_at tree q) false) → x ≡ option_map_or test (node_at tree q) false
 all_rows f tree q test all i x are end is =
     is ∙ ap (λ rs. list_any (λ r. same_path q (f r).0) rs && option_map_or test (node_at tree q) false) (take_all i all end)
-    ∙ ap (λ z. z && option_map_or test (node_at tree q) false) (sym (any_keys f q all) ∙ are.paths q) ∙ there_and test (node_at tree q)
+    ∙ ap (λ z. z && option_map_or test (node_at tree q) false) (sym (any_of_keys f q all) ∙ are.paths q) ∙ there_and test (node_at tree q)
 
 not_zero : (n : ℕ) → (n ≡ 0 → ⊥) → (n == 0) ≡ false
 not_zero n some = grind (arith, nat_tests)
@@ -246,8 +229,3 @@ any_word test words i word old new within item so_far is =
 pub claims_vanity_path_is : (tree : Content) (path : List (List ℕ)) (found : Option Node) → found ≡ node_at tree path → (t : List ℕ) → claims_vanity_path tree path t ≡ option_map_or (λ n. node_claims_vanity_path n t) found false
 unfolding claims_vanity_path
 claims_vanity_path_is tree path found is t = ap (λ o. option_map_or (λ (n : Node). node_claims_vanity_path n t) o false) (sym is)
-
--- what a call that succeeds promises
-pub from_ok : {A E P : Type 0} (r : Result A E) → IsOk r → OnOk r P → P
-from_ok (Ok x) ok p = p
-from_ok (Err e) ok p = absurd (true≢false (sym ok))

@@ -11,6 +11,7 @@ use Rattle.std.proofs.lemmas.List.{length-take-le}
 use Rattle.std.proofs.Math.Seq.{take-append-add, drop-append-add}
 use Rattle.sp_base.specs.Names.{by_name}
 use Rattle.sp_base.specs.Paths.{is_path, path_or_none}
+use Rattle.sp_base.proofs.OrderingLemmas.{less_from_test}
 use Rattle.regex_rules.specs.Trees.{Tree, tree_of}
 use Rattle.regex_rules.specs.Languages.{InLanguage}
 use Rattle.regex_rules.specs.Fronts.{IsFront, IsLastFront, may_cut}
@@ -31,7 +32,6 @@ use Rattle.url_maps.specs.Search.{HasNoneBeyond, IsMappingPair, IsOf}
 use Rattle.url_maps.proofs.NameLemmas.{not_less, less_trans}
 use Rattle.url_maps.proofs.PatternLemmas.{kid_listed}
 use Rattle.url_maps.proofs.RowLemmas.{same_row}
-use Rattle.url_maps.proofs.VanityLemmas.{less_from}
 
 -- ---- of the fronts of some rows the first
 
@@ -102,7 +102,7 @@ module _ (rows : List PatternNode) (whole : List ℕ) (from : ℕ) where
     ahead_of best at ahead first k other j lt there front = ⊎_elim
         (λ (tie : (at == best.at) ≡ true).
         let same : at ≡ best.at = eqb-true at best.at tie in
-        let less : by_name row.now.name best.row.now.name ≡ Less = less_from (by_name row.now.name best.row.now.name) (sym (ap (λ b. cond b (is_lt (by_name row.now.name best.row.now.name)) (nat_lt best.at at)) tie) ∙ ahead) in
+        let less : by_name row.now.name best.row.now.name ≡ Less = less_from_test (by_name row.now.name best.row.now.name) (sym (ap (λ b. cond b (is_lt (by_name row.now.name best.row.now.name)) (nat_lt best.at at)) tie) ∙ ahead) in
         ⊎_elim
         (λ (before : j < best.at). inl (omega (arith, before, same)))
         (λ there_too. inr (

@@ -9,6 +9,7 @@ use Rattle.std.proofs.lemmas.Bool.{true≢false}
 use Rattle.sp_base.specs.Paths.{is_path, text_of}
 use Rattle.resource_tree.specs.Content.{Content, IsTree, kid, node_at}
 use Rattle.resource_tree.specs.Changes.{kids_at}
+use Rattle.resource_tree.proofs.PathLemmas.{kid_name, kid_parent}
 use Rattle.url_maps.specs.declared.answer.MapAnswer.{MapAnswer}
 use Rattle.url_maps.specs.declared.pairs.Pair.{Pair}
 use Rattle.url_maps.specs.declared.pairs.PairKind.{PairKind}
@@ -21,7 +22,7 @@ use Rattle.url_maps.specs.Turns.{Turns, leads, text_after}
 use Rattle.url_maps.specs.VanityPaths.{IsVanityPath, vanity_page, vanity_cmp}
 use Rattle.url_maps.proofs.AliasLemmas.{alias_claims, claimant_is}
 use Rattle.url_maps.proofs.MappingLemmas.{mapping_path}
-use Rattle.url_maps.proofs.PathLemmas.{IsReadBack, kid_name, kid_parent, path_from_text, valid_sibling}
+use Rattle.url_maps.proofs.PathLemmas.{IsReadBack, path_from_text, valid_sibling}
 use Rattle.url_maps.proofs.VanityLemmas.{vanity_total}
 
 module _ (read : IsReadBack) (tree : Content) (good : IsTree (node_at tree)) where

@@ -14,18 +14,21 @@ use Rattle.std.proofs.lemmas.List.{map_push}
 use Rattle.std.proofs.lemmas.List.Folds.{list_any_at, list_any_more}
 use Rattle.sp_base.specs.Names.{by_name}
 use Rattle.sp_base.specs.Paths.{is_path, text_of}
+use Rattle.sp_base.proofs.BoolLemmas.{or_false}
+use Rattle.sp_base.proofs.OrderingLemmas.{less_from_test}
+use Rattle.sp_base.proofs.TextLemmas.{bytes_eq_swapped}
 use Rattle.resource_tree.specs.declared.nodes.Node.{Node}
 use Rattle.resource_tree.specs.Content.{Content, IsTree, node_at, same_path}
 use Rattle.resource_tree.specs.Patches as patches
+use Rattle.resource_tree.proofs.PathLemmas.{path_from_same, same_path_self}
 use Rattle.url_maps.specs.Claims.{AreClaims, AreLed, ClaimRows, IsLeader, IsLed, claimants, claims_vanity_path, cmp_by}
 use Rattle.url_maps.specs.Changes.{AreChanged, LeavesOthers, claimants_over}
 use Rattle.url_maps.specs.Noting.{IsFirstOf, PutsLeaderFirst, LeadsRow, LeadsRows, others}
 use Rattle.url_maps.specs.Search.{IsFirstPath}
 use Rattle.url_maps.specs.VanityPaths.{order_of, vanity_cmp, vanity_order}
-use Rattle.url_maps.proofs.ClaimLemmas.{or_false, text_sym}
 use Rattle.url_maps.proofs.ChangeLemmas.{any_filter}
-use Rattle.url_maps.proofs.PathLemmas.{IsReadBack, path_from_same, same_path_self}
-use Rattle.url_maps.proofs.VanityLemmas.{after_first, less_from, vanity_valid}
+use Rattle.url_maps.proofs.PathLemmas.{IsReadBack}
+use Rattle.url_maps.proofs.VanityLemmas.{after_first, vanity_valid}
 
 -- ---- the order
 
@@ -39,7 +42,7 @@ not_before : (at : List (List ℕ) → Option Node) (path first other : List (Li
 not_before at path first other before after =
     ⊎_elim
     (λ (less : is_lt (cmp_by at other path) ≡ true).
-    absurd (true≢false (sym (ap is_lt ((cmp_total at).trans other path first (less_from (cmp_by at other path) less) (less_from (cmp_by at path first) before))) ∙ after)))
+    absurd (true≢false (sym (ap is_lt ((cmp_total at).trans other path first (less_from_test (cmp_by at other path) less) (less_from_test (cmp_by at path first) before))) ∙ after)))
     (λ (more : is_lt (cmp_by at other path) ≡ false). more)
     (cases_Bool (is_lt (cmp_by at other path)))
 
@@ -115,7 +118,7 @@ row_more at false paths led old new leads others = others
 pub rows_led : (at : List (List ℕ) → Option Node) (done old new : ClaimRows) (text : List ℕ) (paths led : List (List (List ℕ))) → LeadsRows at done old → PutsLeaderFirst at paths led
     → ((t : List ℕ) → lookup (bytes_eq t) new ≡ cond (bytes_eq text t) (Some led) (lookup (bytes_eq t) old)) → LeadsRows at ((text, paths) ∷ done) new
 rows_led at done old new text paths led so_far leads is t =
-    subst (LeadsRow at (cond (bytes_eq t text) (Some paths) (lookup (bytes_eq t) done))) (sym (is t ∙ ap (λ b. cond b (Some led) (lookup (bytes_eq t) old)) (text_sym text t)))
+    subst (LeadsRow at (cond (bytes_eq t text) (Some paths) (lookup (bytes_eq t) done))) (sym (is t ∙ ap (λ b. cond b (Some led) (lookup (bytes_eq t) old)) (bytes_eq_swapped text t)))
     (row_more at (bytes_eq t text) paths led (lookup (bytes_eq t) done) (lookup (bytes_eq t) old) leads (so_far t))
 
 -- the rows before the last one, and that among those that are done

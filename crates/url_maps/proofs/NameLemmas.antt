@@ -1,25 +1,22 @@
 -- Names: when two are one, which of some is the least, and which of some a test keeps.
 use Rattle.std.proofs.Common.{◌≡◌, ◌⊎◌, inl, inr, ℕ, Bool, true, false, cond, List, [], ◌∷◌, Option, Some, None, refl, sym, ◌∙◌, ap, subst, ⊎_elim}
 use Rattle.std.specs.Prelude.{◌||◌, filter, nat_eq}
-use Rattle.std.specs.Cmp.Lexicographic.{pointwise, nat_list_cmp_total, nat_list_eq_equiv, same_text}
+use Rattle.std.specs.Cmp.Lexicographic.{pointwise, nat_list_cmp_total}
 use Rattle.std.specs.List.{list_any}
 use Rattle.std.specs.Ordering.{is_lt, ordering_reverse}
 use Rattle.std.specs.declared.cmp.Ordering.{Ordering}
 use Rattle.std.specs.declared.cmp.Ordering.TheVariants.{Less, Equal, Greater}
 use Rattle.std.proofs.lemmas.Bool.{cases_Bool, true≢false, false≢true}
 use Rattle.std.proofs.lemmas.Map.Lookups.{exact_bytes}
+use Rattle.std.proofs.lemmas.Option.{same_Some}
 use Rattle.sp_base.specs.Names.{by_name}
+use Rattle.sp_base.proofs.BoolLemmas.{or_true}
+use Rattle.sp_base.proofs.OrderingLemmas.{less_from_test}
+use Rattle.sp_base.proofs.TextLemmas.{text_is, text_itself}
 use Rattle.url_maps.specs.PatternAnswers.{least, lesser}
-use Rattle.url_maps.proofs.VanityLemmas.{less_from}
 
 abbrev pub is_named : List ℕ → List (List ℕ) → Bool
 is_named name names = list_any (pointwise nat_eq name) names
-
-pub name_self : (name : List ℕ) → pointwise nat_eq name name ≡ true
-name_self name = nat_list_eq_equiv.refl name
-
-pub name_from : (a b : List ℕ) → pointwise nat_eq a b ≡ true → a ≡ b
-name_from a b e = same_text a b (sym e)
 
 -- ---- the order
 
@@ -36,13 +33,6 @@ less_trans a b c first second = nat_list_cmp_total.trans a b c first second
 
 -- ---- the least
 
-or_true : (b : Bool) → (b || true) ≡ true
-or_true true = refl
-or_true false = refl
-
-some_same : {A : Type 0} (a b : A) → Some a ≡ Some b → a ≡ b
-some_same a b e = cc
-
 pub record IsLeast (names : List (List ℕ)) (name : List ℕ) : Type 0 where
   pub among : is_named name names ≡ true
   pub first : (other : List ℕ) → is_named other names ≡ true → (other ≡ name) ⊎ (by_name name other ≡ Less)
@@ -56,12 +46,12 @@ least_is [] name is = cc
 least_is (n ∷ names) name is =
     elim (least names) as (λ o. least names ≡ o → Some (lesser n o) ≡ Some name → IsLeast (n ∷ names) name) [
       | None ↦ λ none one.
-          let same : n ≡ name = some_same n name one in
+          let same : n ≡ name = same_Some n name one in
           let alone : names ≡ [] = least_none names none in
           subst (λ (m : List ℕ). IsLeast (n ∷ names) m) same (record {
-            among = ap (λ b. b || is_named n names) (name_self n);
+            among = ap (λ b. b || is_named n names) (text_itself n);
             first = λ other among. ⊎_elim
-                (λ (here : pointwise nat_eq other n ≡ true). inl (name_from other n here))
+                (λ (here : pointwise nat_eq other n ≡ true). inl (text_is other n here))
                 (λ (not_here : pointwise nat_eq other n ≡ false). absurd (false≢true (sym (ap (λ b. b || is_named other names) not_here ∙ ap (is_named other) alone) ∙ among)))
                 (cases_Bool (pointwise nat_eq other n));
           })
@@ -69,12 +59,12 @@ least_is (n ∷ names) name is =
           let before = least_is names next some in
           ⊎_elim
           (λ (less : is_lt (by_name n next) ≡ true).
-          let same : n ≡ name = some_same n name (sym (ap (λ b. Some (cond b n next)) less) ∙ one) in
-          let is_less = less_from (by_name n next) less in
+          let same : n ≡ name = same_Some n name (sym (ap (λ b. Some (cond b n next)) less) ∙ one) in
+          let is_less = less_from_test (by_name n next) less in
           subst (λ (m : List ℕ). IsLeast (n ∷ names) m) same (record {
-            among = ap (λ b. b || is_named n names) (name_self n);
+            among = ap (λ b. b || is_named n names) (text_itself n);
             first = λ other among. ⊎_elim
-                (λ (here : pointwise nat_eq other n ≡ true). inl (name_from other n here))
+                (λ (here : pointwise nat_eq other n ≡ true). inl (text_is other n here))
                 (λ (not_here : pointwise nat_eq other n ≡ false). ⊎_elim
                 (λ (is_next : other ≡ next). inr (ap (by_name n) is_next ∙ is_less))
                 (λ (after : by_name next other ≡ Less). inr (less_trans n next other is_less after))
@@ -82,12 +72,12 @@ least_is (n ∷ names) name is =
                 (cases_Bool (pointwise nat_eq other n));
           }))
           (λ (more : is_lt (by_name n next) ≡ false).
-          let same : next ≡ name = some_same next name (sym (ap (λ b. Some (cond b n next)) more) ∙ one) in
+          let same : next ≡ name = same_Some next name (sym (ap (λ b. Some (cond b n next)) more) ∙ one) in
           subst (λ (m : List ℕ). IsLeast (n ∷ names) m) same (record {
             among = ap (λ b. pointwise nat_eq next n || b) before.among ∙ or_true (pointwise nat_eq next n);
             first = λ other among. ⊎_elim
                 (λ (here : pointwise nat_eq other n ≡ true).
-                subst (λ (m : List ℕ). (m ≡ next) ⊎ (by_name next m ≡ Less)) (sym (name_from other n here)) (not_less n next more))
+                subst (λ (m : List ℕ). (m ≡ next) ⊎ (by_name next m ≡ Less)) (sym (text_is other n here)) (not_less n next more))
                 (λ (not_here : pointwise nat_eq other n ≡ false). before.first other (sym (ap (λ b. b || is_named other names) not_here) ∙ among))
                 (cases_Bool (pointwise nat_eq other n));
           }))
@@ -101,7 +91,7 @@ keeps_name f q [] passes_it any = any
 keeps_name f q (x ∷ xs) passes_it any =
     ⊎_elim
     (λ (here : pointwise nat_eq q x ≡ true).
-    let kept : f x ≡ true = ap f (sym (name_from q x here)) ∙ passes_it in
+    let kept : f x ≡ true = ap f (sym (text_is q x here)) ∙ passes_it in
     ap (λ b. is_named q (cond b (x ∷ filter f xs) (filter f xs))) kept ∙ ap (λ b. b || is_named q (filter f xs)) here)
     (λ (not_here : pointwise nat_eq q x ≡ false).
     let rest = keeps_name f q xs passes_it (sym (ap (λ b. b || is_named q xs) not_here) ∙ any) in
@@ -116,7 +106,7 @@ kept_name f q [] any = absurd (false≢true any)
 kept_name f q (x ∷ xs) any =
     ⊎_elim
     (λ (kept : f x ≡ true). ⊎_elim
-    (λ (here : pointwise nat_eq q x ≡ true). ap f (name_from q x here) ∙ kept)
+    (λ (here : pointwise nat_eq q x ≡ true). ap f (text_is q x here) ∙ kept)
     (λ (not_here : pointwise nat_eq q x ≡ false).
     kept_name f q xs (sym (ap (λ b. is_named q (cond b (x ∷ filter f xs) (filter f xs))) kept ∙ ap (λ b. b || is_named q (filter f xs)) not_here) ∙ any))
     (cases_Bool (pointwise nat_eq q x)))

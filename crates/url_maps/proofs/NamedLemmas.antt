@@ -7,12 +7,12 @@ use Rattle.std.proofs.lemmas.Bool.{and_parts, cases_Bool, false_from_ne_true, tr
 use Rattle.std.proofs.lemmas.List.{drop_more, length-drop, take-append-drop, take_all, take_more}
 use Rattle.std.proofs.lemmas.List.Elements.{filter-append}
 use Rattle.sp_base.specs.Paths.{is_path, path_or_none}
+use Rattle.sp_base.proofs.BoolLemmas.{and_false}
 use Rattle.resource_tree.specs.declared.nodes.Node.{Node}
 use Rattle.resource_tree.specs.Content.{Content, kid, node_at}
 use Rattle.url_maps.specs.Claims.{claims_by, node_claims_alias, spells_alias}
 use Rattle.url_maps.specs.Siblings.{AreSameFirst, AreSameLast, alias_words, is_aliased, is_aliased_kid, aliased_kids}
 use Rattle.url_maps.proofs.AliasLemmas.{not_root}
-use Rattle.url_maps.proofs.ClaimLemmas.{and_false}
 use Rattle.url_maps.proofs.SiblingLemmas.{a_path, not_a_path}
 
 pub words_claim : (q : List (List ℕ)) (t : List ℕ) (o : Option Node) → option_map_or (λ (node : Node). node_claims_alias q node t) o false ≡ (not (length q == 0) && list_any (spells_alias q t) (alias_words o))
@@ -105,10 +105,6 @@ named_is tree p name k some =
 
 pub unnamed : (tree : Content) (p : List (List ℕ)) (name : List ℕ) → path_or_none (kid p name) ≡ None → is_aliased_kid tree p name ≡ false
 unnamed tree p name none = ap (λ b. b && is_aliased (node_at tree (kid p name))) (not_a_path (kid p name) none)
-
-pub not_so : (b : Bool) → not b ≡ true → b ≡ false
-not_so true e = absurd (false≢true e)
-not_so false e = refl
 
 -- the rest of a list, cut where the list ends
 pub rest_is : {X : Type 0} (n : ℕ) (xs : List X) → take (length xs - n) (drop n xs) ≡ drop n xs

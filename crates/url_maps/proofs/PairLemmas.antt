@@ -2,7 +2,7 @@
 use Rattle.std.proofs.Common.{◌≡◌, ◌≢◌, ◌≤◌, ◌<◌, ℕ, true, false, List, [], ◌∷◌, Option, Some, None, take, drop, length, get_or, refl, sym, ◌∙◌, ap, subst, arith, ⊎_elim, ◌⊎◌, inl, inr}
 use Rattle.std.specs.Prelude.{◌||◌, ◌==◌}
 use Rattle.std.proofs.lemmas.Bool.{cases_Bool, eqb-true, true≢false, false≢true, cases_lt, cases_eq}
-use Rattle.std.proofs.lemmas.List.{length-take, get_or-take, take-take}
+use Rattle.std.proofs.lemmas.List.{get_or-take, take-take}
 use Rattle.std.proofs.Math.Seq.{drop-cons}
 use Rattle.regex_rules.specs.Fronts.{may_cut}
 use Rattle.resource_tree.specs.Content.{Content}
@@ -193,6 +193,3 @@ shorter_prefix text prefix front is cut less = cut ∙ ap (take (length front)) 
 pub prefix_cut : (text prefix front : List ℕ) → prefix ≡ take (length prefix) text → length prefix ≤ length text → length front < length prefix → is_separator (get_or prefix (length front) 0) ≡ true → may_cut (drop (length front) text) ≡ true
 prefix_cut text prefix front is within less separator =
     cut_at text (length front) (omega (arith, within, less)) ∙ ap is_separator (sym (ap (λ t. get_or t (length front) 0) is ∙ get_or-take (length prefix) text (length front) 0 less)) ∙ separator
-
-pub within_text : (text prefix : List ℕ) → prefix ≡ take (length prefix) text → length prefix ≤ length text
-within_text text prefix is = omega (arith, ap length is, length-take (length prefix) text)

@@ -1,25 +1,27 @@
 -- The nodes whose kids with an alias a patch changes, or the aliases of whose kids.
 use Rattle.std.proofs.Common.{◌≡◌, ◌<◌, ◌≤◌, ◌+◌, ℕ, suc, Bool, true, false, cond, List, [], ◌∷◌, Option, Some, None, take, length, get_or, refl, sym, ◌∙◌, ap, subst, ⊎_elim, arith}
-use Rattle.std.specs.Prelude.{◌||◌, ◌&&◌, ◌==◌, nat_eq, not, option_map, slice_get}
-use Rattle.std.specs.Cmp.Lexicographic.{pointwise, same_text}
+use Rattle.std.specs.Prelude.{◌||◌, ◌&&◌, ◌==◌, not, option_map, slice_get}
 use Rattle.std.specs.List.{list_any}
 use Rattle.std.specs.Option.{option_map_or}
 use Rattle.std.specs.Str.{bytes_eq}
-use Rattle.std.proofs.lemmas.Bool.{and_parts, cases_Bool, true≢false, cases_lt}
+use Rattle.std.proofs.lemmas.Bool.{cases_Bool, true≢false, cases_lt, or_left}
 use Rattle.std.proofs.lemmas.List.Folds.{list_any_more}
-use Rattle.std.proofs.lemmas.Option.{slice_get_within}
+use Rattle.std.proofs.lemmas.Option.{same_Some, slice_get_within}
 use Rattle.sp_base.specs.Paths.{is_path, parent_of, text_of}
+use Rattle.sp_base.proofs.BoolLemmas.{or_first}
 use Rattle.resource_tree.specs.declared.nodes.Node.{Node}
 use Rattle.resource_tree.specs.declared.patch.PatchNode.{PatchNode}
 use Rattle.resource_tree.specs.declared.patch.PatchNode.TheVariants as patch_node
 use Rattle.resource_tree.specs.Content.{Content, kid, node_at, same_path}
 use Rattle.resource_tree.specs.Patches as patches
+use Rattle.resource_tree.proofs.PathLemmas.{parent_of-kid, path_from_same, same_path_self}
+use Rattle.resource_tree.proofs.SamePaths.{same_path_swapped}
 use Rattle.url_maps.specs.Claims.{ClaimRows, claims_by, kids_by, node_claims_alias, spells_alias}
 use Rattle.url_maps.specs.Noting.{has_row}
 use Rattle.url_maps.specs.Siblings.{IsSettled, IsWithin, KeepsOthers, alias_words, kids_if, aliased_kids}
 use Rattle.url_maps.proofs.AliasLemmas.{find_alike}
 use Rattle.url_maps.proofs.NamedLemmas.{first_in_named, words_claim}
-use Rattle.url_maps.proofs.PathLemmas.{IsReadBack, parent_of-kid, path_from_same, same_path_flips, same_path_self, texts_and_paths}
+use Rattle.url_maps.proofs.PathLemmas.{IsReadBack, texts_and_paths}
 
 -- ---- the entries of a patch
 
@@ -54,9 +56,6 @@ settled_on tree path row old new within is = record {
   aliases = λ e. is.aliases (was_not (list_any (same_path (parent_of path)) old) (list_any (same_path (parent_of path)) new) (within (parent_of path)) e);
 }
 
-some_same : {X : Type 0} (x y : X) → Some x ≡ Some y → x ≡ y
-some_same x y e = cc
-
 pub settled_more : (tree : Content) (patch : patches.PatchEntries) (i : ℕ) (path : List (List ℕ)) (row : PatchNode) (old new : List (List (List ℕ))) → slice_get patch i ≡ Some (path, row)
     → AreSettled tree patch i old → IsWithin old new → IsSettled tree path row new → AreSettled tree patch (i + 1) new
 settled_more tree patch i path row old new here so_far within one k q r below there =
@@ -64,7 +63,7 @@ settled_more tree patch i path row old new here so_far within one k q r below th
     (λ (less : k < i). settled_on tree q r old new within (so_far k q r less there))
     (λ (not_less : i ≤ k).
     let at : k ≡ i = omega (arith, below, not_less) in
-    let same = some_same {X = List (List ℕ) × PatchNode} (path, row) (q, r) (sym here ∙ sym (ap (slice_get patch) at) ∙ there) in
+    let same = same_Some {X = List (List ℕ) × PatchNode} (path, row) (q, r) (sym here ∙ sym (ap (slice_get patch) at) ∙ there) in
     subst (λ (x : List (List ℕ) × PatchNode). IsSettled tree x.0 x.1 new) same one)
     (cases_lt k i)
 
@@ -102,34 +101,15 @@ others_alike tree patch parents same alike keeps p t other = keeps p t (sym (ali
 
 -- ---- one entry
 
--- two lists of texts that compare equal
-pub same_texts : (xs ys : List (List ℕ)) → pointwise (pointwise nat_eq) xs ys ≡ true → xs ≡ ys
-same_texts [] [] same = refl
-same_texts [] (y ∷ ys) same = absurd (cc (same))
-same_texts (x ∷ xs) [] same = absurd (cc (same))
-same_texts (x ∷ xs) (y ∷ ys) same =
-    let parts = and_parts (pointwise nat_eq x y) (pointwise (pointwise nat_eq) xs ys) same in
-    let first : x ≡ y = same_text x y (sym parts.0) in
-    let rest : xs ≡ ys = same_texts xs ys parts.1 in
-    λ i. first i ∷ rest i
-
-or_true : (a b : Bool) → a ≡ true → (a || b) ≡ true
-or_true true b e = refl
-or_true false b e = absurd (true≢false (sym e))
-
 -- two paths, each pushed unless it is known
 pub pushed_within : (old mid new : List (List (List ℕ))) (a b : List (List ℕ) → Bool) → ((q : List (List ℕ)) → list_any (same_path q) mid ≡ (list_any (same_path q) old || a q)) → ((q : List (List ℕ)) → list_any (same_path q) new ≡ (list_any (same_path q) mid || b q)) → IsWithin old new
 pushed_within old mid new a b first last q had =
-    last q ∙ or_true (list_any (same_path q) mid) (b q) (first q ∙ or_true (list_any (same_path q) old) (a q) had)
+    last q ∙ or_left (list_any (same_path q) mid) (b q) (first q ∙ or_left (list_any (same_path q) old) (a q) had)
 
 unpushed : (had known same : Bool) → same ≡ true → (had || (not known && same)) ≡ false → known ≡ true
 unpushed had true same is e = refl
 unpushed true false same is e = absurd (true≢false e)
 unpushed false false same is e = absurd (true≢false (sym is ∙ e))
-
-first_no : (a b : Bool) → (a || b) ≡ false → a ≡ false
-first_no true b e = e
-first_no false b e = refl
 
 pub settled_row : (tree : Content) (path : List (List ℕ)) (row : PatchNode) (kids_stay aliases_stay : Bool) (old mid new : List (List (List ℕ)))
     → (kids_stay ≡ true → aliased_kids tree path (kids_if (node_at tree path)) ≡ aliased_kids tree path (kids_if (patches.left_by (Some row) None))) → (aliases_stay ≡ true → alias_words (node_at tree path) ≡ alias_words (patches.left_by (Some row) None))
@@ -137,7 +117,7 @@ pub settled_row : (tree : Content) (path : List (List ℕ)) (row : PatchNode) (k
     → ((q : List (List ℕ)) → list_any (same_path q) new ≡ (list_any (same_path q) mid || (not aliases_stay && same_path q (parent_of path)))) → IsSettled tree path row new
 settled_row tree path row kids_stay aliases_stay old mid new kids aliases first last = record {
   kids = λ e. kids (unpushed (list_any (same_path path) old) kids_stay (same_path path path) (same_path_self path)
-      (sym (first path) ∙ first_no (list_any (same_path path) mid) (not aliases_stay && same_path path (parent_of path)) (sym (last path) ∙ e)));
+      (sym (first path) ∙ or_first (list_any (same_path path) mid) (not aliases_stay && same_path path (parent_of path)) (sym (last path) ∙ e)));
   aliases = λ e. aliases (unpushed (list_any (same_path (parent_of path)) mid) aliases_stay (same_path (parent_of path) (parent_of path)) (same_path_self (parent_of path)) (sym (last (parent_of path)) ∙ e));
 }
 
@@ -169,6 +149,6 @@ once_more read paths i path is_known list more known after within item valid so_
       ∙ ap (λ x. list_any (same_path q) (take i paths) || same_path q x) item ∙ sym (list_any_more (same_path q) paths i path within);
   noted = λ q q_valid.
       grows (text_of q) ∙ ap (λ b. b || bytes_eq (text_of path) (text_of q)) (so_far.noted q q_valid)
-      ∙ ap (λ b. list_any (same_path q) (take i paths) || b) (texts_and_paths read path q valid q_valid ∙ same_path_flips path q)
+      ∙ ap (λ b. list_any (same_path q) (take i paths) || b) (texts_and_paths read path q valid q_valid ∙ same_path_swapped path q)
       ∙ ap (λ x. list_any (same_path q) (take i paths) || same_path q x) item ∙ sym (list_any_more (same_path q) paths i path within);
 }

@@ -1,58 +1,19 @@
 -- Paths: when two are one, a path as its parent's kid, and the texts of siblings.
-use Rattle.std.proofs.Common.{◌≡◌, ◌<◌, ◌+◌, ◌-◌, ℕ, Bool, true, false, List, [], ◌∷◌, ◌++◌, Some, None, Ok, length, take, refl, sym, ◌∙◌, ap, arith, length-append, ⊎_elim}
+use Rattle.std.proofs.Common.{◌≡◌, ◌<◌, ℕ, true, false, List, [], ◌∷◌, ◌++◌, Some, None, Ok, length, refl, sym, ◌∙◌, ap, arith, ⊎_elim}
 use Rattle.std.specs.Prelude.{◌&&◌, IsTrue, nat_eq, nat_le, if◌then◌else◌, is_some}
-use Rattle.std.specs.Cmp.{IsTotalOrder, eq_by_cmp_equiv}
-use Rattle.std.specs.Cmp.Lexicographic.{lists_total, nat_list_cmp_total, nat_list_eq_equiv, pointwise, same_text}
+use Rattle.std.specs.Cmp.Lexicographic.{nat_list_eq_equiv, pointwise, same_text}
 use Rattle.std.specs.List.{list_all}
 use Rattle.std.proofs.lemmas.Bool.{cases_Bool, true≢false, false_from_ne_true, and_parts, and_from}
-use Rattle.std.proofs.lemmas.List.{take_more}
 use Rattle.std.proofs.lemmas.List.Folds.{list_all-append}
-use Rattle.std.proofs.lemmas.Map.Views.{tells_apart}
-use Rattle.std.proofs.Math.Seq.{take-append_seam, get_or-append_seam, take-length}
-use Rattle.sp_base.specs.PathExact.{exact_paths}
 use Rattle.sp_base.specs.Paths.{is_path, parent_of, path_in, path_of, path_or_none, seg_ok, text_of}
+use Rattle.sp_base.proofs.BoolLemmas.{and_false}
 use Rattle.url_maps.specs.Claims.{spells_alias}
-use Rattle.resource_tree.specs.Content.{by_path, same_path, kid, name_of}
-
-by_path_total : IsTotalOrder by_path
-by_path_total = lists_total nat_list_cmp_total
-
-pub path_from_same : (p q : List (List ℕ)) → same_path p q ≡ true → p ≡ q
-path_from_same p q h = tells_apart exact_paths p q h
-
-pub same_path_self : (p : List (List ℕ)) → same_path p p ≡ true
-same_path_self p = (eq_by_cmp_equiv by_path_total).refl p
-
-pub same_path_flips : (p q : List (List ℕ)) → same_path p q ≡ same_path q p
-same_path_flips p q = (eq_by_cmp_equiv by_path_total).symm p q
-
-length-kid : (p : List (List ℕ)) (name : List ℕ) → length (kid p name) ≡ length p + 1
-length-kid p name = length-append p (name ∷ [])
-
-pub parent_of-kid : (p : List (List ℕ)) (name : List ℕ) → parent_of (kid p name) ≡ p
-parent_of-kid p name =
-    let size : length (kid p name) - 1 ≡ length p = omega (arith, length-kid p name) in rw size (take-append_seam p (name ∷ []))
-
-pub name_of-kid : (p : List (List ℕ)) (name : List ℕ) → name_of (kid p name) ≡ name
-name_of-kid p name =
-    let size : length (kid p name) - 1 ≡ length p = omega (arith, length-kid p name) in rw size (get_or-append_seam p name [] [])
+use Rattle.resource_tree.specs.Content.{same_path, kid, name_of}
+use Rattle.resource_tree.proofs.PathLemmas.{kid_name, length-kid, path_from_same, same_path_self}
+use Rattle.resource_tree.proofs.SamePaths.{kid_of_parent}
 
 pub length_kid-is : (p : List (List ℕ)) (name : List ℕ) → 0 < length (kid p name)
 length_kid-is p name = omega (arith, length-kid p name)
-
--- a path other than the root is its parent's kid
-pub kid_parts : (path : List (List ℕ)) → 0 < length path → kid (parent_of path) (name_of path) ≡ path
-kid_parts [] some = absurd (omega (arith, some))
-kid_parts (s ∷ path) some =
-    let size : (length (s ∷ path) - 1) + 1 ≡ length (s ∷ path) = omega arith in
-    let within : length (s ∷ path) - 1 < length (s ∷ path) = omega arith in
-    sym (take_more (s ∷ path) (length (s ∷ path) - 1) [] within) ∙ ap (λ i. take i (s ∷ path)) size ∙ take-length (s ∷ path)
-
-pub kid_parent : (p q : List (List ℕ)) (a b : List ℕ) → kid p a ≡ kid q b → p ≡ q
-kid_parent p q a b e = sym (parent_of-kid p a) ∙ ap parent_of e ∙ parent_of-kid q b
-
-pub kid_name : (p q : List (List ℕ)) (a b : List ℕ) → kid p a ≡ kid q b → a ≡ b
-kid_name p q a b e = sym (name_of-kid p a) ∙ ap name_of e ∙ name_of-kid q b
 
 -- a sibling's path
 pub valid_sibling : (p : List (List ℕ)) (name alias : List ℕ) → is_path (kid p name) ≡ true → seg_ok alias ≡ true → is_path (kid p alias) ≡ true
@@ -109,10 +70,6 @@ spells_is read p alias word valid segment =
 
 -- ---- what one word claims
 
-and_no : (x : Bool) → (x && false) ≡ false
-and_no true = refl
-and_no false = refl
-
 -- the text of an alias that may be a name
 pub alias_spelled : (path named : List (List ℕ)) (alias text : List ℕ) → path_or_none (parent_of path ++ alias ∷ []) ≡ Some named → spells_alias path text alias ≡ pointwise nat_eq text (text_of named)
 alias_spelled path named alias text is =
@@ -129,7 +86,7 @@ pub alias_unspelled : (path : List (List ℕ)) (alias text : List ℕ) → is_pa
 alias_unspelled path alias text valid some is =
     ap (λ b. b && pointwise nat_eq text (text_of (kid (parent_of path) alias)))
     (false_from_ne_true (seg_ok alias) (λ segment.
-    let passes_it = valid_sibling (parent_of path) (name_of path) alias (ap is_path (kid_parts path some) ∙ valid) segment in
+    let passes_it = valid_sibling (parent_of path) (name_of path) alias (ap is_path (kid_of_parent path some) ∙ valid) segment in
     let e : Some (kid (parent_of path) alias) ≡ None = sym (ap (λ b. if b then Some (kid (parent_of path) alias) else None) passes_it) ∙ is in
     cc))
 
@@ -138,7 +95,7 @@ pub vanity_spelled : (whole text : List ℕ) → is_some (path_in whole) ≡ tru
 vanity_spelled whole text ok =
     ⊎_elim
     (λ (same : pointwise nat_eq text whole ≡ true). ap (λ b. b && pointwise nat_eq text whole) (ap (λ t. is_some (path_in t)) (same_text text whole (sym same)) ∙ ok))
-    (λ (other : pointwise nat_eq text whole ≡ false). ap (λ b. is_some (path_in text) && b) other ∙ and_no (is_some (path_in text)) ∙ sym other)
+    (λ (other : pointwise nat_eq text whole ≡ false). ap (λ b. is_some (path_in text) && b) other ∙ and_false (is_some (path_in text)) ∙ sym other)
     (cases_Bool (pointwise nat_eq text whole))
 
 -- of one that doesn't

@@ -8,6 +8,7 @@ use Rattle.std.proofs.lemmas.Bool.{cases_Bool, true≢false, false≢true, and_p
 use Rattle.std.proofs.lemmas.List.{length-take-le}
 use Rattle.std.specs.declared.cmp.Ordering.TheVariants.{Less}
 use Rattle.sp_base.specs.Names.{by_name}
+use Rattle.sp_base.proofs.TextLemmas.{text_is, text_itself}
 use Rattle.regex_rules.specs.Trees.{Tree}
 use Rattle.regex_rules.specs.Spelling.{IsPattern}
 use Rattle.regex_rules.specs.Deciding.{pattern_tree}
@@ -26,7 +27,7 @@ use Rattle.url_maps.specs.Patterns.{Asked, GivesPair, HasPattern, IsFrontOf, IsL
 use Rattle.url_maps.specs.PatternAnswers.{given_at, given_by, givers, has_front, is_front, last_front, least, longest_front, node_pattern, pattern_pair, pattern_with}
 use Rattle.url_maps.specs.Pairs.{IsPairOf}
 use Rattle.url_maps.specs.Search.{IsOf}
-use Rattle.url_maps.proofs.NameLemmas.{is_named, keeps_name, kept_name, least_is, least_none, name_from, name_self}
+use Rattle.url_maps.proofs.NameLemmas.{is_named, keeps_name, kept_name, least_is, least_none}
 
 -- ---- the longest front
 
@@ -73,9 +74,6 @@ longest_told asked pattern = last_told pattern asked (suc (length asked.text)) (
 
 -- ---- the pair of a node
 
-some_is : {A : Type 0} (a b : A) → Some a ≡ Some b → a ≡ b
-some_is a b e = cc
-
 pattern_had : (node : Node) (pattern : Tree) → node_pattern node ≡ Some pattern → HasPattern node pattern
 pattern_had node pattern e =
     elim (match_text node) as (λ o. match_text node ≡ o → option_and_then (λ text. pattern_tree (chars text)) o ≡ Some pattern → HasPattern node pattern) [
@@ -88,7 +86,7 @@ pattern_has node pattern has = ap (option_and_then (λ text. pattern_tree (chars
 
 front_taken : (asked : Asked) (prefix : List ℕ) (pattern : Tree) (at : ℕ) → IsLast pattern asked (suc (length asked.text)) (Some at) → pointwise nat_eq prefix (take at asked.text) ≡ true → IsLongestFront pattern asked prefix
 front_taken asked prefix pattern at last same =
-    let is : prefix ≡ take at asked.text = name_from prefix (take at asked.text) same in
+    let is : prefix ≡ take at asked.text = text_is prefix (take at asked.text) same in
     let within : at ≤ length asked.text = last.0.within in
     let size : length prefix ≡ at = ap length is ∙ length-take-le at asked.text within in
     record {
@@ -137,7 +135,7 @@ module _ (tree : Content) (asked : Asked) (name prefix : List ℕ) (to : List �
   given_only g =
       let fronts : option_and_then (longest_front asked) (node_pattern g.node) ≡ Some (length prefix) = ap (option_and_then (longest_front asked)) (pattern_has g.node g.pattern g.has) ∙ front_has asked prefix g.pattern g.front in
       let fits : has_front asked prefix g.node ≡ true =
-      ap (λ o. option_map_or (λ at. pointwise nat_eq prefix (take at asked.text)) o false) fronts ∙ ap (pointwise nat_eq prefix) (sym g.front.is) ∙ name_self prefix in
+      ap (λ o. option_map_or (λ at. pointwise nat_eq prefix (take at asked.text)) o false) fronts ∙ ap (pointwise nat_eq prefix) (sym g.front.is) ∙ text_itself prefix in
       ap (option_and_then (given_by asked prefix)) g.there ∙ ap (λ b. cond b (mapping_of g.node) None) fits ∙ g.leads
 
 -- ---- of several the one with the least name

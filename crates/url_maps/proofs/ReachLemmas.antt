@@ -1,27 +1,18 @@
 -- No mapping is below the first segment of a text that has no node, or one with a pattern.
-use Rattle.std.proofs.Common.{◌≡◌, ◌≤◌, ◌<◌, ◌-◌, ℕ, zero, suc, true, false, List, [], ◌∷◌, ◌++◌, Some, Result, Ok, Err, take, length, refl, sym, ◌∙◌, ap, subst, arith, ⊎_elim, ◌+◌, append_assoc, append-nil, length-append}
+use Rattle.std.proofs.Common.{◌≡◌, ◌≤◌, ◌<◌, ◌-◌, ℕ, zero, suc, true, false, List, [], ◌∷◌, ◌++◌, Some, Ok, take, length, refl, sym, ◌∙◌, ap, subst, arith, ⊎_elim, ◌+◌, append_assoc, append-nil, length-append}
 use Rattle.std.proofs.Math.Seq.{take-append-add, take-append_seam}
 use Rattle.std.specs.Prelude.{IsTrue, is_some, nat_eq, not}
 use Rattle.std.specs.Cmp.Lexicographic.{pointwise, same_text}
 use Rattle.std.proofs.lemmas.Bool.{true≢false, false≢true, and_from, and_parts, cases_lt}
 use Rattle.std.proofs.lemmas.List.{length-take-le, take-take, take_all}
 use Rattle.sp_base.specs.PathTexts.{spelling_of}
-use Rattle.std.specs.Result.{result_ok}
-use Rattle.sp_base.specs.Paths.{is_path, is_under, parent_of, path_in, path_of, text_of}
-use Rattle.sp_base.specs.declared.path.PathFault.{PathFault}
+use Rattle.sp_base.specs.Paths.{is_path, is_under, parent_of, path_of, text_of}
+use Rattle.sp_base.proofs.PathTests.{path_from_path_in}
 use Rattle.resource_tree.specs.Content.{Content, IsTree, kid, node_at}
 use Rattle.url_maps.specs.Mappings.{IsPlain, has_match}
 use Rattle.url_maps.specs.Search.{HasNoMappingBeyond, IsBarredAt, is_passable}
 use Rattle.url_maps.proofs.MappingLemmas.{path_below}
 use Rattle.url_maps.proofs.PathLemmas.{IsReadBack}
-
--- what a text spells it reads as
-spelled_by : (r : Result (List (List ℕ)) PathFault) (path : List (List ℕ)) → Some path ≡ result_ok r → r ≡ Ok path
-spelled_by (Ok p) path e = cc
-spelled_by (Err fault) path e = absurd (cc)
-
-pub spelled : (text : List ℕ) (path : List (List ℕ)) → Some path ≡ path_in text → path_of text ≡ Ok path
-spelled text path e = spelled_by (path_of text) path e
 
 -- a path is under its own prefixes alone
 record Prefix (path q : List (List ℕ)) : Type 0 where
@@ -97,9 +88,9 @@ module _ (tree : Content) (good : IsTree (node_at tree)) where
 
   pub none_beyond : IsReadBack → AreParents → AreWithinFirst → (host_node path : List (List ℕ)) (text : List ℕ) (depth : ℕ) → is_path path ≡ true → text_of path ≡ text → IsBarredAt tree host_node path depth
       → HasNoMappingBeyond tree (Some host_node) text (length (text_of (take depth path)))
-  none_beyond read parents within host_node path text depth valid spelled none k pair beyond inside m =
+  none_beyond read parents within host_node path text depth valid path_from_path_in none k pair beyond inside m =
       let is = path_below host_node m.below (good.nodes (host_node ++ m.below) m.node m.there).is_a_path in
-      let le = within_reach read parents within host_node path m.below depth k valid is none (ap is_some m.there) m.plain (subst (λ t. k ≤ length t) (sym spelled) inside) (ap (take k) spelled ∙ m.text_is) in
+      let le = within_reach read parents within host_node path m.below depth k valid is none (ap is_some m.there) m.plain (subst (λ t. k ≤ length t) (sym path_from_path_in) inside) (ap (take k) path_from_path_in ∙ m.text_is) in
       omega (arith, le, beyond)
 
 -- no mapping at all, where the host node has no node, or one with a pattern

@@ -9,9 +9,10 @@ use Rattle.std.proofs.lemmas.Bool.{cases_Bool, true≢false, false≢true, cases
 use Rattle.std.proofs.lemmas.List.{get_or_append_left, get_or_default}
 use Rattle.std.proofs.Math.Seq.{get_or-append_seam}
 use Rattle.std.proofs.lemmas.List.Folds.{list_any_at, list_any_more}
-use Rattle.std.proofs.lemmas.Option.{get_or_from_slice_get, slice_get_within}
+use Rattle.std.proofs.lemmas.Option.{get_or_from_slice_get, same_Some, slice_get_within}
 use Rattle.std.specs.Str.{chars}
 use Rattle.sp_base.specs.Paths.{is_path, is_under, path_or_none}
+use Rattle.sp_base.proofs.TextLemmas.{text_is}
 use Rattle.regex_rules.specs.Trees.{Tree, tree_of}
 use Rattle.regex_rules.specs.Spelling.{IsPattern}
 use Rattle.regex_rules.specs.declared.fault.PatternFault.{PatternFault}
@@ -20,12 +21,12 @@ use Rattle.resource_tree.specs.declared.nodes.Node.{Node}
 use Rattle.resource_tree.specs.declared.patch.PatchNode.{PatchNode}
 use Rattle.resource_tree.specs.Content.{Content, kid, node_at, same_path}
 use Rattle.resource_tree.specs.Patches.{PatchEntries, entry_at, left_by, patching_at}
+use Rattle.resource_tree.proofs.PathLemmas.{path_from_same}
 use Rattle.url_maps.specs.declared.patterns.PatternNode.{PatternNode}
 use Rattle.url_maps.specs.Mappings.{mapping_of}
 use Rattle.url_maps.specs.Patterns.{mappings_path, match_text}
 use Rattle.url_maps.specs.PatternRows.{AddsPattern, ArePatterns, ArePatternsAfter, AreRowsOfNames, HasRowOf, IsListed, IsRowAt, IsRowOf, IsRowOrNone, LeadsBy, is_of_family, touches}
-use Rattle.url_maps.proofs.NameLemmas.{is_named, name_from}
-use Rattle.url_maps.proofs.PathLemmas.{path_from_same}
+use Rattle.url_maps.proofs.NameLemmas.{is_named}
 
 abbrev Lookup : Type 0
 Lookup = List (List ℕ) → Option Node
@@ -46,18 +47,15 @@ no_text name node none = λ pattern leads. let both : None ≡ Some leads.has.te
 pub leads_nowhere : (name : List ℕ) (node : Node) → is_some (mapping_of node) ≡ false → IsRowOrNone name node None
 leads_nowhere name node none = λ pattern leads. absurd (true≢false (sym leads.leads ∙ none))
 
-one_text : (a b : List ℕ) → Some a ≡ Some b → a ≡ b
-one_text a b e = cc
-
 pub no_pattern : (name : List ℕ) (node : Node) (text : List ℕ) → match_text node ≡ Some text → ((tree : Tree) → IsPattern (chars text) tree → ⊥) → IsRowOrNone name node None
-no_pattern name node text is none = λ pattern leads. none pattern (subst (λ (t : List ℕ). IsPattern (chars t) pattern) (one_text leads.has.text text (sym leads.has.is ∙ is)) leads.has.reads)
+no_pattern name node text is none = λ pattern leads. none pattern (subst (λ (t : List ℕ). IsPattern (chars t) pattern) (same_Some leads.has.text text (sym leads.has.is ∙ is)) leads.has.reads)
 
 pub read_row : (name : List ℕ) (node : Node) (text : List ℕ) (row : PatternNode) → match_text node ≡ Some text → is_some (mapping_of node) ≡ true → ((tree : Tree) → IsPattern (chars text) tree ↔ tree ≡ tree_of row.pattern) → row.name ≡ name
     → IsRowOrNone name node (Some row)
 read_row name node text row is leads spelled named = (
   named,
   record { has = record { text = text; is = is; reads = (spelled (tree_of row.pattern)).1 refl }; leads = leads },
-  λ pattern more. sym ((spelled pattern).0 (subst (λ (t : List ℕ). IsPattern (chars t) pattern) (one_text more.has.text text (sym more.has.is ∙ is)) more.has.reads)),
+  λ pattern more. sym ((spelled pattern).0 (subst (λ (t : List ℕ). IsPattern (chars t) pattern) (same_Some more.has.text text (sym more.has.is ∙ is)) more.has.reads)),
 )
 
 -- ---- one more name
@@ -78,12 +76,9 @@ adds_no_path at name rows none = adds_nothing at name rows (λ node pattern vali
 pub adds_no_node : (at : Lookup) (name : List ℕ) (rows : List PatternNode) → at (kid mappings_path name) ≡ None → AddsPattern at name rows rows
 adds_no_node at name rows none = adds_nothing at name rows (λ node pattern valid there leads. let both : Some node ≡ None = sym there ∙ none in cc)
 
-one_node : (a b : Node) → Some a ≡ Some b → a ≡ b
-one_node a b e = cc
-
 -- the node has no pattern, or leads nowhere
 pub adds_no_row : (at : Lookup) (name : List ℕ) (rows : List PatternNode) (node : Node) → at (kid mappings_path name) ≡ Some node → IsRowOrNone name node None → AddsPattern at name rows rows
-adds_no_row at name rows node is none = adds_nothing at name rows (λ other pattern valid there leads. none pattern (subst (λ (n : Node). LeadsBy n pattern) (one_node other node (sym there ∙ is)) leads))
+adds_no_row at name rows node is none = adds_nothing at name rows (λ other pattern valid there leads. none pattern (subst (λ (n : Node). LeadsBy n pattern) (same_Some other node (sym there ∙ is)) leads))
 
 row_at_end : (old : List PatternNode) (row : PatternNode) → IsRowAt (old ++ row ∷ []) (length old) row
 row_at_end old row = (omega (arith, length-append old (row ∷ [])), get_or-append_seam old row [] row)
@@ -110,7 +105,7 @@ adds_row at name old new node row is (name_is, leads, only) pushed = subst (λ (
     row = row;
     there = row_at_end old row;
     name_is = name_is;
-    pattern_is = only pattern (subst (λ (n : Node). LeadsBy n pattern) (one_node other node (sym there ∙ is)) more);
+    pattern_is = only pattern (subst (λ (n : Node). LeadsBy n pattern) (same_Some other node (sym there ∙ is)) more);
   };
 })
 
@@ -132,7 +127,7 @@ more_names at names i name old new within item are adds = record {
       (λ (not_before : is_named other (take i names) ≡ false).
       let here : pointwise nat_eq other name ≡ true =
       ap (pointwise nat_eq other) item ∙ sym (ap (λ b. b || pointwise nat_eq other (get_or names i name)) not_before) ∙ sym (list_any_more (pointwise nat_eq other) names i name within) ∙ named in
-      subst (λ (n : List ℕ). IsListed at new n) (sym (name_from other name here)) adds.listed)
+      subst (λ (n : List ℕ). IsListed at new n) (sym (text_is other name here)) adds.listed)
       (cases_Bool (is_named other (take i names)));
 }
 

@@ -9,14 +9,17 @@ use Rattle.std.specs.Str.{bytes_eq}
 use Rattle.std.proofs.lemmas.Bool.{cases_Bool, true≢false, false≢true, and_parts}
 use Rattle.std.proofs.lemmas.List.Folds.{list_any-append}
 use Rattle.sp_base.specs.Paths.{is_path, parent_of, text_of}
-use Rattle.resource_tree.specs.declared.nodes.Node.{Node}
+use Rattle.sp_base.proofs.BoolLemmas.{or_false, or_true}
+use Rattle.sp_base.proofs.ListLemmas.{find_passes}
+use Rattle.sp_base.proofs.OptionLemmas.{value_there}
 use Rattle.resource_tree.specs.Content.{Content, IsTree, has_kid, kid, name_of, node_at, same_path}
+use Rattle.resource_tree.proofs.PathLemmas.{parent_of-kid, path_from_same, same_path_self}
+use Rattle.resource_tree.proofs.SamePaths.{kid_of_parent}
 use Rattle.url_maps.specs.Claims.{AreClaims, ClaimRows, NamesFirst, claimants, claims_alias, claims_by, first_claimant, kids_by}
 use Rattle.url_maps.specs.Siblings.{HasParent, IsWithin, PutsFamilies}
-use Rattle.url_maps.proofs.AliasLemmas.{claimant_is, find_any, find_passes}
-use Rattle.url_maps.proofs.ClaimLemmas.{or_false}
-use Rattle.url_maps.proofs.PathLemmas.{IsReadBack, kid_parts, parent_of-kid, path_from_same, path_from_text, same_path_self, valid_sibling}
-use Rattle.url_maps.proofs.SiblingLemmas.{claims_by_is, or_yes}
+use Rattle.url_maps.proofs.AliasLemmas.{claimant_is, find_any}
+use Rattle.url_maps.proofs.PathLemmas.{IsReadBack, path_from_text, valid_sibling}
+use Rattle.url_maps.proofs.SiblingLemmas.{claims_by_is}
 
 -- ---- the parents of those that share a text
 
@@ -37,7 +40,7 @@ kept old new (p ∷ q ∷ paths) within has = within (parent_of p) has
 
 -- one path more
 pub last_among : (paths : List (List (List ℕ))) (path : List (List ℕ)) → list_any (same_path path) (paths ++ path ∷ []) ≡ true
-last_among paths path = list_any-append (same_path path) paths (path ∷ []) ∙ ap (λ b. list_any (same_path path) paths || b) (or_false (same_path path path) ∙ same_path_self path) ∙ or_yes (list_any (same_path path) paths)
+last_among paths path = list_any-append (same_path path) paths (path ∷ []) ∙ ap (λ b. list_any (same_path path) paths || b) (or_false (same_path path path) ∙ same_path_self path) ∙ or_true (list_any (same_path path) paths)
 
 pub others_among : (paths : List (List (List ℕ))) (path : List (List ℕ)) → IsWithin paths (paths ++ path ∷ [])
 others_among paths path q among = list_any-append (same_path q) paths (path ∷ []) ∙ ap (λ b. b || list_any (same_path q) (path ∷ [])) among
@@ -60,14 +63,6 @@ row_parents {K = K} f parents ((k, paths) ∷ rows) all t =
 
 -- ---- the first of the siblings that claim a text
 
-some_node : (o : Option Node) → is_some o ≡ true → (node : Node) × (o ≡ Some node)
-some_node None is = absurd (false≢true is)
-some_node (Some node) is = (node, refl)
-
-some_path : (o : Option (List (List ℕ))) → is_some o ≡ true → (path : List (List ℕ)) × (o ≡ Some path)
-some_path None is = absurd (false≢true is)
-some_path (Some path) is = (path, refl)
-
 kid_of : (parent : List (List ℕ)) (o : Option (List ℕ)) (path : List (List ℕ)) → option_map (kid parent) o ≡ Some path → (name : List ℕ) × (o ≡ Some name) × (kid parent name ≡ path)
 kid_of parent None path is = cc
 kid_of parent (Some name) path is = let same : kid parent name ≡ path = cc in (name, refl, same)
@@ -79,7 +74,7 @@ any_named test name (n ∷ names) among passes =
     ⊎_elim
     (λ (same : pointwise nat_eq name n ≡ true). ap (λ b. b || list_any test names) (ap test (sym (same_text name n (sym same))) ∙ passes))
     (λ (other : pointwise nat_eq name n ≡ false).
-    ap (λ b. test n || b) (any_named test name names (sym (ap (λ b. b || list_any (pointwise nat_eq name) names) other) ∙ among) passes) ∙ or_yes (test n))
+    ap (λ b. test n || b) (any_named test name names (sym (ap (λ b. b || list_any (pointwise nat_eq name) names) other) ∙ among) passes) ∙ or_true (test n))
     (cases_Bool (pointwise nat_eq name n))
 
 module _ (read : IsReadBack) (tree : Content) (good : IsTree (node_at tree)) (q : List (List ℕ)) (valid : is_path q ≡ true) where
@@ -93,7 +88,7 @@ module _ (read : IsReadBack) (tree : Content) (good : IsTree (node_at tree)) (q 
   sibling : (p : List (List ℕ)) → claims_alias tree p (text_of q) ≡ true → parent_of p ≡ parent_of q
   sibling p is =
       let c = claimant_is read tree good p (text_of q) is in
-      let whole = kid_parts p c.below in
+      let whole = kid_of_parent p c.below in
       let alias_valid = valid_sibling (parent_of p) (name_of p) c.alias (ap is_path whole ∙ (good.nodes p c.node c.there).is_a_path) c.segment in
       let one : q ≡ kid (parent_of p) c.alias = path_from_text read q (kid (parent_of p) c.alias) valid alias_valid c.spelled in
       sym (ap parent_of one ∙ parent_of-kid (parent_of p) c.alias)
@@ -102,9 +97,9 @@ module _ (read : IsReadBack) (tree : Content) (good : IsTree (node_at tree)) (q 
   has_first : (p : List (List ℕ)) → claims_alias tree p (text_of q) ≡ true → is_some first ≡ true
   has_first p is =
       let c = claimant_is read tree good p (text_of q) is in
-      let whole : kid (parent_of q) (name_of p) ≡ p = ap (λ r. kid r (name_of p)) (sym (sibling p is)) ∙ kid_parts p c.below in
+      let whole : kid (parent_of q) (name_of p) ≡ p = ap (λ r. kid r (name_of p)) (sym (sibling p is)) ∙ kid_of_parent p c.below in
       let there : is_some (node_at tree (kid (parent_of q) (name_of p))) ≡ true = ap (λ r. is_some (node_at tree r)) whole ∙ ap is_some c.there in
-      let above = some_node (node_at tree (parent_of q)) (good.parents (parent_of q) (name_of p) there) in
+      let above = value_there (node_at tree (parent_of q)) (good.parents (parent_of q) (name_of p) there) in
       let among : has_kid above.0 (name_of p) ≡ true = (good.nodes (parent_of q) above.0 above.1).kids (name_of p) ∙ there in
       let passes : claims (name_of p) ≡ true = claims_by_is read tree good (kid (parent_of q) (name_of p)) (text_of q) ∙ ap (λ r. claims_alias tree r (text_of q)) whole ∙ is in
       let found = find_any claims above.0.kids (any_named claims (name_of p) above.0.kids among passes) in
@@ -126,7 +121,7 @@ module _ (read : IsReadBack) (tree : Content) (good : IsTree (node_at tree)) (q 
         | Some f ↦ λ is. absurd (false≢true (are f ∙ first_claims f is))
       ] refl
   alone (p ∷ []) parents once are has same none =
-      let f = some_path first (has_first p (sym (are p) ∙ ap (λ b. b || false) (same_path_self p))) in
+      let f = value_there first (has_first p (sym (are p) ∙ ap (λ b. b || false) (same_path_self p))) in
       let one : f.0 ≡ p = path_from_same f.0 p (sym (or_false (same_path f.0 p)) ∙ are f.0 ∙ first_claims f.0 f.1) in
       ap (λ r. r ∷ []) (sym one) ∙ sym (ap option_to_list f.1)
   alone (p ∷ r ∷ paths) parents once are has same none =

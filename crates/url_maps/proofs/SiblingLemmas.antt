@@ -14,6 +14,8 @@ use Rattle.sp_base.specs.Paths.{is_path, parent_of, path_of, path_or_none, seg_o
 use Rattle.resource_tree.specs.declared.nodes.Node.{Node}
 use Rattle.resource_tree.specs.Content.{Content, IsTree, kid, name_of, node_at, prop_at, same_path}
 use Rattle.resource_tree.specs.Changes.{kids_at}
+use Rattle.resource_tree.proofs.PathLemmas.{parent_of-kid, path_from_same, same_path_self}
+use Rattle.resource_tree.proofs.SamePaths.{kid_of_parent}
 use Rattle.url_maps.specs.Aliases.{has_alias}
 use Rattle.url_maps.specs.Answers.{alias_at, alias_with, pair_inside, sibling_with_alias}
 use Rattle.url_maps.specs.Changes.{LeadsOn}
@@ -22,12 +24,13 @@ use Rattle.url_maps.specs.Noting.{has_row}
 use Rattle.url_maps.specs.Search.{IsOf, is_free, is_free_at}
 use Rattle.url_maps.specs.Siblings.{PutsFamilies, PutsKids, PutsRows, or_else, path_if}
 use Rattle.sp_base.specs.Properties.{value_texts}
+use Rattle.sp_base.proofs.BoolLemmas.{and_false, or_assoc, or_false, or_first, or_second, or_true}
+use Rattle.sp_base.proofs.TextLemmas.{bytes_eq_swapped}
 use Rattle.url_maps.specs.declared.pairs.PairKind.TheVariants.{Alias}
 use Rattle.url_maps.proofs.AliasLemmas.{claims_is, find_alike, find_any}
 use Rattle.url_maps.proofs.AnswerLemmas.{alias_is}
-use Rattle.url_maps.proofs.ClaimLemmas.{and_false, or_false, text_sym}
 use Rattle.url_maps.proofs.MappingLemmas.{IsSpelled}
-use Rattle.url_maps.proofs.PathLemmas.{IsReadBack, kid_parts, parent_of-kid, path_from_same, path_from_text, same_path_self, valid_name, valid_sibling}
+use Rattle.url_maps.proofs.PathLemmas.{IsReadBack, path_from_text, valid_name, valid_sibling}
 
 -- ---- lists
 
@@ -63,17 +66,9 @@ or_else_twice [] paths true true = or_else_same paths
 or_else_twice [] paths true false = or_else_none paths
 or_else_twice [] paths false b = refl
 
-or_assoc : (a b c : Bool) → ((a || b) || c) ≡ (a || (b || c))
-or_assoc true b c = refl
-or_assoc false b c = refl
-
-pub or_yes : (a : Bool) → (a || true) ≡ true
-or_yes true = refl
-or_yes false = refl
-
 -- a text that is given a row
 pub had_row : {X : Type 0} (b : Bool) (row : X) (o : Option X) → is_some (cond b (Some row) (cond b None o)) ≡ (is_some o || b)
-had_row true row o = sym (or_yes (is_some o))
+had_row true row o = sym (or_true (is_some o))
 had_row false row o = sym (or_false (is_some o))
 
 -- ---- rows that are put
@@ -89,17 +84,17 @@ rows_one path text old new is = record {
       (λ (same : bytes_eq text t ≡ true).
       ap (λ b. option_map_or (λ (paths : List (List (List ℕ))). paths) (cond b (Some row) (lookup (bytes_eq t) old)) []) same
       ∙ ap (λ s. or_else (claimants old s) (option_to_list path)) (same_text text t (sym same))
-      ∙ ap (λ b. or_else (claimants old t) (cond b (option_to_list path) [])) (sym (text_sym t text ∙ same)))
+      ∙ ap (λ b. or_else (claimants old t) (cond b (option_to_list path) [])) (sym (bytes_eq_swapped t text ∙ same)))
       (λ (other : bytes_eq text t ≡ false).
       ap (λ b. option_map_or (λ (paths : List (List (List ℕ))). paths) (cond b (Some row) (lookup (bytes_eq t) old)) []) other
-      ∙ sym (or_else_none (claimants old t)) ∙ ap (λ b. or_else (claimants old t) (cond b (option_to_list path) [])) (sym (text_sym t text ∙ other)))
+      ∙ sym (or_else_none (claimants old t)) ∙ ap (λ b. or_else (claimants old t) (cond b (option_to_list path) [])) (sym (bytes_eq_swapped t text ∙ other)))
       (cases_Bool (bytes_eq text t));
   has = λ t.
       let row = or_else (claimants old text) (option_to_list path) in
       ap is_some (is t)
       ∙ ⊎_elim
-      (λ (same : bytes_eq text t ≡ true). ap (λ b. is_some (cond b (Some row) (lookup (bytes_eq t) old))) same ∙ sym (ap (λ b. has_row old t || b) (text_sym t text ∙ same) ∙ or_yes (has_row old t)))
-      (λ (other : bytes_eq text t ≡ false). ap (λ b. is_some (cond b (Some row) (lookup (bytes_eq t) old))) other ∙ sym (ap (λ b. has_row old t || b) (text_sym t text ∙ other) ∙ or_false (has_row old t)))
+      (λ (same : bytes_eq text t ≡ true). ap (λ b. is_some (cond b (Some row) (lookup (bytes_eq t) old))) same ∙ sym (ap (λ b. has_row old t || b) (bytes_eq_swapped t text ∙ same) ∙ or_true (has_row old t)))
+      (λ (other : bytes_eq text t ≡ false). ap (λ b. is_some (cond b (Some row) (lookup (bytes_eq t) old))) other ∙ sym (ap (λ b. has_row old t || b) (bytes_eq_swapped t text ∙ other) ∙ or_false (has_row old t)))
       (cases_Bool (bytes_eq text t));
 }
 
@@ -304,18 +299,10 @@ no_first : (o : Option (List (List ℕ))) → is_some o ≡ false → option_to_
 no_first None e = refl
 no_first (Some p) e = absurd (true≢false e)
 
-last_no : (a b : Bool) → (a || b) ≡ false → b ≡ false
-last_no true b e = absurd (true≢false e)
-last_no false b e = e
-
-first_no : (a b : Bool) → (a || b) ≡ false → a ≡ false
-first_no true b e = e
-first_no false b e = refl
-
 settle : (among : Bool) (row : Option (List (List (List ℕ)))) (before after : Option (List (List ℕ))) → (among ≡ false → before ≡ after)
     → option_map_or (λ paths. paths) row [] ≡ cond among (option_to_list after) [] → is_some row ≡ ((among && is_some before) || (among && is_some after))
     → option_map_or (λ paths. paths) row (option_to_list before) ≡ option_to_list after
-settle true None before after same paths has = no_first before (first_no (is_some before) (is_some after) (sym has)) ∙ sym (no_first after (last_no (is_some before) (is_some after) (sym has)))
+settle true None before after same paths has = no_first before (or_first (is_some before) (is_some after) (sym has)) ∙ sym (no_first after (or_second (is_some before) (is_some after) (sym has)))
 settle true (Some row) before after same paths has = paths
 settle false None before after same paths has = ap option_to_list (same refl)
 settle false (Some row) before after same paths has = absurd (true≢false has)
@@ -353,7 +340,7 @@ module _ (read : IsReadBack) (tree : Content) (good : IsTree (node_at tree)) whe
   pub first_sibling_is : (q : List (List ℕ)) → is_path q ≡ true → 0 < length q → first_claimant (node_at tree) (parent_of q) (text_of q) ≡ sibling_with_alias tree q
   first_sibling_is q valid some =
       let p = parent_of q in
-      let whole = kid_parts q some in
+      let whole = kid_of_parent q some in
       let segment = valid_name p (name_of q) (ap is_path whole ∙ valid) in
       ap (option_map (kid p))
       (find_alike (λ name. claims_by (node_at tree) (kid p name) (text_of q)) (λ sibling. has_alias tree (kid p sibling) (name_of q))

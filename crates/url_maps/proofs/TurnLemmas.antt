@@ -1,12 +1,9 @@
 -- One turn more.
-use Rattle.std.proofs.Common.{◌≡◌, ◌<◌, ◌+◌, ◌-◌, ap, ℕ, zero, suc, true, false, List, ◌++◌, Option, Some, None, length, refl, sym, ◌∙◌, subst, arith, ⊎_elim, inl, inr}
-use Rattle.std.specs.Prelude.{nat_le, if◌then◌else◌, option_and_then}
-use Rattle.std.specs.List.{list_all}
-use Rattle.std.proofs.lemmas.Bool.{cases_Bool, true≢false, and_parts, and_from, leb-true}
-use Rattle.std.proofs.lemmas.Bool.Decides.{nat_tests}
-use Rattle.std.proofs.lemmas.List.Folds.{list_all-append}
-use Rattle.std.proofs.Common.{length-append, ◌≤◌}
-use Rattle.sp_base.specs.Paths.{is_path, path_or_none, seg_ok}
+use Rattle.std.proofs.Common.{◌≡◌, ◌<◌, ◌+◌, ◌-◌, ap, ℕ, zero, suc, true, false, List, ◌++◌, Option, Some, None, refl, sym, ◌∙◌, subst, arith, ⊎_elim, inl, inr}
+use Rattle.std.specs.Prelude.{if◌then◌else◌, option_and_then}
+use Rattle.std.proofs.lemmas.Bool.{cases_Bool, true≢false}
+use Rattle.sp_base.specs.Paths.{is_path, path_or_none}
+use Rattle.sp_base.proofs.PathTests.{path_before}
 use Rattle.resource_tree.specs.Content.{Content, IsTree, node_at}
 use Rattle.url_maps.specs.declared.answer.MapAnswer.{MapAnswer}
 use Rattle.url_maps.specs.declared.answer.MapAnswer.TheVariants.{Inside, Away}
@@ -49,19 +46,11 @@ turns_over tree asked text n i none = subst (λ m. Turns tree m asked text (Insi
 
 -- ---- a host node whose path is too long has no mappings
 
-path_above : (host_node below : List (List ℕ)) → is_path (host_node ++ below) ≡ true → is_path host_node ≡ true
-path_above host_node below valid =
-    let parts = and_parts (list_all seg_ok (host_node ++ below)) (nat_le (length (host_node ++ below)) 64) valid in
-    let segments = (and_parts (list_all seg_ok host_node) (list_all seg_ok below) (sym (list_all-append seg_ok host_node below) ∙ parts.0)).0 in
-    let size : length (host_node ++ below) ≤ 64 = leb-true _ _ parts.1 in
-    let fewer : length host_node ≤ 64 = omega (arith, size, length-append host_node below) in
-    and_from (list_all seg_ok host_node) (nat_le (length host_node) 64) segments (grind (arith, nat_tests))
-
 -- where the path of a host node is none, it has no mappings
 pub no_host_node : (tree : Content) → IsTree (node_at tree) → (host_node : List (List ℕ)) → path_or_none host_node ≡ None → (prefix : List ℕ) (pair : Pair) → HasMapping tree (Some host_node) prefix pair → ⊥
 no_host_node tree good host_node none prefix pair m =
     let whole : is_path (host_node ++ m.below) ≡ true = (good.nodes (host_node ++ m.below) m.node m.there).is_a_path in
-    let there : path_or_none host_node ≡ Some host_node = ap (λ b. if b then Some host_node else None) (path_above host_node m.below whole) in
+    let there : path_or_none host_node ≡ Some host_node = ap (λ b. if b then Some host_node else None) (path_before host_node m.below whole) in
     let both : Some host_node ≡ None = sym there ∙ none in
     cc
 

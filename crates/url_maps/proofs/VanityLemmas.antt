@@ -10,6 +10,7 @@ use Rattle.std.specs.declared.cmp.Ordering.{Ordering}
 use Rattle.std.specs.declared.cmp.Ordering.TheVariants.{Less, Equal, Greater}
 use Rattle.std.proofs.lemmas.Bool.{true≢false, false≢true}
 use Rattle.std.proofs.lemmas.Cmp.{back_total, int_cmp_total, on_total, then_total}
+use Rattle.std.proofs.lemmas.List.{nil_from_length}
 use Rattle.std.proofs.lemmas.Map.Lookups.{exact_bytes}
 use Rattle.sp_base.specs.Names.{by_name}
 use Rattle.std.specs.Result.{result_ok}
@@ -24,7 +25,7 @@ use Rattle.url_maps.specs.VanityPaths.{IsVanityPath, has_vanity_path, vanity_pag
 use Rattle.url_maps.specs.declared.pairs.Pair.{Pair}
 use Rattle.url_maps.specs.declared.pairs.PairKind.TheVariants.{VanityPath}
 use Rattle.url_maps.specs.Pairs.{HasVanityPath, IsPair, IsPairOf}
-use Rattle.url_maps.proofs.AliasLemmas.{any_alike, empty_from}
+use Rattle.url_maps.proofs.AliasLemmas.{any_alike}
 use Rattle.url_maps.proofs.PathLemmas.{IsReadBack, path_from_text}
 
 -- ---- the order of nodes with one vanity path
@@ -44,11 +45,6 @@ after_first read tree first path valid also not_before =
       | Equal ↦ λ is fails. inl (path_from_text read path first also valid (exact_bytes (text_of path) (text_of first) (then_equal (int_cmp (vanity_order tree first) (vanity_order tree path)) (by_name (text_of path) (text_of first)) is)))
       | Greater ↦ λ is fails. inr ((vanity_total tree).antisymm first path ∙ ap ordering_reverse is)
     ] refl not_before
-
-pub less_from : (o : Ordering) → is_lt o ≡ true → o ≡ Less
-less_from Less e = refl
-less_from Equal e = absurd (false≢true e)
-less_from Greater e = absurd (false≢true e)
 
 -- ---- claims and vanity paths
 
@@ -103,7 +99,7 @@ is_vanity_pair tree rows text pair path claims free first target inside = record
 -- no pair of a vanity path, unless some node claims the text ..
 pub no_vanity_pair : (tree : Content) (rows : ClaimRows) (text : List ℕ) → AreClaims (claims_vanity_path tree) rows → length (claimants rows text) ≡ 0 → (pair : Pair) → pair.kind ≡ VanityPath → IsPair tree None text pair → ⊥
 no_vanity_pair tree rows text claims none pair is has =
-    let v = subst (λ kind. IsPairOf kind tree None text pair) is has in no_vanity_claimed tree rows text v.path claims (empty_from (claimants rows text) none) v.vanity_path
+    let v = subst (λ kind. IsPairOf kind tree None text pair) is has in no_vanity_claimed tree rows text v.path claims (nil_from_length (claimants rows text) none) v.vanity_path
 
 -- the claimants of a text are paths
 pub vanity_valid : (tree : Content) → IsTree (node_at tree) → (rows : ClaimRows) (text : List ℕ) → AreClaims (claims_vanity_path tree) rows → (q : List (List ℕ)) → list_any (same_path q) (claimants rows text) ≡ true → is_path q ≡ true

@@ -2,25 +2,14 @@
 use Rattle.std.proofs.Common.{◌≡◌, ◌≢◌, ◌<◌, ◌≤◌, ◌+◌, ⊎_elim, ◌∷◌, ◌++◌, [], List, ℕ, suc, Bool, true, false, cond, Ok, length, length-append, append_assoc, take, drop, get_or, refl, sym, ◌∙◌, ap, subst, arith}
 use Rattle.std.specs.Prelude.{◌||◌}
 use Rattle.std.specs.List.{list_all, list_any, onto_first}
-use Rattle.std.proofs.lemmas.Bool.{and_parts, true≢false, false≢true}
+use Rattle.std.proofs.lemmas.Bool.{and_parts, true≢false, false≢true, or_right}
 use Rattle.std.proofs.lemmas.Bool.Decides.{nat_tests}
 use Rattle.std.proofs.lemmas.List.{append-nil, length-take, take-append-drop, take_more, take-take}
 use Rattle.sp_base.specs.Bytes.{is_slash}
 use Rattle.sp_base.specs.Paths.{has_slash, is_empty, is_long, path_of, pieces, seg_ok}
+use Rattle.sp_base.proofs.BoolLemmas.{or_first, or_second}
 use Rattle.url_split.specs.Walk.{EndsInLong, IsBeforeLong, IsReached}
-use Rattle.url_split.proofs.StartLemmas.{AreValid, read_is, short_seg}
-
-no_first : (a b : Bool) → (a || b) ≡ false → a ≡ false
-no_first true b e = e
-no_first false b e = refl
-
-no_last : (a b : Bool) → (a || b) ≡ false → b ≡ false
-no_last true b e = absurd (true≢false e)
-no_last false b e = e
-
-some_last : (a b : Bool) → b ≡ true → (a || b) ≡ true
-some_last true b e = refl
-some_last false b e = e
+use Rattle.url_split.proofs.StartLemmas.{AreValid, read_is, short_segment}
 
 -- ---- the piece that is too long
 
@@ -49,8 +38,8 @@ some_piece (b ∷ text) =
 first_bytes : (long more : List ℕ) → has_slash long ≡ false → BeginsWith (length long) (pieces (long ++ more))
 first_bytes [] more none = some_piece more
 first_bytes (b ∷ long) more none =
-    subst (λ (t : Bool). BeginsWith (suc (length long)) (cond t ([] ∷ pieces (long ++ more)) (onto_first b (pieces (long ++ more))))) (sym (no_first (is_slash b) (has_slash long) none))
-    (with_byte b (length long) (pieces (long ++ more)) (first_bytes long more (no_last (is_slash b) (has_slash long) none)))
+    subst (λ (t : Bool). BeginsWith (suc (length long)) (cond t ([] ∷ pieces (long ++ more)) (onto_first b (pieces (long ++ more))))) (sym (or_first (is_slash b) (has_slash long) none))
+    (with_byte b (length long) (pieces (long ++ more)) (first_bytes long more (or_second (is_slash b) (has_slash long) none)))
 
 longer : (seg piece : List ℕ) → is_long seg ≡ true → length seg ≤ length piece → is_long piece ≡ true
 longer seg piece long le = grind (arith, nat_tests)
@@ -61,7 +50,7 @@ begins_long long (piece ∷ parts) is h = ap (λ t. t || list_any is_long parts)
 
 or_grown : (a c b : Bool) → (a ≡ true → c ≡ true) → (a || b) ≡ true → (c || b) ≡ true
 or_grown true c b grows e = ap (λ t. t || b) (grows refl)
-or_grown false c b grows e = some_last c b e
+or_grown false c b grows e = or_right c b e
 
 onto_long : (b : ℕ) (parts : List (List ℕ)) → list_any is_long parts ≡ true → list_any is_long (onto_first b parts) ≡ true
 onto_long b [] h = absurd (false≢true h)
@@ -71,14 +60,14 @@ long_piece : (leading long more : List ℕ) → has_slash long ≡ false → is_
 long_piece [] long more one is = begins_long long (pieces (long ++ more)) is (first_bytes long more one)
 long_piece (b ∷ leading) long more one is =
     elim (is_slash b) as (λ t. list_any is_long (cond t ([] ∷ pieces (leading ++ (long ++ more))) (onto_first b (pieces (leading ++ (long ++ more))))) ≡ true) [
-      | true ↦ some_last (is_long []) (list_any is_long (pieces (leading ++ (long ++ more)))) (long_piece leading long more one is)
+      | true ↦ or_right (is_long []) (list_any is_long (pieces (leading ++ (long ++ more)))) (long_piece leading long more one is)
       | false ↦ onto_long b (pieces (leading ++ (long ++ more))) (long_piece leading long more one is)
     ]
 
 -- ---- no path has one
 
 not_both : (seg : List ℕ) → seg_ok seg ≡ true → is_long seg ≡ true → ⊥
-not_both seg ok long = let short = short_seg seg ok in let is : 200 < length seg = grind (arith, nat_tests) in omega (arith, short, is)
+not_both seg ok long = let short = short_segment seg ok in let is : 200 < length seg = grind (arith, nat_tests) in omega (arith, short, is)
 
 no_long : (parts : List (List ℕ)) → list_all seg_ok parts ≡ true → list_any is_long parts ≡ true → ⊥
 no_long [] all some = false≢true some
@@ -99,7 +88,7 @@ few_bytes rest e = grind (arith, nat_tests)
 
 no_path_read : AreValid → (leading long more : List ℕ) → has_slash long ≡ false → is_long long ≡ true → (path : List (List ℕ)) → path_of (leading ++ (long ++ more)) ≡ Ok path → ⊥
 no_path_read valid [] [] more one is path reads = let size : 200 < 0 = grind (arith, nat_tests) in omega (arith, size)
-no_path_read valid [] (b ∷ long) more one is path reads = true≢false (sym (read_is b (long ++ more) path reads).slash ∙ no_first (is_slash b) (has_slash long) one)
+no_path_read valid [] (b ∷ long) more one is path reads = true≢false (sym (read_is b (long ++ more) path reads).slash ∙ or_first (is_slash b) (has_slash long) one)
 no_path_read valid (b ∷ leading) long more one is path reads =
     let rest = leading ++ (long ++ more) in
     ⊎_elim
@@ -147,7 +136,7 @@ ends_new text = record { leading = text; piece = []; text_is = sym (append-nil t
 slashless : (piece : List ℕ) (b : ℕ) → has_slash piece ≡ false → is_slash b ≡ false → has_slash (piece ++ b ∷ []) ≡ false
 slashless [] b none other = ap (λ t. t || false) other
 slashless (c ∷ piece) b none other =
-    ap (λ t. t || has_slash (piece ++ b ∷ [])) (no_first (is_slash c) (has_slash piece) none) ∙ slashless piece b (no_last (is_slash c) (has_slash piece) none) other
+    ap (λ t. t || has_slash (piece ++ b ∷ [])) (or_first (is_slash c) (has_slash piece) none) ∙ slashless piece b (or_second (is_slash c) (has_slash piece) none) other
 
 no_slash : (b : ℕ) → b ≢ 47 → is_slash b ≡ false
 no_slash b other = grind (arith, nat_tests)

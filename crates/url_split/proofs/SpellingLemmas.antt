@@ -1,8 +1,7 @@
 -- The selectors, the extension and the suffix of a text give it back.
 use Rattle.std.proofs.Common.{◌≡◌, ◌<◌, ◌≤◌, ◌+◌, ◌-◌, ◌==◌, ◌&&◌, ◌||◌, ◌⊎◌, ⊎_elim, inl, inr, ◌++◌, ◌∷◌, [], List, ℕ, suc, Bool, true, false, cond, not, length, take, drop, get_or, filter, Ok, refl, sym, ◌∙◌, ap, subst, arith}
 use Rattle.std.proofs.Math.Seq.{drop-append_seam}
-use Rattle.std.proofs.lemmas.Bool.Decides.{nat_tests}
-use Rattle.std.proofs.lemmas.Bool.{cases_lt}
+use Rattle.std.proofs.lemmas.Bool.{and_from, cases_lt, eqb-true}
 use Rattle.std.proofs.lemmas.List.{append-nil, take-append-drop, take_more, take_all, get_or-take, length-take, length-take-le}
 use Rattle.std.proofs.lemmas.List.Folds.{list_all-append}
 use Rattle.std.proofs.lemmas.List.Splits.{length-slice_split}
@@ -10,33 +9,12 @@ use Rattle.std.proofs.lemmas.List.Sums.{fails_before_first, passes_at_first, spl
 use Rattle.std.specs.List.{list_all, list_any, onto_first, slice_split, before_first, after_first, position_or_len}
 use Rattle.sp_base.specs.Bytes.{is_dot, is_slash, is_full, dotted_text}
 use Rattle.sp_base.specs.Paths.{path_of, text_of}
+use Rattle.sp_base.proofs.BoolLemmas.{and_first, and_second, or_first, or_second}
+use Rattle.sp_base.proofs.ListLemmas.{drop_past}
 use Rattle.url_split.specs.declared.decompose.Parts.{Parts}
 use Rattle.url_split.specs.Split.{IsSplit, last_of, but_last, selectors_of, extension_of, suffix_of}
 use Rattle.url_split.specs.Spelling.{is_word, SpellsParts}
-use Rattle.url_split.proofs.SplitLemmas.{no_more, cut_after}
-
-both : (a b : Bool) → a ≡ true → b ≡ true → (a && b) ≡ true
-both true b p q = q
-both false b p q = p
-
-first : (a b : Bool) → (a && b) ≡ true → a ≡ true
-first true b p = refl
-first false b p = p
-
-second : (a b : Bool) → (a && b) ≡ true → b ≡ true
-second true b p = p
-second false b p = absurd (cc p)
-
-or_first : (a b : Bool) → (a || b) ≡ false → a ≡ false
-or_first true b e = e
-or_first false b e = refl
-
-or_second : (a b : Bool) → (a || b) ≡ false → b ≡ false
-or_second true b e = absurd (cc e)
-or_second false b e = e
-
-test_eq : (a b : ℕ) → (a == b) ≡ true → a ≡ b
-test_eq a b e = grind (arith, nat_tests)
+use Rattle.url_split.proofs.SplitLemmas.{cut_after}
 
 -- ---- the pieces between dots
 
@@ -65,7 +43,7 @@ dotted_pieces : (text : List ℕ) → dotted_text (slice_split is_dot text) ≡ 
 dotted_pieces [] = refl
 dotted_pieces (b ∷ text) =
     elim (b == 46) as (λ t. (b == 46) ≡ t → dotted_text (cond t ([] ∷ slice_split is_dot text) (onto_first b (slice_split is_dot text))) ≡ 46 ∷ b ∷ text) [
-      | true ↦ λ e. ap (λ more. 46 ∷ more) (dotted_pieces text) ∙ ap (λ n. 46 ∷ n ∷ text) (sym (test_eq b 46 e))
+      | true ↦ λ e. ap (λ more. 46 ∷ more) (dotted_pieces text) ∙ ap (λ n. 46 ∷ n ∷ text) (sym (eqb-true b 46 e))
       | false ↦ λ e. dotted-onto b (slice_split is_dot text) text (dotted_pieces text)
     ] refl
 
@@ -98,13 +76,13 @@ rest_slashed text =
     let leading = before_first is_slash text in
     ⊎_elim
     (λ (less : n < length text).
-    let slash = test_eq (get_or text n 0) 47 (passes_at_first is_slash text 0 less) in
+    let slash = eqb-true (get_or text n 0) 47 (passes_at_first is_slash text 0 less) in
     inr (
       after_first is_slash text,
       ap (drop (length leading)) (split_at_first is_slash text 0 less) ∙ drop-append_seam leading (get_or text n 0 ∷ after_first is_slash text)
           ∙ ap (λ b. b ∷ after_first is_slash text) slash,
     ))
-    (λ (whole : length text ≤ n). inl (no_more text (length leading) (omega (arith, whole, length-take n text))))
+    (λ (whole : length text ≤ n). inl (drop_past text (length leading) (omega (arith, whole, length-take n text))))
     (cases_lt n (length text))
 
 -- ---- the parts of what follows a resource path
@@ -119,7 +97,7 @@ before_and_after rest =
     (λ (less : n < length rest). ap (λ k. take n rest ++ drop k rest) (length-take-le n rest (omega (arith, less))) ∙ take-append-drop n rest)
     (λ (whole : length rest ≤ n).
     let all : before_first is_slash rest ≡ rest = take_all n rest whole in
-    ap (λ t. t ++ drop (length t) rest) all ∙ ap (λ t. rest ++ t) (no_more rest (length rest) (omega arith)) ∙ append-nil rest)
+    ap (λ t. t ++ drop (length t) rest) all ∙ ap (λ t. rest ++ t) (drop_past rest (length rest) (omega arith)) ∙ append-nil rest)
     (cases_lt n (length rest))
 
 given_back : (rest : List ℕ) →
@@ -134,14 +112,14 @@ all_last : (parts : List (List ℕ)) → 0 < length parts → list_all is_word p
 all_last parts some h =
     let e = ap (list_all is_word) (ends parts some) ∙ h in
     let f = sym (list_all-append is_word (but_last parts) (last_of parts ∷ [])) ∙ e in
-    (first _ _ f, first _ _ (second _ _ f))
+    (and_first _ _ f, and_first _ _ (and_second _ _ f))
 
 full_words : (parts : List (List ℕ)) → list_all is_word parts ≡ true → list_all (λ piece. is_full piece && is_word piece) (filter is_full parts) ≡ true
 full_words [] h = refl
 full_words (part ∷ parts) h =
     elim (is_full part) as (λ t. is_full part ≡ t → list_all (λ piece. is_full piece && is_word piece) (cond t (part ∷ filter is_full parts) (filter is_full parts)) ≡ true) [
-      | true ↦ λ e. both _ _ (both _ _ e (first _ _ h)) (full_words parts (second _ _ h))
-      | false ↦ λ e. full_words parts (second _ _ h)
+      | true ↦ λ e. and_from _ _ (and_from _ _ e (and_first _ _ h)) (full_words parts (and_second _ _ h))
+      | false ↦ λ e. full_words parts (and_second _ _ h)
     ] refl
 
 -- what is said of the parts after a resource path

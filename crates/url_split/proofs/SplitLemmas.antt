@@ -1,43 +1,32 @@
 -- Where a text is cut, and what follows the cut.
-use Rattle.std.proofs.Common.{◌≡◌, ◌≢◌, ◌==◌, ◌-◌, ◌<◌, ◌≤◌, inl, inr, ⊎_elim, ℕ, zero, suc, Bool, true, false, List, [], ◌∷◌, map, length, take, drop, get_or, refl, sym, ◌∙◌, ap, arith}
-use Rattle.std.proofs.lemmas.Bool.Decides.{nat_tests}
+use Rattle.std.proofs.Common.{◌≡◌, ◌≢◌, ◌-◌, ◌<◌, ◌≤◌, inl, inr, ⊎_elim, ℕ, suc, Bool, List, [], ◌∷◌, map, length, take, drop, get_or, sym, ◌∙◌, ap, arith}
+use Rattle.std.proofs.lemmas.Bool.{eq-eqb, ne_eqb}
 use Rattle.std.proofs.lemmas.List.{take_all, get_or-take, length-map, take-map, get_or-map}
 use Rattle.std.proofs.lemmas.List.Splits.{length-slice_split}
 use Rattle.std.proofs.Math.Seq.{drop-cons}
 use Rattle.std.proofs.lemmas.List.Sums.{position_or_len_is}
 use Rattle.std.specs.List.{before_first, slice_split}
 use Rattle.sp_base.specs.Bytes.{is_dot, is_slash}
+use Rattle.sp_base.proofs.ListLemmas.{drop_past}
 use Rattle.url_split.specs.Split.{IsCut, but_last, last_of}
 use Rattle.url_split.specs.Walk.{IsAfterPath}
 
-is_test : (b c : ℕ) → b ≡ c → (b == c) ≡ true
-is_test b c e = grind (arith, nat_tests)
-
-not_test : (b c : ℕ) → b ≢ c → (b == c) ≡ false
-not_test b c e = grind (arith, nat_tests)
-
 pub cut_prefix : (text : List ℕ) (k : ℕ) → k < length text → get_or text k 0 ≡ 47 → ((i : ℕ) → i < k → get_or text i 0 ≢ 47) → take k text ≡ before_first is_slash text
 cut_prefix text k lt here before =
-    ap (λ n. take n text) (sym (position_or_len_is is_slash text k 0 (omega arith) (λ i less. not_test (get_or text i 0) 47 (before i less)) (λ _. is_test (get_or text k 0) 47 here)))
+    ap (λ n. take n text) (sym (position_or_len_is is_slash text k 0 (omega arith) (λ i less. ne_eqb (get_or text i 0) 47 (before i less)) (λ _. eq-eqb (get_or text k 0) 47 here)))
 
 pub cut_whole : (text : List ℕ) → ((i : ℕ) → i < length text → get_or text i 0 ≢ 47) → text ≡ before_first is_slash text
 cut_whole text none =
     sym (take_all (length text) text (omega arith))
-    ∙ ap (λ n. take n text) (sym (position_or_len_is is_slash text (length text) 0 (omega arith) (λ i less. not_test (get_or text i 0) 47 (none i less)) (λ lt. absurd (omega (arith, lt)))))
+    ∙ ap (λ n. take n text) (sym (position_or_len_is is_slash text (length text) 0 (omega arith) (λ i less. ne_eqb (get_or text i 0) 47 (none i less)) (λ lt. absurd (omega (arith, lt)))))
 
 pub after_none : (rest : List ℕ) → IsAfterPath rest → ((more : List ℕ) → rest ≢ 46 ∷ more) → rest ≡ []
 after_none rest b none = ⊎_elim (λ e. e) (λ p. absurd (none p.0 p.1)) b
 
-pub no_more : (text : List ℕ) (k : ℕ) → length text ≤ k → drop k text ≡ []
-no_more [] zero h = refl
-no_more [] (suc k) h = refl
-no_more (b ∷ text) zero h = absurd (omega (arith, h))
-no_more (b ∷ text) (suc k) h = no_more text k (omega (arith, h))
-
 -- at a cut the rest begins with a dot, or is nothing
 pub cut_after : (text : List ℕ) (k : ℕ) → IsCut text k → IsAfterPath (drop k text)
 cut_after text k c = ⊎_elim
-    (λ e. inl (no_more text k (omega (arith, e))))
+    (λ e. inl (drop_past text k (omega (arith, e))))
     (λ p. inr (drop (suc k) text, drop-cons text k 0 p.0 ∙ ap (λ b. b ∷ drop (suc k) text) p.1))
     c
 

@@ -1,32 +1,26 @@
 -- Where the walk back over the dots of a text begins: what its prefixes read as, and how many slashes they have.
-use Rattle.std.proofs.Common.{◌≡◌, ◌<◌, ◌≤◌, ◌-◌, ◌+◌, ◌==◌, ◌&&◌, ◌⊎◌, ⊎_elim, inl, inr, min, ◌∷◌, ◌++◌, [], List, ℕ, zero, suc, Bool, true, false, cond, Option, Some, None, Ok, Err, length, length-append, map, take, drop, get_or, nat_eq, nat_le, not, refl, sym, ◌∙◌, ap, arith}
+use Rattle.std.proofs.Common.{◌≡◌, ◌<◌, ◌≤◌, ◌-◌, ◌+◌, ◌==◌, ◌&&◌, ◌⊎◌, ⊎_elim, min, ◌∷◌, ◌++◌, [], List, ℕ, zero, suc, Bool, true, false, cond, Ok, Err, length, length-append, map, take, get_or, nat_le, not, refl, sym, ◌∙◌, ap, arith}
 use Rattle.std.specs.Prelude.{Result}
-use Rattle.std.specs.Cmp.Lexicographic.{bytes_decides, pointwise}
 use Rattle.std.specs.List.{count_by, list_all, onto_first}
-use Rattle.std.proofs.lemmas.Bool.{cases_lt, cases_eq, and_parts, and_from, leb-true, false≢true, false_from_ne_true}
+use Rattle.std.proofs.lemmas.Bool.{cases_lt, cases_eq, and_parts, and_from, false≢true, false_from_ne_true, both_ways}
 use Rattle.std.proofs.lemmas.Bool.Decides.{nat_tests}
-use Rattle.std.proofs.lemmas.List.{get_or-map, length-map, take-append-drop, take_more, take-take, take_all, length-take, length-take-le}
+use Rattle.std.proofs.lemmas.List.{get_or-map, length-map, take_more, take-take, take_all, length-take}
 use Rattle.std.proofs.lemmas.List.Concat.{flat_map-append}
 use Rattle.std.proofs.lemmas.List.Folds.{list_all-append}
 use Rattle.std.proofs.lemmas.List.Splits.{length-slice_split}
 use Rattle.std.proofs.lemmas.List.Sums.{count_by-le-length, sum_by-cons}
 use Rattle.sp_base.specs.Bytes.{is_slash}
-use Rattle.sp_base.specs.Paths.{path_or_fault, fault_of, is_dots, is_empty, is_path, is_under, parent_of, path_of, has_slash, is_long, pieces, seg_ok, text_of, unless_fault}
+use Rattle.sp_base.specs.Paths.{path_or_fault, is_dots, is_empty, is_path, is_under, parent_of, path_of, has_slash, is_long, pieces, seg_ok, text_of}
 use Rattle.sp_base.specs.PathTexts.{spelling_of}
 use Rattle.sp_base.specs.declared.path.PathFault.{PathFault}
 use Rattle.sp_base.specs.declared.path.PathFault.TheVariants.{NotAbsolute}
+use Rattle.sp_base.proofs.PathLemmas.{first_path}
+use Rattle.sp_base.proofs.PathPrefixes.{nothing_is_no_path, root_or_path, root_under}
+use Rattle.sp_base.proofs.PathTests.{few_segments, under_first}
 use Rattle.url_split.specs.Split.{IsCut}
 use Rattle.url_split.specs.Walk.{HasParents, IsBeforeSlash, IsFitEnd, IsReached}
 
 -- ---- what a text reads as
-
-made_is : (o : Option PathFault) (segs path : List (List ℕ)) → unless_fault o segs ≡ Ok path → path ≡ segs
-made_is None segs path e = cc
-made_is (Some fault) segs path e = absurd (cc e)
-
-root_or_pieces : (b : Bool) (segs path : List (List ℕ)) → cond b (Ok []) (path_or_fault segs) ≡ Ok path → ((b ≡ true) × (path ≡ [])) ⊎ (path ≡ segs)
-root_or_pieces true segs path e = inl (refl, cc)
-root_or_pieces false segs path e = inr (made_is (fault_of segs) segs path e)
 
 after_slash : (b : Bool) (r : Result (List (List ℕ)) PathFault) (path : List (List ℕ)) → cond b r (Err NotAbsolute) ≡ Ok path → (b ≡ true) × (r ≡ Ok path)
 after_slash true r path e = (refl, e)
@@ -40,7 +34,7 @@ pub record IsReadOf (b : ℕ) (rest : List ℕ) (path : List (List ℕ)) : Type 
 pub read_is : (b : ℕ) (rest : List ℕ) (path : List (List ℕ)) → path_of (b ∷ rest) ≡ Ok path → IsReadOf b rest path
 read_is b rest path e =
     let parts = after_slash (b == 47) (cond (is_empty rest) (Ok []) (path_or_fault (pieces rest))) path e in
-    record { slash = parts.0; path_is = root_or_pieces (is_empty rest) (pieces rest) path parts.1 }
+    record { slash = parts.0; path_is = root_or_path (is_empty rest) (pieces rest) path parts.1 }
 
 -- ---- slashes
 
@@ -133,32 +127,6 @@ first_parent (piece ∷ few) (other ∷ others) h =
 
 -- ---- the first pieces that make a path
 
-path_first : (segs : List (List ℕ)) (n : ℕ) → is_path segs ≡ true → is_path (take n segs) ≡ true
-path_first segs n valid =
-    let parts = and_parts (list_all seg_ok segs) (nat_le (length segs) 64) valid in
-    let segments = (and_parts (list_all seg_ok (take n segs)) (list_all seg_ok (drop n segs)) (sym (list_all-append seg_ok (take n segs) (drop n segs)) ∙ ap (list_all seg_ok) (take-append-drop n segs) ∙ parts.0)).0 in
-    let size : length segs ≤ 64 = leb-true _ _ parts.1 in
-    let fewer : length (take n segs) ≤ 64 = omega (arith, size, length-take n segs) in
-    and_from (list_all seg_ok (take n segs)) (nat_le (length (take n segs)) 64) segments (grind (arith, nat_tests))
-
-same_segs : (segs : List (List ℕ)) → pointwise (pointwise nat_eq) segs segs ≡ true
-same_segs [] = refl
-same_segs (seg ∷ segs) = ap (λ t. t && pointwise (pointwise nat_eq) segs segs) ((bytes_decides seg seg).1 refl) ∙ same_segs segs
-
-under_few : (path : List (List ℕ)) (n : ℕ) → n ≤ length path → is_under path (take n path) ≡ true
-under_few path n h = ap (λ m. pointwise (pointwise nat_eq) (take n path) (take m path)) (length-take-le n path h) ∙ same_segs (take n path)
-
-under_first : (path : List (List ℕ)) (n : ℕ) → is_under path (take n path) ≡ true
-under_first path n = ⊎_elim
-    (λ (less : n < length path). under_few path n (omega (arith, less)))
-    (λ (all : length path ≤ n).
-    let whole : take n path ≡ take (length path) path = take_all n path all ∙ sym (take_all (length path) path (omega arith)) in
-    ap (is_under path) whole ∙ under_few path (length path) (omega arith))
-    (cases_lt n (length path))
-
-root_under : (path read : List (List ℕ)) → read ≡ [] → is_under path (parent_of read) ≡ true
-root_under path read e = ap (λ q. is_under path (parent_of q)) e ∙ under_first path 0
-
 -- as many first pieces as make a path begin with all first pieces that do
 first_under : (parts path : List (List ℕ)) (i n : ℕ) → path ≡ take i parts → (length parts ≤ i) ⊎ (is_path (take (i + 1) parts) ≡ false) → is_path (take n parts) ≡ true → is_under path (take n parts) ≡ true
 first_under parts path i n is ends valid = ⊎_elim
@@ -167,12 +135,9 @@ first_under parts path i n is ends valid = ⊎_elim
     ⊎_elim
     (λ (all : length parts ≤ i). ap (is_under path) (take_all n parts (omega (arith, all, more)) ∙ sym (is ∙ take_all i parts all) ∙ sym (take_all (length path) path (omega arith))) ∙ under_first path (length path))
     (λ (fails : is_path (take (i + 1) parts) ≡ false).
-    absurd (false≢true (sym fails ∙ ap is_path (sym (take-take (i + 1) n parts more)) ∙ path_first (take n parts) (i + 1) valid)))
+    absurd (false≢true (sym fails ∙ ap is_path (sym (take-take (i + 1) n parts more)) ∙ first_path (take n parts) (i + 1) valid)))
     ends)
     (cases_lt n (i + 1))
-
-few_segments : (segs : List (List ℕ)) → is_path segs ≡ true → length segs ≤ 64
-few_segments segs h = leb-true _ _ (and_parts (list_all seg_ok segs) (nat_le (length segs) 64) h).1
 
 -- one more of some pieces, read off a list of references
 next_of : {A : Type 0} (f : A → List ℕ) (items : List A) (i : ℕ) (d : A) → i < length items → take (i + 1) (map f items) ≡ take i (map f items) ++ f (get_or items i d) ∷ []
@@ -200,9 +165,6 @@ bytes_next f items many i end d same within is =
     let goal_is : length (spelling_of (take (many + 1) parts)) ≡ length (spelling_of (take (i + 1) parts)) = ap (λ n. length (spelling_of (take (n + 1) parts))) same in
     omega (arith, old, whole, goal_is, length-append q [])
 
-false_not : (b : Bool) → b ≡ false → b ≡ true → ⊥
-false_not b is fails = absurd (false≢true (sym is ∙ fails))
-
 pub too_many : {A : Type 0} (f : A → List ℕ) (items : List A) → 64 < length items → is_path (take (64 + 1) (map f items)) ≡ false
 too_many f items more =
     let parts = map f items in
@@ -216,10 +178,10 @@ unfit_next f items i d within bad =
     false_from_ne_true (is_path (take (i + 1) parts)) (λ path.
     let all = (and_parts (list_all seg_ok (take (i + 1) parts)) (nat_le (length (take (i + 1) parts)) 64) path).0 in
     let last = (and_parts (list_all seg_ok (take i parts)) (seg_ok q && true) (sym (all_next (take i parts) q) ∙ ap (list_all seg_ok) (sym (next_of f items i d within)) ∙ all)).1 in
-    false_not (seg_ok q) bad (and_parts (seg_ok q) true last).0)
+    both_ways (seg_ok q) bad (and_parts (seg_ok q) true last).0)
 
-pub short_seg : (seg : List ℕ) → seg_ok seg ≡ true → length seg ≤ 200
-short_seg seg ok =
+pub short_segment : (seg : List ℕ) → seg_ok seg ≡ true → length seg ≤ 200
+short_segment seg ok =
     let whole : (not (is_dots seg) && (not (is_long seg) && not (has_slash seg))) ≡ true = (and_parts (not (is_empty seg)) (not (is_dots seg) && (not (is_long seg) && not (has_slash seg))) ok).1 in
     let rest : (not (is_long seg) && not (has_slash seg)) ≡ true = (and_parts (not (is_dots seg)) (not (is_long seg) && not (has_slash seg)) whole).1 in
     let short : not (is_long seg) ≡ true = (and_parts (not (is_long seg)) (not (has_slash seg)) rest).0 in
@@ -236,15 +198,12 @@ parent_under b rest path read i n is ends valid e = ⊎_elim
     (λ (same : read ≡ pieces (take n rest)).
     let first : parent_of read ≡ take (length read - 1) (pieces rest) =
     ap parent_of same ∙ first_parent (pieces (take n rest)) (pieces rest) (first_pieces rest n) ∙ ap (λ segs. take (length segs - 1) (pieces rest)) (sym same) in
-    let good = path_first read (length read - 1) (valid (b ∷ take n rest) read e) in
+    let good = first_path read (length read - 1) (valid (b ∷ take n rest) read e) in
     ap (is_under path) first ∙ first_under (pieces rest) path i (length read - 1) is ends (sym (ap is_path first) ∙ good))
     (read_is b (take n rest) read e).path_is
 
-pub none_read : (read : List (List ℕ)) → path_of [] ≡ Ok read → ⊥
-none_read read e = cc e
-
 pub parents_of_pieces : (text rest : List ℕ) (path : List (List ℕ)) (end : ℕ) → text ≡ 47 ∷ rest → (fit : IsFitEnd (pieces rest) end) → path ≡ take fit.many (pieces rest) → AreValid → HasParents text path
-parents_of_pieces text rest path end is fit path_is valid zero read within e = absurd (none_read read e)
+parents_of_pieces text rest path end is fit path_is valid zero read within e = absurd (nothing_is_no_path read e)
 parents_of_pieces text rest path end is fit path_is valid (suc n) read within e =
     parent_under 47 rest path read fit.many n path_is fit.ends valid (ap (λ t. path_of (take (suc n) t)) (sym is) ∙ e)
 
@@ -304,9 +263,9 @@ slash_is b e = grind (arith, nat_tests)
 
 -- no prefix of another text reads as a path
 pub parents_of_none : (text : List ℕ) (path : List (List ℕ)) → ((rest : List ℕ) → text ≡ 47 ∷ rest → ⊥) → HasParents text path
-parents_of_none [] path none zero read within e = absurd (none_read read e)
-parents_of_none [] path none (suc n) read within e = absurd (none_read read e)
-parents_of_none (b ∷ rest) path none zero read within e = absurd (none_read read e)
+parents_of_none [] path none zero read within e = absurd (nothing_is_no_path read e)
+parents_of_none [] path none (suc n) read within e = absurd (nothing_is_no_path read e)
+parents_of_none (b ∷ rest) path none zero read within e = absurd (nothing_is_no_path read e)
 parents_of_none (b ∷ rest) path none (suc n) read within e =
     let slash : b ≡ 47 = slash_is b (read_is b (take n rest) read e).slash in absurd (none rest (ap (λ c. c ∷ rest) slash))
 

@@ -4,9 +4,10 @@ use Rattle.std.specs.Prelude.{option_map, IfSome, IfNone}
 use Rattle.std.specs.Option.{option_or}
 use Rattle.std.proofs.lemmas.Bool.Decides.{nat_tests}
 use Rattle.std.proofs.lemmas.Bool.{cases_lt, cases_Bool}
-use Rattle.std.proofs.lemmas.Option.{cond_some}
+use Rattle.std.proofs.lemmas.Option.{cond_some, same_Some}
 use Rattle.sp_base.specs.Paths.{path_of}
 use Rattle.sp_base.specs.declared.path.PathFault.{PathFault}
+use Rattle.sp_base.proofs.OptionLemmas.{some_is_not_none}
 use Rattle.url_split.specs.declared.decompose.Parts.{Parts}
 use Rattle.url_split.specs.Split.{selectors_of, extension_of, suffix_of, IsCut, Leads, IsSplit, IsLost, is_cut, known_one, path_to, parts_at, at_greatest, split_of}
 
@@ -84,12 +85,6 @@ lost_value known text lost =
 
 -- ---- the one answer as the two sides
 
-same_Some : {A : Type 0} (x y : A) → Some x ≡ Some y → x ≡ y
-same_Some x y e = cc
-
-some_none : {A : Type 0} (x : A) → Some x ≡ None → ⊥
-some_none x e = cc e
-
 -- x is what the function gives at the greatest number below n at which it gives something
 abbrev Greatest : {A : Type 0} → (ℕ → Option A) → ℕ → A → Type 0
 Greatest f n x = (at : ℕ) × (at < n) × (f at ≡ Some x) × ((k : ℕ) → at < k → k < n → f k ≡ None)
@@ -106,12 +101,12 @@ greatest_step f n x None is e below =
     )
 
 greatest_is : {A : Type 0} (f : ℕ → Option A) (n : ℕ) (x : A) → at_greatest f n ≡ Some x → Greatest f n x
-greatest_is f zero x e = absurd (some_none x (sym e))
+greatest_is f zero x e = absurd (some_is_not_none x (sym e))
 greatest_is f (suc n) x e = greatest_step f n x (f n) refl e (greatest_is f n x)
 
 none_step : {A : Type 0} (f : ℕ → Option A) (n : ℕ) (o : Option A) → f n ≡ o → option_or o (at_greatest f n) ≡ None
     → (at_greatest f n ≡ None → (k : ℕ) → k < n → f k ≡ None) → (k : ℕ) → k < suc n → f k ≡ None
-none_step f n (Some y) is e below k within = absurd (some_none y e)
+none_step f n (Some y) is e below k within = absurd (some_is_not_none y e)
 none_step f n None is e below k within = ⊎_elim (λ less. below e k less) (λ last. let same : k ≡ n = omega (arith, within, last) in ap f same ∙ is) (cases_lt k n)
 
 none_is : {A : Type 0} (f : ℕ → Option A) (n : ℕ) → at_greatest f n ≡ None → (k : ℕ) → k < n → f k ≡ None
@@ -123,19 +118,19 @@ known_is : (known : List (List ℕ) → Bool) (r : Result (List (List ℕ)) Path
 known_is known (Ok p) path e =
     let both = cond_some (known p) p path e in
     (ap (λ q. Ok q) both.1, subst (λ q. known q ≡ true) both.1 both.0)
-known_is known (Err fault) path e = absurd (some_none path (sym e))
+known_is known (Err fault) path e = absurd (some_is_not_none path (sym e))
 
 leads_by : (known : List (List ℕ) → Bool) (text : List ℕ) (at : ℕ) (path : List (List ℕ)) (b : Bool) → is_cut text at ≡ b → at ≤ length text
     → cond b (known_one known (path_of (take at text))) None ≡ Some path → Leads known text at path
 leads_by known text at path true is within e =
     let r = known_is known (path_of (take at text)) path e in
     record { cut = cut_from_test text at within is; reads = r.0; there = r.1 }
-leads_by known text at path false is within e = absurd (some_none path (sym e))
+leads_by known text at path false is within e = absurd (some_is_not_none path (sym e))
 
 mapped_is : (text : List ℕ) (at : ℕ) (o : Option (List (List ℕ))) (parts : Parts) → option_map (parts_at text at) o ≡ Some parts
     → (path : List (List ℕ)) × (o ≡ Some path) × (parts_at text at path ≡ parts)
 mapped_is text at (Some path) parts e = (path, refl, same_Some _ _ e)
-mapped_is text at None parts e = absurd (some_none parts (sym e))
+mapped_is text at None parts e = absurd (some_is_not_none parts (sym e))
 
 is_split_at : (known : List (List ℕ) → Bool) (text : List ℕ) (at : ℕ) (path : List (List ℕ)) → Leads known text at path
     → ((k : ℕ) (other : List (List ℕ)) → at < k → Leads known text k other → ⊥) → IsSplit known text (parts_at text at path)
@@ -150,14 +145,14 @@ split_is known text (Some parts) e =
     let m = mapped_is text g.0 (path_to known text g.0) parts g.2 in
     let leads = leads_by known text g.0 m.0 (is_cut text g.0) refl (omega (arith, g.1)) m.1 in
     subst (IsSplit known text) m.2 (is_split_at known text g.0 m.0 leads
-    (λ k path after other. some_none (parts_at text k path) (sym (ap (option_map (parts_at text k)) (led_to known text k path other)) ∙ g.3 k after (cut_within text k other.cut))))
+    (λ k path after other. some_is_not_none (parts_at text k path) (sym (ap (option_map (parts_at text k)) (led_to known text k path other)) ∙ g.3 k after (cut_within text k other.cut))))
 
 lost_is : (known : List (List ℕ) → Bool) (text : List ℕ) (o : Option Parts) → split_of known text ≡ o → IfNone o (IsLost known text)
 unfolding split_of
 lost_is known text (Some parts) e = tt
 lost_is known text None e = λ k path leads.
     let none = none_is (λ at. option_map (parts_at text at) (path_to known text at)) (suc (length text)) e k (cut_within text k leads.cut) in
-    some_none (parts_at text k path) (sym (ap (option_map (parts_at text k)) (led_to known text k path leads)) ∙ none)
+    some_is_not_none (parts_at text k path) (sym (ap (option_map (parts_at text k)) (led_to known text k path leads)) ∙ none)
 
 pub split_is_longest : (known : List (List ℕ) → Bool) (text : List ℕ) → IfSome (split_of known text) (IsSplit known text)
 split_is_longest known text = split_is known text (split_of known text) refl

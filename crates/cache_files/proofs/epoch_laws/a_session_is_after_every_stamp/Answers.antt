@@ -6,7 +6,7 @@ use Rattle.docroot_format.specs.Texts.{epoch_text}
 use Rattle.cache_files.specs.Epochs.{epoch_held, files_with_epoch}
 use Rattle.cache_files.specs.HeldStamps.{HasNoLaterStamp}
 use Rattle.cache_files.proofs.HeldLemmas.{other_file}
-use Rattle.cache_files.proofs.NextEpochs.{above, fits_next}
+use Rattle.cache_files.proofs.NextEpochs.{above, next_epoch_is_small}
 use Rattle.cache_files.proofs.epoch_laws.a_session_is_after_every_stamp.Goals as goal
 
 pub returns-clause-above : goal.returns-clause-above
@@ -15,7 +15,7 @@ returns-clause-above c = λ files epoch stamp before next held. above files epoc
 pub returns-clause-opened : goal.returns-clause-opened
 returns-clause-opened c = λ files epoch next before.
     let new = files_with_epoch files epoch in
-    let small : epoch < 2 ^ 64 = fits_next files epoch c.what_reads_is_its_text.ensures.fits next in
+    let small : epoch < 2 ^ 64 = next_epoch_is_small files epoch c.what_reads_is_its_text.ensures.fits next in
     let more : epoch_held files < epoch = above files epoch (epoch_held files) next (omega arith) in
     let is : epoch_held new ≡ epoch =
     ap (λ found. unwrap_or (option_and_then epoch_of found) 0) (c.files_have_names.ensures.written files epoch_name (epoch_text epoch))

@@ -1,14 +1,11 @@
-use Rattle.std.proofs.Common.{◌≡◌, ℕ, true, Some, length, refl, ◌∙◌, ap, arith, nat_eq, option_map}
+use Rattle.std.proofs.Common.{◌≡◌, Some, length, refl, ◌∙◌, ap, option_map}
 use Rattle.std.specs.Prelude.{option_and_then}
-use Rattle.std.proofs.lemmas.Bool.Decides.{nat_tests}
+use Rattle.sp_base.proofs.NatLemmas.{nat_eq_itself}
 use Rattle.sp_outside.specs.Files.{file_at, with_file, without_file}
 use Rattle.docroot_format.specs.Readings.{head_of}
 use Rattle.cache_files.specs.Pages.{note_of, page_body_name, page_head_name, page_head_text, stored_page}
 use Rattle.cache_files.proofs.PageFiles.{head_apart, head_from}
 use Rattle.cache_files.proofs.laws.a_page_is_read_back.Goals as goal
-
-same_length : (n : ℕ) → nat_eq n n ≡ true
-same_length n = grind (arith, nat_tests)
 
 pub returns : goal.returns
 returns c = λ files key stamp answer put.
@@ -25,6 +22,6 @@ returns c = λ files key stamp answer put.
       page = ap (λ found. option_and_then (λ line. option_and_then (stored_page line) (file_at (with_file before head text) body)) (option_and_then head_of found)) found_head
           ∙ ap (option_and_then (λ line. option_and_then (stored_page line) (file_at (with_file before head text) body))) read
           ∙ ap (option_and_then (stored_page (record { stamp = stamp; size = length answer.body; kind = answer.kind }))) found_body
-          ∙ rw (same_length (length answer.body)) refl;
+          ∙ rw (nat_eq_itself (length answer.body)) refl;
       head = ap head_from found_head ∙ ap (option_map note_of) read;
     }

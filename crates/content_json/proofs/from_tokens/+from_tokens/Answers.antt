@@ -1,5 +1,6 @@
-use Rattle.std.proofs.Common.{◌≡◌, ◌<◌, ◌≤◌, ◌+◌, ◌-◌, ◌||◌, ◌==◌, ◌∷◌, Bool, suc, length, Some, None, true, false, refl, sym, ap, ◌∙◌, subst, arith, rules, ◌≢◌, ap₂}
+use Rattle.std.proofs.Common.{◌≡◌, ◌<◌, ◌≤◌, ◌+◌, ◌-◌, ◌||◌, ◌==◌, ◌∷◌, suc, length, Some, None, true, refl, sym, ap, ◌∙◌, subst, arith, rules, ◌≢◌, ap₂}
 use Rattle.std.specs.Cmp.Lexicographic.{same_text}
+use Rattle.std.proofs.lemmas.Bool.{or_right}
 use Rattle.std.proofs.lemmas.Result.{IfOk-weaker, on_ok_weaker}
 use Rattle.std.specs.BTreeMap.{insert_entry}
 use Rattle.json.specs.Token.{Token}
@@ -14,10 +15,6 @@ use Rattle.content_json.specs.FromTokens.{TakesIn}
 use Rattle.content_json.proofs.PutLemmas.{member_fault-none}
 use Rattle.content_json.proofs.FromTokensLemmas.{AreRead, null_read, leaf_added, kid_added, one_more, all_read, object_added}
 use Rattle.content_json.proofs.from_tokens.+from_tokens.Goals as goal
-
-or_true : (a b : Bool) → b ≡ true → (a || b) ≡ true
-or_true true b h = refl
-or_true false b h = h
 
 pub add_kid-returns-clause-added : goal.add_kid-returns-clause-added
 add_kid-returns-clause-added t c =
@@ -42,7 +39,7 @@ add_member-returns-in-Some-Null-clause-added t c =
     let first : c.args.reader.now ≡ Token.null ∷ c.next.new.self = c.in-Some-Null.ensures.value ∙ ap (λ t. token_of t ∷ c.next.new.self) c.in-Some-Null.field-0-is in
     let plain : is_content_name c.args.place.now.name.now ≡ true = grind arith in
     IfOk-weaker c.put_null.result _ _
-    (λ done taken whole. leaf_added c.args.place.now.levels c.args.place.now.path.now c.args.place.now.name.now c.args.parent.now c.put_null.new.self c.args.nodes.now c.args.reader.now c.next.new.self (or_true (is_order c.args.place.now.name.now) (is_content_name c.args.place.now.name.now) plain)
+    (λ done taken whole. leaf_added c.args.place.now.levels c.args.place.now.path.now c.args.place.now.name.now c.args.parent.now c.put_null.new.self c.args.nodes.now c.args.reader.now c.next.new.self (or_right (is_order c.args.place.now.name.now) (is_content_name c.args.place.now.name.now) plain)
     (record {
       told = null;
       read = λ depth. ap (λ ts. converted of_json (value (suc depth) ts)) first ∙ null_read (suc depth) c.next.new.self;
@@ -59,7 +56,7 @@ add_member-returns-in-Some t c =
     record {
       shorter = on_ok_weaker c.add_property.result (λ h. omega (arith, h, ap length first)) c.add_property.ensures.shorter;
       added = IfOk-weaker c.add_property.result _ _
-          (λ done taken whole. leaf_added c.args.place.now.levels c.args.place.now.path.now c.args.place.now.name.now c.args.parent.now c.add_property.new.parent c.args.nodes.now c.args.reader.now c.add_property.new.reader (or_true (is_order c.args.place.now.name.now) (is_content_name c.args.place.now.name.now) plain) (rw first (taken whole)))
+          (λ done taken whole. leaf_added c.args.place.now.levels c.args.place.now.path.now c.args.place.now.name.now c.args.parent.now c.add_property.new.parent c.args.nodes.now c.args.reader.now c.add_property.new.reader (or_right (is_order c.args.place.now.name.now) (is_content_name c.args.place.now.name.now) plain) (rw first (taken whole)))
           c.add_property.ensures.added;
     }
 

@@ -3,16 +3,17 @@ use Rattle.std.specs.BTreeSet.{contains_by}
 use Rattle.std.specs.Cmp.Lexicographic.{slice_cmp}
 use Rattle.std.specs.List.{list_any}
 use Rattle.std.specs.Str.{bytes_eq}
+use Rattle.std.proofs.lemmas.Bool.{not-true}
 use Rattle.std.proofs.lemmas.List.{drop_all}
 use Rattle.std.proofs.lemmas.Map.Text.{is_eq-slice_cmp}
+use Rattle.sp_base.proofs.TextLemmas.{bytes_eq_swapped}
 use Rattle.serde_json.specs.Data.{string}
 use Rattle.serde_json.specs.View.{items_of}
 use Rattle.content_json.specs.Names.{is_kid}
 use Rattle.content_json.specs.Faults.{names_kids}
 use Rattle.content_json.specs.FromTokens.{texts_in}
 use Rattle.content_json.proofs.ListedLemmas.{texts_here, one_more_listed, others_are}
-use Rattle.content_json.proofs.OrderLemmas.{names_kids-next, or_from_cond, false_from_not}
-use Rattle.content_json.proofs.Under.{bytes_eq_swapped}
+use Rattle.content_json.proofs.OrderLemmas.{names_kids-next, or_from_cond}
 use Rattle.content_json.proofs.open_object.kids_in_order.Goals as goal
 
 pub loop-name-preserved : goal.loop-name-preserved
@@ -26,7 +27,7 @@ loop-name-preserved c =
     let here : texts_in (drop i listed) ≡ name ∷ rest = texts_here listed i none c.loop-name-test.true in
     let names : c.push.new.self ≡ c.loop-name.names ++ name ∷ [] = c.in_ok-push.ensures.ok ∙ ap (λ n. c.loop-name.names ++ n ∷ []) c.in_ok-of.ensures in
     let added = λ (q : List ℕ). c.in_ok-insert.ensures.updates.0 (record { ref_ptr = (0, 0); now = q }) in
-    let new : contains_by (λ k. slice_cmp nat_cmp name k.now) c.loop-name.first ≡ false = false_from_not _ (sym c.in_ok-insert.ensures.added ∙ c.if-not-branch.false) in (
+    let new : contains_by (λ k. slice_cmp nat_cmp name k.now) c.loop-name.first ≡ false = not-true _ (sym c.in_ok-insert.ensures.added ∙ c.if-not-branch.false) in (
       ap (λ ns. ns ++ rest) names ∙ append_assoc c.loop-name.names (name ∷ []) rest ∙ ap (λ ns. c.loop-name.names ++ ns) (sym here) ∙ inv.0,
       λ q. added q ∙ one_more_listed q name c.loop-name.names _ _ (is_eq-slice_cmp name q ∙ bytes_eq_swapped name q) (inv.1 q) ∙ ap (list_any (bytes_eq q)) (sym names),
       λ ms within.

@@ -1,4 +1,5 @@
 use Rattle.std.proofs.Common.{◌≡◌, ◌∷◌, true, false, sym, ap, ◌∙◌, drop, length, ◌<◌, ◌+◌, arith, Some}
+use Rattle.std.proofs.lemmas.Bool.{not-true}
 use Rattle.std.proofs.lemmas.Map.Text.{is_eq-slice_cmp}
 use Rattle.std.specs.List.{list_any}
 use Rattle.std.specs.Str.{bytes_eq}
@@ -6,7 +7,7 @@ use Rattle.serde_json.specs.View.{view, items_view, members_view}
 use Rattle.serde_json.specs.Find.{as_str}
 use Rattle.content_json.specs.Names.{is_kid}
 use Rattle.content_json.specs.Faults.{names_kids}
-use Rattle.content_json.proofs.OrderLemmas.{names_kids-next, or_from_cond, false_from_not, drop_here}
+use Rattle.content_json.proofs.OrderLemmas.{names_kids-next, or_from_cond, drop_here}
 use Rattle.content_json.proofs.order.names_kids.Goals as goal
 
 pub loop-item-preserved : goal.loop-item-preserved
@@ -17,7 +18,7 @@ loop-item-preserved c =
     let i = c.loop-item.item-index in
     let text : as_str (view c.item-item.result) ≡ Some name = sym c.in-Some.ensures in
     let kid : is_kid ms name ≡ true = sym c.is_kid.ensures ∙ c.if-not-is_kid.false in
-    let apart : list_any (λ other. bytes_eq other name) inv.0 ≡ false = sym (inv.2 name) ∙ false_from_not _ (sym c.in_ok-insert.ensures.added ∙ c.if-not-branch.false) in
+    let apart : list_any (λ other. bytes_eq other name) inv.0 ≡ false = sym (inv.2 name) ∙ not-true _ (sym c.in_ok-insert.ensures.added ∙ c.if-not-branch.false) in
     let within : i < length c.args.items.now = omega arith in
     let here : drop i c.args.items.now ≡ c.item-item.result ∷ drop (i + 1) c.args.items.now = drop_here c.args.items.now i c.item-item.result within c.item-item.is in (
       name ∷ inv.0,

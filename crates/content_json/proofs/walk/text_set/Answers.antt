@@ -4,11 +4,11 @@ use Rattle.std.specs.Cmp.Lexicographic.{slice_cmp}
 use Rattle.std.specs.List.{list_any, filter_map, cons_option}
 use Rattle.std.specs.Str.{bytes_eq}
 use Rattle.std.proofs.lemmas.Map.Text.{is_eq-slice_cmp}
+use Rattle.sp_base.proofs.TextLemmas.{bytes_eq_swapped}
 use Rattle.serde_json.specs.Find.{as_str}
 use Rattle.serde_json.specs.View.{view, items_view}
 use Rattle.content_json.specs.Lists.{item_list}
 use Rattle.content_json.proofs.OrderLemmas.{drop_here, moves_over}
-use Rattle.content_json.proofs.Under.{bytes_eq_swapped}
 use Rattle.content_json.proofs.walk.text_set.Goals.{in-Some+in_ok-insert, in_default}
 use Rattle.content_json.proofs.walk.text_set.Goals as goal
 

@@ -1,6 +1,7 @@
 use Rattle.std.proofs.Common.{◌∙◌, ◌++◌, ap, List, ℕ}
 use Rattle.sp_base.specs.Paths.{mangled_seg}
-use Rattle.cover_rules.proofs.WalkLemmas.{IfNone-map, not_after}
+use Rattle.sp_base.proofs.OptionLemmas.{IfNone-map}
+use Rattle.cover_rules.proofs.WalkLemmas.{not_after}
 use Rattle.cover_rules.proofs.walk.strip.Goals as goal
 
 pub returns-in-Some-clause-none : goal.returns-in-Some-clause-none

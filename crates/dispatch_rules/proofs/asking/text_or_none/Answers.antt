@@ -1,15 +1,12 @@
-use Rattle.std.proofs.Common.{◌≡◌, ◌∙◌, Bool, true, false, cond, [], sym, ap}
+use Rattle.std.proofs.Common.{◌∙◌, cond, [], sym, ap}
+use Rattle.std.proofs.lemmas.Bool.{false_from_ne_true}
 use Rattle.std.proofs.lemmas.Str.{IsUtf8-from_is_utf8, is_utf8-from_IsUtf8}
 use Rattle.std.specs.Str.{is_utf8}
 use Rattle.dispatch_rules.proofs.asking.text_or_none.Goals as goal
-
-never : (b : Bool) → (b ≡ true → ⊥) → b ≡ false
-never true h = absurd (h (λ i. true))
-never false h = λ i. false
 
 pub returns-in-Ok : goal.returns-in-Ok
 returns-in-Ok c = c.in-Ok.ensures.cases.0 ∙ sym (ap (λ b. cond b c.args.value.now []) (is_utf8-from_IsUtf8 c.args.value.now c.in-Ok.ensures.cases.1))
 
 pub returns-in-Err : goal.returns-in-Err
 returns-in-Err c =
-    sym (ap (λ b. cond b c.args.value.now []) (never (is_utf8 c.args.value.now) (λ e. c.in-Err.ensures.cases.0 (IsUtf8-from_is_utf8 c.args.value.now e))))
+    sym (ap (λ b. cond b c.args.value.now []) (false_from_ne_true (is_utf8 c.args.value.now) (λ e. c.in-Err.ensures.cases.0 (IsUtf8-from_is_utf8 c.args.value.now e))))

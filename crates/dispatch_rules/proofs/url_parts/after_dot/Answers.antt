@@ -1,7 +1,8 @@
 use Rattle.std.proofs.Common.{◌≡◌, ◌+◌, lit<, ◌∙◌, sym, ap, arith, drop, length, Some, None}
 use Rattle.std.proofs.lemmas.Str.Pattern.{find_char}
+use Rattle.sp_base.proofs.ListLemmas.{drop_past}
 use Rattle.dispatch_rules.specs.UrlParts.{stem}
-use Rattle.dispatch_rules.proofs.CutLemmas.{cut_at, uncut, prefix_length, none_left}
+use Rattle.dispatch_rules.proofs.CutLemmas.{cut_at, uncut, prefix_length}
 use Rattle.dispatch_rules.proofs.url_parts.after_dot.Goals as goal
 
 pub returns-in-Some : goal.returns-in-Some
@@ -14,4 +15,4 @@ pub returns-in-None : goal.returns-in-None
 returns-in-None c =
     let none = uncut 46 c.args.text.now (find_char 46 c.args.text.now None c.in-None.ensures.cases (lit< tt)) in
     let size : length (stem c.args.text.now) ≡ length c.args.text.now = prefix_length 46 c.args.text.now (length c.args.text.now) (omega arith) none in
-    sym (none_left c.args.text.now (length (stem c.args.text.now) + 1) (omega (arith, size)))
+    sym (drop_past c.args.text.now (length (stem c.args.text.now) + 1) (omega (arith, size)))

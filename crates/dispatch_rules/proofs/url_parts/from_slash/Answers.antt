@@ -2,7 +2,8 @@ use Rattle.std.proofs.Common.{◌≡◌, lit<, ◌∙◌, sym, ap, arith, drop, 
 use Rattle.std.specs.List.{before_first}
 use Rattle.std.proofs.lemmas.Str.Pattern.{find_char}
 use Rattle.sp_base.specs.Bytes.{is_slash}
-use Rattle.dispatch_rules.proofs.CutLemmas.{cut_at, uncut, prefix_length, none_left}
+use Rattle.sp_base.proofs.ListLemmas.{drop_past}
+use Rattle.dispatch_rules.proofs.CutLemmas.{cut_at, uncut, prefix_length}
 use Rattle.dispatch_rules.proofs.url_parts.from_slash.Goals as goal
 
 pub returns-in-Some : goal.returns-in-Some
@@ -15,4 +16,4 @@ pub returns-in-None : goal.returns-in-None
 returns-in-None c =
     let none = uncut 47 c.args.text.now (find_char 47 c.args.text.now None c.in-None.ensures.cases (lit< tt)) in
     let size : length (before_first is_slash c.args.text.now) ≡ length c.args.text.now = prefix_length 47 c.args.text.now (length c.args.text.now) (omega arith) none in
-    sym (none_left c.args.text.now (length (before_first is_slash c.args.text.now)) (omega (arith, size)))
+    sym (drop_past c.args.text.now (length (before_first is_slash c.args.text.now)) (omega (arith, size)))

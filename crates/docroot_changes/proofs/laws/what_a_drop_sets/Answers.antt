@@ -1,4 +1,5 @@
 use Rattle.std.proofs.Common.{◌≡◌, Err, inr, refl, ap, option_map, Option, List, Some, None}
+use Rattle.std.proofs.lemmas.Result.{IfErr-weaker}
 use Rattle.sp_outside.specs.Calls.{Call}
 use Rattle.docroot_format.specs.Names.{epoch_name}
 use Rattle.docroot_format.specs.declared.fault.FileFault.TheVariants.{Disk}
@@ -9,14 +10,14 @@ use Rattle.stat_files.specs.Stamps.{stamp_in}
 use Rattle.docroot_changes.specs.Changes.{MayDrop, PageGone, Told}
 use Rattle.docroot_changes.proofs.CountedNames.{drop_names}
 use Rattle.docroot_changes.proofs.KeptHere.{drop_here}
-use Rattle.docroot_changes.proofs.ToldFiles.{if_err, on_ok, told_drop, told_made}
+use Rattle.docroot_changes.proofs.ToldFiles.{on_ok, told_drop, told_made}
 use Rattle.docroot_changes.proofs.laws.what_a_drop_sets.Goals as goal
 
 pub returns-clause-stopped : goal.returns-clause-stopped
 returns-clause-stopped c = λ result asked made before after key page stopped.
     let failed = c.a_failed_drop_leaves_whole_pages.ensures in
     let apart = c.names_are_apart.ensures in
-    if_err result (IsDropLeft asked made before after key) (λ fault. Told (MayDrop key fault) before after)
+    IfErr-weaker result (IsDropLeft asked made before after key) (λ fault. Told (MayDrop key fault) before after)
     (λ fault left.
     told_drop (MayDrop key fault) asked made before after key fault
     (λ old new h.

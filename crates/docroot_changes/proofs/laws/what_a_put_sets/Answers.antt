@@ -1,4 +1,5 @@
 use Rattle.std.proofs.Common.{◌≡◌, Err, inr, refl, ap, subst, option_map, Option, List, Some, None}
+use Rattle.std.proofs.lemmas.Result.{IfErr-weaker}
 use Rattle.sp_outside.specs.Calls.{Call}
 use Rattle.docroot_format.specs.Names.{epoch_name}
 use Rattle.docroot_format.specs.declared.fault.FileFault.TheVariants.{Disk}
@@ -9,14 +10,14 @@ use Rattle.stat_files.specs.Stamps.{stamp_in}
 use Rattle.docroot_changes.specs.Changes.{MayPut, PageSet, Told}
 use Rattle.docroot_changes.proofs.CountedNames.{put_names}
 use Rattle.docroot_changes.proofs.KeptHere.{put_here}
-use Rattle.docroot_changes.proofs.ToldFiles.{if_err, on_ok, told_made, told_put}
+use Rattle.docroot_changes.proofs.ToldFiles.{on_ok, told_made, told_put}
 use Rattle.docroot_changes.proofs.laws.what_a_put_sets.Goals as goal
 
 pub returns-clause-stopped : goal.returns-clause-stopped
 returns-clause-stopped c = λ result asked made before after key stamp answer page put stopped.
     let failed = c.a_failed_put_leaves_whole_pages.ensures in
     let apart = c.names_are_apart.ensures in
-    if_err result (IsPutLeft asked made before after key stamp answer) (λ fault. Told (MayPut key stamp answer fault) before after)
+    IfErr-weaker result (IsPutLeft asked made before after key stamp answer) (λ fault. Told (MayPut key stamp answer fault) before after)
     (λ fault left.
     told_put (MayPut key stamp answer fault) asked made before after key stamp answer fault
     (λ old new h.

@@ -1,4 +1,5 @@
 use Rattle.std.proofs.Common.{◌≡◌, Err, inl, inr, ⊎_elim, refl, sym, ◌∙◌, ap, Some}
+use Rattle.std.proofs.lemmas.Result.{IfErr-weaker}
 use Rattle.docroot_format.specs.Faults.{IsLeftByFault}
 use Rattle.docroot_format.specs.Names.{epoch_name, stat_name}
 use Rattle.docroot_format.specs.Texts.{stat_text}
@@ -9,14 +10,14 @@ use Rattle.stat_files.specs.Stamps.{files_with_stamp, stamp_at, told_with_stamp}
 use Rattle.docroot_changes.specs.Changes.{AddsNames, BesideStamp, MayTouch, StampSet, Told}
 use Rattle.docroot_changes.proofs.CountedNames.{one_file, same_files}
 use Rattle.docroot_changes.proofs.KeptHere.{same_beside, touch_left}
-use Rattle.docroot_changes.proofs.ToldFiles.{if_err, on_ok, told_made, told_touch}
+use Rattle.docroot_changes.proofs.ToldFiles.{on_ok, told_made, told_touch}
 use Rattle.docroot_changes.proofs.laws.what_a_touch_sets.Goals as goal
 
 pub returns-clause-stopped : goal.returns-clause-stopped
 returns-clause-stopped c = λ result before after folder stamp may epoch count stopped.
     let failed = c.a_failed_touch_leaves_the_old_stamp_or_the_new.ensures in
     let text = stat_text stamp in
-    if_err result (IsLeftByFault before (told_with_stamp before folder stamp) after) (λ fault. Told (MayTouch folder stamp fault) before after)
+    IfErr-weaker result (IsLeftByFault before (told_with_stamp before folder stamp) after) (λ fault. Told (MayTouch folder stamp fault) before after)
     (λ fault left.
     told_touch (MayTouch folder stamp fault) before after folder stamp fault
     (λ old new h.

@@ -1,15 +1,17 @@
 use Rattle.std.proofs.Common.{◌≡◌, inl, inr, ⊎_elim, refl, sym, ◌∙◌, ap, arith, subst, option_map, Some, Ok}
+use Rattle.std.proofs.lemmas.Result.{IfErr-weaker}
 use Rattle.std.specs.Prelude.{IfSome, option_and_then, unwrap_or}
 use Rattle.docroot_format.specs.Names.{epoch_name, stat_name}
 use Rattle.docroot_format.specs.Readings.{epoch_of}
 use Rattle.docroot_format.specs.Texts.{epoch_text}
 use Rattle.cache_files.specs.Epochs.{LeftByOpening, after_epoch, epoch_after, IsOpenLeft, files_with_epoch, next_epoch, told_with_epoch}
+use Rattle.cache_files.proofs.NextEpochs.{next_epoch_is_small}
 use Rattle.stat_files.specs.Stamps.{stamp_in}
 use Rattle.docroot_changes.specs.Changes.{AddsNames, BesideNumber, IsNextNumber, MayOpen, NumberSet, Told}
 use Rattle.docroot_changes.proofs.CountedNames.{number_again, one_file, same_files}
 use Rattle.docroot_changes.proofs.KeptHere.{same_number}
-use Rattle.docroot_changes.proofs.NextNumber.{fits_next, next_more}
-use Rattle.docroot_changes.proofs.ToldFiles.{if_err, if_ok, told_open, told_when}
+use Rattle.docroot_changes.proofs.NextNumber.{next_more}
+use Rattle.docroot_changes.proofs.ToldFiles.{if_ok, told_open, told_when}
 use Rattle.docroot_changes.proofs.laws.what_an_opening_sets.Goals as goal
 
 pub returns-clause-opened : goal.returns-clause-opened
@@ -21,7 +23,7 @@ returns-clause-opened c = λ result before after counted written.
     let named = c.files_have_names.ensures in
     let text = epoch_text epoch in
     let more = next_more old epoch next in
-    let read = c.texts_are_read_back.ensures.epoch epoch (omega (arith, more)) (fits_next old epoch c.what_reads_is_its_text.ensures.fits next) in
+    let read = c.texts_are_read_back.ensures.epoch epoch (omega (arith, more)) (next_epoch_is_small old epoch c.what_reads_is_its_text.ensures.fits next) in
     record {
       here = record {
         held = ap (λ found. unwrap_or (option_and_then epoch_of found) 0) (named.written old epoch_name text) ∙ ap (λ r. unwrap_or r 0) read;
@@ -39,7 +41,7 @@ returns-clause-opened c = λ result before after counted written.
 
 pub returns-clause-stopped : goal.returns-clause-stopped
 returns-clause-stopped c = λ result asked made before after stopped.
-    if_err result (IsOpenLeft asked made before after) (λ fault. Told (MayOpen fault) before after)
+    IfErr-weaker result (IsOpenLeft asked made before after) (λ fault. Told (MayOpen fault) before after)
     (λ fault left.
     told_open (MayOpen fault) asked made before after fault
     (λ old new h.

@@ -1,15 +1,15 @@
 use Rattle.std.proofs.Common.{◌≡◌, Option, Some, ◌∙◌}
 use Rattle.docroot_changes.specs.Changes.{Told}
+use Rattle.docroot_changes.proofs.MadeCalls.{makes_more}
 use Rattle.front.specs.Clearings.{ClearsFiles, HasNoneBetween, is_of_kind}
 use Rattle.front.proofs.ClearingLemmas.{ClearsUpTo, Relation, told-both, told-then, up-to-next}
-use Rattle.front.proofs.UseLemmas.{calls-then}
 use Rattle.front.proofs.clearing.clear.Goals as goal
 
 pub returns-in_err-next-clause-calls : goal.returns-in_err-next-clause-calls
-returns-in_err-next-clause-calls g c = calls-then _ _ _ c.loop-last.invariant.calls c.clear_next.ensures.calls
+returns-in_err-next-clause-calls g c = makes_more _ _ _ c.loop-last.invariant.calls c.clear_next.ensures.calls
 
 pub returns-clause-calls : goal.returns-clause-calls
-returns-clause-calls g c = calls-then _ _ _ c.loop-last.invariant.calls c.clear_next.ensures.calls
+returns-clause-calls g c = makes_more _ _ _ c.loop-last.invariant.calls c.clear_next.ensures.calls
 
 pub loop-last-preserved : goal.loop-last-preserved
 loop-last-preserved g c =
@@ -27,5 +27,5 @@ loop-last-preserved g c =
       cleared = told-then (ClearsUpTo kind last) step (ClearsUpTo kind next) start before after (λ a b d. up-to-next kind last next a b d) c.loop-last.invariant.cleared one;
       fits = near.fits;
       faults = c.in_ok-next.ensures.cause ∙ c.loop-last.invariant.faults;
-      calls = calls-then _ _ _ c.loop-last.invariant.calls c.clear_next.ensures.calls;
+      calls = makes_more _ _ _ c.loop-last.invariant.calls c.clear_next.ensures.calls;
     }

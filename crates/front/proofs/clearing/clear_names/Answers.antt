@@ -1,13 +1,13 @@
 use Rattle.std.proofs.Common.{◌≡◌, ◌+◌, None, sym, ◌∙◌, ap, get_or}
 use Rattle.std.specs.Prelude.{IsTrue}
 use Rattle.sp_outside.specs.Files.{file_at}
+use Rattle.docroot_changes.proofs.MadeCalls.{makes_more}
 use Rattle.front.specs.Clearings.{ClearsFiles, is_of_kind}
 use Rattle.front.proofs.ClearingLemmas.{ClearsTo, Relation, clears-to-more, told-both, told-then}
-use Rattle.front.proofs.UseLemmas.{calls-then}
 use Rattle.front.proofs.clearing.clear_names.Goals as goal
 
 pub returns-in_err-clear_name-clause-calls : goal.returns-in_err-clear_name-clause-calls
-returns-in_err-clear_name-clause-calls g c = calls-then _ _ _ c.loop-name.invariant.calls c.clear_name.ensures.calls
+returns-in_err-clear_name-clause-calls g c = makes_more _ _ _ c.loop-name.invariant.calls c.clear_name.ensures.calls
 
 pub loop-name-preserved : goal.loop-name-preserved
 loop-name-preserved g c =
@@ -23,5 +23,5 @@ loop-name-preserved g c =
     record {
       cleared = told-then (ClearsTo kind names i) step (ClearsTo kind names (i + 1)) start before after (λ a b d. clears-to-more kind names i name c.loop-name-test.true (ap (get_or names i) c.text.ensures ∙ sym c.name-item.is ∙ sym c.text.ensures) a b d) c.loop-name.invariant.cleared one;
       faults = c.in_ok-clear_name.ensures.cause ∙ c.loop-name.invariant.faults;
-      calls = calls-then _ _ _ c.loop-name.invariant.calls c.clear_name.ensures.calls;
+      calls = makes_more _ _ _ c.loop-name.invariant.calls c.clear_name.ensures.calls;
     }

@@ -3,25 +3,26 @@ use Rattle.std.specs.Prelude.{Contains, IfSome, IsUtf8, is_ok}
 use Rattle.sp_outside.specs.Calls.{Names}
 use Rattle.sp_outside.specs.Files.{IsListing, names_after}
 use Rattle.docroot_changes.specs.Changes.{Told}
+use Rattle.docroot_changes.proofs.MadeCalls.{makes_more}
 use Rattle.front.specs.Clearings.{ClearsFiles, HasNoneAmong, HasNoneBetween, is_of_kind}
 use Rattle.front.proofs.ClearingLemmas.{Relation, cleared-between, listed, nearer, not-full, told-both, told-known}
-use Rattle.front.proofs.UseLemmas.{calls-one, calls-then}
+use Rattle.front.proofs.UseLemmas.{calls-one}
 use Rattle.front.proofs.clearing.clear_next.Goals as goal
 
 pub returns-in_err-names-clause-calls : goal.returns-in_err-names-clause-calls
 returns-in_err-names-clause-calls g c = calls-one _ _ (Names [] c.text.result.now 256 (is_ok c.list.result)) (inl refl) c.list.ensures.made
 
 pub returns-in_err-clear_names-clause-calls : goal.returns-in_err-clear_names-clause-calls
-returns-in_err-clear_names-clause-calls g c = calls-then _ _ _ (calls-one _ _ (Names [] c.text.result.now 256 (is_ok c.list.result)) (inl refl) c.list.ensures.made) c.clear_names.ensures.calls
+returns-in_err-clear_names-clause-calls g c = makes_more _ _ _ (calls-one _ _ (Names [] c.text.result.now 256 (is_ok c.list.result)) (inl refl) c.list.ensures.made) c.clear_names.ensures.calls
 
 pub returns-in_err-duplicate-in-Some-clause-calls : goal.returns-in_err-duplicate-in-Some-clause-calls
-returns-in_err-duplicate-in-Some-clause-calls g c = calls-then _ _ _ (calls-one _ _ (Names [] c.text.result.now 256 (is_ok c.list.result)) (inl refl) c.list.ensures.made) c.clear_names.ensures.calls
+returns-in_err-duplicate-in-Some-clause-calls g c = makes_more _ _ _ (calls-one _ _ (Names [] c.text.result.now 256 (is_ok c.list.result)) (inl refl) c.list.ensures.made) c.clear_names.ensures.calls
 
 pub returns-in-Some-clause-calls : goal.returns-in-Some-clause-calls
-returns-in-Some-clause-calls g c = calls-then _ _ _ (calls-one _ _ (Names [] c.text.result.now 256 (is_ok c.list.result)) (inl refl) c.list.ensures.made) c.clear_names.ensures.calls
+returns-in-Some-clause-calls g c = makes_more _ _ _ (calls-one _ _ (Names [] c.text.result.now 256 (is_ok c.list.result)) (inl refl) c.list.ensures.made) c.clear_names.ensures.calls
 
 pub returns-clause-calls : goal.returns-clause-calls
-returns-clause-calls g c = calls-then _ _ _ (calls-one _ _ (Names [] c.text.result.now 256 (is_ok c.list.result)) (inl refl) c.list.ensures.made) c.clear_names.ensures.calls
+returns-clause-calls g c = makes_more _ _ _ (calls-one _ _ (Names [] c.text.result.now 256 (is_ok c.list.result)) (inl refl) c.list.ensures.made) c.clear_names.ensures.calls
 
 pub returns-in-Some-clause-none : goal.returns-in-Some-clause-none
 returns-in-Some-clause-none g c =

@@ -1,8 +1,9 @@
 use Rattle.std.proofs.Common.{◌≤◌, length, subst, arith}
 use Rattle.std.proofs.lemmas.List.{take_all}
+use Rattle.sp_base.proofs.ListLemmas.{no_place}
 use Rattle.property_json.specs.PropertyJson.{property_tokens}
 use Rattle.get_servlet.specs.Steps.{bytes_in}
-use Rattle.get_servlet.proofs.BytesLemmas.{property_more, no_place}
+use Rattle.get_servlet.proofs.BytesLemmas.{property_more}
 use Rattle.get_servlet.proofs.lengths.properties_bytes.Goals as goal
 use Rattle.get_servlet.proofs.lengths.properties_bytes.Goals.{in-Some, in_default}
 

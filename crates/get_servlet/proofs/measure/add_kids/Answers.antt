@@ -1,8 +1,8 @@
 use Rattle.std.proofs.Common.{◌+◌, ◌++◌, length, take, sym, ◌∙◌, ap, arith, append_assoc, append-nil, length-append}
+use Rattle.sp_base.proofs.ListLemmas.{take_more_of}
 use Rattle.get_servlet.specs.Rendering.{shown_kid}
 use Rattle.get_servlet.specs.Steps.{kid_list, kids_under, shown_kids}
 use Rattle.get_servlet.proofs.CountLemmas.{kids_under-nil, kids_under-more, kids_under-taken}
-use Rattle.get_servlet.proofs.WritingLemmas.{name_more}
 use Rattle.get_servlet.proofs.measure.add_kids.Goals as goal
 
 pub loop-name-init : goal.loop-name-init
@@ -34,7 +34,7 @@ loop-name-preserved g c =
     let res = c.args.res.now in
     let level = c.args.level.now.items in
     let i = c.loop-name.name-index in
-    let more = name_more c.kids-name-items.result.now res.kids i c.name-item.result c.kids-name-items.ensures (omega arith) c.name-item.is in
+    let more = take_more_of c.kids-name-items.result.now res.kids i c.name-item.result c.kids-name-items.ensures (omega arith) c.name-item.is in
     let first = kids_under seen path res (take i res.kids) in
     let kid = kid_list (shown_kid seen path res c.text.result.now) in
     c.in_ok-add_kid.ensures ∙ ap (λ kids. kids ++ kid) c.loop-name.invariant ∙ append_assoc level first kid

@@ -1,11 +1,12 @@
 use Rattle.std.proofs.Common.{◌≡◌, ◌+◌, ◌-◌, ◌≤◌, List, ℕ, Option, Some, IfOk, length, take, subst, sym, ◌∙◌, ap, arith}
 use Rattle.std.proofs.lemmas.List.{take_all}
 use Rattle.std.proofs.lemmas.Result.{IfOk-weaker}
+use Rattle.sp_base.proofs.ListLemmas.{take_more_of}
 use Rattle.json.specs.Tree.{json_tokens}
 use Rattle.get_servlet.specs.Rendering.{shown_kid, resource_json}
 use Rattle.get_servlet.specs.Steps.{kid_member_tokens, kids_tokens, below_tokens, bytes_in, Spends}
 use Rattle.property_json.specs.PropertyJson.{property_tokens}
-use Rattle.get_servlet.proofs.WritingLemmas.{no_room, no_room_below, object_written, kid_no_room, kid_written, below_none, below_some, kids_tokens-nil, nothing_written, name_more, kids_more, kids_taken, more_spent, none_spent}
+use Rattle.get_servlet.proofs.WritingLemmas.{no_room, no_room_below, object_written, kid_no_room, kid_written, below_none, below_some, kids_tokens-nil, nothing_written, kids_more, kids_taken, more_spent, none_spent}
 use Rattle.get_servlet.proofs.writing.+writing.Goals as goal
 
 pub write_member-returns-in_default : goal.write_member-returns-in_default
@@ -51,7 +52,7 @@ write_kids-returns-in_default g t c =
     let new = c.write_kid.new.writer in
     let ts = kid_member_tokens text (resource_json seen depth) (shown_kid seen path res text) in
     let first = kids_tokens seen depth path res (take i names) in
-    let more = name_more c.kids-name-items.result.now names i c.name-item.result c.kids-name-items.ensures (omega arith) c.name-item.is in
+    let more = take_more_of c.kids-name-items.result.now names i c.name-item.result c.kids-name-items.ensures (omega arith) c.name-item.is in
     let tokens = kids_more seen depth path res (take i names) (take (i + 1) names) c.name-item.result text more c.text.ensures in
     let over = subst (λ (o : Option ℕ). Spends c.loop-name.left o mid new ts) c.in_default.is c.in_ok-rest.ensures in
     let below = below_some seen c.args.bounds.depth depth path res (omega (arith, c.if-bounds-eq0.false)) in
@@ -70,7 +71,7 @@ write_kids-loop-name-preserved g t c =
     let new = c.write_kid.new.writer in
     let ts = kid_member_tokens text (resource_json seen depth) (shown_kid seen path res text) in
     let first = kids_tokens seen depth path res (take i names) in
-    let more = name_more c.kids-name-items.result.now names i c.name-item.result c.kids-name-items.ensures (omega arith) c.name-item.is in
+    let more = take_more_of c.kids-name-items.result.now names i c.name-item.result c.kids-name-items.ensures (omega arith) c.name-item.is in
     let tokens = kids_more seen depth path res (take i names) (take (i + 1) names) c.name-item.result text more c.text.ensures in
     let spent = subst (λ (o : Option ℕ). Spends c.loop-name.left o mid new ts) c.in-Some.is c.in_ok-rest.ensures in
     subst (Spends c.args.bounds.room (Some c.in-Some.rest) c.args.writer.now new) (sym tokens)

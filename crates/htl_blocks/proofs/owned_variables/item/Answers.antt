@@ -2,8 +2,9 @@ use Rattle.std.proofs.Common.{◌≡◌, ◌∙◌, List, ℕ, Some, ap, sym, su
 use Rattle.htl_expr.specs.Bindings.{with_vars}
 use Rattle.htl_expr.specs.Value.{list_in}
 use Rattle.htl_expr.specs.Variables.{lent_pairs}
+use Rattle.htl_expr.proofs.VariableLemmas.{pairs_are}
 use Rattle.htl_blocks.specs.Written.{statement_value}
-use Rattle.htl_blocks.proofs.WrittenLemmas.{item_listed, none_listed, pairs_are}
+use Rattle.htl_blocks.proofs.WrittenLemmas.{item_listed, none_listed}
 use Rattle.htl_blocks.proofs.owned_variables.item.Goals as goal
 
 pub returns-in-Some-2-clause-item : goal.returns-in-Some-2-clause-item

@@ -1,26 +1,21 @@
 use Rattle.std.proofs.Common.{◌≡◌, ℕ, Bool, true, false, eqb, nat_eq, List, [], ◌∷◌, ◌++◌, codes, Option, Some, None, refl, ap, sym, ◌∙◌}
 use Rattle.std.specs.List.{starts_with}
 use Rattle.std.specs.Cmp.Lexicographic.{pointwise}
+use Rattle.std.proofs.lemmas.Bool.{eqb-true}
 use Rattle.std.proofs.lemmas.Result.{IfOk-weaker}
+use Rattle.sp_base.proofs.BoolLemmas.{and_first, and_second}
+use Rattle.sp_base.proofs.TextLemmas.{text_is}
 use Rattle.htl_syntax.specs.Tokens.{begins}
 use Rattle.htl_blocks.specs.declared.statement.Statement.{Statement}
 use Rattle.htl_blocks.specs.declared.statement.Statement.TheVariants as statement
 use Rattle.htl_blocks.specs.Attributes.{statement_of, list_statement, is_variable}
-use Rattle.htl_blocks.proofs.Tags.{and_left, and_right, byte_is}
 use Rattle.htl_blocks.proofs.value.statement_of.Goals as goal
-
--- two texts with the same bytes
-same_text : (a b : List ℕ) → pointwise nat_eq a b ≡ true → a ≡ b
-same_text [] [] e = refl
-same_text [] (d ∷ b) e = absurd cc
-same_text (c ∷ a) [] e = absurd cc
-same_text (c ∷ a) (d ∷ b) e = ap (λ (t : List ℕ). c ∷ t) (same_text a b (and_right (eqb c d) (pointwise nat_eq a b) e)) ∙ ap (λ (n : ℕ). n ∷ b) (byte_is c d (and_left (eqb c d) (pointwise nat_eq a b) e))
 
 not_same : (a b : List ℕ) → (a ≡ b → ⊥) → pointwise nat_eq a b ≡ false
 not_same a b apart = go (pointwise nat_eq a b) refl
   where
     go : (x : Bool) → pointwise nat_eq a b ≡ x → x ≡ false
-    go true e = absurd (apart (same_text a b e))
+    go true e = absurd (apart (text_is a b e))
     go false e = refl
 
 -- a text that begins with another goes on after it
@@ -28,8 +23,8 @@ begins_with : (a b : List ℕ) → starts_with nat_eq a b ≡ true → (rest : L
 begins_with a [] e = (a, refl)
 begins_with [] (d ∷ b) e = absurd cc
 begins_with (c ∷ a) (d ∷ b) e =
-    let more = begins_with a b (and_right (eqb d c) (starts_with nat_eq a b) e) in
-    (more.0, ap (λ (t : List ℕ). c ∷ t) more.1 ∙ ap (λ (n : ℕ). n ∷ (b ++ more.0)) (sym (byte_is d c (and_left (eqb d c) (starts_with nat_eq a b) e))))
+    let more = begins_with a b (and_second (eqb d c) (starts_with nat_eq a b) e) in
+    (more.0, ap (λ (t : List ℕ). c ∷ t) more.1 ∙ ap (λ (n : ℕ). n ∷ (b ++ more.0)) (sym (eqb-true d c (and_first (eqb d c) (starts_with nat_eq a b) e))))
 
 no_beginning : (a b : List ℕ) → ((rest : List ℕ) → a ≡ b ++ rest → ⊥) → starts_with nat_eq a b ≡ false
 no_beginning a b apart = go (starts_with nat_eq a b) refl

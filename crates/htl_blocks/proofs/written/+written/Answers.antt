@@ -2,13 +2,14 @@ use Rattle.std.proofs.Common.{◌<◌, ◌∷◌, [], ◌∙◌, List, ℕ, leng
 use Rattle.std.specs.List.{flat_map}
 use Rattle.htl_expr.specs.Bindings.{Bindings, with_vars}
 use Rattle.htl_expr.specs.Variables.{vars_of}
+use Rattle.htl_expr.proofs.VariableLemmas.{with_one}
 use Rattle.htl_blocks.specs.Places.{seen_at}
 use Rattle.htl_blocks.specs.declared.block.Block.{Block}
 use Rattle.htl_blocks.specs.declared.piece.Round.{Round as RoundOf}
 use Rattle.htl_blocks.specs.Parts.{Round}
 use Rattle.htl_blocks.specs.Sheets.{Stops}
 use Rattle.htl_blocks.specs.Written.{block_parts, blocks_parts, body_parts, round_parts}
-use Rattle.htl_blocks.proofs.WrittenLemmas.{each_stopped, inner_place, item_is, place_stays, round_item, round_written, same_scope, with_one}
+use Rattle.htl_blocks.proofs.WrittenLemmas.{each_stopped, inner_place, item_is, place_stays, round_item, round_written, same_scope}
 use Rattle.htl_blocks.proofs.ElementSteps.{repeated_some, tags_written, tags_stop, between_stops, block_element}
 use Rattle.htl_blocks.proofs.written.+written.Goals as goal
 

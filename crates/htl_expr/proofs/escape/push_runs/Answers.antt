@@ -1,6 +1,7 @@
 use Rattle.std.proofs.Common.{sym, rules, arith}
 use Rattle.std.proofs.lemmas.Result.{err_from_is_err_and}
-use Rattle.htl_expr.proofs.EscapeLemmas.{run_boundary, run_ends, run_goes_on, run_stops_at, reference_stops_at, marked, drop_less}
+use Rattle.sp_base.proofs.ListLemmas.{rest_short}
+use Rattle.htl_expr.proofs.EscapeLemmas.{run_boundary, run_ends, run_goes_on, run_stops_at, reference_stops_at, marked}
 use Rattle.htl_expr.proofs.Writing.{begins_more}
 use Rattle.htl_expr.proofs.escape.push_runs.Goals as goal
 
@@ -36,7 +37,7 @@ pub loop-reference-smaller : goal.loop-reference-smaller
 loop-reference-smaller c =
     let some = sym c.in-Some.ensures in
     let less = (marked c.split_at.result.1.now c.in-Some.reference.now (rw c.as_bytes-in-loop-reference.ensures.value at some)).less in
-    let most = drop_less c.reference_place.result c.loop-reference.rest.now c.split_at.result.1.now c.split_at.ensures.back in
+    let most = rest_short c.reference_place.result c.loop-reference.rest.now c.split_at.result.1.now c.split_at.ensures.back in
     rw c.tail-rest.ensures (omega (arith, less, most))
 
 pub loop-reference-preserved : goal.loop-reference-preserved

@@ -1,7 +1,7 @@
 use Rattle.std.proofs.Common.{sym}
 use Rattle.std.proofs.lemmas.Str.{IsCharBoundary-after_ascii}
-use Rattle.htl_expr.proofs.EscapeLemmas.{some_of}
+use Rattle.sp_base.proofs.ListLemmas.{some_from_test}
 use Rattle.htl_expr.proofs.escape.tail.Goals as goal
 
 pub split_at-requires : goal.split_at-requires
-split_at-requires c = IsCharBoundary-after_ascii c.args.text.now 0 c.utf8.text (some_of c.args.text.now (sym c.if-is_empty.ensures)) c.requires
+split_at-requires c = IsCharBoundary-after_ascii c.args.text.now 0 c.utf8.text (some_from_test c.args.text.now (sym c.if-is_empty.ensures)) c.requires

@@ -1,5 +1,6 @@
 use Rattle.std.proofs.Common.{sym, rules, arith}
-use Rattle.htl_text.proofs.Steps.{plain_boundary, plain_is, stops_is, less_is, escape, escape_is, escape_less, opens_first, opens_second}
+use Rattle.sp_base.proofs.ListLemmas.{rest_short}
+use Rattle.htl_text.proofs.Steps.{plain_boundary, plain_is, stops_is, escape, escape_is, escape_less, opens_first, opens_second}
 use Rattle.htl_text.proofs.scan.plain.Goals as goal
 
 pub split_at-requires : goal.split_at-requires
@@ -36,7 +37,7 @@ pub loop-plain-smaller : goal.loop-plain-smaller
 loop-plain-smaller c =
     let there = sym c.if-not-escapes.ensures in
     let less = escape_less c.split_at.result.1.now (rw c.as_bytes-in-loop-plain.ensures.value at there) in
-    let most = less_is c.plain_len.result c.loop-plain.rest.now c.split_at.result.1.now c.split_at.ensures.back in
+    let most = rest_short c.plain_len.result c.loop-plain.rest.now c.split_at.result.1.now c.split_at.ensures.back in
     rw (c.tail-rest.ensures, c.tail-in-loop-plain.ensures, c.tail.ensures) (omega (arith, less, most))
 
 pub loop-plain-preserved : goal.loop-plain-preserved
@@ -44,7 +45,7 @@ loop-plain-preserved c =
     let there = sym c.if-not-escapes.ensures in
     let escapes = rw c.as_bytes-in-loop-plain.ensures.value at there in
     let less = escape_less c.split_at.result.1.now escapes in
-    let most = less_is c.plain_len.result c.loop-plain.rest.now c.split_at.result.1.now c.split_at.ensures.back in
+    let most = rest_short c.plain_len.result c.loop-plain.rest.now c.split_at.result.1.now c.split_at.ensures.back in
     let same =
     plain_is c.plain_len.result _ _ _ _ c.loop-plain.rest.now c.args.text.now (rw c.as_bytes.ensures.value at c.plain_len.ensures) c.split_at.ensures.front c.split_at.ensures.back c.in_ok-push_str.ensures.bytes c.loop-plain.invariant.2 in
     let more = escape_is _ _ c.split_at.result.1.now c.args.text.now escapes c.in_ok-push_str-2.ensures.bytes same in

@@ -1,6 +1,5 @@
 use Rattle.std.proofs.Common.{◌≤◌, length, sym, arith}
-use Rattle.std.proofs.lemmas.List.{length-take-le}
-use Rattle.http_front.proofs.TurnLemmas.{take_whole}
+use Rattle.std.proofs.lemmas.List.{length-take-le, take_all}
 use Rattle.http_front.proofs.window.window.Goals as goal
 
 pub slice_bounds-result-end : goal.slice_bounds-result-end
@@ -9,4 +8,4 @@ slice_bounds-result-end c =
 
 pub returns-else-stream-gt-LONGEST_HEAD : goal.returns-else-stream-gt-LONGEST_HEAD
 returns-else-stream-gt-LONGEST_HEAD c =
-    let few : length c.args.stream.now ≤ 16384 = omega (arith, c.if-stream-gt-LONGEST_HEAD.false) in sym (take_whole 16384 c.args.stream.now few)
+    let few : length c.args.stream.now ≤ 16384 = omega (arith, c.if-stream-gt-LONGEST_HEAD.false) in sym (take_all 16384 c.args.stream.now few)

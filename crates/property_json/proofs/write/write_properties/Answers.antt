@@ -1,9 +1,10 @@
 use Rattle.std.proofs.Common.{sym, subst, arith}
-use Rattle.property_json.proofs.ArrayLemmas.{property_more, no_place, all_more, all_taken}
+use Rattle.property_json.proofs.ArrayLemmas.{property_more, all_more, all_taken}
 use Rattle.property_json.specs.PropertyJson.{has_longs, Adds, property_tokens}
 use Rattle.std.proofs.Common.{take, length, ℕ, List, ◌+◌, ◌≤◌}
 use Rattle.std.proofs.lemmas.List.{take_all}
 use Rattle.sp_base.specs.declared.value.Value.{Value}
+use Rattle.sp_base.proofs.ListLemmas.{no_place}
 use Rattle.std.proofs.lemmas.Option.{slice_get_within, get_or_from_slice_get}
 use Rattle.property_json.proofs.write.write_properties.Goals as goal
 use Rattle.property_json.proofs.write.write_properties.Goals.{in-Some+in_ok-key+in_ok-write_value, in_default}

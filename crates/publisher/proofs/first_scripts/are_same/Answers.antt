@@ -1,6 +1,6 @@
 use Rattle.std.proofs.Common.{◌∙◌, sym}
-use Rattle.publisher.proofs.FirstLemmas.{texts_equal}
+use Rattle.sp_base.proofs.TextLemmas.{segments_are}
 use Rattle.publisher.proofs.first_scripts.are_same.Goals as goal
 
 pub returns : goal.returns
-returns c = λ same. texts_equal c.args.own.now c.args.texts.now (sym c.eq.ensures ∙ same)
+returns c = λ same. segments_are c.args.own.now c.args.texts.now (sym c.eq.ensures ∙ same)

@@ -4,8 +4,8 @@ use Rattle.std.proofs.lemmas.List.Filters.{dedup_is}
 use Rattle.std.proofs.lemmas.List.Kept.{IsStrictlySortedBy-dedup}
 use Rattle.std.proofs.lemmas.List.Sorted.{list_any-IsPermutation}
 use Rattle.sp_base.specs.Paths.{by_path}
+use Rattle.sp_base.proofs.OrderingLemmas.{by_path_total}
 use Rattle.resource_tree.specs.Content.{same_path}
-use Rattle.resource_tree.proofs.PathLemmas.{by_path_total}
 use Rattle.script_rank.specs.Index.{has_path}
 use Rattle.script_rank.proofs.ListedLemmas.{each_once}
 use Rattle.script_rank.proofs.listed.sort_once.Goals as goal

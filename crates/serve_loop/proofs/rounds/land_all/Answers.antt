@@ -1,7 +1,7 @@
 use Rattle.std.proofs.Common.{◌∙◌, refl}
+use Rattle.sp_base.proofs.ResultLemmas.{OnErr-from}
 use Rattle.front.specs.Boards.{at_disk}
 use Rattle.serve_loop.specs.Steps.{server_at}
-use Rattle.serve_loop.proofs.ResultLemmas.{on_err}
 use Rattle.serve_loop.proofs.RoundLemmas.{all_landed, first_is_left, landings_cut, none_is_left, none_landed_yet, none_said, one_more_landed, some_said}
 use Rattle.serve_loop.proofs.rounds.land_all.Goals as goal
 
@@ -20,7 +20,7 @@ returns-then-is_none-clause-ok g c w serving h =
 pub returns-in_err-land_first-clause-err : goal.returns-in_err-land_first-clause-err
 returns-in_err-land_first-clause-err g c =
     let mid = server_at g.R.Renderer.publishing (g.R.Renderer.content c.loop-round.front.renderer) (at_disk c.loop-round.front.board (g.D.Disk.files c.loop-round.disk) (g.D.Disk.faults c.loop-round.disk)) (g.W.World.log c.loop-round.world) (g.W.World.send_faults c.loop-round.world) in
-    on_err c.from_residual.result
+    OnErr-from c.from_residual.result
     (λ w serving h.
     let l = c.loop-round.invariant.lands w serving h in
     landings_cut _ mid _ c.loop-round.round w l (first_is_left l.left.flights _ (c.unrendered.ensures _ _ _ l.left l.serving.serves.stands) (some_said c.unrendered.result c.is_none.result c.is_none.ensures c.if-is_none.false) l.unrendered) c.in_err-land_first.ensures.err)

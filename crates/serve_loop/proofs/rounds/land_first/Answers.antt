@@ -1,6 +1,6 @@
+use Rattle.std.proofs.lemmas.Result.{on_err_weaker, on_ok_weaker}
 use Rattle.front.specs.Boards.{at_disk}
 use Rattle.serve_loop.specs.Steps.{server_at}
-use Rattle.serve_loop.proofs.ResultLemmas.{on_err_then, on_ok_then}
 use Rattle.serve_loop.proofs.RoundLemmas.{FlightLaws, first_landed, first_rendered, landing_cut}
 use Rattle.serve_loop.proofs.rounds.land_first.Goals as goal
 
@@ -13,7 +13,7 @@ returns-clause-ok g c =
       unrendered = c.rounds_take_flights_out_of_the_air.ensures.unrendered;
     } in
     let mid = server_at g.R.Renderer.publishing (g.R.Renderer.content c.make.new.front.renderer) (at_disk c.make.new.front.board (g.D.Disk.files c.make.new.disk) (g.D.Disk.faults c.make.new.disk)) (g.W.World.log c.make.new.world) (g.W.World.send_faults c.make.new.world) in
-    on_ok_then c.make-2.result
+    on_ok_weaker c.make-2.result
     (λ delivers w flying later serving flights unrendered. first_landed laws _ mid _ w flying later (first_rendered laws _ mid w flying later c.in_ok-make.ensures.ok serving flights unrendered) delivers)
     c.make-2.ensures.ok
 
@@ -26,7 +26,7 @@ returns-clause-err g c =
       unrendered = c.rounds_take_flights_out_of_the_air.ensures.unrendered;
     } in
     let mid = server_at g.R.Renderer.publishing (g.R.Renderer.content c.make.new.front.renderer) (at_disk c.make.new.front.board (g.D.Disk.files c.make.new.disk) (g.D.Disk.faults c.make.new.disk)) (g.W.World.log c.make.new.world) (g.W.World.send_faults c.make.new.world) in
-    on_err_then c.make-2.result
+    on_err_weaker c.make-2.result
     (λ cuts w flying later serving flights unrendered. landing_cut _ mid _ w flying later (first_rendered laws _ mid w flying later c.in_ok-make.ensures.ok serving flights unrendered) cuts)
     c.make-2.ensures.err
 

@@ -1,4 +1,4 @@
-use Rattle.serve_loop.proofs.ResultLemmas.{on_err_then, on_ok_then}
+use Rattle.std.proofs.lemmas.Result.{on_err_weaker, on_ok_weaker}
 use Rattle.serve_loop.proofs.RoundLemmas.{FlightLaws, no_slice, slice_cut, slice_ends}
 use Rattle.serve_loop.proofs.rounds.purge_once.Goals as goal
 
@@ -10,13 +10,13 @@ returns-then-purging-clause-ok g c =
       same = c.rounds_take_flights_out_of_the_air.ensures.same;
       unrendered = c.rounds_take_flights_out_of_the_air.ensures.unrendered;
     } in
-    on_ok_then c.make.result
+    on_ok_weaker c.make.result
     (λ purges w serving none. slice_ends laws _ _ w purges serving none (c.purging.ensures.some _ _ _ w serving.serves.stands c.if-purging.true))
     c.make.ensures.ok
 
 pub returns-then-purging-clause-err : goal.returns-then-purging-clause-err
 returns-then-purging-clause-err g c =
-    on_err_then c.make.result
+    on_err_weaker c.make.result
     (λ cuts w serving none. slice_cut _ _ w cuts serving none (c.purging.ensures.some _ _ _ w serving.serves.stands c.if-purging.true))
     c.make.ensures.err
 

@@ -1,14 +1,15 @@
 use Rattle.std.proofs.Common.{rules, ◌≡◌, ◌∙◌, ◌++◌, Err, length, ap, sym, subst, take, arith, refl}
+use Rattle.std.proofs.lemmas.List.{nil_from_length}
 use Rattle.sp_outside.specs.Told.{held_after}
 use Rattle.sp_outside.specs.Causes.{HasSinkCause}
+use Rattle.sockets.proofs.Giving.{held_after-nil}
 use Rattle.sling_dispatch.specs.Endings.{Nothing}
 use Rattle.sling_dispatch.specs.Reports.{report_of}
 use Rattle.sling_dispatch.specs.InnerEndings.{PlaysAll}
 use Rattle.sling_dispatch.specs.declared.ending.Ending.TheVariants.{Done, NoMemory}
-use Rattle.sling_dispatch.proofs.Writing.{added-nothing}
 use Rattle.sling_dispatch.specs.Fronts.{IsNext}
 use Rattle.sling_dispatch.specs.Runs.{asked_publisher_host}
-use Rattle.sling_dispatch.proofs.Sessions.{Played, broken_off, next_shorter, no_bytes, played_all, played_next, played_none, played_sent, played_stopped, told_from}
+use Rattle.sling_dispatch.proofs.Sessions.{Played, broken_off, next_shorter, played_all, played_next, played_none, played_sent, played_stopped, told_from}
 use Rattle.sling_dispatch.proofs.play.play.Goals as goal
 
 pub loop-rest-init : goal.loop-rest-init
@@ -47,7 +48,7 @@ loop-rest-preserved g c =
     }
 
 pub returns-in_default : goal.returns-in_default
-returns-in_default g c = λ s same reads farm_reads. (record { writing = Nothing; due = tt; wrote = (0, sym (added-nothing (g.K.Sink.held c.args.sink.now))) }, refl)
+returns-in_default g c = λ s same reads farm_reads. (record { writing = Nothing; due = tt; wrote = (0, sym (held_after-nil (g.K.Sink.held c.args.sink.now))) }, refl)
 
 pub returns-in_default-play_line : goal.returns-in_default-play_line
 returns-in_default-play_line g c =
@@ -83,6 +84,6 @@ returns g c =
     let sink = report_of (g.K.Sink.held c.args.sink.now) (g.K.Sink.held c.say-2.new.sink) (g.K.Sink.faults c.args.sink.now) (g.K.Sink.faults c.say-2.new.sink) in
     let l = c.loop-rest in
     let none : length c.loop-rest.rest.now ≡ 0 = search rules in
-    played_all c.args.publisher c.args.farm c.args.acts.now l.rest.now l.session (g.K.Sink.held l.sink) l.gathered.items c.say-2.result sink (no_bytes l.rest.now none) l.invariant.played
+    played_all c.args.publisher c.args.farm c.args.acts.now l.rest.now l.session (g.K.Sink.held l.sink) l.gathered.items c.say-2.result sink (nil_from_length l.rest.now none) l.invariant.played
     (told_from Done l.gathered.items c.deref-2.result.now c.say-2.result (g.K.Sink.held l.sink) (g.K.Sink.faults l.sink) sink c.deref-2.ensures.value
     l.invariant.not_failed c.say-2.ensures)

@@ -1,7 +1,7 @@
 use Rattle.std.proofs.Common.{rules, ◌≡◌, ◌∙◌, length, subst, arith}
+use Rattle.std.proofs.lemmas.List.{nil_from_length}
 use Rattle.sling_dispatch.specs.InnerServing.{CountsOn}
 use Rattle.sling_dispatch.specs.Runs.{asked_publisher_host}
-use Rattle.sling_dispatch.proofs.Sessions.{no_bytes}
 use Rattle.sling_dispatch.proofs.SoakLemmas.{counted_all, counted_next, counted_none, counted_shorter}
 use Rattle.sling_dispatch.proofs.soak.count_acts.Goals as goal
 
@@ -34,4 +34,4 @@ pub returns : goal.returns
 returns c =
     let l = c.loop-rest in
     let none : length l.rest.now ≡ 0 = search rules in
-    counted_all c.args.publisher c.args.farm c.args.acts.now l.rest.now l.session l.counts (no_bytes l.rest.now none) l.invariant.counted
+    counted_all c.args.publisher c.args.farm c.args.acts.now l.rest.now l.session l.counts (nil_from_length l.rest.now none) l.invariant.counted

@@ -4,15 +4,16 @@ use Rattle.std.specs.Cmp.{eq_by_cmp_equiv}
 use Rattle.std.specs.Cmp.Lexicographic.{nat_list_cmp_total}
 use Rattle.std.specs.Ordering.{eq_by_cmp}
 use Rattle.sp_base.specs.Names.{by_name}
+use Rattle.sp_base.proofs.OrderingLemmas.{equal_from_test}
 use Rattle.sp_outside.specs.Files.{file_at}
-use Rattle.sp_outside.proofs.HeldNames.{equal, same_name}
+use Rattle.sp_outside.proofs.HeldNames.{same_name}
 use Rattle.sp_outside.proofs.laws.files_have_names.Goals as goal
 
 one : (name : List ℕ) → eq_by_cmp by_name name name ≡ true
 one = (eq_by_cmp_equiv nat_list_cmp_total).refl
 
 apart : (other name : List ℕ) → other ≢ name → (b : Bool) → eq_by_cmp by_name other name ≡ b → b ≡ false
-apart other name differ true e = absurd (differ (same_name other name (equal (by_name other name) e)))
+apart other name differ true e = absurd (differ (same_name other name (equal_from_test (by_name other name) e)))
 apart other name differ false e = refl
 
 two : (other name : List ℕ) → other ≢ name → eq_by_cmp by_name other name ≡ false

@@ -1,4 +1,5 @@
 use Rattle.std.proofs.Common.{◌≡◌, ◌⊎◌, inl, inr, ⊎_elim, ℕ, List, Some, ◌∙◌, ap}
+use Rattle.std.proofs.lemmas.Option.{same_Some}
 use Rattle.sp_outside.specs.Files.{Files, file_at, told_with, with_file}
 use Rattle.docroot_format.specs.Faults.{IsLeftByFault}
 use Rattle.docroot_format.specs.Names.{stat_name}
@@ -8,12 +9,9 @@ use Rattle.docroot_format.specs.declared.fault.FileFault.TheVariants.{Disk}
 use Rattle.stat_files.specs.Stamps.{stamp_at}
 use Rattle.stat_files.proofs.laws.a_failed_touch_leaves_the_old_stamp_or_the_new.Goals as goal
 
-some_same : (x y : Files) → Some x ≡ Some y → x ≡ y
-some_same x y e = cc (e)
-
 left : (files new : Files) (name bytes : List ℕ) (fault : FileFault) → IsLeftByFault (Some files) (told_with (Some files) name bytes) (Some new) fault
     → (new ≡ files) ⊎ ((fault ≡ Disk) × (new ≡ with_file files name bytes))
-left files new name bytes fault h = ⊎_elim (λ same. inl (some_same new files same)) (λ w. inr (w.0, some_same new (with_file files name bytes) w.1)) h
+left files new name bytes fault h = ⊎_elim (λ same. inl (same_Some new files same)) (λ w. inr (w.0, same_Some new (with_file files name bytes) w.1)) h
 
 pub returns-clause-whole : goal.returns-clause-whole
 returns-clause-whole c = λ files new folder stamp fault h. left files new (stat_name folder) (stat_text stamp) fault h

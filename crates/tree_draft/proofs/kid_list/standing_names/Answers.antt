@@ -1,11 +1,11 @@
 use Rattle.std.proofs.Common.{rules, ◌≡◌, ◌∙◌, ◌<◌, sym, Bor, List, ℕ, length, map}
-use Rattle.tree_draft.proofs.DraftLemmas.{if_ok_then}
+use Rattle.sp_base.proofs.ResultLemmas.{IfOk-then}
 use Rattle.tree_draft.proofs.FallLemmas.{all_stand, standing_names-none, walked}
 use Rattle.tree_draft.proofs.kid_list.standing_names.Goals as goal
 
 pub returns-then-is_empty : goal.returns-then-is_empty
 returns-then-is_empty c =
-    if_ok_then c.lent_names.result (λ lent is. is ∙ sym (standing_names-none c.args.falls.now 0 c.args.names.now (c.is_empty.ensures.0 c.if-is_empty.true))) c.lent_names.ensures
+    IfOk-then c.lent_names.result (λ lent is. is ∙ sym (standing_names-none c.args.falls.now 0 c.args.names.now (c.is_empty.ensures.0 c.if-is_empty.true))) c.lent_names.ensures
 
 pub loop-place-preserved : goal.loop-place-preserved
 loop-place-preserved c =

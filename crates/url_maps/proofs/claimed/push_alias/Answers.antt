@@ -3,8 +3,9 @@ use Rattle.std.specs.Prelude.{◌||◌}
 use Rattle.std.specs.List.{list_any}
 use Rattle.std.specs.Str.{bytes_eq}
 use Rattle.sp_base.specs.Paths.{parent_of, path_or_none}
+use Rattle.sp_base.proofs.BoolLemmas.{or_false}
 use Rattle.resource_tree.specs.Content.{kid}
-use Rattle.url_maps.proofs.ClaimLemmas.{or_false, pushed_any}
+use Rattle.url_maps.proofs.ClaimLemmas.{pushed_any}
 use Rattle.url_maps.proofs.PathLemmas.{alias_spelled, alias_unspelled}
 use Rattle.url_maps.proofs.claimed.push_alias.Goals as goal
 

@@ -3,8 +3,9 @@ use Rattle.std.specs.Prelude.{◌||◌, is_some}
 use Rattle.std.specs.List.{list_any}
 use Rattle.std.specs.Str.{bytes_eq}
 use Rattle.sp_base.specs.Paths.{path_in}
+use Rattle.sp_base.proofs.BoolLemmas.{or_false}
 use Rattle.url_maps.specs.VanityPaths.{with_slash}
-use Rattle.url_maps.proofs.ClaimLemmas.{or_false, pushed_any}
+use Rattle.url_maps.proofs.ClaimLemmas.{pushed_any}
 use Rattle.url_maps.proofs.PathLemmas.{vanity_spelled, vanity_unspelled}
 use Rattle.url_maps.proofs.claimed.push_vanity_path.Goals as goal
 

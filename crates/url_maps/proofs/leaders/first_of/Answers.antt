@@ -4,8 +4,8 @@ use Rattle.std.proofs.lemmas.List.{take_all}
 use Rattle.std.proofs.lemmas.List.Folds.{list_any_at}
 use Rattle.resource_tree.specs.Content.{same_path}
 use Rattle.resource_tree.specs.Patches.{patching_at}
+use Rattle.resource_tree.proofs.PathLemmas.{same_path_self}
 use Rattle.url_maps.specs.Claims.{IsLeader}
-use Rattle.url_maps.proofs.PathLemmas.{same_path_self}
 use Rattle.url_maps.proofs.LeaderLemmas.{first_next}
 use Rattle.url_maps.proofs.leaders.first_of.Goals as goal
 

@@ -1,6 +1,6 @@
 use Rattle.std.proofs.Common.{◌∙◌, sym}
-use Rattle.url_maps.proofs.ParentLemmas.{same_texts}
+use Rattle.sp_base.proofs.TextLemmas.{segments_are}
 use Rattle.url_maps.proofs.parents.are_same.Goals as goal
 
 pub returns : goal.returns
-returns c = λ same. same_texts c.args.texts.now c.args.others.now (sym c.eq.ensures ∙ same)
+returns c = λ same. segments_are c.args.texts.now c.args.others.now (sym c.eq.ensures ∙ same)

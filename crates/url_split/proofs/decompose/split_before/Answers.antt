@@ -1,10 +1,11 @@
 use Rattle.std.proofs.Common.{◌≡◌, ◌-◌, ◌<◌, Some, None, lit<, take, length, sym, ◌∙◌, ap, subst, arith, ℕ, List}
 use Rattle.std.proofs.lemmas.List.{take-take, length-take}
 use Rattle.std.proofs.lemmas.Str.Pattern.{rfind_char}
+use Rattle.sp_base.proofs.TextLemmas.{prefix_fits}
 use Rattle.url_split.specs.Split.{IsCut, selectors_of, extension_of, suffix_of}
 use Rattle.url_split.specs.Walk.{IsReading}
 use Rattle.url_split.proofs.SplitLemmas.{next_cut}
-use Rattle.url_split.proofs.WalkLemmas.{passed_to, passed_dot, passed_all, split_here, within_text}
+use Rattle.url_split.proofs.WalkLemmas.{passed_to, passed_dot, passed_all, split_here}
 use Rattle.url_split.proofs.ValueLemmas.{split_value, lost_value}
 use Rattle.url_split.proofs.decompose.split_before.Goals as goal
 
@@ -43,7 +44,7 @@ returns-in-Some-2-clause-some g c =
     let h = rfind_char 46 prefix (Some at) c.in-Some.ensures.cases (lit< tt) in
     let short = c.range-prefix.result.now in
     let cut = shorter text prefix short at inv.prefix h.0 c.range-prefix.ensures.value in
-    let here = next_cut known text prefix at inv.prefix (within_text text prefix inv.prefix) h.0 h.1 in
+    let here = next_cut known text prefix at inv.prefix (prefix_fits text prefix inv.prefix) h.0 h.1 in
     let after = passed_to known text prefix at inv.prefix inv.passed h.2 in
     let parts = c.in_ok-parts_after in
     split_here known text short c.in-Some-2.path parts.field-0 cut.1 (subst (IsCut text) (sym cut.0) here) (λ k path less leads. after k path (omega (arith, cut.0, less)) leads)

@@ -1,6 +1,6 @@
 use Rattle.std.proofs.Common.{◌≡◌, ◌<◌, ◌∙◌, ◌+◌, ℕ, List, [], Bor, get_or, true, false, inr, map, take, length, sym, ap, subst, arith}
 use Rattle.sp_base.specs.Paths.{is_path}
-use Rattle.url_split.proofs.StartLemmas.{bytes_next, fit_next, short_seg, too_many, unfit_next}
+use Rattle.url_split.proofs.StartLemmas.{bytes_next, fit_next, short_segment, too_many, unfit_next}
 use Rattle.url_split.proofs.start.fit_end.Goals as goal
 use Rattle.url_split.proofs.start.fit_end.Goals.{then-many-eq-MOST_SEGMENTS-via-then-many-eq-MOST_SEGMENTS, then-many-eq-MOST_SEGMENTS-via-else-many-eq-MOST_SEGMENTS+then-not-seg_ok}
 
@@ -32,7 +32,7 @@ loop-piece-preserved c =
     let ok = sym c.seg_ok.ensures ∙ c.if-not-seg_ok.false in
     let few : i < 64 = omega (arith, inv.few, inv.many, c.if-many-eq-MOST_SEGMENTS.false) in
     let none : Bor (List ℕ) = record { ref_ptr = (0, 0); now = [] } in
-    let short = short_seg (get_or items i none).now ok in
+    let short = short_segment (get_or items i none).now ok in
     record {
       many = ap (λ n. n + 1) inv.many;
       few = omega (arith, few, inv.many);

@@ -1,11 +1,11 @@
 use Rattle.std.proofs.Common.{◌≡◌}
 use Rattle.docroot_changes.specs.Changes.{Told}
+use Rattle.docroot_changes.proofs.MadeCalls.{makes_more}
 use Rattle.front.specs.Clearings.{ClearsFiles, ClearsPagesFirst, HasNoFile, is_of_kind}
 use Rattle.front.specs.declared.clearing.FileKind.TheVariants.{Page, Stamp}
 use Rattle.front.proofs.ClearingLemmas.{ClearsAll, Relation, clears-all, pages-first, pages-gone, told-as, told-both, told-then}
 use Rattle.front.proofs.FrontLemmas.{ok-then}
 use Rattle.front.proofs.OpeningLemmas.{begins-fresh}
-use Rattle.front.proofs.UseLemmas.{calls-then}
 use Rattle.front.proofs.front.Front.fresh.Goals as goal
 
 pub returns-clause-stands : goal.returns-clause-stands
@@ -35,4 +35,4 @@ returns-in_err-clear-clause-order g c =
     told-as (ClearsFiles (is_of_kind Page)) ClearsPagesFirst (g.D.Disk.files c.args.disk.now) (g.D.Disk.files c.clear.new.disk) (pages-first c.names_tell_their_files.ensures.apart) c.clear.ensures.left
 
 pub returns-clause-calls : goal.returns-clause-calls
-returns-clause-calls g c = calls-then _ _ _ c.clear.ensures.calls c.clear-2.ensures.calls
+returns-clause-calls g c = makes_more _ _ _ c.clear.ensures.calls c.clear-2.ensures.calls

@@ -1,11 +1,11 @@
-use Rattle.std.proofs.Common.{◌≡◌, inr, List, Some, sym, ◌∙◌, subst}
+use Rattle.std.proofs.Common.{inr, List, sym, ◌∙◌, subst}
+use Rattle.std.proofs.lemmas.Option.{same_Some}
 use Rattle.std.specs.Prelude.{Contains, IfOk}
 use Rattle.sp_base.specs.Texts.{Text}
 use Rattle.docroot_format.specs.Deletions.{deleted_prefixes}
 use Rattle.docroot_changes.specs.Changes.{Told}
 use Rattle.invalidation.specs.Slices.{IsListedPage, place_or_start, slice_names}
 use Rattle.invalidation.specs.Walks.{TakesFiles, WalkedOn}
-use Rattle.invalidation.specs.declared.place.Place.{Place}
 use Rattle.invalidation.proofs.SliceFacts.{NameLaws}
 use Rattle.invalidation.proofs.SliceSteps.{told_given_up, told_slice}
 use Rattle.invalidation.proofs.purge.Purge.go_on.Goals as goal
@@ -26,9 +26,6 @@ returns-in_err-begin_walk-clause-slice g c =
     } in
     told_given_up before c.begin_walk.new.self laws c.from_residual-in_err-begin_walk.result c.from_residual-in_err-begin_walk.ensures.0 (g.D.Disk.files c.args.disk.now) (g.D.Disk.files c.begin_walk.new.disk) c.begin_walk.ensures.changes
 
-same_place : (a b : Place) → Some a ≡ Some b → a ≡ b
-same_place a b e = cc (e)
-
 pub returns-clause-slice : goal.returns-clause-slice
 returns-clause-slice g c =
     let before = c.args.self.now in
@@ -48,7 +45,7 @@ returns-clause-slice g c =
     let z = g.D.Disk.files c.walk.new.disk in
     let prefixes = c.in_ok-prefixes.ensures in
     let takes = subst (λ ps. Told (TakesFiles (IsListedPage ps) slice_names) y z) prefixes c.walk.ensures.takes in
-    let place = same_place c.in-Some.place (place_or_start before.place) (sym c.in-Some.is ∙ c.in_ok-begin_walk.ensures.place) in
+    let place = same_Some c.in-Some.place (place_or_start before.place) (sym c.in-Some.is ∙ c.in_ok-begin_walk.ensures.place) in
     let walked = subst (λ p. IfOk c.walk.result (λ more. Told (WalkedOn (deleted_prefixes before.inv) p c.walk.new.place more) y z)) place
     (subst (λ (ps : List Text). IfOk c.walk.result (λ more. Told (WalkedOn ps c.in-Some.place c.walk.new.place more) y z)) prefixes c.walk.ensures.walked) in
     told_slice before mid.level mid.inv mid.stamp c.walk.new.place c.in_ok-begin_walk.ensures.same.level c.in_ok-begin_walk.ensures.same.inv c.in_ok-begin_walk.ensures.same.stamp laws c.walk.result (g.D.Disk.files c.args.disk.now) y z

@@ -1,10 +1,12 @@
 use Rattle.std.proofs.Common.{◌≡◌, ◌⊎◌, ◌≤◌, false, None, Some, length, refl, sym, subst}
+use Rattle.std.proofs.lemmas.Result.{on_err_weaker, on_ok_weaker}
 use Rattle.sp_base.specs.Texts.{Segments}
+use Rattle.sp_base.proofs.ResultLemmas.{OnErr-from}
 use Rattle.page_index.specs.Held.{same_folder}
 use Rattle.page_index.specs.Limits.{most_young}
 use Rattle.page_index.specs.Notes.{held_stamp}
 use Rattle.page_index.specs.declared.index.PageIndex.{PageIndex}
-use Rattle.page_index.proofs.IndexLemmas.{if_err, on_err, on_ok, stamp_forgotten, stamp_lost, stamp_set}
+use Rattle.page_index.proofs.IndexLemmas.{stamp_forgotten, stamp_lost, stamp_set}
 use Rattle.page_index.proofs.index.PageIndex.note_stat.Goals as goal
 
 pub returns-in_err-duplicate-clause-err : goal.returns-in_err-duplicate-clause-err
@@ -12,7 +14,7 @@ returns-in_err-duplicate-clause-err c =
     let old = c.args.self.now in
     let folder = c.args.folder.now in
     let new : PageIndex = record { young = old.young; older = old.older; stamps = c.forget.new.self } in
-    if_err c.from_residual.result (stamp_lost folder old new (stamp_forgotten folder old new c.forget.ensures.gone refl refl))
+    OnErr-from c.from_residual.result (stamp_lost folder old new (stamp_forgotten folder old new c.forget.ensures.gone refl refl))
 
 others : (c : goal.After-put) → (other : Segments) → same_folder c.args.folder.now other ≡ false
     → (held_stamp c.put.new.self other ≡ held_stamp c.forget.new.self other) ⊎ ((most_young ≤ length c.forget.new.self.young) × (held_stamp c.put.new.self other ≡ None))
@@ -24,7 +26,7 @@ returns-clause-ok c =
     let folder = c.args.folder.now in
     let stamps = c.put.new.self in
     let new : PageIndex = record { young = old.young; older = old.older; stamps = stamps } in
-    on_ok c.put.result
+    on_ok_weaker c.put.result
     (λ here. stamp_set folder (Some c.args.stamp) old new c.forget.new.self c.forget.ensures.gone c.forget.ensures.fewer (subst (λ f. held_stamp stamps f ≡ Some c.args.stamp) c.in_ok-duplicate.ensures here) (others c) refl refl)
     c.put.ensures.here
 
@@ -34,6 +36,6 @@ returns-clause-err c =
     let folder = c.args.folder.now in
     let stamps = c.put.new.self in
     let new : PageIndex = record { young = old.young; older = old.older; stamps = stamps } in
-    on_err c.put.result
+    on_err_weaker c.put.result
     (λ gone. stamp_set folder None old new c.forget.new.self c.forget.ensures.gone c.forget.ensures.fewer (subst (λ f. held_stamp stamps f ≡ None) c.in_ok-duplicate.ensures gone) (others c) refl refl)
     c.put.ensures.err

@@ -1,10 +1,10 @@
 use Rattle.std.proofs.Common.{◌∙◌, ap}
 use Rattle.std.specs.BTreeMap.{insert_entry}
 use Rattle.sp_base.specs.PathExact.{exact_paths}
+use Rattle.sp_base.proofs.OrderingLemmas.{by_path_total}
 use Rattle.resource_tree.proofs.EntriesInOrder.{sorted-in_order, in_order-put}
 use Rattle.resource_tree.specs.Content.{by_path}
 use Rattle.resource_tree.specs.InOrder.{Entries}
-use Rattle.resource_tree.proofs.PathLemmas.{by_path_total}
 use Rattle.resource_tree.proofs.table.Nodes.insert.Goals as goal
 
 pub returns-clause-entries : goal.returns-clause-entries

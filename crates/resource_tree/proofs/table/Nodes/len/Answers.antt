@@ -1,10 +1,10 @@
 use Rattle.std.proofs.Common.{sym, ◌∙◌, ap, subst, length}
 use Rattle.std.specs.List.Sorted.{IsStrictlySortedBy}
 use Rattle.std.specs.Map.{keys_of}
+use Rattle.sp_base.proofs.OrderingLemmas.{by_path_total}
 use Rattle.resource_tree.proofs.EntriesInOrder.{length-in_order, sorted-in_order}
 use Rattle.resource_tree.specs.Content.{by_path}
 use Rattle.resource_tree.specs.InOrder.{Entries}
-use Rattle.resource_tree.proofs.PathLemmas.{by_path_total}
 use Rattle.resource_tree.proofs.table.Nodes.len.Goals as goal
 
 pub returns-clause-len : goal.returns-clause-len

@@ -1,15 +1,12 @@
-use Rattle.std.proofs.Common.{◌∙◌, Option, Some, None, IfNone, IfSome, sym, ap}
+use Rattle.std.proofs.Common.{◌∙◌, Option, Some, None, IfSome, sym, ap}
 use Rattle.sp_base.specs.PathTexts.{spelling_of}
+use Rattle.sp_base.proofs.OptionLemmas.{IfNone-map}
 use Rattle.sp_base.proofs.PathText.{segs_after, root_segs}
 use Rattle.sp_base.proofs.path.Path.relative.Goals as goal
 
 IfSome-map : {A : Type 0} (o : Option A) (P Q : A → Type 0) → ((x : A) → P x → Q x) → IfSome o P → IfSome o Q
 IfSome-map None P Q f h = tt
 IfSome-map (Some x) P Q f h = f x h
-
-IfNone-map : {A : Type 0} (o : Option A) (P Q : Type 0) → (P → Q) → IfNone o P → IfNone o Q
-IfNone-map None P Q f h = f h
-IfNone-map (Some x) P Q f h = tt
 
 pub returns-clause-some : goal.returns-clause-some
 returns-clause-some c =

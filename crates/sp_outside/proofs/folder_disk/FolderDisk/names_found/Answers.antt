@@ -1,11 +1,11 @@
 use Rattle.std.proofs.Common.{◌≡◌, true, sym, ◌∙◌, ap, subst}
 use Rattle.std.specs.FinMap.{empty}
+use Rattle.sp_base.proofs.ResultLemmas.{IfOk-then, OnOk-from}
 use Rattle.sp_outside.specs.FolderFiles.{FolderState, files_held}
 use Rattle.sp_outside.specs.NameIndex.{NameSet}
 use Rattle.sp_outside.proofs.Found.{begun_index, held_found, held_parts, kept_index, names_walked}
 use Rattle.sp_outside.proofs.Indexed.{Knows, open_parts}
 use Rattle.sp_outside.proofs.Left.{rises, rising_seen}
-use Rattle.sp_outside.proofs.Results.{if_ok, on_any}
 use Rattle.sp_outside.proofs.Tidy.{cleaned_found, fault_free, own_begun, own_found}
 use Rattle.sp_outside.proofs.folder_disk.FolderDisk.names_found.Goals as goal
 
@@ -34,7 +34,7 @@ returns-then-kept-clause-index g c =
     let last = g.F.RawFiles.files c.take_left.new.below in
     let seen = ap (λ (s : FolderState). s.below) c.self-2.view_is in
     let names = names_walked inside walked c.in_ok-walked.walked c.as_slice-found.result.now c.walk.ensures.same c.as_slice-found.ensures c.in_ok-walked.ensures.value in
-    if_ok c.names_inside.result (λ set is. kept_index c.as_slice-found.result.now set walked c.start.new.self.below opened last c.in_ok-kept.kept c.if-kept.true names is c.in_ok-kept.ensures.kept seen c.take_left.ensures.left)
+    IfOk-then c.names_inside.result (λ set is. kept_index c.as_slice-found.result.now set walked c.start.new.self.below opened last c.in_ok-kept.kept c.if-kept.true names is c.in_ok-kept.ensures.kept seen c.take_left.ensures.left)
     c.names_inside.ensures
 
 pub returns-then-kept-clause-own : goal.returns-then-kept-clause-own
@@ -55,7 +55,7 @@ returns-then-kept-clause-left g c =
     let seen = ap (λ (s : FolderState). s.below) c.self-2.view_is in
     let names = names_walked inside walked c.in_ok-walked.walked c.as_slice-found.result.now c.walk.ensures.same c.as_slice-found.ensures c.in_ok-walked.ensures.value in
     let rise = rising_seen c.args.self.now.faults _ (g.F.RawFiles.faults c.walk.new.self) (ap (λ (s : FolderState). s.faults) c.self.view_is) (rises _ _ c.walk.result c.walk.ensures.cause) in
-    on_any c.names_inside.result (λ none.
+    OnOk-from c.names_inside.result (λ none.
     cleaned_found c.as_slice-found.result.now walked c.start.new.self.below opened last names c.start.ensures.rest seen c.take_left.ensures.left
     (c.take_left.ensures.gone (fault_free c.args.self.now.faults (g.F.RawFiles.faults c.walk.new.self) c.start.new.self.faults (g.F.RawFiles.faults c.self-2.inside.below) (g.F.RawFiles.faults c.take_left.new.below) rise c.start.ensures.rising (ap (λ (s : FolderState). s.faults) c.self-2.view_is) c.take_left.ensures.rising none)))
 

@@ -1,20 +1,21 @@
 use Rattle.std.proofs.Common.{◌∙◌, ap, sym, length}
+use Rattle.std.proofs.lemmas.Result.{on_ok_weaker}
 use Rattle.resource_tree.specs.Content.{Content}
 use Rattle.resource_tree.proofs.NodeLookups.{length-change_at}
 use Rattle.tree_draft.specs.Edits.{edited_node}
-use Rattle.tree_draft.proofs.DraftLemmas.{changed_entry_put_back, on_ok_then}
+use Rattle.tree_draft.proofs.DraftLemmas.{changed_entry_put_back}
 use Rattle.tree_draft.proofs.draft.Draft.change.Goals as goal
 
 pub returns-clause-content : goal.returns-clause-content
 returns-clause-content c =
-    on_ok_then c.insert.result
+    on_ok_weaker c.insert.result
     (changed_entry_put_back c.args.self.now.content c.take_with_edit.new.self.content c.insert.new.self.content c.args.path.now _ c.in_ok-entry.entry (edited_node c.args.edit) c.take_with_edit.ensures.ordered c.insert.ensures.before c.in_ok-entry.ensures.value c.take_with_edit.ensures.others
     c.in_ok-duplicate.ensures)
     c.insert.ensures.content
 
 pub returns-clause-counted : goal.returns-clause-counted
 returns-clause-counted c =
-    on_ok_then c.insert.result (λ is was.
+    on_ok_weaker c.insert.result (λ is was.
     c.insert.ensures.count
     ∙ c.take_with_edit.ensures.count
     ∙ was

@@ -1,7 +1,7 @@
 use Rattle.std.proofs.Common.{◌≡◌, ◌+◌, ◌∷◌, [], ◌++◌, length, length-append, map, sym, ◌∙◌, ap, arith}
+use Rattle.std.proofs.lemmas.List.{nil_from_length}
 use Rattle.std.specs.Prelude.{option_to_list, string_bytes}
 use Rattle.url_maps.specs.Changes.{claimants_over}
-use Rattle.url_maps.proofs.AliasLemmas.{empty_from}
 use Rattle.url_maps.proofs.ChangeLemmas.{over_last}
 use Rattle.url_maps.proofs.LeaderLemmas.{none_left}
 use Rattle.url_maps.proofs.claims.Claims.change.Goals as goal
@@ -20,5 +20,5 @@ loop-text-preserved c =
 
 pub returns : goal.returns
 returns c = λ t.
-    let none = empty_from c.loop-text.rows.entries (none_left c.pop.result (length c.loop-text.rows.entries) c.pop.ensures.found.1 c.in_default.is) in
+    let none = nil_from_length c.loop-text.rows.entries (none_left c.pop.result (length c.loop-text.rows.entries) c.pop.ensures.found.1 c.in_default.is) in
     sym (ap (λ es. claimants_over (map (λ e. (string_bytes e.0, e.1)) es) c.loop-text.self.rows t) none) ∙ c.loop-text.invariant.rows t

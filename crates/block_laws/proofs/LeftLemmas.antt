@@ -12,7 +12,7 @@ use Rattle.htl_blocks.specs.Markup.{begins_tag, markup_quoting_step}
 use Rattle.htl_blocks.specs.Attributes.{begins_statement, is_block_tag, statement_prefix}
 use Rattle.htl_blocks.specs.Spelling.{whole_text}
 use Rattle.block_laws.specs.PartKinds.{quoting_after, HoldsOfNone}
-use Rattle.block_laws.specs.TagStatements.{AreBlanks, ArePiecesApart, goes_on_after_values, IsApart, IsCutAtStatement, SpellsTag}
+use Rattle.block_laws.specs.TagStatements.{AreBlanks, ArePiecesApart, goes_on_after_values, GoesOnAfterValues, IsCutAtStatement, SpellsTag}
 use Rattle.block_laws.proofs.Scans.{scan_none}
 use Rattle.block_laws.proofs.TagLemmas.{statement_scans}
 
@@ -81,7 +81,7 @@ abbrev is_inner : ℕ → Bool
 is_inner c = not (goes_on_after_values c)
 
 -- a text begins alike, whatever is apart from it
-starts_before : (start s old new : Text) → list_all is_inner start ≡ true → IsApart new → starts_with nat_eq (s ++ new) start ≡ true → starts_with nat_eq (s ++ old) start ≡ true
+starts_before : (start s old new : Text) → list_all is_inner start ≡ true → GoesOnAfterValues new → starts_with nat_eq (s ++ new) start ≡ true → starts_with nat_eq (s ++ old) start ≡ true
 starts_before [] s old new inner apart e = refl
 starts_before (d ∷ start) [] old [] inner apart e = absurd cc
 starts_before (d ∷ start) [] old (c ∷ new) inner apart e =
@@ -94,7 +94,7 @@ starts_before (d ∷ start) (c ∷ s) old new inner apart e =
     let ih = starts_before start s old new word.1 apart both.1 in
     rw (both.0, ih) refl
 
-no_other_statement : (quoting : Quoting) (c : ℕ) (s old new : Text) → IsApart new → begins_statement quoting c (s ++ old) ≡ false → begins_statement quoting c (s ++ new) ≡ false
+no_other_statement : (quoting : Quoting) (c : ℕ) (s old new : Text) → GoesOnAfterValues new → begins_statement quoting c (s ++ old) ≡ false → begins_statement quoting c (s ++ new) ≡ false
 unfolding begins_statement
 no_other_statement (Within mark) c s old new apart e = refl
 no_other_statement Outside c s old new apart e = go (is_blank c && starts_with nat_eq (s ++ new) statement_prefix) refl
@@ -106,7 +106,7 @@ no_other_statement Outside c s old new apart e = go (is_blank c && starts_with n
         let clash : true ≡ false = sym (ap (λ (b : Bool). b && true) both.0) ∙ ap (λ (b : Bool). is_blank c && b) (sym there) ∙ e in absurd cc
     go false is = refl
 
-other_later : (quoting : Quoting) (s old new : Text) → IsApart new → HoldsOfNone begins_statement quoting s old → HoldsOfNone begins_statement quoting s new
+other_later : (quoting : Quoting) (s old new : Text) → GoesOnAfterValues new → HoldsOfNone begins_statement quoting s old → HoldsOfNone begins_statement quoting s new
 other_later quoting [] old new apart none = tt
 other_later quoting (c ∷ s) old new apart none = (no_other_statement quoting c s old new apart none.0, other_later (markup_quoting_step quoting c) s old new apart none.1)
 
@@ -120,12 +120,12 @@ joined : (test : Quoting → ℕ → Text → Bool) (quoting : Quoting) (s t : T
 joined test quoting [] t one two = two
 joined test quoting (c ∷ s) t one two = (ap (test quoting c) (append-nil (s ++ t)) ∙ one.0, joined test (markup_quoting_step quoting c) s t one.1 two)
 
-apart_text : (pieces : List Text) → AllByRecursion IsApart pieces → IsApart (whole_text pieces)
+apart_text : (pieces : List Text) → AllByRecursion GoesOnAfterValues pieces → GoesOnAfterValues (whole_text pieces)
 apart_text [] all = tt
 apart_text ([] ∷ pieces) all = apart_text pieces all.1
 apart_text ((c ∷ piece) ∷ pieces) all = all.0
 
-fewer_apart : (pieces : List Text) → AllByRecursion IsApart pieces → ArePiecesApart pieces
+fewer_apart : (pieces : List Text) → AllByRecursion GoesOnAfterValues pieces → ArePiecesApart pieces
 fewer_apart [] all = tt
 fewer_apart (piece ∷ pieces) all = all.1
 

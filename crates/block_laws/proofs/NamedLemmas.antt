@@ -13,7 +13,7 @@ use Rattle.htl_blocks.specs.declared.attribute.Attribute.TheVariants as attribut
 use Rattle.htl_blocks.specs.declared.attribute.Unwrap.TheVariants as unwrap
 use Rattle.htl_blocks.specs.declared.statement.Statement.{Statement}
 use Rattle.htl_blocks.specs.declared.statement.Statement.TheVariants as statement
-use Rattle.htl_blocks.specs.Attributes.{ValueText, none, unquoted, quoted, at_most_one, one_piece, is_variable, list_statement, statement_of, statement_attribute, unwraps, value_of, with_read_value, with_value, without_value}
+use Rattle.htl_blocks.specs.Attributes.{ValueText, none, unquoted, quoted, at_most_one, one_piece, is_variable, list_statement, statement_of, statement_attribute, unwraps, value_of, with_read_value, attribute_with, attribute_without}
 use Rattle.block_laws.specs.TagStatements.{IsNamed, Says}
 
 -- ---- names
@@ -100,7 +100,7 @@ unwrap_is statement.Include e = absurd cc
 unwrap_is statement.Resource e = absurd cc
 unwrap_is statement.Unwrap e = refl
 
-without_found : (s : Statement) (a : Attribute) → without_value s ≡ Some a → Says s none a
+without_found : (s : Statement) (a : Attribute) → attribute_without s ≡ Some a → Says s none a
 without_found statement.Test a e = absurd cc
 without_found (statement.List name) a e = absurd cc
 without_found statement.Text a e = absurd cc
@@ -112,8 +112,8 @@ read_found : (s : Statement) (v : Text) (a : Attribute) → (eqb (length v) 0 &&
 read_found s v a bare e = go (template_of v) refl e
   where
     few : (ps : List TemplatePiece) → template_of v ≡ Ok ps → with_read_value s (at_most_one ps) ≡ Some a → Says s (quoted v) a
-    few [] r f = let same : with_value s [] ≡ a = cc in Says.Value v [] refl bare r (omega arith) (sym same)
-    few (p ∷ []) r f = let same : with_value s (p ∷ []) ≡ a = cc in Says.Value v (p ∷ []) refl bare r (omega arith) (sym same)
+    few [] r f = let same : attribute_with s [] ≡ a = cc in Says.Value v [] refl bare r (omega arith) (sym same)
+    few (p ∷ []) r f = let same : attribute_with s (p ∷ []) ≡ a = cc in Says.Value v (p ∷ []) refl bare r (omega arith) (sym same)
     few (p ∷ q ∷ ps) r f = absurd cc
 
     go : (o : Result (List TemplatePiece) TextFault) → template_of v ≡ o → with_read_value s (one_piece o) ≡ Some a → Says s (quoted v) a

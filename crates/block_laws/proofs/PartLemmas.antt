@@ -9,9 +9,9 @@ use Rattle.htl_syntax.specs.Tokens.{begins, is_letter}
 use Rattle.htl_blocks.specs.declared.byte_run.ByteRun.TheVariants as run
 use Rattle.htl_blocks.specs.declared.quoting.Quoting.{Quoting}
 use Rattle.htl_blocks.specs.declared.quoting.Quoting.TheVariants.{Outside, Within}
-use Rattle.htl_blocks.specs.Markup.{begins_end_tag, begins_tag, ended_len, ends, ends_after_name, ends_tag, is_name_byte, name_len, part_len, parts, parts_after, markup_quoting_step, run_bytes, tag_end, tag_len}
+use Rattle.htl_blocks.specs.Markup.{begins_end_tag, begins_tag, ended_len, ends_run, ends_after_name, ends_tag, is_name_byte, tag_name_len, part_len, parts, parts_after, markup_quoting_step, run_bytes, tag_end, tag_len}
 use Rattle.htl_blocks.specs.Spelling.{whole_text}
-use Rattle.block_laws.specs.PartKinds.{quoting_after, HoldsOfNone, ends_tag_before, IsName, end_tag_of, BeginsNoEndTag, IsPart, AreParts}
+use Rattle.block_laws.specs.PartKinds.{quoting_after, HoldsOfNone, ends_tag_before, IsTagName, end_tag_of, BeginsNoEndTag, IsPart, AreParts}
 use Rattle.block_laws.proofs.Scans.{take_all, drop_all, cut_behind, scan, Finds, scan_finds, scan_is, scan_none, Run, run_found, run_is}
 
 -- ---- tags
@@ -56,16 +56,16 @@ open_len_is t none = rw (tag_end_scans Outside 0 t ∙ scan_none ends_tag_before
 
 -- ---- end tags
 
-name_is : (c : ℕ) → ends run.Name c ≡ not (is_name_byte c)
+name_is : (c : ℕ) → ends_run run.Name c ≡ not (is_name_byte c)
 name_is c = refl
 
-name_found : (t : Text) → Run is_name_byte (name_len t) t
+name_found : (t : Text) → Run is_name_byte (tag_name_len t) t
 unfolding run_bytes
-name_found t = run_found (ends run.Name) is_name_byte name_is t
+name_found t = run_found (ends_run run.Name) is_name_byte name_is t
 
-name_len_is : (name later : Text) → list_all is_name_byte name ≡ true → name_len (name ++ 62 ∷ later) ≡ length name
+name_len_is : (name later : Text) → list_all is_name_byte name ≡ true → tag_name_len (name ++ 62 ∷ later) ≡ length name
 unfolding run_bytes
-name_len_is name later all = run_is (ends run.Name) is_name_byte name_is name (62 ∷ later) all refl
+name_len_is name later all = run_is (ends_run run.Name) is_name_byte name_is name (62 ∷ later) all refl
 
 begins_name : (name later : Text) → begins is_letter (name ++ 62 ∷ later) ≡ true → begins is_letter name ≡ true
 unfolding begins
@@ -86,15 +86,15 @@ byte_first c (d ∷ t) e = (t, ap (λ (b : ℕ). b ∷ t) (eqb-true d c e))
 record EndTagAt (t : Text) : Type 0 where
   name : Text
   later : Text
-  named : IsName name
+  named : IsTagName name
   whole : t ≡ end_tag_of name ++ later
-  len : name_len (drop 2 t) ≡ length name
+  len : tag_name_len (drop 2 t) ≡ length name
 
-after_name : (u : Text) → ends_after_name u ≡ true → (name : Text) × (later : Text) × IsName name × (u ≡ name ++ 62 ∷ later) × (name_len u ≡ length name)
+after_name : (u : Text) → ends_after_name u ≡ true → (name : Text) × (later : Text) × IsTagName name × (u ≡ name ++ 62 ∷ later) × (tag_name_len u ≡ length name)
 after_name u h =
-    let both = and_parts (begins is_letter u) (begins_with_byte 62 (drop (name_len u) u)) h in
+    let both = and_parts (begins is_letter u) (begins_with_byte 62 (drop (tag_name_len u) u)) h in
     let x = name_found u in
-    let cut = cut_behind x.run x.later u (name_len u) x.whole x.len in
+    let cut = cut_behind x.run x.later u (tag_name_len u) x.whole x.len in
     let end = byte_first 62 x.later (ap (begins_with_byte 62) (sym cut.1) ∙ both.1) in
     let whole : u ≡ x.run ++ 62 ∷ end.0 = x.whole ∙ ap (λ (v : Text). x.run ++ v) end.1 in
     (x.run, end.0, (begins_name x.run end.0 (ap (begins is_letter) (sym whole) ∙ both.0), x.all), whole, x.len)
@@ -112,12 +112,12 @@ end_tag_found t h =
     let inner : second.0 ≡ (x.0 ++ 62 ∷ []) ++ x.1 = sym rest ∙ x.3 ∙ sym (append_assoc x.0 (62 ∷ []) x.1) in
     record { name = x.0; later = x.1; named = x.2; whole = both ∙ ap (λ (u : Text). 60 ∷ 47 ∷ u) inner; len = x.4 }
 
-end_tag_begins : (name later : Text) → IsName name → begins_end_tag (end_tag_of name ++ later) ≡ true
+end_tag_begins : (name later : Text) → IsTagName name → begins_end_tag (end_tag_of name ++ later) ≡ true
 unfolding begins_end_tag begins_with_byte
 end_tag_begins name later named =
     let whole = append_assoc name (62 ∷ []) later in
     let len = name_len_is name later named.1 in
-    let cut = cut_behind name (62 ∷ later) (name ++ 62 ∷ later) (name_len (name ++ 62 ∷ later)) refl len in
+    let cut = cut_behind name (62 ∷ later) (name ++ 62 ∷ later) (tag_name_len (name ++ 62 ∷ later)) refl len in
     let letter = name_begins name (62 ∷ later) named.0 in
     rw (whole, letter, cut.1) refl
 
@@ -134,7 +134,7 @@ part_of_tag : (t : Text) → begins_tag t ≡ true → part_len t ≡ tag_len t
 unfolding part_len
 part_of_tag t b = rw b refl
 
-part_of_end_tag : (t : Text) → begins_tag t ≡ false → begins_end_tag t ≡ true → part_len t ≡ name_len (drop 2 t) + 3
+part_of_end_tag : (t : Text) → begins_tag t ≡ false → begins_end_tag t ≡ true → part_len t ≡ tag_name_len (drop 2 t) + 3
 unfolding part_len
 part_of_end_tag t b e = rw (b, e) refl
 
@@ -187,7 +187,7 @@ is_part part later (IsPart.TagWithoutEnd end b none) =
 is_part part later (IsPart.EndTag name named is) =
     let whole : part ++ later ≡ end_tag_of name ++ later = ap (λ (p : Text). p ++ later) is in
     let size : length part ≡ length name + 3 = ap length is ∙ end_tag_size name in
-    let inner = ap name_len (append_assoc name (62 ∷ []) later) ∙ name_len_is name later named.1 in
+    let inner = ap tag_name_len (append_assoc name (62 ∷ []) later) ∙ name_len_is name later named.1 in
     let len : part_len (end_tag_of name ++ later) ≡ length name + 3 = part_of_end_tag (end_tag_of name ++ later) (end_tag_no_tag name later) (end_tag_begins name later named) ∙ ap (λ (n : ℕ). n + 3) inner in
     (ap part_len whole ∙ len ∙ sym size, omega (arith, size))
 is_part part later (IsPart.Byte c is b none) =

@@ -7,7 +7,7 @@ use Rattle.sp_base.specs.Texts.{Text}
 use Rattle.htl_blocks.specs.declared.quoting.Quoting.{Quoting}
 use Rattle.htl_blocks.specs.Markup.{markup_quoting_step}
 use Rattle.block_laws.specs.PartKinds.{quoting_after, HoldsOfNone}
-use Rattle.block_laws.specs.TagStatements.{Stops}
+use Rattle.block_laws.specs.TagStatements.{BeginsApart}
 
 -- ---- a text in two
 
@@ -78,7 +78,7 @@ pub record Run (good : ℕ → Bool) (n : ℕ) (t : Text) : Type 0 where
   pub later : Text
   pub whole : t ≡ run ++ later
   pub all : list_all good run ≡ true
-  pub stops : Stops good later
+  pub stops : BeginsApart good later
   pub len : n ≡ length run
 
 pub run_found : (test good : ℕ → Bool) → ((c : ℕ) → test c ≡ not (good c)) → (t : Text) → Run good (position_or_len test t) t
@@ -93,7 +93,7 @@ run_found test good is (c ∷ t) = go (good c) refl (run_found test good is t)
         record { run = c ∷ x.run; later = x.later; whole = ap (λ (u : Text). c ∷ u) x.whole; all = rw e x.all; stops = x.stops; len = rw goes_on more }
     go false e x = let ends : test c ≡ true = is c ∙ ap not e in record { run = []; later = c ∷ t; whole = refl; all = refl; stops = e; len = rw ends refl }
 
-pub run_is : (test good : ℕ → Bool) → ((c : ℕ) → test c ≡ not (good c)) → (run later : Text) → list_all good run ≡ true → Stops good later → position_or_len test (run ++ later) ≡ length run
+pub run_is : (test good : ℕ → Bool) → ((c : ℕ) → test c ≡ not (good c)) → (run later : Text) → list_all good run ≡ true → BeginsApart good later → position_or_len test (run ++ later) ≡ length run
 run_is test good is [] [] all stops = refl
 run_is test good is [] (c ∷ later) all stops = let ends : test c ≡ true = is c ∙ ap not stops in rw ends refl
 run_is test good is (c ∷ run) later all stops =

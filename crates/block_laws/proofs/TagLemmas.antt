@@ -16,7 +16,7 @@ use Rattle.htl_blocks.specs.Markup.{markup_quoting_step}
 use Rattle.htl_blocks.specs.Attributes.{added, after_attribute, attribute_of, attributes_read, begins_statement, end_trimmed, key_len, known_attribute, no_attributes, split_at_blank, statement_attribute, statement_of, statement_place, statement_split, tag_attributes, to_statement, unquoted, value_read, with_attribute, with_known, ValueText}
 use Rattle.htl_blocks.specs.Spelling.{whole_text}
 use Rattle.block_laws.specs.PartKinds.{quoting_after, HoldsOfNone}
-use Rattle.block_laws.specs.TagStatements.{is_key_byte, AreBlanks, HasValue, BeginsWith, EndsInNoBlank, IsCutAtStatement, SpellsTag, IsTagWith}
+use Rattle.block_laws.specs.TagStatements.{is_key_byte, AreBlanks, HasValue, BeginsWithAttribute, EndsInNoBlank, IsCutAtStatement, SpellsTag, IsTagWith}
 use Rattle.block_laws.proofs.Scans.{cut_behind, scan, FirstIs, Finds, scan_finds, scan_is, scan_none, Run}
 use Rattle.block_laws.proofs.NamedLemmas.{named_found, named_is, said, says_is}
 use Rattle.block_laws.proofs.ValueLemmas.{key_found, key_len_is, value_found, value_is, value_shorter, Reads}
@@ -39,7 +39,7 @@ after_at t name after whole len =
 unquoted_is_none : (s : Statement) (v : ValueText) (a : Attribute) → v ≡ unquoted → statement_attribute s v ≡ Some a → ⊥
 unquoted_is_none s v a is e = let clash : None ≡ Some a = sym (ap (statement_attribute s) is) ∙ e in absurd cc
 
-pub begins_found : (t : Text) (a : Attribute) → attribute_of t ≡ Some a → BeginsWith t a (after_attribute t)
+pub begins_found : (t : Text) (a : Attribute) → attribute_of t ≡ Some a → BeginsWithAttribute t a (after_attribute t)
 begins_found t a e = go (statement_of x.run) refl (value_found x.later)
   where
     x : Run is_key_byte (key_len t) t
@@ -48,7 +48,7 @@ begins_found t a e = go (statement_of x.run) refl (value_found x.later)
     known : known_attribute (statement_of x.run) (value_read x.later).0 ≡ Some a
     known = sym (begins_at t x.run x.later a x.whole x.len) ∙ e
 
-    go : (o : Option Statement) → statement_of x.run ≡ o → Reads x.later (value_read x.later) → BeginsWith t a (after_attribute t)
+    go : (o : Option Statement) → statement_of x.run ≡ o → Reads x.later (value_read x.later) → BeginsWithAttribute t a (after_attribute t)
     go None is reads = let clash : None ≡ Some a = sym (ap (λ (o : Option Statement). known_attribute o (value_read x.later).0) is) ∙ known in absurd cc
     go (Some s) is (inl bare) = absurd (unquoted_is_none s (value_read x.later).0 a bare (sym (ap (λ (o : Option Statement). known_attribute o (value_read x.later).0) is) ∙ known))
     go (Some s) is (inr has) =
@@ -56,7 +56,7 @@ begins_found t a e = go (statement_of x.run) refl (value_found x.later)
         let left = sym (after_at t x.run x.later x.whole x.len) in
         record { name = x.run; after = x.later; means = s; value = (value_read x.later).0; whole = x.whole; all = x.all; stops = x.stops; named = named_found x.run s is; valued = subst (HasValue x.later (value_read x.later).0) left has; says = says }
 
-pub begins_is : (t : Text) (a : Attribute) (later : Text) → BeginsWith t a later → (attribute_of t ≡ Some a) × (after_attribute t ≡ later)
+pub begins_is : (t : Text) (a : Attribute) (later : Text) → BeginsWithAttribute t a later → (attribute_of t ≡ Some a) × (after_attribute t ≡ later)
 begins_is t a later x =
     let len : key_len t ≡ length x.name = ap key_len x.whole ∙ key_len_is x.name x.after x.all x.stops in
     let read = value_is x.after x.value later x.valued in (
@@ -67,7 +67,7 @@ begins_is t a later x =
     )
 
 -- what follows a statement is no longer than the text from it on
-begins_shorter : (t : Text) (a : Attribute) (later : Text) → BeginsWith t a later → length later ≤ length t
+begins_shorter : (t : Text) (a : Attribute) (later : Text) → BeginsWithAttribute t a later → length later ≤ length t
 begins_shorter t a later x =
     let size = ap length x.whole ∙ length-append x.name x.after in
     let less = value_shorter x.after x.value later x.valued in

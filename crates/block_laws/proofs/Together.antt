@@ -10,7 +10,7 @@ use Rattle.htl_blocks.specs.declared.block.Block.TheVariants as block
 use Rattle.htl_blocks.specs.Parts.{Part, Round}
 use Rattle.htl_blocks.specs.Written.{passes, keeps_tags, body_parts, listed, between_tags, block_parts, blocks_parts, with_variable}
 use Rattle.htl_blocks.proofs.ElementLemmas.{element_is, text_is, in_tags}
-use Rattle.block_laws.specs.Together.{without_test, without_unwrap, without_body, without_text, body_alone, within, IsWrittenAsWithoutTestIfTrue, IsWrittenAsWithoutTagsIfUnwrapped, IsWrittenAsWithoutUnwrapIfFalse, ListsRepeatWhatStandsWithin, TextsStandAsContent, BodiesStandAsContent}
+use Rattle.block_laws.specs.Together.{without_test, without_unwrap, without_body, without_text, body_alone, inner_element, IsWrittenAsWithoutTestIfTrue, IsWrittenAsWithoutTagsIfUnwrapped, IsWrittenAsWithoutUnwrapIfFalse, ListsRepeatWhatStandsWithin, TextsStandAsContent, BodiesStandAsContent}
 
 -- what the content of an element writes
 abbrev written : List Block → Bindings → List Part
@@ -42,13 +42,13 @@ as_without_unwrap scope tag content end_tag stands =
     ∙ sym (element_is (without_unwrap tag) content end_tag scope)
 
 -- what stands in an element
-within_is : (tag : Tag) (content : List Block) (scope : Bindings) → block_parts (within tag content) scope ≡ body_parts tag.attributes.body (written content) scope
+within_is : (tag : Tag) (content : List Block) (scope : Bindings) → block_parts (inner_element tag content) scope ≡ body_parts tag.attributes.body (written content) scope
 within_is tag content scope = element_is (body_alone tag.attributes.body) content [] scope ∙ append-nil (body_parts tag.attributes.body (written content) scope)
 
 pub each_round : ListsRepeatWhatStandsWithin
 each_round scope tag content end_tag name list item items stands has some =
     element_is tag content end_tag scope
-    ∙ in_tags tag (written content) end_tag scope (flat_map (λ (one : Text). Round ∷ block_parts (within tag content) (with_variable scope name one)) (item ∷ items)) stands
+    ∙ in_tags tag (written content) end_tag scope (flat_map (λ (one : Text). Round ∷ block_parts (inner_element tag content) (with_variable scope name one)) (item ∷ items)) stands
     (rw has (rw some (ap (λ (round : Text → List Part). Some (flat_map round (item ∷ items))) (fun_ext (λ (one : Text). ap (λ (parts : List Part). Round ∷ parts) (sym (within_is tag content (with_variable scope name one))))))))
 
 -- an element of which what stands in it is the content of another
@@ -63,4 +63,4 @@ pub text_as_content : TextsStandAsContent
 text_as_content scope tag content end_tag value is = same_within tag content (block.Text value ∷ []) end_tag scope (λ here. rw is (sym (append-nil (block_parts (block.Text value) here) ∙ text_is value here)))
 
 pub body_as_content : BodiesStandAsContent
-body_as_content scope tag content end_tag = same_within tag content (within tag content ∷ []) end_tag scope (λ here. sym (append-nil (block_parts (within tag content) here) ∙ within_is tag content here))
+body_as_content scope tag content end_tag = same_within tag content (inner_element tag content ∷ []) end_tag scope (λ here. sym (append-nil (block_parts (inner_element tag content) here) ∙ within_is tag content here))

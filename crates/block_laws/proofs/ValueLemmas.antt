@@ -8,38 +8,38 @@ use Rattle.sp_base.specs.Bytes.{begins_with_byte}
 use Rattle.sp_base.specs.Texts.{Text}
 use Rattle.htl_syntax.specs.Tokens.{is_blank, is_quote}
 use Rattle.htl_blocks.specs.declared.byte_run.ByteRun.TheVariants as run
-use Rattle.htl_blocks.specs.Markup.{ends, run_bytes}
+use Rattle.htl_blocks.specs.Markup.{ends_run, run_bytes}
 use Rattle.htl_blocks.specs.Attributes.{ValueText, none, unquoted, quoted, key_len, quoted_len, start_trimmed, value_after, value_at_mark, value_read}
-use Rattle.block_laws.specs.TagStatements.{is_key_byte, Stops, AreBlanks, HasNoMark, HasValue}
+use Rattle.block_laws.specs.TagStatements.{is_key_byte, BeginsApart, AreBlanks, HasNoMark, HasValue}
 use Rattle.block_laws.proofs.Scans.{cut_behind, Run, run_found, run_is}
 
 not_not : (b : Bool) → b ≡ not (not b)
 not_not true = refl
 not_not false = refl
 
-key_test : (c : ℕ) → ends run.Key c ≡ not (is_key_byte c)
-key_test c = not_not (ends run.Key c)
+key_test : (c : ℕ) → ends_run run.Key c ≡ not (is_key_byte c)
+key_test c = not_not (ends_run run.Key c)
 
 pub key_found : (t : Text) → Run is_key_byte (key_len t) t
 unfolding run_bytes
-key_found t = run_found (ends run.Key) is_key_byte key_test t
+key_found t = run_found (ends_run run.Key) is_key_byte key_test t
 
-pub key_len_is : (name later : Text) → list_all is_key_byte name ≡ true → Stops is_key_byte later → key_len (name ++ later) ≡ length name
+pub key_len_is : (name later : Text) → list_all is_key_byte name ≡ true → BeginsApart is_key_byte later → key_len (name ++ later) ≡ length name
 unfolding run_bytes
-key_len_is name later all stops = run_is (ends run.Key) is_key_byte key_test name later all stops
+key_len_is name later all stops = run_is (ends_run run.Key) is_key_byte key_test name later all stops
 
-blank_test : (c : ℕ) → ends run.Blanks c ≡ not (is_blank c)
+blank_test : (c : ℕ) → ends_run run.Blanks c ≡ not (is_blank c)
 blank_test c = refl
 
 blanks_found : (t : Text) → Run is_blank (run_bytes run.Blanks t) t
 unfolding run_bytes
-blanks_found t = run_found (ends run.Blanks) is_blank blank_test t
+blanks_found t = run_found (ends_run run.Blanks) is_blank blank_test t
 
-blanks_len_is : (blanks later : Text) → AreBlanks blanks → Stops is_blank later → run_bytes run.Blanks (blanks ++ later) ≡ length blanks
+blanks_len_is : (blanks later : Text) → AreBlanks blanks → BeginsApart is_blank later → run_bytes run.Blanks (blanks ++ later) ≡ length blanks
 unfolding run_bytes
-blanks_len_is blanks later all stops = run_is (ends run.Blanks) is_blank blank_test blanks later all stops
+blanks_len_is blanks later all stops = run_is (ends_run run.Blanks) is_blank blank_test blanks later all stops
 
-start_is : (blanks later : Text) → AreBlanks blanks → Stops is_blank later → start_trimmed (blanks ++ later) ≡ later
+start_is : (blanks later : Text) → AreBlanks blanks → BeginsApart is_blank later → start_trimmed (blanks ++ later) ≡ later
 start_is blanks later all stops = (cut_behind blanks later (blanks ++ later) (run_bytes run.Blanks (blanks ++ later)) refl (blanks_len_is blanks later all stops)).1
 
 -- a text without the blanks at its beginning
@@ -56,16 +56,16 @@ trimmed t = let x = blanks_found t in record { blanks = x.run; later = x.later; 
 abbrev is_other : ℕ → ℕ → Bool
 is_other mark c = not (eqb c mark)
 
-mark_test : (mark c : ℕ) → ends (run.Quoted mark) c ≡ not (is_other mark c)
+mark_test : (mark c : ℕ) → ends_run (run.Quoted mark) c ≡ not (is_other mark c)
 mark_test mark c = not_not (eqb c mark)
 
 quoted_found : (mark : ℕ) (t : Text) → Run (is_other mark) (quoted_len mark t) t
 unfolding run_bytes
-quoted_found mark t = run_found (ends (run.Quoted mark)) (is_other mark) (mark_test mark) t
+quoted_found mark t = run_found (ends_run (run.Quoted mark)) (is_other mark) (mark_test mark) t
 
-quoted_len_is : (mark : ℕ) (v later : Text) → HasNoMark mark v → Stops (is_other mark) later → quoted_len mark (v ++ later) ≡ length v
+quoted_len_is : (mark : ℕ) (v later : Text) → HasNoMark mark v → BeginsApart (is_other mark) later → quoted_len mark (v ++ later) ≡ length v
 unfolding run_bytes
-quoted_len_is mark v later all stops = run_is (ends (run.Quoted mark)) (is_other mark) (mark_test mark) v later all stops
+quoted_len_is mark v later all stops = run_is (ends_run (run.Quoted mark)) (is_other mark) (mark_test mark) v later all stops
 
 same_mark : (mark : ℕ) → not (eqb mark mark) ≡ false
 same_mark mark = grind (arith, nat_tests)
@@ -106,7 +106,7 @@ open_is mark v all =
 quoted_says : (mark : ℕ) (u : Text) → ((v later : Text) × HasNoMark mark v × (u ≡ v ++ mark ∷ later) × (quoted_is mark u ≡ (quoted v, later))) ⊎ (HasNoMark mark u × (quoted_is mark u ≡ (quoted u, [])))
 quoted_says mark u = go (quoted_found mark u)
   where
-    ends_so : (v later : Text) → u ≡ v ++ later → HasNoMark mark v → Stops (is_other mark) later → ((v later : Text) × HasNoMark mark v × (u ≡ v ++ mark ∷ later) × (quoted_is mark u ≡ (quoted v, later))) ⊎ (HasNoMark mark u × (quoted_is mark u ≡ (quoted u, [])))
+    ends_so : (v later : Text) → u ≡ v ++ later → HasNoMark mark v → BeginsApart (is_other mark) later → ((v later : Text) × HasNoMark mark v × (u ≡ v ++ mark ∷ later) × (quoted_is mark u ≡ (quoted v, later))) ⊎ (HasNoMark mark u × (quoted_is mark u ≡ (quoted u, [])))
     ends_so v [] whole all stops =
         let same : u ≡ v = whole ∙ append-nil v in
         let none : HasNoMark mark u = ap (list_all (is_other mark)) same ∙ all in

@@ -23,8 +23,8 @@ abbrev pub ends_tag_before : Quoting → ℕ → Text → Bool
 ends_tag_before quoting c later = ends_tag quoting c
 
 -- a letter, and letters, digits and "-" after it
-abbrev pub IsName : Text → Type 0
-IsName name = (begins is_letter name ≡ true) × (list_all is_name_byte name ≡ true)
+abbrev pub IsTagName : Text → Type 0
+IsTagName name = (begins is_letter name ≡ true) × (list_all is_name_byte name ≡ true)
 
 -- "</", a name, and ">" right after it
 abbrev pub end_tag_of : Text → Text
@@ -32,14 +32,14 @@ end_tag_of name = 60 ∷ 47 ∷ (name ++ 62 ∷ [])
 
 -- no end tag stands at the beginning
 abbrev pub BeginsNoEndTag : Text → Type 0
-BeginsNoEndTag t = (name later : Text) → IsName name → t ≡ end_tag_of name ++ later → ⊥
+BeginsNoEndTag t = (name later : Text) → IsTagName name → t ≡ end_tag_of name ++ later → ⊥
 
 -- What a part is, by what follows it: a tag up to the first ">" outside quotes, or the whole text where none is there; an end tag; or one byte, at
 -- which neither begins.
 pub data IsPart (part later : Text) : Type 0 where
   Tag : (inside : Text) → part ≡ inside ++ 62 ∷ [] → begins_tag (part ++ later) ≡ true → HoldsOfNone ends_tag_before Outside inside (62 ∷ later) → quoting_after Outside inside ≡ Outside → IsPart part later
   TagWithoutEnd : later ≡ [] → begins_tag part ≡ true → HoldsOfNone ends_tag_before Outside part [] → IsPart part later
-  EndTag : (name : Text) → IsName name → part ≡ end_tag_of name → IsPart part later
+  EndTag : (name : Text) → IsTagName name → part ≡ end_tag_of name → IsPart part later
   Byte : (c : ℕ) → part ≡ c ∷ [] → begins_tag (c ∷ later) ≡ false → BeginsNoEndTag (c ∷ later) → IsPart part later
 
 -- each of these texts is a part, by those that follow it

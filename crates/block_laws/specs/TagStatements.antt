@@ -15,7 +15,7 @@ use Rattle.htl_blocks.specs.declared.attribute.Unwrap.TheVariants as unwrap
 use Rattle.htl_blocks.specs.declared.quoting.Quoting.TheVariants.{Outside}
 use Rattle.htl_blocks.specs.declared.statement.Statement.{Statement}
 use Rattle.htl_blocks.specs.declared.statement.Statement.TheVariants as statement
-use Rattle.htl_blocks.specs.Attributes.{begins_statement, is_block_tag, ValueText, none, quoted, is_variable, with_value, unwraps}
+use Rattle.htl_blocks.specs.Attributes.{begins_statement, is_block_tag, ValueText, none, quoted, is_variable, attribute_with, unwraps}
 use Rattle.htl_blocks.specs.Markup.{ends_key}
 use Rattle.htl_blocks.specs.Spelling.{whole_text}
 use Rattle.block_laws.specs.PartKinds.{quoting_after, HoldsOfNone}
@@ -27,9 +27,9 @@ abbrev pub is_key_byte : ℕ → Bool
 is_key_byte c = not (ends_key c)
 
 -- nothing, or a byte of which this doesn't hold
-abbrev pub Stops : (ℕ → Bool) → Text → Type 0
-Stops good [] = Unit {0}
-Stops good (c ∷ t) = good c ≡ false
+abbrev pub BeginsApart : (ℕ → Bool) → Text → Type 0
+BeginsApart good [] = Unit {0}
+BeginsApart good (c ∷ t) = good c ≡ false
 
 -- nothing but blanks
 abbrev pub AreBlanks : Text → Type 0
@@ -60,18 +60,18 @@ pub data HasValue (t : Text) (value : ValueText) (later : Text) : Type 0 where
 
 -- what a statement says by its value: a template of one piece at most; unwrap says that it always holds where it has no value, or an empty one
 pub data Says (s : Statement) (value : ValueText) (a : Attribute) : Type 0 where
-  Value : (v : Text) (ps : List TemplatePiece) → value ≡ quoted v → (length v == 0 && unwraps s) ≡ false → template_of v ≡ Ok ps → length ps ≤ 1 → a ≡ with_value s ps → Says s value a
+  Value : (v : Text) (ps : List TemplatePiece) → value ≡ quoted v → (length v == 0 && unwraps s) ≡ false → template_of v ≡ Ok ps → length ps ≤ 1 → a ≡ attribute_with s ps → Says s value a
   Always : (value ≡ none) ⊎ (value ≡ quoted []) → s ≡ statement.Unwrap → a ≡ attribute.Unwrap unwrap.Always → Says s value a
 
 -- a text begins with a statement: its name, as far as an attribute's name goes, and its value
-pub record BeginsWith (t : Text) (a : Attribute) (later : Text) : Type 0 where
+pub record BeginsWithAttribute (t : Text) (a : Attribute) (later : Text) : Type 0 where
   pub name : Text
   pub after : Text
   pub means : Statement
   pub value : ValueText
   pub whole : t ≡ name ++ after
   pub all : list_all is_key_byte name ≡ true
-  pub stops : Stops is_key_byte after
+  pub stops : BeginsApart is_key_byte after
   pub named : IsNamed name means
   pub valued : HasValue after value later
   pub says : Says means value a
@@ -96,7 +96,7 @@ pub record IsCutAtStatement (t kept from : Text) : Type 0 where
 -- the pieces of a tag that are kept, and the statements between them in their order
 pub data SpellsTag : Text → List Text → List Attribute → Type 0 where
   Last : {t : Text} → HoldsOfNone begins_statement Outside t [] → SpellsTag t (t ∷ []) []
-  More : {t kept from later : Text} {pieces : List Text} {a : Attribute} {each : List Attribute} → IsCutAtStatement t kept from → BeginsWith from a later
+  More : {t kept from later : Text} {pieces : List Text} {a : Attribute} {each : List Attribute} → IsCutAtStatement t kept from → BeginsWithAttribute from a later
       → SpellsTag later pieces each → SpellsTag t (kept ∷ pieces) (a ∷ each)
 
 -- ---- the statements together
@@ -104,30 +104,22 @@ pub data SpellsTag : Text → List Text → List Attribute → Type 0 where
 -- the value of a test
 abbrev pub as_test : Attribute → Option (List TemplatePiece)
 as_test (attribute.Test v) = Some v
-as_test (attribute.List name v) = None
-as_test (attribute.Body b) = None
-as_test (attribute.Unwrap u) = None
+as_test _ = None
 
 -- the variable and the value of a list
 abbrev pub as_list : Attribute → Option (Text × List TemplatePiece)
-as_list (attribute.Test v) = None
 as_list (attribute.List name v) = Some (name, v)
-as_list (attribute.Body b) = None
-as_list (attribute.Unwrap u) = None
+as_list _ = None
 
 -- a text, an include or a resource
 abbrev pub as_body : Attribute → Option Body
-as_body (attribute.Test v) = None
-as_body (attribute.List name v) = None
 as_body (attribute.Body b) = Some b
-as_body (attribute.Unwrap u) = None
+as_body _ = None
 
 -- when the tags are left out
 abbrev pub as_unwrap : Attribute → Option Unwrap
-as_unwrap (attribute.Test v) = None
-as_unwrap (attribute.List name v) = None
-as_unwrap (attribute.Body b) = None
 as_unwrap (attribute.Unwrap u) = Some u
+as_unwrap _ = None
 
 -- of each kind there is one at most among the statements, and it is that of the tag
 pub record HasEachOnce (each : List Attribute) (a : Attributes) : Type 0 where
@@ -151,14 +143,14 @@ abbrev pub goes_on_after_values : ℕ → Bool
 goes_on_after_values c = is_blank c || (c == 47 || c == 62)
 
 -- nothing, or first one of these
-abbrev pub IsApart : Text → Type 0
-IsApart [] = Unit {0}
-IsApart (c ∷ t) = goes_on_after_values c ≡ true
+abbrev pub GoesOnAfterValues : Text → Type 0
+GoesOnAfterValues [] = Unit {0}
+GoesOnAfterValues (c ∷ t) = goes_on_after_values c ≡ true
 
 -- after each statement the tag goes on so
 abbrev pub ArePiecesApart : List Text → Type 0
 ArePiecesApart [] = Unit {0}
-ArePiecesApart (first ∷ pieces) = AllByRecursion IsApart pieces
+ArePiecesApart (first ∷ pieces) = AllByRecursion GoesOnAfterValues pieces
 
 -- of a tag of which the pieces are apart no statement is left
 abbrev pub HasNoStatementLeftIfApart : Text → List Text → List Attribute → Type 0

@@ -38,8 +38,8 @@ abbrev pub body_alone : Option Body → Tag
 body_alone body = record { attributes = record { test = None; list = None; body = body; unwrap = None }; start = [] }
 
 -- what stands in an element: the element without its test, its list and its tags
-abbrev pub within : Tag → List Block → Block
-within tag content = block.Element (body_alone tag.attributes.body) content []
+abbrev pub inner_element : Tag → List Block → Block
+inner_element tag content = block.Element (body_alone tag.attributes.body) content []
 
 -- ---- the laws
 
@@ -63,7 +63,7 @@ abbrev pub ListsRepeatWhatStandsWithin : Type 0
 ListsRepeatWhatStandsWithin = (scope : Bindings) (tag : Tag) (content : List Block) (end_tag name : Text) (list : List TemplatePiece) (item : Text) (items : List Text)
     → StandsInTags scope tag → tag.attributes.list ≡ Some (name, list) → list_in (statement_value scope list) ≡ Some (item ∷ items)
     → block_parts (block.Element tag content end_tag) scope
-    ≡ text_parts (template_output scope tag.start) ++ (flat_map (λ one. Round ∷ block_parts (within tag content) (with_variable scope name one)) (item ∷ items) ++ text_parts end_tag)
+    ≡ text_parts (template_output scope tag.start) ++ (flat_map (λ one. Round ∷ block_parts (inner_element tag content) (with_variable scope name one)) (item ∷ items) ++ text_parts end_tag)
 
 -- one that says a text is written as one of which that text is the content
 abbrev pub TextsStandAsContent : Type 0
@@ -73,4 +73,4 @@ TextsStandAsContent = (scope : Bindings) (tag : Tag) (content : List Block) (end
 -- and so is one that puts in a script or a resource, of which the content is an element that has this statement alone, and no tags
 abbrev pub BodiesStandAsContent : Type 0
 BodiesStandAsContent = (scope : Bindings) (tag : Tag) (content : List Block) (end_tag : Text)
-    → block_parts (block.Element tag content end_tag) scope ≡ block_parts (block.Element (without_body tag) (within tag content ∷ []) end_tag) scope
+    → block_parts (block.Element tag content end_tag) scope ≡ block_parts (block.Element (without_body tag) (inner_element tag content ∷ []) end_tag) scope

@@ -70,11 +70,8 @@ LeftByOpening old new fault = (asked : Option (List Call)) × ((made : Option (L
 
 -- Disk comes only where the disk's count of faults rose, and any other answer leaves that count.
 abbrev pub HasOpenCause : {T : Type 0} → ℕ → ℕ → Result T OpenFault → Type 0
-HasOpenCause before after (Ok _) = after ≡ before
 HasOpenCause before after (Err Disk) = Rose before after
-HasOpenCause before after (Err Foreign) = after ≡ before
-HasOpenCause before after (Err EpochEnd) = after ≡ before
-HasOpenCause before after (Err NoMemory) = after ≡ before
+HasOpenCause before after _ = after ≡ before
 
 -- the number of the session is as it was, or the next
 abbrev pub HasOldNumberOrNext : Files → Files → Type 0

@@ -24,11 +24,9 @@ purged_entries (purged.NoMemory flush) = Ended flush Failed ∷ []
 
 -- what the call ran under
 abbrev pub purged_under : Purged → CallConditions
-purged_under purged.Idle = conditions_of_call false false
-purged_under (purged.More flush) = conditions_of_call false false
-purged_under (purged.Done flush) = conditions_of_call false false
 purged_under (purged.Failed flush) = conditions_of_call true false
 purged_under (purged.NoMemory flush) = conditions_of_call false true
+purged_under _ = conditions_of_call false false
 
 -- Which flush it was of, and which are unfinished before and after: none was; the oldest, which is the oldest still; or the oldest, which ended.
 abbrev pub PurgedAs : Purged → List FlushId → List FlushId → Type 0

@@ -48,12 +48,8 @@ unless_found None ms = if is_too_big ms then Err TooBig else Ok (map_of (nodes_i
 -- the content of a JSON value, which must be an object
 abbrev pub content_in : Option Data → Result Content ContentFault
 content_in None = Err NotJson
-content_in (Some null) = Err NotObject
-content_in (Some (boolean b)) = Err NotObject
-content_in (Some (number n)) = Err NotObject
-content_in (Some (string s)) = Err NotObject
-content_in (Some (array ds)) = Err NotObject
 content_in (Some (object ms)) = unless_found (fault_in (object ms)) ms
+content_in _ = Err NotObject
 
 -- the content of bytes
 abbrev pub content : List ℕ → Result Content ContentFault

@@ -40,12 +40,10 @@ own_fault ms = if has_bad_name ms then Some (here BadName) else (if has_good_ord
 
 -- what a value has against itself, whatever its members have
 abbrev pub own_cause : Data → Option Cause
-own_cause null = None
-own_cause (boolean b) = None
 own_cause (number n) = if is_some (as_i64 n) then None else Some BadNumber
-own_cause (string s) = None
 own_cause (array ds) = array_cause ds
 own_cause (object ms) = option_map (λ found. found.cause) (own_fault ms)
+own_cause _ = None
 
 -- the first fault of a value, and of the members of an object
 abbrev mutual

@@ -13,12 +13,10 @@ use Rattle.content_json.specs.declared.kind.Kind.TheVariants as kind
 
 -- the kind of an item, if it may be one
 abbrev pub item_kind : Data → Option Kind
-item_kind null = None
 item_kind (boolean b) = Some kind.Truth
 item_kind (number n) = Some kind.Long
 item_kind (string s) = Some kind.Text
-item_kind (array ds) = None
-item_kind (object ms) = None
+item_kind _ = None
 
 -- an item is a text, a number or a truth, as the kind says
 abbrev pub is_of : Kind → Data → Bool

@@ -49,12 +49,9 @@ has_no_colon name = not (slice_index name 0 == 58)
 
 -- `[]` is read as a list of texts
 abbrev pub keeps_kind : Value → Bool
-keeps_kind (Text t) = true
-keeps_kind (Long n) = true
-keeps_kind (Truth b) = true
-keeps_kind (Texts ts) = true
 keeps_kind (Longs ns) = not (length ns == 0)
 keeps_kind (Truths bs) = not (length bs == 0)
+keeps_kind _ = true
 
 -- no name of a kid or a property begins with a colon, and no list of numbers or truths is empty
 abbrev pub is_plain_node : Node → Bool

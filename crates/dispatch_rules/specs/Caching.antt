@@ -41,9 +41,7 @@ is_auto farm key = allows farm.auto (page_text key)
 -- the answer is not marked
 abbrev pub is_plain_mark : Mark → Bool
 is_plain_mark Plain = true
-is_plain_mark NoCache = false
-is_plain_mark NoStore = false
-is_plain_mark MustRevalidate = false
+is_plain_mark _ = false
 
 -- an answer with status 200 and no mark
 abbrev pub is_storable : Answer → Bool

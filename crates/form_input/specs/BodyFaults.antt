@@ -62,8 +62,6 @@ pub record HasTooMany (boundary body : List ℕ) : Type 0 where
 
 -- what a body is refused for: it has no end, told at the end of the body, or a part has no pair, told at its boundary line; or there are too many
 abbrev pub IsBodyFault : List ℕ → List ℕ → FormFault → Type 0
-IsBodyFault boundary body WrongKind = ⊥
-IsBodyFault boundary body NoBoundary = ⊥
 IsBodyFault boundary body (BadPart place) = ((place ≡ length body) × (HasNoPart boundary body ⊎ LacksEnd boundary body)) ⊎ HasBadPart boundary body place
 IsBodyFault boundary body TooMany = HasTooMany boundary body
-IsBodyFault boundary body NoMemory = ⊥
+IsBodyFault boundary body _ = ⊥

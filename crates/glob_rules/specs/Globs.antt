@@ -24,9 +24,7 @@ stands_for (Class class) c = in_glob_class c class
 -- the piece is a star
 abbrev pub is_star : GlobPiece → Bool
 is_star Star = true
-is_star AnyChar = false
-is_star (Literal d) = false
-is_star (Class class) = false
+is_star _ = false
 
 -- A star matches any run of characters, and each other piece one character that it stands for.
 pub data Matches : List GlobPiece → List ℕ → Type 0 where

@@ -5,9 +5,9 @@ use Rattle.std.proofs.lemmas.Str.{IsCharBoundary-after_ascii, IsCharBoundary-bef
 use Rattle.std.proofs.lemmas.List.{length-take-le, length-drop}
 use Rattle.sp_base.specs.Bytes.{begins_with_byte}
 use Rattle.sp_base.proofs.BoolLemmas.{and_first, and_second}
-use Rattle.htl_blocks.specs.Markup.{tag_len, begins_tag, begins_end_tag, name_len, part_len, parts, parts_after, closes, waiting_after, inside_len}
+use Rattle.htl_blocks.specs.Markup.{tag_len, begins_tag, begins_end_tag, tag_name_len, part_len, parts, parts_after, closes, waiting_after, inside_len}
 use Rattle.htl_blocks.specs.Attributes.{is_block_tag}
-use Rattle.htl_blocks.specs.Reading.{run_len}
+use Rattle.htl_blocks.specs.Reading.{text_run_len}
 use Rattle.htl_blocks.proofs.Tags.{byte_there, end_tag_at, tag_boundary, part_within}
 
 -- bytes that belong to the part before are passed over
@@ -37,13 +37,13 @@ unfolding is_block_tag begins_tag
 block_first part h = (byte_there 60 0 part (and_first _ _ (and_first _ _ h))).1
 
 -- the first block tag stands at a "<"
-block_place : (skip : ℕ) (t : List ℕ) → skip ≤ length t → (skip + run_len (parts_after skip t) ≤ length t) × (skip + run_len (parts_after skip t) < length t → slice_index t (skip + run_len (parts_after skip t)) ≡ 60)
-unfolding parts_after run_len
+block_place : (skip : ℕ) (t : List ℕ) → skip ≤ length t → (skip + text_run_len (parts_after skip t) ≤ length t) × (skip + text_run_len (parts_after skip t) < length t → slice_index t (skip + text_run_len (parts_after skip t)) ≡ 60)
+unfolding parts_after text_run_len
 block_place zero [] h = (omega arith, λ lt. absurd (omega (arith, lt)))
 block_place (suc n) [] h = absurd (omega (arith, h))
 block_place (suc n) (c ∷ t) h =
     let ih = block_place n t (omega (arith, h)) in
-    let more : suc n + run_len (parts_after n t) ≡ suc (n + run_len (parts_after n t)) = omega arith in
+    let more : suc n + text_run_len (parts_after n t) ≡ suc (n + text_run_len (parts_after n t)) = omega arith in
     rw more (omega (arith, ih.0), λ lt. ih.1 (omega (arith, lt)))
 block_place zero (c ∷ t) h = go (is_block_tag (take (part_len (c ∷ t)) (c ∷ t))) refl (λ k. block_place (part_len (c ∷ t) - 1) t k)
   where
@@ -54,20 +54,20 @@ block_place zero (c ∷ t) h = go (is_block_tag (take (part_len (c ∷ t)) (c �
     size = length-take-le (part_len (c ∷ t)) (c ∷ t) within.1
 
     go : (b : Bool) → is_block_tag (take (part_len (c ∷ t)) (c ∷ t)) ≡ b
-        → (part_len (c ∷ t) - 1 ≤ length t → ((part_len (c ∷ t) - 1) + run_len (parts_after (part_len (c ∷ t) - 1) t) ≤ length t) × ((part_len (c ∷ t) - 1) + run_len (parts_after (part_len (c ∷ t) - 1) t) < length t → slice_index t ((part_len (c ∷ t) - 1) + run_len (parts_after (part_len (c ∷ t) - 1) t)) ≡ 60))
-        → (0 + cond b 0 (length (take (part_len (c ∷ t)) (c ∷ t)) + run_len (parts_after (part_len (c ∷ t) - 1) t)) ≤ length (c ∷ t))
-        × (0 + cond b 0 (length (take (part_len (c ∷ t)) (c ∷ t)) + run_len (parts_after (part_len (c ∷ t) - 1) t)) < length (c ∷ t) → slice_index (c ∷ t) (0 + cond b 0 (length (take (part_len (c ∷ t)) (c ∷ t)) + run_len (parts_after (part_len (c ∷ t) - 1) t))) ≡ 60)
+        → (part_len (c ∷ t) - 1 ≤ length t → ((part_len (c ∷ t) - 1) + text_run_len (parts_after (part_len (c ∷ t) - 1) t) ≤ length t) × ((part_len (c ∷ t) - 1) + text_run_len (parts_after (part_len (c ∷ t) - 1) t) < length t → slice_index t ((part_len (c ∷ t) - 1) + text_run_len (parts_after (part_len (c ∷ t) - 1) t)) ≡ 60))
+        → (0 + cond b 0 (length (take (part_len (c ∷ t)) (c ∷ t)) + text_run_len (parts_after (part_len (c ∷ t) - 1) t)) ≤ length (c ∷ t))
+        × (0 + cond b 0 (length (take (part_len (c ∷ t)) (c ∷ t)) + text_run_len (parts_after (part_len (c ∷ t) - 1) t)) < length (c ∷ t) → slice_index (c ∷ t) (0 + cond b 0 (length (take (part_len (c ∷ t)) (c ∷ t)) + text_run_len (parts_after (part_len (c ∷ t) - 1) t))) ≡ 60)
     go true e later = (omega arith, λ lt. sym (first_of (part_len (c ∷ t)) c t within.0) ∙ block_first (take (part_len (c ∷ t)) (c ∷ t)) e)
     go false e later =
         let ih = later (omega (arith, within.1, within.0)) in
-        let more : 0 + (length (take (part_len (c ∷ t)) (c ∷ t)) + run_len (parts_after (part_len (c ∷ t) - 1) t)) ≡ suc ((part_len (c ∷ t) - 1) + run_len (parts_after (part_len (c ∷ t) - 1) t)) = omega (arith, size, within.0) in
+        let more : 0 + (length (take (part_len (c ∷ t)) (c ∷ t)) + text_run_len (parts_after (part_len (c ∷ t) - 1) t)) ≡ suc ((part_len (c ∷ t) - 1) + text_run_len (parts_after (part_len (c ∷ t) - 1) t)) = omega (arith, size, within.0) in
         rw more (omega (arith, ih.0), λ lt. ih.1 (omega (arith, lt)))
 
 -- a text may be cut before its first block tag
-pub run_boundary : (t : List ℕ) → IsCharBoundary t (run_len (parts t))
+pub run_boundary : (t : List ℕ) → IsCharBoundary t (text_run_len (parts t))
 run_boundary t =
     let x = block_place 0 t (omega arith) in
-    let same : 0 + run_len (parts t) ≡ run_len (parts t) = omega arith in
+    let same : 0 + text_run_len (parts t) ≡ text_run_len (parts t) = omega arith in
     let y = rw same at x in
     (y.0, λ lt big. let z = y.1 lt in omega (arith, z, big))
 
@@ -156,11 +156,11 @@ unfolding part_len
 end_tag_boundary [] utf8 some h = absurd (omega (arith, some))
 end_tag_boundary (c ∷ u) utf8 some h = go (begins_tag (c ∷ u)) (begins_end_tag (c ∷ u)) refl h
   where
-    go : (a b : Bool) → begins_end_tag (c ∷ u) ≡ b → begins_end_tag (take (cond a (tag_len (c ∷ u)) (cond b (name_len (drop 2 (c ∷ u)) + 3) 1)) (c ∷ u)) ≡ true → IsCharBoundary (c ∷ u) (cond a (tag_len (c ∷ u)) (cond b (name_len (drop 2 (c ∷ u)) + 3) 1))
+    go : (a b : Bool) → begins_end_tag (c ∷ u) ≡ b → begins_end_tag (take (cond a (tag_len (c ∷ u)) (cond b (tag_name_len (drop 2 (c ∷ u)) + 3) 1)) (c ∷ u)) ≡ true → IsCharBoundary (c ∷ u) (cond a (tag_len (c ∷ u)) (cond b (tag_name_len (drop 2 (c ∷ u)) + 3) 1))
     go true b eb x = tag_boundary (c ∷ u) utf8
     go false true eb x =
         let y = end_tag_at (c ∷ u) eb in
         let there = y.1 in
-        let more : (name_len (drop 2 (c ∷ u)) + 2) + 1 ≡ name_len (drop 2 (c ∷ u)) + 3 = omega arith in
-        subst (λ (n : ℕ). IsCharBoundary (c ∷ u) n) more (IsCharBoundary-after_ascii (c ∷ u) (name_len (drop 2 (c ∷ u)) + 2) utf8 y.0 (omega (arith, there)))
+        let more : (tag_name_len (drop 2 (c ∷ u)) + 2) + 1 ≡ tag_name_len (drop 2 (c ∷ u)) + 3 = omega arith in
+        subst (λ (n : ℕ). IsCharBoundary (c ∷ u) n) more (IsCharBoundary-after_ascii (c ∷ u) (tag_name_len (drop 2 (c ∷ u)) + 2) utf8 y.0 (omega (arith, there)))
     go false false eb x = absurd (no_end_tag c x)

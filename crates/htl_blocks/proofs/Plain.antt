@@ -12,7 +12,7 @@ use Rattle.htl_blocks.specs.declared.fault.BlockFault.TheVariants as fault
 use Rattle.htl_blocks.specs.declared.block.Block.{Block}
 use Rattle.htl_blocks.specs.Markup.{part_len, parts, parts_after}
 use Rattle.htl_blocks.specs.Attributes.{is_block_tag}
-use Rattle.htl_blocks.specs.Reading.{◌then◌, run_len, run_of, after_text_run, text_block, run_blocks, with_blocks, element, blocks_read, content_within, blocks_of}
+use Rattle.htl_blocks.specs.Reading.{◌then◌, text_run_len, run_of, after_text_run, text_block, run_blocks, with_blocks, element, blocks_read, content_within, blocks_of}
 use Rattle.htl_blocks.specs.Laws.{HasNoBlock}
 use Rattle.htl_blocks.specs.Laws as laws
 use Rattle.htl_blocks.proofs.Tags.{part_within}
@@ -20,8 +20,8 @@ use Rattle.htl_blocks.proofs.Tags.{part_within}
 first_no_block : (p : List ℕ) (more : List (List ℕ)) → HasNoBlock (p ∷ more) → (is_block_tag p ≡ false) × HasNoBlock more
 first_no_block p more (laws.part a x) = (a, x)
 
-no_block_run : (skip : ℕ) (t : List ℕ) → skip ≤ length t → HasNoBlock (parts_after skip t) → skip + run_len (parts_after skip t) ≡ length t
-unfolding parts_after run_len
+no_block_run : (skip : ℕ) (t : List ℕ) → skip ≤ length t → HasNoBlock (parts_after skip t) → skip + text_run_len (parts_after skip t) ≡ length t
+unfolding parts_after text_run_len
 no_block_run zero [] h x = omega arith
 no_block_run (suc n) [] h x = absurd (omega (arith, h))
 no_block_run (suc n) (c ∷ t) h x = let ih = no_block_run n t (omega (arith, h)) x in omega (arith, ih)
@@ -42,7 +42,7 @@ read_plain : (one : List ℕ → Result (Block × List ℕ) BlockFault) (end tur
 unfolding blocks_read run_of after_text_run
 read_plain one end turns t x =
     let sum = no_block_run 0 t (omega arith) x in
-    let all : run_len (parts t) ≡ length t = omega (arith, sum) in
+    let all : text_run_len (parts t) ≡ length t = omega (arith, sum) in
     rw (all, take-length t, drop_all t) refl
 
 same_fault : (f : TextFault) → fault_at 0 f ≡ f

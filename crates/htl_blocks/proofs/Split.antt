@@ -10,7 +10,7 @@ use Rattle.htl_blocks.specs.declared.fault.BlockFault.TheVariants as fault
 use Rattle.htl_blocks.specs.ElementText.{ElementText}
 use Rattle.htl_blocks.specs.Markup.{markup_quoting_step, ends_tag, tag_end, ended_len, tag_len, is_ended, begins_tag, part_len, parts, parts_after, tag_name, has_no_content, inside_len}
 use Rattle.htl_blocks.specs.Attributes.{is_block_tag}
-use Rattle.htl_blocks.specs.Reading.{run_len, run_of, after_text_run, cut_at, cut_after, element_cut}
+use Rattle.htl_blocks.specs.Reading.{text_run_len, run_of, after_text_run, cut_at, cut_after, element_cut}
 use Rattle.htl_blocks.specs.Laws.{HasNoBlock, Balanced, Closes, bytes_of}
 use Rattle.htl_blocks.specs.Laws as laws
 use Rattle.htl_blocks.specs.Spelling.{whole_text, FirstTag, Closed, Element}
@@ -66,13 +66,13 @@ length_parts ps qs t e = ap length (text_split ps qs t e) ∙ length-append (who
 
 -- ---- the first block tag
 
-run_all : (ps : List (List ℕ)) → HasNoBlock ps → run_len ps ≡ bytes_of ps
-unfolding run_len
+run_all : (ps : List (List ℕ)) → HasNoBlock ps → text_run_len ps ≡ bytes_of ps
+unfolding text_run_len
 run_all _ laws.none = refl
 run_all _ (laws.part {p = p} {more = ps} e x) = rw e (ap (λ (n : ℕ). length p + n) (run_all ps x))
 
-run_to : (ps : List (List ℕ)) (tag : List ℕ) (rest : List (List ℕ)) → HasNoBlock ps → is_block_tag tag ≡ true → run_len (ps ++ tag ∷ rest) ≡ bytes_of ps
-unfolding run_len
+run_to : (ps : List (List ℕ)) (tag : List ℕ) (rest : List (List ℕ)) → HasNoBlock ps → is_block_tag tag ≡ true → text_run_len (ps ++ tag ∷ rest) ≡ bytes_of ps
+unfolding text_run_len
 run_to _ tag rest laws.none b = rw b refl
 run_to _ tag rest (laws.part {p = p} {more = ps} e x) b = rw e (ap (λ (n : ℕ). length p + n) (run_to ps tag rest x b))
 
@@ -81,7 +81,7 @@ unfolding run_of after_text_run
 run_plain t x =
     let all = run_all (parts t) x in
     let size : length t ≡ bytes_of (parts t) = sym (ap length (parts_whole t)) ∙ length_text (parts t) in
-    let e : run_len (parts t) ≡ length t = all ∙ sym size in
+    let e : text_run_len (parts t) ≡ length t = all ∙ sym size in
     let whole : t ++ [] ≡ t = append_none t in
     (rw e (ap (take (length t)) (sym whole) ∙ take_front t []), rw e (ap (drop (length t)) (sym whole) ∙ drop_front t []))
   where
@@ -92,7 +92,7 @@ run_plain t x =
 pub run_tag : (t : List ℕ) (x : FirstTag t) → (run_of t ≡ whole_text x.before) × (after_text_run t ≡ whole_text (x.tag ∷ x.rest))
 unfolding run_of after_text_run
 run_tag t x =
-    let e : run_len (parts t) ≡ bytes_of x.before = ap run_len x.split ∙ run_to x.before x.tag x.rest x.plain x.block in
+    let e : text_run_len (parts t) ≡ bytes_of x.before = ap text_run_len x.split ∙ run_to x.before x.tag x.rest x.plain x.block in
     (rw e (take_parts x.before (x.tag ∷ x.rest) t x.split), rw e (drop_parts x.before (x.tag ∷ x.rest) t x.split))
 
 -- parts have a block tag, or none

@@ -3,23 +3,23 @@ use Rattle.std.proofs.Common.{◌≡◌, ◌≤◌, ◌+◌, ◌-◌, ℕ, Bool,
 use Rattle.sp_base.proofs.ListLemmas.{cons_is_some}
 use Rattle.htl_blocks.specs.Markup.{parts, parts_after, closes, waiting_after, opens, inside_len}
 use Rattle.htl_blocks.specs.Attributes.{is_block_tag}
-use Rattle.htl_blocks.specs.Reading.{run_len}
+use Rattle.htl_blocks.specs.Reading.{text_run_len}
 
 pub no_parts : (t : List ℕ) → (eqb (length t) 0) ≡ true → parts t ≡ []
 unfolding parts_after
 no_parts [] h = refl
 no_parts (c ∷ t) h = absurd (let some = cons_is_some c t in cc)
 
-pub run_none : (t : List ℕ) → (eqb (length t) 0) ≡ true → run_len (parts t) ≡ 0
-unfolding run_len
+pub run_none : (t : List ℕ) → (eqb (length t) 0) ≡ true → text_run_len (parts t) ≡ 0
+unfolding text_run_len
 run_none t h = rw (no_parts t h) refl
 
-pub run_here : (t part later : List ℕ) → parts t ≡ part ∷ parts later → is_block_tag part ≡ true → run_len (parts t) ≡ 0
-unfolding run_len
+pub run_here : (t part later : List ℕ) → parts t ≡ part ∷ parts later → is_block_tag part ≡ true → text_run_len (parts t) ≡ 0
+unfolding text_run_len
 run_here t part later e h = rw (e, h) refl
 
-pub run_more : (t part later : List ℕ) → parts t ≡ part ∷ parts later → is_block_tag part ≡ false → run_len (parts t) ≡ length part + run_len (parts later)
-unfolding run_len
+pub run_more : (t part later : List ℕ) → parts t ≡ part ∷ parts later → is_block_tag part ≡ false → text_run_len (parts t) ≡ length part + text_run_len (parts later)
+unfolding text_run_len
 run_more t part later e h = rw (e, h) refl
 
 pub inside_none : (name t : List ℕ) (waiting n : ℕ) → (eqb (length t) 0) ≡ true → inside_len name waiting n (parts t) ≡ None

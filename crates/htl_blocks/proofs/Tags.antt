@@ -12,7 +12,7 @@ use Rattle.htl_syntax.proofs.Scan.{blank_ascii}
 use Rattle.htl_syntax.proofs.Strings.{quote_ascii}
 use Rattle.htl_blocks.specs.declared.quoting.Quoting.{Quoting}
 use Rattle.htl_blocks.specs.declared.quoting.Quoting.TheVariants.{Outside, Within}
-use Rattle.htl_blocks.specs.Markup.{markup_quoting_step, ends_tag, tag_end, ended_len, tag_len, begins_tag, begins_end_tag, ends_after_name, name_len, part_len}
+use Rattle.htl_blocks.specs.Markup.{markup_quoting_step, ends_tag, tag_end, ended_len, tag_len, begins_tag, begins_end_tag, ends_after_name, tag_name_len, part_len}
 use Rattle.htl_blocks.specs.Attributes.{begins_statement, statement_place, mark_at}
 
 -- a ">" stands at the place that ends a tag
@@ -62,15 +62,15 @@ index_past_two (a ∷ []) i = let more : i + 2 ≡ suc (suc i) = omega arith in 
 index_past_two (a ∷ b ∷ t) i = let more : i + 2 ≡ suc (suc i) = omega arith in rw more refl
 
 -- a ">" ends an end tag
-pub end_tag_at : (t : List ℕ) → begins_end_tag t ≡ true → (name_len (drop 2 t) + 2 < length t) × (slice_index t (name_len (drop 2 t) + 2) ≡ 62)
+pub end_tag_at : (t : List ℕ) → begins_end_tag t ≡ true → (tag_name_len (drop 2 t) + 2 < length t) × (slice_index t (tag_name_len (drop 2 t) + 2) ≡ 62)
 unfolding begins_end_tag
 end_tag_at t h =
     let a = and_second (begins_with_byte 60 t) (begins_with_byte 47 (drop 1 t) && ends_after_name (drop 2 t)) h in
     let b = and_second (begins_with_byte 47 (drop 1 t)) (ends_after_name (drop 2 t)) a in
-    let d = and_second (begins is_letter (drop 2 t)) (begins_with_byte 62 (drop (name_len (drop 2 t)) (drop 2 t))) b in
-    let x = byte_there 62 (name_len (drop 2 t)) (drop 2 t) d in
+    let d = and_second (begins is_letter (drop 2 t)) (begins_with_byte 62 (drop (tag_name_len (drop 2 t)) (drop 2 t))) b in
+    let x = byte_there 62 (tag_name_len (drop 2 t)) (drop 2 t) d in
     let size = length-drop 2 t in
-    (omega (arith, x.0, size), sym (index_past_two t (name_len (drop 2 t))) ∙ x.1)
+    (omega (arith, x.0, size), sym (index_past_two t (tag_name_len (drop 2 t))) ∙ x.1)
 
 pub tag_within : (t : List ℕ) → 0 < length t → (1 ≤ tag_len t) × (tag_len t ≤ length t)
 unfolding tag_len
@@ -93,7 +93,7 @@ pub part_within : (t : List ℕ) → 0 < length t → (1 ≤ part_len t) × (par
 unfolding part_len
 part_within t some = go (begins_tag t) (begins_end_tag t) refl refl
   where
-    go : (a b : Bool) → begins_tag t ≡ a → begins_end_tag t ≡ b → (1 ≤ cond a (tag_len t) (cond b (name_len (drop 2 t) + 3) 1)) × (cond a (tag_len t) (cond b (name_len (drop 2 t) + 3) 1) ≤ length t)
+    go : (a b : Bool) → begins_tag t ≡ a → begins_end_tag t ≡ b → (1 ≤ cond a (tag_len t) (cond b (tag_name_len (drop 2 t) + 3) 1)) × (cond a (tag_len t) (cond b (tag_name_len (drop 2 t) + 3) 1) ≤ length t)
     go true b ea eb = tag_within t some
     go false true ea eb = let x = end_tag_at t eb in (omega arith, omega (arith, x.0))
     go false false ea eb = (omega arith, omega (arith, some))

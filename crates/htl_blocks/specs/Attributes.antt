@@ -121,23 +121,23 @@ statement_of name =
     else (if starts_with nat_eq name (codes "data-sly-list.") then list_statement (drop 14 name) else None))))))
 
 -- a statement with its value
-abbrev pub with_value : Statement → List TemplatePiece → Attribute
-with_value statement.Test v = attribute.Test v
-with_value (statement.List name) v = attribute.List name v
-with_value statement.Text v = attribute.Body (body.Text v)
-with_value statement.Include v = attribute.Body (body.Include v)
-with_value statement.Resource v = attribute.Body (body.Resource v)
-with_value statement.Unwrap v = attribute.Unwrap (unwrap.Where v)
+abbrev pub attribute_with : Statement → List TemplatePiece → Attribute
+attribute_with statement.Test v = attribute.Test v
+attribute_with (statement.List name) v = attribute.List name v
+attribute_with statement.Text v = attribute.Body (body.Text v)
+attribute_with statement.Include v = attribute.Body (body.Include v)
+attribute_with statement.Resource v = attribute.Body (body.Resource v)
+attribute_with statement.Unwrap v = attribute.Unwrap (unwrap.Where v)
 
 -- where its value has a reading
 abbrev pub with_read_value : Statement → Option (List TemplatePiece) → Option Attribute
 with_read_value s None = None
-with_read_value s (Some v) = Some (with_value s v)
+with_read_value s (Some v) = Some (attribute_with s v)
 
 -- without a value, or with an empty one, only unwrap stands
-abbrev pub without_value : Statement → Option Attribute
-without_value statement.Unwrap = Some (attribute.Unwrap unwrap.Always)
-without_value _ = None
+abbrev pub attribute_without : Statement → Option Attribute
+attribute_without statement.Unwrap = Some (attribute.Unwrap unwrap.Always)
+attribute_without _ = None
 
 -- whether a statement is unwrap
 abbrev pub unwraps : Statement → Bool
@@ -150,7 +150,7 @@ quoted_attribute s v = if length v == 0 && unwraps s then Some (attribute.Unwrap
 
 -- a statement as an attribute
 abbrev pub statement_attribute : Statement → ValueText → Option Attribute
-statement_attribute s none = without_value s
+statement_attribute s none = attribute_without s
 statement_attribute s unquoted = None
 statement_attribute s (quoted v) = quoted_attribute s v
 

@@ -19,15 +19,15 @@ abbrev pub ends_key : ℕ → Bool
 ends_key c = is_blank c || (is_quote c || (c == 61 || (c == 62 || c == 47)))
 
 -- the byte that ends a run: of a tag's name, of an attribute's name, of what stands in quotes, of blanks
-abbrev pub ends : ByteRun → ℕ → Bool
-ends run.Name c = not (is_name_byte c)
-ends run.Key c = ends_key c
-ends (run.Quoted mark) c = c == mark
-ends run.Blanks c = not (is_blank c)
+abbrev pub ends_run : ByteRun → ℕ → Bool
+ends_run run.Name c = not (is_name_byte c)
+ends_run run.Key c = ends_key c
+ends_run (run.Quoted mark) c = c == mark
+ends_run run.Blanks c = not (is_blank c)
 
 -- how many of the first bytes belong to a run
 unfoldable pub run_bytes : ByteRun → List ℕ → ℕ
-run_bytes kind t = position_or_len (ends kind) t
+run_bytes kind t = position_or_len (ends_run kind) t
 
 -- names are compared without case
 abbrev pub same_name : List ℕ → List ℕ → Bool
@@ -66,20 +66,20 @@ unfoldable pub is_ended : List ℕ → Bool
 is_ended t = not (is_none (tag_end Outside 0 t))
 
 -- how many bytes at the beginning belong to a name
-abbrev pub name_len : List ℕ → ℕ
-name_len t = run_bytes run.Name t
+abbrev pub tag_name_len : List ℕ → ℕ
+tag_name_len t = run_bytes run.Name t
 
 -- the name that a tag has after its "<"
 unfoldable pub tag_name : List ℕ → List ℕ
-tag_name t = take (name_len (drop 1 t)) (drop 1 t)
+tag_name t = take (tag_name_len (drop 1 t)) (drop 1 t)
 
 -- the name that an end tag has after its "</"
 unfoldable pub end_tag_name : List ℕ → List ℕ
-end_tag_name t = take (name_len (drop 2 t)) (drop 2 t)
+end_tag_name t = take (tag_name_len (drop 2 t)) (drop 2 t)
 
 -- a name, and ">" right after it
 abbrev pub ends_after_name : List ℕ → Bool
-ends_after_name t = begins is_letter t && begins_with_byte 62 (drop (name_len t) t)
+ends_after_name t = begins is_letter t && begins_with_byte 62 (drop (tag_name_len t) t)
 
 -- an end tag stands at the beginning: "</", a name, and ">" right after it
 unfoldable pub begins_end_tag : List ℕ → Bool
@@ -87,7 +87,7 @@ begins_end_tag t = begins_with_byte 60 t && (begins_with_byte 47 (drop 1 t) && e
 
 -- how many bytes the first part of a text has: a tag, an end tag, or one byte
 unfoldable pub part_len : List ℕ → ℕ
-part_len t = if begins_tag t then tag_len t else (if begins_end_tag t then name_len (drop 2 t) + 3 else 1)
+part_len t = if begins_tag t then tag_len t else (if begins_end_tag t then tag_name_len (drop 2 t) + 3 else 1)
 
 -- the parts of a text after the first `skip` bytes, which belong to the part before
 unfoldable pub parts_after : ℕ → List ℕ → List Text

@@ -18,9 +18,7 @@ text_parts t = map Byte t
 -- the byte that a part is
 abbrev pub part_text : Part → List ℕ
 part_text (Byte c) = c ∷ []
-part_text Round = []
-part_text (Script name vars) = []
-part_text (Resource name) = []
+part_text _ = []
 
 -- the text that is written beside what is put in
 abbrev pub text_of_parts : List Part → List ℕ
@@ -39,10 +37,8 @@ inclusions ps = count_by is_inclusion ps
 
 -- whether a part is a round
 abbrev pub is_round : Part → Bool
-is_round (Byte c) = false
 is_round Round = true
-is_round (Script name vars) = false
-is_round (Resource name) = false
+is_round _ = false
 
 -- how often the contents of lists stand
 abbrev pub rounds : List Part → ℕ

@@ -26,17 +26,17 @@ abbrev pub ◌then◌ : {A B : Type 0} → Result A BlockFault → (A → Result
 (Err e) then f = Err e
 
 -- how many bytes stand before the first block tag
-unfoldable pub run_len : List Text → ℕ
-run_len [] = 0
-run_len (part ∷ more) = if is_block_tag part then 0 else length part + run_len more
+unfoldable pub text_run_len : List Text → ℕ
+text_run_len [] = 0
+text_run_len (part ∷ more) = if is_block_tag part then 0 else length part + text_run_len more
 
 -- the text before the first block tag
 unfoldable pub run_of : List ℕ → List ℕ
-run_of t = take (run_len (parts t)) t
+run_of t = take (text_run_len (parts t)) t
 
 -- the text from the first block tag on
 unfoldable pub after_text_run : List ℕ → List ℕ
-after_text_run t = drop (run_len (parts t)) t
+after_text_run t = drop (text_run_len (parts t)) t
 
 -- a template's fault, told at this place
 abbrev pub told_at : ℕ → TextFault → TextFault

@@ -67,7 +67,7 @@ fn ends_key(c: u8) -> bool
 }
 
 fn ends(run: ByteRun, c: u8) -> bool
-    ensures { result ≡ spec.ends run c }
+    ensures { result ≡ spec.ends_run run c }
 {
     match run {
         ByteRun::Name => !is_name_byte(c),
@@ -78,7 +78,7 @@ fn ends(run: ByteRun, c: u8) -> bool
 }
 
 fn first_end(run: ByteRun, text: &[u8]) -> Option<usize>
-    ensures { result ≡ position (spec.ends run) text.now }
+    ensures { result ≡ position (spec.ends_run run) text.now }
 {
     text.iter().position(|c| ends(run, *c))
 }

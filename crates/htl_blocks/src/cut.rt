@@ -20,9 +20,9 @@ pub struct Cut<'a> {
 }
 
 /// How many bytes stand before the first block tag.
-#[tactic(auto, unfolding(crate::specs::Reading::run_len))]
+#[tactic(auto, unfolding(crate::specs::Reading::text_run_len))]
 fn run_len(text: &[u8]) -> usize
-    ensures { result ≡ reading.run_len (spec.parts text.now) }
+    ensures { result ≡ reading.text_run_len (spec.parts text.now) }
 {
     let mut len = 0;
     let mut rest = text;

@@ -53,7 +53,7 @@ pub fn after(place: usize, text: &[u8]) -> &[u8]
 
 /// How many bytes at the beginning belong to a name.
 fn name_len(text: &[u8]) -> usize
-    ensures value { result ≡ spec.name_len text.now }
+    ensures value { result ≡ spec.tag_name_len text.now }
     ensures within { result ≤ length text.now }
 {
     run_bytes(ByteRun::Name, text)

@@ -150,7 +150,7 @@ fn one_piece(template: Template) -> Option<Template>
 }
 
 fn with_value(statement: Statement, value: Template) -> Attribute
-    ensures { result ≡ spec.with_value statement value }
+    ensures { result ≡ spec.attribute_with statement value }
 {
     match statement {
         Statement::Test => Attribute::Test(value),
@@ -163,7 +163,7 @@ fn with_value(statement: Statement, value: Template) -> Attribute
 }
 
 fn without_value(statement: Statement) -> Option<Attribute>
-    ensures { result ≡ spec.without_value statement }
+    ensures { result ≡ spec.attribute_without statement }
 {
     match statement {
         Statement::Unwrap => Some(Attribute::Unwrap(Unwrap::Always)),

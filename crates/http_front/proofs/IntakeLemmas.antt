@@ -12,7 +12,7 @@ use Rattle.http_front.specs.declared.intake.Phase.{Phase}
 use Rattle.http_front.specs.declared.intake.Phase.TheVariants.{Heading, Body, Failed}
 use Rattle.http_front.specs.declared.turn.Turn.{Turn}
 use Rattle.http_front.specs.declared.turn.Turn.TheVariants.{Continue, Whole}
-use Rattle.http_front.specs.Turns.{End, Waits, Breaks, longest_head, BeginsAsking, BeginsRefused, HasBody, with_body, AwaitsHead, HasNoHead, StopsIn, BeginsWithRequest, SpellsTurns}
+use Rattle.http_front.specs.Turns.{End, Waits, Breaks, longest_head, BeginsAsking, BeginsRefused, HasBody, with_request_body, AwaitsHead, HasNoHead, StopsIn, BeginsWithRequest, SpellsTurns}
 use Rattle.http_front.specs.Intakes.{TurnsFollow, Continues, EndsIfStoodFor, IntakeLeads, KeepsIfStoodFor, LeadsByTurn, RemainderSpells, Stands, TellsIfStoodFor, rest_of}
 use Rattle.http_front.proofs.TurnLemmas.{begins_append, never_grows, window_full}
 
@@ -58,7 +58,7 @@ not_asked s more a r (Whole request ∷ turns) end b is f = (f.0, request_begins
 
 -- ---- a body
 
-pub body_taken : (a : AskedHead) (rest more : List ℕ) (request : Request) (turns : List Turn) (end : End) → a.body_length ≤ length rest → request ≡ with_body a (take a.body_length rest)
+pub body_taken : (a : AskedHead) (rest more : List ℕ) (request : Request) (turns : List Turn) (end : End) → a.body_length ≤ length rest → request ≡ with_request_body a (take a.body_length rest)
     → SpellsTurns (drop a.body_length rest ++ more) turns end → TurnsFollow a (rest ++ more) (Whole request ∷ turns) end
 body_taken a rest more request turns end fits is spells =
     let n = a.body_length in (
@@ -101,7 +101,7 @@ leads_unasked old rest a len heading is begins waits = λ more turns end f.
     (not_asked (rest_of old) more a (drop len (rest_of old)) turns end begins waits (subst (λ r. TurnsFollow a (r ++ more) turns end) is f))
 
 pub leads_body : (old : Intake) (phase : Phase) (rest : List ℕ) (a : AskedHead) (request : Request) → old.phase ≡ Body a → phase ≡ Heading → rest ≡ drop a.body_length (rest_of old)
-    → a.body_length ≤ length (rest_of old) → request ≡ with_body a (take a.body_length (rest_of old))
+    → a.body_length ≤ length (rest_of old) → request ≡ with_request_body a (take a.body_length (rest_of old))
     → (more : List ℕ) (turns : List Turn) (end : End) → Continues phase (rest ++ more) turns end → RemainderSpells old more (Whole request ∷ turns) end
 leads_body old phase rest a request body heading is fits made = λ more turns end l.
     let s : SpellsTurns (rest ++ more) turns end = subst (λ p. Continues p (rest ++ more) turns end) heading l in

@@ -12,7 +12,7 @@ use Rattle.http_front.specs.declared.head.AskedHead.{AskedHead}
 use Rattle.http_front.specs.declared.turn.Turn.{Turn}
 use Rattle.http_front.specs.declared.turn.Turn.TheVariants.{Continue, Whole}
 use Rattle.http_front.specs.Heads.{HeadParts, parts_of, head_fault, Asks, head_with}
-use Rattle.http_front.specs.Turns.{End, Waits, Breaks, longest_head, window, BeginsWith, BeginsAsking, BeginsRefused, HasBody, with_body, StopsIn, BeginsWithRequest, AwaitsAskedBody, SpellsTurns}
+use Rattle.http_front.specs.Turns.{End, Waits, Breaks, longest_head, window, BeginsWith, BeginsAsking, BeginsRefused, HasBody, with_request_body, StopsIn, BeginsWithRequest, AwaitsAskedBody, SpellsTurns}
 
 -- ---- lists
 
@@ -139,7 +139,7 @@ request_same s more x y r q rest after b c =
     let sizes : length b.body.body ≡ length c.body.body = b.body.whole ∙ ap (λ h. h.body_length) same.0 ∙ sym c.body.whole in
     let cut = leading_same b.body.body c.body.body (rest ++ more) after joined sizes in (
       sym b.awaits_is ∙ ap (λ h. h.awaits_continue) same.0 ∙ c.awaits_is,
-      b.body.request_is ∙ (λ i. with_body (same.0 i) (cut.0 i)) ∙ sym c.body.request_is,
+      b.body.request_is ∙ (λ i. with_request_body (same.0 i) (cut.0 i)) ∙ sym c.body.request_is,
       cut.1,
     )
 

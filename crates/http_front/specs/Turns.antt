@@ -42,15 +42,15 @@ pub record BeginsRefused (stream : List ℕ) (fault : InFault) : Type 0 where
   pub refused : head_fault (parts_of head) ≡ Some fault
 
 -- the request with its body
-abbrev pub with_body : AskedHead → List ℕ → Request
-with_body asked body = record asked.request { body = body }
+abbrev pub with_request_body : AskedHead → List ℕ → Request
+with_request_body asked body = record asked.request { body = body }
 
 -- the bytes after a head are the body that it tells of, and then rest
 pub record HasBody (asked : AskedHead) (bytes : List ℕ) (request : Request) (rest : List ℕ) : Type 0 where
   pub body : List ℕ
   pub joined : bytes ≡ body ++ rest
   pub whole : length body ≡ asked.body_length
-  pub request_is : request ≡ with_body asked body
+  pub request_is : request ≡ with_request_body asked body
 
 -- no whole head is there, and one may still come
 abbrev pub AwaitsHead : List ℕ → Type 0

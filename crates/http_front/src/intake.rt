@@ -1,6 +1,6 @@
 //! Reads the requests of a connection, from its bytes in any cutting.
 ghost use Rattle.std.specs.Prelude.{◌≡◌, ◌≤◌, ◌+◌, ◌-◌, drop, take, length};
-ghost use Rattle.http_front.specs.Turns.{with_body};
+ghost use Rattle.http_front.specs.Turns.{with_request_body};
 
 use crate::fault::InFault;
 use crate::head::AskedHead;
@@ -190,7 +190,7 @@ fn left(buffer: &Vec<u8>, start: usize) -> &[u8]
 }
 
 fn with_body(head: AskedHead, body: ByteBuf) -> Req
-    ensures { result ≡ with_body head body }
+    ensures { result ≡ with_request_body head body }
 {
     head.request.with_body(body)
 }

@@ -224,7 +224,5 @@ pub record IsSlice (before after : Purge) (step : PurgeStep) (old new : Files) :
 
 -- DiskFailed comes only where the disk's count of faults rose, and any other answer leaves that count.
 abbrev pub HasSliceCause : ℕ → ℕ → PurgeStep → Type 0
-HasSliceCause faults now More = now ≡ faults
-HasSliceCause faults now Done = now ≡ faults
 HasSliceCause faults now DiskFailed = Rose faults now
-HasSliceCause faults now NoMemory = now ≡ faults
+HasSliceCause faults now _ = now ≡ faults

@@ -18,9 +18,7 @@ MayCome happenings = MayComeAfter [] happenings
 -- what an entry says that came
 abbrev pub news_of_entry : WorldEntry → List Happening
 news_of_entry (Came happening) = happening ∷ []
-news_of_entry (Sent c bytes) = []
-news_of_entry (Unsent c) = []
-news_of_entry (Shut c) = []
+news_of_entry _ = []
 
 -- what came, of all that a log tells
 abbrev pub news_of : List WorldEntry → List Happening

@@ -23,10 +23,8 @@ HasSendCause before after (Err send_memory) = after ≡ before
 
 -- the same of inputs, where a file that is too long leaves the count too
 abbrev pub HasInputCause : {T : Type 0} → ℕ → ℕ → Result T InputFault → Type 0
-HasInputCause before after (Ok _) = after ≡ before
 HasInputCause before after (Err input_failed) = Rose before after
-HasInputCause before after (Err TooLong) = after ≡ before
-HasInputCause before after (Err input_memory) = after ≡ before
+HasInputCause before after _ = after ≡ before
 
 -- a count of faults rose by at least this much, or stands at its end
 abbrev pub HasRisenBy : ℕ → ℕ → ℕ → Type 0

@@ -19,14 +19,10 @@ must_fail s name = fails_next s.fails s.calls || not (is_some (file_at s.files n
 
 -- a call failed, and not because the file is too long or memory ran out
 abbrev pub has_input_failed : {T : Type 0} → Result T InputFault → Bool
-has_input_failed (Ok _) = false
 has_input_failed (Err Failed) = true
-has_input_failed (Err TooLong) = false
-has_input_failed (Err NoMemory) = false
+has_input_failed _ = false
 
 -- a call changes the counts alone
 abbrev pub inputs_after : {T : Type 0} → InputsState → Result T InputFault → InputsState
-inputs_after s (Ok _) = record s { calls = next s.calls }
 inputs_after s (Err Failed) = record s { calls = next s.calls; failed = next s.failed }
-inputs_after s (Err TooLong) = record s { calls = next s.calls }
-inputs_after s (Err NoMemory) = record s { calls = next s.calls }
+inputs_after s _ = record s { calls = next s.calls }

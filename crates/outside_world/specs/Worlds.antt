@@ -51,17 +51,13 @@ longest_piece = 65536
 
 -- a piece has at least one byte, and not too many
 abbrev pub HasSize : Happening → Type 0
-HasSize (Opened c peer) = Unit {0}
 HasSize (Piece c bytes) = (1 ≤ length bytes) × (length bytes ≤ longest_piece)
-HasSize (Gone c) = Unit {0}
-HasSize Quiet = Unit {0}
+HasSize _ = Unit {0}
 
 -- a connection that opens after a log has a number that none has which is open
 abbrev pub HasFreeNumber : List WorldEntry → Happening → Type 0
 HasFreeNumber log (Opened c peer) = is_connected log c ≡ false
-HasFreeNumber log (Piece c bytes) = Unit {0}
-HasFreeNumber log (Gone c) = Unit {0}
-HasFreeNumber log Quiet = Unit {0}
+HasFreeNumber log _ = Unit {0}
 
 -- What may come: sizes hold of each world, and numbers of one that tells its log.
 pub record IsNewsTo (told : Option (List WorldEntry)) (happening : Happening) : Type 0 where

@@ -15,7 +15,7 @@ use Rattle.stat_files.specs.Stamps.{stamp_at}
 use Rattle.docroot_changes.specs.Changes.{BesideNumber, BesidePage, BesideStamp, IsStampFolder}
 use Rattle.page_index.specs.Agreement.{Agrees, ChangesCovered, HasNoneCovered}
 use Rattle.page_index.specs.Effects.{ForgetsPage, ForgetsStamp, IsFewer, SetsPage, SetsStamp}
-use Rattle.page_index.specs.Held.{HeldNotes, HeldStamps, has_room, held_note, place_of, same_folder, same_key, weight_of}
+use Rattle.page_index.specs.Held.{HeldNotes, HeldStamps, has_room, held_note, place_of_key, same_folder, same_key, weight_of}
 use Rattle.page_index.specs.Limits.{longest_kept, most_young}
 use Rattle.page_index.specs.Notes.{held_stamp, page_noted, stamp_noted}
 use Rattle.page_index.specs.declared.index.PageIndex.{PageIndex}
@@ -129,12 +129,12 @@ beside_covered index level inv old new changes covered =
 
 -- ---- notes in two generations
 
-pub taken : (key : PageKey) (old new : PageIndex) → held_note new.young (place_of key) key ≡ None → held_note new.older (place_of key) key ≡ None
+pub taken : (key : PageKey) (old new : PageIndex) → held_note new.young (place_of_key key) key ≡ None → held_note new.older (place_of_key key) key ≡ None
     → ((at : ℕ) (other : PageKey) → same_key key other ≡ false → held_note new.young at other ≡ held_note old.young at other)
     → ((at : ℕ) (other : PageKey) → same_key key other ≡ false → held_note new.older at other ≡ held_note old.older at other) → new.stamps ≡ old.stamps → ForgetsPage key old new
 taken key old new young older beside behind same = record {
-  here = ap (λ x. option_or x (held_note new.older (place_of key) key)) young ∙ older;
-  others = λ other differ. (let apart = key_apart key other differ in λ i. option_or (beside (place_of other) other apart i) (behind (place_of other) other apart i));
+  here = ap (λ x. option_or x (held_note new.older (place_of_key key) key)) young ∙ older;
+  others = λ other differ. (let apart = key_apart key other differ in λ i. option_or (beside (place_of_key other) other apart i) (behind (place_of_key other) other apart i));
   stamps = λ folder. ap (λ s. held_stamp s folder) same;
 }
 
@@ -147,21 +147,21 @@ abbrev pub HasMadeRoom : ℕ → PageIndex → PageIndex → Type 0
 HasMadeRoom bytes old mid = (key : PageKey) → (page_noted mid key ≡ page_noted old key) ⊎ ((has_room old.young bytes ≡ false) × (page_noted mid key ≡ None))
 
 -- a note that was put into the younger generation, of which no other generation has one at its place
-pub settled : (old mid new : PageIndex) (note : PageNote) (place bytes : ℕ) → place ≡ place_of note.key → HasMadeRoom bytes old mid → mid.stamps ≡ old.stamps → new.stamps ≡ mid.stamps
+pub settled : (old mid new : PageIndex) (note : PageNote) (place bytes : ℕ) → place ≡ place_of_key note.key → HasMadeRoom bytes old mid → mid.stamps ≡ old.stamps → new.stamps ≡ mid.stamps
     → held_note new.young place note.key ≡ Some note → ((other : PageKey) → same_key note.key other ≡ false → held_note new.young place other ≡ None)
     → ((at : ℕ) (other : PageKey) → at ≢ place → held_note new.young at other ≡ held_note mid.young at other) → ((other : PageKey) → held_note new.older place other ≡ None)
     → ((at : ℕ) (other : PageKey) → at ≢ place → held_note new.older at other ≡ held_note mid.older at other) → SetsPage note.key bytes (Some note) old new
 settled old mid new note place bytes at room same also here displaced beside gone behind = record {
-  here = ap (λ x. option_or x (held_note new.older (place_of note.key) note.key)) (subst (λ p. held_note new.young p note.key ≡ Some note) at here);
+  here = ap (λ x. option_or x (held_note new.older (place_of_key note.key) note.key)) (subst (λ p. held_note new.young p note.key ≡ Some note) at here);
   others = λ other differ. ⊎_elim
       (λ one.
-      let young : held_note new.young (place_of other) other ≡ None = subst (λ p. held_note new.young p other ≡ None) (sym one) (displaced other (key_apart note.key other differ)) in
-      let older : held_note new.older (place_of other) other ≡ None = subst (λ p. held_note new.older p other ≡ None) (sym one) (gone other) in
-      inr (inr (one ∙ at), ap (λ x. option_or x (held_note new.older (place_of other) other)) young ∙ older))
+      let young : held_note new.young (place_of_key other) other ≡ None = subst (λ p. held_note new.young p other ≡ None) (sym one) (displaced other (key_apart note.key other differ)) in
+      let older : held_note new.older (place_of_key other) other ≡ None = subst (λ p. held_note new.older p other ≡ None) (sym one) (gone other) in
+      inr (inr (one ∙ at), ap (λ x. option_or x (held_note new.older (place_of_key other) other)) young ∙ older))
       (λ away.
-      let stays : page_noted new other ≡ page_noted mid other = λ i. option_or (beside (place_of other) other away i) (behind (place_of other) other away i) in
+      let stays : page_noted new other ≡ page_noted mid other = λ i. option_or (beside (place_of_key other) other away i) (behind (place_of_key other) other away i) in
       ⊎_elim (λ e. inl (stays ∙ e)) (λ w. inr (inl w.0, stays ∙ w.1)) (room other))
-      (this_place place (place_of other));
+      (this_place place (place_of_key other));
   stamps = λ folder. ap (λ s. held_stamp s folder) (also ∙ same);
 }
 
@@ -200,8 +200,8 @@ none_lent None e = refl
 none_lent (Some x) e = absurd (true≢false e)
 
 -- the note of the older generation is the one that is noted, where the younger has none
-pub in_older : (index : PageIndex) (key : PageKey) (o : Option PageNote) → held_note index.young (place_of key) key ≡ None → held_note index.older (place_of key) key ≡ o → page_noted index key ≡ o
-in_older index key o young older = ap (λ x. option_or x (held_note index.older (place_of key) key)) young ∙ older
+pub in_older : (index : PageIndex) (key : PageKey) (o : Option PageNote) → held_note index.young (place_of_key key) key ≡ None → held_note index.older (place_of_key key) key ≡ o → page_noted index key ≡ o
+in_older index key o young older = ap (λ x. option_or x (held_note index.older (place_of_key key) key)) young ∙ older
 
 -- ---- stamps
 
@@ -215,7 +215,7 @@ stamp_set folder stamp old new mid forgets fewer here others young older = recor
       let apart = folder_apart folder other differ in
       let before : held_stamp mid other ≡ held_stamp old.stamps other = forgets other ∙ ap (λ b. cond b None (held_stamp old.stamps other)) apart in
       ⊎_elim (λ e. inl (e ∙ before)) (λ w. inr (omega (arith, w.0, fewer), w.1)) (others other apart);
-  pages = λ key. λ i. option_or (held_note (young i) (place_of key) key) (held_note (older i) (place_of key) key);
+  pages = λ key. λ i. option_or (held_note (young i) (place_of_key key) key) (held_note (older i) (place_of_key key) key);
 }
 
 pub stamp_forgotten : (folder : Segments) (old new : PageIndex) → ((other : Segments) → held_stamp new.stamps other ≡ cond (same_folder folder other) None (held_stamp old.stamps other)) → new.young ≡ old.young → new.older ≡ old.older
@@ -223,7 +223,7 @@ pub stamp_forgotten : (folder : Segments) (old new : PageIndex) → ((other : Se
 stamp_forgotten folder old new forgets young older = record {
   here = forgets folder ∙ gone_here folder (held_stamp old.stamps folder);
   others = λ other differ. forgets other ∙ ap (λ b. cond b None (held_stamp old.stamps other)) (folder_apart folder other differ);
-  pages = λ key. λ i. option_or (held_note (young i) (place_of key) key) (held_note (older i) (place_of key) key);
+  pages = λ key. λ i. option_or (held_note (young i) (place_of_key key) key) (held_note (older i) (place_of_key key) key);
 }
 
 pub stamp_lost : (folder : Segments) (old new : PageIndex) → ForgetsStamp folder old new → SetsStamp folder None old new
@@ -233,10 +233,10 @@ stamp_lost folder old new forgets = record { here = forgets.here; others = λ ot
 abbrev pub with_older : PageIndex → HeldNotes → PageIndex
 with_older index older = record { young = index.young; older = older; stamps = index.stamps }
 
-pub taken_older : (key : PageKey) (place : ℕ) (old : PageIndex) (older : HeldNotes) → place ≡ place_of key → held_note old.young place key ≡ None → held_note older place key ≡ None
+pub taken_older : (key : PageKey) (place : ℕ) (old : PageIndex) (older : HeldNotes) → place ≡ place_of_key key → held_note old.young place key ≡ None → held_note older place key ≡ None
     → ((at : ℕ) (other : PageKey) → same_key key other ≡ false → held_note older at other ≡ held_note old.older at other) → ForgetsPage key old (with_older old older)
 taken_older key place old older is young gone others =
     taken key old (with_older old older) (subst (λ p. held_note old.young p key ≡ None) is young) (subst (λ p. held_note older p key ≡ None) is gone) (λ at other apart. refl) others refl
 
-pub noted_older : (key : PageKey) (place : ℕ) (index : PageIndex) (o : Option PageNote) → place ≡ place_of key → held_note index.young place key ≡ None → held_note index.older place key ≡ o → page_noted index key ≡ o
+pub noted_older : (key : PageKey) (place : ℕ) (index : PageIndex) (o : Option PageNote) → place ≡ place_of_key key → held_note index.young place key ≡ None → held_note index.older place key ≡ o → page_noted index key ≡ o
 noted_older key place index o is young older = in_older index key o (subst (λ p. held_note index.young p key ≡ None) is young) (subst (λ p. held_note index.older p key ≡ o) is older)

@@ -5,7 +5,7 @@ use Rattle.cover_rules.specs.Coverage.{deletes, touched_of}
 use Rattle.cover_rules.specs.declared.invalidation.Invalidation.{Invalidation}
 use Rattle.cover_rules.specs.declared.page.PageKey.{PageKey}
 use Rattle.cover_rules.specs.declared.stamp.Stamp.{Stamp}
-use Rattle.page_index.specs.Held.{has_room, place_of, HeldStamps}
+use Rattle.page_index.specs.Held.{has_room, place_of_key, HeldStamps}
 use Rattle.page_index.specs.Limits.{most_young}
 use Rattle.page_index.specs.Notes.{page_noted, stamp_noted, held_stamp}
 use Rattle.page_index.specs.declared.index.PageIndex.{PageIndex}
@@ -24,7 +24,7 @@ pub record IsFewer (old new : PageIndex) : Type 0 where
 -- A page's note may fall where one with so many bytes comes in for another key: where the younger generation is full, so that the older one
 -- falls, or where the two keys have one hash.
 abbrev pub MayFall : PageIndex → ℕ → PageKey → PageKey → Type 0
-MayFall index bytes key other = (has_room index.young bytes ≡ false) ⊎ (place_of other ≡ place_of key)
+MayFall index bytes key other = (has_room index.young bytes ≡ false) ⊎ (place_of_key other ≡ place_of_key key)
 
 -- the notes of other keys' pages are as they were, or fell
 abbrev pub OtherPagesStay : PageIndex → PageIndex → ℕ → PageKey → Type 0

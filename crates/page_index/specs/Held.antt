@@ -79,8 +79,8 @@ abbrev pub has_room : HeldNotes → ℕ → Bool
 has_room held more = nat_lt (length held.notes) most_young && nat_le (held.bytes + more) most_young_bytes
 
 -- the place of a key's note: its hash
-unfoldable pub place_of : PageKey → ℕ
-place_of key = finish (fold write (fold write initial (fed.str (spelling_of key.folder))) (fed.str key.file))
+unfoldable pub place_of_key : PageKey → ℕ
+place_of_key key = finish (fold write (fold write initial (fed.str (spelling_of key.folder))) (fed.str key.file))
 
 -- ---- stamps
 

@@ -8,13 +8,13 @@ use Rattle.cover_rules.specs.declared.stamp.Stamp.{Stamp}
 use Rattle.cache_files.specs.Pages.{page_under}
 use Rattle.cache_files.specs.declared.head_note.HeadNote.{HeadNote}
 use Rattle.cache_files.specs.declared.page.Page.{Page}
-use Rattle.page_index.specs.Held.{HeldStamps, bytes_kept, held_note, place_of, same_folder}
+use Rattle.page_index.specs.Held.{HeldStamps, bytes_kept, held_note, place_of_key, same_folder}
 use Rattle.page_index.specs.declared.index.PageIndex.{PageIndex}
 use Rattle.page_index.specs.declared.page_note.PageNote.{PageNote}
 
 -- the note of a key's page: that of the younger generation, else that of the older one
 abbrev pub page_noted : PageIndex → PageKey → Option PageNote
-page_noted index key = option_or (held_note index.young (place_of key) key) (held_note index.older (place_of key) key)
+page_noted index key = option_or (held_note index.young (place_of_key key) key) (held_note index.older (place_of_key key) key)
 
 -- what is noted of the head of a key's page: the head, or that there is none
 abbrev pub head_noted : PageIndex → PageKey → Option (Option HeadNote)

@@ -194,7 +194,7 @@ impl PageIndex {
 
     // Puts the note of a page that isn't noted into the younger generation. Where that is full, the older one falls.
     fn settle(&mut self, place: u64, note: PageNote) -> Mem<()>
-        requires place { place ≡ held.place_of note.key }
+        requires place { place ≡ held.place_of_key note.key }
         requires absent { page_noted self.old note.key ≡ None }
         ensures ok { OnOk result (SetsPage note.key (weight_of note) (Some note) self.old self.new) }
         ensures err { OnErr result (SetsPage note.key (weight_of note) None self.old self.new) }

@@ -36,12 +36,9 @@ fits_i64 (negsuc n) = nat_lt n (2 ^ 63)
 
 -- each number in a value is one of 64 bits
 abbrev pub has_longs : Value → Bool
-has_longs (Text t) = true
 has_longs (Long n) = fits_i64 n
-has_longs (Truth b) = true
-has_longs (Texts ts) = true
 has_longs (Longs ns) = list_all fits_i64 ns
-has_longs (Truths bs) = true
+has_longs _ = true
 
 -- the properties as members, before further members
 abbrev pub members_before : Properties → Members → Members

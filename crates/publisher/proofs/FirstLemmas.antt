@@ -27,7 +27,7 @@ use Rattle.script_rank.specs.Ranking.{is_script, spellings}
 use Rattle.script_rank.specs.Search.{at_naming, at_place, at_type, namings, script_at, script_in, search_result, with_selectors, without_selectors}
 use Rattle.script_rank.specs.declared.naming.Naming.{Naming}
 use Rattle.script_rank.specs.declared.naming.Naming.TheVariants.{SelectorsAndExtension, Selectors, LabelAndExtension, Extension, Label, Method}
-use Rattle.publisher.specs.FirstScripts.{AreAmongFirsts, AreFirst, ChangesNoScript, IsFirst, IsOf, KeepsSupers, KeptFirsts, first_at, names_super, super_in}
+use Rattle.publisher.specs.FirstScripts.{AreAmongFirsts, AreFirst, ChangesNoScript, IsFirst, IsKeptFor, KeepsSupers, KeptFirsts, first_at, names_super, super_in}
 use Rattle.publisher.specs.declared.first_scripts.FirstScript.{FirstScript}
 
 -- ---- what a search asks beside the tree
@@ -78,7 +78,7 @@ same_search tree chain a b extension selectors = λ i. first_of (λ naming. same
 -- ---- what is remembered
 
 -- what was found for a resource and a request is found for all of which this is
-found_is_first : (tree : Content) (first : FirstScript) (props : Properties) (parts : Parts) → IsOf first props parts
+found_is_first : (tree : Content) (first : FirstScript) (props : Properties) (parts : Parts) → IsKeptFor first props parts
     → first.script ≡ search_result tree (chain_of tree props) parts → IsFirst tree first
 found_is_first tree first props parts is found other others is_other =
     ap (λ chain. search_result tree chain others) (same_chain tree other props (sym is_other.type ∙ is.type) (sym is_other.super ∙ is.super))
@@ -109,7 +109,7 @@ put_either (Ok x) Put old new number first put look_ups same n other is = put_ca
 put_either (Err e) Put old new number first put look_ups same n other is = inl (ap (λ f. first_at f n) (sym same) ∙ is)
 
 -- one more is remembered, where some may have been forgotten before
-pub one_more : (tree : Content) (old some new : KeptFirsts) (first : FirstScript) (props : Properties) (parts : Parts) → AreFirst tree old → AreAmongFirsts old some → IsOf first props parts
+pub one_more : (tree : Content) (old some new : KeptFirsts) (first : FirstScript) (props : Properties) (parts : Parts) → AreFirst tree old → AreAmongFirsts old some → IsKeptFor first props parts
     → first.script ≡ search_result tree (chain_of tree props) parts
     → ((n : ℕ) (other : FirstScript) → first_at new n ≡ Some other → IsOldOrNew some first n other) → AreFirst tree new
 one_more tree old some new first props parts are among is found either number other there = by (either number other there)

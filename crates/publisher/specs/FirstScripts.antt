@@ -22,7 +22,7 @@ abbrev pub first_at : KeptFirsts → ℕ → Option FirstScript
 first_at firsts number = lookup (nat_eq number) firsts
 
 -- it is that of a resource with these properties, for a request with these parts: all that the search asks beside the tree is the same
-pub record IsOf (first : FirstScript) (props : Properties) (parts : Parts) : Type 0 where
+pub record IsKeptFor (first : FirstScript) (props : Properties) (parts : Parts) : Type 0 where
   pub type : first.type_text ≡ type_text props
   pub super : first.super_text ≡ own_super props
   pub selectors : first.selectors ≡ parts.selectors
@@ -30,7 +30,7 @@ pub record IsOf (first : FirstScript) (props : Properties) (parts : Parts) : Typ
 
 -- it is what the search finds
 abbrev pub IsFirst : Content → FirstScript → Type 0
-IsFirst tree first = (props : Properties) (parts : Parts) → IsOf first props parts → search_result tree (chain_of tree props) parts ≡ first.script
+IsFirst tree first = (props : Properties) (parts : Parts) → IsKeptFor first props parts → search_result tree (chain_of tree props) parts ≡ first.script
 
 -- each that is remembered is
 abbrev pub AreFirst : Content → KeptFirsts → Type 0

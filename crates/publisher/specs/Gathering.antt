@@ -27,8 +27,8 @@ abbrev pub bindings_in : Setting → Bindings
 bindings_in s = bindings_at (place_in s) (vars_in s)
 
 -- the parts that blocks write in a setting
-abbrev pub blocks_in : Setting → List Block → List Part
-blocks_in s blocks = blocks_parts (bindings_in s) blocks
+abbrev pub parts_in : Setting → List Block → List Part
+parts_in s blocks = blocks_parts (bindings_in s) blocks
 
 -- what stands in a setting for a part that puts something in
 abbrev pub inclusion_in : Setting → Part → Page

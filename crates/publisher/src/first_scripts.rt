@@ -3,7 +3,7 @@ ghost use Rattle.std.specs.Prelude.{◌≡◌, ◌⊎◌, [], ℕ, Some, true, I
 ghost use Rattle.type_chain.specs.Chain.{chain_of, own_super};
 ghost use Rattle.script_rank.specs.Search.{search_result as first_script};
 ghost use Rattle.publisher.specs.declared.first_scripts.FirstScript.{FirstScript};
-ghost use Rattle.publisher.specs.FirstScripts.{AreAmongFirsts, AreFirst, IsOf, first_at};
+ghost use Rattle.publisher.specs.FirstScripts.{AreAmongFirsts, AreFirst, IsKeptFor, first_at};
 ghost use Rattle.publisher.specs.Kept.{AreIndexesFor};
 
 use crate::kept_index::{Indexes, script_by_index};
@@ -45,7 +45,7 @@ pub(crate) struct FirstScript {
 
 impl FirstScript {
     fn of(alloc: Global, props: &PropList, parts: &Parts, script: &Option<Path>) -> Mem<FirstScript>
-        ensures of { IfOk result (λ first. IsOf first props.now parts.now) }
+        ensures of { IfOk result (λ first. IsKeptFor first props.now parts.now) }
         ensures script { IfOk result (λ first. first.script ≡ script.now) }
     {
         Ok(FirstScript {
@@ -59,7 +59,7 @@ impl FirstScript {
 
     // Whether it is that of a resource with these properties, for a request with these parts.
     fn is_of(&self, props: &PropList, parts: &Parts) -> bool
-        ensures { result ≡ true → IsOf self.now props.now parts.now }
+        ensures { result ≡ true → IsKeptFor self.now props.now parts.now }
     {
         is_text(&self.type_text, type_text(props))
             && is_super(&self.super_text, own_super(props))
@@ -189,7 +189,7 @@ impl FirstScripts {
     // The one of a resource with these properties, for a request with these parts, if it is remembered.
     fn known(&self, number: u64, props: &PropList, parts: &Parts) -> Option<&FirstScript>
         ensures there { IfSome result (λ first. first_at self.now number ≡ Some first.now) }
-        ensures of { IfSome result (λ first. IsOf first.now props.now parts.now) }
+        ensures of { IfSome result (λ first. IsKeptFor first.now props.now parts.now) }
     {
         match self.get(number) {
             Some(first) if first.is_of(props, parts) => Some(first),

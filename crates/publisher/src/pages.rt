@@ -5,7 +5,7 @@ ghost use Rattle.htl_expr.specs.Variables.{vars_of};
 ghost use Rattle.htl_blocks.specs.Parts as part;
 ghost use Rattle.htl_blocks.specs.Pieces.{piece_parts};
 ghost use Rattle.htl_blocks.specs.Written.{blocks_parts};
-ghost use Rattle.publisher.specs.Gathering.{Gathered, PassLimits, blocks_in, inclusion_in, script_page};
+ghost use Rattle.publisher.specs.Gathering.{Gathered, PassLimits, parts_in, inclusion_in, script_page};
 ghost use Rattle.publisher.specs.Kept.{AreReadings};
 ghost use Rattle.publisher.specs.Pages.{parts_page};
 ghost use Rattle.publisher.specs.Waits.{IsLeastOf};
@@ -52,7 +52,7 @@ pub(crate) fn write_blocks(
     blocks: &Blocks,
 ) -> Result<(), PageFault>
     requires kept { AreReadings setting.now.tree.now templates.old }
-    ensures page { Gathered setting.now.waiting result page.old page.new (parts_page (inclusion_in setting.now) (blocks_in setting.now blocks.now)) }
+    ensures page { Gathered setting.now.waiting result page.old page.new (parts_page (inclusion_in setting.now) (parts_in setting.now blocks.now)) }
     ensures kept { AreReadings setting.now.tree.now templates.new }
 {
     let scope = scope_in(setting);

@@ -70,9 +70,7 @@ one_stand fits self = record { set = if fits then bit_or self.set self.bit else 
 
 abbrev pub stand : ℕ → Place → Takers → Takers
 stand c (One one repeat) self = one_stand (is_one one c) self
-stand c Open self = self
-stand c Bar self = self
-stand c (Close repeat) self = self
+stand c _ self = self
 
 unfoldable pub stood : ℕ → List Place → Takers → Takers
 stood c [] self = self
@@ -91,9 +89,7 @@ takers_of c places = (stood c places nothing_taken).set
 abbrev pub ones : List Place → ℕ
 ones [] = 0
 ones (One one repeat ∷ places) = 1 + ones places
-ones (Open ∷ places) = ones places
-ones (Bar ∷ places) = ones places
-ones (Close repeat ∷ places) = ones places
+ones (_ ∷ places) = ones places
 
 -- before the first of this number of characters
 abbrev pub unlinked : ℕ → Linking

@@ -7,7 +7,7 @@ use Rattle.std.proofs.lemmas.Fmt.{decimal_by_steps, decimal_digit, decimal_nonem
 use Rattle.std.proofs.lemmas.List.{append-nil, append_assoc}
 use Rattle.sp_base.specs.Bytes.{is_digit}
 use Rattle.any_config.specs.Farms.{decimal, digits_after}
-use Rattle.rule_laws.specs.Numbers.{IsWritten}
+use Rattle.rule_laws.specs.Numbers.{WritesNumber}
 
 -- ---- what is read is written
 
@@ -52,7 +52,7 @@ digits_found most (b ∷ t) m n short some low e = go (is_digit b && nat_le (m *
         )
     go false is ih f = absurd cc
 
-first_found : (most c : ℕ) (t : List ℕ) (n k : ℕ) → most < 2 ^ 64 → c ≡ 48 + k → k < 10 → k ≤ most → (c == 48) && not (length t == 0) ≡ false → digits_after most k t ≡ Some n → IsWritten most (c ∷ t) n
+first_found : (most c : ℕ) (t : List ℕ) (n k : ℕ) → most < 2 ^ 64 → c ≡ 48 + k → k < 10 → k ≤ most → (c == 48) && not (length t == 0) ≡ false → digits_after most k t ≡ Some n → WritesNumber most (c ∷ t) n
 first_found most c [] n zero short is small low alone e =
     let same = some_number 0 n e in
     (ap (λ (b : ℕ). b ∷ []) is ∙ sym (decimal_digit 0 (omega arith)) ∙ ap digits_of_number same, omega (arith, low, same))
@@ -63,12 +63,12 @@ first_found most c t n (suc k) short is small low alone e =
     let rest = digits_found most t (suc k) n short (omega arith) low e in
     (ap (λ (b : ℕ). b ∷ t) is ∙ ap (λ (ds : List ℕ). ds ++ t) (sym (decimal_digit (suc k) small)) ∙ rest.0, rest.1)
 
-number_found : (most : ℕ) (text : List ℕ) (n : ℕ) → most < 2 ^ 64 → decimal most text ≡ Some n → IsWritten most text n
+number_found : (most : ℕ) (text : List ℕ) (n : ℕ) → most < 2 ^ 64 → decimal most text ≡ Some n → WritesNumber most text n
 unfolding decimal
 number_found most [] n short e = absurd cc
 number_found most (c ∷ t) n short e = go ((c == 48) && not (length t == 0)) refl e
   where
-    digit : (y : Bool) → is_digit c && nat_le (0 * 10 + (c - 48)) most ≡ y → (c == 48) && not (length t == 0) ≡ false → cond y (digits_after most (0 * 10 + (c - 48)) t) None ≡ Some n → IsWritten most (c ∷ t) n
+    digit : (y : Bool) → is_digit c && nat_le (0 * 10 + (c - 48)) most ≡ y → (c == 48) && not (length t == 0) ≡ false → cond y (digits_after most (0 * 10 + (c - 48)) t) None ≡ Some n → WritesNumber most (c ∷ t) n
     digit true is alone f =
         let d = digit_of most 0 c is in
         let at = d.is in
@@ -76,7 +76,7 @@ number_found most (c ∷ t) n short e = go ((c == 48) && not (length t == 0)) re
         first_found most c t n (0 * 10 + (c - 48)) short (omega (arith, at)) (omega (arith, small)) d.fits alone f
     digit false is alone f = absurd cc
 
-    go : (x : Bool) → (c == 48) && not (length t == 0) ≡ x → cond x None (digits_after most 0 (c ∷ t)) ≡ Some n → IsWritten most (c ∷ t) n
+    go : (x : Bool) → (c == 48) && not (length t == 0) ≡ x → cond x None (digits_after most 0 (c ∷ t)) ≡ Some n → WritesNumber most (c ∷ t) n
     go true is f = absurd cc
     go false is f = digit (is_digit c && nat_le (0 * 10 + (c - 48)) most) refl is f
 
@@ -106,7 +106,7 @@ module _ (most : ℕ) where
   digits_read : (n : ℕ) → n < 2 ^ 64 → n ≤ most → digits_after most 0 (digits_of_number n) ≡ Some n
   digits_read n short low = ap (digits_after most 0) (sym (append-nil (digits_of_number n))) ∙ decimal_by_steps Reads one_digit more_digits n short low []
 
-number_only : (most : ℕ) (text : List ℕ) (n : ℕ) → most < 2 ^ 64 → IsWritten most text n → decimal most text ≡ Some n
+number_only : (most : ℕ) (text : List ℕ) (n : ℕ) → most < 2 ^ 64 → WritesNumber most text n → decimal most text ≡ Some n
 unfolding decimal
 number_only most [] n short w =
     let low = w.1 in
@@ -124,5 +124,5 @@ number_only most (c ∷ t) (suc n) short w =
     other : 48 < c → (c == 48) ≡ false
     other more = grind (arith, nat_tests)
 
-pub numbers_are_written : (most : ℕ) (text : List ℕ) (n : ℕ) → most < 2 ^ 64 → (decimal most text ≡ Some n → IsWritten most text n) × (IsWritten most text n → decimal most text ≡ Some n)
+pub numbers_are_written : (most : ℕ) (text : List ℕ) (n : ℕ) → most < 2 ^ 64 → (decimal most text ≡ Some n → WritesNumber most text n) × (WritesNumber most text n → decimal most text ≡ Some n)
 numbers_are_written most text n short = (number_found most text n short, number_only most text n short)

@@ -3,5 +3,5 @@ use Rattle.std.specs.Prelude.{◌≡◌, ◌≤◌, ℕ, List}
 use Rattle.std.specs.Fmt.{decimal as digits_of_number}
 
 -- the text is the number's digits, without a leading zero, and it is at most that
-abbrev pub IsWritten : ℕ → List ℕ → ℕ → Type 0
-IsWritten most text n = (text ≡ digits_of_number n) × (n ≤ most)
+abbrev pub WritesNumber : ℕ → List ℕ → ℕ → Type 0
+WritesNumber most text n = (text ≡ digits_of_number n) × (n ≤ most)

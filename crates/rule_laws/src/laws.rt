@@ -10,7 +10,7 @@ ghost use Rattle.cover_rules.specs.declared.invalidation.Invalidation.{Invalidat
 ghost use Rattle.rule_laws.specs.Alike.{AreFilesAlike};
 ghost use Rattle.rule_laws.specs.FarmFaults.{IsFarmFault};
 ghost use Rattle.rule_laws.specs.FarmTable.{IsFarmOf};
-ghost use Rattle.rule_laws.specs.Numbers.{IsWritten};
+ghost use Rattle.rule_laws.specs.Numbers.{WritesNumber};
 ghost use Rattle.rule_laws.specs.Touched.{IsTouched};
 
 /// The farm of a file is its table: a farm is that of a file exactly where it has what each row of the table says.
@@ -29,7 +29,7 @@ pub fn the_first_fault_is_told()
 /// A text is a number of the table exactly where it is that number's digits, without a leading zero, and the number is at most the greatest
 /// that is asked for.
 pub fn a_number_is_its_digits()
-    ensures { (most n : ℕ) (text : Text) → most < 2 ^ 64 → (decimal most text ≡ Some n) ↔ IsWritten most text n }
+    ensures { (most n : ℕ) (text : Text) → most < 2 ^ 64 → (decimal most text ≡ Some n) ↔ WritesNumber most text n }
 {}
 
 /// Whatever else stands in a file changes nothing: two files whose members that are looked for are alike, level by level, give one farm, or one

@@ -31,13 +31,13 @@ use Rattle.resource_tree.specs.declared.patch.PatchNode.{PatchNode}
 use Rattle.resource_tree.specs.declared.patch.PatchNode.TheVariants as patch_node
 use Rattle.resource_tree.proofs.PathLemmas.{kid_parts, length-kid, name_of-kid, parent_of-kid, path_from_same, same_path_self}
 use Rattle.script_rank.specs.Index.{ScriptPathsChange, ScriptPaths, IsScriptChangeOf, IsScriptIndexOf, has_path}
-use Rattle.script_rank.specs.Noting.{AddsScript, NotesScriptEntry, has_text, has_text_there, is_named_script, is_script_text, is_script_text_there, is_text_path, leaves_script_text, text_path}
+use Rattle.script_rank.specs.Noting.{AddsScript, NotesScriptEntry, has_data_text, has_text_there, is_named_script, is_script_text, is_script_text_there, is_text_path, leaves_script_text, text_path}
 use Rattle.script_rank.specs.Ranking.{is_script, is_script_name, node_of, script_text}
 
 -- ---- a script is there where its text is
 
 text_of_node : (node : Option Node) → is_some (option_and_then (λ n. text_in n.props (codes "jcr:data")) node) ≡ has_text_there node
-unfolding has_text
+unfolding has_data_text
 text_of_node None = refl
 text_of_node (Some node) = refl
 

@@ -24,21 +24,21 @@ abbrev pub is_text_path : Segments → Bool
 is_text_path path = pointwise nat_eq (name_of path) (codes "jcr:content") && is_named_script (slice_get path (length path - 2))
 
 -- whether a node holds a script's text
-unfoldable pub has_text : Node → Bool
-has_text node = is_some (text_in node.props (codes "jcr:data"))
+unfoldable pub has_data_text : Node → Bool
+has_data_text node = is_some (text_in node.props (codes "jcr:data"))
 
 -- the same, if there is a node
 abbrev pub has_text_there : Option Node → Bool
-has_text_there node = option_map_or has_text node false
+has_text_there node = option_map_or has_data_text node false
 
 -- the same of what an entry of a patch leaves
 abbrev pub leaves_text : PatchNode → Bool
-leaves_text (patch_node.Node node) = has_text node
+leaves_text (patch_node.Node node) = has_data_text node
 leaves_text patch_node.Gone = false
 
 -- whether the node at a path holds the text of a script
 abbrev pub is_script_text : Segments → Node → Bool
-is_script_text path node = is_text_path path && has_text node
+is_script_text path node = is_text_path path && has_data_text node
 
 -- the same, if there is a node
 abbrev pub is_script_text_there : Segments → Option Node → Bool

@@ -24,28 +24,20 @@ is_html parts = pointwise nat_eq parts.extension (codes "html")
 abbrev pub selectors_in : Naming → ℕ
 selectors_in (SelectorsAndExtension k) = k
 selectors_in (Selectors k) = k
-selectors_in LabelAndExtension = 0
-selectors_in Extension = 0
-selectors_in Label = 0
-selectors_in Method = 0
+selectors_in _ = 0
 
 -- whether a name has the extension
 abbrev pub has_extension : Naming → Bool
-has_extension (SelectorsAndExtension k) = true
 has_extension (Selectors k) = false
-has_extension LabelAndExtension = true
-has_extension Extension = true
 has_extension Label = false
 has_extension Method = false
+has_extension _ = true
 
 -- whether a name has the type's label
 abbrev pub has_label : Naming → Bool
-has_label (SelectorsAndExtension k) = false
-has_label (Selectors k) = false
 has_label LabelAndExtension = true
-has_label Extension = false
 has_label Label = true
-has_label Method = false
+has_label _ = false
 
 -- from one selector to all of them
 abbrev pub IsCount : Parts → ℕ → Type 0

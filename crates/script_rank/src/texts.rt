@@ -1,6 +1,6 @@
 // The nodes that hold the texts of scripts.
 ghost use Rattle.std.specs.Prelude.{◌≡◌, OnOk, option_copied, true};
-ghost use Rattle.script_rank.specs.Noting.{AddsScript, has_text, has_text_there, is_named_script, is_text_path, leaves_text};
+ghost use Rattle.script_rank.specs.Noting.{AddsScript, has_data_text, has_text_there, is_named_script, is_text_path, leaves_text};
 ghost use Rattle.script_rank.specs.Ranking.{is_script_name};
 
 use resource_tree::{Node, PatchNode};
@@ -32,9 +32,9 @@ pub(crate) fn is_text_path(path: &Path) -> bool
 }
 
 /// Whether a node holds the text of a script.
-#[tactic(auto, unfolding(crate::specs::Noting::has_text))]
+#[tactic(auto, unfolding(crate::specs::Noting::has_data_text))]
 pub(crate) fn has_text(node: &Node) -> bool
-    ensures { result ≡ has_text node.now }
+    ensures { result ≡ has_data_text node.now }
 {
     node.props.text("jcr:data").is_some()
 }

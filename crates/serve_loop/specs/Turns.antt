@@ -164,6 +164,4 @@ with_cut turns (Some turn) = turns ++ turn ∷ []
 abbrev pub happenings_of : List WorldEntry → List Happening
 happenings_of [] = []
 happenings_of (Came news ∷ entries) = news ∷ happenings_of entries
-happenings_of (sent_entry c bytes ∷ entries) = happenings_of entries
-happenings_of (Unsent c ∷ entries) = happenings_of entries
-happenings_of (shut_entry c ∷ entries) = happenings_of entries
+happenings_of (_ ∷ entries) = happenings_of entries

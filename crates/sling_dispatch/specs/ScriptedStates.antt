@@ -37,10 +37,8 @@ pub record StoppedState : Type 0 where
 
 -- no call is planned to fail by itself
 abbrev pub PlansNoSingle : Plan → Type 0
-PlansNoSingle Never = Unit {0}
 PlansNoSingle (Once n way) = ⊥
-PlansNoSingle (From n way) = Unit {0}
-PlansNoSingle Stopped = Unit {0}
+PlansNoSingle _ = Unit {0}
 
 -- one failure more, where the call failed
 abbrev pub count_after : {T : Type 0} → ℕ → Result T DiskFault → ℕ

@@ -10,21 +10,13 @@ pub use Rattle.sp_base.specs.Names.{by_name}
 -- a value that is one text
 abbrev pub as_text : Value → Option (List ℕ)
 as_text (Text t) = Some t
-as_text (Long n) = None
-as_text (Truth b) = None
-as_text (Texts ts) = None
-as_text (Longs ns) = None
-as_text (Truths bs) = None
+as_text _ = None
 
 -- the texts of a value, which is one text or a list of them
 abbrev pub value_texts : Option Value → List texts.Text
-value_texts None = []
 value_texts (Some (Text t)) = t ∷ []
-value_texts (Some (Long n)) = []
-value_texts (Some (Truth b)) = []
 value_texts (Some (Texts ts)) = ts
-value_texts (Some (Longs ns)) = []
-value_texts (Some (Truths bs)) = []
+value_texts _ = []
 
 -- the text under a name, where the value there is one
 unfoldable pub text_in : Properties → List ℕ → Option (List ℕ)

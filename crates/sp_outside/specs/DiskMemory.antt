@@ -32,10 +32,8 @@ plan_after Stopped = Stopped
 
 -- which calls fail after a stop has ended; a single failure that is still to come stays
 abbrev pub plan_gone : Plan → Plan
-plan_gone Never = Never
 plan_gone (Once n way) = Once n way
-plan_gone (From n way) = Never
-plan_gone Stopped = Never
+plan_gone _ = Never
 
 -- a call fails exactly where the plan says so, and is out of memory only where it may pass
 abbrev pub IsPlanned : {T : Type 0} → Plan → Result T DiskFault → Type 0

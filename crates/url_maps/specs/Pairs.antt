@@ -50,10 +50,8 @@ IsPair tree asked prefix pair = IsPairOf pair.kind tree asked prefix pair
 -- a text may go on after a prefix with a slash or a dot, after that of a vanity path with a dot alone
 abbrev pub goes_on_after_prefix : PairKind → List ℕ → Bool
 goes_on_after_prefix kind [] = true
-goes_on_after_prefix Mapping (b ∷ rest) = b == 46 || b == 47
-goes_on_after_prefix Pattern (b ∷ rest) = b == 46 || b == 47
-goes_on_after_prefix Alias (b ∷ rest) = b == 46 || b == 47
 goes_on_after_prefix VanityPath (b ∷ rest) = b == 46
+goes_on_after_prefix kind (b ∷ rest) = b == 46 || b == 47
 
 -- the pair whose prefix ends at a place of a text applies to the text
 pub record Applies (tree : Content) (asked : Option Asked) (text : List ℕ) (at : ℕ) (pair : Pair) : Type 0 where

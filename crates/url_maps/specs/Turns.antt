@@ -13,11 +13,8 @@ use Rattle.sp_base.specs.Texts.{Text}
 
 -- what follows the target: what followed the prefix, after a vanity path's target at least `.html`
 abbrev pub target_ending : PairKind → List ℕ → List ℕ
-target_ending Mapping rest = rest
-target_ending Pattern rest = rest
-target_ending Alias rest = rest
 target_ending VanityPath [] = codes ".html"
-target_ending VanityPath (b ∷ rest) = b ∷ rest
+target_ending kind rest = rest
 
 -- the text after a turn
 abbrev pub text_after : Pair → ℕ → List ℕ → List ℕ

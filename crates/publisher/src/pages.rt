@@ -81,13 +81,8 @@ fn write_pieces(
     for piece in list.pieces() {
         left = left.without(size_of_piece(piece));
         let inner = Setting {
-            tree: &*setting.tree,
-            script: &*setting.script,
-            path: &*setting.path,
-            props: &*setting.props,
-            vars: &*setting.vars,
-            levels: setting.levels,
             waiting: setting.waiting.beside(left),
+            ..*setting
         };
         write_piece(page, alloc, templates, &inner, list, piece)?;
     }
@@ -145,13 +140,10 @@ fn include_script(
         return Ok(());
     };
     let inner = Setting {
-        tree: &*setting.tree,
         script: &script,
-        path: &*setting.path,
-        props: &*setting.props,
         vars: &*vars,
         levels: setting.levels - 1,
-        waiting: setting.waiting,
+        ..*setting
     };
     write_script(page, alloc, templates, &inner)
 }
@@ -182,13 +174,12 @@ fn include_resource(
         return Ok(());
     };
     let inner = Setting {
-        tree: &*setting.tree,
         script: &script,
         path: res.path(),
         props: res.props(),
         vars: &Variables::None,
         levels: setting.levels - 1,
-        waiting: setting.waiting,
+        ..*setting
     };
     write_script(page, alloc, templates, &inner)
 }

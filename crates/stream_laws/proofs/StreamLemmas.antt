@@ -85,7 +85,7 @@ without_head s none no_head = either (MayBecomeRequest (window s)) (⊎_elim (λ
 
     goes_on : MayBecomeRequest (window s) → (b : Bool) → nat_lt (length s) longest_head ≡ b → ⊥
     goes_on may true e = none [] Waits (inl ((no, may), grind (arith, nat_tests)))
-    goes_on may false e = none [] (Breaks LongHead) (inr (inr (refl, (no, may), grind (arith, nat_tests))))
+    goes_on may false e = none [] (Breaks LongHead) (inr (inr (refl, ((no, may), grind (arith, nat_tests)))))
 
 -- ---- a head
 
@@ -145,26 +145,27 @@ asking_there s h rest begins faultless =
 
 -- ---- each stream
 
-none_of : (n : ℕ) (s : List ℕ) → length s ≤ n → SpellsNone s → ⊥
-none_of n s size none = without_head s none (with_head n s size none)
+-- no shorter stream spells none
+abbrev NoneShorter : List ℕ → Type 0
+NoneShorter s = (t : List ℕ) → length t < length s → SpellsNone t → ⊥
+
+with_body : (s : List ℕ) → NoneShorter s → SpellsNone s → (asked : AskedHead) (rest : List ℕ) → BeginsAsking s asked rest → length rest < length s → (b : Bool) → nat_lt (length rest) asked.body_length ≡ b → ⊥
+with_body s shorter none asked rest begins less true e = with_short_body s asked rest none begins (grind (arith, nat_tests))
+with_body s shorter none asked rest begins less false e =
+    let n = asked.body_length in
+    let left = length-drop n rest in
+    shorter (drop n rest) (omega (arith, less, left)) (with_turns s asked.awaits_continue (with_request_body asked (take n rest)) (drop n rest) none (request_there s asked rest begins (grind (arith, nat_tests))))
+
+with_head : (s : List ℕ) → NoneShorter s → SpellsNone s → (h : RequestHead) (rest : List ℕ) → BeginsWith s h rest → ⊥
+with_head s shorter none h rest begins = go (head_fault (parts_of h)) refl
   where
-    after : (n : ℕ) (s : List ℕ) → length s ≤ n → SpellsNone s → (asked : AskedHead) (rest : List ℕ) → BeginsAsking s asked rest → length rest < length s → asked.body_length ≤ length rest → ⊥
-    after zero s size none asked rest begins less whole = absurd (omega (arith, size, less))
-    after (suc n) s size none asked rest begins less whole =
-        let left = length-drop asked.body_length rest in
-        none_of n (drop asked.body_length rest) (omega (arith, size, less, left))
-        (with_turns s asked.awaits_continue (with_request_body asked (take asked.body_length rest)) (drop asked.body_length rest) none (request_there s asked rest begins whole))
+    go : (o : Option InFault) → head_fault (parts_of h) ≡ o → ⊥
+    go (Some fault) e = none [] (Breaks fault) (inl (record { head = h; rest = rest; begins = begins; refused = e }))
+    go None e = let x = asking_there s h rest begins e in with_body s shorter none x.0 rest x.1 (rest_shorter s h rest begins) (nat_lt (length rest) x.0.body_length) refl
 
-    with_body : (n : ℕ) (s : List ℕ) → length s ≤ n → SpellsNone s → (asked : AskedHead) (rest : List ℕ) → BeginsAsking s asked rest → length rest < length s → (b : Bool) → nat_lt (length rest) asked.body_length ≡ b → ⊥
-    with_body n s size none asked rest begins less true e = with_short_body s asked rest none begins (grind (arith, nat_tests))
-    with_body n s size none asked rest begins less false e = after n s size none asked rest begins less (grind (arith, nat_tests))
-
-    with_head : (n : ℕ) (s : List ℕ) → length s ≤ n → SpellsNone s → (h : RequestHead) (rest : List ℕ) → BeginsWith s h rest → ⊥
-    with_head n s size none h rest begins = go (head_fault (parts_of h)) refl
-      where
-        go : (o : Option InFault) → head_fault (parts_of h) ≡ o → ⊥
-        go (Some fault) e = none [] (Breaks fault) (inl (record { head = h; rest = rest; begins = begins; refused = e }))
-        go None e = let x = asking_there s h rest begins e in with_body n s size none x.0 rest x.1 (rest_shorter s h rest begins) (nat_lt (length rest) x.0.body_length) refl
+none_of : (n : ℕ) (s : List ℕ) → length s ≤ n → SpellsNone s → ⊥
+none_of zero s size none = without_head s none (with_head s (λ t less. absurd (omega (arith, size, less))) none)
+none_of (suc n) s size none = without_head s none (with_head s (λ t less. none_of n t (omega (arith, size, less))) none)
 
 pub spelled : (stream : List ℕ) → SpellsNone stream → ⊥
 spelled stream = none_of (length stream) stream (omega arith)

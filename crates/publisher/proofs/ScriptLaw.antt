@@ -64,7 +64,7 @@ pieces_in (Err fault) = []
 
 -- the page of an empty script is empty
 empty_page : (tree : Content) (place : Place) (pieces : List TemplatePiece) → template_of [] ≡ Ok pieces → (page_of tree place []).text ≡ template_output (bindings_at place []) pieces
-unfolding template_pieces parts_page
+unfolding template_pieces parts_page pieces_in
 empty_page tree place pieces is = ap (template_output (bindings_at place [])) (ap pieces_in is)
 
 -- what is the page of the blocks that a text spells is what its template writes, where no block tag stands in the text

@@ -1,5 +1,7 @@
-use Rattle.std.proofs.Common.{None, refl, sym}
+use Rattle.std.proofs.Common.{None, refl, sym, ◌∙◌, ap}
+use Rattle.resource_tree.specs.Content.{Content}
 use Rattle.publisher.specs.Rendering.{script_there}
+use Rattle.publisher.specs.SeenAlone.{seen_answer}
 use Rattle.publisher.proofs.SeenAloneLemmas.{answer-as, found-none, found-script, script-whole}
 use Rattle.publisher.proofs.representations.resource_answer.Goals as goal
 
@@ -11,4 +13,5 @@ returns-in-Some-clause-answer c =
 pub returns-in-None-clause-answer : goal.returns-in-None-clause-answer
 returns-in-None-clause-answer c =
     let none = found-none c.args.content.now c.args.parts.now c.args.res.now c.args.res.now.props _ refl c.requires.script c.in-None.is in
-    answer-as _ _ _ (sym (script-whole c.args.content.now c.args.parts.now c.args.res.now c.requires.seen None none)) c.default_answer_there.ensures
+    answer-as _ _ _
+    (ap (λ (t : Content). seen_answer None t c.args.parts.now) c.tree.ensures ∙ sym (script-whole c.args.content.now c.args.parts.now c.args.res.now c.requires.seen None none)) c.default_answer_there.ensures

@@ -4,6 +4,7 @@ ghost use Rattle.std.specs.Prelude.{◌≡◌, IfOk, Some};
 use any_config::{Farm, STANDARD_FARM, farm_of, read_any};
 use cache_files::OpenFault;
 use coherence_core::{Core, Got, Requested};
+use http_front::{Framing, OPEN_GET, PreparedAnswer};
 use sp_base::{LentHead, Mem, NoMemory, Path, PathFault, Req, TextBuf};
 use sp_outside::{Disk, LONGEST_FILE_NAME, MemDisk};
 use std::alloc::Global;

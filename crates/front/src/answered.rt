@@ -8,9 +8,8 @@ ghost use Rattle.front.specs.Caches.{local_reply as reply_of, only_disk};
 
 use connections::{Awaited, ConnectionId, FlightId, FlushId, Reply};
 use cover_rules::{Invalidation, PageKey};
-use http_front::INSUFFICIENT_STORAGE;
+use http_front::{INSUFFICIENT_STORAGE, PreparedAnswer};
 use run_events::{Conditions, Note};
-use sp_base::Answer;
 
 /// What a request is answered.
 #[derive(Drop)]
@@ -101,7 +100,7 @@ impl Answered {
     pub(crate) fn hit(
         c: ConnectionId,
         key: PageKey,
-        answer: Answer,
+        answer: PreparedAnswer,
         conditions: Conditions,
     ) -> Answered
         ensures { result ≡ record { note = hit_note c key; reply = Says answer; closes = false; slices = false; conditions = conditions } }

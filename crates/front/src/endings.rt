@@ -12,7 +12,7 @@ use crate::ticketed::{TicketedFlight, first_picked, first_rendered};
 use coherence_core::{Landed, Purged};
 use connections::{Awaited, ConnectionId, FlightId, Reply};
 use flights::tickets_have_the_places_of_their_flights;
-use http_front::INSUFFICIENT_STORAGE;
+use http_front::{INSUFFICIENT_STORAGE, PreparedAnswer};
 use run_events::{Failure, Flushing, Flying, Note, Pick};
 use sp_base::Answer;
 use sp_outside::Disk;
@@ -129,7 +129,7 @@ fn landing_end(number: FlightId, connection: ConnectionId, answer: Answer, lande
         conditions,
         connection,
         awaited: Awaited::Flight(number),
-        reply: Some(Reply::Says(answer)),
+        reply: Some(Reply::Says(PreparedAnswer::of(answer))),
     }
 }
 

@@ -206,7 +206,7 @@ record ReadAs (found : Attributes) (kept t : Text) (a : Attributes) (all : Text)
 
 last_read : (found : Attributes) (kept t : Text) (a : Attributes) (all : Text) → HoldsOfNone begins_statement Outside t [] → ◌≡◌ {A = Option (Attributes × Text)} (Some (found, kept ++ t)) (Some (a, all)) → ReadAs found kept t a all
 last_read found kept t a all none e =
-    let both = same_Some {X = Attributes × Text} (found, kept ++ t) (a, all) e in
+    let both = same_Some {A = Attributes × Text} (found, kept ++ t) (a, all) e in
     let same : found ≡ a = ap (λ (x : Attributes × Text). x.0) both in
     let text : kept ++ t ≡ all = ap (λ (x : Attributes × Text). x.1) both in
     record { pieces = t ∷ []; each = []; spelled = SpellsTag.Last none; left = sym text ∙ ap (λ (u : Text). kept ++ u) (sym (append-nil t)); gathers = ap Some same }

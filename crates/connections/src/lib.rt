@@ -4,7 +4,6 @@
 
 mod answer_queue;
 mod awaited;
-mod ids;
 mod laws;
 mod place;
 mod sending;
@@ -12,7 +11,7 @@ mod sending;
 pub use answer_queue::AnswerQueue;
 pub use awaited::Awaited;
 pub use cache_ids::{FlightId, FlushId};
-pub use ids::ConnectionId;
+pub use connection_ids::ConnectionId;
 pub use laws::{
     a_closing_connection_ends, answers_in_order, each_turn_is_treated,
     permitted_hits_of_a_legal_log_are_hits, slots_of_turns, the_fixed_answer_is_its_bytes,

@@ -107,7 +107,7 @@ fn ranges_of(alloc: Global, inside: &str) -> Mem<Items<CharRange>>
 
 // The last character of the range that begins with a character, and the text after it.
 fn range_end(first: char, later: &str) -> (char, &str)
-    ensures value { spec.ranges_of (first ∷ chars later.now) ≡ spec.range first result.0 ∷ spec.ranges_of (chars result.1.now) }
+    ensures value { spec.ranges_of (first ∷ chars later.now) ≡ spec.glob_range first result.0 ∷ spec.ranges_of (chars result.1.now) }
     ensures shorter { length result.1.now ≤ length later.now }
 {
     if let Some(('-', remainder)) = first_char(later)

@@ -1,6 +1,7 @@
 -- An expression of the grammar is what its text is read as.
 use Rattle.std.proofs.Common.{◌≡◌, ℕ, true, false, ◌||◌, eqb, List, [], ◌∷◌, ◌++◌, length, Option, Some, None, Ok, codes, refl, sym, rules}
 use Rattle.sp_base.specs.Bytes.{begins_with_byte}
+use Rattle.sp_base.proofs.NatLemmas.{nat_eq_itself}
 use Rattle.htl_syntax.specs.declared.node.ExprNode.{ExprNode}
 use Rattle.htl_syntax.specs.declared.expression.Context.{Context}
 use Rattle.htl_syntax.specs.declared.expression.Context.TheVariants.{Text, Unsafe}
@@ -15,7 +16,7 @@ use Rattle.htl_syntax.proofs.Complete.{complete, part_at, part_some, foreign_opt
 literal_again : (w r : List ℕ) → literal w (w ++ r) ≡ Ok r
 unfolding literal begins_with_byte
 literal_again [] r = refl
-literal_again (c ∷ w) r = rw (again.eqb_same c) (literal_again w r)
+literal_again (c ∷ w) r = rw (nat_eq_itself c) (literal_again w r)
 
 context_word_again : (c : Context) (t : List ℕ) → spec.context_word (context_text c ++ t) ≡ Ok (c, t)
 unfolding spec.context_word begins_with_byte

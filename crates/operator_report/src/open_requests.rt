@@ -3,6 +3,7 @@
 use crate::fault_answers::AnswerTo;
 use crate::head_in_pieces::{HeadInPieces, HeadLine};
 use crate::request_head::{asked_in, path_in};
+use connection_ids::ConnectionId;
 use std::alloc::Global;
 
 /// The most bytes of a method and a target that are told.
@@ -166,8 +167,8 @@ impl OpenRequests {
     }
 
     /// Takes note of a connection that was opened. A number may be that of one that is over.
-    pub fn open(&mut self, alloc: Global, conn: u32) {
-        let place = conn as usize;
+    pub fn open(&mut self, alloc: Global, conn: ConnectionId) {
+        let place = conn.number() as usize;
         if place >= MOST_CONNECTIONS {
             return;
         }
@@ -183,25 +184,25 @@ impl OpenRequests {
     }
 
     /// Looks at a piece that was read.
-    pub fn see(&mut self, conn: u32, piece: &[u8]) {
-        if let Some(connection) = self.connections.get_mut(conn as usize) {
+    pub fn see(&mut self, conn: ConnectionId, piece: &[u8]) {
+        if let Some(connection) = self.connections.get_mut(conn.number() as usize) {
             connection.see(piece);
         }
     }
 
     /// Takes note of an answer that was sent.
-    pub fn note_answer(&mut self, conn: u32, answer: &[u8]) {
+    pub fn note_answer(&mut self, conn: ConnectionId, answer: &[u8]) {
         if answer.starts_with(INTERIM) {
             return;
         }
-        if let Some(connection) = self.connections.get_mut(conn as usize) {
+        if let Some(connection) = self.connections.get_mut(conn.number() as usize) {
             connection.note_answer();
         }
     }
 
     /// The method and the target of the request that is answered next, where that is known.
-    pub fn asked(&self, conn: u32) -> Option<&str> {
-        let connection = self.connections.get(conn as usize)?;
+    pub fn asked(&self, conn: ConnectionId) -> Option<&str> {
+        let connection = self.connections.get(conn.number() as usize)?;
         match connection.known {
             Known::Begun | Known::Asked(_) if !connection.text.is_empty() => {
                 Some(connection.text.as_str())
@@ -211,8 +212,8 @@ impl OpenRequests {
     }
 
     /// What the next answer is to.
-    pub fn answer_to(&self, conn: u32) -> AnswerTo {
-        let Some(connection) = self.connections.get(conn as usize) else {
+    pub fn answer_to(&self, conn: ConnectionId) -> AnswerTo {
+        let Some(connection) = self.connections.get(conn.number() as usize) else {
             return AnswerTo::Unknown;
         };
         match connection.known {

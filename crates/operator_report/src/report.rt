@@ -4,6 +4,7 @@ use crate::fault_answers::{cause_of, fault_status};
 use crate::object_count::object_count;
 use crate::open_requests::OpenRequests;
 use any_config::read_any;
+use connection_ids::ConnectionId;
 use farm_members::passed_members;
 use std::alloc::Global;
 use std::cell::Cell;
@@ -97,14 +98,17 @@ impl<R: Eprint + Files + Env + Drop> Report<R> {
     }
 
     /// Tells an answer on a connection, where its status is 500 and above. The request is named where that is known which it is to.
-    pub(crate) fn answer(&self, conn: u32, answer: &[u8], open: &OpenRequests) {
+    pub(crate) fn answer(&self, conn: ConnectionId, answer: &[u8], open: &OpenRequests) {
         let Some(status) = fault_status(answer) else {
             return;
         };
         let cause = cause_of(status, answer, open.answer_to(conn));
         let _ = match open.asked(conn) {
             Some(asked) => eprintln!(self.rt; "sling_dispatch: {status} to {asked}: {cause}"),
-            None => eprintln!(self.rt; "sling_dispatch: {status} on connection {conn}: {cause}"),
+            None => eprintln!(self.rt;
+                "sling_dispatch: {status} on connection {}: {cause}",
+                conn.number()
+            ),
         };
     }
 

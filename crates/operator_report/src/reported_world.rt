@@ -3,6 +3,7 @@ ghost use Rattle.std.specs.Prelude.{◌≡◌};
 
 use crate::open_requests::OpenRequests;
 use crate::report::Report;
+use connection_ids::ConnectionId;
 use outside_world::{Happening, SendFault, Work, World, WorldFault};
 use sp_outside::Words;
 use std::alloc::Global;
@@ -71,7 +72,7 @@ impl<'a, W: World + Drop, L: Words + Drop, R: Eprint + Files + Env + Drop> Repor
     }
 
     // Tells an answer that is about to be sent.
-    fn tell_answer(&mut self, conn: u32, answer: &[u8])
+    fn tell_answer(&mut self, conn: ConnectionId, answer: &[u8])
         ensures { self.new.world ≡ self.old.world }
     {
         self.report.answer(conn, answer, &self.open);
@@ -115,7 +116,7 @@ impl<'a, W: World + Drop, L: Words + Drop, R: Eprint + Files + Env + Drop> World
         came
     }
 
-    fn send(&mut self, alloc: Global, conn: u32, bytes: &[u8]) -> Result<(), SendFault> {
+    fn send(&mut self, alloc: Global, conn: ConnectionId, bytes: &[u8]) -> Result<(), SendFault> {
         self.tell_answer(conn, bytes);
         self.world.send(alloc, conn, bytes)
     }
@@ -123,7 +124,7 @@ impl<'a, W: World + Drop, L: Words + Drop, R: Eprint + Files + Env + Drop> World
     fn send_both(
         &mut self,
         alloc: Global,
-        conn: u32,
+        conn: ConnectionId,
         head: &[u8],
         body: &[u8],
     ) -> Result<(), SendFault> {
@@ -131,7 +132,7 @@ impl<'a, W: World + Drop, L: Words + Drop, R: Eprint + Files + Env + Drop> World
         self.world.send_both(alloc, conn, head, body)
     }
 
-    fn shut(&mut self, conn: u32) {
+    fn shut(&mut self, conn: ConnectionId) {
         self.world.shut(conn);
     }
 }

@@ -2,6 +2,7 @@
 use Rattle.std.proofs.Common.{◌≡◌, ◌<◌, ◌+◌, ◌++◌, ℕ, false, List, [], ◌∷◌, Some, sym, ◌∙◌, ap, subst, map, take, drop, length}
 use Rattle.std.specs.Prelude.{slice_index_or}
 use Rattle.std.proofs.lemmas.List.{append-nil, append_assoc, drop_more, map_more, take_more}
+use Rattle.connection_ids.specs.Ids.{ConnectionId}
 use Rattle.outside_world.specs.declared.world.Happening.{Happening}
 use Rattle.outside_world.specs.declared.world.WorldEntry.TheVariants.{Came}
 use Rattle.outside_world.specs.Worlds.{IsNewsTo, is_connected, open_after_news}
@@ -9,7 +10,7 @@ use Rattle.outside_world.specs.Comings.{MayComeAfter}
 use Rattle.outside_world.proofs.Openings.{open_more}
 
 -- which connections are open after one happening more
-pub opened_more : (c : ℕ) (happenings : List Happening) (i : ℕ) (h : Happening) → i < length happenings → h ≡ slice_index_or happenings i h
+pub opened_more : (c : ConnectionId) (happenings : List Happening) (i : ℕ) (h : Happening) → i < length happenings → h ≡ slice_index_or happenings i h
     → is_connected (map Came (take (i + 1) happenings)) c ≡ open_after_news c (is_connected (map Came (take i happenings)) c) h
 opened_more c happenings i h lt is =
     ap (λ log. is_connected log c) (map_more Came happenings i h lt ∙ ap (λ x. map Came (take i happenings) ++ Came x ∷ []) (sym is))

@@ -4,6 +4,7 @@ use Rattle.std.specs.Option.{unwrap_or}
 use Rattle.std.specs.Prelude.{slice_get, slice_index_or}
 use Rattle.std.proofs.lemmas.Grind.{flat_map-append}
 use Rattle.std.proofs.lemmas.Option.{get_or_from_slice_get, unwrap_or-slice_get}
+use Rattle.connection_ids.specs.Ids.{ConnectionId}
 use Rattle.outside_world.specs.declared.world.Happening.{Happening}
 use Rattle.outside_world.specs.declared.world.Happening.TheVariants.{Opened, Piece, Gone, Quiet}
 use Rattle.outside_world.specs.declared.world.WorldEntry.{WorldEntry}
@@ -12,20 +13,20 @@ use Rattle.outside_world.specs.Worlds.{HasFreeNumber, IsNewsTo, open_after_all, 
 use Rattle.outside_world.specs.Comings.{MayComeAfter, news_of, news_of_entry}
 use Rattle.outside_world.specs.WorldMemory.{first_coming}
 
-still_none : (c d : ℕ) (a b : Bool) → (b ≡ false → a ≡ false) → cond (d == c) false b ≡ false → cond (d == c) false a ≡ false
+still_none : (c d : ConnectionId) (a b : Bool) → (b ≡ false → a ≡ false) → cond (d == c) false b ≡ false → cond (d == c) false a ≡ false
 still_none c d a b less = elim (d == c) as (λ t. cond t false b ≡ false → cond t false a ≡ false) [ true ↦ λ h. refl | false ↦ less ]
 
-both_after : (c : ℕ) (a b : Bool) → (b ≡ false → a ≡ false) → (h : Happening) → open_after_news c b h ≡ false → open_after_news c a h ≡ false
+both_after : (c : ConnectionId) (a b : Bool) → (b ≡ false → a ≡ false) → (h : Happening) → open_after_news c b h ≡ false → open_after_news c a h ≡ false
 both_after c a b less (Opened d peer) = elim (d == c) as (λ t. cond t true b ≡ false → cond t true a ≡ false) [ true ↦ λ h. h | false ↦ less ]
 both_after c a b less (Piece d bytes) = less
 both_after c a b less (Gone d) = still_none c d a b less
 both_after c a b less Quiet = less
 
-shut_less : (c d : ℕ) (a b : Bool) → (b ≡ false → a ≡ false) → b ≡ false → cond (d == c) false a ≡ false
+shut_less : (c d : ConnectionId) (a b : Bool) → (b ≡ false → a ≡ false) → b ≡ false → cond (d == c) false a ≡ false
 shut_less c d a b less none = elim (d == c) as (λ t. cond t false a ≡ false) [ true ↦ refl | false ↦ less none ]
 
 -- what isn't open after what came alone isn't open after the whole log
-pub no_more_open : (c : ℕ) (a b : Bool) → (b ≡ false → a ≡ false) → (log : List WorldEntry) → open_after_all c b (map Came (news_of log)) ≡ false → open_after_all c a log ≡ false
+pub no_more_open : (c : ConnectionId) (a b : Bool) → (b ≡ false → a ≡ false) → (log : List WorldEntry) → open_after_all c b (map Came (news_of log)) ≡ false → open_after_all c a log ≡ false
 no_more_open c a b less [] = less
 no_more_open c a b less (Came h ∷ log) = no_more_open c (open_after_news c a h) (open_after_news c b h) (both_after c a b less h) log
 no_more_open c a b less (Sent d bytes ∷ log) = no_more_open c a b less log

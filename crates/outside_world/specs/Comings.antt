@@ -1,6 +1,7 @@
 -- Which happenings may come one after the other, and which connections a world in memory keeps room for.
 use Rattle.std.specs.Prelude.{◌≡◌, ◌≤◌, ◌++◌, ◌==◌, ◌+◌, ℕ, Bool, List, [], ◌∷◌, Some, length, map, false}
 use Rattle.std.specs.List.{flat_map, list_any}
+use Rattle.connection_ids.specs.Ids.{ConnectionId}
 use Rattle.outside_world.specs.declared.world.Happening.{Happening}
 use Rattle.outside_world.specs.declared.world.WorldEntry.{WorldEntry}
 use Rattle.outside_world.specs.declared.world.WorldEntry.TheVariants.{Came, Sent, Unsent, Shut}
@@ -24,15 +25,15 @@ news_of_entry _ = []
 abbrev pub news_of : List WorldEntry → List Happening
 news_of log = flat_map news_of_entry log
 
--- a number is among these
-abbrev pub has_connection : ℕ → List ℕ → Bool
-has_connection c numbers = list_any (λ d. d == c) numbers
+-- a connection is among these
+abbrev pub has_connection : ConnectionId → List ConnectionId → Bool
+has_connection c connections = list_any (λ d. d == c) connections
 
--- The numbers are those of the connections that are open after a log, and there is room for one more entry for each.
-pub record KeepsRoom (capacity : ℕ) (log : List WorldEntry) (numbers : List ℕ) : Type 0 where
-  pub listed : (c : ℕ) → is_connected log c ≡ has_connection c numbers
-  pub room : length log + length numbers ≤ capacity
+-- These are the connections that are open after a log, and there is room for one more entry for each.
+pub record KeepsRoom (capacity : ℕ) (log : List WorldEntry) (connections : List ConnectionId) : Type 0 where
+  pub listed : (c : ConnectionId) → is_connected log c ≡ has_connection c connections
+  pub room : length log + length connections ≤ capacity
 
 -- no connection with this number is open after these happenings
-abbrev pub HasFreeNumberAfter : List Happening → ℕ → Type 0
+abbrev pub HasFreeNumberAfter : List Happening → ConnectionId → Type 0
 HasFreeNumberAfter before c = is_connected (map Came before) c ≡ false

@@ -1,6 +1,7 @@
 -- The state of a world in memory, and what each call does to it.
 use Rattle.std.specs.Prelude.{◌≡◌, ◌++◌, ℕ, Bool, true, false, List, [], ◌∷◌, Result, Ok, Err, drop}
 use Rattle.sp_outside.specs.Causes.{next}
+use Rattle.connection_ids.specs.Ids.{ConnectionId}
 use Rattle.outside_world.specs.Worlds.{send_entries, shut_entries}
 use Rattle.outside_world.specs.declared.world.Happening.{Happening}
 use Rattle.outside_world.specs.declared.world.Happening.TheVariants.{Quiet}
@@ -47,13 +48,13 @@ next_after s (Err next_failed) = record s { next_calls = next s.next_calls; next
 next_after s (Err next_memory) = record s { next_calls = next s.next_calls }
 
 -- a sending is told, and so is that it failed
-abbrev pub send_after : WorldState → ℕ → List ℕ → Result Unit SendFault → WorldState
+abbrev pub send_after : WorldState → ConnectionId → List ℕ → Result Unit SendFault → WorldState
 send_after s c bytes (Ok done) = record s { log = s.log ++ send_entries c bytes (Ok done); send_calls = next s.send_calls }
 send_after s c bytes (Err send_failed) = record s { log = s.log ++ send_entries c bytes (Err send_failed); send_calls = next s.send_calls; send_failed = next s.send_failed }
 send_after s c bytes (Err send_memory) = record s { send_calls = next s.send_calls }
 
 -- a shutting is told where the connection was open
-abbrev pub shut_after : WorldState → ℕ → WorldState
+abbrev pub shut_after : WorldState → ConnectionId → WorldState
 shut_after s c = record s { log = s.log ++ shut_entries s.log c }
 
 -- a world in memory to which nothing has come yet

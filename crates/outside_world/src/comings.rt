@@ -5,6 +5,7 @@ ghost use Rattle.outside_world.specs.Comings.{MayCome};
 ghost use Rattle.outside_world.specs.Worlds.{HasSize, IsNewsTo, is_connected, open_after_news};
 
 use crate::{Happening, HappeningList, LONGEST_PIECE};
+use connection_ids::ConnectionId;
 
 /// Whether happenings may come one after the other in a world in memory: each piece has 1 to `LONGEST_PIECE` bytes, and no connection
 /// opens with the number of one that opened before and isn't gone since.
@@ -39,7 +40,7 @@ fn is_news(before: &[Happening], happening: &Happening) -> bool
     }
 }
 
-fn is_open_after(before: &[Happening], conn: u32) -> bool
+fn is_open_after(before: &[Happening], conn: ConnectionId) -> bool
     ensures { result ≡ is_connected (map Came before.now) conn }
 {
     let mut is_open = false;
@@ -50,7 +51,7 @@ fn is_open_after(before: &[Happening], conn: u32) -> bool
 }
 
 // Whether a connection is open after a happening, where it was so or not before.
-fn follows(conn: u32, was_open: bool, happening: &Happening) -> bool
+fn follows(conn: ConnectionId, was_open: bool, happening: &Happening) -> bool
     ensures { result ≡ open_after_news conn was_open happening.now }
 {
     match happening {

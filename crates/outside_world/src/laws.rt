@@ -1,5 +1,6 @@
 //! What follows from the definitions of a world: laws, on functions that do nothing.
 ghost use Rattle.std.specs.Prelude.{◌≡◌, ◌↔◌, ◌++◌, ◌∷◌, ◌+◌, ℕ, List, [], Option, IsTrue};
+ghost use Rattle.connection_ids.specs.Ids.{ConnectionId};
 ghost use Rattle.outside_world.specs.declared.world.Happening.{Happening};
 ghost use Rattle.outside_world.specs.declared.world.Happening.TheVariants.{Opened};
 ghost use Rattle.outside_world.specs.declared.world.WorldEntry.{WorldEntry};
@@ -23,11 +24,11 @@ pub fn entries_add_up()
 
 /// A connection is open after a log exactly where an `Opened` of it stands in the log and nothing after it has closed it.
 pub fn openings_stand_in_the_log()
-    ensures { (log : List WorldEntry) (c : ℕ) → IsTrue (is_connected log c) ↔ HasOpening log c }
+    ensures { (log : List WorldEntry) (c : ConnectionId) → IsTrue (is_connected log c) ↔ HasOpening log c }
 {}
 
 /// Of happenings that may come each has its size, and one that opens a connection has a number that no connection has which opened before and isn't gone.
 pub fn happenings_that_may_come()
     ensures sizes { (before later : List Happening) (happening : Happening) → MayCome (before ++ happening ∷ later) → HasSize happening }
-    ensures numbers { (before later : List Happening) (c : ℕ) (peer : List ℕ) → MayCome (before ++ Opened c peer ∷ later) → HasFreeNumberAfter before c }
+    ensures numbers { (before later : List Happening) (c : ConnectionId) (peer : List ℕ) → MayCome (before ++ Opened c peer ∷ later) → HasFreeNumberAfter before c }
 {}

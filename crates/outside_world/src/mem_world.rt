@@ -10,6 +10,7 @@ ghost use Rattle.outside_world.specs.WorldMemory.{IsSendListed, first_coming, ha
 
 use crate::coming::Coming;
 use crate::{Happening, HappeningList, SendFault, Work, World, WorldEntry, WorldFault, WorldLog};
+use connection_ids::ConnectionId;
 use sp_base::{ByteBuf, CallList, Mem};
 use std::alloc::Global;
 use std::marker::Model;
@@ -94,7 +95,7 @@ impl MemWorld {
     }
 
     // Counts a call that sends. Where it is listed, it has failed.
-    fn begin_sending(&mut self, conn: u32) -> Result<(), SendFault>
+    fn begin_sending(&mut self, conn: ConnectionId) -> Result<(), SendFault>
         ensures listed { IsSendListed (fails_next self.old.send_fails self.old.send_calls) result }
         ensures ok { OnOk result (self.new ≡ record self.old { send_calls = next self.old.send_calls }) }
         ensures err { OnErr result (self.new ≡ send_after self.old conn [] result) }
@@ -146,7 +147,7 @@ impl World for MemWorld {
         Ok(self.take(alloc)?)
     }
 
-    fn send(&mut self, alloc: Global, conn: u32, bytes: &[u8]) -> Result<(), SendFault>
+    fn send(&mut self, alloc: Global, conn: ConnectionId, bytes: &[u8]) -> Result<(), SendFault>
         ensures listed { IsSendListed (fails_next self.old.send_fails self.old.send_calls) result }
         ensures told { self.new ≡ send_after self.old conn bytes.now result }
 
@@ -164,7 +165,7 @@ impl World for MemWorld {
     fn send_both(
         &mut self,
         alloc: Global,
-        conn: u32,
+        conn: ConnectionId,
         head: &[u8],
         body: &[u8],
     ) -> Result<(), SendFault>
@@ -183,7 +184,7 @@ impl World for MemWorld {
         Ok(())
     }
 
-    fn shut(&mut self, conn: u32)
+    fn shut(&mut self, conn: ConnectionId)
         ensures told { self.new ≡ shut_after self.old conn }
 
         // What every world promises.

@@ -5,21 +5,22 @@ ghost use Rattle.outside_world.specs.Faults.{HasNextCause, HasSendCause};
 ghost use Rattle.outside_world.specs.declared.world.WorldFault.TheVariants.{NoMemory as next_memory};
 ghost use Rattle.outside_world.specs.declared.world.SendFault.TheVariants.{NoMemory as send_memory};
 
+use connection_ids::ConnectionId;
 use sp_base::{ByteBuf, Items, Mem, NoMemory, TextBuf};
 use std::alloc::{AllocError, Global};
 
 /// The most bytes of a piece.
 pub const LONGEST_PIECE: usize = 65_536;
 
-/// What comes from clients. Each connection has a number.
+/// What comes from clients.
 #[derive(Drop)]
 pub enum Happening {
     /// A connection is open, from this address: the peer's IP address as text, without its port.
-    Opened(u32, TextBuf),
+    Opened(ConnectionId, TextBuf),
     /// Bytes came on a connection, at least one and at most `LONGEST_PIECE`.
-    Piece(u32, ByteBuf),
+    Piece(ConnectionId, ByteBuf),
     /// The client sends nothing more.
-    Gone(u32),
+    Gone(ConnectionId),
     /// Nothing came.
     Quiet,
 }
@@ -45,10 +46,10 @@ impl Happening {
 #[derive(Drop)]
 pub enum WorldEntry {
     Came(Happening),
-    Sent(u32, ByteBuf),
+    Sent(ConnectionId, ByteBuf),
     /// A sending failed.
-    Unsent(u32),
-    Shut(u32),
+    Unsent(ConnectionId),
+    Shut(ConnectionId),
 }
 
 /// Whether there is something to do while nothing comes.
@@ -130,7 +131,7 @@ pub trait World {
         ensures send_count { send_faults self.new ≡ send_faults self.old };
 
     /// Sends bytes on a connection. They may be on their way after the call.
-    fn send(&mut self, alloc: Global, conn: u32, bytes: &[u8]) -> Result<(), SendFault>
+    fn send(&mut self, alloc: Global, conn: ConnectionId, bytes: &[u8]) -> Result<(), SendFault>
         ensures after { log self.new ≡ told_after_send (log self.old) conn bytes.now result }
         ensures cause { HasSendCause (send_faults self.old) (send_faults self.new) result }
         ensures next_count { next_faults self.new ≡ next_faults self.old };
@@ -139,7 +140,7 @@ pub trait World {
     fn send_both(
         &mut self,
         alloc: Global,
-        conn: u32,
+        conn: ConnectionId,
         head: &[u8],
         body: &[u8],
     ) -> Result<(), SendFault>
@@ -148,7 +149,7 @@ pub trait World {
         ensures next_count { next_faults self.new ≡ next_faults self.old };
 
     /// Shuts a connection, if it is open, once all that was sent on it is gone.
-    fn shut(&mut self, conn: u32)
+    fn shut(&mut self, conn: ConnectionId)
         ensures after { log self.new ≡ told_shut (log self.old) conn }
         ensures next_count { next_faults self.new ≡ next_faults self.old }
         ensures send_count { send_faults self.new ≡ send_faults self.old };

@@ -1,9 +1,11 @@
 //! The log of a world in memory.
-ghost use Rattle.std.specs.Prelude.{◌≡◌, ◌≤◌, ◌<◌, ◌==◌, ◌+◌, ◌++◌, ◌∷◌, [], ℕ, false, if◌then◌else◌, IsTrue, OnErr, OnOk, length, option_copied, slice_get, vec_capacity};
+ghost use Rattle.std.specs.Prelude.{◌≡◌, ◌≤◌, ◌<◌, ◌==◌, ◌+◌, ◌++◌, ◌∷◌, [], false, if◌then◌else◌, IsTrue, OnErr, OnOk, length, option_copied, slice_get, vec_capacity};
+ghost use Rattle.connection_ids.specs.Ids as ids;
 ghost use Rattle.outside_world.specs.Comings.{has_connection};
 ghost use Rattle.outside_world.specs.Worlds.{open_after, shut_entries};
 
 use crate::{Happening, WorldEntry};
+use connection_ids::ConnectionId;
 use sp_base::Mem;
 use std::alloc::Global;
 use std::marker::Model;
@@ -12,8 +14,8 @@ use std::marker::Model;
 #[derive(Drop)]
 pub struct WorldLog {
     entries: Vec<WorldEntry>,
-    // The numbers of the connections that are open.
-    opened: Vec<u32>,
+    // The connections that are open.
+    opened: Vec<ConnectionId>,
 }
 
 impl Model for WorldLog {
@@ -51,7 +53,7 @@ impl WorldLog {
     }
 
     /// Adds that a connection is shut, if it is open. This takes no memory.
-    pub fn shut(&mut self, conn: u32)
+    pub fn shut(&mut self, conn: ConnectionId)
         ensures { self.new ≡ self.old ++ shut_entries self.old conn }
     {
         if self.opened.as_slice().contains(&conn) {
@@ -80,9 +82,9 @@ impl WorldLog {
     }
 }
 
-// Makes the numbers of open connections those after an entry.
-fn follow(opened: &mut Vec<u32>, entry: &WorldEntry) -> Mem<()>
-    ensures ok { OnOk result ((c : ℕ) → has_connection c opened.new.items ≡ open_after c (has_connection c opened.old.items) entry.now) }
+// Makes the open connections those after an entry.
+fn follow(opened: &mut Vec<ConnectionId>, entry: &WorldEntry) -> Mem<()>
+    ensures ok { OnOk result ((c : ids.ConnectionId) → has_connection c opened.new.items ≡ open_after c (has_connection c opened.old.items) entry.now) }
     ensures few { OnOk result (length opened.new.items ≤ length opened.old.items + 1) }
     ensures err { OnErr result (opened.new.items ≡ opened.old.items) }
 {
@@ -95,11 +97,11 @@ fn follow(opened: &mut Vec<u32>, entry: &WorldEntry) -> Mem<()>
     Ok(())
 }
 
-// Takes a number out.
-fn take_out(opened: &mut Vec<u32>, conn: u32)
-    ensures left { (c : ℕ) → has_connection c opened.new.items ≡ (if conn == c then false else has_connection c opened.old.items) }
+// Takes a connection out.
+fn take_out(opened: &mut Vec<ConnectionId>, conn: ConnectionId)
+    ensures left { (c : ids.ConnectionId) → has_connection c opened.new.items ≡ (if conn == c then false else has_connection c opened.old.items) }
     ensures few { length opened.new.items ≤ length opened.old.items }
     ensures fewer { IsTrue (has_connection conn opened.old.items) → length opened.new.items < length opened.old.items }
 {
-    opened.retain(|number| *number != conn);
+    opened.retain(|open| *open != conn);
 }

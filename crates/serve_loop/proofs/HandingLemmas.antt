@@ -1,8 +1,9 @@
 -- What is handed on of notes, where the connections that they name are open: their entries.
-use Rattle.std.proofs.Common.{◌≡◌, ◌++◌, ◌∙◌, inl, inr, ℕ, true, List, [], ◌∷◌, Option, Some, None, IfSome, sym, ap, subst, refl, append_assoc, if◌then◌else◌}
+use Rattle.std.proofs.Common.{◌≡◌, ◌++◌, ◌∙◌, inl, inr, true, List, [], ◌∷◌, Option, Some, None, IfSome, sym, ap, subst, refl, append_assoc, if◌then◌else◌}
 use Rattle.outside_world.specs.Worlds.{is_connected, told_more, told_shut}
 use Rattle.outside_world.specs.declared.world.WorldEntry.{WorldEntry}
 use Rattle.outside_world.specs.declared.world.WorldEntry.TheVariants.{Unsent, Shut as shut_entry}
+use Rattle.connections.specs.Ids.{ConnectionId}
 use Rattle.run_events.specs.declared.note.Note.{Note}
 use Rattle.run_events.specs.declared.note.Note.TheVariants as note
 use Rattle.serve_loop.specs.declared.handing.HandedOn.{HandedOn}
@@ -12,7 +13,7 @@ use Rattle.serve_loop.specs.Hands.{AreOfOpen, FailsHere, HandsOn, IsOfOpen, IsUn
 use Rattle.serve_loop.proofs.LogLemmas.{open_more, told_nothing, told_twice}
 
 -- a connection that is open is shut
-shut_is_told : (told : Option (List WorldEntry)) (c : ℕ) → IfSome told (λ log. is_connected log c ≡ true) → told_shut told c ≡ told_more told (shut_entry c ∷ [])
+shut_is_told : (told : Option (List WorldEntry)) (c : ConnectionId) → IfSome told (λ log. is_connected log c ≡ true) → told_shut told c ≡ told_more told (shut_entry c ∷ [])
 shut_is_told None c h = refl
 shut_is_told (Some log) c h = ap (λ b. Some (log ++ (if b then shut_entry c ∷ [] else []))) h
 
@@ -66,11 +67,11 @@ all_is_told told (n ∷ notes) h =
     ap (λ t. world_told_notes t notes) (note_is_told told n (head_is_of_open told n notes h)) ∙ (all_is_told (told_more told (entries_of_note n)) notes (rest_is_of_open told n notes h)
     ∙ told_twice told (entries_of_note n) (entries_of_notes notes))
 
-unsent_stays_open : (told : Option (List WorldEntry)) (c : ℕ) → IfSome told (λ log. is_connected log c ≡ true) → IfSome (told_more told (Unsent c ∷ [])) (λ log. is_connected log c ≡ true)
+unsent_stays_open : (told : Option (List WorldEntry)) (c : ConnectionId) → IfSome told (λ log. is_connected log c ≡ true) → IfSome (told_more told (Unsent c ∷ [])) (λ log. is_connected log c ≡ true)
 unsent_stays_open None c h = tt
 unsent_stays_open (Some log) c h = open_more log c (Unsent c) ∙ h
 
-failed_here : (c : ℕ) (told new : Option (List WorldEntry)) (n : Note) (notes : List Note) → AreOfOpenIn told (n ∷ notes) → FailsHere c told new n → TellsHanded (FailedAt c) told new (n ∷ notes)
+failed_here : (c : ConnectionId) (told new : Option (List WorldEntry)) (n : Note) (notes : List Note) → AreOfOpenIn told (n ∷ notes) → FailsHere c told new n → TellsHanded (FailedAt c) told new (n ∷ notes)
 failed_here c told new n notes h f =
     let open_here = subst (λ m. IfSome told (λ log. IsOfOpen log m)) f.note_is (head_is_of_open told n notes h) in
     record {
@@ -85,7 +86,7 @@ failed_here c told new n notes h f =
       told_is = f.log ∙ (shut_is_told (told_more told (Unsent c ∷ [])) c (unsent_stays_open told c open_here) ∙ told_twice told (Unsent c ∷ []) (shut_entry c ∷ []));
     }
 
-failed_later : (c : ℕ) (told new : Option (List WorldEntry)) (n : Note) (notes : List Note) → TellsHanded (FailedAt c) (told_more told (entries_of_note n)) new notes → TellsHanded (FailedAt c) told new (n ∷ notes)
+failed_later : (c : ConnectionId) (told new : Option (List WorldEntry)) (n : Note) (notes : List Note) → TellsHanded (FailedAt c) (told_more told (entries_of_note n)) new notes → TellsHanded (FailedAt c) told new (n ∷ notes)
 failed_later c told new n notes t = record {
   entries = entries_of_note n ++ t.entries;
   handed = record {
@@ -98,7 +99,7 @@ failed_later c told new n notes t = record {
   told_is = t.told_is ∙ told_twice told (entries_of_note n) t.entries;
 }
 
-failed_is_told : (c : ℕ) (told new : Option (List WorldEntry)) (notes : List Note) → AreOfOpenIn told notes → HandsOn (FailedAt c) told new notes → TellsHanded (FailedAt c) told new notes
+failed_is_told : (c : ConnectionId) (told new : Option (List WorldEntry)) (notes : List Note) → AreOfOpenIn told notes → HandsOn (FailedAt c) told new notes → TellsHanded (FailedAt c) told new notes
 failed_is_told c told new [] h k = absurd k
 failed_is_told c told new (n ∷ notes) h (inl f) = failed_here c told new n notes h f
 failed_is_told c told new (n ∷ notes) h (inr k) =

@@ -203,50 +203,43 @@ came_by laws old new step w made leaves none = record {
   unrendered = subst AreUnrendered (sym made.flights) (laws.unrendered w made.event made.happens (subst LeavesUnrendered (sym made.step_is) leaves) (subst AreUnrendered (sym none) tt));
 }
 
-pub opened_begins : FlightLaws → (old new : ServerAt) (news : Happening) (c d : ConnectionId) (peer : List ℕ) (w : RunState) → news ≡ opened_news c peer → d ≡ c → MakesStepOf (Opened d peer) old new → ServesRun old w → AwaitsNews news old.told w
+pub opened_begins : FlightLaws → (old new : ServerAt) (news : Happening) (c : ConnectionId) (peer : List ℕ) (w : RunState) → news ≡ opened_news c peer → MakesStepOf (Opened c peer) old new → ServesRun old w → AwaitsNews news old.told w
     → w.flights ≡ [] → ComesToFlights old new (stage_of news) w
-opened_begins laws old new news c d peer w is same makes serves awaits none =
-    let here : news ≡ opened_news d peer = is ∙ ap (λ x. opened_news x peer) (sym same) in
-    let waits = subst (λ n. AwaitsNews n old.told w) here awaits in
-    subst (λ n. ComesToFlights old new (stage_of n) w) (sym here)
-    (came_by laws old new (Opened d peer) w (makes (Begins (Opened d peer)) w serves (record { session = tt; connections = waits.0; opened = waits.1 }) refl) tt none)
+opened_begins laws old new news c peer w is makes serves awaits none =
+    let waits = subst (λ n. AwaitsNews n old.told w) is awaits in
+    subst (λ n. ComesToFlights old new (stage_of n) w) (sym is)
+    (came_by laws old new (Opened c peer) w (makes (Begins (Opened c peer)) w serves (record { session = tt; connections = waits.0; opened = waits.1 }) refl) tt none)
 
-pub opened_cut : (old new : ServerAt) (news : Happening) (c d : ConnectionId) (peer : List ℕ) (w : RunState) → news ≡ opened_news c peer → d ≡ c → CutsStepOf (Opened d peer) old new → ServesRun old w → AwaitsNews news old.told w
+pub opened_cut : (old new : ServerAt) (news : Happening) (c : ConnectionId) (peer : List ℕ) (w : RunState) → news ≡ opened_news c peer → CutsStepOf (Opened c peer) old new → ServesRun old w → AwaitsNews news old.told w
     → TurnIsCut old new (stage_of news) w
-opened_cut old new news c d peer w is same cuts serves awaits =
-    let here : news ≡ opened_news d peer = is ∙ ap (λ x. opened_news x peer) (sym same) in
-    let waits = subst (λ n. AwaitsNews n old.told w) here awaits in
-    subst (λ n. TurnIsCut old new (stage_of n) w) (sym here)
-    (cuts (Begins (Opened d peer)) w serves (record { session = tt; connections = waits.0; opened = waits.1 }) refl)
+opened_cut old new news c peer w is cuts serves awaits =
+    let waits = subst (λ n. AwaitsNews n old.told w) is awaits in
+    subst (λ n. TurnIsCut old new (stage_of n) w) (sym is) (cuts (Begins (Opened c peer)) w serves (record { session = tt; connections = waits.0; opened = waits.1 }) refl)
 
 piece_awaits : (c : ConnectionId) (bytes : List ℕ) (told : Option (List WorldEntry)) (w : RunState) → HasOpenConnections told w → AwaitsStep (Piece c bytes) told w
 piece_awaits c bytes told w awaits = record { session = tt; connections = awaits; opened = opens_nothing (Piece c bytes) told refl }
 
-pub piece_begins : FlightLaws → (old new : ServerAt) (news : Happening) (c d : ConnectionId) (bytes : List ℕ) (w : RunState) → news ≡ piece_news c bytes → d ≡ c → MakesStepOf (Piece d bytes) old new → ServesRun old w → AwaitsNews news old.told w
+pub piece_begins : FlightLaws → (old new : ServerAt) (news : Happening) (c : ConnectionId) (bytes : List ℕ) (w : RunState) → news ≡ piece_news c bytes → MakesStepOf (Piece c bytes) old new → ServesRun old w → AwaitsNews news old.told w
     → w.flights ≡ [] → ComesToFlights old new (stage_of news) w
-piece_begins laws old new news c d bytes w is same makes serves awaits none =
-    let here : news ≡ piece_news d bytes = is ∙ ap (λ x. piece_news x bytes) (sym same) in
-    subst (λ n. ComesToFlights old new (stage_of n) w) (sym here)
-    (came_by laws old new (Piece d bytes) w (makes (Begins (Piece d bytes)) w serves (piece_awaits d bytes old.told w (subst (λ n. AwaitsNews n old.told w) here awaits)) refl) tt none)
+piece_begins laws old new news c bytes w is makes serves awaits none =
+    subst (λ n. ComesToFlights old new (stage_of n) w) (sym is)
+    (came_by laws old new (Piece c bytes) w (makes (Begins (Piece c bytes)) w serves (piece_awaits c bytes old.told w (subst (λ n. AwaitsNews n old.told w) is awaits)) refl) tt none)
 
-pub piece_cut : (old new : ServerAt) (news : Happening) (c d : ConnectionId) (bytes : List ℕ) (w : RunState) → news ≡ piece_news c bytes → d ≡ c → CutsStepOf (Piece d bytes) old new → ServesRun old w → AwaitsNews news old.told w
+pub piece_cut : (old new : ServerAt) (news : Happening) (c : ConnectionId) (bytes : List ℕ) (w : RunState) → news ≡ piece_news c bytes → CutsStepOf (Piece c bytes) old new → ServesRun old w → AwaitsNews news old.told w
     → TurnIsCut old new (stage_of news) w
-piece_cut old new news c d bytes w is same cuts serves awaits =
-    let here : news ≡ piece_news d bytes = is ∙ ap (λ x. piece_news x bytes) (sym same) in
-    subst (λ n. TurnIsCut old new (stage_of n) w) (sym here)
-    (cuts (Begins (Piece d bytes)) w serves (piece_awaits d bytes old.told w (subst (λ n. AwaitsNews n old.told w) here awaits)) refl)
+piece_cut old new news c bytes w is cuts serves awaits =
+    subst (λ n. TurnIsCut old new (stage_of n) w) (sym is)
+    (cuts (Begins (Piece c bytes)) w serves (piece_awaits c bytes old.told w (subst (λ n. AwaitsNews n old.told w) is awaits)) refl)
 
-pub gone_begins : FlightLaws → (old new : ServerAt) (news : Happening) (c d : ConnectionId) (w : RunState) → news ≡ gone_news c → d ≡ c → MakesGoneOf d old new → ServesRun old w → AwaitsNews news old.told w → w.flights ≡ []
+pub gone_begins : FlightLaws → (old new : ServerAt) (news : Happening) (c : ConnectionId) (w : RunState) → news ≡ gone_news c → MakesGoneOf c old new → ServesRun old w → AwaitsNews news old.told w → w.flights ≡ []
     → ComesToFlights old new (stage_of news) w
-gone_begins laws old new news c d w is same makes serves awaits none =
-    let here : news ≡ gone_news d = is ∙ ap gone_news (sym same) in
-    subst (λ n. ComesToFlights old new (stage_of n) w) (sym here)
-    (came_by laws old new (Gone d) w (makes (Begins (Gone d)) w serves (subst (λ n. AwaitsNews n old.told w) here awaits) refl) tt none)
+gone_begins laws old new news c w is makes serves awaits none =
+    subst (λ n. ComesToFlights old new (stage_of n) w) (sym is)
+    (came_by laws old new (Gone c) w (makes (Begins (Gone c)) w serves (subst (λ n. AwaitsNews n old.told w) is awaits) refl) tt none)
 
-pub gone_cut : (old new : ServerAt) (news : Happening) (c d : ConnectionId) (w : RunState) → news ≡ gone_news c → d ≡ c → CutsGoneOf d old new → ServesRun old w → AwaitsNews news old.told w → TurnIsCut old new (stage_of news) w
-gone_cut old new news c d w is same cuts serves awaits =
-    let here : news ≡ gone_news d = is ∙ ap gone_news (sym same) in
-    subst (λ n. TurnIsCut old new (stage_of n) w) (sym here) (cuts (Begins (Gone d)) w serves (subst (λ n. AwaitsNews n old.told w) here awaits) refl)
+pub gone_cut : (old new : ServerAt) (news : Happening) (c : ConnectionId) (w : RunState) → news ≡ gone_news c → CutsGoneOf c old new → ServesRun old w → AwaitsNews news old.told w → TurnIsCut old new (stage_of news) w
+gone_cut old new news c w is cuts serves awaits =
+    subst (λ n. TurnIsCut old new (stage_of n) w) (sym is) (cuts (Begins (Gone c)) w serves (subst (λ n. AwaitsNews n old.told w) is awaits) refl)
 
 pub quiet_begins : (s : ServerAt) (w : RunState) → ServesRun s w → AwaitsNews Quiet s.told w → w.flights ≡ [] → ComesToFlights s s (stage_of Quiet) w
 quiet_begins s w serves awaits none = record {

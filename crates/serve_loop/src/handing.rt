@@ -44,7 +44,7 @@ fn hand_one<W: World>(alloc: Global, world: &mut W, note: &Note) -> HandedOn
     match note {
         Note::Sent(c, bytes) => send(alloc, world, *c, bytes.parts()),
         Note::Shut(c) | Note::Refused(c) => {
-            world.shut(c.number());
+            world.shut(*c);
             HandedOn::All
         }
         _ => HandedOn::All,
@@ -57,11 +57,10 @@ fn send<W: World>(alloc: Global, world: &mut W, c: ConnectionId, bytes: SentPart
     ensures send_count { HasRisenBy (failures_of result) (W.send_faults world.old) (W.send_faults world.new) }
     ensures next_count { W.next_faults world.new ≡ W.next_faults world.old }
 {
-    let number = c.number();
-    match world.send_both(alloc, number, bytes.head, bytes.body) {
+    match world.send_both(alloc, c, bytes.head, bytes.body) {
         Ok(()) => HandedOn::All,
         Err(SendFault::Failed) => {
-            world.shut(number);
+            world.shut(c);
             HandedOn::FailedAt(c)
         }
         Err(SendFault::NoMemory) => HandedOn::NoMemory,

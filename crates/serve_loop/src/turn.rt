@@ -5,7 +5,6 @@ ghost use Rattle.serve_loop.specs.Steps.{EndsAs, HasTurnCause, Relates, TurnIfDo
 
 use crate::rounds::{land_all, purge_once};
 use crate::steps::{go, make};
-use connections::ConnectionId;
 use docroot_changes::docroot_calls_add_up;
 use front::{Front, Renderer};
 use outside_world::{Happening, Work, World, WorldFault};
@@ -92,14 +91,14 @@ fn begin<R: Renderer + Drop, D: Disk, W: World>(
     docroot_calls_add_up();
     match news {
         Happening::Opened(c, peer) => {
-            let step = Step::Opened(ConnectionId::new(c), peer);
+            let step = Step::Opened(c, peer);
             make(alloc, front, disk, world, &step)
         }
         Happening::Piece(c, bytes) => {
-            let step = Step::Piece(ConnectionId::new(c), bytes);
+            let step = Step::Piece(c, bytes);
             make(alloc, front, disk, world, &step)
         }
-        Happening::Gone(c) => go(alloc, front, disk, ConnectionId::new(c)),
+        Happening::Gone(c) => go(alloc, front, disk, c),
         Happening::Quiet => Ok(()),
     }
 }

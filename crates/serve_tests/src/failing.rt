@@ -1,5 +1,6 @@
 //! Clients of whom a call fails: each of seven comes, asks for the page twice, and goes.
 use crate::serving::{PAGE, Row, happenings, served, world_of};
+use connections::ConnectionId;
 use outside_world::{Happening, MemWorld, WorldEntry};
 use serve_loop::ServeEnd;
 use sp_base::Mem;
@@ -81,7 +82,7 @@ const SECOND_UNSENT: &[Told] = &[
     Told::Gone,
 ];
 
-fn has_come(happening: &Happening, conn: u32, told: Told) -> bool {
+fn has_come(happening: &Happening, conn: ConnectionId, told: Told) -> bool {
     match (happening, told) {
         (Happening::Opened(c, _), Told::Opened) => *c == conn,
         (Happening::Piece(c, bytes), Told::Asked) => *c == conn && bytes.bytes() == ASKS,
@@ -90,7 +91,7 @@ fn has_come(happening: &Happening, conn: u32, told: Told) -> bool {
     }
 }
 
-fn is_told(entry: &WorldEntry, conn: u32, told: Told) -> bool {
+fn is_told(entry: &WorldEntry, conn: ConnectionId, told: Told) -> bool {
     match (entry, told) {
         (WorldEntry::Came(happening), _) => has_come(happening, conn, told),
         (WorldEntry::Sent(c, bytes), Told::Sent) => {
@@ -101,20 +102,20 @@ fn is_told(entry: &WorldEntry, conn: u32, told: Told) -> bool {
     }
 }
 
-fn is_of(part: &[WorldEntry], conn: u32, rows: &[Told]) -> bool {
+fn is_of(part: &[WorldEntry], conn: ConnectionId, rows: &[Told]) -> bool {
     let mut both = part.iter().zip(rows);
     both.all(|(entry, told)| is_told(entry, conn, *told))
 }
 
-// The clients, in the order in which they come.
+// The numbers of the clients, in the order in which they come.
 const CLIENTS: &[u32] = &[1, 2, 3, 4, 5, 6, 7];
 
 // Whether a log tells of the clients one after another that all was sent, as far as it goes.
 fn begins_well(log: &[WorldEntry]) -> bool {
     let mut rest = log;
-    for conn in CLIENTS {
+    for number in CLIENTS {
         let (part, after) = rest.split_at(ALL_SENT.len().min(rest.len()));
-        if !is_of(part, *conn, ALL_SENT) {
+        if !is_of(part, ConnectionId::new(*number), ALL_SENT) {
             return false;
         }
         rest = after;
@@ -123,15 +124,16 @@ fn begins_well(log: &[WorldEntry]) -> bool {
 }
 
 // Whether a log tells of the clients one after another, of one of them these rows, and of the others that all was sent.
-fn tells(log: &[WorldEntry], client: u32, rows: &[Told]) -> bool {
+fn tells(log: &[WorldEntry], client: ConnectionId, rows: &[Told]) -> bool {
     let mut rest = log;
-    for conn in CLIENTS {
-        let wanted = if *conn == client { rows } else { ALL_SENT };
+    for number in CLIENTS {
+        let conn = ConnectionId::new(*number);
+        let wanted = if conn == client { rows } else { ALL_SENT };
         if rest.len() < wanted.len() {
             return false;
         }
         let (part, after) = rest.split_at(wanted.len());
-        if !is_of(part, *conn, wanted) {
+        if !is_of(part, conn, wanted) {
             return false;
         }
         rest = after;
@@ -183,7 +185,7 @@ fn a_world_that_fails_ends_the_serving(rt: HostRuntime) -> Result<(), Fail> {
     Ok(())
 }
 
-// Which sending fails, to whom it is, and what is told of that client. A call of number 0 never comes.
+// Which sending fails, the number of the client to whom it is, and what is told of that client. A call of number 0 never comes.
 const SEND_FAILS: &[(u64, u32, &[Told])] = &[
     (0, 1, ALL_SENT),
     (1, 1, FIRST_UNSENT),
@@ -200,7 +202,13 @@ const SEND_FAILS: &[(u64, u32, &[Told])] = &[
     (12, 6, SECOND_UNSENT),
 ];
 
-fn goes_on(alloc: Global, seeds: RandomState, call: u64, client: u32, rows: &[Told]) -> bool {
+fn goes_on(
+    alloc: Global,
+    seeds: RandomState,
+    call: u64,
+    client: ConnectionId,
+    rows: &[Told],
+) -> bool {
     match world(alloc, 0, call) {
         Ok(Some(mut world)) => {
             matches!(served(alloc, seeds, &mut world, 28), Some(ServeEnd::Turns))
@@ -211,7 +219,9 @@ fn goes_on(alloc: Global, seeds: RandomState, call: u64, client: u32, rows: &[To
 }
 
 fn go_on_where_sendings_fail(alloc: Global, seeds: RandomState) -> bool {
-    SEND_FAILS.iter().all(|(call, client, rows)| goes_on(alloc, seeds, *call, *client, *rows))
+    SEND_FAILS.iter().all(|(call, number, rows)| {
+        goes_on(alloc, seeds, *call, ConnectionId::new(*number), *rows)
+    })
 }
 
 #[test]

@@ -3,6 +3,7 @@ ghost use Rattle.std.specs.Prelude.{◌<◌};
 
 use crate::pages::OnePage;
 use any_config::{Farm, STANDARD_FARM, farm_of, read_any};
+use connections::ConnectionId;
 use front::Front;
 use outside_world::{Happening, HappeningList, MemWorld, may_come};
 use resource_tree::Tree;
@@ -16,7 +17,7 @@ use std::hash::RandomState;
 pub(crate) const PAGE: &str =
     "HTTP/1.1 200 OK\r\nContent-Type: text/plain\r\nContent-Length: 4\r\n\r\npage";
 
-/// A happening of a connection.
+/// A happening of the connection with this number.
 #[derive(Clone, Copy, Drop)]
 pub(crate) enum Row<'a> {
     Opened(u32),
@@ -26,9 +27,15 @@ pub(crate) enum Row<'a> {
 
 fn happening(alloc: Global, row: &Row<'_>) -> Mem<Happening> {
     match row {
-        Row::Opened(conn) => Ok(Happening::Opened(*conn, TextBuf::of(alloc, "127.0.0.1")?)),
-        Row::Piece(conn, bytes) => Ok(Happening::Piece(*conn, ByteBuf::of(alloc, bytes)?)),
-        Row::Gone(conn) => Ok(Happening::Gone(*conn)),
+        Row::Opened(number) => {
+            let peer = TextBuf::of(alloc, "127.0.0.1")?;
+            Ok(Happening::Opened(ConnectionId::new(*number), peer))
+        }
+        Row::Piece(number, bytes) => {
+            let bytes = ByteBuf::of(alloc, bytes)?;
+            Ok(Happening::Piece(ConnectionId::new(*number), bytes))
+        }
+        Row::Gone(number) => Ok(Happening::Gone(ConnectionId::new(*number))),
     }
 }
 

@@ -5,6 +5,7 @@ ghost use Rattle.outside_world.specs.Faults.{HasSendCause};
 
 use crate::sockets::Sockets;
 use crate::unsent::Broken;
+use connection_ids::ConnectionId;
 use outside_world::{Happening, SendFault, Work, World, WorldFault};
 use std::alloc::Global;
 use std::net::Net;
@@ -59,12 +60,18 @@ impl<R: Net + Clock + Drop> RealWorld<R> {
     }
 
     // Sends two parts at the sockets.
-    fn give(&mut self, alloc: Global, conn: u32, head: &[u8], body: &[u8]) -> Result<(), SendFault>
+    fn give(
+        &mut self,
+        alloc: Global,
+        conn: ConnectionId,
+        head: &[u8],
+        body: &[u8],
+    ) -> Result<(), SendFault>
         ensures cause { HasSendCause self.old.send_failed self.new.send_failed result }
         ensures next_count { self.new.next_failed ≡ self.old.next_failed }
     {
         let sent = match &mut self.sockets {
-            Some(sockets) => sockets.send(alloc, conn, head, body),
+            Some(sockets) => sockets.send(alloc, conn.number(), head, body),
             None => Err(Broken),
         };
         match sent {
@@ -106,23 +113,23 @@ impl<R: Net + Clock + Drop> World for RealWorld<R> {
         }
     }
 
-    fn send(&mut self, alloc: Global, conn: u32, bytes: &[u8]) -> Result<(), SendFault> {
+    fn send(&mut self, alloc: Global, conn: ConnectionId, bytes: &[u8]) -> Result<(), SendFault> {
         self.give(alloc, conn, bytes, &[])
     }
 
     fn send_both(
         &mut self,
         alloc: Global,
-        conn: u32,
+        conn: ConnectionId,
         head: &[u8],
         body: &[u8],
     ) -> Result<(), SendFault> {
         self.give(alloc, conn, head, body)
     }
 
-    fn shut(&mut self, conn: u32) {
+    fn shut(&mut self, conn: ConnectionId) {
         if let Some(sockets) = &mut self.sockets {
-            sockets.shut(conn);
+            sockets.shut(conn.number());
         }
     }
 }

@@ -9,6 +9,7 @@ use crate::read_buffer::ReadBuffer;
 use crate::ready::Ready;
 use crate::socket::{Heard, Socket};
 use crate::unsent::Broken;
+use connection_ids::ConnectionId;
 use mio::event::Event;
 use mio::net::TcpStream;
 use mio::{Events, Interest, Poll, Token};
@@ -192,7 +193,7 @@ impl Sockets {
         let _ = stream.set_nodelay(true);
         let peer = format!(in alloc; "{}", address.ip())?;
         self.places.put(place, Socket::new(alloc, stream, self.now));
-        Ok(Happening::Opened(place, TextBuf::from(peer)))
+        Ok(Happening::Opened(ConnectionId::new(place), TextBuf::from(peer)))
     }
 
     // The turn of a socket: one read.
@@ -261,8 +262,11 @@ fn told(alloc: Global, place: u32, heard: Heard, room: &[u8]) -> Mem<Happening>
     ensures { IfOk result HasSize }
 {
     match heard {
-        Heard::Bytes(count) => Ok(Happening::Piece(place, ByteBuf::of(alloc, &room[..count])?)),
-        Heard::Gone => Ok(Happening::Gone(place)),
+        Heard::Bytes(count) => Ok(Happening::Piece(
+            ConnectionId::new(place),
+            ByteBuf::of(alloc, &room[..count])?,
+        )),
+        Heard::Gone => Ok(Happening::Gone(ConnectionId::new(place))),
         Heard::Nothing => Ok(Happening::Quiet),
     }
 }

@@ -63,7 +63,7 @@ settled_more tree patch i path row old new here so_far within one k q r below th
     (λ (less : k < i). settled_on tree q r old new within (so_far k q r less there))
     (λ (not_less : i ≤ k).
     let at : k ≡ i = omega (arith, below, not_less) in
-    let same = same_Some {X = List (List ℕ) × PatchNode} (path, row) (q, r) (sym here ∙ sym (ap (slice_get patch) at) ∙ there) in
+    let same = same_Some {A = List (List ℕ) × PatchNode} (path, row) (q, r) (sym here ∙ sym (ap (slice_get patch) at) ∙ there) in
     subst (λ (x : List (List ℕ) × PatchNode). IsSettled tree x.0 x.1 new) same one)
     (cases_lt k i)
 

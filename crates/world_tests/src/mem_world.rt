@@ -1,4 +1,5 @@
 //! A world in memory: what comes from it, which of its calls fail, and its log.
+use connection_ids::ConnectionId;
 use outside_world::{
     Happening, HappeningList, MemWorld, SendFault, Work, World, WorldEntry, WorldFault, WorldLog,
     may_come,
@@ -6,7 +7,7 @@ use outside_world::{
 use sp_base::{ByteBuf, CallList, Mem, TextBuf};
 use std::alloc::Global;
 
-// A happening as a test writes it.
+// A happening as a test writes it, with the number of its connection.
 #[derive(Clone, Copy, Drop)]
 enum Row<'a> {
     Opened(u32, &'a str),
@@ -17,12 +18,15 @@ enum Row<'a> {
 
 fn happening(alloc: Global, row: &Row<'_>) -> Mem<Happening> {
     match row {
-        Row::Opened(conn, peer) => Ok(Happening::Opened(*conn, TextBuf::of(alloc, peer)?)),
-        Row::Piece(conn, text) => {
-            let bytes = ByteBuf::of(alloc, text.as_bytes())?;
-            Ok(Happening::Piece(*conn, bytes))
+        Row::Opened(number, peer) => {
+            let peer = TextBuf::of(alloc, peer)?;
+            Ok(Happening::Opened(ConnectionId::new(*number), peer))
         }
-        Row::Gone(conn) => Ok(Happening::Gone(*conn)),
+        Row::Piece(number, text) => {
+            let bytes = ByteBuf::of(alloc, text.as_bytes())?;
+            Ok(Happening::Piece(ConnectionId::new(*number), bytes))
+        }
+        Row::Gone(number) => Ok(Happening::Gone(ConnectionId::new(*number))),
         Row::Quiet => Ok(Happening::Quiet),
     }
 }
@@ -61,18 +65,18 @@ fn world(
 fn is_row(happening: &Happening, row: &Row<'_>) -> bool {
     match (happening, row) {
         (Happening::Opened(conn, peer), Row::Opened(wanted, text)) => {
-            conn == wanted && peer.text() == *text
+            conn.number() == *wanted && peer.text() == *text
         }
         (Happening::Piece(conn, bytes), Row::Piece(wanted, text)) => {
-            conn == wanted && bytes.bytes() == text.as_bytes()
+            conn.number() == *wanted && bytes.bytes() == text.as_bytes()
         }
-        (Happening::Gone(conn), Row::Gone(wanted)) => conn == wanted,
+        (Happening::Gone(conn), Row::Gone(wanted)) => conn.number() == *wanted,
         (Happening::Quiet, Row::Quiet) => true,
         _ => false,
     }
 }
 
-// What stands in a log, as a test writes it.
+// What stands in a log, as a test writes it, with the number of its connection.
 #[derive(Clone, Copy, Drop)]
 enum Told<'a> {
     Came(Row<'a>),
@@ -85,10 +89,10 @@ fn is_told(entry: &WorldEntry, told: &Told<'_>) -> bool {
     match (entry, told) {
         (WorldEntry::Came(happening), Told::Came(row)) => is_row(happening, row),
         (WorldEntry::Sent(conn, bytes), Told::Sent(wanted, text)) => {
-            conn == wanted && bytes.bytes() == text.as_bytes()
+            conn.number() == *wanted && bytes.bytes() == text.as_bytes()
         }
-        (WorldEntry::Unsent(conn), Told::Unsent(wanted)) => conn == wanted,
-        (WorldEntry::Shut(conn), Told::Shut(wanted)) => conn == wanted,
+        (WorldEntry::Unsent(conn), Told::Unsent(wanted)) => conn.number() == *wanted,
+        (WorldEntry::Shut(conn), Told::Shut(wanted)) => conn.number() == *wanted,
         _ => false,
     }
 }
@@ -138,14 +142,15 @@ fn gives_and_tells(alloc: Global) -> bool {
 }
 
 fn sends_rows<W: World>(alloc: Global, world: &mut W) -> bool {
+    let client = ConnectionId::new(7);
     let is_sent = comes(alloc, world, &FIRST)
-        && world.send(alloc, 7, b"one") == Ok(())
-        && world.send(alloc, 7, b"two") == Err(SendFault::Failed)
-        && world.send_both(alloc, 7, b"thr", b"ee") == Ok(())
-        && world.send_both(alloc, 7, b"fo", b"ur") == Err(SendFault::Failed);
-    world.shut(8);
-    world.shut(7);
-    world.shut(7);
+        && world.send(alloc, client, b"one") == Ok(())
+        && world.send(alloc, client, b"two") == Err(SendFault::Failed)
+        && world.send_both(alloc, client, b"thr", b"ee") == Ok(())
+        && world.send_both(alloc, client, b"fo", b"ur") == Err(SendFault::Failed);
+    world.shut(ConnectionId::new(8));
+    world.shut(client);
+    world.shut(client);
     is_sent
 }
 
@@ -170,9 +175,9 @@ fn ends_rows<W: World>(alloc: Global, world: &mut W) -> bool {
     let is_gone = comes(alloc, world, &FIRST)
         && comes(alloc, world, &SECOND)
         && comes(alloc, world, &THIRD);
-    world.shut(7);
+    world.shut(ConnectionId::new(7));
     let is_back = comes(alloc, world, &FIRST);
-    world.shut(7);
+    world.shut(ConnectionId::new(7));
     is_gone && is_back
 }
 
@@ -228,7 +233,7 @@ fn are_as_listed(alloc: Global) -> bool {
 fn may_have(alloc: Global, length: usize) -> Mem<bool> {
     let bytes = ByteBuf::from(vec![in alloc; 0u8; length]?);
     let mut list = HappeningList::new(alloc);
-    list.push(Happening::Piece(1, bytes))?;
+    list.push(Happening::Piece(ConnectionId::new(1), bytes))?;
     Ok(may_come(&list))
 }
 

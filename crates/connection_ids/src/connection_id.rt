@@ -1,4 +1,4 @@
-//! The numbers of connections.
+//! The number of a connection.
 ghost use Rattle.std.specs.Prelude.{◌≡◌, Some, nat_eq, refl};
 ghost use Rattle.std.specs.Cmp.{nat_cmp_total, nat_eq_equiv, partial_equiv_from_equiv, unsigned_po, unsigned_ties};
 ghost use Rattle.std.specs.Ordering.{nat_cmp};

@@ -74,11 +74,11 @@ okay x = Ok x
 abbrev refused : {A : Type 0} → ApplyFault → ApplyOutcome A
 refused e = Err e
 
-followed : {A B : Type 0} (P : A → Type 0) (Q : B → Type 0) (o : ApplyOutcome A) (f : A → ApplyOutcome B) → IfOk o P → ((x : A) → P x → IfOk (f x) Q) → IfOk (o >>= f) Q
+pub followed : {A B : Type 0} (P : A → Type 0) (Q : B → Type 0) (o : ApplyOutcome A) (f : A → ApplyOutcome B) → IfOk o P → ((x : A) → P x → IfOk (f x) Q) → IfOk (o >>= f) Q
 followed P Q (Ok x) f was next = next x was
 followed P Q (Err e) f was next = tt
 
-by_test : {A : Type 0} (P : A → Type 0) (b : Bool) (one other : ApplyOutcome A) → (b ≡ true → IfOk one P) → (b ≡ false → IfOk other P) → IfOk (cond b one other) P
+pub by_test : {A : Type 0} (P : A → Type 0) (b : Bool) (one other : ApplyOutcome A) → (b ≡ true → IfOk one P) → (b ≡ false → IfOk other P) → IfOk (cond b one other) P
 by_test P true one other this that = this refl
 by_test P false one other this that = that refl
 

@@ -5,6 +5,7 @@ use Rattle.std.specs.List.{AllByRecursion}
 use Rattle.std.specs.BTreeMap.{insert_entry}
 use Rattle.std.proofs.lemmas.Bool.{true≢false}
 use Rattle.std.proofs.lemmas.List.{take-append-drop}
+use Rattle.sp_base.specs.Outcomes.{◌>>=◌}
 use Rattle.sp_base.specs.Paths.{is_under}
 use Rattle.sp_base.specs.declared.value.Value.{Value}
 use Rattle.resource_tree.specs.declared.nodes.Node.{Node}
@@ -21,7 +22,7 @@ use Rattle.resource_tree.proofs.Relocated.{some_under}
 use Rattle.resource_tree.proofs.Under.{under_self}
 use Rattle.resource_tree.proofs.Removal.{node_at-removal}
 use Rattle.post_apply.specs.declared.fault.ApplyFault.TheVariants.{Tree}
-use Rattle.post_apply.specs.Steps.{ApplyOutcome, ◌>>=◌, in_turn, creation_outcome, changed_unless_fault, with_node, with_nodes_below, with_way}
+use Rattle.post_apply.specs.Steps.{ApplyOutcome, in_turn, creation_outcome, changed_unless_fault, with_node, with_nodes_below, with_way}
 use Rattle.post_apply.specs.Removals.{deletion_outcome, removal_outcome, without_property}
 use Rattle.post_apply.specs.Values.{put_at, put_on_way}
 use Rattle.post_apply.specs.Carries.{bring, bring_node, bring_value, carry_outcome, carry_fault, carry_node, outcome_without_goal, content_left, property_at, replacement_outcome, unless}

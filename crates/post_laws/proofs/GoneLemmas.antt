@@ -4,6 +4,7 @@ use Rattle.std.specs.Prelude.{◌==◌, IfOk, is_some, option_and_then, option_m
 use Rattle.std.specs.List.{AllByRecursion}
 use Rattle.std.specs.BTreeMap.{insert_entry}
 use Rattle.std.proofs.lemmas.Bool.{false≢true, false_from_ne_true}
+use Rattle.sp_base.specs.Outcomes.{◌>>=◌}
 use Rattle.sp_base.specs.Paths.{is_under, path_or_none, seg_ok}
 use Rattle.sp_base.specs.declared.value.Value.{Value}
 use Rattle.sp_base.proofs.OptionLemmas.{none_from_test}
@@ -27,7 +28,7 @@ use Rattle.post_plan.specs.declared.operation.PropSet.{PropSet}
 use Rattle.post_plan.specs.declared.operation.Op.TheVariants.{Modify}
 use Rattle.post_plan.specs.Spots.{full_path}
 use Rattle.post_apply.specs.declared.fault.ApplyFault.TheVariants.{Tree}
-use Rattle.post_apply.specs.Steps.{ApplyOutcome, ◌>>=◌, in_turn, creation_outcome, changed_unless_fault, or_too_deep, path_of_spot, with_node, with_nodes_below, with_way}
+use Rattle.post_apply.specs.Steps.{ApplyOutcome, in_turn, creation_outcome, changed_unless_fault, or_too_deep, path_of_spot, with_node, with_nodes_below, with_way}
 use Rattle.post_apply.specs.Removals.{delete_at, deletion_outcome, removal_outcome, without_property}
 use Rattle.post_apply.specs.Values.{named_outcome, put_at, put_on_way, set_at, hinted_value}
 use Rattle.post_apply.specs.Carries.{bring, bring_node, bring_value, carry_at, carry_outcome, carry_fault, content_left, outcome_without_goal, property_at, replacement_outcome, unless}

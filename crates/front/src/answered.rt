@@ -39,7 +39,7 @@ pub(crate) struct Ended {
 }
 
 // A call in which memory sufficed ran under this.
-pub(crate) fn with_memory(disk_failed: bool) -> Conditions
+pub(crate) fn not_out_of_memory(disk_failed: bool) -> Conditions
     ensures { result ≡ only_disk disk_failed }
 {
     Conditions {
@@ -49,7 +49,7 @@ pub(crate) fn with_memory(disk_failed: bool) -> Conditions
 }
 
 // A call in which memory ran out.
-pub(crate) fn without_memory(disk_failed: bool) -> Conditions
+pub(crate) fn out_of_memory(disk_failed: bool) -> Conditions
     ensures { result ≡ record { disk_failed = disk_failed; out_of_memory = true } }
 {
     Conditions {

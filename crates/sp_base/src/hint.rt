@@ -1,6 +1,6 @@
 //! What type of value words are to become.
 ghost use Rattle.std.specs.Prelude.{◌≡◌};
-ghost use Rattle.sp_base.specs.declared.hint.ValueFault.TheVariants.{NoMemory as no_memory};
+ghost use Rattle.sp_base.specs.declared.hint.ValueFault.TheVariants.{NoMemory as out_of_memory};
 
 use crate::NoMemory;
 use std::alloc::{AllocError, AllocFailed};
@@ -31,7 +31,7 @@ pub enum ValueFault {
 }
 
 impl From<NoMemory> for ValueFault {
-    ghost from_gives = { λ _ e. e ≡ no_memory };
+    ghost from_gives = { λ _ e. e ≡ out_of_memory };
 
     fn from(_fault: NoMemory) -> ValueFault {
         ValueFault::NoMemory
@@ -39,7 +39,7 @@ impl From<NoMemory> for ValueFault {
 }
 
 impl From<AllocError> for ValueFault {
-    ghost from_gives = { λ _ e. e ≡ no_memory };
+    ghost from_gives = { λ _ e. e ≡ out_of_memory };
 
     fn from(_fault: AllocError) -> ValueFault {
         ValueFault::NoMemory
@@ -47,7 +47,7 @@ impl From<AllocError> for ValueFault {
 }
 
 impl<T: Drop> From<AllocFailed<T>> for ValueFault {
-    ghost from_gives = { λ _ e. e ≡ no_memory };
+    ghost from_gives = { λ _ e. e ≡ out_of_memory };
 
     fn from(_fault: AllocFailed<T>) -> ValueFault {
         ValueFault::NoMemory

@@ -6,7 +6,7 @@ use Rattle.sp_base.proofs.segments.after_prefix.Goals.{in_default-via-in-Some+el
 pub returns-in-Some-clause-some : goal.returns-in-Some-clause-some
 returns-in-Some-clause-some c =
     let seg = c.args.seg.now in
-    let mark = c.args.prefix.now in
+    let mark = c.args.mark.now in
     let h = c.in-Some.ensures.cases in
     let e : seg ≡ mark ++ drop (length mark) seg = subst (λ k. seg ≡ mark ++ drop k seg) h.1.0 h.1.1 in
     let rest : c.in-Some.rest.now ≡ drop (length mark) seg = h.2 ∙ ap (λ k. drop k seg) h.1.0 in
@@ -16,7 +16,7 @@ returns-in-Some-clause-some c =
 pub returns-in_default-clause-none : goal.returns-in_default-clause-none
 returns-in_default-clause-none c =
     let seg = c.args.seg.now in
-    let mark = c.args.prefix.now in
+    let mark = c.args.mark.now in
     elim c.in_default.branch [
       | in_default-via-in-Some+else-not-is_empty w ↦
           let h = w.in-Some.ensures.cases in

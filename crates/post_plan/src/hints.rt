@@ -2,7 +2,7 @@
 ghost use Rattle.std.specs.Prelude.{◌≡◌};
 ghost use Rattle.post_plan.specs.Hints as spec;
 
-use sp_base::{Hint, HintedType};
+use sp_base::{Hint, HintKind};
 
 fn is_text_word(word: &[u8]) -> bool
     ensures { result ≡ spec.is_text_word word.now }
@@ -13,25 +13,25 @@ fn is_text_word(word: &[u8]) -> bool
                 || (word == b"Path".as_slice() || word == b"URI".as_slice())))
 }
 
-fn kind_of(word: &[u8]) -> Option<HintedType>
+fn kind_of(word: &[u8]) -> Option<HintKind>
     ensures { result ≡ spec.hint_kind word.now }
 {
     if is_text_word(word) {
-        Some(HintedType::Text)
+        Some(HintKind::Text)
     } else if word == b"Long".as_slice() {
-        Some(HintedType::Long)
+        Some(HintKind::Long)
     } else if word == b"Boolean".as_slice() {
-        Some(HintedType::Truth)
+        Some(HintKind::Truth)
     } else {
         None
     }
 }
 
-fn hint_by(many: bool, hinted: Option<HintedType>) -> Option<Hint>
-    ensures { result ≡ spec.hint_by many hinted }
+fn hint_by(many: bool, kind: Option<HintKind>) -> Option<Hint>
+    ensures { result ≡ spec.hint_by many kind }
 {
-    match hinted {
-        Some(hinted) => Some(Hint { hinted, many }),
+    match kind {
+        Some(kind) => Some(Hint { kind, many }),
         None => None,
     }
 }

@@ -105,13 +105,13 @@ text_of (seg ∷ segs) = flat_map (λ s. 47 ∷ s) (seg ∷ segs)
 abbrev pub is_under : Segments → Segments → Bool
 is_under path other = starts_with (pointwise nat_eq) path other
 
--- the segment begins with a mangled prefix such as `_jcr_`, and goes on
+-- the segment begins with a mark such as `_jcr_`, and goes on
 abbrev pub is_mangled : List ℕ → List ℕ → Bool
-is_mangled mangled seg = starts_with nat_eq seg mangled && nat_lt (length mangled) (length seg)
+is_mangled mark seg = starts_with nat_eq seg mark && nat_lt (length mark) (length seg)
 
--- a prefix in place of the mangled one at the beginning
+-- a prefix in place of the mark at the beginning
 abbrev pub unmangled_by : List ℕ → List ℕ → List ℕ → List ℕ
-unmangled_by mangled prefix seg = prefix ++ drop (length mangled) seg
+unmangled_by mark prefix seg = prefix ++ drop (length mark) seg
 
 -- the segment with its namespace prefix as it stands in the repository: `_jcr_content` is `jcr:content`
 -- (Apache Sling, "Mappings for resource resolution", namespace mangling)
@@ -129,9 +129,9 @@ unmangled_segs segs = map unmangled_seg segs
 abbrev pub is_namespaced : List ℕ → List ℕ → Bool
 is_namespaced prefix seg = starts_with nat_eq seg prefix && nat_lt (length prefix) (length seg)
 
--- a mangled prefix in place of the one at the beginning
+-- a mark in place of the prefix at the beginning
 abbrev pub mangled_by : List ℕ → List ℕ → List ℕ → List ℕ
-mangled_by prefix mangled seg = mangled ++ drop (length prefix) seg
+mangled_by prefix mark seg = mark ++ drop (length prefix) seg
 
 -- the segment with its namespace prefix as it stands in URLs: `jcr:content` is `_jcr_content`
 abbrev pub mangled_seg : List ℕ → List ℕ

@@ -1,22 +1,22 @@
-//! What type of value words are to become.
+//! What kind of value words are to become.
 ghost use Rattle.std.specs.Prelude.{◌≡◌};
 ghost use Rattle.sp_base.specs.declared.hint.ValueFault.TheVariants.{NoMemory as out_of_memory};
 
 use crate::NoMemory;
 use std::alloc::{AllocError, AllocFailed};
 
-/// The type of value that words are to become.
+/// The kind of value that words are to become.
 #[derive(Clone, Copy, PartialEq, Eq, Debug, Drop)]
-pub enum HintedType {
+pub enum HintKind {
     Text,
     Long,
     Truth,
 }
 
-/// What words are to become: one value of a type, or a list of these.
+/// What words are to become: one value of a kind, or a list of these.
 #[derive(Clone, Copy, PartialEq, Eq, Debug, Drop)]
 pub struct Hint {
-    pub hinted: HintedType,
+    pub kind: HintKind,
     pub many: bool,
 }
 

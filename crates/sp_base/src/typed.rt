@@ -2,7 +2,7 @@
 ghost use Rattle.std.specs.Prelude.{◌≡◌, ◌≢◌, map, IfOk, IfErr, Ok, Err};
 ghost use Rattle.sp_base.specs.Typed.{number_of, truth_of, one_of, longs_of, many_of, typed_of};
 
-use crate::hint::{Hint, HintedType, ValueFault};
+use crate::hint::{Hint, HintKind, ValueFault};
 use crate::items::{LongList, TextList, TruthList};
 use crate::{Mem, TextBuf, Value};
 use std::alloc::Global;
@@ -14,37 +14,37 @@ impl Value {
         ensures err { IfErr result (λ e. e ≢ ValueFault.NoMemory → typed_of hint words.now ≡ Err e) }
     {
         if hint.many {
-            return many(alloc, hint.hinted, words);
+            return many(alloc, hint.kind, words);
         }
         match words.as_slice() {
-            [word] => one(alloc, hint.hinted, word.text()),
+            [word] => one(alloc, hint.kind, word.text()),
             _ => Err(ValueFault::WrongCount(words.len())),
         }
     }
 }
 
-fn many(alloc: Global, hinted: HintedType, words: &TextList) -> Result<Value, ValueFault>
-    ensures ok { IfOk result (λ v. many_of hinted words.now ≡ Ok v) }
-    ensures err { IfErr result (λ e. e ≢ ValueFault.NoMemory → many_of hinted words.now ≡ Err e) }
+fn many(alloc: Global, kind: HintKind, words: &TextList) -> Result<Value, ValueFault>
+    ensures ok { IfOk result (λ v. many_of kind words.now ≡ Ok v) }
+    ensures err { IfErr result (λ e. e ≢ ValueFault.NoMemory → many_of kind words.now ≡ Err e) }
 {
-    match hinted {
-        HintedType::Text => Ok(Value::Texts(words.duplicate(alloc)?)),
-        HintedType::Long => Ok(Value::Longs(longs(alloc, words)?)),
-        HintedType::Truth => Ok(Value::Truths(truths(alloc, words)?)),
+    match kind {
+        HintKind::Text => Ok(Value::Texts(words.duplicate(alloc)?)),
+        HintKind::Long => Ok(Value::Longs(longs(alloc, words)?)),
+        HintKind::Truth => Ok(Value::Truths(truths(alloc, words)?)),
     }
 }
 
-fn one(alloc: Global, hinted: HintedType, word: &str) -> Result<Value, ValueFault>
-    ensures ok { IfOk result (λ v. one_of hinted word.now ≡ Ok v) }
-    ensures err { IfErr result (λ e. e ≢ ValueFault.NoMemory → one_of hinted word.now ≡ Err e) }
+fn one(alloc: Global, kind: HintKind, word: &str) -> Result<Value, ValueFault>
+    ensures ok { IfOk result (λ v. one_of kind word.now ≡ Ok v) }
+    ensures err { IfErr result (λ e. e ≢ ValueFault.NoMemory → one_of kind word.now ≡ Err e) }
 {
-    match hinted {
-        HintedType::Text => Ok(Value::Text(TextBuf::of(alloc, word)?)),
-        HintedType::Long => match number(word) {
+    match kind {
+        HintKind::Text => Ok(Value::Text(TextBuf::of(alloc, word)?)),
+        HintKind::Long => match number(word) {
             Some(n) => Ok(Value::Long(n)),
             None => Err(ValueFault::NotANumber(0)),
         },
-        HintedType::Truth => Ok(Value::Truth(word == "true")),
+        HintKind::Truth => Ok(Value::Truth(word == "true")),
     }
 }
 

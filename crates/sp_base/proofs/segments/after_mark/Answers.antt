@@ -1,7 +1,7 @@
 use Rattle.std.proofs.Common.{◌≡◌, ◌==◌, ◌++◌, List, ℕ, drop, length, true, false, sym, ◌∙◌, ap, subst}
 use Rattle.sp_base.proofs.PathLemmas.{mangled_on, mangled_alone, not_mangled}
-use Rattle.sp_base.proofs.segments.after_prefix.Goals as goal
-use Rattle.sp_base.proofs.segments.after_prefix.Goals.{in_default-via-in-Some+else-not-is_empty, in_default-via-in_default}
+use Rattle.sp_base.proofs.segments.after_mark.Goals as goal
+use Rattle.sp_base.proofs.segments.after_mark.Goals.{in_default-via-in-Some+else-not-is_empty, in_default-via-in_default}
 
 pub returns-in-Some-clause-some : goal.returns-in-Some-clause-some
 returns-in-Some-clause-some c =

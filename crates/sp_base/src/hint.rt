@@ -7,7 +7,7 @@ use std::alloc::{AllocError, AllocFailed};
 
 /// The kind of value that words are to become.
 #[derive(Clone, Copy, PartialEq, Eq, Debug, Drop)]
-pub enum HintKind {
+pub enum HintedType {
     Text,
     Long,
     Truth,
@@ -16,7 +16,7 @@ pub enum HintKind {
 /// What words are to become: one value of a kind, or a list of these.
 #[derive(Clone, Copy, PartialEq, Eq, Debug, Drop)]
 pub struct Hint {
-    pub kind: HintKind,
+    pub kind: HintedType,
     pub many: bool,
 }
 

@@ -155,14 +155,7 @@ pub fn write<'v, 'a: 'v>(
     ensures { spec.WroteParts result sheet.old sheet.new (part.text_parts (template_output (with_vars sheet.old.scope (vars_of vars.now)) template.now)) }
 {
     let room = sheet.pieces.room();
-    push_template(
-        &mut sheet.tail,
-        alloc,
-        &mut sheet.of,
-        vars,
-        template,
-        room,
-    )
+    push_template(&mut sheet.tail, alloc, &mut sheet.of, vars, template, room)
 }
 
 /// Puts in the text of the script that a value names, with the variables of the place.

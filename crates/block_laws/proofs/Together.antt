@@ -8,7 +8,7 @@ use Rattle.htl_blocks.specs.declared.block.Tag.{Tag}
 use Rattle.htl_blocks.specs.declared.block.Block.{Block}
 use Rattle.htl_blocks.specs.declared.block.Block.TheVariants as block
 use Rattle.htl_blocks.specs.Parts.{Part, Round}
-use Rattle.htl_blocks.specs.Written.{passes, keeps_tags, body_parts, listed, between_tags, block_parts, blocks_parts, with_variable}
+use Rattle.htl_blocks.specs.Written.{passes, keeps_tags, body_parts, listed, between_tags, block_parts, blocks_parts, with_variable, within_room}
 use Rattle.htl_blocks.proofs.ElementLemmas.{element_is, text_is, in_tags}
 use Rattle.block_laws.specs.Together.{without_test, without_unwrap, without_body, without_text, body_alone, inner_element, IsWrittenAsWithoutTestIfTrue, IsWrittenAsWithoutTagsIfUnwrapped, IsWrittenAsWithoutUnwrapIfFalse, ListsRepeatWhatStandsWithin, TextsStandAsContent, BodiesStandAsContent}
 
@@ -48,8 +48,8 @@ within_is tag content scope = element_is (body_alone tag.attributes.body) conten
 pub each_round : ListsRepeatWhatStandsWithin
 each_round scope tag content end_tag name list item items stands has some =
     element_is tag content end_tag scope
-    ∙ in_tags tag (written content) end_tag scope (flat_map (λ (one : Text). Round ∷ block_parts (inner_element tag content) (with_variable scope name one)) (item ∷ items)) stands
-    (rw has (rw some (ap (λ (round : Text → List Part). Some (flat_map round (item ∷ items))) (fun_ext (λ (one : Text). ap (λ (parts : List Part). Round ∷ parts) (sym (within_is tag content (with_variable scope name one))))))))
+    ∙ in_tags tag (written content) end_tag scope (flat_map (λ (one : Text). Round ∷ within_room (block_parts (inner_element tag content)) (with_variable scope name one)) (item ∷ items)) stands
+    (rw has (rw some (ap (λ (round : Text → List Part). Some (flat_map round (item ∷ items))) (fun_ext (λ (one : Text). ap (λ (inside : Bindings → List Part). Round ∷ within_room inside (with_variable scope name one)) (sym (fun_ext (within_is tag content))))))))
 
 -- an element of which what stands in it is the content of another
 same_within : (tag : Tag) (content other : List Block) (end_tag : Text) (scope : Bindings) → ((here : Bindings) → body_parts tag.attributes.body (written content) here ≡ blocks_parts here other)

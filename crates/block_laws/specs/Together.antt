@@ -12,7 +12,7 @@ use Rattle.htl_blocks.specs.declared.block.Tag.{Tag}
 use Rattle.htl_blocks.specs.declared.block.Block.{Block}
 use Rattle.htl_blocks.specs.declared.block.Block.TheVariants as block
 use Rattle.htl_blocks.specs.Parts.{text_parts, Round}
-use Rattle.htl_blocks.specs.Written.{passes, keeps_tags, statement_value, with_variable, block_parts}
+use Rattle.htl_blocks.specs.Written.{passes, keeps_tags, statement_value, with_variable, within_room, block_parts}
 use Rattle.htl_blocks.specs.WrittenLaws.{StandsInTags}
 
 -- ---- a tag without one of its statements
@@ -63,7 +63,7 @@ abbrev pub ListsRepeatWhatStandsWithin : Type 0
 ListsRepeatWhatStandsWithin = (scope : Bindings) (tag : Tag) (content : List Block) (end_tag name : Text) (list : List TemplatePiece) (item : Text) (items : List Text)
     → StandsInTags scope tag → tag.attributes.list ≡ Some (name, list) → list_in (statement_value scope list) ≡ Some (item ∷ items)
     → block_parts (block.Element tag content end_tag) scope
-    ≡ text_parts (template_output scope tag.start) ++ (flat_map (λ one. Round ∷ block_parts (inner_element tag content) (with_variable scope name one)) (item ∷ items) ++ text_parts end_tag)
+    ≡ text_parts (template_output scope tag.start) ++ (flat_map (λ one. Round ∷ within_room (block_parts (inner_element tag content)) (with_variable scope name one)) (item ∷ items) ++ text_parts end_tag)
 
 -- one that says a text is written as one of which that text is the content
 abbrev pub TextsStandAsContent : Type 0

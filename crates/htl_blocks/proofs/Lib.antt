@@ -17,3 +17,4 @@ pub mod ElementLemmas
 pub mod WrittenLemmas
 pub mod ElementSteps
 pub mod PieceLemmas
+pub mod RoomLemmas

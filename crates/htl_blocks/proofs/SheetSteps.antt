@@ -41,51 +41,6 @@ pub kept_text : (k : Keeping) (t : List ℕ) → kept k (text_parts t) ≡ text_
 kept_text k [] = refl
 kept_text k (c ∷ t) = ap (λ (ps : List Part). ps ++ kept k (text_parts t)) (kept_byte k c) ∙ ap (λ (ps : List Part). Byte c ∷ ps) (kept_text k t)
 
--- ---- the text after the pieces
-
--- a sheet with these pieces' parts, this text after them and this many rounds
-abbrev pub sheet_of : Bindings → Keeping → List Part → List ℕ → ℕ → SheetText
-sheet_of scope k ps tail n = record { scope = scope; keeping = k; parts = ps ++ text_parts tail; rounds = n }
-
-pub text_written : (scope : Bindings) (k : Keeping) (ps : List Part) (tail more new : List ℕ) (n : ℕ) → new ≡ tail ++ more → sheet_of scope k ps new n ≡ with_parts (sheet_of scope k ps tail n) (text_parts more)
-text_written scope k ps tail more new n e =
-    let made : List Part → ℕ → SheetText = λ parts count. record { scope = scope; keeping = k; parts = parts; rounds = count } in
-    ap (λ (parts : List Part). made parts n)
-    (ap (λ (t : List ℕ). ps ++ text_parts t) e ∙ ap (λ (t : List Part). ps ++ t) (map-append Byte tail more) ∙ sym (append_assoc ps (text_parts tail) (text_parts more)) ∙ ap (λ (t : List Part). (ps ++ text_parts tail) ++ t) (sym (kept_text k more)))
-    ∙ ap (made ((ps ++ text_parts tail) ++ kept k (text_parts more))) (let none = no_rounds more in let same : n ≡ n + rounds (text_parts more) = omega (arith, none) in same)
-
-pub text_over : (scope : Bindings) (k : Keeping) (ps : List Part) (tail more : List ℕ) (n : ℕ) → most_rendered_bytes < length (tail ++ more) → IsOverLimit TooLong (with_parts (sheet_of scope k ps tail n) (text_parts more))
-text_over scope k ps tail more n h =
-    let whole = ap (length {A = ℕ}) (flat_map-append part_text (ps ++ text_parts tail) (kept k (text_parts more)) ∙ ap (λ (t : List ℕ). t ++ text_of_parts (kept k (text_parts more))) (flat_map-append part_text ps (text_parts tail))) in
-    let last = ap (λ (q : List Part). length (text_of_parts q)) (kept_text k more) in
-    let a = ap (length {A = ℕ}) (text_of_text more) in
-    let b = ap (length {A = ℕ}) (text_of_text tail) in
-    let one = length-append (text_of_parts ps ++ text_of_parts (text_parts tail)) (text_of_parts (kept k (text_parts more))) in
-    let two = length-append (text_of_parts ps) (text_of_parts (text_parts tail)) in
-    let three = length-append tail more in
-    omega (arith, h, whole, last, a, b, one, two, three)
-
--- a text is written after the others, or is too long beside them
-pub text_result : {A : Type 0} (r : Result A RunFault) (old : SheetText) (scope : Bindings) (k : Keeping) (ps : List Part) (tail more new : List ℕ) (n : ℕ) → sheet_of scope k ps tail n ≡ old
-    → OnOk r (new ≡ tail ++ more) → IfErr r (λ f. f ≢ NoMemory → (f ≡ TooLong) × (most_rendered_bytes < length (tail ++ more)))
-    → WroteParts r old (sheet_of scope k ps new n) (text_parts more)
-text_result (Ok x) old scope k ps tail more new n view ok err = text_written scope k ps tail more new n ok ∙ ap (λ (s : SheetText). with_parts s (text_parts more)) view
-text_result (Err f) old scope k ps tail more new n view ok err = λ ne.
-    let both = err ne in
-    let over = subst (λ (g : RunFault). IsOverLimit g (with_parts (sheet_of scope k ps tail n) (text_parts more))) (sym both.0) (text_over scope k ps tail more n both.1) in
-    subst (λ (s : SheetText). IsOverLimit f (with_parts s (text_parts more))) view over
-
--- the same, where what it is written for is found out anew
-pub template_result : {A : Type 0} (r : Result A RunFault) (old : SheetText) (scope after : Bindings) (k : Keeping) (pieces : List Piece) (tail more new : List ℕ) (n : ℕ)
-    → sheet_of scope k (pieces_parts scope pieces) tail n ≡ old → after ≡ scope
-    → OnOk r (new ≡ tail ++ more) → IfErr r (λ f. f ≢ NoMemory → (f ≡ TooLong) × (most_rendered_bytes < length (tail ++ more)))
-    → WroteParts r old (sheet_of after k (pieces_parts after pieces) new n) (text_parts more)
-template_result r old scope after k pieces tail more new n view same ok err =
-    subst (λ (s : Bindings). WroteParts r old (sheet_of s k (pieces_parts s pieces) new n) (text_parts more)) (sym same)
-    (text_result r old scope k (pieces_parts scope pieces) tail more new n view ok err)
-
--- ---- pieces
-
 one_len : (scope : Bindings) (p : Piece) → length (text_of_parts (piece_parts scope p)) ≡ text_len (p ∷ [])
 one_len scope (piece.Text t) = ap (length {A = ℕ}) (text_of_text t) ∙ sym (zero-add (length t))
 one_len scope (piece.Script name frame) = refl
@@ -100,6 +55,55 @@ text_len_is scope (p ∷ ps) =
     let whole = sum_by-append piece_len (p ∷ []) ps in
     let more = text_len_is scope ps in let one = one_len scope p in
     omega (arith, both, lens, whole, more, one)
+
+-- what their texts leave of a room
+pub room_beside : (scope : Bindings) (pieces : List Piece) (room : ℕ) → room + text_len pieces ≡ most_rendered_bytes → room + length (text_of_parts (pieces_parts scope pieces)) ≡ most_rendered_bytes
+room_beside scope pieces room left = let is = text_len_is scope pieces in omega (arith, left, is)
+
+-- ---- the text after the pieces
+
+-- a sheet with these pieces' parts, this text after them and this many rounds
+abbrev pub sheet_of : Bindings → Keeping → List Part → List ℕ → ℕ → SheetText
+sheet_of scope k ps tail n = record { scope = scope; keeping = k; parts = ps ++ text_parts tail; rounds = n }
+
+pub text_written : (scope : Bindings) (k : Keeping) (ps : List Part) (tail more new : List ℕ) (n : ℕ) → new ≡ tail ++ more → sheet_of scope k ps new n ≡ with_parts (sheet_of scope k ps tail n) (text_parts more)
+text_written scope k ps tail more new n e =
+    let made : List Part → ℕ → SheetText = λ parts count. record { scope = scope; keeping = k; parts = parts; rounds = count } in
+    ap (λ (parts : List Part). made parts n)
+    (ap (λ (t : List ℕ). ps ++ text_parts t) e ∙ ap (λ (t : List Part). ps ++ t) (map-append Byte tail more) ∙ sym (append_assoc ps (text_parts tail) (text_parts more)) ∙ ap (λ (t : List Part). (ps ++ text_parts tail) ++ t) (sym (kept_text k more)))
+    ∙ ap (made ((ps ++ text_parts tail) ++ kept k (text_parts more))) (let none = no_rounds more in let same : n ≡ n + rounds (text_parts more) = omega (arith, none) in same)
+
+pub text_over : (scope : Bindings) (k : Keeping) (ps : List Part) (tail more : List ℕ) (n room : ℕ) → room + length (text_of_parts ps) ≡ most_rendered_bytes → room < length (tail ++ more) → IsOverLimit TooLong (with_parts (sheet_of scope k ps tail n) (text_parts more))
+text_over scope k ps tail more n room left h =
+    let whole = ap (length {A = ℕ}) (flat_map-append part_text (ps ++ text_parts tail) (kept k (text_parts more)) ∙ ap (λ (t : List ℕ). t ++ text_of_parts (kept k (text_parts more))) (flat_map-append part_text ps (text_parts tail))) in
+    let last = ap (λ (q : List Part). length (text_of_parts q)) (kept_text k more) in
+    let a = ap (length {A = ℕ}) (text_of_text more) in
+    let b = ap (length {A = ℕ}) (text_of_text tail) in
+    let one = length-append (text_of_parts ps ++ text_of_parts (text_parts tail)) (text_of_parts (kept k (text_parts more))) in
+    let two = length-append (text_of_parts ps) (text_of_parts (text_parts tail)) in
+    let three = length-append tail more in
+    omega (arith, left, h, whole, last, a, b, one, two, three)
+
+-- a text is written after the others, or is too long beside them
+pub text_result : {A : Type 0} (r : Result A RunFault) (old : SheetText) (scope : Bindings) (k : Keeping) (ps : List Part) (tail more new : List ℕ) (n room : ℕ) → sheet_of scope k ps tail n ≡ old → room + length (text_of_parts ps) ≡ most_rendered_bytes
+    → OnOk r (new ≡ tail ++ more) → IfErr r (λ f. f ≢ NoMemory → (f ≡ TooLong) × (room < length (tail ++ more)))
+    → WroteParts r old (sheet_of scope k ps new n) (text_parts more)
+text_result (Ok x) old scope k ps tail more new n room view left ok err = text_written scope k ps tail more new n ok ∙ ap (λ (s : SheetText). with_parts s (text_parts more)) view
+text_result (Err f) old scope k ps tail more new n room view left ok err = λ ne.
+    let both = err ne in
+    let over = subst (λ (g : RunFault). IsOverLimit g (with_parts (sheet_of scope k ps tail n) (text_parts more))) (sym both.0) (text_over scope k ps tail more n room left both.1) in
+    subst (λ (s : SheetText). IsOverLimit f (with_parts s (text_parts more))) view over
+
+-- the same, where what it is written for is found out anew
+pub template_result : {A : Type 0} (r : Result A RunFault) (old : SheetText) (scope after : Bindings) (k : Keeping) (pieces : List Piece) (tail more new : List ℕ) (n room : ℕ)
+    → sheet_of scope k (pieces_parts scope pieces) tail n ≡ old → room + text_len pieces ≡ most_rendered_bytes → after ≡ scope
+    → OnOk r (new ≡ tail ++ more) → IfErr r (λ f. f ≢ NoMemory → (f ≡ TooLong) × (room < length (tail ++ more)))
+    → WroteParts r old (sheet_of after k (pieces_parts after pieces) new n) (text_parts more)
+template_result r old scope after k pieces tail more new n room view left same ok err =
+    subst (λ (s : Bindings). WroteParts r old (sheet_of s k (pieces_parts s pieces) new n) (text_parts more)) (sym same)
+    (text_result r old scope k (pieces_parts scope pieces) tail more new n room view (room_beside scope pieces room left) ok err)
+
+-- ---- pieces
 
 one_count : (scope : Bindings) (p : Piece) → inclusions (piece_parts scope p) ≡ inclusion_count (p ∷ [])
 one_count scope (piece.Text t) = no_inclusions_in_text t

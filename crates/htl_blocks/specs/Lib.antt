@@ -11,6 +11,7 @@ pub mod Refused
 pub mod Pieces
 pub mod Sheets
 pub mod Places
+pub mod VariableRoom
 pub mod WrittenLaws
 pub mod PlaceParts
 pub mod FaultTexts

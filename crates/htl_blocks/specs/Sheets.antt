@@ -49,6 +49,6 @@ abbrev pub WroteParts : {A : Type 0} → Result A RunFault → SheetText → She
 WroteParts (Ok _) old new ps = new ≡ with_parts old ps
 WroteParts (Err f) old new ps = Stops f old ps
 
--- a text is too long, unless memory lacks
-abbrev pub RunFailsAsTooLongIfMemory : List ℕ → RunFault → Type 0
-RunFailsAsTooLongIfMemory text f = f ≢ NoMemory → (f ≡ TooLong) × (most_rendered_bytes < length text)
+-- a text is too long for its room, unless memory lacks
+abbrev pub RunFailsAsTooLongIfMemory : ℕ → List ℕ → RunFault → Type 0
+RunFailsAsTooLongIfMemory room text f = f ≢ NoMemory → (f ≡ TooLong) × (room < length text)

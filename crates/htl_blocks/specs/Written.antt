@@ -1,7 +1,8 @@
 -- What the blocks of a script write for a resource and variables (HTML Template Language specification 1.4, "Block Statements").
 use Rattle.std.specs.Prelude.{ℕ, Bool, true, false, not, nat_lt, if◌then◌else◌, List, [], ◌∷◌, ◌++◌, length, Option, Some, None}
 use Rattle.std.specs.List.{flat_map}
-use Rattle.sp_base.specs.Texts.{Text}
+use Rattle.sp_base.specs.Limits.{most_rendered_bytes}
+use Rattle.sp_base.specs.Texts.{Pairs, Text}
 use Rattle.htl_expr.specs.Bindings.{Bindings, with_vars}
 use Rattle.htl_expr.specs.declared.out.Out.{Out}
 use Rattle.htl_expr.specs.declared.out.Out.TheVariants as out
@@ -64,9 +65,18 @@ body_parts (Some (body.Text value)) content scope = text_parts (template_output 
 body_parts (Some (body.Include value)) content scope = Script (statement_name scope value) scope.vars ∷ []
 body_parts (Some (body.Resource value)) content scope = Resource (statement_name scope value) ∷ []
 
+-- the names and the texts of variables, one after another
+abbrev pub text_of_vars : Pairs → List ℕ
+text_of_vars vars = flat_map (λ var. var.0 ++ var.1) vars
+
+-- What stands at a place with these variables. Where they have together more bytes than a text may have, they themselves stand there: so the
+-- text is too long, and nobody sees them.
+abbrev pub within_room : (Bindings → List Part) → Bindings → List Part
+within_room inside scope = if nat_lt most_rendered_bytes (length (text_of_vars scope.vars)) then text_parts (text_of_vars scope.vars) else inside scope
+
 -- what stands in an element for one item of its list, which is a variable
 abbrev pub round_parts : List ℕ → (Bindings → List Part) → Bindings → List ℕ → List Part
-round_parts name inside scope item = Round ∷ inside (with_variable scope name item)
+round_parts name inside scope item = Round ∷ within_room inside (with_variable scope name item)
 
 -- what stands in an element once for each item; without items the element is nothing
 abbrev pub repeated : List ℕ → (Bindings → List Part) → Bindings → Option (List Text) → Option (List Part)

@@ -1,15 +1,18 @@
 -- What the laws of elements suppose.
-use Rattle.std.specs.Prelude.{◌≡◌, true, List, false, ℕ, [], None, ◌++◌, Some, ◌∷◌}
+use Rattle.std.specs.Prelude.{◌≡◌, ◌<◌, ◌≤◌, true, List, false, ℕ, [], None, ◌++◌, Some, ◌∷◌, length}
 use Rattle.std.specs.List.{flat_map}
+use Rattle.sp_base.specs.Limits.{most_rendered_bytes}
 use Rattle.sp_base.specs.Texts.{Text}
 use Rattle.htl_expr.specs.Bindings.{Bindings}
 use Rattle.htl_expr.specs.Value.{list_in}
 use Rattle.htl_blocks.specs.declared.block.Tag.{Tag}
-use Rattle.htl_blocks.specs.Written.{keeps_tags, passes, block_parts, blocks_parts, statement_value, with_variable, statement_name}
+use Rattle.htl_blocks.specs.Written.{keeps_tags, passes, block_parts, blocks_parts, round_parts, statement_value, text_of_vars, with_variable, within_room, statement_name}
 use Rattle.htl_blocks.specs.declared.block.Block.{Block}
 use Rattle.htl_blocks.specs.declared.block.Block.TheVariants.{Element}
 use Rattle.htl_blocks.specs.declared.attribute.Body.TheVariants as body
-use Rattle.htl_blocks.specs.Parts.{text_parts, Round, Script, Resource}
+use Rattle.htl_blocks.specs.declared.run_fault.RunFault.TheVariants.{TooLong}
+use Rattle.htl_blocks.specs.Parts.{Part, text_parts, Round, Script, Resource}
+use Rattle.htl_blocks.specs.Refused.{IsRefused}
 use Rattle.htl_text.specs.Template.{template_output}
 use Rattle.htl_text.specs.declared.piece.TemplatePiece.{TemplatePiece}
 
@@ -36,7 +39,7 @@ IsWrittenWholeIfInTagsWithoutListOrBody scope tag content end_tag = StandsInTags
 abbrev pub ListElementsWriteEachItem : Type 0
 ListElementsWriteEachItem = (scope : Bindings) (tag : Tag) (content : List Block) (end_tag name : List ℕ) (list : List TemplatePiece) (item : List ℕ) (items : List Text)
     → StandsInTags scope tag → tag.attributes.body ≡ None → tag.attributes.list ≡ Some (name, list) → list_in (statement_value scope list) ≡ Some (item ∷ items)
-    → block_parts (Element tag content end_tag) scope ≡ text_parts (template_output scope tag.start) ++ (flat_map (λ one. Round ∷ blocks_parts (with_variable scope name one) content) (item ∷ items) ++ text_parts end_tag)
+    → block_parts (Element tag content end_tag) scope ≡ text_parts (template_output scope tag.start) ++ (flat_map (λ one. Round ∷ within_room (λ here. blocks_parts here content) (with_variable scope name one)) (item ∷ items) ++ text_parts end_tag)
 
 -- an element whose list is none is left out
 abbrev pub ElementsWithoutListAreLeftOut : Type 0
@@ -65,3 +68,12 @@ abbrev pub ResourcesStandInTags : Type 0
 ResourcesStandInTags = (scope : Bindings) (tag : Tag) (content : List Block) (end_tag : List ℕ) (value : List TemplatePiece) → StandsInTags scope tag → tag.attributes.list ≡ None
     → tag.attributes.body ≡ Some (body.Resource value)
     → block_parts (Element tag content end_tag) scope ≡ text_parts (template_output scope tag.start) ++ (Resource (statement_name scope value) ∷ [] ++ text_parts end_tag)
+
+-- where the variables of a round have together no more bytes than a text may have, what stands in the element stands
+abbrev pub IsWrittenIfVariablesFit : (Bindings → List Part) → Bindings → List ℕ → List ℕ → Type 0
+IsWrittenIfVariablesFit inside scope name item = length (text_of_vars (with_variable scope name item).vars) ≤ most_rendered_bytes → round_parts name inside scope item ≡ Round ∷ inside (with_variable scope name item)
+
+-- else the script is refused, whatever else it writes
+abbrev pub IsRefusedIfVariablesAreTooLong : (Bindings → List Part) → Bindings → List ℕ → List ℕ → Type 0
+IsRefusedIfVariablesAreTooLong inside scope name item =
+    (before after : List Part) → most_rendered_bytes < length (text_of_vars (with_variable scope name item).vars) → IsRefused TooLong (before ++ (round_parts name inside scope item ++ after))

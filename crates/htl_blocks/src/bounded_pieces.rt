@@ -52,6 +52,13 @@ impl<'a> BoundedPieces<'a> {
         }
     }
 
+    /// How many bytes of text may still be added.
+    pub fn room(&self) -> usize
+        ensures { result + text_len self.now ≡ most_rendered_bytes }
+    {
+        MOST_RENDERED_BYTES - self.len
+    }
+
     /// Adds a text, where it isn't empty and there is room for it.
     #[tactic(auto, using(crate::proofs::Bounded::nothing_more, crate::proofs::Bounded::text_more, crate::proofs::Bounded::text_len_more, crate::proofs::Bounded::same_included))]
     pub fn push_text(&mut self, text: String) -> Result<(), RunFault>
@@ -63,7 +70,7 @@ impl<'a> BoundedPieces<'a> {
         if added == 0 {
             return Ok(());
         }
-        if added > MOST_RENDERED_BYTES - self.len {
+        if added > self.room() {
             return Err(RunFault::TooLong);
         }
         self.pieces.push(Piece::Text(TextBuf::from(text)))?;

@@ -26,6 +26,7 @@ mod sheet;
 mod statement;
 mod statement_value;
 mod value;
+mod variable_room;
 mod written;
 mod written_laws;
 
@@ -45,4 +46,5 @@ pub use written_laws::{
     a_body_stands_in_place_of_the_content, a_content_stands_once_for_each_item,
     a_false_test_leaves_the_element_out, a_list_without_items_leaves_the_element_out,
     a_text_writes_its_template, statements_dont_show, unwrapping_keeps_the_content,
+    variables_that_are_too_long_refuse_a_script,
 };

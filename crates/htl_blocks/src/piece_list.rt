@@ -44,7 +44,7 @@ impl<'a> PieceList<'a> {
     }
 
     /// The variables of the place where a script is put in.
-    pub fn variables(&self, alloc: Global, frame: &Frame<'a>) -> Mem<OwnedVariables>
+    pub fn variables(&self, alloc: Global, frame: &Frame<'a>) -> Mem<OwnedVariables<'a>>
         ensures { IfOk result (λ vars. vars ≡ (within self.now.scope frame.now.rounds).vars) }
     {
         variables_of(alloc, &self.scope, frame)

@@ -1,6 +1,6 @@
 //! A script's text while it is written.
 
-ghost use Rattle.std.specs.Prelude.{◌≡◌, ◌≢◌, ◌≤◌, ◌<◌, ◌∷◌, [], ◌++◌, true, IfOk, IfErr, OnOk, length, string_bytes};
+ghost use Rattle.std.specs.Prelude.{◌≡◌, ◌≢◌, ◌≤◌, ◌∷◌, [], ◌++◌, true, IfOk, IfErr, OnOk, length, string_bytes};
 ghost use Rattle.sp_base.specs.Limits.{most_rendered_bytes};
 ghost use Rattle.htl_expr.specs.Bindings.{with_vars};
 ghost use Rattle.htl_expr.specs.Value.{list_in};
@@ -25,7 +25,7 @@ use crate::statement_value;
 use crate::statement_value::name;
 use htl_expr::{Evaluation, Listed, Scope, Variables};
 use htl_text::{RenderFault, Template};
-use sp_base::{MOST_RENDERED_BYTES, Mem, TextBuf};
+use sp_base::Mem;
 use std::alloc::Global;
 use std::marker::Model;
 use std::mem;
@@ -56,32 +56,33 @@ impl<'a> Model for Sheet<'a> {
     ghost invariant = { λ s. s.rounds ≤ most_rounds };
 }
 
-// Adds a text to another, where there is room for it.
-fn push_within(text: &mut String, more: &str) -> Result<(), RunFault>
+// Adds a text to another, where both have room.
+fn push_within(text: &mut String, room: usize, more: &str) -> Result<(), RunFault>
     ensures ok { OnOk result (string_bytes text.new ≡ string_bytes text.old ++ more.now) }
-    ensures err { IfErr result (λ f. f ≢ RunFault.NoMemory → (f ≡ RunFault.TooLong) × (most_rendered_bytes < length (string_bytes text.old ++ more.now))) }
+    ensures err { IfErr result (spec.RunFailsAsTooLongIfMemory room (string_bytes text.old ++ more.now)) }
 {
     let len = text.as_str().len();
-    if len > MOST_RENDERED_BYTES || more.len() > MOST_RENDERED_BYTES - len {
+    if len > room || more.len() > room - len {
         return Err(RunFault::TooLong);
     }
     text.push_str(more)?;
     Ok(())
 }
 
-// Adds what a template writes to a text, where there is room for it.
+// Adds what a template writes to a text, where both have room.
 fn push_template<'v, 'a: 'v>(
     text: &mut String,
     alloc: Global,
     of: &mut Evaluation<'a>,
     vars: &'v Variables<'v>,
     template: &'v Template,
+    room: usize,
 ) -> Result<(), RunFault>
     ensures ok { OnOk result (string_bytes text.new ≡ string_bytes text.old ++ template_output (with_vars of.old (vars_of vars.now)) template.now) }
-    ensures err { IfErr result (spec.RunFailsAsTooLongIfMemory (string_bytes text.old ++ template_output (with_vars of.old (vars_of vars.now)) template.now)) }
+    ensures err { IfErr result (spec.RunFailsAsTooLongIfMemory room (string_bytes text.old ++ template_output (with_vars of.old (vars_of vars.now)) template.now)) }
     ensures resource { of.new ≡ of.old }
 {
-    match template.write(text, alloc, of, vars) {
+    match template.write(text, alloc, of, vars, room) {
         Ok(()) => Ok(()),
         Err(RenderFault::TooLong) => Err(RunFault::TooLong),
         Err(RenderFault::NoMemory) => Err(RunFault::NoMemory),
@@ -105,7 +106,8 @@ impl<'a> Sheet<'a> {
     pub fn push(&mut self, text: &str) -> Result<(), RunFault>
         ensures { spec.WroteParts result self.old self.new (part.text_parts text.now) }
     {
-        push_within(&mut self.tail, text)
+        let room = self.pieces.room();
+        push_within(&mut self.tail, room, text)
     }
 
     /// Begins a round.
@@ -152,7 +154,8 @@ pub fn write<'v, 'a: 'v>(
 ) -> Result<(), RunFault>
     ensures { spec.WroteParts result sheet.old sheet.new (part.text_parts (template_output (with_vars sheet.old.scope (vars_of vars.now)) template.now)) }
 {
-    push_template(&mut sheet.tail, alloc, &mut sheet.of, vars, template)
+    let room = sheet.pieces.room();
+    push_template(&mut sheet.tail, alloc, &mut sheet.of, vars, template, room)
 }
 
 /// Puts in the text of the script that a value names, with the variables of the place.

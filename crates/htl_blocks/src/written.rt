@@ -17,6 +17,7 @@ use crate::place::Place;
 use crate::repetition::Repetition;
 use crate::run_fault::RunFault;
 use crate::sheet::{Sheet, include_resource, include_script, keeps_tags, listed, passes, write};
+use crate::variable_room::item_at;
 use htl_expr::Variables;
 use htl_text::Template;
 use sp_base::TextBuf;
@@ -83,7 +84,8 @@ fn round<'v, 'a: 'v>(
     requires index { index < length repetition.now.items }
     ensures { WroteParts result sheet.old sheet.new (round_for_place sheet.old.scope place.now content.now repetition.now index) }
 {
-    let Some(item) = repetition.items.item(alloc, index)? else {
+    sheet.begin_round()?;
+    let Some(item) = item_at(alloc, place.vars, repetition, index)? else {
         return Ok(());
     };
     let frame = place.frame.within(
@@ -94,7 +96,6 @@ fn round<'v, 'a: 'v>(
             place: index,
         },
     )?;
-    sheet.begin_round()?;
     let vars = Variables::With(repetition.name, item.text(), &*place.vars);
     let inner = Place {
         vars: &vars,

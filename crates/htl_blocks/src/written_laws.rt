@@ -8,9 +8,9 @@ ghost use Rattle.htl_blocks.specs.declared.attribute.Body.TheVariants as body;
 ghost use Rattle.htl_blocks.specs.declared.block.Tag.{Tag};
 ghost use Rattle.htl_blocks.specs.declared.block.Block.{Block};
 ghost use Rattle.htl_blocks.specs.declared.block.Block.TheVariants.{Text};
-ghost use Rattle.htl_blocks.specs.Parts.{text_parts};
+ghost use Rattle.htl_blocks.specs.Parts.{Part, text_parts};
 ghost use Rattle.htl_blocks.specs.Written.{block_parts};
-ghost use Rattle.htl_blocks.specs.WrittenLaws.{IsLeftOutIfUntrue, IsItsContentIfUnwrappedWithoutListOrBody, IsWrittenWholeIfInTagsWithoutListOrBody, ListElementsWriteEachItem, ElementsWithoutListAreLeftOut, ElementsWithoutItemsAreLeftOut, TextsStandInTags, ScriptsStandInTags, ResourcesStandInTags};
+ghost use Rattle.htl_blocks.specs.WrittenLaws.{IsLeftOutIfUntrue, IsItsContentIfUnwrappedWithoutListOrBody, IsWrittenWholeIfInTagsWithoutListOrBody, IsWrittenIfVariablesFit, IsRefusedIfVariablesAreTooLong, ListElementsWriteEachItem, ElementsWithoutListAreLeftOut, ElementsWithoutItemsAreLeftOut, TextsStandInTags, ScriptsStandInTags, ResourcesStandInTags};
 
 /// An element whose test is false is left out.
 pub fn a_false_test_leaves_the_element_out()
@@ -21,6 +21,13 @@ pub fn a_false_test_leaves_the_element_out()
 /// tags stand once.
 pub fn a_content_stands_once_for_each_item()
     ensures { ListElementsWriteEachItem }
+{}
+
+/// Where the variables of a place have together at most 4,194,304 bytes, what stands there is written (`fit`); else the script is refused
+/// because it is too long, whatever stands before and after (`long`).
+pub fn variables_that_are_too_long_refuse_a_script()
+    ensures fit { (inside : Bindings → List Part) (scope : Bindings) (name item : List ℕ) → IsWrittenIfVariablesFit inside scope name item }
+    ensures long { (inside : Bindings → List Part) (scope : Bindings) (name item : List ℕ) → IsRefusedIfVariablesAreTooLong inside scope name item }
 {}
 
 /// An element whose list is none, or has no items, is left out.

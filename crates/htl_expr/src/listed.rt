@@ -1,13 +1,15 @@
 //! A list as the texts of its items.
 
-ghost use Rattle.std.specs.Prelude.{◌≡◌, ◌<◌, [], IfOk, length, get_or, map, slice_get};
+ghost use Rattle.std.specs.Prelude.{◌≡◌, ◌≤◌, ◌<◌, [], IfOk, IfErr, IfSome, length, get_or, map, slice_get};
 ghost use Rattle.htl_expr.specs.Lent.{out_of_lent, listed_texts, plain_item};
 ghost use Rattle.htl_expr.specs.Value.{list_in};
+ghost use Rattle.htl_expr.specs.Writing.{WriteFailsAsTooLongIfMemory};
 
 use crate::lent::{Lent, is_list, item_count};
 use crate::lists::{long_text, truth_text};
-use crate::out::item_text;
-use sp_base::{Mem, TextBuf};
+use crate::out::item_text_within;
+use crate::room::WriteFault;
+use sp_base::TextBuf;
 use std::alloc::Global;
 use std::marker::Model;
 
@@ -60,13 +62,25 @@ fn made_text<'v>(text: TextBuf) -> ItemText<'v>
     }
 }
 
-// The text of a value as an item. That of a text is lent.
-fn text_of<'v>(alloc: Global, item: &Lent<'v>) -> Mem<ItemText<'v>>
-    ensures { IfOk result (λ text. text ≡ plain_item item.now) }
+// A text that is there, where it has at most so many bytes.
+fn within(text: ItemText<'_>, most: usize) -> Result<ItemText<'_>, WriteFault>
+    ensures ok { IfOk result (λ it. (it ≡ text.entry) × (length it ≤ most)) }
+    ensures err { IfErr result (WriteFailsAsTooLongIfMemory most text.entry) }
+{
+    if text.text().len() > most {
+        return Err(WriteFault::TooLong);
+    }
+    Ok(text)
+}
+
+// The text of a value as an item, where it has at most so many bytes. That of a text is lent.
+fn text_of<'v>(alloc: Global, item: &Lent<'v>, most: usize) -> Result<ItemText<'v>, WriteFault>
+    ensures ok { IfOk result (λ text. (text ≡ plain_item item.now) × (length text ≤ most)) }
+    ensures err { IfErr result (WriteFailsAsTooLongIfMemory most (plain_item item.now)) }
 {
     match item {
-        Lent::Text(text) => Ok(lent_text(text)),
-        _ => Ok(made_text(item_text(alloc, item)?)),
+        Lent::Text(text) => within(lent_text(text), most),
+        _ => Ok(made_text(item_text_within(alloc, item, most)?)),
     }
 }
 
@@ -99,25 +113,40 @@ pub(crate) fn items_of(value: Lent<'_>) -> Option<Listed<'_>>
 
 // The text of the item at a place of a list literal.
 #[tactic(auto, using(crate::proofs::SameItems::get_or_of_map))]
-fn literal_item<'v>(alloc: Global, items: &[Lent<'v>], place: usize) -> Mem<ItemText<'v>>
+fn literal_item<'v>(
+    alloc: Global,
+    items: &[Lent<'v>],
+    place: usize,
+    most: usize,
+) -> Result<ItemText<'v>, WriteFault>
     requires { place < length items.now }
-    ensures { IfOk result (λ text. text ≡ get_or (map plain_item items.now) place []) }
+    ensures ok { IfOk result (λ text. (text ≡ get_or (map plain_item items.now) place []) × (length text ≤ most)) }
+    ensures err { IfErr result (WriteFailsAsTooLongIfMemory most (get_or (map plain_item items.now) place [])) }
 {
-    text_of(alloc, &items[place])
+    text_of(alloc, &items[place], most)
 }
 
 // The text of the item at a place.
 #[tactic(auto, using(crate::proofs::Chains::items_out, crate::proofs::SameItems::get_or_of_map))]
-fn text_at<'v>(alloc: Global, list: &Lent<'v>, place: usize) -> Mem<ItemText<'v>>
+fn text_at<'v>(
+    alloc: Global,
+    list: &Lent<'v>,
+    place: usize,
+    most: usize,
+) -> Result<ItemText<'v>, WriteFault>
     requires { place < length (listed_texts (out_of_lent list.now)) }
-    ensures { IfOk result (λ text. text ≡ get_or (listed_texts (out_of_lent list.now)) place []) }
+    ensures ok { IfOk result (λ text. (text ≡ get_or (listed_texts (out_of_lent list.now)) place []) × (length text ≤ most)) }
+    ensures err { IfErr result (WriteFailsAsTooLongIfMemory most (get_or (listed_texts (out_of_lent list.now)) place [])) }
 {
     match list {
-        Lent::Texts(texts) => Ok(lent_text(texts.as_slice()[place].text())),
-        Lent::Longs(numbers) => Ok(made_text(long_text(alloc, numbers.as_slice()[place])?)),
-        Lent::Truths(truths) => Ok(lent_text(truth_text(truths.as_slice()[place]))),
-        Lent::Items(items) => literal_item(alloc, items.as_slice(), place),
-        _ => Ok(lent_text("")),
+        Lent::Texts(texts) => within(lent_text(texts.as_slice()[place].text()), most),
+        Lent::Longs(numbers) => within(
+            made_text(long_text(alloc, numbers.as_slice()[place])?),
+            most,
+        ),
+        Lent::Truths(truths) => within(lent_text(truth_text(truths.as_slice()[place])), most),
+        Lent::Items(items) => literal_item(alloc, items.as_slice(), place, most),
+        _ => within(lent_text(""), most),
     }
 }
 
@@ -129,14 +158,22 @@ impl<'v> Listed<'v> {
         item_count(&self.list)
     }
 
-    /// The text of the item at a place, counted from 0. It is lent where the item is a text or a truth, and else made.
+    /// The text of the item at a place, counted from 0, where it has at most `most` bytes. It is lent where the item is a text or a truth, and
+    /// else made, but not beyond them.
     #[tactic(auto, using(crate::proofs::Items::item_there, crate::proofs::Items::no_item))]
-    pub fn item(&self, alloc: Global, place: usize) -> Mem<Option<ItemText<'v>>>
-        ensures { IfOk result (λ item. item ≡ slice_get self.now place) }
+    pub fn item(
+        &self,
+        alloc: Global,
+        place: usize,
+        most: usize,
+    ) -> Result<Option<ItemText<'v>>, WriteFault>
+        ensures ok { IfOk result (λ item. item ≡ slice_get self.now place) }
+        ensures within { IfOk result (λ item. IfSome item (λ text. length text ≤ most)) }
+        ensures err { IfErr result (WriteFailsAsTooLongIfMemory most (get_or self.now place [])) }
     {
         if place >= item_count(&self.list) {
             return Ok(None);
         }
-        Ok(Some(text_at(alloc, &self.list, place)?))
+        Ok(Some(text_at(alloc, &self.list, place, most)?))
     }
 }

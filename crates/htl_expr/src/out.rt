@@ -1,13 +1,15 @@
 //! What an expression gives.
 
-ghost use Rattle.std.specs.Prelude.{◌≡◌, IfOk, map};
+ghost use Rattle.std.specs.Prelude.{◌≡◌, ◌≤◌, IfOk, IfErr, map, length};
 ghost use Rattle.std.specs.Fmt.{signed_decimal};
 ghost use Rattle.htl_expr.specs.Print.{truth_text};
 ghost use Rattle.htl_expr.specs.Lent.{out_of_lent, plain_item};
+ghost use Rattle.htl_expr.specs.Writing.{WriteFailsAsTooLongIfMemory};
 
 use crate::lent::Lent;
 use crate::lists::{long_text, truth_text};
 use crate::print::push_value;
+use crate::room::WriteFault;
 use htl_syntax::Context;
 use sp_base::{Mem, NoMemory, TextBuf, TextList};
 use std::alloc::Global;
@@ -40,6 +42,20 @@ pub(crate) fn truth_texts(alloc: Global, truths: &[bool]) -> Mem<TextList>
         texts.push(TextBuf::of(alloc, truth_text(*truth))?)?;
     }
     Ok(texts)
+}
+
+/// The text of an item of a list literal, where it has at most `most` bytes.
+pub(crate) fn item_text_within(
+    alloc: Global,
+    item: &Lent,
+    most: usize,
+) -> Result<TextBuf, WriteFault>
+    ensures ok { IfOk result (λ text. (text ≡ plain_item item.now) × (length text ≤ most)) }
+    ensures err { IfErr result (WriteFailsAsTooLongIfMemory most (plain_item item.now)) }
+{
+    let mut text = String::new(alloc);
+    push_value(&mut text, alloc, most, Some(Context::Unsafe), ",", item)?;
+    Ok(TextBuf::from(text))
 }
 
 /// The text of an item of a list literal.

@@ -4,7 +4,6 @@
 use Rattle.std.specs.Prelude.{ℕ, zero, suc, ◌+◌, ◌-◌, Bool, false, ◌||◌, ◌&&◌, ◌==◌, if◌then◌else◌, List, [], ◌∷◌, ◌++◌, length, take, drop, codes, Option, Some, None, Result, Ok, Err, ◌≡◌, ◌≢◌, ◌<◌, ◌≤◌}
 use Rattle.std.specs.List.{flat_map}
 use Rattle.sp_base.specs.Bytes.{begins_with_byte}
-use Rattle.sp_base.specs.Limits.{most_rendered_bytes}
 use Rattle.htl_syntax.specs.declared.expression.Expression.{Expression}
 use Rattle.htl_syntax.specs.declared.expression.ExprFault.{ExprFault}
 use Rattle.htl_expr.specs.declared.scope.Scope.{Scope}
@@ -136,9 +135,9 @@ template_output scope ps = flat_map (piece_text scope) ps
 -- ---- what is written within the limit
 
 -- a text is written after what stood there, within the limit
-abbrev pub Appends : List ℕ → List ℕ → List ℕ → Type 0
-Appends old more new = (new ≡ old ++ more) × (length new ≤ most_rendered_bytes)
+abbrev pub Appends : ℕ → List ℕ → List ℕ → List ℕ → Type 0
+Appends most old more new = (new ≡ old ++ more) × (length new ≤ most)
 
 -- it would go beyond the limit, unless memory lacks
-abbrev pub RenderFailsAsTooLongIfMemory : List ℕ → RenderFault → Type 0
-RenderFailsAsTooLongIfMemory text f = f ≢ render_fault.NoMemory → (f ≡ render_fault.TooLong) × (most_rendered_bytes < length text)
+abbrev pub RenderFailsAsTooLongIfMemory : ℕ → List ℕ → RenderFault → Type 0
+RenderFailsAsTooLongIfMemory most text f = f ≢ render_fault.NoMemory → (f ≡ render_fault.TooLong) × (most < length text)

@@ -13,12 +13,12 @@ use htl_expr::{Evaluation, Scope, Variables, WriteFault};
 use sp_base::{MOST_RENDERED_BYTES, TextBuf};
 use std::alloc::Global;
 
-fn push_plain(text: &mut String, plain: &str) -> Result<(), RenderFault>
-    requires { length (string_bytes text.old) ≤ most_rendered_bytes }
-    ensures ok { OnOk result (spec.Appends (string_bytes text.old) plain.now (string_bytes text.new)) }
-    ensures err { IfErr result (spec.RenderFailsAsTooLongIfMemory (string_bytes text.old ++ plain.now)) }
+fn push_plain(text: &mut String, most: usize, plain: &str) -> Result<(), RenderFault>
+    requires { length (string_bytes text.old) ≤ most }
+    ensures ok { OnOk result (spec.Appends most (string_bytes text.old) plain.now (string_bytes text.new)) }
+    ensures err { IfErr result (spec.RenderFailsAsTooLongIfMemory most (string_bytes text.old ++ plain.now)) }
 {
-    if plain.len() > MOST_RENDERED_BYTES - text.as_str().len() {
+    if plain.len() > most - text.as_str().len() {
         return Err(RenderFault::TooLong);
     }
     text.push_str(plain)?;
@@ -32,21 +32,16 @@ fn push_piece<'v, 'a: 'v>(
     of: &mut Evaluation<'a>,
     vars: &'v Variables<'v>,
     piece: &'v TemplatePiece,
+    most: usize,
 ) -> Result<(), RenderFault>
-    requires { length (string_bytes text.old) ≤ most_rendered_bytes }
-    ensures ok { OnOk result (spec.Appends (string_bytes text.old) (spec.piece_text (with_vars of.old (vars_of vars.now)) piece.now) (string_bytes text.new)) }
-    ensures err { IfErr result (spec.RenderFailsAsTooLongIfMemory (string_bytes text.old ++ spec.piece_text (with_vars of.old (vars_of vars.now)) piece.now)) }
+    requires { length (string_bytes text.old) ≤ most }
+    ensures ok { OnOk result (spec.Appends most (string_bytes text.old) (spec.piece_text (with_vars of.old (vars_of vars.now)) piece.now) (string_bytes text.new)) }
+    ensures err { IfErr result (spec.RenderFailsAsTooLongIfMemory most (string_bytes text.old ++ spec.piece_text (with_vars of.old (vars_of vars.now)) piece.now)) }
     ensures resource { of.new ≡ of.old }
 {
     match piece {
-        TemplatePiece::Plain(plain) => push_plain(text, plain.text()),
-        TemplatePiece::Value(expression) => match expression.write(
-            text,
-            alloc,
-            of,
-            vars,
-            MOST_RENDERED_BYTES,
-        ) {
+        TemplatePiece::Plain(plain) => push_plain(text, most, plain.text()),
+        TemplatePiece::Value(expression) => match expression.write(text, alloc, of, vars, most) {
             Ok(()) => Ok(()),
             Err(WriteFault::TooLong) => Err(RenderFault::TooLong),
             Err(WriteFault::NoMemory) => Err(RenderFault::NoMemory),
@@ -55,7 +50,7 @@ fn push_piece<'v, 'a: 'v>(
 }
 
 impl Template {
-    /// Writes what the template writes for a resource and variables after what a text has, if they have at most 4,194,304 bytes together.
+    /// Writes what the template writes for a resource and variables after what a text has, if they have at most `most` bytes together.
     /// A text that isn't written whole may be written in part.
     pub fn write<'v, 'a: 'v>(
         &'v self,
@@ -63,16 +58,17 @@ impl Template {
         alloc: Global,
         of: &mut Evaluation<'a>,
         vars: &'v Variables<'v>,
+        most: usize,
     ) -> Result<(), RenderFault>
-        ensures ok { OnOk result (spec.Appends (string_bytes text.old) (spec.template_output (with_vars of.old (vars_of vars.now)) self.now) (string_bytes text.new)) }
-        ensures err { IfErr result (spec.RenderFailsAsTooLongIfMemory (string_bytes text.old ++ spec.template_output (with_vars of.old (vars_of vars.now)) self.now)) }
+        ensures ok { OnOk result (spec.Appends most (string_bytes text.old) (spec.template_output (with_vars of.old (vars_of vars.now)) self.now) (string_bytes text.new)) }
+        ensures err { IfErr result (spec.RenderFailsAsTooLongIfMemory most (string_bytes text.old ++ spec.template_output (with_vars of.old (vars_of vars.now)) self.now)) }
         ensures resource { of.new ≡ of.old }
     {
-        if text.as_str().len() > MOST_RENDERED_BYTES {
+        if text.as_str().len() > most {
             return Err(RenderFault::TooLong);
         }
         for piece in self.pieces.as_slice() {
-            match push_piece(text, alloc, of, vars, piece) {
+            match push_piece(text, alloc, of, vars, piece, most) {
                 Ok(()) => {}
                 Err(fault) => return Err(fault),
             }
@@ -83,11 +79,12 @@ impl Template {
     /// The text that the template writes for a resource, where it has at most 4,194,304 bytes.
     pub fn render<'a>(&'a self, alloc: Global, scope: &Scope<'a>) -> Result<TextBuf, RenderFault>
         ensures ok { IfOk result (λ text. (text ≡ spec.template_output scope.now self.now) × (length text ≤ most_rendered_bytes)) }
-        ensures err { IfErr result (spec.RenderFailsAsTooLongIfMemory (spec.template_output scope.now self.now)) }
+        ensures err { IfErr result (spec.RenderFailsAsTooLongIfMemory most_rendered_bytes (spec.template_output scope.now self.now)) }
     {
         let mut text = String::new(alloc);
         let mut resource = Evaluation::of(alloc, scope);
-        match self.write(&mut text, alloc, &mut resource, scope.variables()) {
+        let vars = scope.variables();
+        match self.write(&mut text, alloc, &mut resource, vars, MOST_RENDERED_BYTES) {
             Ok(()) => Ok(TextBuf::from(text)),
             Err(fault) => Err(fault),
         }

@@ -5,9 +5,10 @@ use std::alloc::Global;
 use std::hash::RandomState;
 use std::test::Fail;
 
-// `one` writes a byte, `two` puts in `one`, `rounds` has 1,000,000 contents of lists, and `long` writes a property.
+// `one` writes a byte, `two` puts in `one`, `rounds` has 1,000,000 contents of lists, `long` writes a property, and `more` has a variable with
+// the text of one that it was given.
 const SCRIPTS: &str =
-    r#","one.html":{"jcr:content":{"jcr:data":"1"}},"two.html":{"jcr:content":{"jcr:data":"<i data-sly-unwrap data-sly-include='one.html'></i>"}},"rounds.html":{"jcr:content":{"jcr:data":"<p data-sly-unwrap data-sly-list='${properties.items}'><q data-sly-unwrap data-sly-list='${properties.fewer}'></q></p>"}},"long.html":{"jcr:content":{"jcr:data":"${properties.long}"}}"#;
+    r#","one.html":{"jcr:content":{"jcr:data":"1"}},"two.html":{"jcr:content":{"jcr:data":"<i data-sly-unwrap data-sly-include='one.html'></i>"}},"rounds.html":{"jcr:content":{"jcr:data":"<p data-sly-unwrap data-sly-list='${properties.items}'><q data-sly-unwrap data-sly-list='${properties.fewer}'></q></p>"}},"long.html":{"jcr:content":{"jcr:data":"${properties.long}"}},"more.html":{"jcr:content":{"jcr:data":"<q data-sly-list.more='${[item]}'></q>"}}"#;
 
 // A part so often, between two texts.
 fn repeated(alloc: Global, start: &str, part: &str, times: usize, end: &str) -> Mem<String> {
@@ -140,6 +141,38 @@ fn texts_have_four_megabytes(rt: HostRuntime) -> Result<(), Fail> {
     };
     assert_eq!(rt;
         other_len(rt.alloc(), seeds, members.as_str(), &TEXTS),
+        None
+    );
+    Ok(())
+}
+
+const THREE: &str =
+    "<p data-sly-list='${[[properties.long, properties.long, properties.long]]}'></p>";
+
+const FOUR: &str =
+    "<p data-sly-list='${[[properties.long, properties.long, properties.long, properties.long]]}'></p>";
+
+const ONE_AND_MORE: &str =
+    "<p data-sly-list='${[properties.long]}' data-sly-include='more.html'></p>";
+
+const TWO_AND_MORE: &str =
+    "<p data-sly-list='${[[properties.long, properties.long]]}' data-sly-include='more.html'></p>";
+
+const VARIABLES: [(&str, usize, &str, Option<usize>); 4] = [
+    (THREE, 2, "", Some(14)),
+    (FOUR, 1, "", None),
+    (ONE_AND_MORE, 2, "", Some(28)),
+    (TWO_AND_MORE, 1, "", None),
+];
+
+#[test]
+fn variables_have_four_megabytes(rt: HostRuntime) -> Result<(), Fail> {
+    let seeds = RandomState::new(&rt)?;
+    let Ok(members) = long(rt.alloc()) else {
+        return Ok(());
+    };
+    assert_eq!(rt;
+        other_len(rt.alloc(), seeds, members.as_str(), &VARIABLES),
         None
     );
     Ok(())

@@ -461,6 +461,31 @@ fn a_text_has_at_most_four_megabytes(rt: HostRuntime) {
     }
 }
 
+// Variables: one that is a text, one over that, and an item ten times as long as the outer one's, ten times over.
+const ITEM: &str = "<p data-sly-list.a='${[properties.long]}'></p>";
+
+const ITEM_IN_ITEM: &str =
+    "<p data-sly-list.a='${[properties.long]}'><p data-sly-list.b='${[a]}'></p></p>";
+
+const GROWN: &str =
+    "<i data-sly-list.a='${[properties.long]}'><i data-sly-list.b='${[[a,a,a,a,a,a,a,a,a,a]]}'><i data-sly-list.c='${[[b,b,b,b,b,b,b,b,b,b]]}'><i data-sly-list.d='${[[c,c,c,c,c,c,c,c,c,c]]}'><i data-sly-list.e='${[[d,d,d,d,d,d,d,d,d,d]]}'><i data-sly-list.f='${[[e,e,e,e,e,e,e,e,e,e]]}'><i data-sly-list.g='${[[f,f,f,f,f,f,f,f,f,f]]}'><i data-sly-list.h='${[[g,g,g,g,g,g,g,g,g,g]]}'><i data-sly-list.i='${[[h,h,h,h,h,h,h,h,h,h]]}'><i data-sly-list.j='${[[i,i,i,i,i,i,i,i,i,i]]}'><i data-sly-list.k='${[[j,j,j,j,j,j,j,j,j,j]]}'></i></i></i></i></i></i></i></i></i></i></i>";
+
+// A variable has its name and its text.
+#[test]
+fn variables_have_at_most_four_megabytes(rt: HostRuntime) {
+    for (len, text, is_refused) in &[
+        (MOST_BYTES - 1, ITEM, false),
+        (MOST_BYTES, ITEM, true),
+        (MOST_BYTES / 2 - 1, ITEM_IN_ITEM, false),
+        (MOST_BYTES / 2, ITEM_IN_ITEM, true),
+        (10, GROWN, true),
+    ] {
+        assert!(rt;
+            matches!(with_long(rt.alloc(), *len), Ok(props) if matches!(fault_of(rt.alloc(), &props, *text), Some(RunFault::TooLong)) == *is_refused)
+        );
+    }
+}
+
 fn resource_len(piece: &Piece<'_>) -> Option<usize> {
     match piece {
         Piece::Resource(name) => Some(name.text().len()),

@@ -1,5 +1,5 @@
 //! Variables in expressions, which no script of the program has yet, and what block statements ask of an expression.
-use htl_expr::{Evaluation, Expr, Listed, Scope, Variables};
+use htl_expr::{Evaluation, Expr, Listed, Scope, Variables, WriteFault};
 use htl_text::{Template, TextFault};
 use sp_base::{Mem, PropList, TextBuf, TextList, Value};
 use std::alloc::Global;
@@ -70,14 +70,21 @@ fn names_are_variables(rt: HostRuntime) {
 }
 
 fn has_item(alloc: Global, list: &Listed<'_>, place: usize, wanted: &str) -> bool {
-    matches!(list.item(alloc, place), Ok(Some(item)) if item.text() == wanted)
+    matches!(list.item(alloc, place, wanted.len()), Ok(Some(item)) if item.text() == wanted)
+}
+
+// Whether an item has no room in so many bytes.
+fn has_no_room(alloc: Global, list: &Listed<'_>, place: usize, most: usize) -> bool {
+    matches!(list.item(alloc, place, most), Err(WriteFault::TooLong))
 }
 
 fn has_items(alloc: Global, list: &Listed<'_>, first: &str, second: &str) -> bool {
     list.len() == 2
         && has_item(alloc, list, 0, first)
         && has_item(alloc, list, 1, second)
-        && matches!(list.item(alloc, 2), Ok(None))
+        && has_no_room(alloc, list, 0, first.len().saturating_sub(1))
+        && has_no_room(alloc, list, 1, second.len().saturating_sub(1))
+        && matches!(list.item(alloc, 2, 0), Ok(None))
 }
 
 fn lists<'v, 'a: 'v>(
@@ -178,8 +185,9 @@ fn writes_items(
     let none = Variables::None;
     let first = Variables::With("item", "a", &none);
     let second = Variables::With("item", "<", &none);
-    template.write(page, alloc, of, &first).is_ok()
-        && template.write(page, alloc, of, &second).is_ok()
+    template.write(page, alloc, of, &first, 10).is_ok()
+        && template.write(page, alloc, of, &second, 23).is_ok()
+        && template.write(page, alloc, of, &second, 22).is_err()
 }
 
 #[test]

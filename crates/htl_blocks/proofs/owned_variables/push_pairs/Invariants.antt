@@ -3,4 +3,4 @@ use Rattle.htl_expr.specs.Variables.{lent_pairs}
 use Rattle.htl_blocks.proofs.owned_variables.push_pairs.Given as goal
 
 abbrev pub invariant-loop-pair : goal.invariant-loop-pair
-invariant-loop-pair l = l.all ≡ l.fn.all ++ lent_pairs (take l.pair-index l.pairs)
+invariant-loop-pair l = lent_pairs l.all ≡ lent_pairs l.fn.all ++ lent_pairs (take l.pair-index l.pairs)

@@ -1,6 +1,0 @@
-use Rattle.std.proofs.Common.{◌≡◌, take}
-use Rattle.htl_expr.specs.Variables.{lent_pairs}
-use Rattle.htl_blocks.proofs.owned_variables.OwnedVariables.lent.Given as goal
-
-abbrev pub invariant-loop-pair : goal.invariant-loop-pair
-invariant-loop-pair l = lent_pairs l.pairs ≡ take l.pair-index l.pair-items

@@ -5,7 +5,6 @@ ghost use Rattle.run_laws.specs.Logs.{is_restart};
 ghost use Rattle.sling_dispatch.specs.Fronts.{IsNext, IsNextEvent, MakesNext, SessionStandsFor, lines_of_event, FrontMakesNext};
 ghost use Rattle.sling_dispatch.specs.InnerEndings.{AreActLines};
 ghost use Rattle.sling_dispatch.specs.Runs.{Unarmed, asked_publisher_host, sling_start};
-ghost use Rattle.sling_dispatch.specs.Runs as spec;
 ghost use Rattle.sling_dispatch.specs.ScriptedDisks.{arming_of_disk, disk_in, files_of_disk};
 
 use crate::renderer::PublisherRenderer;

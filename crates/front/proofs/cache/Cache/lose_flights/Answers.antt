@@ -18,6 +18,9 @@ loop-ended-preserved-in_ok-push-2 c = lost-more c.args.self.now c.loop-ended.sel
 pub loop-ended-preserved-in_ok-push-3 : goal.loop-ended-preserved-in_ok-push-3
 loop-ended-preserved-in_ok-push-3 c = lost-more c.args.self.now c.loop-ended.self c.lose.new.self c.args.notes.now.items c.loop-ended.notes.items c.push.new.self.items c.in-Some.ended c.loop-ended.invariant (c.in-Some.ensures.first refl) c.in-Some.ensures.flushes c.in-Some.ensures.loss c.in_ok-push.ensures.items
 
+pub loop-ended-preserved-in_ok-push-4 : goal.loop-ended-preserved-in_ok-push-4
+loop-ended-preserved-in_ok-push-4 c = lost-more c.args.self.now c.loop-ended.self c.lose.new.self c.args.notes.now.items c.loop-ended.notes.items c.push.new.self.items c.in-Some.ended c.loop-ended.invariant (c.in-Some.ensures.first refl) c.in-Some.ensures.flushes c.in-Some.ensures.loss c.in_ok-push.ensures.items
+
 pub loop-ended-preserved : goal.loop-ended-preserved
 loop-ended-preserved c = lost-more c.args.self.now c.loop-ended.self c.lose.new.self c.args.notes.now.items c.loop-ended.notes.items c.push.new.self.items c.in-Some.ended c.loop-ended.invariant (c.in-Some.ensures.first refl) c.in-Some.ensures.flushes c.in-Some.ensures.loss c.in_ok-push.ensures.items
 

@@ -1,11 +1,12 @@
 -- Where the reading of a filter's entry stops.
 use Rattle.std.proofs.Common.{◌≡◌, Bool, true, false, Option, Result, Ok, Err, codes, IsErr, IsErrAnd, ap, sym, subst}
+use Rattle.sp_base.specs.Outcomes.{◌>>=◌}
 use Rattle.any_config.specs.declared.farm.Filter.{Filter}
 use Rattle.any_config.specs.declared.farm.Test.{Test}
 use Rattle.any_config.specs.declared.farm_fault.FarmFault.{FarmFault}
 use Rattle.any_config.specs.declared.farm_fault.FarmFault.TheVariants.{Missing, BadKind, NotSupported, NoMemory}
 use Rattle.any_config.specs.Read.{Members}
-use Rattle.any_config.specs.Farms.{FarmOutcome, FarmFails, FarmGives, ◌>>=◌, allow, test_at, filter}
+use Rattle.any_config.specs.Farms.{FarmOutcome, FarmFails, FarmGives, allow, test_at, filter}
 
 -- a fault of a step is one of what goes on from it
 fails_on : {A B : Type 0} (fault : FarmFault) (read : FarmOutcome A) (next : A → FarmOutcome B) → FarmFails fault read → FarmFails fault (read >>= next)

@@ -2,6 +2,7 @@
 use Rattle.std.proofs.Common.{◌≡◌, ◌≤◌, ℕ, zero, suc, Bool, true, false, cond, not, ◌&&◌, ◌||◌, ◌==◌, ◌⊎◌, inl, inr, List, [], ◌∷◌, ◌++◌, take, drop, length, Result, Ok, Err, refl, ap, sym, ◌∙◌, arith, subst}
 use Rattle.std.specs.Str.{is_utf8}
 use Rattle.std.proofs.lemmas.Bool.Decides.{nat_tests}
+use Rattle.sp_base.specs.Outcomes.{◌>>=◌}
 use Rattle.sp_base.specs.Bytes.{begins_with_byte}
 use Rattle.sp_base.proofs.ListLemmas.{cons_is_some}
 use Rattle.any_config.specs.declared.node.AnyNode.{AnyNode}
@@ -11,7 +12,7 @@ use Rattle.any_config.specs.declared.stop.AnyStop.TheVariants as stop
 use Rattle.any_config.specs.declared.any_fault.AnyFault.{AnyFault}
 use Rattle.any_config.specs.declared.tokens.ByteRun.{ByteRun}
 use Rattle.any_config.specs.declared.tokens.ByteRun.TheVariants.{Name, Plain, Quoted}
-use Rattle.any_config.specs.Tokens.{TokenOutcome, ◌>>=◌, comments_skipped, is_config_name_byte, is_plain_byte, ends, run_len, member_name, word, quoted_value, quoted_node, ungrouped_value}
+use Rattle.any_config.specs.Tokens.{TokenOutcome, comments_skipped, is_config_name_byte, is_plain_byte, ends, run_len, member_name, word, quoted_value, quoted_node, ungrouped_value}
 use Rattle.any_config.specs.Read.{Members, ends_members, value, member, more_members, members, braced_group, group, file_read, placed_answer, any_of}
 use Rattle.any_config.specs.Grammar.{IsValue, AreMembers}
 use Rattle.any_config.specs.Faults.{first_byte_passes, is_quote_mark, begins_value, IsBroken, IsFirstBroken, IsStop, IsConfigFault}

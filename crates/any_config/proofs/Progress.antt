@@ -1,6 +1,7 @@
 -- Each part of a file takes a byte at least.
 use Rattle.std.proofs.Common.{◌≡◌, ◌<◌, ◌≤◌, ℕ, zero, suc, Bool, true, false, cond, not, ◌&&◌, ◌==◌, List, [], ◌∷◌, ◌++◌, take, drop, length, Ok, Err, Result, refl, ap, arith, length-drop}
 use Rattle.std.specs.Str.{is_utf8}
+use Rattle.sp_base.specs.Outcomes.{◌>>=◌}
 use Rattle.sp_base.specs.Bytes.{begins_with_byte}
 use Rattle.sp_base.proofs.NatLemmas.{positive}
 use Rattle.sp_base.proofs.TextLemmas.{rest_after_byte}
@@ -9,7 +10,7 @@ use Rattle.any_config.specs.declared.node.AnyNode.TheVariants as node
 use Rattle.any_config.specs.declared.stop.AnyStop.{AnyStop}
 use Rattle.any_config.specs.declared.stop.AnyStop.TheVariants.{BadName, BadQuote, Unclosed}
 use Rattle.any_config.specs.declared.tokens.ByteRun.TheVariants.{Name, Plain, Quoted}
-use Rattle.any_config.specs.Tokens.{TokenOutcome, ◌>>=◌, after_blanks_and_comments, comments_skipped, is_line_end, is_config_blank, run_len, member_name, word, quoted_value, quoted_node, ungrouped_value}
+use Rattle.any_config.specs.Tokens.{TokenOutcome, after_blanks_and_comments, comments_skipped, is_line_end, is_config_blank, run_len, member_name, word, quoted_value, quoted_node, ungrouped_value}
 use Rattle.any_config.specs.Read.{Members, ends_members, value, member, more_members, members, braced_group, group}
 use Rattle.any_config.proofs.TokenLemmas.{run_within}
 

@@ -1,6 +1,7 @@
 -- What is read is of the grammar.
 use Rattle.std.proofs.Common.{◌≡◌, ◌≤◌, ℕ, zero, suc, Bool, true, false, cond, ◌==◌, List, [], ◌∷◌, ◌++◌, drop, length, Result, Ok, Err, refl, ap, sym, ◌∙◌, arith, append_assoc, subst}
 use Rattle.std.proofs.lemmas.List.{append-nil}
+use Rattle.sp_base.specs.Outcomes.{◌>>=◌}
 use Rattle.sp_base.specs.Bytes.{begins_with_byte}
 use Rattle.sp_base.proofs.ListLemmas.{nil_from_test}
 use Rattle.any_config.specs.declared.node.AnyNode.{AnyNode}
@@ -8,7 +9,7 @@ use Rattle.any_config.specs.declared.node.AnyNode.TheVariants as node
 use Rattle.any_config.specs.declared.stop.AnyStop.{AnyStop}
 use Rattle.any_config.specs.declared.stop.AnyStop.TheVariants as stop
 use Rattle.any_config.specs.declared.any_fault.AnyFault.{AnyFault}
-use Rattle.any_config.specs.Tokens.{◌>>=◌, comments_skipped, member_name, ungrouped_value}
+use Rattle.any_config.specs.Tokens.{comments_skipped, member_name, ungrouped_value}
 use Rattle.any_config.specs.Read.{Members, ends_members, value, member, more_members, members, braced_group, group, file_read, placed_answer, any_of}
 use Rattle.any_config.specs.Grammar.{IsValue, AreMembers, IsFile}
 use Rattle.any_config.proofs.Progress.{bind_ok, done, ok_is, skip_less, member_less, group_takes}

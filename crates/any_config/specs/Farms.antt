@@ -2,6 +2,7 @@
 use Rattle.std.specs.Prelude.{◌≡◌, ℕ, ◌+◌, ◌*◌, ◌-◌, Bool, true, false, not, ◌||◌, ◌&&◌, if◌then◌else◌, ◌==◌, nat_eq, nat_le, List, [], ◌∷◌, ◌++◌, length, Option, Some, None, unwrap_or, Result, Ok, Err, codes}
 use Rattle.std.specs.List.{list_all}
 use Rattle.std.specs.Cmp.Lexicographic.{pointwise}
+use Rattle.sp_base.specs.Outcomes.{◌>>=◌}
 use Rattle.sp_base.specs.Bytes.{is_digit}
 use Rattle.sp_base.specs.Limits.{greatest_port, http_port}
 use Rattle.glob_rules.specs.declared.piece.GlobPiece.{GlobPiece}
@@ -26,12 +27,6 @@ use Rattle.any_config.specs.Tokens.{is_letter_or_digit}
 -- what was read, or the first fault
 abbrev pub FarmOutcome : Type 0 → Type 0
 FarmOutcome A = Result A FarmFault
-
-infixl 10 ◌>>=◌
--- a step, and the next one with what the first gave
-abbrev pub ◌>>=◌ : {A B : Type 0} → FarmOutcome A → (A → FarmOutcome B) → FarmOutcome B
-(Ok x) >>= f = f x
-(Err e) >>= f = Err e
 
 -- the fault is that of the reading, unless memory ran out
 abbrev pub FarmFails : {A : Type 0} → FarmFault → FarmOutcome A → Type 0

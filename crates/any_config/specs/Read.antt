@@ -1,5 +1,6 @@
 -- Reading a file dispatcher.any (Adobe Dispatcher manual, "Configuring Dispatcher") from left to right, with the first fault that is met.
 use Rattle.std.specs.Prelude.{ℕ, zero, suc, ◌-◌, Bool, ◌||◌, if◌then◌else◌, ◌==◌, List, [], ◌∷◌, ◌++◌, length, drop, Result, Ok, Err}
+use Rattle.sp_base.specs.Outcomes.{◌>>=◌}
 use Rattle.sp_base.specs.Bytes.{begins_with_byte}
 use Rattle.any_config.specs.declared.stop.AnyStop.{AnyStop}
 use Rattle.any_config.specs.declared.stop.AnyStop.TheVariants as stop
@@ -7,7 +8,7 @@ use Rattle.any_config.specs.declared.any_fault.AnyFault.{AnyFault}
 use Rattle.any_config.specs.declared.any_fault.AnyFault.TheVariants as fault
 use Rattle.any_config.specs.declared.node.AnyNode.{AnyNode}
 use Rattle.any_config.specs.declared.node.AnyNode.TheVariants as node
-use Rattle.any_config.specs.Tokens.{TokenOutcome, ◌>>=◌, comments_skipped, member_name, ungrouped_value}
+use Rattle.any_config.specs.Tokens.{TokenOutcome, comments_skipped, member_name, ungrouped_value}
 
 -- the names of a group and their values
 abbrev pub Members : Type 0

@@ -3,6 +3,7 @@
 use Rattle.std.specs.Prelude.{◌≡◌, ℕ, Bool, true, false, not, ◌||◌, ◌&&◌, if◌then◌else◌, ◌==◌, nat_le, List, [], ◌∷◌, length, take, drop, Result, Ok, Err}
 use Rattle.std.specs.List.{position_or_len}
 use Rattle.std.specs.Str.{is_utf8}
+use Rattle.sp_base.specs.Outcomes.{◌>>=◌}
 use Rattle.sp_base.specs.Bytes.{begins_with_byte}
 use Rattle.any_config.specs.declared.stop.AnyStop.{AnyStop}
 use Rattle.any_config.specs.declared.stop.AnyStop.TheVariants.{Memory, BadName, BadQuote, TooDeep, Unclosed}
@@ -14,12 +15,6 @@ use Rattle.any_config.specs.declared.node.AnyNode.TheVariants as node
 -- what was read and the bytes after it, or why nothing was; a place is told by the bytes that are left there
 abbrev pub TokenOutcome : Type 0 → Type 0
 TokenOutcome A = Result (A × List ℕ) AnyStop
-
-infixl 10 ◌>>=◌
--- a step, and the next one with what the first gave
-abbrev pub ◌>>=◌ : {A B : Type 0} → Result A AnyStop → (A → Result B AnyStop) → Result B AnyStop
-(Ok x) >>= f = f x
-(Err e) >>= f = Err e
 
 -- the reason is that of the reading, unless memory ran out
 abbrev pub TokenFails : {Y : Type 0} → AnyStop → Result Y AnyStop → Type 0

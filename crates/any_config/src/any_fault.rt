@@ -1,7 +1,7 @@
 //! Why bytes are no `dispatcher.any` file.
 ghost use Rattle.std.specs.Prelude.{◌≡◌, Some};
 ghost use Rattle.any_config.specs.FaultTexts.{any_fault_text};
-ghost use Rattle.any_config.specs.declared.any_fault.AnyFault.TheVariants.{NoMemory as no_memory};
+ghost use Rattle.any_config.specs.declared.any_fault.AnyFault.TheVariants.{NoMemory as out_of_memory};
 
 use sp_base::NoMemory;
 use std::alloc::{AllocError, AllocFailed};
@@ -36,7 +36,7 @@ impl fmt::Display for AnyFault {
 }
 
 impl From<NoMemory> for AnyFault {
-    ghost from_gives = { λ _ e. e ≡ no_memory };
+    ghost from_gives = { λ _ e. e ≡ out_of_memory };
 
     fn from(_fault: NoMemory) -> AnyFault {
         AnyFault::NoMemory
@@ -44,7 +44,7 @@ impl From<NoMemory> for AnyFault {
 }
 
 impl From<AllocError> for AnyFault {
-    ghost from_gives = { λ _ e. e ≡ no_memory };
+    ghost from_gives = { λ _ e. e ≡ out_of_memory };
 
     fn from(_fault: AllocError) -> AnyFault {
         AnyFault::NoMemory
@@ -52,7 +52,7 @@ impl From<AllocError> for AnyFault {
 }
 
 impl<T: Drop> From<AllocFailed<T>> for AnyFault {
-    ghost from_gives = { λ _ e. e ≡ no_memory };
+    ghost from_gives = { λ _ e. e ≡ out_of_memory };
 
     fn from(_fault: AllocFailed<T>) -> AnyFault {
         AnyFault::NoMemory

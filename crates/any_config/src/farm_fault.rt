@@ -1,7 +1,7 @@
 //! Why a file has no farm that can be used.
 ghost use Rattle.std.specs.Prelude.{◌≡◌, Some};
 ghost use Rattle.any_config.specs.FaultTexts.{farm_fault_text};
-ghost use Rattle.any_config.specs.declared.farm_fault.FarmFault.TheVariants.{NoMemory as no_memory};
+ghost use Rattle.any_config.specs.declared.farm_fault.FarmFault.TheVariants.{NoMemory as out_of_memory};
 
 use sp_base::{NoMemory, TextBuf};
 use std::alloc::{AllocError, AllocFailed};
@@ -34,7 +34,7 @@ impl fmt::Display for FarmFault {
 }
 
 impl From<NoMemory> for FarmFault {
-    ghost from_gives = { λ _ e. e ≡ no_memory };
+    ghost from_gives = { λ _ e. e ≡ out_of_memory };
 
     fn from(_fault: NoMemory) -> FarmFault {
         FarmFault::NoMemory
@@ -42,7 +42,7 @@ impl From<NoMemory> for FarmFault {
 }
 
 impl From<AllocError> for FarmFault {
-    ghost from_gives = { λ _ e. e ≡ no_memory };
+    ghost from_gives = { λ _ e. e ≡ out_of_memory };
 
     fn from(_fault: AllocError) -> FarmFault {
         FarmFault::NoMemory
@@ -50,7 +50,7 @@ impl From<AllocError> for FarmFault {
 }
 
 impl<T: Drop> From<AllocFailed<T>> for FarmFault {
-    ghost from_gives = { λ _ e. e ≡ no_memory };
+    ghost from_gives = { λ _ e. e ≡ out_of_memory };
 
     fn from(_fault: AllocFailed<T>) -> FarmFault {
         FarmFault::NoMemory

@@ -1,5 +1,5 @@
 //! Faults of paths and of typed values, which the program doesn't tell, and paths as the cache has them.
-use sp_base::{Hint, HintKind, Path, PathFault, TextBuf, TextList, Value, ValueFault};
+use sp_base::{Hint, HintedType, Path, PathFault, TextBuf, TextList, Value, ValueFault};
 use std::alloc::Global;
 
 fn is_refused(alloc: Global, text: &str, wanted: PathFault) -> bool {
@@ -83,12 +83,12 @@ fn are_refused(alloc: Global, hint: Hint, texts: &[&str], wanted: ValueFault) ->
 }
 
 const NUMBERS: Hint = Hint {
-    kind: HintKind::Long,
+    kind: HintedType::Long,
     many: true,
 };
 
 const TRUTH: Hint = Hint {
-    kind: HintKind::Truth,
+    kind: HintedType::Truth,
     many: false,
 };
 

@@ -11,6 +11,8 @@ use Rattle.htl_blocks.specs.declared.quoting.Quoting.{Quoting}
 use Rattle.htl_blocks.specs.declared.quoting.Quoting.TheVariants.{Outside, Within}
 use Rattle.htl_blocks.specs.Markup.{begins_end_tag, begins_tag, ended_len, ends_run, ends_after_name, ends_tag, is_name_byte, tag_name_len, part_len, parts, parts_after, markup_quoting_step, run_bytes, tag_end, tag_len}
 use Rattle.htl_blocks.specs.Spelling.{whole_text}
+use Rattle.htl_blocks.proofs.Parts.{parts_after_skipped}
+use Rattle.htl_blocks.proofs.Split.{part_is_tag, parts_none}
 use Rattle.block_laws.specs.PartKinds.{quoting_after, HoldsOfNone, ends_tag_before, IsTagName, end_tag_of, BeginsNoEndTag, IsPart, AreParts}
 use Rattle.block_laws.proofs.Scans.{take_all, drop_all, cut_behind, scan, Finds, scan_finds, scan_is, scan_none, Run, run_found, run_is}
 
@@ -130,10 +132,6 @@ end_tag_size name = let size = length-append name (62 ∷ []) in omega (arith, s
 
 -- ---- one part
 
-part_of_tag : (t : Text) → begins_tag t ≡ true → part_len t ≡ tag_len t
-unfolding part_len
-part_of_tag t b = rw b refl
-
 part_of_end_tag : (t : Text) → begins_tag t ≡ false → begins_end_tag t ≡ true → part_len t ≡ tag_name_len (drop 2 t) + 3
 unfolding part_len
 part_of_end_tag t b e = rw (b, e) refl
@@ -150,7 +148,7 @@ found_part : (c : ℕ) (t : Text) → IsPart (take (part_len (c ∷ t)) (c ∷ t
 found_part c t = go (begins_tag (c ∷ t)) refl (begins_end_tag (c ∷ t)) refl
   where
     go : (a : Bool) → begins_tag (c ∷ t) ≡ a → (b : Bool) → begins_end_tag (c ∷ t) ≡ b → IsPart (take (part_len (c ∷ t)) (c ∷ t)) (drop (part_len (c ∷ t)) (c ∷ t))
-    go true ea b eb = rw (part_of_tag (c ∷ t) ea) (tag_found (c ∷ t) ea)
+    go true ea b eb = rw (part_is_tag (c ∷ t) ea) (tag_found (c ∷ t) ea)
     go false ea true eb =
         let x = end_tag_found (c ∷ t) eb in
         let some = x.len in
@@ -180,10 +178,10 @@ is_part : (part later : Text) → IsPart part later → (part_len (part ++ later
 is_part part later (IsPart.Tag inside is b none out) =
     let whole : part ++ later ≡ inside ++ 62 ∷ later = ap (λ (p : Text). p ++ later) is ∙ append_assoc inside (62 ∷ []) later in
     let size : length part ≡ length inside + 1 = ap length is ∙ length-append inside (62 ∷ []) in
-    (part_of_tag (part ++ later) b ∙ ap tag_len whole ∙ tag_len_is inside later none out ∙ sym size, omega (arith, size))
+    (part_is_tag (part ++ later) b ∙ ap tag_len whole ∙ tag_len_is inside later none out ∙ sym size, omega (arith, size))
 is_part part later (IsPart.TagWithoutEnd end b none) =
     let whole : part ++ later ≡ part = ap (λ (t : Text). part ++ t) end ∙ append-nil part in
-    (ap part_len whole ∙ part_of_tag part b ∙ open_len_is part none, some_in_tag part b)
+    (ap part_len whole ∙ part_is_tag part b ∙ open_len_is part none, some_in_tag part b)
 is_part part later (IsPart.EndTag name named is) =
     let whole : part ++ later ≡ end_tag_of name ++ later = ap (λ (p : Text). p ++ later) is in
     let size : length part ≡ length name + 3 = ap length is ∙ end_tag_size name in
@@ -201,13 +199,6 @@ nonzero : (n : ℕ) (t : Text) → 0 < length (take n t) → 1 ≤ n
 nonzero zero t some = absurd (omega (arith, some))
 nonzero (suc n) t some = omega arith
 
--- bytes that belong to the part before are passed over
-skipped : (n : ℕ) (t : Text) → parts_after n t ≡ parts_after 0 (drop n t)
-unfolding parts_after
-skipped zero t = refl
-skipped (suc n) [] = refl
-skipped (suc n) (c ∷ t) = skipped n t
-
 -- the first part, and the parts of what follows it
 parts_step : (c : ℕ) (t : Text) → 1 ≤ part_len (c ∷ t) → parts (c ∷ t) ≡ take (part_len (c ∷ t)) (c ∷ t) ∷ parts (drop (part_len (c ∷ t)) (c ∷ t))
 unfolding parts_after
@@ -215,11 +206,7 @@ parts_step c t some = ap (λ (more : List Text). take (part_len (c ∷ t)) (c �
   where
     go : (n : ℕ) → 1 ≤ n → parts_after (n - 1) t ≡ parts_after 0 (drop n (c ∷ t))
     go zero h = absurd (omega (arith, h))
-    go (suc k) h = let same : suc k - 1 ≡ k = omega arith in rw same (skipped k t)
-
-parts_none : parts [] ≡ []
-unfolding parts_after
-parts_none = refl
+    go (suc k) h = let same : suc k - 1 ≡ k = omega arith in rw same (parts_after_skipped k t)
 
 each_within : (n : ℕ) (t : Text) → length t ≤ n → (whole_text (parts t) ≡ t) × AreParts (parts t)
 each_within n [] h = subst (λ (ps : List Text). (whole_text ps ≡ []) × AreParts ps) (sym parts_none) (refl, tt)

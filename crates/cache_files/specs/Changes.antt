@@ -1,7 +1,5 @@
 -- What a change of the files of the docroot keeps of its pages, its stamps and the number of the session.
 use Rattle.std.specs.Prelude.{◌≡◌, ◌≢◌, ◌⊎◌, List, Option, Some, None, length}
-use Rattle.std.specs.List.{AllByRecursion}
-use Rattle.sp_base.specs.Bytes.{AreBytes}
 use Rattle.sp_base.specs.Texts.{Segments, Text}
 use Rattle.sp_base.specs.declared.answer.Answer.{Answer}
 use Rattle.sp_outside.specs.Calls.{Call}
@@ -9,7 +7,7 @@ use Rattle.sp_outside.specs.Files.{Files, file_at, with_file, without_file}
 use Rattle.cover_rules.specs.Pages.{IsPageKey}
 use Rattle.cover_rules.specs.declared.page.PageKey.{PageKey}
 use Rattle.cover_rules.specs.declared.stamp.Stamp.{Stamp}
-use Rattle.docroot_format.specs.Names.{stat_name}
+use Rattle.docroot_format.specs.Names.{HaveBytes, stat_name}
 use Rattle.docroot_format.specs.declared.fault.FileFault.{FileFault}
 use Rattle.docroot_format.specs.declared.fault.FileFault.TheVariants.{NoMemory}
 use Rattle.cache_files.specs.Epochs.{epoch_held}
@@ -52,7 +50,7 @@ KeepsOtherPages old new key = (other : PageKey) → IsPageKey other → other �
 
 -- each folder's .stat file is as it was, and so is the number of the session
 pub record KeepsStamps (old new : Files) : Type 0 where
-  pub stats : (folder : Segments) → AllByRecursion AreBytes folder → file_at new (stat_name folder) ≡ file_at old (stat_name folder)
+  pub stats : (folder : Segments) → HaveBytes folder → file_at new (stat_name folder) ≡ file_at old (stat_name folder)
   pub epoch : epoch_held new ≡ epoch_held old
 
 -- each file but for the two of a key's page is as it was

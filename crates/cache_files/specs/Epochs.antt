@@ -6,7 +6,7 @@ use Rattle.sp_outside.specs.Causes.{Rose}
 use Rattle.sp_outside.specs.Calls.{Call, Get, Put, told_calls}
 use Rattle.sp_outside.specs.Files.{Files, file_at, told_with, with_file}
 use Rattle.sp_outside.specs.declared.disk.DiskFault.{DiskFault}
-use Rattle.sp_outside.specs.declared.disk.DiskFault.TheVariants.{Failed, NoMemory as no_room}
+use Rattle.sp_outside.specs.declared.disk.DiskFault.TheVariants.{Failed, NoMemory as out_of_memory}
 use Rattle.docroot_format.specs.Names.{epoch_name}
 use Rattle.docroot_format.specs.Readings.{epoch_of}
 use Rattle.docroot_format.specs.Texts.{epoch_text}
@@ -16,7 +16,7 @@ use Rattle.cache_files.specs.declared.epoch.OpenFault.TheVariants.{Disk, Foreign
 -- the fault of an opening whose disk answers this
 abbrev pub open_fault : DiskFault → OpenFault
 open_fault Failed = Disk
-open_fault no_room = NoMemory
+open_fault out_of_memory = NoMemory
 
 -- the greatest number of a session
 abbrev pub greatest_epoch : ℕ

@@ -1,7 +1,5 @@
 -- The stamps that the files of the docroot hold, beside the number of the session.
 use Rattle.std.specs.Prelude.{◌≡◌, ◌⊎◌, ◌≤◌, ◌<◌, ◌^◌, IsTrue, Some, option_and_then}
-use Rattle.std.specs.List.{AllByRecursion}
-use Rattle.sp_base.specs.Bytes.{AreBytes}
 use Rattle.sp_base.specs.Paths.{is_path}
 use Rattle.sp_base.specs.Texts.{Segments}
 use Rattle.sp_base.specs.declared.answer.Answer.{Answer}
@@ -9,7 +7,7 @@ use Rattle.sp_outside.specs.Files.{Files, file_at, with_file}
 use Rattle.cover_rules.specs.Pages.{IsPageKey}
 use Rattle.cover_rules.specs.declared.page.PageKey.{PageKey}
 use Rattle.cover_rules.specs.declared.stamp.Stamp.{Stamp}
-use Rattle.docroot_format.specs.Names.{stat_name}
+use Rattle.docroot_format.specs.Names.{HaveBytes, stat_name}
 use Rattle.docroot_format.specs.Readings.{stat_of}
 use Rattle.docroot_format.specs.Texts.{stat_text}
 use Rattle.cache_files.specs.declared.head_note.HeadNote.{HeadNote}
@@ -23,7 +21,7 @@ IsPageStamp files stamp = (key : PageKey) × (IsPageKey key × ((head : HeadNote
 
 -- the .stat file of a folder, which is a path, is of the form, and has this stamp
 abbrev pub IsFolderStamp : Files → Stamp → Type 0
-IsFolderStamp files stamp = (folder : Segments) × (IsTrue (is_path folder) × (AllByRecursion AreBytes folder × (option_and_then stat_of (file_at files (stat_name folder)) ≡ Some stamp)))
+IsFolderStamp files stamp = (folder : Segments) × (IsTrue (is_path folder) × (HaveBytes folder × (option_and_then stat_of (file_at files (stat_name folder)) ≡ Some stamp)))
 
 -- the files hold a stamp
 abbrev pub HoldsStamp : Files → Stamp → Type 0
@@ -45,7 +43,7 @@ pub record IsSessionPut (files : Files) (key : PageKey) (stamp : Stamp) (answer 
 
 -- a touch whose stamp is of that session, or of an earlier one
 pub record IsSessionTouch (files : Files) (folder : Segments) (stamp : Stamp) : Type 0 where
-  pub bytes : AllByRecursion AreBytes folder
+  pub bytes : HaveBytes folder
   pub epoch : stamp.epoch < 2 ^ 64
   pub count : stamp.count < 2 ^ 64
   pub session : stamp.epoch ≤ epoch_held files

@@ -3,7 +3,7 @@ ghost use Rattle.std.specs.Prelude.{◌≡◌, ◌≢◌, Ok, Err, IfOk, IfErr, 
 ghost use Rattle.cache_files.specs.FaultTexts.{open_fault_text};
 ghost use Rattle.sp_outside.specs.Calls.{told_calls};
 ghost use Rattle.cache_files.specs.Epochs.{epoch_after, next_epoch, open_calls, open_fault, told_with_epoch, HasOpenCause, IsOpenLeft};
-ghost use Rattle.cache_files.specs.declared.epoch.OpenFault.TheVariants.{NoMemory as no_memory};
+ghost use Rattle.cache_files.specs.declared.epoch.OpenFault.TheVariants.{NoMemory as out_of_memory};
 
 use docroot_format::{EPOCH_NAME, epoch_in, epoch_text};
 use sp_base::{ByteBuf, NoMemory};
@@ -37,7 +37,7 @@ impl fmt::Display for OpenFault {
 }
 
 impl From<NoMemory> for OpenFault {
-    ghost from_gives = { λ _ e. e ≡ no_memory };
+    ghost from_gives = { λ _ e. e ≡ out_of_memory };
 
     fn from(_fault: NoMemory) -> OpenFault {
         OpenFault::NoMemory

@@ -1,11 +1,9 @@
 //! What follows from the definitions of pages and epochs: laws, on functions that do nothing.
 ghost use Rattle.std.specs.Prelude.{◌≡◌, ◌≢◌, ◌<◌, ◌≤◌, ◌+◌, ℕ, None, Ok, option_and_then};
-ghost use Rattle.std.specs.List.{AllByRecursion};
-ghost use Rattle.sp_base.specs.Bytes.{AreBytes};
 ghost use Rattle.sp_base.specs.Texts.{Segments, Text};
 ghost use Rattle.sp_base.specs.declared.answer.Answer.{Answer};
 ghost use Rattle.sp_outside.specs.Files.{Files, with_file, without_file};
-ghost use Rattle.docroot_format.specs.Names.{epoch_name};
+ghost use Rattle.docroot_format.specs.Names.{HaveBytes, epoch_name};
 ghost use Rattle.docroot_format.specs.Texts.{epoch_text};
 ghost use Rattle.cover_rules.specs.Pages.{IsPageKey};
 ghost use Rattle.cover_rules.specs.declared.page.PageKey.{PageKey};
@@ -47,9 +45,9 @@ pub fn pages_have_files_of_their_own()
 pub fn pages_stand_apart()
     ensures put { OfEachPut (λ files key stamp answer. IsPageKey key → KeepsStamps files (files_with_page files key stamp answer)) }
     ensures dropped { (files : Files) (key : PageKey) → IsPageKey key → KeepsStamps files (files_without_page files key) }
-    ensures touched { (files : Files) (folder : Segments) (bytes : Text) → AllByRecursion AreBytes folder → StampKeepsPages files folder bytes }
+    ensures touched { (files : Files) (folder : Segments) (bytes : Text) → HaveBytes folder → StampKeepsPages files folder bytes }
     ensures numbered { (files : Files) (bytes : Text) → KeepsPages files (with_file files epoch_name bytes) }
-    ensures epoch { (files : Files) (folder : Segments) (bytes : Text) → AllByRecursion AreBytes folder → StampKeepsEpoch files folder bytes }
+    ensures epoch { (files : Files) (folder : Segments) (bytes : Text) → HaveBytes folder → StampKeepsEpoch files folder bytes }
     ensures removed { (files : Files) (name : Text) → name ≢ epoch_name → epoch_held (without_file files name) ≡ epoch_held files }
 {
     files_have_names();

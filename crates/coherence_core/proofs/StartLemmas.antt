@@ -56,7 +56,7 @@ held_stamp files folder t good name formed there (inr foreign) =
     let h = stat_there (file_at files (stat_name folder)) t there in
     let read : IsSome (stat_of h.0) = formed (stat_name folder) h.0 name h.1 in
     let none : stat_of h.0 ≡ None = ap (λ (o : Option Text). option_and_then stat_of o) (sym h.1) ∙ foreign.0 in
-    absurd (cc (subst (λ (o : Option (ℕ × ℕ)). IsSome o) none read))
+    absurd (cc (subst (λ (o : Option Stamp). IsSome o) none read))
 
 -- ---- a session that begins
 

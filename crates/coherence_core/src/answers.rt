@@ -2,8 +2,8 @@
 use cache_ids::FlushId;
 use cover_rules::{Invalidation, PageKey};
 use flights::Ticket;
+use http_front::PreparedAnswer;
 use invalidation::InvFault;
-use sp_base::Answer;
 
 /// What a request got.
 pub enum Got {
@@ -12,7 +12,7 @@ pub enum Got {
     /// The farm doesn't admit the request.
     Denied,
     /// The page, from the store.
-    Hit(PageKey, Answer),
+    Hit(PageKey, PreparedAnswer),
     /// A flight, whose answer may be kept as the page if there is one.
     Asked(Ticket, Option<PageKey>),
     /// A flush, by its number. No slice of it is made yet.

@@ -8,11 +8,11 @@ ghost use Rattle.page_index.specs.Notes.{known_page};
 use crate::look::Look;
 use crate::noting::keep_asked;
 use crate::page_parts::{head_of, is_stale, read_body};
-use cache_files::{Page, a_page_is_its_head_and_its_body};
+use cache_files::a_page_is_its_head_and_its_body;
 use docroot_changes::docroot_calls_add_up;
 use docroot_format::FileFault;
-use page_index::PageIndex;
-use sp_base::Answer;
+use http_front::PreparedAnswer;
+use page_index::{KnownPage, PageIndex};
 use sp_outside::Disk;
 use std::alloc::Global;
 
@@ -23,7 +23,7 @@ pub(crate) fn look_up<D: Disk>(
     disk: &mut D,
     pages: &mut PageIndex,
     look: &Look,
-) -> Result<Option<Answer>, FileFault>
+) -> Result<Option<PreparedAnswer>, FileFault>
     requires { IsLook look.now }
     ensures value { IfOk result (λ found. IfAgreed (D.files disk.old) pages.old (GivesServed look.now found)) }
     ensures notes { NotesPage look.now (D.files disk.old) pages.old pages.new }
@@ -47,8 +47,8 @@ fn look_at_known<D: Disk>(
     disk: &mut D,
     pages: &mut PageIndex,
     look: &Look,
-    page: Page,
-) -> Result<Option<Answer>, FileFault>
+    page: KnownPage,
+) -> Result<Option<PreparedAnswer>, FileFault>
     requires { IsLook look.now }
     ensures value { IfOk result (λ found. IfAgreed (D.files disk.old) pages.old (λ files. served look.now.auto (stat_asked look.now files) (Some page) ≡ found)) }
     ensures notes { NotesPage look.now (D.files disk.old) pages.old pages.new }
@@ -56,10 +56,10 @@ fn look_at_known<D: Disk>(
     ensures asks { AreRead (D.calls disk.old) (D.calls disk.new) (stat_file pages.old look.now.farm.now look.now.key.now) result }
 {
     docroot_calls_add_up();
-    if is_stale(alloc, disk, pages, look, page.stamp)? {
+    if is_stale(alloc, disk, pages, look, page.stamp())? {
         return Ok(None);
     }
-    Ok(Some(page.answer))
+    Ok(Some(page.into_answer()))
 }
 
 // The answer of a page of which its head or its body isn't noted.
@@ -68,7 +68,7 @@ fn look_in_files<D: Disk>(
     disk: &mut D,
     pages: &mut PageIndex,
     look: &Look,
-) -> Result<Option<Answer>, FileFault>
+) -> Result<Option<PreparedAnswer>, FileFault>
     requires look { IsLook look.now }
     requires unknown { known_page pages.old look.now.key.now ≡ None }
     ensures value { IfOk result (λ found. IfAgreed (D.files disk.old) pages.old (GivesServed look.now found)) }

@@ -22,8 +22,9 @@ use cache_files::{HeadNote, a_page_is_its_head_and_its_body, get_head, get_known
 use cover_rules::{PageKey, Stamp, stat_depth};
 use docroot_changes::{docroot_calls_add_up, pages_take_docroot_calls, stamps_take_docroot_calls};
 use docroot_format::{FileFault, folders_are_mangled};
+use http_front::PreparedAnswer;
 use page_index::PageIndex;
-use sp_base::{Answer, Mem, Path};
+use sp_base::{Mem, Path};
 use sp_outside::Disk;
 use stat_files::{outdates_page, stamp_of};
 use std::alloc::Global;
@@ -207,7 +208,7 @@ pub(crate) fn read_body<D: Disk>(
     pages: &mut PageIndex,
     key: &PageKey,
     head: &HeadNote,
-) -> Result<Option<Answer>, FileFault>
+) -> Result<Option<PreparedAnswer>, FileFault>
     requires { IsPageKey key.now }
     ensures value { IfOk result (λ answer. IfSome (D.files disk.old) (λ files. option_map (λ page. page.answer) (known_at files key.now head.now) ≡ answer)) }
     ensures agree { IfSome (D.files disk.old) (λ files. head_at files key.now ≡ Some head.now → Agrees pages.old files → Agrees pages.new files) }
@@ -222,5 +223,5 @@ pub(crate) fn read_body<D: Disk>(
     };
     let mut answer = page.answer;
     note_hit(alloc, pages, key, &mut answer.body);
-    Ok(Some(answer))
+    Ok(Some(PreparedAnswer::of(answer)))
 }

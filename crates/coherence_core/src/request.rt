@@ -23,8 +23,9 @@ use dispatch_rules::{admits, auto_of, key_of};
 use docroot_changes::docroot_calls_add_up;
 use docroot_format::FileFault;
 use flights::the_numbers_of_flights_rise;
+use http_front::PreparedAnswer;
 use invalidation::is_invalidation;
-use sp_base::{Answer, Req};
+use sp_base::Req;
 use sp_outside::Disk;
 use std::alloc::Global;
 
@@ -115,7 +116,7 @@ impl Core {
         disk: &mut D,
         key: &PageKey,
         auto: bool,
-    ) -> Result<Option<Answer>, FileFault>
+    ) -> Result<Option<PreparedAnswer>, FileFault>
         requires page { IsPageKey key.now }
         requires auto { auto ≡ is_auto self.old.farm key.now }
         ensures notes { self.new ≡ with_notes self.old self.new.pages }

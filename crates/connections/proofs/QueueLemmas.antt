@@ -66,7 +66,7 @@ spare-fixed sending place spare now_spare over fixed kept over_is going =
 
 -- the spare bytes are the place's own, or memory ran out
 own-or-fixed : (t out_of_memory : Bool) (place : AnswerPlace) (slot : Slot) (sending : Sending) → are_fixed_507 (place_bytes place) ≡ t → sending.out_of_memory ≡ not t → sending.bytes ≡ fixed_507 → PlaceStandsFor place slot → has_reply place.reply ≡ true → MayAnswer slot sending
-own-or-fixed true out_of_memory place slot sending own had_memory bytes tied has = inl (written-tied place slot sending.bytes tied has (bytes ∙ sym (same_text _ _ (sym own))))
+own-or-fixed true out_of_memory place slot sending own not_out_of_memory bytes tied has = inl (written-tied place slot sending.bytes tied has (bytes ∙ sym (same_text _ _ (sym own))))
 own-or-fixed false out_of_memory place slot sending other ran_out bytes tied has = inr (ran_out, bytes)
 
 may-answer : (sending : Sending) (place : AnswerPlace) (slot : Slot) (spare : List ℕ) → spare ≡ fixed_507 → IsSendingOf place spare sending → PlaceStandsFor place slot → has_reply place.reply ≡ true → MayAnswer slot sending
@@ -104,7 +104,7 @@ sent-left {places} {closing} {over} {spare} c place rest sending now_closing now
 -- ---- memory runs out
 -- the fixed 507 stands in place of another answer
 in-place : (place : AnswerPlace) (slot : Slot) (sending : Sending) (spare : List ℕ) → spare ≡ fixed_507 → IsSendingOf place spare sending → PlaceStandsFor place slot → has_reply place.reply ≡ true → IsTrue sending.out_of_memory → IsInPlaceOf slot sending.bytes
-in-place place slot sending spare fixed (inl own) tied has out_of_memory = absurd (let had_memory : sending.out_of_memory ≡ false = own.0 in let no : ⊥ = cc in no)
+in-place place slot sending spare fixed (inl own) tied has out_of_memory = absurd (let not_out_of_memory : sending.out_of_memory ≡ false = own.0 in let no : ⊥ = cc in no)
 in-place place slot sending spare fixed (inr sent) tied has out_of_memory =
     let bytes : sending.bytes ≡ fixed_507 = sent.1 ∙ fixed in
     let other : are_fixed_507 (place_bytes place) ≡ false = not-true _ (sym sent.0 ∙ out_of_memory) in

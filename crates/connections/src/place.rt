@@ -6,7 +6,9 @@ ghost use Rattle.connections.specs.AnswerQueues.{PlaceStandsFor, ReplyStandsFor,
 
 use crate::awaited::Awaited;
 use error_answers::error_answer;
-use http_front::{Framing, INSUFFICIENT_STORAGE, SentBytes, answer_bytes, fixed_507, interim_100};
+use http_front::{
+    Framing, INSUFFICIENT_STORAGE, PreparedAnswer, SentBytes, answer_bytes, fixed_507, interim_100,
+};
 use sp_base::{Answer, ByteBuf, Mark, Mem, Req};
 use std::alloc::Global;
 
@@ -22,7 +24,7 @@ pub enum Reply {
     /// What this flight, or the end of this flush, will bring.
     Awaits(Awaited),
     /// An answer, of the publisher or of the cache.
-    Says(Answer),
+    Says(PreparedAnswer),
 }
 
 /// The place of an answer.
@@ -123,7 +125,11 @@ impl AnswerPlace {
     {
         match &self.reply {
             Reply::Fixed => true,
-            Reply::Says(answer) => is_sent_as_fixed_507(self.head_only, self.closes, answer),
+            Reply::Says(answer) => is_sent_as_fixed_507(
+                self.head_only,
+                self.closes,
+                answer.answer(),
+            ),
             // An error's answer has a media type, whatever its status is.
             Reply::Own(_) => false,
             Reply::Interim | Reply::Awaits(_) => false,
@@ -150,7 +156,7 @@ impl AnswerPlace {
             Reply::Fixed => copied(alloc, fixed_507()),
             Reply::Own(status) => answer_bytes(alloc, framing, error_answer(alloc, status)?),
             Reply::Awaits(_) => copied(alloc, b""),
-            Reply::Says(answer) => answer_bytes(alloc, framing, answer),
+            Reply::Says(answer) => answer.bytes(alloc, framing),
         }
     }
 }

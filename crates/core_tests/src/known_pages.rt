@@ -4,6 +4,7 @@ ghost use Rattle.std.specs.Prelude.{◌≡◌, IfOk, Some};
 use any_config::{Farm, STANDARD_FARM, farm_of, read_any};
 use cache_files::OpenFault;
 use coherence_core::{Core, Got, Requested};
+use http_front::{Framing, OPEN_GET};
 use sp_base::{LentHead, Mem, NoMemory, Path, PathFault, Req, TextBuf};
 use sp_outside::{Disk, LONGEST_FILE_NAME, MemDisk};
 use std::alloc::Global;
@@ -128,6 +129,69 @@ const ASKED: &[(&str, Seen)] = &[
 #[test]
 fn a_page_that_is_known_is_not_read_again(rt: HostRuntime) {
     assert!(rt; come_to(rt.alloc(), ASKED));
+}
+
+// Whether a page is answered with these bytes.
+fn is_answered(alloc: Global, core: &mut Core, disk: &mut MemDisk, row: &(Framing, &str)) -> bool {
+    let (framing, wanted) = *row;
+    let Ok(req) = get_of(alloc, PAGE) else {
+        return false;
+    };
+    match core.request(alloc, disk, &req, "127.0.0.1").got {
+        Got::Hit(_, answer) => {
+            matches!(answer.bytes(alloc, framing), Ok(bytes) if bytes.is(wanted.as_bytes()))
+        }
+        Got::Asked(ticket, _) => {
+            core.lose(ticket);
+            false
+        }
+        Got::Down | Got::Denied | Got::Flush(_, _) | Got::FlushRefused(_) => false,
+        Got::FlushForbidden | Got::FullAir | Got::FullPurge | Got::Worn | Got::NoMemory => false,
+    }
+}
+
+// Asks for the page once for each row: whether each was answered so.
+fn are_answered(alloc: Global, rows: &[(Framing, &str)]) -> bool {
+    let mut disk = disk_of(alloc);
+    let Ok(mut core) = core_over(alloc, &mut disk) else {
+        return false;
+    };
+    for row in rows {
+        if !is_answered(alloc, &mut core, &mut disk, row) {
+            return false;
+        }
+    }
+    true
+}
+
+const WHOLE: &str = "HTTP/1.1 200 OK\r\nContent-Type: text/html\r\nContent-Length: 1\r\n\r\nx";
+
+// The page's answers, one after the other: from the fourth on the head is kept. It isn't what is sent to HEAD, or before the connection closes.
+const ANSWERED: &[(Framing, &str)] = &[
+    (OPEN_GET, WHOLE),
+    (OPEN_GET, WHOLE),
+    (OPEN_GET, WHOLE),
+    (OPEN_GET, WHOLE),
+    (
+        Framing {
+            head_only: true,
+            close: false,
+        },
+        "HTTP/1.1 200 OK\r\nContent-Type: text/html\r\nContent-Length: 1\r\n\r\n",
+    ),
+    (
+        Framing {
+            head_only: false,
+            close: true,
+        },
+        "HTTP/1.1 200 OK\r\nContent-Type: text/html\r\nContent-Length: 1\r\nConnection: close\r\n\r\nx",
+    ),
+    (OPEN_GET, WHOLE),
+];
+
+#[test]
+fn a_page_that_is_known_is_answered_as_before(rt: HostRuntime) {
+    assert!(rt; are_answered(rt.alloc(), ANSWERED));
 }
 
 // Asks for so many pages that aren't there, each once: whether each was looked for.

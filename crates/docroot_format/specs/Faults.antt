@@ -4,14 +4,14 @@ use Rattle.sp_outside.specs.Calls.{Call, told_call}
 use Rattle.sp_outside.specs.Causes.{Rose}
 use Rattle.sp_outside.specs.Files.{Files}
 use Rattle.sp_outside.specs.declared.disk.DiskFault.{DiskFault}
-use Rattle.sp_outside.specs.declared.disk.DiskFault.TheVariants.{Failed, NoMemory as no_room}
+use Rattle.sp_outside.specs.declared.disk.DiskFault.TheVariants.{Failed, NoMemory as out_of_memory}
 use Rattle.docroot_format.specs.declared.fault.FileFault.{FileFault}
 use Rattle.docroot_format.specs.declared.fault.FileFault.TheVariants.{Disk, NoMemory}
 
 -- the fault of a call on files whose disk answers this
 abbrev pub disk_file_fault : DiskFault → FileFault
 disk_file_fault Failed = Disk
-disk_file_fault no_room = NoMemory
+disk_file_fault out_of_memory = NoMemory
 
 -- Disk comes only where the disk's count of faults rose, and any other answer leaves that count.
 abbrev pub HasFileCause : {T : Type 0} → ℕ → ℕ → Result T FileFault → Type 0

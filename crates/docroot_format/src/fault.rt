@@ -2,7 +2,7 @@
 ghost use Rattle.std.specs.Prelude.{◌≡◌, Some};
 ghost use Rattle.docroot_format.specs.FaultTexts.{file_fault_text};
 ghost use Rattle.docroot_format.specs.Faults.{disk_file_fault};
-ghost use Rattle.docroot_format.specs.declared.fault.FileFault.TheVariants.{NoMemory as no_memory};
+ghost use Rattle.docroot_format.specs.declared.fault.FileFault.TheVariants.{NoMemory as out_of_memory};
 
 use sp_base::NoMemory;
 use sp_outside::DiskFault;
@@ -27,7 +27,7 @@ impl fmt::Display for FileFault {
 }
 
 impl From<NoMemory> for FileFault {
-    ghost from_gives = { λ _ e. e ≡ no_memory };
+    ghost from_gives = { λ _ e. e ≡ out_of_memory };
 
     fn from(_fault: NoMemory) -> FileFault {
         FileFault::NoMemory

@@ -6,24 +6,24 @@ use Rattle.std.proofs.lemmas.List.{append-nil}
 use Rattle.sp_base.proofs.BoolLemmas.{and_first, and_second}
 use Rattle.form_input.specs.declared.fault.FormFault.{FormFault}
 use Rattle.form_input.specs.declared.fault.FormFault.TheVariants.{TooMany}
-use Rattle.form_input.specs.declared.boundary.LineKind.{LineKind}
-use Rattle.form_input.specs.declared.boundary.LineKind.TheVariants.{Opening, Closing, Plain}
+use Rattle.form_input.specs.declared.boundary.LineForm.{LineForm}
+use Rattle.form_input.specs.declared.boundary.LineForm.TheVariants.{Opening, Closing, Plain}
 use Rattle.form_input.specs.Multipart.{Section, Sections, line_kind, is_plain_line, is_closing_line, sections, pair_of, before_all, with_part, pairs_of, dash_boundary, multipart_of}
 use Rattle.form_input.specs.Lines.{lines}
 use Rattle.form_input.specs.Bodies.{BodyPart, part_lines, are_plain, is_body_part, HasPairs}
 use Rattle.form_input.proofs.FormLemmas.{Pairs, closing_section, part_section, end_of_sections, last_section}
 
-plain_kind : (k : LineKind) → is_plain_line k ≡ true → k ≡ Plain
+plain_kind : (k : LineForm) → is_plain_line k ≡ true → k ≡ Plain
 plain_kind Opening e = absurd cc
 plain_kind Closing e = absurd cc
 plain_kind Plain e = refl
 
-closing_kind : (k : LineKind) → is_closing_line k ≡ true → k ≡ Closing
+closing_kind : (k : LineForm) → is_closing_line k ≡ true → k ≡ Closing
 closing_kind Opening e = absurd cc
 closing_kind Closing e = refl
 closing_kind Plain e = absurd cc
 
-pub opening_kind : (k : LineKind) → not (is_plain_line k) ≡ true → not (is_closing_line k) ≡ true → k ≡ Opening
+pub opening_kind : (k : LineForm) → not (is_plain_line k) ≡ true → not (is_closing_line k) ≡ true → k ≡ Opening
 opening_kind Opening e f = refl
 opening_kind Closing e f = absurd cc
 opening_kind Plain e f = absurd cc
@@ -159,7 +159,7 @@ module _ (dash : List ℕ) where
       absurd (let f : pairs_of end n [] ≡ Ok pairs = sym (ap (pairs_of end n) nil) ∙ e in cc)
   spelled end n at (line ∷ more) pairs small e = go (line_kind dash line) refl (λ m qs low f. spelled end m (at + length line + 2) more qs low f)
     where
-      go : (k : LineKind) → line_kind dash line ≡ k → ((m : ℕ) (qs : Pairs) → m ≤ 1000 → pairs_of end m (sections dash (at + length line + 2) more).later ≡ Ok qs → Spelled m (at + length line + 2) more qs) → Spelled n at (line ∷ more) pairs
+      go : (k : LineForm) → line_kind dash line ≡ k → ((m : ℕ) (qs : Pairs) → m ≤ 1000 → pairs_of end m (sections dash (at + length line + 2) more).later ≡ Ok qs → Spelled m (at + length line + 2) more qs) → Spelled n at (line ∷ more) pairs
       go Plain k ih =
           let here = plain_line at line more k in
           let w = ih n pairs small (sym (ap (λ (s : Sections). pairs_of end n s.later) here) ∙ e) in

@@ -6,8 +6,8 @@ use Rattle.std.proofs.lemmas.List.{append-nil}
 use Rattle.sp_base.proofs.BoolLemmas.{and_first, and_second}
 use Rattle.form_input.specs.declared.fault.FormFault.{FormFault}
 use Rattle.form_input.specs.declared.fault.FormFault.TheVariants.{WrongKind, NoBoundary, BadPart, TooMany, NoMemory}
-use Rattle.form_input.specs.declared.boundary.LineKind.{LineKind}
-use Rattle.form_input.specs.declared.boundary.LineKind.TheVariants.{Opening, Closing, Plain}
+use Rattle.form_input.specs.declared.boundary.LineForm.{LineForm}
+use Rattle.form_input.specs.declared.boundary.LineForm.TheVariants.{Opening, Closing, Plain}
 use Rattle.form_input.specs.Multipart.{Sections, line_kind, is_plain_line, is_closing_line, sections, pair_of, with_part, pairs_of, dash_boundary, multipart_of}
 use Rattle.form_input.specs.Lines.{lines}
 use Rattle.form_input.specs.Bodies.{BodyPart, part_lines, are_plain, is_body_part}
@@ -29,7 +29,7 @@ module _ (dash : List ℕ) where
   bounded : (at : ℕ) (line : List ℕ) (more : List (List ℕ)) → is_boundary_line dash line ≡ true → Begins dash at (line ∷ more)
   bounded at line more b = go (line_kind dash line) refl b
     where
-      go : (k : LineKind) → line_kind dash line ≡ k → not (is_plain_line k) ≡ true → Begins dash at (line ∷ more)
+      go : (k : LineForm) → line_kind dash line ≡ k → not (is_plain_line k) ≡ true → Begins dash at (line ∷ more)
       go Opening k b = let e = opening_line dash at line more k in record { first = _; more = _; before = ap (λ (s : Sections). s.before) e; later = ap (λ (s : Sections). s.later) e }
       go Closing k b = let e = closing_line dash at line more k in record { first = _; more = _; before = ap (λ (s : Sections). s.before) e; later = ap (λ (s : Sections). s.later) e }
       go Plain k b = absurd cc

@@ -4,8 +4,8 @@ use Rattle.std.specs.List.{list_all}
 use Rattle.std.proofs.lemmas.Bool.Decides.{nat_tests}
 use Rattle.form_input.specs.declared.fault.FormFault.{FormFault}
 use Rattle.form_input.specs.declared.fault.FormFault.TheVariants.{BadPart, TooMany}
-use Rattle.form_input.specs.declared.boundary.LineKind.{LineKind}
-use Rattle.form_input.specs.declared.boundary.LineKind.TheVariants.{Opening, Closing, Plain}
+use Rattle.form_input.specs.declared.boundary.LineForm.{LineForm}
+use Rattle.form_input.specs.declared.boundary.LineForm.TheVariants.{Opening, Closing, Plain}
 use Rattle.form_input.specs.Multipart.{line_kind, is_closing_line, pair_of, dash_boundary, multipart_of}
 use Rattle.form_input.specs.Lines.{lines}
 use Rattle.form_input.specs.Bodies.{BodyPart, part_lines, are_plain, is_body_part}
@@ -160,7 +160,7 @@ module _ (dash : List ℕ) where
   reading n [] small = inl refl
   reading n (line ∷ more) small = go (line_kind dash line) refl (λ m low. reading m more low)
     where
-      go : (k : LineKind) → line_kind dash line ≡ k → ((m : ℕ) → m ≤ 1000 → Reading m more) → Reading n (line ∷ more)
+      go : (k : LineForm) → line_kind dash line ≡ k → ((m : ℕ) → m ≤ 1000 → Reading m more) → Reading n (line ∷ more)
       go Plain k ih = plain_before n line more k (ih n small)
       go Closing k ih = inr (record {
         preamble = [];

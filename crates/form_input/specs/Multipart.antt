@@ -5,8 +5,8 @@ use Rattle.std.specs.Str.{bytes_eq, is_utf8}
 use Rattle.sp_base.specs.Texts.{Text, Pairs}
 use Rattle.form_input.specs.declared.fault.FormFault.{FormFault}
 use Rattle.form_input.specs.declared.fault.FormFault.TheVariants.{BadPart, TooMany}
-use Rattle.form_input.specs.declared.boundary.LineKind.{LineKind}
-use Rattle.form_input.specs.declared.boundary.LineKind.TheVariants.{Opening, Closing, Plain}
+use Rattle.form_input.specs.declared.boundary.LineForm.{LineForm}
+use Rattle.form_input.specs.declared.boundary.LineForm.TheVariants.{Opening, Closing, Plain}
 use Rattle.form_input.specs.Lines.{lines, lines_text}
 use Rattle.form_input.specs.Parameters.{is_space_or_tab, is_type, after_name, parameter}
 
@@ -15,21 +15,21 @@ abbrev pub dash_boundary : List ℕ → List ℕ
 dash_boundary boundary = codes "--" ++ boundary
 
 -- what a line is by what follows those bytes: blanks, or `--` and blanks
-abbrev pub kind_after : List ℕ → LineKind
+abbrev pub kind_after : List ℕ → LineForm
 kind_after rest = if list_all is_space_or_tab rest then Opening else (if bytes_eq (take 2 rest) (codes "--") && list_all is_space_or_tab (drop 2 rest) then Closing else Plain)
 
 -- what a line is: a boundary line begins with the bytes of the boundary
-abbrev pub line_kind : List ℕ → List ℕ → LineKind
+abbrev pub line_kind : List ℕ → List ℕ → LineForm
 line_kind dash line = if bytes_eq (take (length dash) line) dash then kind_after (drop (length dash) line) else Plain
 
 -- whether a line of this kind is no boundary line
-abbrev pub is_plain_line : LineKind → Bool
+abbrev pub is_plain_line : LineForm → Bool
 is_plain_line Opening = false
 is_plain_line Closing = false
 is_plain_line Plain = true
 
 -- whether it is the closing line
-abbrev pub is_closing_line : LineKind → Bool
+abbrev pub is_closing_line : LineForm → Bool
 is_closing_line Opening = false
 is_closing_line Closing = true
 is_closing_line Plain = false
@@ -46,7 +46,7 @@ pub record Sections : Type 0 where
   pub later : List Section
 
 -- a line at a place before sections
-abbrev pub with_line : LineKind → ℕ → List ℕ → Sections → Sections
+abbrev pub with_line : LineForm → ℕ → List ℕ → Sections → Sections
 with_line kind at line s = if is_plain_line kind then record { before = line ∷ s.before; later = s.later }
     else record { before = []; later = record { place = at; closing = is_closing_line kind; content = s.before } ∷ s.later }
 

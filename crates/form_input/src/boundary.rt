@@ -8,7 +8,7 @@ use crate::parameters::all_blank;
 
 /// What a line of a multipart body is.
 #[derive(Clone, Copy, Drop)]
-pub enum LineKind {
+pub enum LineForm {
     /// Begins a part.
     Opening,
     /// Ends the last part.
@@ -16,30 +16,30 @@ pub enum LineKind {
     Plain,
 }
 
-fn kind_after(rest: &[u8]) -> LineKind
+fn kind_after(rest: &[u8]) -> LineForm
     ensures { result ≡ kind_after rest.now }
 {
     if all_blank(rest) {
-        return LineKind::Opening;
+        return LineForm::Opening;
     }
     match rest.strip_prefix(b"--") {
         Some(blanks) => {
             if all_blank(blanks) {
-                LineKind::Closing
+                LineForm::Closing
             } else {
-                LineKind::Plain
+                LineForm::Plain
             }
         }
-        None => LineKind::Plain,
+        None => LineForm::Plain,
     }
 }
 
-fn kind_of(dash: &[u8], line: &[u8]) -> LineKind
+fn kind_of(dash: &[u8], line: &[u8]) -> LineForm
     ensures { result ≡ line_kind dash.now line.now }
 {
     match line.strip_prefix(dash) {
         Some(rest) => kind_after(rest),
-        None => LineKind::Plain,
+        None => LineForm::Plain,
     }
 }
 
@@ -81,23 +81,23 @@ pub fn next_mark<'a>(dash: &[u8], end: usize, text: &'a [u8]) -> Option<Boundary
     }
 }
 
-fn is_plain(kind: LineKind) -> bool
+fn is_plain(kind: LineForm) -> bool
     ensures { result ≡ is_plain_line kind }
 {
     match kind {
-        LineKind::Opening => false,
-        LineKind::Closing => false,
-        LineKind::Plain => true,
+        LineForm::Opening => false,
+        LineForm::Closing => false,
+        LineForm::Plain => true,
     }
 }
 
-fn is_closing(kind: LineKind) -> bool
+fn is_closing(kind: LineForm) -> bool
     ensures { result ≡ is_closing_line kind }
 {
     match kind {
-        LineKind::Opening => false,
-        LineKind::Closing => true,
-        LineKind::Plain => false,
+        LineForm::Opening => false,
+        LineForm::Closing => true,
+        LineForm::Plain => false,
     }
 }
 

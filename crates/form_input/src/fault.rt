@@ -1,7 +1,7 @@
 //! Why a body is no form.
 ghost use Rattle.std.specs.Prelude.{◌≡◌, Some};
 ghost use Rattle.form_input.specs.FaultTexts.{form_fault_text};
-ghost use Rattle.form_input.specs.declared.fault.FormFault.TheVariants.{NoMemory as no_memory};
+ghost use Rattle.form_input.specs.declared.fault.FormFault.TheVariants.{NoMemory as out_of_memory};
 
 use sp_base::NoMemory;
 use std::alloc::{AllocError, AllocFailed};
@@ -36,7 +36,7 @@ impl fmt::Display for FormFault {
 }
 
 impl From<NoMemory> for FormFault {
-    ghost from_gives = { λ _ e. e ≡ no_memory };
+    ghost from_gives = { λ _ e. e ≡ out_of_memory };
 
     fn from(_fault: NoMemory) -> FormFault {
         FormFault::NoMemory
@@ -44,7 +44,7 @@ impl From<NoMemory> for FormFault {
 }
 
 impl From<AllocError> for FormFault {
-    ghost from_gives = { λ _ e. e ≡ no_memory };
+    ghost from_gives = { λ _ e. e ≡ out_of_memory };
 
     fn from(_fault: AllocError) -> FormFault {
         FormFault::NoMemory
@@ -52,7 +52,7 @@ impl From<AllocError> for FormFault {
 }
 
 impl<T: Drop> From<AllocFailed<T>> for FormFault {
-    ghost from_gives = { λ _ e. e ≡ no_memory };
+    ghost from_gives = { λ _ e. e ≡ out_of_memory };
 
     fn from(_fault: AllocFailed<T>) -> FormFault {
         FormFault::NoMemory

@@ -11,6 +11,7 @@ use Rattle.sp_base.specs.Texts.{Segments}
 use Rattle.sp_base.specs.Paths.{has_slash, is_dots, is_empty, is_long, seg_ok, is_path, pieces}
 use Rattle.sp_base.specs.PathTexts.{ends_segment, spelling_of}
 use Rattle.sp_base.proofs.PathTests.{segment_has_no_slash}
+use Rattle.sp_base.proofs.PathText.{spelled-pieces}
 use Rattle.post_plan.specs.RelativePaths.{RelativePath, relative_parent, relative_path_from, relative_path_of}
 use Rattle.post_plan.specs.Spots.{ends_in_name}
 use Rattle.form_laws.specs.DotSegments.{HasFirstSegment, or_slash, RemovesDots}
@@ -50,18 +51,6 @@ some_split (b ∷ text) = let s = some_split text in go (eqb b 47) s.0 s.1 s.2
     go : (x : Bool) (first : List ℕ) (more : Segments) → pieces text ≡ first ∷ more → (one : List ℕ) × (rest : Segments) × (cond x ([] ∷ pieces text) (onto_first b (pieces text)) ≡ one ∷ rest)
     go true first more e = ([], pieces text, refl)
     go false first more e = (b ∷ first, more, ap (onto_first b) e)
-
--- a text after a slash is its pieces, each after one
-pieces_slashed : (text : List ℕ) → spelling_of (pieces text) ≡ 47 ∷ text
-pieces_slashed [] = refl
-pieces_slashed (b ∷ text) = let s = some_split text in go (eqb b 47) refl s.0 s.1 s.2 (pieces_slashed text)
-  where
-    go : (x : Bool) → eqb b 47 ≡ x → (first : List ℕ) (more : Segments) → pieces text ≡ first ∷ more → spelling_of (pieces text) ≡ 47 ∷ text → spelling_of (cond x ([] ∷ pieces text) (onto_first b (pieces text))) ≡ 47 ∷ b ∷ text
-    go true is first more e ih = ap (λ (s : List ℕ). 47 ∷ s) ih ∙ ap (λ (c : ℕ). 47 ∷ c ∷ text) (sym (eqb-true b 47 is))
-    go false is first more e ih =
-        let whole : 47 ∷ (first ++ spelling_of more) ≡ 47 ∷ text = sym (ap spelling_of e) ∙ ih in
-        let rest : first ++ spelling_of more ≡ text = cc in
-        ap (λ (ps : Segments). spelling_of (onto_first b ps)) e ∙ ap (λ (s : List ℕ). 47 ∷ b ∷ s) rest
 
 -- ---- steps
 
@@ -236,4 +225,4 @@ placed node text final path name e low =
     let none : length node - 0 ≡ length node = omega arith in
     let start : take (length node - 0) node ++ [] ≡ node = append-nil (take (length node - 0) node) ∙ take_all (length node - 0) node (omega arith) in
     let all : RemovesDots (spelling_of (pieces text)) (spelling_of node) (spelling_of (led node final)) = subst (λ (segs : Segments). RemovesDots (spelling_of (pieces text)) (spelling_of segs) (spelling_of (led node final))) start (removes node (pieces text) (record { up = 0; down = [] }) final (all_whole node ok) refl (good_last (pieces text) name) e low) in
-    subst (λ (input : List ℕ). RemovesDots input [] (spelling_of (led node final))) (slashed_append node (pieces text) ∙ ap (λ (s : List ℕ). spelling_of node ++ s) (pieces_slashed text)) (moves_all [] node (pieces text) (spelling_of (led node final)) ok all)
+    subst (λ (input : List ℕ). RemovesDots input [] (spelling_of (led node final))) (slashed_append node (pieces text) ∙ ap (λ (s : List ℕ). spelling_of node ++ s) (spelled-pieces text)) (moves_all [] node (pieces text) (spelling_of (led node final)) ok all)

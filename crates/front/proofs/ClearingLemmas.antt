@@ -22,9 +22,9 @@ use Rattle.docroot_changes.specs.Changes.{Told}
 use Rattle.docroot_changes.specs.DocrootCalls.{IsDocrootCall}
 use Rattle.coherence_core.specs.Holds.{files_counted}
 use Rattle.coherence_core.specs.Openings.{IsCleared}
-use Rattle.front.specs.Clearings.{ClearsFiles, ClearsPagesFirst, HasNoFile, HasNoneAmong, HasNoneBetween, HasNoneUpTo, IsNearer, IsClearedTo, is_of_kind, is_page_or_stamp}
-use Rattle.front.specs.declared.clearing.FileKind.{FileKind}
-use Rattle.front.specs.declared.clearing.FileKind.TheVariants.{Page, Stamp}
+use Rattle.front.specs.Clearings.{ClearsFiles, ClearsPagesFirst, HasNoFile, HasNoneAmong, HasNoneBetween, HasNoneUpTo, IsNearer, IsClearedTo, is_of_cache, is_page_or_stamp}
+use Rattle.front.specs.declared.clearing.CacheFile.{CacheFile}
+use Rattle.front.specs.declared.clearing.CacheFile.TheVariants.{Page, Stamp}
 
 -- ---- relations of files that a disk tells
 abbrev pub Relation : Type 1
@@ -108,37 +108,37 @@ clears-one is_gone files name is gone = record {
 }
 
 -- ---- which calls
-pub kind-call : (kind : FileKind) (name : Text) (answered : Bool) → IsTrue (is_of_kind kind name) → IsDocrootCall (Remove name answered)
+pub kind-call : (kind : CacheFile) (name : Text) (answered : Bool) → IsTrue (is_of_cache kind name) → IsDocrootCall (Remove name answered)
 kind-call Page name answered is = inl is
 kind-call Stamp name answered is = inr is
 
 -- ---- names gone through one after the other
 -- the files of this kind among the first names are gone, and only files of this kind went
-pub record ClearsTo (kind : FileKind) (names : List Text) (seen : ℕ) (old new : Files) : Type 0 where
-  pub clears : ClearsFiles (is_of_kind kind) old new
+pub record ClearsTo (kind : CacheFile) (names : List Text) (seen : ℕ) (old new : Files) : Type 0 where
+  pub clears : ClearsFiles (is_of_cache kind) old new
   pub none : HasNoneAmong kind (take seen names) new
 
-pub clears-to-none : (kind : FileKind) (names : List Text) (files : Files) → ClearsTo kind names 0 files files
-clears-to-none kind names files = record { clears = clears-none (is_of_kind kind) files; none = λ name has. absurd (omega (arith, has.1)) }
+pub clears-to-none : (kind : CacheFile) (names : List Text) (files : Files) → ClearsTo kind names 0 files files
+clears-to-none kind names files = record { clears = clears-none (is_of_cache kind) files; none = λ name has. absurd (omega (arith, has.1)) }
 
-pub clears-to-more : (kind : FileKind) (names : List Text) (i : ℕ) (name : Text) → i < length names → get_or names i name ≡ name → (a b c : Files) → ClearsTo kind names i a b → ClearsFiles (is_of_kind kind) b c × (IsTrue (is_of_kind kind name) → file_at c name ≡ None) → ClearsTo kind names (i + 1) a c
+pub clears-to-more : (kind : CacheFile) (names : List Text) (i : ℕ) (name : Text) → i < length names → get_or names i name ≡ name → (a b c : Files) → ClearsTo kind names i a b → ClearsFiles (is_of_cache kind) b c × (IsTrue (is_of_cache kind name) → file_at c name ≡ None) → ClearsTo kind names (i + 1) a c
 clears-to-more kind names i name lt at a b c first then = record {
-  clears = clears-then (is_of_kind kind) a b c first.clears then.0;
+  clears = clears-then (is_of_cache kind) a b c first.clears then.0;
   none = λ other has is. ⊎_elim
-      (λ before. stays-gone (is_of_kind kind) b c other then.0 (first.none other before is))
-      (λ same. subst (λ n. file_at c n ≡ None) (sym same) (then.1 (subst (λ n. IsTrue (is_of_kind kind n)) same is)))
+      (λ before. stays-gone (is_of_cache kind) b c other then.0 (first.none other before is))
+      (λ same. subst (λ n. file_at c n ≡ None) (sym same) (then.1 (subst (λ n. IsTrue (is_of_cache kind n)) same is)))
       (last_or_before (take i names) name other (subst (λ (l : List Text). Contains l other) (take_more names i name lt ∙ ap (λ n. take i names ++ n ∷ []) at) has));
 }
 
 -- ---- one list
 -- the files of this kind are gone that the list came to
-pub cleared-between : (kind : FileKind) (last : Text) (next : Option Text) (most : ℕ) (names : List Text) (a b : Files)
+pub cleared-between : (kind : CacheFile) (last : Text) (next : Option Text) (most : ℕ) (names : List Text) (a b : Files)
     → ((name : Text) → IsNameAfter a [] last name → HasReached names most name → Contains names name)
-    → ((name : Text) → IsClearedTo next name → HasReached names most name) → ClearsFiles (is_of_kind kind) a b × HasNoneAmong kind names b → HasNoneBetween kind last next b
+    → ((name : Text) → IsClearedTo next name → HasReached names most name) → ClearsFiles (is_of_cache kind) a b × HasNoneAmong kind names b → HasNoneBetween kind last next b
 cleared-between kind last next most names a b contains reached left name is after here = by_file (file_at a name) refl
   where
     by_file : (o : Option Text) → file_at a name ≡ o → file_at b name ≡ None
-    by_file None e = stays-gone (is_of_kind kind) a b name left.0 e
+    by_file None e = stays-gone (is_of_cache kind) a b name left.0 e
     by_file (Some bytes) e = left.1 name (contains name (refl, after, λ none. absurd (let no : None ≡ Some bytes = sym none ∙ e in cc no)) (reached name here)) is
 
 -- ---- lists one after another
@@ -148,34 +148,34 @@ less-or-not Equal = inr (λ e. absurd (cc e))
 less-or-not Greater = inr (λ e. absurd (cc e))
 
 -- up to a name, and then up to the next
-pub record ClearsUpTo (kind : FileKind) (last : Text) (old new : Files) : Type 0 where
-  pub clears : ClearsFiles (is_of_kind kind) old new
+pub record ClearsUpTo (kind : CacheFile) (last : Text) (old new : Files) : Type 0 where
+  pub clears : ClearsFiles (is_of_cache kind) old new
   pub none : HasNoneUpTo kind last new
 
-pub up-to-next : (kind : FileKind) (last next : Text) (a b c : Files) → ClearsUpTo kind last a b → ClearsFiles (is_of_kind kind) b c × HasNoneBetween kind last (Some next) c → ClearsUpTo kind next a c
+pub up-to-next : (kind : CacheFile) (last next : Text) (a b c : Files) → ClearsUpTo kind last a b → ClearsFiles (is_of_cache kind) b c × HasNoneBetween kind last (Some next) c → ClearsUpTo kind next a c
 up-to-next kind last next a b c so_far one = record {
-  clears = clears-then (is_of_kind kind) a b c so_far.clears one.0;
-  none = λ name is up_to. ⊎_elim (λ after. one.1 name is after up_to) (λ before. stays-gone (is_of_kind kind) b c name one.0 (so_far.none name is before)) (less-or-not (by_name last name));
+  clears = clears-then (is_of_cache kind) a b c so_far.clears one.0;
+  none = λ name is up_to. ⊎_elim (λ after. one.1 name is after up_to) (λ before. stays-gone (is_of_cache kind) b c name one.0 (so_far.none name is before)) (less-or-not (by_name last name));
 }
 
-pub up-to-end : (kind : FileKind) (last : Text) (a b c : Files) → ClearsUpTo kind last a b → ClearsFiles (is_of_kind kind) b c × HasNoneBetween kind last None c → ClearsFiles (is_of_kind kind) a c × HasNoFile kind c
+pub up-to-end : (kind : CacheFile) (last : Text) (a b c : Files) → ClearsUpTo kind last a b → ClearsFiles (is_of_cache kind) b c × HasNoneBetween kind last None c → ClearsFiles (is_of_cache kind) a c × HasNoFile kind c
 up-to-end kind last a b c so_far one =
-    (clears-then (is_of_kind kind) a b c so_far.clears one.0, λ name is. ⊎_elim (λ after. one.1 name is after tt) (λ before. stays-gone (is_of_kind kind) b c name one.0 (so_far.none name is before)) (less-or-not (by_name last name)))
+    (clears-then (is_of_cache kind) a b c so_far.clears one.0, λ name is. ⊎_elim (λ after. one.1 name is after tt) (λ before. stays-gone (is_of_cache kind) b c name one.0 (so_far.none name is before)) (less-or-not (by_name last name)))
 
 -- no name of this kind is empty
-named : (kind : FileKind) → is_of_kind kind [] ≡ false
+named : (kind : CacheFile) → is_of_cache kind [] ≡ false
 named Page = refl
 named Stamp = refl
 
-pub up-to-none : (kind : FileKind) (files : Files) → ClearsUpTo kind [] files files
-up-to-none kind files = record { clears = clears-none (is_of_kind kind) files; none = λ name is before. none name is before }
+pub up-to-none : (kind : CacheFile) (files : Files) → ClearsUpTo kind [] files files
+up-to-none kind files = record { clears = clears-none (is_of_cache kind) files; none = λ name is before. none name is before }
   where
-    none : (name : Text) → IsTrue (is_of_kind kind name) → by_name [] name ≢ Less → file_at files name ≡ None
+    none : (name : Text) → IsTrue (is_of_cache kind name) → by_name [] name ≢ Less → file_at files name ≡ None
     none [] is before = absurd (let no : true ≡ false = sym is ∙ named kind in cc no)
     none (b ∷ name) is before = absurd (before refl)
 
 -- ---- both kinds
-pub clears-either : (kind : FileKind) (a b : Files) → ClearsFiles (is_of_kind kind) a b → ClearsFiles is_page_or_stamp a b
+pub clears-either : (kind : CacheFile) (a b : Files) → ClearsFiles (is_of_cache kind) a b → ClearsFiles is_page_or_stamp a b
 clears-either Page a b clears = clears-more is_page_file is_page_or_stamp a b (λ name is. or_left (is_page_file name) (is_stat_file name) is) clears
 clears-either Stamp a b clears = clears-more is_stat_file is_page_or_stamp a b (λ name is. or_right (is_page_file name) (is_stat_file name) is) clears
 
@@ -183,19 +183,19 @@ pub record ClearsAll (old new : Files) : Type 0 where
   pub clears : ClearsFiles is_page_or_stamp old new
   pub none : IsCleared new
 
-pub clears-all : (a b c : Files) → ClearsFiles (is_of_kind Page) a b × HasNoFile Page b → ClearsFiles (is_of_kind Stamp) b c × HasNoFile Stamp c → ClearsAll a c
+pub clears-all : (a b c : Files) → ClearsFiles (is_of_cache Page) a b × HasNoFile Page b → ClearsFiles (is_of_cache Stamp) b c × HasNoFile Stamp c → ClearsAll a c
 clears-all a b c first then = record {
   clears = clears-then is_page_or_stamp a b c (clears-either Page a b first.0) (clears-either Stamp b c then.0);
-  none = record { pages = λ name is. stays-gone (is_of_kind Stamp) b c name then.0 (first.1 name is); stats = λ name is. then.1 name is };
+  none = record { pages = λ name is. stays-gone (is_of_cache Stamp) b c name then.0 (first.1 name is); stats = λ name is. then.1 name is };
 }
 
 -- only page files went: each .stat file is as it was
-pub pages-first : ((name : Text) → IsTrue (is_page_file name) → is_stat_file name ≡ false) → (a b : Files) → ClearsFiles (is_of_kind Page) a b → ClearsPagesFirst a b
+pub pages-first : ((name : Text) → IsTrue (is_page_file name) → is_stat_file name ≡ false) → (a b : Files) → ClearsFiles (is_of_cache Page) a b → ClearsPagesFirst a b
 pages-first apart a b clears = inl (λ name is. ⊎_elim (λ e. e) (λ w. absurd (let no : true ≡ false = sym is ∙ apart name w.0 in cc no)) (clears.each name))
 
 -- no page file was left, and then only .stat files went
-pub pages-gone : (a b c : Files) → ClearsFiles (is_of_kind Page) a b × HasNoFile Page b → ClearsFiles (is_of_kind Stamp) b c → ClearsPagesFirst a c
-pages-gone a b c first then = inr (λ name is. stays-gone (is_of_kind Stamp) b c name then (first.1 name is))
+pub pages-gone : (a b c : Files) → ClearsFiles (is_of_cache Page) a b × HasNoFile Page b → ClearsFiles (is_of_cache Stamp) b c → ClearsPagesFirst a c
+pages-gone a b c first then = inr (λ name is. stays-gone (is_of_cache Stamp) b c name then (first.1 name is))
 
 -- the number of the session is no file of these kinds
 pub number-stays : (a b : Files) → is_page_file epoch_name ≡ false → is_stat_file epoch_name ≡ false → ClearsFiles is_page_or_stamp a b → file_at b epoch_name ≡ file_at a epoch_name

@@ -70,7 +70,7 @@ holds-same k o c d holds same answers = record {
     reads = λ stays.
         let reads = holds.keeps.reads (sym same.closing ∙ stays) in
         record {
-          told = rw (same.stream, same.turns) reads.told;
+          read = rw (same.stream, same.turns) reads.read;
           splits = rw (same.turns, same.count) reads.splits;
           ends = same.ends ∙ reads.ends;
           paired = reads.paired;
@@ -103,7 +103,7 @@ advance-continue k j c stays peer intake fault first answers keeps =
         peer_is = peer ∙ keeps.peer_is;
         answers = answers;
         reads = λ still. record {
-          told = rw intake reads.told;
+          read = rw intake reads.read;
           splits = rw (length-append c.slots (interim_slot ∷ [])) (split-next _ _ _ _ splits);
           ends = reads.ends ∙ ap end_of (sym fault);
           paired = paired.1;
@@ -140,7 +140,7 @@ holds-as k j c peer intake turns fault answers holds = record {
     reads = λ stays.
         let reads = holds.keeps.reads stays in
         record {
-          told = rw intake reads.told;
+          read = rw intake reads.read;
           splits = rw turns reads.splits;
           ends = reads.ends ∙ ap end_of (sym fault);
           paired = rw turns reads.paired;
@@ -159,7 +159,7 @@ take-request k j c request lasts stays unsent first peer intake fault answers ho
       record {
         peer_is = peer ∙ holds.keeps.peer_is;
         answers = rw answers holds.keeps.answers;
-        told = rw intake reads.told;
+        read = rw intake reads.read;
         splits = split-next _ _ _ _ splits;
         ends = reads.ends ∙ ap end_of (sym fault);
         paired = paired;
@@ -178,7 +178,7 @@ push-owed k j c slot owes peer intake fault turns answers = record {
   peer_is = peer ∙ owes.peer_is;
   answers = answers;
   reads = λ stays. record {
-    told = rw intake owes.told;
+    read = rw intake owes.read;
     splits = rw (length-append c.slots (slot ∷ []), turns) owes.splits;
     ends = owes.ends ∙ ap end_of (sym fault);
     paired = rw turns owes.paired;
@@ -213,7 +213,7 @@ read-open k j m i c bytes stays holds stands tells peer same advances =
       peer_is = peer ∙ holds.keeps.peer_is;
       answers = rw same (record { unsent = answers.unsent; within = answers.within; past = answers.past; closing_is = answers.closing_is; over_is = answers.over_is; spare_is = answers.spare_is });
       reads = λ still. record {
-        told = tells.told _ _ stands;
+        read = tells.read _ _ stands;
         splits = record { done = reads.splits.done; counted = reads.splits.counted; joined = joined };
         ends = refl;
         paired = paired-rest reads.splits.done j.turns.items (rw joined at (spells-paired _ _ _ spells));
@@ -226,25 +226,25 @@ read-open k j m i c bytes stays holds stands tells peer same advances =
       holds = subst (ConnectionStandsFor m) (sym (ap (λ b. cond b c (with_due_continue fed_c)) stays)) (advances fed_c keeps);
     }
 
--- ---- turns are told
+-- ---- turns are read
 pub tells_start : (i : Intake) (turns : List Turn) → TellsOn i turns i turns
-tells_start i turns = record { turns = []; joined = sym (append-nil turns); told = λ stream told stands. rw (append-nil told) stands }
+tells_start i turns = record { turns = []; joined = sym (append-nil turns); read = λ stream read stands. rw (append-nil read) stands }
 
-pub tells_step : (i j m : Intake) (before so_far after_ : List Turn) (turn : Turn) → TellsOn i before j so_far → ((stream : List ℕ) (told : List Turn) → StandsFor j stream told → StandsFor m stream (told ++ turn ∷ []))
+pub tells_step : (i j m : Intake) (before so_far after_ : List Turn) (turn : Turn) → TellsOn i before j so_far → ((stream : List ℕ) (read : List Turn) → StandsFor j stream read → StandsFor m stream (read ++ turn ∷ []))
     → after_ ≡ so_far ++ turn ∷ [] → TellsOn i before m after_
 tells_step i j m before so_far after_ turn on tells is = record {
   turns = on.turns ++ turn ∷ [];
   joined = is ∙ ap (λ ts. ts ++ turn ∷ []) on.joined ∙ append_assoc before on.turns (turn ∷ []);
-  told = λ stream told stands. subst (StandsFor m stream) (append_assoc told on.turns (turn ∷ [])) (tells stream (told ++ on.turns) (on.told stream told stands));
+  read = λ stream read stands. subst (StandsFor m stream) (append_assoc read on.turns (turn ∷ [])) (tells stream (read ++ on.turns) (on.read stream read stands));
 }
 
-pub tells_end : (i j m : Intake) (before after_ : List Turn) (fault : Option InFault) → TellsOn i before j after_ → ((stream : List ℕ) (told : List Turn) → StandsFor j stream told → StandsFor m stream told)
-    → ((stream : List ℕ) (told : List Turn) → StandsFor j stream told → SpellsTurns stream told (end_of fault)) → TellsTurns i before m after_ fault
+pub tells_end : (i j m : Intake) (before after_ : List Turn) (fault : Option InFault) → TellsOn i before j after_ → ((stream : List ℕ) (read : List Turn) → StandsFor j stream read → StandsFor m stream read)
+    → ((stream : List ℕ) (read : List Turn) → StandsFor j stream read → SpellsTurns stream read (end_of fault)) → TellsTurns i before m after_ fault
 tells_end i j m before after_ fault on keeps ends = record {
   turns = on.turns;
   joined = on.joined;
-  told = λ stream told stands. keeps stream (told ++ on.turns) (on.told stream told stands);
-  spells = λ stream told stands. ends stream (told ++ on.turns) (on.told stream told stands);
+  read = λ stream read stands. keeps stream (read ++ on.turns) (on.read stream read stands);
+  spells = λ stream read stands. ends stream (read ++ on.turns) (on.read stream read stands);
 }
 
 -- ---- a new connection, and what is sent
@@ -254,7 +254,7 @@ new-holds k peer is stands none whole answers = record {
     peer_is = is;
     answers = answers;
     reads = λ stays. record {
-      told = stands;
+      read = stands;
       splits = record { done = []; counted = refl; joined = sym none };
       ends = ap end_of (sym whole);
       paired = rw none tt;

@@ -81,7 +81,7 @@ either (Err e) answer wanted out_of_memory given ok = inr given
 
 -- where memory runs out the answer is the fixed one
 fixed-if-dry : (m : Conditions) (answer wanted : Answer) → IsOrFixed m answer wanted → IsTrue m.out_of_memory → answer ≡ fixed_answer
-fixed-if-dry m answer wanted (inl own) out_of_memory = absurd (let had_memory : m.out_of_memory ≡ false = own.1 in let no : ⊥ = cc in no)
+fixed-if-dry m answer wanted (inl own) out_of_memory = absurd (let not_out_of_memory : m.out_of_memory ≡ false = own.1 in let no : ⊥ = cc in no)
 fixed-if-dry m answer wanted (inr fixed) out_of_memory = fixed.0
 
 pub direct-event : (p : Publishing) (content later : Content) (b h : BoardAt) (target : List ℕ) (answer : Answer) (out_of_memory : Bool) (effect : Effect) → later ≡ content → h ≡ b

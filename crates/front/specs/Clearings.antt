@@ -7,13 +7,13 @@ use Rattle.sp_outside.specs.FileNames.{names_left}
 use Rattle.sp_outside.specs.Files.{Files, file_at, longest_file_name}
 use Rattle.docroot_format.specs.Names.{is_page_file, is_stat_file}
 use Rattle.coherence_core.specs.Holds.{files_counted}
-use Rattle.front.specs.declared.clearing.FileKind.{FileKind}
-use Rattle.front.specs.declared.clearing.FileKind.TheVariants.{Page, Stamp}
+use Rattle.front.specs.declared.clearing.CacheFile.{CacheFile}
+use Rattle.front.specs.declared.clearing.CacheFile.TheVariants.{Page, Stamp}
 
 -- the name is that of a file of this kind
-abbrev pub is_of_kind : FileKind → Text → Bool
-is_of_kind Page name = is_page_file name
-is_of_kind Stamp name = is_stat_file name
+abbrev pub is_of_cache : CacheFile → Text → Bool
+is_of_cache Page name = is_page_file name
+is_of_cache Stamp name = is_stat_file name
 
 -- the name is that of a page file or of a .stat file
 abbrev pub is_page_or_stamp : Text → Bool
@@ -29,16 +29,16 @@ abbrev pub ClearsPagesFirst : Files → Files → Type 0
 ClearsPagesFirst old new = ((name : Text) → IsTrue (is_stat_file name) → file_at new name ≡ file_at old name) ⊎ ((name : Text) → IsTrue (is_page_file name) → file_at new name ≡ None)
 
 -- no file of this kind is there
-abbrev pub HasNoFile : FileKind → Files → Type 0
-HasNoFile kind files = (name : Text) → IsTrue (is_of_kind kind name) → file_at files name ≡ None
+abbrev pub HasNoFile : CacheFile → Files → Type 0
+HasNoFile kind files = (name : Text) → IsTrue (is_of_cache kind name) → file_at files name ≡ None
 
 -- the files of this kind are gone whose names aren't after this one
-abbrev pub HasNoneUpTo : FileKind → Text → Files → Type 0
-HasNoneUpTo kind last files = (name : Text) → IsTrue (is_of_kind kind name) → by_name last name ≢ Less → file_at files name ≡ None
+abbrev pub HasNoneUpTo : CacheFile → Text → Files → Type 0
+HasNoneUpTo kind last files = (name : Text) → IsTrue (is_of_cache kind name) → by_name last name ≢ Less → file_at files name ≡ None
 
 -- those of this kind are gone that are among these names
-abbrev pub HasNoneAmong : FileKind → List Text → Files → Type 0
-HasNoneAmong kind names files = (name : Text) → Contains names name → IsTrue (is_of_kind kind name) → file_at files name ≡ None
+abbrev pub HasNoneAmong : CacheFile → List Text → Files → Type 0
+HasNoneAmong kind names files = (name : Text) → Contains names name → IsTrue (is_of_cache kind name) → file_at files name ≡ None
 
 -- the name isn't after that of which the names after it are left, if any are
 abbrev pub IsClearedTo : Option Text → Text → Type 0
@@ -46,8 +46,8 @@ IsClearedTo None name = Unit {0}
 IsClearedTo (Some next) name = by_name next name ≢ Less
 
 -- the files of this kind are gone that are after this name, up to the next one, or to the end
-abbrev pub HasNoneBetween : FileKind → Text → Option Text → Files → Type 0
-HasNoneBetween kind last next files = (name : Text) → IsTrue (is_of_kind kind name) → by_name last name ≡ Less → IsClearedTo next name → file_at files name ≡ None
+abbrev pub HasNoneBetween : CacheFile → Text → Option Text → Files → Type 0
+HasNoneBetween kind last next files = (name : Text) → IsTrue (is_of_cache kind name) → by_name last name ≡ Less → IsClearedTo next name → file_at files name ≡ None
 
 -- the walk comes nearer to its end with this name
 pub record IsNearer (last next : Text) : Type 0 where

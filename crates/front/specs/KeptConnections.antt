@@ -42,7 +42,7 @@ pub record Splits (turns : List Turn) (count : ℕ) (left : List Turn) : Type 0 
 
 -- what is kept of a stream that is read on
 pub record ReadsOn (k : KeptConnection) (c : Connection) : Type 0 where
-  pub told : StandsFor k.intake c.stream c.turns
+  pub read : StandsFor k.intake c.stream c.turns
   pub splits : Splits c.turns (length c.slots) k.turns.items
   pub ends : c.ends ≡ end_of k.fault
   pub paired : IsPaired k.turns.items
@@ -67,7 +67,7 @@ pub record ConnectionStandsFor (k : KeptConnection) (c : Connection) : Type 0 wh
 pub record Owes (k : KeptConnection) (c : Connection) : Type 0 where
   pub peer_is : k.peer ≡ c.peer
   pub answers : QueueStandsFor k.answers c
-  pub told : StandsFor k.intake c.stream c.turns
+  pub read : StandsFor k.intake c.stream c.turns
   pub splits : Splits c.turns (length c.slots + 1) k.turns.items
   pub ends : c.ends ≡ end_of k.fault
   pub paired : IsPaired k.turns.items
@@ -79,18 +79,18 @@ pub record ConnectionReads (bytes : List ℕ) (c : Connection) (k : KeptConnecti
   pub spells : c.closing ≡ false → SpellsTurns (c.stream ++ bytes) (c.turns ++ turns) ends
   pub holds : ConnectionStandsFor k (with_piece bytes turns ends c)
 
--- further turns are told, and then the stream ends so
+-- further turns are read, and then the stream ends so
 pub record TellsTurns (old : Intake) (before : List Turn) (new : Intake) (after : List Turn) (fault : Option InFault) : Type 0 where
   pub turns : List Turn
   pub joined : after ≡ before ++ turns
-  pub told : (stream : List ℕ) (told : List Turn) → StandsFor old stream told → StandsFor new stream (told ++ turns)
-  pub spells : (stream : List ℕ) (told : List Turn) → StandsFor old stream told → SpellsTurns stream (told ++ turns) (end_of fault)
+  pub read : (stream : List ℕ) (read : List Turn) → StandsFor old stream read → StandsFor new stream (read ++ turns)
+  pub spells : (stream : List ℕ) (read : List Turn) → StandsFor old stream read → SpellsTurns stream (read ++ turns) (end_of fault)
 
 -- the same before the end is found
 pub record TellsOn (old : Intake) (before : List Turn) (new : Intake) (after : List Turn) : Type 0 where
   pub turns : List Turn
   pub joined : after ≡ before ++ turns
-  pub told : (stream : List ℕ) (told : List Turn) → StandsFor old stream told → StandsFor new stream (told ++ turns)
+  pub read : (stream : List ℕ) (read : List Turn) → StandsFor old stream read → StandsFor new stream (read ++ turns)
 
 -- the turns begin with a Continue
 abbrev pub begins_with_continue : List Turn → Bool

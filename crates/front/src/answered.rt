@@ -8,9 +8,8 @@ ghost use Rattle.front.specs.Caches.{local_reply as reply_of, only_disk};
 
 use connections::{Awaited, ConnectionId, FlightId, FlushId, Reply};
 use cover_rules::{Invalidation, PageKey};
-use http_front::INSUFFICIENT_STORAGE;
+use http_front::{INSUFFICIENT_STORAGE, PreparedAnswer};
 use run_events::{Conditions, Note};
-use sp_base::Answer;
 
 /// What a request is answered.
 #[derive(Drop)]
@@ -40,7 +39,7 @@ pub(crate) struct Ended {
 }
 
 // A call in which memory sufficed ran under this.
-pub(crate) fn with_memory(disk_failed: bool) -> Conditions
+pub(crate) fn not_out_of_memory(disk_failed: bool) -> Conditions
     ensures { result ≡ only_disk disk_failed }
 {
     Conditions {
@@ -50,7 +49,7 @@ pub(crate) fn with_memory(disk_failed: bool) -> Conditions
 }
 
 // A call in which memory ran out.
-pub(crate) fn without_memory(disk_failed: bool) -> Conditions
+pub(crate) fn out_of_memory(disk_failed: bool) -> Conditions
     ensures { result ≡ record { disk_failed = disk_failed; out_of_memory = true } }
 {
     Conditions {
@@ -101,7 +100,7 @@ impl Answered {
     pub(crate) fn hit(
         c: ConnectionId,
         key: PageKey,
-        answer: Answer,
+        answer: PreparedAnswer,
         conditions: Conditions,
     ) -> Answered
         ensures { result ≡ record { note = hit_note c key; reply = Says answer; closes = false; slices = false; conditions = conditions } }

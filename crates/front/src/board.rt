@@ -7,7 +7,7 @@ ghost use Rattle.run_events.specs.declared.step.Step.TheVariants.{Opened, Piece,
 ghost use Rattle.front.specs.Boards.{ReadAt, BoardSteps, BoardStepsAlone, FillsConnection, FinishesEnded, SettlesConnection};
 ghost use Rattle.front.specs.Uses.{UsesDisk};
 
-use crate::answered::{Ended, with_memory};
+use crate::answered::{Ended, not_out_of_memory};
 use crate::cache::Cache;
 use crate::connection::Connection;
 use crate::effect::Effect;
@@ -45,7 +45,7 @@ impl Board {
         )?;
         if over {
             self.open_connections.remove(&c);
-            effect.push(Note::Shut(c), with_memory(false))?;
+            effect.push(Note::Shut(c), not_out_of_memory(false))?;
         }
         Ok(effect)
     }
@@ -58,7 +58,7 @@ impl Board {
             return Effect::idle(alloc);
         }
         if self.open_connections.len() >= MOST_CONNECTIONS {
-            return Effect::one(alloc, Note::Refused(c), with_memory(false));
+            return Effect::one(alloc, Note::Refused(c), not_out_of_memory(false));
         }
         self.open_connections
             .insert(c, Connection::new(alloc, peer)?)?;

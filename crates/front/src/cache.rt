@@ -10,7 +10,7 @@ ghost use Rattle.http_front.specs.Faults.{insufficient_storage};
 ghost use Rattle.front.specs.Caches.{AnswersRequest, answered_locally};
 ghost use Rattle.front.specs.Uses.{UsesDisk};
 
-use crate::answered::{Answered, with_memory, without_memory};
+use crate::answered::{Answered, not_out_of_memory, out_of_memory};
 use crate::ticketed::{TicketedFlight, new_flight};
 use any_config::Farm;
 use cache_files::OpenFault;
@@ -91,10 +91,10 @@ impl Cache {
         let slices = self.flushes.is_empty();
         // The room of a flight or a flush is taken before it begins, so that it isn't lost.
         if self.flights.reserve(1).is_err() || self.flushes.reserve(1).is_err() {
-            return out_of_memory(c, request, false);
+            return turned_away_out_of_memory(c, request, false);
         }
         let Requested { got, disk_failed } = self.core.request(alloc, disk, &request, peer.text());
-        let conditions = with_memory(disk_failed);
+        let conditions = not_out_of_memory(disk_failed);
         match got {
             Got::Asked(ticket, key) => {
                 let number = ticket.number();
@@ -122,21 +122,16 @@ impl Cache {
             Got::FlushForbidden => turned_away(c, request, 403, conditions),
             Got::FlushRefused(_) => turned_away(c, request, 400, conditions),
             Got::Denied => turned_away(c, request, 404, conditions),
-            Got::NoMemory => out_of_memory(c, request, disk_failed),
+            Got::NoMemory => turned_away_out_of_memory(c, request, disk_failed),
         }
     }
 }
 
 // Answers a request for which memory ran out.
-fn out_of_memory(c: ConnectionId, request: Req, disk_failed: bool) -> Answered
+fn turned_away_out_of_memory(c: ConnectionId, request: Req, disk_failed: bool) -> Answered
     ensures { result ≡ answered_locally c insufficient_storage true (record { disk_failed = disk_failed; out_of_memory = true }) }
 {
-    turned_away(
-        c,
-        request,
-        INSUFFICIENT_STORAGE,
-        without_memory(disk_failed),
-    )
+    turned_away(c, request, INSUFFICIENT_STORAGE, out_of_memory(disk_failed))
 }
 
 // Answers a request by the front itself, with this status.

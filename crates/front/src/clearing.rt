@@ -23,7 +23,7 @@ const NAMES_LISTED: usize = 256;
 
 // Which files are cleared away.
 #[derive(Clone, Copy, Drop)]
-pub(crate) enum FileKind {
+pub(crate) enum CacheFile {
     Page,
     Stamp,
 }
@@ -42,14 +42,14 @@ impl<R: Renderer + Drop> Front<R> {
     {
         a_session_begins_without_pages();
         names_tell_their_files();
-        clear(alloc, disk, FileKind::Page)?;
-        clear(alloc, disk, FileKind::Stamp)
+        clear(alloc, disk, CacheFile::Page)?;
+        clear(alloc, disk, CacheFile::Stamp)
     }
 }
 
-// Clears the files of this kind away.
-fn clear<D: Disk>(alloc: Global, disk: &mut D, kind: FileKind) -> Result<(), FileFault>
-    ensures left { Told (ClearsFiles (spec.is_of_kind kind)) (D.files disk.old) (D.files disk.new) }
+// Clears the cache's files of this kind away.
+fn clear<D: Disk>(alloc: Global, disk: &mut D, kind: CacheFile) -> Result<(), FileFault>
+    ensures left { Told (ClearsFiles (spec.is_of_cache kind)) (D.files disk.old) (D.files disk.new) }
     ensures none { OnOk result (Told (λ _ files. HasNoFile kind files) (D.files disk.old) (D.files disk.new)) }
     ensures cause { HasFileCause (D.faults disk.old) (D.faults disk.new) result }
     ensures calls { MakesDocrootCalls (D.calls disk.old) (D.calls disk.new) }
@@ -65,11 +65,11 @@ fn clear<D: Disk>(alloc: Global, disk: &mut D, kind: FileKind) -> Result<(), Fil
 fn clear_next<D: Disk>(
     alloc: Global,
     disk: &mut D,
-    kind: FileKind,
+    kind: CacheFile,
     last: &TextBuf,
 ) -> Result<Option<TextBuf>, FileFault>
     requires { length last.now ≤ longest_file_name }
-    ensures left { Told (ClearsFiles (spec.is_of_kind kind)) (D.files disk.old) (D.files disk.new) }
+    ensures left { Told (ClearsFiles (spec.is_of_cache kind)) (D.files disk.old) (D.files disk.new) }
     ensures none { IfOk result (λ next. Told (λ _ files. HasNoneBetween kind last.now next files) (D.files disk.old) (D.files disk.new)) }
     ensures nearer { IfOk result (λ next. IfSome next (IsNearer last.now)) }
     ensures cause { HasFileCause (D.faults disk.old) (D.faults disk.new) result }
@@ -86,8 +86,8 @@ fn clear_next<D: Disk>(
 }
 
 // Clears the files with these names away that are of this kind.
-fn clear_names<D: Disk>(disk: &mut D, kind: FileKind, names: &[TextBuf]) -> Result<(), DiskFault>
-    ensures left { Told (ClearsFiles (spec.is_of_kind kind)) (D.files disk.old) (D.files disk.new) }
+fn clear_names<D: Disk>(disk: &mut D, kind: CacheFile, names: &[TextBuf]) -> Result<(), DiskFault>
+    ensures left { Told (ClearsFiles (spec.is_of_cache kind)) (D.files disk.old) (D.files disk.new) }
     ensures none { OnOk result (Told (λ _ files. HasNoneAmong kind names.now files) (D.files disk.old) (D.files disk.new)) }
     ensures cause { HasDiskCause (D.faults disk.old) (D.faults disk.new) result }
     ensures calls { MakesDocrootCalls (D.calls disk.old) (D.calls disk.new) }
@@ -99,14 +99,14 @@ fn clear_names<D: Disk>(disk: &mut D, kind: FileKind, names: &[TextBuf]) -> Resu
 }
 
 // Clears the file of this name away, where it is of this kind.
-fn clear_name<D: Disk>(disk: &mut D, kind: FileKind, name: &str) -> Result<(), DiskFault>
-    ensures left { Told (ClearsFiles (spec.is_of_kind kind)) (D.files disk.old) (D.files disk.new) }
-    ensures gone { OnOk result (Told (λ _ files. IsTrue (spec.is_of_kind kind name.now) → file_at files name.now ≡ None) (D.files disk.old) (D.files disk.new)) }
+fn clear_name<D: Disk>(disk: &mut D, kind: CacheFile, name: &str) -> Result<(), DiskFault>
+    ensures left { Told (ClearsFiles (spec.is_of_cache kind)) (D.files disk.old) (D.files disk.new) }
+    ensures gone { OnOk result (Told (λ _ files. IsTrue (spec.is_of_cache kind name.now) → file_at files name.now ≡ None) (D.files disk.old) (D.files disk.new)) }
     ensures cause { HasDiskCause (D.faults disk.old) (D.faults disk.new) result }
     ensures calls { MakesDocrootCalls (D.calls disk.old) (D.calls disk.new) }
 {
     files_have_names();
-    if is_of_kind(kind, name) {
+    if is_of_cache(kind, name) {
         disk.remove(name)
     } else {
         Ok(())
@@ -114,11 +114,11 @@ fn clear_name<D: Disk>(disk: &mut D, kind: FileKind, name: &str) -> Result<(), D
 }
 
 // Whether the file of this name is of this kind.
-fn is_of_kind(kind: FileKind, name: &str) -> bool
-    ensures { result ≡ spec.is_of_kind kind name.now }
+fn is_of_cache(kind: CacheFile, name: &str) -> bool
+    ensures { result ≡ spec.is_of_cache kind name.now }
 {
     match kind {
-        FileKind::Page => is_page_file(name),
-        FileKind::Stamp => is_stat_file(name),
+        CacheFile::Page => is_page_file(name),
+        CacheFile::Stamp => is_stat_file(name),
     }
 }

@@ -178,7 +178,7 @@ fn read_turns(
             Ok(Some(turn)) => turns.push_back(turn)?,
             Ok(None) => return Ok(None),
             Err(fault) => {
-                let told = told_fault(fault)?;
+                let told = fault_or_memory(fault)?;
                 return Ok(Some(told));
             }
         }
@@ -186,7 +186,7 @@ fn read_turns(
 }
 
 // A fault that the stream has. Out of memory isn't one.
-fn told_fault(fault: InFault) -> Mem<InFault>
+fn fault_or_memory(fault: InFault) -> Mem<InFault>
     ensures same { IfOk result (λ told. told ≡ fault) }
     ensures other { IfOk result (λ told. fault ≢ variant.NoMemory) }
 {

@@ -4,7 +4,7 @@ ghost use Rattle.run_events.specs.declared.note.Note.TheVariants.{Idle as idle_n
 ghost use Rattle.run_events.specs.Events.{condition_notes};
 ghost use Rattle.front.specs.Caches.{under_both, under_nothing};
 
-use crate::answered::with_memory;
+use crate::answered::not_out_of_memory;
 use run_events::{Conditions, Note, NoteList};
 use sp_base::Mem;
 use std::alloc::Global;
@@ -24,7 +24,7 @@ impl Effect {
     {
         Effect {
             notes: Vec::new(alloc),
-            conditions: with_memory(false),
+            conditions: not_out_of_memory(false),
         }
     }
 
@@ -43,7 +43,7 @@ impl Effect {
         ensures notes { IfOk result (λ effect. effect.notes.items ≡ idle_note ∷ []) }
         ensures conditions { IfOk result (λ effect. effect.conditions ≡ under_nothing) }
     {
-        Effect::one(alloc, Note::Idle, with_memory(false))
+        Effect::one(alloc, Note::Idle, not_out_of_memory(false))
     }
 
     /// A further note, and what its call ran under.

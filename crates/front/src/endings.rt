@@ -6,13 +6,13 @@ ghost use Rattle.run_events.specs.Events.{is_any, is_rendered};
 ghost use Rattle.front.specs.Caches.{is_ending, landing_end_of, left_after, slice_end_of, DeliversPicked, HasNoFlush, LosesFirst, LosesPicked, SlicesOldest};
 ghost use Rattle.front.specs.Uses.{UsesDisk};
 
-use crate::answered::{Ended, with_memory, without_memory};
+use crate::answered::{Ended, not_out_of_memory, out_of_memory};
 use crate::cache::Cache;
 use crate::ticketed::{TicketedFlight, first_picked, first_rendered};
 use coherence_core::{Landed, Purged};
 use connections::{Awaited, ConnectionId, FlightId, Reply};
 use flights::tickets_have_the_places_of_their_flights;
-use http_front::INSUFFICIENT_STORAGE;
+use http_front::{INSUFFICIENT_STORAGE, PreparedAnswer};
 use run_events::{Failure, Flushing, Flying, Note, Pick};
 use sp_base::Answer;
 use sp_outside::Disk;
@@ -56,7 +56,7 @@ impl Cache {
         self.core.lose(ticket);
         Some(Ended {
             note: Note::Lost(flying.number),
-            conditions: with_memory(false),
+            conditions: not_out_of_memory(false),
             connection: flying.connection,
             awaited: Awaited::Flight(flying.number),
             reply: Some(Reply::Own(502)),
@@ -119,17 +119,17 @@ fn landing_end(number: FlightId, connection: ConnectionId, answer: Answer, lande
     ensures { result ≡ landing_end_of number connection answer landed }
 {
     let (note, conditions) = match landed {
-        Landed::Kept(key) => (Note::Kept(number, key), with_memory(false)),
-        Landed::Passed => (Note::Passed(number), with_memory(false)),
-        Landed::DiskFailed => (Note::Unkept(number), with_memory(true)),
-        Landed::NoMemory => (Note::Unkept(number), without_memory(false)),
+        Landed::Kept(key) => (Note::Kept(number, key), not_out_of_memory(false)),
+        Landed::Passed => (Note::Passed(number), not_out_of_memory(false)),
+        Landed::DiskFailed => (Note::Unkept(number), not_out_of_memory(true)),
+        Landed::NoMemory => (Note::Unkept(number), out_of_memory(false)),
     };
     Ended {
         note,
         conditions,
         connection,
         awaited: Awaited::Flight(number),
-        reply: Some(Reply::Says(answer)),
+        reply: Some(Reply::Says(PreparedAnswer::of(answer))),
     }
 }
 
@@ -150,20 +150,20 @@ fn slice_end(flush: Flushing, purged: Purged) -> Option<Ended>
     let number = flush.number;
     let (note, conditions, reply) = match purged {
         Purged::Idle => return None,
-        Purged::More(_) => (Note::Sliced(number), with_memory(false), None),
+        Purged::More(_) => (Note::Sliced(number), not_out_of_memory(false), None),
         Purged::Done(_) => (
             Note::Done(number),
-            with_memory(false),
+            not_out_of_memory(false),
             Some(Reply::Own(200)),
         ),
         Purged::Failed(_) => (
             Note::Failed(number, Failure::Disk),
-            with_memory(true),
+            not_out_of_memory(true),
             Some(Reply::Own(500)),
         ),
         Purged::NoMemory(_) => (
             Note::Failed(number, Failure::Memory),
-            without_memory(false),
+            out_of_memory(false),
             Some(Reply::Own(INSUFFICIENT_STORAGE)),
         ),
     };

@@ -140,11 +140,7 @@ impl<R: Renderer + Drop> Front<R> {
             answer,
             out_of_memory,
         } = or_fixed(alloc, answer);
-        Effect::one(
-            alloc,
-            Note::Answer(answer),
-            if_memory_ran_out(out_of_memory),
-        )
+        Effect::one(alloc, Note::Answer(answer), if_out_of_memory(out_of_memory))
     }
 
     fn render(&mut self, alloc: Global, pick: &Pick) -> Mem<Effect>
@@ -164,7 +160,7 @@ impl<R: Renderer + Drop> Front<R> {
         Effect::one(
             alloc,
             Note::Rendered(number, answer),
-            if_memory_ran_out(out_of_memory),
+            if_out_of_memory(out_of_memory),
         )
     }
 
@@ -213,7 +209,7 @@ fn or_fixed(alloc: Global, answer: Mem<Answer>) -> OrFixed
     }
 }
 
-fn if_memory_ran_out(out_of_memory: bool) -> Conditions
+fn if_out_of_memory(out_of_memory: bool) -> Conditions
     ensures { result ≡ record { disk_failed = false; out_of_memory = out_of_memory } }
 {
     Conditions {

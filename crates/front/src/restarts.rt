@@ -10,7 +10,7 @@ ghost use Rattle.front.specs.Caches.{behind};
 ghost use Rattle.front.specs.Restarts.{AreKeys, IsReopened, LosesFlights, failed_notes, lost_notes, reopened_by};
 ghost use Rattle.front.specs.Uses.{UsesDisk};
 
-use crate::answered::{with_memory, without_memory};
+use crate::answered::{not_out_of_memory, out_of_memory};
 use crate::board::Board;
 use crate::cache::Cache;
 use crate::connection::Connection;
@@ -85,19 +85,19 @@ fn restart_end(opened: Result<u64, OpenFault>) -> Reopened
     match opened {
         Ok(epoch) => Reopened {
             note: Note::Up(epoch),
-            conditions: with_memory(false),
+            conditions: not_out_of_memory(false),
         },
         Err(OpenFault::Disk) => Reopened {
             note: Note::Down,
-            conditions: with_memory(true),
+            conditions: not_out_of_memory(true),
         },
         Err(OpenFault::NoMemory) => Reopened {
             note: Note::Down,
-            conditions: without_memory(false),
+            conditions: out_of_memory(false),
         },
         Err(OpenFault::Foreign | OpenFault::EpochEnd) => Reopened {
             note: Note::Down,
-            conditions: with_memory(false),
+            conditions: not_out_of_memory(false),
         },
     }
 }

@@ -9,7 +9,7 @@ ghost use Rattle.front.specs.KeptConnections.{work_of};
 ghost use Rattle.front.specs.Serving.{SlicesFirst};
 ghost use Rattle.front.specs.Uses.{UsesDisk};
 
-use crate::answered::{Ended, local_reply, with_memory};
+use crate::answered::{Ended, local_reply, not_out_of_memory};
 use crate::cache::Cache;
 use crate::connection::{Connection, Taken};
 use crate::effect::Effect;
@@ -84,7 +84,7 @@ fn serve_turn<D: Disk>(
         }
         Taken::Fault(fault) => {
             let note = refuse(c, fault, connection)?;
-            Ok(Served::Said(note, with_memory(false)))
+            Ok(Served::Said(note, not_out_of_memory(false)))
         }
         Taken::Waiting => Ok(Served::Quiet),
         Taken::Over => Ok(Served::Ended),

@@ -5,7 +5,7 @@ ghost use Rattle.front.specs.Boards.{TreatsRequest, TurnsAway};
 ghost use Rattle.front.specs.KeptConnections.{work_of};
 ghost use Rattle.front.specs.Uses.{UsesDisk};
 
-use crate::answered::{Answered, local_reply, with_memory};
+use crate::answered::{Answered, local_reply, not_out_of_memory};
 use crate::cache::Cache;
 use crate::connection::Connection;
 use connections::{AnswerPlace, ConnectionId, Reply};
@@ -67,6 +67,6 @@ fn turn_away(c: ConnectionId, request: &Req, connection: &mut Connection) -> Mem
     Ok(Treated {
         note: Note::Local(c, 503),
         slices: false,
-        conditions: with_memory(false),
+        conditions: not_out_of_memory(false),
     })
 }

@@ -1,7 +1,7 @@
 // The resources below a resource.
 ghost use Rattle.std.specs.Prelude.{◌≡◌, ◌≢◌, IfOk, IfErr, Err};
 ghost use Rattle.std.specs.Result.{result_ok};
-ghost use Rattle.sp_base.specs.declared.path.PathFault.TheVariants.{NoMemory as no_memory};
+ghost use Rattle.sp_base.specs.declared.path.PathFault.TheVariants.{NoMemory as out_of_memory};
 ghost use Rattle.get_servlet.specs.Rendering.{kid_of_name, shown_kid, lists_kid};
 
 use resource_tree::{Look, Res};
@@ -25,8 +25,8 @@ pub(crate) fn lists_kid(res: &Res<'_>, name: &str) -> bool
 // The path that was made, if there is one: a path that is too deep is none, and no lack of memory.
 fn path_of_result(made: Result<Path, PathFault>) -> Mem<Option<Path>>
     ensures value { IfOk result (λ path. path ≡ result_ok made) }
-    ensures told { IfOk result (λ path. made ≢ Err no_memory) }
-    ensures err { IfErr result (λ e. made ≡ Err no_memory) }
+    ensures told { IfOk result (λ path. made ≢ Err out_of_memory) }
+    ensures err { IfErr result (λ e. made ≡ Err out_of_memory) }
 {
     match made {
         Ok(path) => Ok(Some(path)),

@@ -1,7 +1,7 @@
 //! Why a text is no glob.
 ghost use Rattle.std.specs.Prelude.{◌≡◌, Some};
 ghost use Rattle.glob_rules.specs.FaultTexts.{glob_fault_text};
-ghost use Rattle.glob_rules.specs.declared.fault.GlobFault.TheVariants.{NoMemory as no_memory};
+ghost use Rattle.glob_rules.specs.declared.fault.GlobFault.TheVariants.{NoMemory as out_of_memory};
 
 use sp_base::NoMemory;
 use std::alloc::{AllocError, AllocFailed};
@@ -27,7 +27,7 @@ impl fmt::Display for GlobFault {
 }
 
 impl From<NoMemory> for GlobFault {
-    ghost from_gives = { λ _ e. e ≡ no_memory };
+    ghost from_gives = { λ _ e. e ≡ out_of_memory };
 
     fn from(_fault: NoMemory) -> GlobFault {
         GlobFault::NoMemory
@@ -35,7 +35,7 @@ impl From<NoMemory> for GlobFault {
 }
 
 impl From<AllocError> for GlobFault {
-    ghost from_gives = { λ _ e. e ≡ no_memory };
+    ghost from_gives = { λ _ e. e ≡ out_of_memory };
 
     fn from(_fault: AllocError) -> GlobFault {
         GlobFault::NoMemory
@@ -43,7 +43,7 @@ impl From<AllocError> for GlobFault {
 }
 
 impl<T: Drop> From<AllocFailed<T>> for GlobFault {
-    ghost from_gives = { λ _ e. e ≡ no_memory };
+    ghost from_gives = { λ _ e. e ≡ out_of_memory };
 
     fn from(_fault: AllocFailed<T>) -> GlobFault {
         GlobFault::NoMemory

@@ -1,5 +1,5 @@
 mod Tags
-mod Parts
+pub mod Parts
 mod Trimmed
 mod Runs
 mod Steps
@@ -7,7 +7,7 @@ mod Balance
 mod Turns
 pub mod Values
 mod Plain
-mod Split
+pub mod Split
 mod Spelled
 mod FirstFault
 pub mod SheetLemmas

@@ -11,11 +11,11 @@ use Rattle.htl_blocks.specs.Reading.{text_run_len}
 use Rattle.htl_blocks.proofs.Tags.{byte_there, end_tag_at, tag_boundary, part_within}
 
 -- bytes that belong to the part before are passed over
-skipped : (n : ℕ) (t : List ℕ) → parts_after n t ≡ parts_after 0 (drop n t)
+pub parts_after_skipped : (n : ℕ) (t : List ℕ) → parts_after n t ≡ parts_after 0 (drop n t)
 unfolding parts_after
-skipped zero t = refl
-skipped (suc n) [] = refl
-skipped (suc n) (c ∷ t) = skipped n t
+parts_after_skipped zero t = refl
+parts_after_skipped (suc n) [] = refl
+parts_after_skipped (suc n) (c ∷ t) = parts_after_skipped n t
 
 -- the first part, and the parts of what follows it
 pub parts_step : (t : List ℕ) → 0 < length t → parts t ≡ take (part_len t) t ∷ parts (drop (part_len t) t)
@@ -25,7 +25,7 @@ parts_step (c ∷ t) some = ap (λ (more : List (List ℕ)). take (part_len (c �
   where
     go : (n : ℕ) → 1 ≤ n → parts_after (n - 1) t ≡ parts_after 0 (drop n (c ∷ t))
     go zero h = absurd (omega (arith, h))
-    go (suc k) h = let same : suc k - 1 ≡ k = omega arith in rw same (skipped k t)
+    go (suc k) h = let same : suc k - 1 ≡ k = omega arith in rw same (parts_after_skipped k t)
 
 first_of : (n c : ℕ) (t : List ℕ) → 1 ≤ n → slice_index (take n (c ∷ t)) 0 ≡ c
 first_of zero c t h = absurd (omega (arith, h))

@@ -25,9 +25,9 @@ pub text_of_text : (t : List ℕ) → text_of_parts (text_parts t) ≡ t
 text_of_text [] = refl
 text_of_text (c ∷ t) = ap (λ (more : List ℕ). c ∷ more) (text_of_text t)
 
-pub none_in : (t : List ℕ) → inclusions (text_parts t) ≡ 0
-none_in [] = refl
-none_in (c ∷ t) = none_in t
+pub no_inclusions_in_text : (t : List ℕ) → inclusions (text_parts t) ≡ 0
+no_inclusions_in_text [] = refl
+no_inclusions_in_text (c ∷ t) = no_inclusions_in_text t
 
 pub no_rounds : (t : List ℕ) → rounds (text_parts t) ≡ 0
 no_rounds [] = refl
@@ -106,7 +106,7 @@ template_result r old scope after k pieces tail more new n room view left same o
 -- ---- pieces
 
 one_count : (scope : Bindings) (p : Piece) → inclusions (piece_parts scope p) ≡ inclusion_count (p ∷ [])
-one_count scope (piece.Text t) = none_in t
+one_count scope (piece.Text t) = no_inclusions_in_text t
 one_count scope (piece.Script name frame) = refl
 one_count scope (piece.Resource name) = refl
 
@@ -195,7 +195,7 @@ inclusion_result (Err f) old scope k ps mid new p tail n view all h is ok err = 
     let before = pieces_parts scope ps ++ text_parts tail in
     let whole = count-append is_inclusion before (kept k (piece_parts scope p)) in
     let parts = count-append is_inclusion (pieces_parts scope ps) (text_parts tail) in
-    let none = none_in tail in
+    let none = no_inclusions_in_text tail in
     let one = ap (λ (k : Keeping). inclusions (kept k (piece_parts scope p))) all ∙ inclusion_in scope p h in
     let here = inclusions_are scope ps in
     let there = ap inclusion_count is ∙ included_with ps tail in

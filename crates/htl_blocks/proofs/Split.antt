@@ -38,7 +38,7 @@ pub length_text : (ps : List (List ℕ)) → length (whole_text ps) ≡ bytes_of
 length_text [] = refl
 length_text (p ∷ ps) = length-append p (whole_text ps) ∙ ap (λ (n : ℕ). length p + n) (length_text ps)
 
-parts_none : parts [] ≡ []
+pub parts_none : parts [] ≡ []
 unfolding parts_after
 parts_none = refl
 
@@ -127,7 +127,7 @@ block_begins : (tag : List ℕ) → is_block_tag tag ≡ true → begins_tag tag
 unfolding is_block_tag
 block_begins tag h = and_first _ _ h
 
-part_is_tag : (u : List ℕ) → begins_tag u ≡ true → part_len u ≡ tag_len u
+pub part_is_tag : (u : List ℕ) → begins_tag u ≡ true → part_len u ≡ tag_len u
 unfolding part_len
 part_is_tag u h = rw h refl
 

@@ -1,9 +1,10 @@
 -- Two readings of which the second may nest one level more: it gives what the first gives, and passes a byte that nests too deep for the first.
 use Rattle.std.proofs.Common.{◌≡◌, ℕ, ◌<◌, ◌≤◌, Bool, true, false, cond, List, [], ◌∷◌, drop, length, Result, Ok, Err, refl, sym, subst, arith}
+use Rattle.sp_base.specs.Outcomes.{◌>>=◌}
 use Rattle.sp_base.proofs.ListLemmas.{drop_short}
 use Rattle.htl_syntax.specs.declared.stop.ExprStop.{ExprStop}
 use Rattle.htl_syntax.specs.declared.stop.ExprStop.TheVariants.{Memory, Unexpected, TooDeep}
-use Rattle.htl_syntax.specs.Tokens.{◌>>=◌, blanks_skipped}
+use Rattle.htl_syntax.specs.Tokens.{blanks_skipped}
 use Rattle.htl_syntax.proofs.TokensAgain.{skip-short}
 
 -- how many bytes are left where reading stopped

@@ -1,6 +1,7 @@
 -- Each line of the grammar, read with one level more.
 use Rattle.std.proofs.Common.{◌≡◌, ℕ, zero, suc, ◌≤◌, ◌<◌, Bool, true, false, ◌||◌, eqb, List, [], ◌∷◌, ◌++◌, drop, length, Option, Some, None, Ok, Err, refl, ap, arith, rules}
 use Rattle.std.proofs.lemmas.List.{length-append}
+use Rattle.sp_base.specs.Outcomes.{◌>>=◌}
 use Rattle.sp_base.specs.Bytes.{begins_with_byte, is_digit}
 use Rattle.htl_syntax.specs.declared.stop.ExprStop.{ExprStop}
 use Rattle.htl_syntax.specs.declared.stop.ExprStop.TheVariants.{Memory, Unexpected, TooDeep}
@@ -10,7 +11,7 @@ use Rattle.htl_syntax.specs.declared.expression.Expression.{Expression}
 use Rattle.htl_syntax.specs.declared.tokens.NameKind.TheVariants.{Name, Field}
 use Rattle.htl_syntax.specs.declared.reader.Nested.{Nested}
 use Rattle.htl_syntax.specs.declared.reader.Nested.TheVariants.{Choice, Operand, Items}
-use Rattle.htl_syntax.specs.Tokens.{Outcome, ◌>>=◌, blanks_skipped, begins, is_quote, expect, string}
+use Rattle.htl_syntax.specs.Tokens.{Outcome, blanks_skipped, begins, is_quote, expect, string}
 use Rattle.htl_syntax.specs.Read as spec
 use Rattle.htl_syntax.proofs.TokensAgain.{skip-short}
 use Rattle.htl_syntax.proofs.Local.{IsAt, Local}

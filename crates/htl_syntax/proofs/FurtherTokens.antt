@@ -1,5 +1,6 @@
 -- Tokens and options nest nothing, so one level more changes nothing of them.
 use Rattle.std.proofs.Common.{ℕ, ◌≤◌, ◌+◌, ◌*◌, ◌-◌, Bool, true, false, cond, ◌&&◌, eqb, List, [], ◌∷◌, ◌++◌, drop, length, slice_index, Option, Some, None, is_none, Result, Ok, codes, arith}
+use Rattle.sp_base.specs.Outcomes.{◌>>=◌}
 use Rattle.sp_base.specs.Bytes.{begins_with_byte, is_digit}
 use Rattle.sp_base.proofs.ListLemmas.{drop_short}
 use Rattle.htl_syntax.specs.declared.stop.ExprStop.{ExprStop}
@@ -7,7 +8,7 @@ use Rattle.htl_syntax.specs.declared.node.Comparison.{Comparison}
 use Rattle.htl_syntax.specs.declared.node.Comparison.TheVariants.{Equal, NotEqual, Below, Above, AtMost, AtLeast}
 use Rattle.htl_syntax.specs.declared.expression.Context.TheVariants.{Text, Unsafe}
 use Rattle.htl_syntax.specs.declared.tokens.NameKind.{NameKind}
-use Rattle.htl_syntax.specs.Tokens.{Outcome, ◌>>=◌, blanks_skipped, begins, is_first, is_quote, name_len, read_name, expect, second, literal, unescape, string_after_escape, read_with_prefix, string_from, string, expression_digit_fits, expression_digits_from, limit, digits, signed_number}
+use Rattle.htl_syntax.specs.Tokens.{Outcome, blanks_skipped, begins, is_first, is_quote, name_len, read_name, expect, second, literal, unescape, string_after_escape, read_with_prefix, string_from, string, expression_digit_fits, expression_digits_from, limit, digits, signed_number}
 use Rattle.htl_syntax.specs.Read as spec
 use Rattle.htl_syntax.proofs.TokensAgain.{skip-short}
 use Rattle.htl_syntax.proofs.Further.{Goes, goes_bind, goes_if, goes_ok, goes_refuse, goes_more, remainder, bytes, skip_drop-short}

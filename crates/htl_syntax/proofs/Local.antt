@@ -1,11 +1,12 @@
 -- What was read, or why nothing was, depends on no byte after the next one, but for a letter after a colon.
 use Rattle.std.proofs.Common.{◌≡◌, ℕ, Bool, true, false, cond, ◌||◌, ◌&&◌, eqb, List, [], ◌∷◌, ◌++◌, drop, length, Result, Ok, Err, refl, ap, sym, subst, ◌∙◌, ◌⊎◌, inl, inr, append_assoc}
+use Rattle.sp_base.specs.Outcomes.{◌>>=◌}
 use Rattle.sp_base.specs.Bytes.{begins_with_byte}
 use Rattle.sp_base.proofs.BoolLemmas.{cond_either}
 use Rattle.htl_syntax.specs.declared.stop.ExprStop.{ExprStop}
 use Rattle.htl_syntax.specs.declared.stop.ExprStop.TheVariants.{Memory, Unexpected, TooDeep}
 use Rattle.htl_syntax.specs.declared.tokens.NameKind.TheVariants.{Field}
-use Rattle.htl_syntax.specs.Tokens.{Outcome, ◌>>=◌, begins, goes_on, is_letter, is_word_byte}
+use Rattle.htl_syntax.specs.Tokens.{Outcome, begins, goes_on, is_letter, is_word_byte}
 use Rattle.htl_syntax.specs.Fault.{SameHead, nests}
 use Rattle.htl_syntax.proofs.Tools.{bind_ok, ok_is}
 

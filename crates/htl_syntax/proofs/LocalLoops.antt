@@ -1,9 +1,10 @@
 -- The same of loops.
 use Rattle.std.proofs.Common.{◌≡◌, ℕ, zero, suc, ◌<◌, ◌≤◌, Bool, true, false, cond, List, [], ◌∷◌, ◌++◌, length, Ok, Err, refl, ap, sym, subst, ◌∙◌, inl, inr, arith, append_assoc}
 use Rattle.std.proofs.lemmas.List.{length-append}
+use Rattle.sp_base.specs.Outcomes.{◌>>=◌}
 use Rattle.sp_base.proofs.BoolLemmas.{cond_either}
 use Rattle.htl_syntax.specs.declared.stop.ExprStop.{ExprStop}
-use Rattle.htl_syntax.specs.Tokens.{Outcome, ◌>>=◌}
+use Rattle.htl_syntax.specs.Tokens.{Outcome}
 use Rattle.htl_syntax.proofs.Tools.{bind_ok, ok_is}
 use Rattle.htl_syntax.proofs.Local.{bind_err, Same, head_in, IsAt, moved, Kept, Failed, Local}
 

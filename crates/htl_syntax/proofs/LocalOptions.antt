@@ -1,6 +1,7 @@
 -- The same of options, and of the whole.
 use Rattle.std.proofs.Common.{◌≡◌, ℕ, suc, Bool, true, false, cond, ◌||◌, ◌&&◌, eqb, List, [], ◌∷◌, ◌++◌, drop, length, Option, Some, None, is_none, Result, Ok, Err, codes, refl, ap, sym, ◌∙◌, rules}
 use Rattle.std.proofs.lemmas.Bool.{eqb-true}
+use Rattle.sp_base.specs.Outcomes.{◌>>=◌}
 use Rattle.sp_base.specs.Bytes.{begins_with_byte}
 use Rattle.htl_syntax.specs.declared.stop.ExprStop.{ExprStop}
 use Rattle.htl_syntax.specs.declared.stop.ExprStop.TheVariants.{Unexpected}
@@ -8,7 +9,7 @@ use Rattle.htl_syntax.specs.declared.node.ExprNode.{ExprNode}
 use Rattle.htl_syntax.specs.declared.expression.Context.{Context}
 use Rattle.htl_syntax.specs.declared.expression.Context.TheVariants.{Text, Unsafe}
 use Rattle.htl_syntax.specs.declared.expression.Expression.{Expression}
-use Rattle.htl_syntax.specs.Tokens.{Outcome, ◌>>=◌, blanks_skipped, begins, expect, literal, string}
+use Rattle.htl_syntax.specs.Tokens.{Outcome, blanks_skipped, begins, expect, literal, string}
 use Rattle.htl_syntax.specs.Read as spec
 use Rattle.htl_syntax.proofs.Local.{Same, at_same, IsAt, moved, Local, local_ext, local_bind, local_pure, local_refuse, local_if, local_drop, got, refuse}
 use Rattle.htl_syntax.proofs.LocalTokens.{local_skip, local_step, local_expect, local_literal}

@@ -1,9 +1,10 @@
 -- The same of strings.
 use Rattle.std.proofs.Common.{◌≡◌, ℕ, Bool, true, false, eqb, List, [], ◌∷◌, ◌++◌, length, Option, Some, None, Ok, Err, refl, ap, sym, subst, ◌∙◌, inl, inr}
+use Rattle.sp_base.specs.Outcomes.{◌>>=◌}
 use Rattle.sp_base.proofs.BoolLemmas.{cond_either}
 use Rattle.htl_syntax.specs.declared.stop.ExprStop.{ExprStop}
 use Rattle.htl_syntax.specs.declared.stop.ExprStop.TheVariants.{Unexpected}
-use Rattle.htl_syntax.specs.Tokens.{Outcome, ◌>>=◌, done, blanks_skipped, string, string_from, unescape, is_quote}
+use Rattle.htl_syntax.specs.Tokens.{Outcome, done, blanks_skipped, string, string_from, unescape, is_quote}
 use Rattle.htl_syntax.proofs.Tools.{bind_ok, ok_is}
 use Rattle.htl_syntax.proofs.Local.{bind_err, Same, nil_same, Kept, Failed, Local, err_is}
 use Rattle.htl_syntax.proofs.LocalTokens.{blanks}

@@ -2,6 +2,7 @@
 use Rattle.std.proofs.Common.{◌≡◌, ℕ, ◌+◌, ◌*◌, ◌-◌, Bool, true, false, cond, ◌||◌, ◌&&◌, eqb, nat_le, List, [], ◌∷◌, ◌++◌, take, drop, length, Result, Ok, Err, refl, ap, sym, subst, ◌∙◌, inl, inr, append_assoc}
 use Rattle.std.proofs.lemmas.Bool.{eqb-true}
 use Rattle.std.proofs.lemmas.List.{take-append-drop, take_at, drop_at}
+use Rattle.sp_base.specs.Outcomes.{◌>>=◌}
 use Rattle.sp_base.specs.Bytes.{begins_with_byte, is_digit}
 use Rattle.sp_base.proofs.BoolLemmas.{cond_either}
 use Rattle.htl_syntax.specs.declared.stop.ExprStop.{ExprStop}
@@ -10,7 +11,7 @@ use Rattle.htl_syntax.specs.declared.tokens.NameKind.{NameKind}
 use Rattle.htl_syntax.specs.declared.tokens.NameKind.TheVariants.{Name, Field}
 use Rattle.htl_syntax.specs.declared.node.Comparison.{Comparison}
 use Rattle.htl_syntax.specs.declared.node.Comparison.TheVariants.{Equal, NotEqual, Below, Above, AtMost, AtLeast}
-use Rattle.htl_syntax.specs.Tokens.{Outcome, ◌>>=◌, blanks_skipped, is_blank, begins, expect, second, literal, goes_on, run, name_len, read_name, is_letter, is_word_byte, is_first, digits, expression_digits_from, expression_digit_fits, limit, signed_value, signed_number}
+use Rattle.htl_syntax.specs.Tokens.{Outcome, blanks_skipped, is_blank, begins, expect, second, literal, goes_on, run, name_len, read_name, is_letter, is_word_byte, is_first, digits, expression_digits_from, expression_digit_fits, limit, signed_value, signed_number}
 use Rattle.htl_syntax.specs.Read.{comparison, or_equal, between}
 use Rattle.htl_syntax.specs.Grammar.{Passes}
 use Rattle.htl_syntax.specs.Fault.{nests, SameHead}

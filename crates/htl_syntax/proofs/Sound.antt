@@ -1,6 +1,7 @@
 -- What is read is in the grammar.
 use Rattle.std.proofs.Common.{◌≡◌, ℕ, zero, suc, true, cond, ◌||◌, eqb, List, [], ◌∷◌, ◌++◌, drop, length, Option, Some, None, Ok, refl, ap, sym, subst, ◌∙◌, inl, inr, append_assoc}
 use Rattle.std.proofs.lemmas.List.{append-nil}
+use Rattle.sp_base.specs.Outcomes.{◌>>=◌}
 use Rattle.sp_base.specs.Bytes.{begins_with_byte, is_digit}
 use Rattle.sp_base.proofs.BoolLemmas.{cond_either}
 use Rattle.htl_syntax.specs.declared.node.ExprNode.{ExprNode}
@@ -8,7 +9,7 @@ use Rattle.htl_syntax.specs.declared.node.ExprNode.TheVariants as expr_node
 use Rattle.htl_syntax.specs.declared.tokens.NameKind.TheVariants.{Name, Field}
 use Rattle.htl_syntax.specs.declared.reader.Nested.{Nested}
 use Rattle.htl_syntax.specs.declared.reader.Nested.TheVariants as nested
-use Rattle.htl_syntax.specs.Tokens.{Outcome, ◌>>=◌, blanks_skipped, begins, expect, string, signed_number, read_name, is_quote}
+use Rattle.htl_syntax.specs.Tokens.{Outcome, blanks_skipped, begins, expect, string, signed_number, read_name, is_quote}
 use Rattle.htl_syntax.specs.Read as spec
 use Rattle.htl_syntax.specs.Grammar.{Byte, Separator, And, Or, Comma, Separates, GrammarPart, part_of, Choice, Either, Both, Compare, Operand, Atom, Start, Items, Reads, More, Access, Accesses}
 use Rattle.htl_syntax.specs.Grammar as g

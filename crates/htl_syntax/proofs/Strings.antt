@@ -1,9 +1,10 @@
 -- Steps of reading a string.
 use Rattle.std.proofs.Common.{◌≡◌, ◌<◌, ◌≤◌, ℕ, suc, Bool, true, false, cond, ◌||◌, eqb, List, [], ◌∷◌, ◌++◌, take, drop, length, slice_index, Option, Some, None, Ok, Err, refl, ap, sym, ◌∙◌, arith, append_assoc}
 use Rattle.std.proofs.lemmas.Bool.Decides.{nat_tests}
-use Rattle.htl_syntax.specs.Tokens.{Outcome, ◌>>=◌, is_quote, blanks_skipped, unescape, escape, escape_of, string_after_escape, plain_quoted_len, read_with_prefix, string_from, Fails, done}
+use Rattle.htl_syntax.specs.Tokens.{Outcome, is_quote, blanks_skipped, unescape, escape, escape_of, string_after_escape, plain_quoted_len, read_with_prefix, string_from, Fails, done}
 use Rattle.std.specs.Str.{IsCharBoundary}
 use Rattle.std.proofs.lemmas.List.{append-nil, length-drop}
+use Rattle.sp_base.specs.Outcomes.{◌>>=◌}
 use Rattle.sp_base.specs.Bytes.{begins_with_byte}
 use Rattle.htl_syntax.specs.declared.stop.ExprStop.{ExprStop}
 use Rattle.htl_syntax.specs.declared.stop.ExprStop.TheVariants.{Memory, Unexpected, TooDeep}

@@ -1,5 +1,6 @@
 -- Each line of the grammar in which reading stopped can be completed, at any depth.
 use Rattle.std.proofs.Common.{◌≡◌, ℕ, zero, suc, true, cond, List, [], ◌∷◌, drop, length, Ok, Err, refl, ◌⊎◌, inl, inr}
+use Rattle.sp_base.specs.Outcomes.{◌>>=◌}
 use Rattle.sp_base.specs.Bytes.{begins_with_byte}
 use Rattle.sp_base.proofs.BoolLemmas.{cond_either}
 use Rattle.htl_syntax.specs.declared.stop.ExprStop.{ExprStop}
@@ -7,7 +8,7 @@ use Rattle.htl_syntax.specs.declared.node.ExprNode.{ExprNode}
 use Rattle.htl_syntax.specs.declared.node.ExprNode.TheVariants as expr_node
 use Rattle.htl_syntax.specs.declared.reader.Nested.{Nested}
 use Rattle.htl_syntax.specs.declared.reader.Nested.TheVariants as nested
-use Rattle.htl_syntax.specs.Tokens.{Outcome, ◌>>=◌, blanks_skipped, begins, expect, goes_on}
+use Rattle.htl_syntax.specs.Tokens.{Outcome, blanks_skipped, begins, expect, goes_on}
 use Rattle.htl_syntax.specs.Read as spec
 use Rattle.htl_syntax.specs.Grammar.{Byte, And, Or, Comma, GrammarPart, Choice, Either, Both, Compare, Operand, Atom, Start, Items, Reads}
 use Rattle.htl_syntax.specs.Grammar as g

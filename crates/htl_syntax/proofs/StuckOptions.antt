@@ -1,11 +1,12 @@
 -- Options in which reading stopped can be completed.
 use Rattle.std.proofs.Common.{◌≡◌, ℕ, true, List, [], ◌∷◌, ◌++◌, drop, length, Result, Ok, Err, codes, refl, ap, sym, subst, ◌∙◌, inl, inr, append_assoc}
+use Rattle.sp_base.specs.Outcomes.{◌>>=◌}
 use Rattle.sp_base.specs.Bytes.{begins_with_byte}
 use Rattle.sp_base.proofs.BoolLemmas.{cond_either}
 use Rattle.htl_syntax.specs.declared.stop.ExprStop.{ExprStop}
 use Rattle.htl_syntax.specs.declared.expression.Context.{Context}
 use Rattle.htl_syntax.specs.declared.expression.Context.TheVariants.{Text, Unsafe}
-use Rattle.htl_syntax.specs.Tokens.{◌>>=◌, blanks_skipped, begins, is_quote, expect, literal, string}
+use Rattle.htl_syntax.specs.Tokens.{blanks_skipped, begins, is_quote, expect, literal, string}
 use Rattle.htl_syntax.specs.Read as spec
 use Rattle.htl_syntax.specs.Grammar.{Byte, Literal, ContextString, context_text, Join, InContext}
 use Rattle.htl_syntax.proofs.TokensRead.{byte_at, expect_sound}

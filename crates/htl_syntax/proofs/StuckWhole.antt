@@ -1,6 +1,7 @@
 -- A whole text in which reading stopped can be completed.
 use Rattle.std.proofs.Common.{◌≡◌, ℕ, ◌-◌, true, cond, ◌||◌, eqb, List, [], ◌∷◌, ◌++◌, take, drop, length, Option, Some, None, Ok, Err, refl, ap, sym, subst, ◌∙◌, ◌⊎◌, inl, inr, arith, append_assoc}
 use Rattle.std.proofs.lemmas.List.{length-append, take_at}
+use Rattle.sp_base.specs.Outcomes.{◌>>=◌}
 use Rattle.sp_base.specs.Bytes.{begins_with_byte}
 use Rattle.sp_base.proofs.BoolLemmas.{cond_either}
 use Rattle.htl_syntax.specs.declared.stop.ExprStop.{ExprStop}
@@ -8,7 +9,7 @@ use Rattle.htl_syntax.specs.declared.stop.ExprStop.TheVariants.{Unexpected}
 use Rattle.htl_syntax.specs.declared.node.ExprNode.{ExprNode}
 use Rattle.htl_syntax.specs.declared.expression.Context.{Context}
 use Rattle.htl_syntax.specs.declared.expression.Expression.{Expression}
-use Rattle.htl_syntax.specs.Tokens.{◌>>=◌, blanks_skipped, goes_on}
+use Rattle.htl_syntax.specs.Tokens.{blanks_skipped, goes_on}
 use Rattle.htl_syntax.specs.Read as spec
 use Rattle.htl_syntax.specs.Grammar.{Byte, Join, InContext, Options, TreeOrNothing, WholeWithin, Choice}
 use Rattle.htl_syntax.specs.Grammar as g

@@ -1,7 +1,8 @@
 -- Steps that did not fail.
 use Rattle.std.proofs.Common.{◌≡◌, Result, Ok, Err, refl}
+use Rattle.sp_base.specs.Outcomes.{◌>>=◌}
 use Rattle.htl_syntax.specs.declared.stop.ExprStop.{ExprStop}
-use Rattle.htl_syntax.specs.Tokens.{◌>>=◌, done}
+use Rattle.htl_syntax.specs.Tokens.{done}
 
 -- the value of a step that did not fail
 pub bind_ok : {A B : Type 0} (r : Result A ExprStop) (f : A → Result B ExprStop) (y : B) → (r >>= f) ≡ Ok y → (x : A) × (r ≡ Ok x) × (f x ≡ Ok y)

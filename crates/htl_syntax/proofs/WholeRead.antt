@@ -1,5 +1,6 @@
 -- A whole text that is read is an expression of the grammar.
 use Rattle.std.proofs.Common.{◌≡◌, ℕ, Bool, true, cond, ◌||◌, ◌&&◌, eqb, List, [], ◌∷◌, ◌++◌, drop, length, Option, Some, None, is_none, Ok, Err, codes, refl, ap, sym, subst, ◌∙◌, inl, inr}
+use Rattle.sp_base.specs.Outcomes.{◌>>=◌}
 use Rattle.sp_base.specs.Bytes.{begins_with_byte}
 use Rattle.sp_base.proofs.BoolLemmas.{cond_either}
 use Rattle.sp_base.proofs.ListLemmas.{nil_from_test}
@@ -8,7 +9,7 @@ use Rattle.htl_syntax.specs.declared.node.ExprNode.{ExprNode}
 use Rattle.htl_syntax.specs.declared.expression.Context.{Context}
 use Rattle.htl_syntax.specs.declared.expression.Context.TheVariants.{Text, Unsafe}
 use Rattle.htl_syntax.specs.declared.expression.Expression.{Expression}
-use Rattle.htl_syntax.specs.Tokens.{◌>>=◌, blanks_skipped, begins, is_quote, expect, literal, string}
+use Rattle.htl_syntax.specs.Tokens.{blanks_skipped, begins, is_quote, expect, literal, string}
 use Rattle.htl_syntax.specs.Read as spec
 use Rattle.htl_syntax.specs.Grammar.{Byte, ContextString, context_text, Join, InContext, Options, TreeOrNothing, WholeWithin}
 use Rattle.htl_syntax.specs.Grammar as g

@@ -1,5 +1,6 @@
 -- Parts of the lines of the reading. Only private functions need this.
 use Rattle.std.specs.Prelude.{ℕ, ◌==◌, if◌then◌else◌, List, [], length, Option, Some, Result, Ok, Err}
+use Rattle.sp_base.specs.Outcomes.{◌>>=◌}
 use Rattle.htl_syntax.specs.declared.stop.ExprStop.{ExprStop}
 use Rattle.htl_syntax.specs.declared.stop.ExprStop.TheVariants.{Unexpected}
 use Rattle.htl_syntax.specs.declared.node.ExprNode.{ExprNode}
@@ -7,7 +8,7 @@ use Rattle.htl_syntax.specs.declared.node.Comparison.{Comparison}
 use Rattle.htl_syntax.specs.declared.expression.Context.{Context}
 use Rattle.htl_syntax.specs.declared.reader.Nested.{Nested}
 use Rattle.htl_syntax.specs.declared.reader.Nested.TheVariants.{Choice}
-use Rattle.htl_syntax.specs.Tokens.{Outcome, ◌>>=◌, expect}
+use Rattle.htl_syntax.specs.Tokens.{Outcome, expect}
 use Rattle.htl_syntax.specs.Read.{Given, access_of, accesses, first_access, comparison, operand, other_choice, nesting, join_option, context_option, options}
 
 -- a node, and the text after it

@@ -1,6 +1,7 @@
 -- The tokens at the beginning of a text. A token is read with the blanks after it (HTL specification 1.4, "Expression Language").
 -- `Fails`, `Gives`, `AreAscii`, `plain_quoted_len` and `next_number` are needed by private functions and proofs alone.
 use Rattle.std.specs.Prelude.{◌≡◌, ◌<◌, ℕ, ℤ, pos, neg_ℤ, suc, ◌+◌, ◌*◌, ◌-◌, Bool, true, false, ◌||◌, ◌&&◌, if◌then◌else◌, ◌==◌, nat_le, List, [], ◌∷◌, ◌++◌, length, take, drop, Option, Some, None, Result, Ok, Err, slice_index}
+use Rattle.sp_base.specs.Outcomes.{◌>>=◌}
 use Rattle.sp_base.specs.Limits.{greatest_i64, least_i64_magnitude}
 use Rattle.sp_base.specs.Bytes.{begins_with_byte, is_digit}
 use Rattle.htl_syntax.specs.declared.stop.ExprStop.{ExprStop}
@@ -11,12 +12,6 @@ use Rattle.htl_syntax.specs.declared.tokens.NameKind.TheVariants.{Name, Field}
 -- what was read and the text after it, or why nothing was
 abbrev pub Outcome : Type 0 → Type 0
 Outcome A = Result (A × List ℕ) ExprStop
-
-infixl 10 ◌>>=◌
--- a step, and the next one with what the first gave
-abbrev pub ◌>>=◌ : {A B : Type 0} → Result A ExprStop → (A → Result B ExprStop) → Result B ExprStop
-(Ok x) >>= f = f x
-(Err e) >>= f = Err e
 
 -- the reason is that of the reading, unless memory ran out
 abbrev pub Fails : {Y : Type 0} → ExprStop → Result Y ExprStop → Type 0

@@ -13,7 +13,7 @@ use Rattle.http_front.specs.declared.intake.Phase.TheVariants.{Heading, Body, Fa
 use Rattle.http_front.specs.declared.turn.Turn.{Turn}
 use Rattle.http_front.specs.declared.turn.Turn.TheVariants.{Continue, Whole}
 use Rattle.http_front.specs.Turns.{End, Waits, Breaks, longest_head, BeginsAsking, BeginsRefused, HasBody, with_request_body, AwaitsHead, HasNoHead, StopsIn, BeginsWithRequest, SpellsTurns}
-use Rattle.http_front.specs.Intakes.{TurnsFollow, Continues, EndsIfStoodFor, IntakeLeads, KeepsIfStoodFor, LeadsByTurn, RemainderSpells, Stands, TellsIfStoodFor, rest_of}
+use Rattle.http_front.specs.Intakes.{TurnsFollow, Continues, EndsIfStoodFor, IntakeLeads, KeepsIfStoodFor, LeadsByTurn, RemainderSpells, HasNothingLeft, TellsIfStoodFor, rest_of}
 use Rattle.http_front.proofs.TurnLemmas.{begins_append, never_grows, window_full}
 
 -- ---- what a stream begins with stays
@@ -80,10 +80,10 @@ leads_failed old rest fault heading stops = λ more turns end l.
     subst (λ p. Continues p (rest_of old ++ more) turns end) (sym heading)
     (subst (λ ts. SpellsTurns (rest_of old ++ more) ts end) (sym l.0) (subst (StopsIn (rest_of old ++ more)) (sym l.1) (fault_stays (rest_of old) more fault stops)))
 
-pub stands_failed : (old : Intake) (fault : InFault) → old.phase ≡ Heading → BeginsRefused (rest_of old) fault ⊎ HasNoHead (rest_of old) fault → Stands old (Breaks fault)
+pub stands_failed : (old : Intake) (fault : InFault) → old.phase ≡ Heading → BeginsRefused (rest_of old) fault ⊎ HasNoHead (rest_of old) fault → HasNothingLeft old (Breaks fault)
 stands_failed old fault heading stops = subst (λ p. Continues p (rest_of old ++ []) [] (Breaks fault)) (sym heading) (fault_stays (rest_of old) [] fault stops)
 
-pub stands_waiting : (old : Intake) → old.phase ≡ Heading → AwaitsHead (rest_of old) → length (rest_of old) < longest_head → Stands old Waits
+pub stands_waiting : (old : Intake) → old.phase ≡ Heading → AwaitsHead (rest_of old) → length (rest_of old) < longest_head → HasNothingLeft old Waits
 stands_waiting old heading awaits short =
     subst (λ p. Continues p (rest_of old ++ []) [] Waits) (sym heading)
     (subst (λ s. StopsIn s Waits) (sym (append-nil (rest_of old))) (inl (awaits, short)))
@@ -110,7 +110,7 @@ leads_body old phase rest a request body heading is fits made = λ more turns en
 
 -- ---- one call, from its steps
 
-pub ends : (i : Intake) (end : End) → Stands i end → EndsIfStoodFor i end
+pub ends : (i : Intake) (end : End) → HasNothingLeft i end → EndsIfStoodFor i end
 ends i end stands = λ stream told for.
     subst (λ s. SpellsTurns s told end) (append-nil stream) (subst (λ ts. SpellsTurns (stream ++ []) ts end) (append-nil told) (for [] [] end stands))
 
@@ -127,12 +127,12 @@ tells_after old mid new (Ok (Some turn)) leads by = tells old new turn (λ more 
 tells_after old mid new (Ok None) leads by = tt
 tells_after old mid new (Err e) leads by = tt
 
-pub ends_after : (old mid new : Intake) (r : Result (Option Turn) InFault) → IntakeLeads old mid → IfOk r (λ o. IfNone o ((new ≡ mid) × Stands mid Waits)) → IfOk r (λ o. IfNone o (EndsIfStoodFor old Waits))
+pub ends_after : (old mid new : Intake) (r : Result (Option Turn) InFault) → IntakeLeads old mid → IfOk r (λ o. IfNone o ((new ≡ mid) × HasNothingLeft mid Waits)) → IfOk r (λ o. IfNone o (EndsIfStoodFor old Waits))
 ends_after old mid new (Ok (Some turn)) leads waits = tt
 ends_after old mid new (Ok None) leads waits = ends old Waits (leads [] [] Waits waits.1)
 ends_after old mid new (Err e) leads waits = tt
 
-pub keeps_after : (old mid new : Intake) (r : Result (Option Turn) InFault) → IntakeLeads old mid → IfOk r (λ o. IfNone o ((new ≡ mid) × Stands mid Waits)) → IfOk r (λ o. IfNone o (KeepsIfStoodFor old new))
+pub keeps_after : (old mid new : Intake) (r : Result (Option Turn) InFault) → IntakeLeads old mid → IfOk r (λ o. IfNone o ((new ≡ mid) × HasNothingLeft mid Waits)) → IfOk r (λ o. IfNone o (KeepsIfStoodFor old new))
 keeps_after old mid new (Ok (Some turn)) leads waits = tt
 keeps_after old mid new (Ok None) leads waits = keeps old new (subst (IntakeLeads old) (sym waits.0) leads)
 keeps_after old mid new (Err e) leads waits = tt

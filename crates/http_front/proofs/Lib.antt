@@ -10,3 +10,4 @@ pub mod StartLemmas
 pub mod IntakeLemmas
 pub mod ValueLemmas
 pub mod SentLemmas
+pub mod AnswerLemmas

@@ -90,13 +90,13 @@ head_long h =
       length-append (print_section h.fields h.last) [],
     )
 
-print_long : (h : RequestHead) → 0 < length (print_request h)
-print_long h = omega (arith, head_long h)
+pub head_takes_bytes : (h : RequestHead) → 0 < length (print_request h)
+head_takes_bytes h = omega (arith, head_long h)
 
 pub asking : (bytes : List ℕ) (fields : List HeaderSpan) (spans : RequestSpans) (asked : AskedHead) → length bytes ≤ longest_head → HoldsSomeHead bytes fields spans → Asks (request_parts_at bytes fields spans) asked
     → (0 < spans.len) × (spans.len ≤ length bytes) × BeginsAsking bytes asked (drop spans.len bytes)
 asking bytes fields spans asked small holds asks = (
-  subst (λ n. 0 < n) (sym holds.1.len_is) (print_long holds.0),
+  subst (λ n. 0 < n) (sym holds.1.len_is) (head_takes_bytes holds.0),
   holds.1.len_fits,
   record {
     head = holds.0;

@@ -66,6 +66,10 @@ fields_of head_only close a =
 abbrev pub answer_content : Bool → Answer → List ℕ
 answer_content head_only a = if head_only || is_without_content a.status then [] else a.body
 
+-- the head of an answer: its status line, its field lines, and the empty line that ends them
+unfoldable pub answer_head : Bool → Bool → Answer → List ℕ
+answer_head head_only close a = status_line a.status ++ flat_map field_line (fields_of head_only close a) ++ crlf_bytes
+
 -- an answer as it is sent: without its body where only the head is asked for, and as the last of its connection where that closes
 unfoldable pub answer_bytes : Bool → Bool → Answer → List ℕ
 answer_bytes head_only close a = status_line a.status ++ flat_map field_line (fields_of head_only close a) ++ crlf_bytes ++ answer_content head_only a

@@ -86,8 +86,8 @@ abbrev pub LeadsByTurn : Intake → Intake → Turn → Type 0
 LeadsByTurn old new turn = (more : List ℕ) (turns : List Turn) (end : End) → RemainderSpells new more turns end → RemainderSpells old more (turn ∷ turns) end
 
 -- nothing is left
-abbrev pub Stands : Intake → End → Type 0
-Stands i end = RemainderSpells i [] [] end
+abbrev pub HasNothingLeft : Intake → End → Type 0
+HasNothingLeft i end = RemainderSpells i [] [] end
 
 -- the phase is that in which a body is read
 abbrev pub IsBody : Phase → Type 0
@@ -99,7 +99,7 @@ IsBody (Failed fault) = ⊥
 abbrev pub Advances : Intake → Intake → Advance → Type 0
 Advances old new Asked = LeadsByTurn old new Continue × (weight new < weight old)
 Advances old new Ready = IntakeLeads old new × IsBody new.phase × (weight new ≤ weight old)
-Advances old new Waiting = IntakeLeads old new × Stands old Waits
+Advances old new Waiting = IntakeLeads old new × HasNothingLeft old Waits
 
 -- what the bytes that no turn has taken begin with, and the phase: a head of `len` bytes that asks for this
 pub record IsAtHead (i : Intake) (head : AskedHead) (len : ℕ) : Type 0 where

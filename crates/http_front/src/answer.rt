@@ -22,17 +22,39 @@ pub struct Framing {
 
 /// The bytes of an answer: without its body where only the head is asked for, and with `Connection: close` where the connection
 /// closes after it. A byte of the media type that isn't printable is written as a space, one of the location is escaped.
-#[tactic(auto, unfolding(crate::specs::Answers::answer_bytes))]
 pub fn answer_bytes(alloc: Global, framing: Framing, answer: Answer) -> Mem<SentBytes>
     ensures { IfOk result (λ bytes. bytes ≡ spec.answer_bytes framing.head_only framing.close answer) }
+{
+    let head = answer_head(alloc, framing, &answer)?;
+    Ok(under_head(alloc, framing, head, answer))
+}
+
+/// The bytes of an answer's head, up to the empty line and with it. They go before its content, which they tell the length of.
+#[tactic(auto, unfolding(crate::specs::Answers::answer_head))]
+pub fn answer_head(alloc: Global, framing: Framing, answer: &Answer) -> Mem<ByteBuf>
+    ensures { IfOk result (λ head. head ≡ spec.answer_head framing.head_only framing.close answer.now) }
 {
     let Framing { head_only, close } = framing;
     let mut head = Vec::with_capacity(alloc, HEAD_ROOM)?;
     push_status_line(alloc, &mut head, answer.status)?;
-    push_fields(alloc, &mut head, head_only, close, &answer)?;
+    push_fields(alloc, &mut head, head_only, close, answer)?;
     push(&mut head, b"\r\n")?;
-    let content = content_of(alloc, head_only, answer);
-    Ok(SentBytes::of_parts(ByteBuf::from(head), content))
+    Ok(ByteBuf::from(head))
+}
+
+// The bytes of an answer whose head is written.
+#[tactic(auto, unfolding(crate::specs::Answers::answer_head, crate::specs::Answers::answer_bytes))]
+pub(crate) fn under_head(
+    alloc: Global,
+    framing: Framing,
+    head: ByteBuf,
+    answer: Answer,
+) -> SentBytes
+    requires { head ≡ spec.answer_head framing.head_only framing.close answer }
+    ensures { result ≡ spec.answer_bytes framing.head_only framing.close answer }
+{
+    let content = content_of(alloc, framing.head_only, answer);
+    SentBytes::of_parts(head, content)
 }
 
 /// The answer that needs no memory: 507, after which the connection closes (RFC 4918, section 11.5).

@@ -49,7 +49,7 @@ impl Intake {
     ghost use Rattle.http_front.specs.declared.fault.InFault.{InFault};
     ghost use Rattle.http_front.specs.declared.fault.InFault.TheVariants.{NoMemory};
     ghost use Rattle.http_front.specs.Turns.{Waits, Breaks};
-    ghost use Rattle.http_front.specs.Intakes.{StandsFor, GrowsIfStoodFor, KeepsIfStoodFor, TellsIfStoodFor, EndsIfStoodFor, weight, told_fault, rest_of, IntakeLeads, LeadsByTurn, Stands, IsBody, IsAtHead, Advances};
+    ghost use Rattle.http_front.specs.Intakes.{StandsFor, GrowsIfStoodFor, KeepsIfStoodFor, TellsIfStoodFor, EndsIfStoodFor, weight, told_fault, rest_of, IntakeLeads, LeadsByTurn, HasNothingLeft, IsBody, IsAtHead, Advances};
 
     pub fn new(alloc: Global) -> Mem<Intake>
         ensures { IfOk result (λ intake. StandsFor intake [] []) }
@@ -108,7 +108,7 @@ impl Intake {
     // Reads the next head, unless one was read already.
     fn advance(&mut self, alloc: Global) -> Result<Advance, InFault>
         ensures ok { IfOk result (Advances self.old self.new) }
-        ensures breaks { IfErr result (λ fault. fault ≢ NoMemory → Stands self.old (Breaks fault)) }
+        ensures breaks { IfErr result (λ fault. fault ≢ NoMemory → HasNothingLeft self.old (Breaks fault)) }
         ensures kept { OnErr result (IntakeLeads self.old self.new) }
         ensures latched { IfErr result (λ fault. fault ≢ NoMemory → told_fault self.new ≡ Some fault) }
         ensures again { (fault : InFault) → told_fault self.old ≡ Some fault → result ≡ Err fault }
@@ -148,7 +148,7 @@ impl Intake {
         requires { IsBody self.old.phase }
         ensures turn { IfOk result (λ o. IfSome o (LeadsByTurn self.old self.new)) }
         ensures less { IfOk result (λ o. OnSome o (weight self.new < weight self.old)) }
-        ensures waits { IfOk result (λ o. IfNone o ((self.new ≡ self.old) × Stands self.old Waits)) }
+        ensures waits { IfOk result (λ o. IfNone o ((self.new ≡ self.old) × HasNothingLeft self.old Waits)) }
         ensures err { IfErr result (λ fault. (self.new ≡ self.old) × (fault ≡ NoMemory)) }
     {
         let Phase::Body(head) = &self.phase else {

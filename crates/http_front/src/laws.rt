@@ -1,11 +1,13 @@
 //! Laws of the definitions: functions that do nothing.
-ghost use Rattle.std.specs.Prelude.{◌++◌, ℕ, List};
+ghost use Rattle.std.specs.Prelude.{◌≡◌, ◌++◌, ℕ, Bool, List};
+ghost use Rattle.http_front.specs.Answers.{answer_bytes, answer_content, answer_head};
 ghost use Rattle.http_front.specs.declared.fault.InFault.TheVariants.{BadHead};
 ghost use Rattle.http_front.specs.declared.turn.Turn.{Turn};
 ghost use Rattle.http_front.specs.FieldValues.{ValuesStayInTheirLines};
 ghost use Rattle.http_front.specs.OpenEnds.{BeginsWithTurns, EndsInSpoiltTarget, LeavesEndOpen, SpoiltTargetsEndSo, EndsAlikeOrOpenIfSpelt, MayWaitIfShort, MayBreakIfLong, AreFirstOf};
 ghost use Rattle.http_front.specs.Turns.{Breaks, End, SpellsTurns};
 ghost use Rattle.sp_base.specs.Texts.{Text};
+ghost use Rattle.sp_base.specs.declared.answer.Answer.{Answer};
 
 /// The turns of the beginning of a stream are the beginning of its turns, however the stream goes on.
 pub fn the_turns_of_a_beginning()
@@ -27,4 +29,9 @@ pub fn the_end_of_a_stream()
 /// of a location is visible.
 pub fn no_value_ends_its_line()
     ensures { ValuesStayInTheirLines }
+{}
+
+/// The bytes of an answer are its head, and its content behind it.
+pub fn an_answer_is_its_head_and_its_content()
+    ensures { (head_only close : Bool) (answer : Answer) → answer_bytes head_only close answer ≡ answer_head head_only close answer ++ answer_content head_only answer }
 {}

@@ -80,13 +80,13 @@ fn cut(target: &str) -> (&str, Option<&[u8]>)
     ensures path { result.0.now ≡ before_first is_question_mark target.now }
     ensures query { option_copied result.1 ≡ query_of target.now }
 {
-    match first_mark(target) {
+    match query_start(target) {
         Some(at) => (&target[..at], Some(&target.as_bytes()[at + 1..])),
         None => (target, None),
     }
 }
 
-fn first_mark(target: &str) -> Option<usize>
+fn query_start(target: &str) -> Option<usize>
     ensures { result ≡ position is_question_mark target.now }
 {
     target.as_bytes().iter().position(|b| *b == b'?')

@@ -1,7 +1,7 @@
 //! Why a request names no invalidation.
 ghost use Rattle.std.specs.Prelude.{◌≡◌, Some};
 ghost use Rattle.invalidation.specs.FaultTexts.{inv_fault_text};
-ghost use Rattle.invalidation.specs.declared.inv_fault.InvFault.TheVariants.{NoMemory as no_memory};
+ghost use Rattle.invalidation.specs.declared.inv_fault.InvFault.TheVariants.{NoMemory as out_of_memory};
 
 use sp_base::NoMemory;
 use std::alloc::{AllocError, AllocFailed};
@@ -33,7 +33,7 @@ impl fmt::Display for InvFault {
 }
 
 impl From<NoMemory> for InvFault {
-    ghost from_gives = { λ _ e. e ≡ no_memory };
+    ghost from_gives = { λ _ e. e ≡ out_of_memory };
 
     fn from(_fault: NoMemory) -> InvFault {
         InvFault::NoMemory
@@ -41,7 +41,7 @@ impl From<NoMemory> for InvFault {
 }
 
 impl From<AllocError> for InvFault {
-    ghost from_gives = { λ _ e. e ≡ no_memory };
+    ghost from_gives = { λ _ e. e ≡ out_of_memory };
 
     fn from(_fault: AllocError) -> InvFault {
         InvFault::NoMemory
@@ -49,7 +49,7 @@ impl From<AllocError> for InvFault {
 }
 
 impl<T: Drop> From<AllocFailed<T>> for InvFault {
-    ghost from_gives = { λ _ e. e ≡ no_memory };
+    ghost from_gives = { λ _ e. e ≡ out_of_memory };
 
     fn from(_fault: AllocFailed<T>) -> InvFault {
         InvFault::NoMemory

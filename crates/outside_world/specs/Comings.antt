@@ -4,7 +4,7 @@ use Rattle.std.specs.List.{flat_map, list_any}
 use Rattle.connection_ids.specs.Ids.{ConnectionId}
 use Rattle.outside_world.specs.declared.world.Happening.{Happening}
 use Rattle.outside_world.specs.declared.world.WorldEntry.{WorldEntry}
-use Rattle.outside_world.specs.declared.world.WorldEntry.TheVariants.{Came, Sent, Unsent, Shut}
+use Rattle.outside_world.specs.declared.world.WorldEntry.TheVariants.{Came}
 use Rattle.outside_world.specs.Worlds.{IsNewsTo, is_connected}
 
 -- After these happenings those may come: each is news after all before it, of which no connection was shut.

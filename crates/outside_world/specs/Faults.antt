@@ -7,7 +7,7 @@ use Rattle.outside_world.specs.declared.world.WorldFault.TheVariants.{Failed as 
 use Rattle.outside_world.specs.declared.world.SendFault.{SendFault}
 use Rattle.outside_world.specs.declared.world.SendFault.TheVariants.{Failed as send_failed, NoMemory as send_memory}
 use Rattle.outside_world.specs.declared.inputs.InputFault.{InputFault}
-use Rattle.outside_world.specs.declared.inputs.InputFault.TheVariants.{Failed as input_failed, TooLong, NoMemory as input_memory}
+use Rattle.outside_world.specs.declared.inputs.InputFault.TheVariants.{Failed as input_failed}
 
 -- `next` answers Failed only where its count rose, or stands at its end, and any other answer leaves the count.
 abbrev pub HasNextCause : {T : Type 0} → ℕ → ℕ → Result T WorldFault → Type 0

@@ -1,10 +1,10 @@
 -- The state of inputs in memory, and what each call does to it.
-use Rattle.std.specs.Prelude.{◌||◌, ℕ, Bool, true, false, not, is_some, List, Result, Ok, Err}
+use Rattle.std.specs.Prelude.{◌||◌, ℕ, Bool, true, false, not, is_some, List, Result, Err}
 use Rattle.sp_outside.specs.Causes.{next}
 use Rattle.sp_outside.specs.Files.{Files, file_at}
 use Rattle.sp_outside.specs.Memory.{fails_next}
 use Rattle.outside_world.specs.declared.inputs.InputFault.{InputFault}
-use Rattle.outside_world.specs.declared.inputs.InputFault.TheVariants.{Failed, TooLong, NoMemory}
+use Rattle.outside_world.specs.declared.inputs.InputFault.TheVariants.{Failed}
 
 -- Inputs in memory: their files, the numbers of the calls that fail, and how many calls were made and have failed.
 pub record InputsState : Type 0 where

@@ -3,7 +3,7 @@ ghost use Rattle.std.specs.Prelude.{◌≡◌, ◌≤◌, ℕ, List, Option, IfO
 ghost use Rattle.sp_outside.specs.Files.{Files};
 ghost use Rattle.outside_world.specs.Faults.{HasInputCause};
 ghost use Rattle.outside_world.specs.InputFiles.{IsAnswerFor, longest_input};
-ghost use Rattle.outside_world.specs.declared.inputs.InputFault.TheVariants.{NoMemory as no_memory};
+ghost use Rattle.outside_world.specs.declared.inputs.InputFault.TheVariants.{NoMemory as out_of_memory};
 
 use sp_base::{ByteBuf, NoMemory};
 use std::alloc::{AllocError, Global};
@@ -19,7 +19,7 @@ pub enum InputFault {
 }
 
 impl From<NoMemory> for InputFault {
-    ghost from_gives = { λ _ e. e ≡ no_memory };
+    ghost from_gives = { λ _ e. e ≡ out_of_memory };
 
     fn from(_fault: NoMemory) -> InputFault {
         InputFault::NoMemory
@@ -27,7 +27,7 @@ impl From<NoMemory> for InputFault {
 }
 
 impl From<AllocError> for InputFault {
-    ghost from_gives = { λ _ e. e ≡ no_memory };
+    ghost from_gives = { λ _ e. e ≡ out_of_memory };
 
     fn from(_fault: AllocError) -> InputFault {
         InputFault::NoMemory

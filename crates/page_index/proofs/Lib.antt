@@ -3,3 +3,4 @@ mod StampLemmas
 mod HeldLemmas
 mod IndexLemmas
 mod AgreementLemmas
+mod AnswerHeadLemmas

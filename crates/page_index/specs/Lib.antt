@@ -1,4 +1,5 @@
 pub mod Limits
+pub mod AnswerHeads
 pub mod Held
 pub mod Notes
 pub mod Effects

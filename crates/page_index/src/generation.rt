@@ -6,8 +6,8 @@ ghost use Rattle.page_index.specs.Held.{bytes_kept, has_room, held_note, same_ke
 ghost use Rattle.page_index.specs.Limits.{longest_kept, most_young, most_young_bytes};
 ghost use Rattle.page_index.specs.Notes.{page_from};
 
+use crate::known_page::KnownPage;
 use crate::page_note::PageNote;
-use cache_files::Page;
 use cover_rules::{Invalidation, PageKey, StatRule, covers};
 use sp_base::Mem;
 use std::alloc::Global;
@@ -81,7 +81,12 @@ impl Generation {
     }
 
     /// The page of the note at a place, where it is of the key.
-    pub(crate) fn page(&mut self, alloc: Global, place: u64, key: &PageKey) -> Mem<Option<Page>>
+    pub(crate) fn page(
+        &mut self,
+        alloc: Global,
+        place: u64,
+        key: &PageKey,
+    ) -> Mem<Option<KnownPage>>
         ensures ok { IfOk result (λ page. page ≡ option_and_then page_from (held_note self.old place key.now)) }
         ensures short { IfOk result (λ page. IfSome page (λ page. length page.answer.body ≤ longest_kept)) }
         ensures same { self.new ≡ self.old }

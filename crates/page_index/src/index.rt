@@ -8,10 +8,11 @@ ghost use Rattle.page_index.specs.Limits.{longest_kept, most_bytes, most_notes};
 ghost use Rattle.page_index.specs.Notes.{bytes_noted, head_noted, held_stamp, known_page, page_noted, pages_noted, stamp_noted, stamps_noted};
 
 use crate::generation::Generation;
+use crate::known_page::KnownPage;
 use crate::page_note::PageNote;
 use crate::place::place_of;
 use crate::stamps::Stamps;
-use cache_files::{HeadNote, Page};
+use cache_files::HeadNote;
 use cover_rules::{Invalidation, PageKey, Stamp, touched};
 use sp_base::{ByteBuf, Mem, Path};
 use std::alloc::Global;
@@ -64,14 +65,14 @@ impl PageIndex {
     }
 
     /// What is noted of the head of a key's page: the head, or that there is none.
-    pub fn head(&self, key: &PageKey) -> Option<&Option<HeadNote>>
-        ensures { option_copied result ≡ head_noted self.now key.now }
+    pub fn head(&self, key: &PageKey) -> Option<Option<&HeadNote>>
+        ensures { option_map option_copied result ≡ head_noted self.now key.now }
     {
         let place = place_of(key);
         match self.young.get(place, key) {
-            Some(note) => Some(&note.head),
+            Some(note) => Some(note.head()),
             None => match self.older.get(place, key) {
-                Some(note) => Some(&note.head),
+                Some(note) => Some(note.head()),
                 None => None,
             },
         }
@@ -84,8 +85,8 @@ impl PageIndex {
         self.stamps.get(folder)
     }
 
-    /// The page of a key, where its head and its body are noted. The body is shared and not copied.
-    pub fn page(&mut self, alloc: Global, key: &PageKey) -> Mem<Option<Page>>
+    /// The page of a key, where its head and its body are noted. The body is shared and not copied, and so is the head of its answer.
+    pub fn page(&mut self, alloc: Global, key: &PageKey) -> Mem<Option<KnownPage>>
         ensures ok { IfOk result (λ page. page ≡ known_page self.old key.now) }
         ensures same { self.new ≡ self.old }
         ensures short { IfOk result (λ page. IfSome page (λ page. length page.answer.body ≤ longest_kept)) }

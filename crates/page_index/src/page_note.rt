@@ -1,14 +1,15 @@
 //! What is noted of one page.
-ghost use Rattle.std.specs.Prelude.{◌≡◌, ◌≤◌, IfOk, IfSome, length, option_and_then};
+ghost use Rattle.std.specs.Prelude.{◌≡◌, ◌≤◌, IfOk, IfSome, length, option_and_then, option_copied};
 ghost use Rattle.page_index.specs.Held.{after_hit, body_after, fresh_note, of_key, same_key, weight_of};
 ghost use Rattle.page_index.specs.Limits.{longest_kept};
 ghost use Rattle.page_index.specs.Notes.{page_from};
-ghost use Rattle.cache_files.specs.Pages as pages;
 
 use crate::kept_body::KeptBody;
-use cache_files::{HeadNote, Page};
+use crate::known_page::KnownPage;
+use crate::noted_head::NotedHead;
+use cache_files::HeadNote;
 use cover_rules::PageKey;
-use sp_base::{Answer, ByteBuf, Mark, Mem, TextBuf};
+use sp_base::{ByteBuf, Mem};
 use std::alloc::Global;
 
 // After so many hits the body is kept at the next one.
@@ -18,7 +19,7 @@ const HITS_BEFORE_KEEPING: u8 = 2;
 #[derive(Drop)]
 pub(crate) struct PageNote {
     pub(crate) key: PageKey,
-    pub(crate) head: Option<HeadNote>,
+    pub(crate) head: Option<NotedHead>,
     pub(crate) hits: u8,
     pub(crate) body: Option<KeptBody>,
 }
@@ -30,7 +31,7 @@ impl PageNote {
     {
         PageNote {
             key,
-            head,
+            head: noted(head),
             hits: 0,
             body: None,
         }
@@ -40,6 +41,16 @@ impl PageNote {
         ensures { result ≡ same_key self.now.key key.now }
     {
         self.key.folder == key.folder && self.key.file == key.file
+    }
+
+    /// What the head says, or None where there is no head.
+    pub(crate) fn head(&self) -> Option<&HeadNote>
+        ensures { option_copied result ≡ self.now.head }
+    {
+        match &self.head {
+            Some(head) => Some(head.head()),
+            None => None,
+        }
     }
 
     /// How many bytes of the body are kept.
@@ -64,16 +75,18 @@ impl PageNote {
             hits,
             body: kept,
         } = self;
+        let mut kept = body_after(alloc, hits, kept, body)?;
+        let head = head_after(alloc, head, &mut kept)?;
         Ok(PageNote {
             key,
             head,
             hits: hits.min(HITS_BEFORE_KEEPING) + 1,
-            body: body_after(alloc, hits, kept, body)?,
+            body: kept,
         })
     }
 
     /// The page, where the note is of the key.
-    pub(crate) fn page_of(&mut self, alloc: Global, key: &PageKey) -> Mem<Option<Page>>
+    pub(crate) fn page_of(&mut self, alloc: Global, key: &PageKey) -> Mem<Option<KnownPage>>
         ensures ok { IfOk result (λ page. page ≡ option_and_then page_from (of_key key.now self.old)) }
         ensures short { IfOk result (λ page. IfSome page (λ page. length page.answer.body ≤ longest_kept)) }
         ensures same { self.new ≡ self.old }
@@ -86,20 +99,48 @@ impl PageNote {
     }
 
     // The page, where its head and its body are noted.
-    fn page(&mut self, alloc: Global) -> Mem<Option<Page>>
+    fn page(&mut self, alloc: Global) -> Mem<Option<KnownPage>>
         ensures ok { IfOk result (λ page. page ≡ page_from self.old) }
         ensures short { IfOk result (λ page. IfSome page (λ page. length page.answer.body ≤ longest_kept)) }
         ensures same { self.new ≡ self.old }
     {
-        let Some(head) = &self.head else {
+        let Some(head) = &mut self.head else {
             return Ok(None);
         };
         let Some(body) = &mut self.body else {
             return Ok(None);
         };
         let shared = body.share(alloc)?;
-        page_under(alloc, head, shared)
+        head.page_under(alloc, shared)
     }
+}
+
+// A head that was just noted.
+fn noted(head: Option<HeadNote>) -> Option<NotedHead>
+    ensures { result ≡ head }
+{
+    match head {
+        Some(head) => Some(NotedHead::of(head)),
+        None => None,
+    }
+}
+
+// The head after one more hit: where the body is kept, so are the bytes with which the answer begins.
+fn head_after(
+    alloc: Global,
+    head: Option<NotedHead>,
+    kept: &mut Option<KeptBody>,
+) -> Mem<Option<NotedHead>>
+    ensures ok { IfOk result (λ after. after ≡ head) }
+    ensures same { kept.new ≡ kept.old }
+{
+    let Some(body) = kept else {
+        return Ok(head);
+    };
+    let Some(head) = head else {
+        return Ok(None);
+    };
+    Ok(Some(head.prepared(alloc, body.share(alloc)?)?))
 }
 
 // The body that is kept after one more hit.
@@ -119,24 +160,4 @@ fn body_after(
         return Ok(None);
     }
     KeptBody::of(alloc, body)
-}
-
-// The page that a head and a body make.
-fn page_under(alloc: Global, head: &HeadNote, body: ByteBuf) -> Mem<Option<Page>>
-    ensures page { IfOk result (λ page. page ≡ pages.page_under head.now body) }
-    ensures body { IfOk result (λ page. IfSome page (λ page. page.answer.body ≡ body)) }
-{
-    if body.bytes().len() as u64 != head.length {
-        return Ok(None);
-    }
-    Ok(Some(Page {
-        stamp: head.stamp,
-        answer: Answer {
-            status: 200,
-            kind: head.kind.duplicate(alloc)?,
-            location: TextBuf::of(alloc, "")?,
-            mark: Mark::Plain,
-            body,
-        },
-    }))
 }

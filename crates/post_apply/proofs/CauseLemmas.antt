@@ -1,6 +1,7 @@
 -- No step of a POST is refused as out of memory.
 use Rattle.std.proofs.Common.{◌≡◌, refl, ℕ, List, [], ◌∷◌, ◌++◌, Option, Some, None, length, Bool, true, false, cond}
 use Rattle.std.specs.Prelude.{◌==◌, ◌+◌, ◌||◌, ◌&&◌, IfErr, IfSome, Result, Ok, Err, is_none, is_some, nat_le, nat_lt, not}
+use Rattle.sp_base.specs.Outcomes.{◌>>=◌}
 use Rattle.sp_base.specs.Paths.{is_under, path_or_none}
 use Rattle.sp_base.specs.declared.value.Value.{Value}
 use Rattle.sp_base.specs.declared.hint.ValueFault.{ValueFault}
@@ -20,7 +21,7 @@ use Rattle.post_plan.specs.declared.operation.Op.TheVariants.{Nop, Delete, Copy,
 use Rattle.post_apply.specs.declared.fault.ApplyFault.{ApplyFault}
 use Rattle.post_apply.specs.declared.fault.ApplyFault.TheVariants.{Tree}
 use Rattle.post_apply.specs.Laws.{is_tree_out_of_memory, is_post_out_of_memory}
-use Rattle.post_apply.specs.Steps.{ApplyOutcome, ◌>>=◌, in_turn, creation_outcome, or_too_deep, path_of_spot, changed_unless_fault, with_node, with_nodes_below, with_way}
+use Rattle.post_apply.specs.Steps.{ApplyOutcome, in_turn, creation_outcome, or_too_deep, path_of_spot, changed_unless_fault, with_node, with_nodes_below, with_way}
 use Rattle.post_apply.specs.Removals.{delete_at, deletion_outcome, removal_outcome, without_property}
 use Rattle.post_apply.specs.Values.{named_outcome, put_at, put_on_way, set_at, hinted_value}
 use Rattle.post_apply.specs.Carries.{bring, bring_node, bring_value, carry_outcome, carry_at, carry_fault, carry_node, ends_at_root, outcome_without_goal, content_left, property_at, replacement_outcome, unless}

@@ -10,6 +10,7 @@ use Rattle.std.proofs.lemmas.Bool.Decides.{nat_tests}
 use Rattle.std.proofs.lemmas.List.{take-append-drop}
 use Rattle.std.proofs.lemmas.List.Folds.{list_all_at}
 use Rattle.std.proofs.lemmas.List.Kept.{IsStrictlySortedBy-filter}
+use Rattle.sp_base.specs.Outcomes.{◌>>=◌}
 use Rattle.sp_base.specs.Paths.{is_path, is_under, path_or_none, seg_ok}
 use Rattle.sp_base.specs.declared.value.Value.{Value}
 use Rattle.sp_base.proofs.OrderingLemmas.{by_path_total}
@@ -42,7 +43,7 @@ use Rattle.post_plan.specs.declared.operation.Op.TheVariants.{Nop, Delete, Copy,
 use Rattle.post_plan.specs.OperationPaths.{carry_has_paths, names_paths, set_has_path, spot_has_path}
 use Rattle.post_apply.specs.declared.fault.ApplyFault.{ApplyFault}
 use Rattle.post_apply.specs.declared.fault.ApplyFault.TheVariants.{Tree}
-use Rattle.post_apply.specs.Steps.{ApplyOutcome, ◌>>=◌, in_turn, creation_outcome, or_too_deep, path_of_spot, changed_unless_fault, with_node, with_nodes_below, with_way}
+use Rattle.post_apply.specs.Steps.{ApplyOutcome, in_turn, creation_outcome, or_too_deep, path_of_spot, changed_unless_fault, with_node, with_nodes_below, with_way}
 use Rattle.post_apply.specs.Removals.{delete_at, deletion_outcome, removal_outcome, without_property}
 use Rattle.post_apply.specs.Values.{named_outcome, put_at, put_on_way, set_at, hinted_value}
 use Rattle.post_apply.specs.Carries.{bring, bring_node, bring_value, carry_outcome, carry_at, carry_fault, carry_node, outcome_without_goal, content_left, property_at, replacement_outcome, unless}
@@ -74,11 +75,11 @@ okay x = Ok x
 abbrev refused : {A : Type 0} → ApplyFault → ApplyOutcome A
 refused e = Err e
 
-followed : {A B : Type 0} (P : A → Type 0) (Q : B → Type 0) (o : ApplyOutcome A) (f : A → ApplyOutcome B) → IfOk o P → ((x : A) → P x → IfOk (f x) Q) → IfOk (o >>= f) Q
+pub followed : {A B : Type 0} (P : A → Type 0) (Q : B → Type 0) (o : ApplyOutcome A) (f : A → ApplyOutcome B) → IfOk o P → ((x : A) → P x → IfOk (f x) Q) → IfOk (o >>= f) Q
 followed P Q (Ok x) f was next = next x was
 followed P Q (Err e) f was next = tt
 
-by_test : {A : Type 0} (P : A → Type 0) (b : Bool) (one other : ApplyOutcome A) → (b ≡ true → IfOk one P) → (b ≡ false → IfOk other P) → IfOk (cond b one other) P
+pub by_test : {A : Type 0} (P : A → Type 0) (b : Bool) (one other : ApplyOutcome A) → (b ≡ true → IfOk one P) → (b ≡ false → IfOk other P) → IfOk (cond b one other) P
 by_test P true one other this that = this refl
 by_test P false one other this that = that refl
 

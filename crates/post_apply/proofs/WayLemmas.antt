@@ -3,9 +3,10 @@ use Rattle.std.proofs.Common.{◌≡◌, ◌∙◌, ◌<◌, ◌≤◌, ◌+◌,
 use Rattle.std.specs.Prelude.{Ok, Err}
 use Rattle.std.proofs.Math.Seq.{drop-cons, take-suc}
 use Rattle.std.proofs.Math.ListN.{drop_of_length-le}
+use Rattle.sp_base.specs.Outcomes.{◌>>=◌}
 use Rattle.resource_tree.specs.Content.{Content, kid}
 use Rattle.post_apply.specs.declared.fault.ApplyFault.{ApplyFault}
-use Rattle.post_apply.specs.Steps.{ApplyOutcome, ◌>>=◌, with_node, with_nodes_below}
+use Rattle.post_apply.specs.Steps.{ApplyOutcome, with_node, with_nodes_below}
 
 next_path : (n : ℕ) (path : List (List ℕ)) → n < length path → kid (take n path) (get_or path n []) ≡ take (n + 1) path
 next_path n path within = let one : suc n ≡ n + 1 = omega arith in sym (take-suc path n [] within) ∙ ap (λ m. take m path) one

@@ -1,6 +1,7 @@
 -- Nodes and properties that a POST copies or moves (Apache Sling, "SlingPostServlet", `@CopyFrom`, `@MoveFrom`, `:operation=copy` and
 -- `:operation=move`).
 use Rattle.std.specs.Prelude.{◌==◌, ◌&&◌, ◌||◌, Bool, true, false, not, Option, Some, None, Ok, Err, is_none, is_some, length, option_and_then, if◌then◌else◌}
+use Rattle.sp_base.specs.Outcomes.{◌>>=◌}
 use Rattle.sp_base.specs.Texts.{Segments}
 use Rattle.sp_base.specs.Paths.{is_under}
 use Rattle.sp_base.specs.declared.value.Value.{Value}
@@ -10,7 +11,7 @@ use Rattle.resource_tree.specs.Moves.{copy, copy_fault, move_fault, relocation}
 use Rattle.post_plan.specs.declared.spot.Carry.{Carry}
 use Rattle.post_apply.specs.declared.fault.ApplyFault.{ApplyFault}
 use Rattle.post_apply.specs.declared.fault.ApplyFault.TheVariants.{Tree, DestThere}
-use Rattle.post_apply.specs.Steps.{ApplyOutcome, ◌>>=◌, path_of_spot, changed_unless_fault, with_way}
+use Rattle.post_apply.specs.Steps.{ApplyOutcome, path_of_spot, changed_unless_fault, with_way}
 use Rattle.post_apply.specs.Removals.{removal_outcome, without_property}
 use Rattle.post_apply.specs.Values.{put_at}
 

@@ -2,7 +2,7 @@
 use Rattle.resource_tree.specs.declared.faults.TreeFault.{TreeFault}
 use Rattle.resource_tree.specs.declared.faults.TreeFault.TheVariants.{NoSuch, RootFixed, IntoItself, Exists, Taken, NoSibling, TooDeep, FullTree, NoMemory}
 use Rattle.post_apply.specs.declared.fault.ApplyFault.{ApplyFault}
-use Rattle.post_apply.specs.declared.fault.ApplyFault.TheVariants.{Tree, NoMemory as no_memory}
+use Rattle.post_apply.specs.declared.fault.ApplyFault.TheVariants.{Tree, NoMemory as out_of_memory}
 
 -- the tree's fault, where memory didn't run out
 abbrev pub apply_fault : TreeFault → ApplyFault
@@ -14,4 +14,4 @@ apply_fault (Taken path) = Tree (Taken path)
 apply_fault NoSibling = Tree NoSibling
 apply_fault TooDeep = Tree TooDeep
 apply_fault FullTree = Tree FullTree
-apply_fault NoMemory = no_memory
+apply_fault NoMemory = out_of_memory

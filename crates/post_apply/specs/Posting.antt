@@ -1,5 +1,6 @@
 -- What a POST makes of the content, and what it answers (Apache Sling, "SlingPostServlet").
 use Rattle.std.specs.Prelude.{Bool, true, false, Option, Some, None, Ok, Err, is_none}
+use Rattle.sp_base.specs.Outcomes.{◌>>=◌}
 use Rattle.sp_base.specs.Texts.{Segments}
 use Rattle.sp_base.specs.Paths.{path_or_none}
 use Rattle.resource_tree.specs.declared.places.Place.{Place}
@@ -11,7 +12,7 @@ use Rattle.post_plan.specs.declared.operation.NameWish.{NameWish}
 use Rattle.post_plan.specs.declared.operation.Op.{Op}
 use Rattle.post_plan.specs.declared.operation.Op.TheVariants.{Nop, Delete, Copy, Move, Modify}
 use Rattle.post_apply.specs.declared.report.PostReport.{PostReport}
-use Rattle.post_apply.specs.Steps.{ApplyOutcome, ◌>>=◌, in_turn, or_too_deep, changed_unless_fault, with_way}
+use Rattle.post_apply.specs.Steps.{ApplyOutcome, in_turn, or_too_deep, changed_unless_fault, with_way}
 use Rattle.post_apply.specs.Removals.{delete_at, removal_outcome}
 use Rattle.post_apply.specs.Values.{set_at}
 use Rattle.post_apply.specs.Carries.{carry_at, carry_node}

@@ -1,10 +1,11 @@
 -- Nodes and properties that a POST takes away (Apache Sling, "SlingPostServlet", `@Delete` and `:operation=delete`).
 use Rattle.std.specs.Prelude.{Ok, is_some, if◌then◌else◌}
+use Rattle.sp_base.specs.Outcomes.{◌>>=◌}
 use Rattle.sp_base.specs.Texts.{Segments}
 use Rattle.resource_tree.specs.Content.{Content, name_of, node_at, parent_of}
 use Rattle.resource_tree.specs.Changes.{clearing, fixed_fault, has_prop_at, removal}
 use Rattle.post_plan.specs.declared.spot.Spot.{Spot}
-use Rattle.post_apply.specs.Steps.{ApplyOutcome, ◌>>=◌, path_of_spot, changed_unless_fault}
+use Rattle.post_apply.specs.Steps.{ApplyOutcome, path_of_spot, changed_unless_fault}
 
 -- the node at a path, taken away with all below it
 abbrev pub removal_outcome : Content → Segments → ApplyOutcome Content

@@ -1,5 +1,6 @@
 -- Steps of a POST: changes of the content that may be refused, one after another.
 use Rattle.std.specs.Prelude.{◌++◌, ◌∷◌, [], List, Option, Some, None, Result, Ok, Err, is_some, if◌then◌else◌}
+use Rattle.sp_base.specs.Outcomes.{◌>>=◌}
 use Rattle.sp_base.specs.Texts.{Segments}
 use Rattle.sp_base.specs.Paths.{path_or_none}
 use Rattle.resource_tree.specs.declared.faults.TreeFault.{TreeFault}
@@ -13,12 +14,6 @@ use Rattle.post_apply.specs.declared.fault.ApplyFault.TheVariants.{Tree}
 -- what a step gives, or why it is refused
 abbrev pub ApplyOutcome : Type 0 → Type 0
 ApplyOutcome A = Result A ApplyFault
-
-infixl 10 ◌>>=◌
--- a step, and the next one with what the first gave
-abbrev pub ◌>>=◌ : {A B : Type 0} → ApplyOutcome A → (A → ApplyOutcome B) → ApplyOutcome B
-(Ok x) >>= f = f x
-(Err e) >>= f = Err e
 
 -- a step for each in turn, until one is refused
 unfoldable pub in_turn : {X : Type 0} → (Content → X → ApplyOutcome Content) → List X → Content → ApplyOutcome Content

@@ -1,5 +1,6 @@
 -- Properties that a POST sets (Apache Sling, "SlingPostServlet", `@TypeHint`).
 use Rattle.std.specs.Prelude.{◌==◌, ◌∷◌, [], ℕ, List, Option, Some, None, Result, Ok, Err, length, if◌then◌else◌}
+use Rattle.sp_base.specs.Outcomes.{◌>>=◌}
 use Rattle.sp_base.specs.Texts.{Segments}
 use Rattle.sp_base.specs.Texts as texts
 use Rattle.sp_base.specs.declared.hint.Hint.{Hint}
@@ -12,7 +13,7 @@ use Rattle.resource_tree.specs.Content.{Content, name_of, parent_of}
 use Rattle.resource_tree.specs.Changes.{set_fault, update}
 use Rattle.post_plan.specs.declared.operation.PropSet.{PropSet}
 use Rattle.post_apply.specs.declared.fault.ApplyFault.TheVariants.{Tree, Value as ValueOf}
-use Rattle.post_apply.specs.Steps.{ApplyOutcome, ◌>>=◌, path_of_spot, changed_unless_fault, with_way}
+use Rattle.post_apply.specs.Steps.{ApplyOutcome, path_of_spot, changed_unless_fault, with_way}
 
 -- without a hint one word is a text, and more are a list of texts
 abbrev pub untyped_value : List texts.Text → Value

@@ -1,7 +1,7 @@
 //! Why an operation is refused.
 ghost use Rattle.std.specs.Prelude.{◌≡◌, Some};
 ghost use Rattle.post_apply.specs.FaultTexts.{apply_fault_text};
-ghost use Rattle.post_apply.specs.declared.fault.ApplyFault.TheVariants.{NoMemory as no_memory};
+ghost use Rattle.post_apply.specs.declared.fault.ApplyFault.TheVariants.{NoMemory as out_of_memory};
 
 use resource_tree::TreeFault;
 use sp_base::{NoMemory, Path, TextBuf, ValueFault};
@@ -35,7 +35,7 @@ impl fmt::Display for ApplyFault {
 }
 
 impl From<NoMemory> for ApplyFault {
-    ghost from_gives = { λ _ e. e ≡ no_memory };
+    ghost from_gives = { λ _ e. e ≡ out_of_memory };
 
     fn from(_fault: NoMemory) -> ApplyFault {
         ApplyFault::NoMemory
@@ -43,7 +43,7 @@ impl From<NoMemory> for ApplyFault {
 }
 
 impl From<AllocError> for ApplyFault {
-    ghost from_gives = { λ _ e. e ≡ no_memory };
+    ghost from_gives = { λ _ e. e ≡ out_of_memory };
 
     fn from(_fault: AllocError) -> ApplyFault {
         ApplyFault::NoMemory
@@ -51,7 +51,7 @@ impl From<AllocError> for ApplyFault {
 }
 
 impl<T: Drop> From<AllocFailed<T>> for ApplyFault {
-    ghost from_gives = { λ _ e. e ≡ no_memory };
+    ghost from_gives = { λ _ e. e ≡ out_of_memory };
 
     fn from(_fault: AllocFailed<T>) -> ApplyFault {
         ApplyFault::NoMemory

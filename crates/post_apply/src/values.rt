@@ -11,7 +11,7 @@ use crate::steps::set;
 use crate::way::make_way;
 use post_plan::{LentWords, PropSet};
 use resource_tree::TreeFault;
-use sp_base::{Hint, HintKind, Mem, Path, TextBuf, Value, ValueFault};
+use sp_base::{Hint, HintedType, Mem, Path, TextBuf, Value, ValueFault};
 use std::alloc::Global;
 use tree_draft::Draft;
 
@@ -30,16 +30,16 @@ fn hinted(alloc: Global, hint: Hint, words: &LentWords) -> Result<Value, ValueFa
     ensures err { IfErr result (λ e. e ≢ ValueFault.NoMemory → typed_of hint words.now ≡ Err e) }
 {
     match (hint.kind, hint.many) {
-        (HintKind::Text, true) => Ok(Value::Texts(words.copied(alloc)?)),
-        (HintKind::Text, false) => one_text(alloc, words),
+        (HintedType::Text, true) => Ok(Value::Texts(words.copied(alloc)?)),
+        (HintedType::Text, false) => one_text(alloc, words),
         _ => Value::typed(alloc, hint, &words.copied(alloc)?),
     }
 }
 
 // The value of one word.
 fn one_text(alloc: Global, words: &LentWords) -> Result<Value, ValueFault>
-    ensures ok { IfOk result (λ v. single_of HintKind.Text words.now ≡ Ok v) }
-    ensures err { IfErr result (λ e. e ≢ ValueFault.NoMemory → single_of HintKind.Text words.now ≡ Err e) }
+    ensures ok { IfOk result (λ v. single_of HintedType.Text words.now ≡ Ok v) }
+    ensures err { IfErr result (λ e. e ≢ ValueFault.NoMemory → single_of HintedType.Text words.now ≡ Err e) }
 {
     match words.lone() {
         Some(word) => Ok(Value::Text(TextBuf::of(alloc, word)?)),

@@ -5,6 +5,7 @@ use Rattle.std.specs.List.{AllByRecursion}
 use Rattle.std.specs.BTreeMap.{insert_entry}
 use Rattle.std.proofs.lemmas.Bool.{true≢false}
 use Rattle.std.proofs.lemmas.List.{take-append-drop}
+use Rattle.sp_base.specs.Outcomes.{◌>>=◌}
 use Rattle.sp_base.specs.Paths.{is_under}
 use Rattle.sp_base.specs.declared.value.Value.{Value}
 use Rattle.resource_tree.specs.declared.nodes.Node.{Node}
@@ -21,13 +22,14 @@ use Rattle.resource_tree.proofs.Relocated.{some_under}
 use Rattle.resource_tree.proofs.Under.{under_self}
 use Rattle.resource_tree.proofs.Removal.{node_at-removal}
 use Rattle.post_apply.specs.declared.fault.ApplyFault.TheVariants.{Tree}
-use Rattle.post_apply.specs.Steps.{ApplyOutcome, ◌>>=◌, in_turn, creation_outcome, changed_unless_fault, with_node, with_nodes_below, with_way}
+use Rattle.post_apply.specs.Steps.{ApplyOutcome, in_turn, creation_outcome, changed_unless_fault, with_node, with_nodes_below, with_way}
 use Rattle.post_apply.specs.Removals.{deletion_outcome, removal_outcome, without_property}
 use Rattle.post_apply.specs.Values.{put_at, put_on_way}
 use Rattle.post_apply.specs.Carries.{bring, bring_node, bring_value, carry_outcome, carry_fault, carry_node, outcome_without_goal, content_left, property_at, replacement_outcome, unless}
 use Rattle.post_apply.specs.Posting.{content_placed}
+use Rattle.post_apply.proofs.GoodLemmas.{by_test, followed}
 use Rattle.post_laws.specs.Places.{IsApart}
-use Rattle.post_laws.proofs.StepLemmas.{beside_part, by_test, followed, kid_outside, okay, other_change, refused, unless_begun, unless_holds}
+use Rattle.post_laws.proofs.StepLemmas.{beside_part, kid_outside, okay, other_change, refused, unless_begun, unless_holds}
 
 module _ (tree : Content) (q : List (List ℕ)) where
   -- the path is as before, and those of its kids that were there are there

@@ -2,6 +2,7 @@
 use Rattle.std.proofs.Common.{◌≡◌, ap, sym, refl, subst, ℕ, List, [], ◌∷◌, ◌++◌, map, Option, Some, None, true, false}
 use Rattle.std.specs.Prelude.{IfOk}
 use Rattle.std.proofs.lemmas.Bool.{false≢true}
+use Rattle.sp_base.specs.Outcomes.{◌>>=◌}
 use Rattle.sp_base.specs.Paths.{path_or_none}
 use Rattle.sp_base.specs.declared.value.Value.{Value}
 use Rattle.resource_tree.specs.Content.{Content, IsGood, kid, name_of}
@@ -14,15 +15,16 @@ use Rattle.post_plan.specs.declared.operation.PropSet.{PropSet}
 use Rattle.post_plan.specs.declared.operation.Op.{Op}
 use Rattle.post_plan.specs.declared.operation.Op.TheVariants.{Nop, Delete, Copy, Move, Modify}
 use Rattle.post_plan.specs.Spots.{full_path}
-use Rattle.post_apply.specs.Steps.{ApplyOutcome, ◌>>=◌, in_turn, or_too_deep, path_of_spot, with_way}
+use Rattle.post_apply.specs.Steps.{ApplyOutcome, in_turn, or_too_deep, path_of_spot, with_way}
 use Rattle.post_apply.specs.Removals.{delete_at, deletion_outcome, removal_outcome}
 use Rattle.post_apply.specs.Values.{named_outcome, put_on_way, set_at, hinted_value}
 use Rattle.post_apply.specs.Carries.{bring, carry_at, carry_node}
 use Rattle.post_apply.specs.Names.{name_given}
 use Rattle.post_apply.specs.Posting.{PostEffect, PostedNode, carry, modify_outcome, modify, modify_at, post_outcome, remove, posted_node, posted_node_of}
+use Rattle.post_apply.proofs.GoodLemmas.{followed}
 use Rattle.post_laws.specs.Laws.{IsAsBefore, LeavesWhatIsApart}
 use Rattle.post_laws.specs.Places.{IsApart, IsApartFrom, goal_path, places_named, set_path, source_path}
-use Rattle.post_laws.proofs.StepLemmas.{all_both, all_of_map, all_split, any_is, deep_is, followed, for_each, full_spot, okay, weaker, when}
+use Rattle.post_laws.proofs.StepLemmas.{all_both, all_of_map, all_split, any_is, deep_is, for_each, full_spot, okay, weaker, when}
 use Rattle.post_laws.proofs.ApartLemmas.{Keeps, Stays, chained, kept_bring, kept_carry_node, kept_deleted, kept_on_way, kept_placed, kept_removed, kept_way, turns}
 
 module _ (tree : Content) (q : List (List ℕ)) (good : IsGood tree) where

@@ -4,6 +4,7 @@ use Rattle.std.specs.Prelude.{◌==◌, IfOk, is_some, option_and_then, option_m
 use Rattle.std.specs.List.{AllByRecursion}
 use Rattle.std.specs.BTreeMap.{insert_entry}
 use Rattle.std.proofs.lemmas.Bool.{false≢true, false_from_ne_true}
+use Rattle.sp_base.specs.Outcomes.{◌>>=◌}
 use Rattle.sp_base.specs.Paths.{is_under, path_or_none, seg_ok}
 use Rattle.sp_base.specs.declared.value.Value.{Value}
 use Rattle.sp_base.proofs.OptionLemmas.{none_from_test}
@@ -27,16 +28,17 @@ use Rattle.post_plan.specs.declared.operation.PropSet.{PropSet}
 use Rattle.post_plan.specs.declared.operation.Op.TheVariants.{Modify}
 use Rattle.post_plan.specs.Spots.{full_path}
 use Rattle.post_apply.specs.declared.fault.ApplyFault.TheVariants.{Tree}
-use Rattle.post_apply.specs.Steps.{ApplyOutcome, ◌>>=◌, in_turn, creation_outcome, changed_unless_fault, or_too_deep, path_of_spot, with_node, with_nodes_below, with_way}
+use Rattle.post_apply.specs.Steps.{ApplyOutcome, in_turn, creation_outcome, changed_unless_fault, or_too_deep, path_of_spot, with_node, with_nodes_below, with_way}
 use Rattle.post_apply.specs.Removals.{delete_at, deletion_outcome, removal_outcome, without_property}
 use Rattle.post_apply.specs.Values.{named_outcome, put_at, put_on_way, set_at, hinted_value}
 use Rattle.post_apply.specs.Carries.{bring, bring_node, bring_value, carry_at, carry_outcome, carry_fault, content_left, outcome_without_goal, property_at, replacement_outcome, unless}
 use Rattle.post_apply.specs.Names.{name_given}
 use Rattle.post_apply.specs.Posting.{PostEffect, PostedNode, content_placed, modify_at, modify_outcome, post_outcome, posted_node, posted_node_of}
+use Rattle.post_apply.proofs.GoodLemmas.{by_test, followed}
 use Rattle.post_laws.specs.Places.{goal_path, set_path}
 use Rattle.post_laws.specs.Laws.{IsGoneUnlessNamed}
 use Rattle.post_laws.specs.Decided.{IsBeside, HasNothingAt, IsNamedNoMore}
-use Rattle.post_laws.proofs.StepLemmas.{all_of_map, all_split, any_is, beside_part, by_test, followed, for_each, full_spot, okay, refused, unless_begun, unless_holds, when}
+use Rattle.post_laws.proofs.StepLemmas.{all_of_map, all_split, any_is, beside_part, for_each, full_spot, okay, refused, unless_begun, unless_holds, when}
 use Rattle.post_laws.proofs.PropertyLemmas.{first_clear, lost, none_there, not_root, not_self, not_the_root, nothing_free, parent_clear, prop_changed, prop_cleared, prop_cleared_own, prop_created, prop_put, prop_removed}
 
 module _ (path : List (List ℕ)) where

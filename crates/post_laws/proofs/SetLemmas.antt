@@ -5,6 +5,7 @@ use Rattle.std.specs.Cmp.{eq_by_cmp_equiv}
 use Rattle.std.specs.Cmp.Lexicographic.{nat_list_cmp_total}
 use Rattle.std.specs.Ordering.{eq_by_cmp}
 use Rattle.std.proofs.lemmas.Bool.{true≢false, false≢true}
+use Rattle.sp_base.specs.Outcomes.{◌>>=◌}
 use Rattle.sp_base.specs.Names.{by_name}
 use Rattle.sp_base.specs.declared.hint.ValueFault.{ValueFault}
 use Rattle.sp_base.specs.declared.value.Value.{Value}
@@ -21,15 +22,16 @@ use Rattle.post_plan.specs.declared.operation.ModifyOp.{ModifyOp}
 use Rattle.post_plan.specs.declared.operation.PropSet.{PropSet}
 use Rattle.post_plan.specs.declared.operation.Op.TheVariants.{Modify}
 use Rattle.post_apply.specs.declared.fault.ApplyFault.TheVariants.{Tree}
-use Rattle.post_apply.specs.Steps.{ApplyOutcome, ◌>>=◌, in_turn, creation_outcome, path_of_spot, changed_unless_fault, with_node, with_nodes_below, with_way}
+use Rattle.post_apply.specs.Steps.{ApplyOutcome, in_turn, creation_outcome, path_of_spot, changed_unless_fault, with_node, with_nodes_below, with_way}
 use Rattle.post_apply.specs.Removals.{delete_at}
 use Rattle.post_apply.specs.Values.{named_outcome, put_at, put_on_way, set_at, hinted_value}
 use Rattle.post_apply.specs.Carries.{carry_at, property_at}
 use Rattle.post_apply.specs.Posting.{PostEffect, PostedNode, content_placed, modify_at, modify_outcome, post_outcome, posted_node_of}
+use Rattle.post_apply.proofs.GoodLemmas.{by_test, followed}
 use Rattle.post_laws.specs.Places.{set_path}
 use Rattle.post_laws.specs.Laws.{HasItsValueUnlessSetLater}
 use Rattle.post_laws.specs.Decided.{HasItsValue, is_set_at}
-use Rattle.post_laws.proofs.StepLemmas.{any_is, by_test, followed, full_spot, okay, refused, unless_holds, weaker, when}
+use Rattle.post_laws.proofs.StepLemmas.{any_is, full_spot, okay, refused, unless_holds, weaker, when}
 use Rattle.post_laws.proofs.PropertyLemmas.{not_root, nothing_free, prop_changed, prop_inserted, prop_put}
 
 module _ (path : List (List ℕ)) (value : Value) where

@@ -19,7 +19,7 @@ use Rattle.post_plan.specs.declared.spot.Spot.{Spot}
 use Rattle.post_plan.specs.Spots.{full_path}
 use Rattle.post_apply.specs.declared.fault.ApplyFault.{ApplyFault}
 use Rattle.post_apply.specs.Carries.{unless}
-use Rattle.post_apply.specs.Steps.{ApplyOutcome, ◌>>=◌, changed_unless_fault, or_too_deep, path_of_spot}
+use Rattle.post_apply.specs.Steps.{ApplyOutcome, changed_unless_fault, or_too_deep, path_of_spot}
 
 -- ---- outcomes
 
@@ -28,14 +28,6 @@ okay x = Ok x
 
 abbrev pub refused : {A : Type 0} → ApplyFault → ApplyOutcome A
 refused e = Err e
-
-pub followed : {A B : Type 0} (P : A → Type 0) (Q : B → Type 0) (o : ApplyOutcome A) (f : A → ApplyOutcome B) → IfOk o P → ((x : A) → P x → IfOk (f x) Q) → IfOk (o >>= f) Q
-followed P Q (Ok x) f was next = next x was
-followed P Q (Err e) f was next = tt
-
-pub by_test : {A : Type 0} (P : A → Type 0) (b : Bool) (one other : ApplyOutcome A) → (b ≡ true → IfOk one P) → (b ≡ false → IfOk other P) → IfOk (cond b one other) P
-by_test P true one other this that = this refl
-by_test P false one other this that = that refl
 
 pub any_is : {A : Type 0} (o : ApplyOutcome A) → IfOk o (λ (x : A). x ≡ x)
 any_is (Ok x) = refl

@@ -4,7 +4,7 @@ pub mod AtLemmas
 pub mod PieceLemmas
 pub mod NodeLemmas
 pub mod SetLemmas
-pub mod SpotPlaceLemmas
+pub mod NumberedSpotLemmas
 pub mod NumberLemmas
 pub mod RelativeLemmas
 pub mod SlashLemmas

@@ -3,8 +3,8 @@ use Rattle.std.specs.Prelude.{◌||◌, ◌-◌, ℕ, Bool, true, false, nat_eq,
 use Rattle.std.specs.List.{ends_with, find}
 use Rattle.std.specs.Str.{bytes_eq}
 use Rattle.sp_base.specs.declared.hint.Hint.{Hint}
-use Rattle.sp_base.specs.declared.hint.HintKind.{HintKind}
-use Rattle.sp_base.specs.declared.hint.HintKind.TheVariants.{Text, Long, Truth}
+use Rattle.sp_base.specs.declared.hint.HintedType.{HintedType}
+use Rattle.sp_base.specs.declared.hint.HintedType.TheVariants.{Text, Long, Truth}
 use Rattle.sp_base.specs.Texts.{Pairs}
 use Rattle.post_plan.specs.declared.suffix.Suffix.{Suffix}
 use Rattle.post_plan.specs.declared.suffix.Suffix.TheVariants.{TypeHint}
@@ -17,19 +17,19 @@ abbrev pub is_text_word : List ℕ → Bool
 is_text_word word = bytes_eq word (codes "String") || (bytes_eq word (codes "Date") || (bytes_eq word (codes "Name") || (bytes_eq word (codes "Path") || bytes_eq word (codes "URI"))))
 
 -- the kind of value that a word names
-abbrev pub hint_kind : List ℕ → Option HintKind
-hint_kind word = if is_text_word word then Some Text
+abbrev pub hinted_type : List ℕ → Option HintedType
+hinted_type word = if is_text_word word then Some Text
     else (if bytes_eq word (codes "Long") then Some Long
     else (if bytes_eq word (codes "Boolean") then Some Truth else None))
 
 -- the hint of a kind, for one value or for many
-abbrev pub hint_by : Bool → Option HintKind → Option Hint
+abbrev pub hint_by : Bool → Option HintedType → Option Hint
 hint_by many None = None
 hint_by many (Some kind) = Some (record { kind = kind; many = many })
 
 -- the hint that a word names; `[]` at its end asks for many values
 abbrev pub hint_of : List ℕ → Option Hint
-hint_of word = if ends_with nat_eq word (codes "[]") then hint_by true (hint_kind (take (length word - 2) word)) else hint_by false (hint_kind word)
+hint_of word = if ends_with nat_eq word (codes "[]") then hint_by true (hinted_type (take (length word - 2) word)) else hint_by false (hinted_type word)
 
 -- whether the suffix is unknown, or is `@TypeHint` and its word names no hint
 abbrev pub is_bad_word : Option Suffix → List ℕ → Bool

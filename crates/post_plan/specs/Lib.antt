@@ -5,7 +5,7 @@ pub mod Spots
 pub mod NewNames
 pub mod MadeNames
 pub mod Entries
-pub mod SpotPlaces
+pub mod NumberedSpots
 pub mod Plan
 pub mod OperationPaths
 pub mod FaultTexts

@@ -1,7 +1,7 @@
 //! Why parameters ask for no operation.
 ghost use Rattle.std.specs.Prelude.{◌≡◌, Some};
 ghost use Rattle.post_plan.specs.FaultTexts.{plan_fault_text};
-ghost use Rattle.post_plan.specs.declared.fault.PlanFault.TheVariants.{NoMemory as no_memory};
+ghost use Rattle.post_plan.specs.declared.fault.PlanFault.TheVariants.{NoMemory as out_of_memory};
 
 use sp_base::{NoMemory, TextBuf};
 use std::alloc::{AllocError, AllocFailed};
@@ -38,7 +38,7 @@ impl fmt::Display for PlanFault {
 }
 
 impl From<NoMemory> for PlanFault {
-    ghost from_gives = { λ _ e. e ≡ no_memory };
+    ghost from_gives = { λ _ e. e ≡ out_of_memory };
 
     fn from(_fault: NoMemory) -> PlanFault {
         PlanFault::NoMemory
@@ -46,7 +46,7 @@ impl From<NoMemory> for PlanFault {
 }
 
 impl From<AllocError> for PlanFault {
-    ghost from_gives = { λ _ e. e ≡ no_memory };
+    ghost from_gives = { λ _ e. e ≡ out_of_memory };
 
     fn from(_fault: AllocError) -> PlanFault {
         PlanFault::NoMemory
@@ -54,7 +54,7 @@ impl From<AllocError> for PlanFault {
 }
 
 impl<T: Drop> From<AllocFailed<T>> for PlanFault {
-    ghost from_gives = { λ _ e. e ≡ no_memory };
+    ghost from_gives = { λ _ e. e ≡ out_of_memory };
 
     fn from(_fault: AllocFailed<T>) -> PlanFault {
         PlanFault::NoMemory

@@ -2,7 +2,7 @@
 ghost use Rattle.std.specs.Prelude.{◌≡◌};
 ghost use Rattle.post_plan.specs.Hints as spec;
 
-use sp_base::{Hint, HintKind};
+use sp_base::{Hint, HintedType};
 
 fn is_text_word(word: &[u8]) -> bool
     ensures { result ≡ spec.is_text_word word.now }
@@ -13,21 +13,21 @@ fn is_text_word(word: &[u8]) -> bool
                 || (word == b"Path".as_slice() || word == b"URI".as_slice())))
 }
 
-fn kind_of(word: &[u8]) -> Option<HintKind>
-    ensures { result ≡ spec.hint_kind word.now }
+fn kind_of(word: &[u8]) -> Option<HintedType>
+    ensures { result ≡ spec.hinted_type word.now }
 {
     if is_text_word(word) {
-        Some(HintKind::Text)
+        Some(HintedType::Text)
     } else if word == b"Long".as_slice() {
-        Some(HintKind::Long)
+        Some(HintedType::Long)
     } else if word == b"Boolean".as_slice() {
-        Some(HintKind::Truth)
+        Some(HintedType::Truth)
     } else {
         None
     }
 }
 
-fn hint_by(many: bool, kind: Option<HintKind>) -> Option<Hint>
+fn hint_by(many: bool, kind: Option<HintedType>) -> Option<Hint>
     ensures { result ≡ spec.hint_by many kind }
 {
     match kind {

@@ -6,13 +6,13 @@ ghost use Rattle.std.specs.Str.{bytes_eq};
 ghost use Rattle.sp_base.specs.Bytes.{first_text};
 ghost use Rattle.post_plan.specs.Entries as spec;
 ghost use Rattle.post_plan.specs.Entries.{Entry as ContentEntry};
-ghost use Rattle.post_plan.specs.SpotPlaces.{first_places};
+ghost use Rattle.post_plan.specs.NumberedSpots.{first_places};
 ghost use Rattle.post_plan.specs.Parameters.{words_of};
 
 use crate::entries::Entry;
 use crate::groups::{copy_of, same_suffix};
 use crate::hints::hint_of;
-use crate::spot_places::{LentEntries, first_places, is_later, numbered};
+use crate::numbered_spots::{LentEntries, first_places, is_later, numbered};
 use crate::suffix::Suffix;
 use crate::words::words_of;
 use crate::{LentWords, PropSet, SetList, Spot};

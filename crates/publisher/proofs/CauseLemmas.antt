@@ -1,6 +1,7 @@
 -- By definition no POST is refused because memory ran out.
 use Rattle.std.proofs.Common.{◌≡◌, refl, ℕ, List, [], ◌∷◌, Option, Some, None, length, Bool, true, false, cond, subst}
 use Rattle.std.specs.Prelude.{◌==◌, ◌&&◌, IfErr, IfSome, Result, Ok, Err, codes, is_none, option_map}
+use Rattle.sp_base.specs.Outcomes.{◌>>=◌}
 use Rattle.sp_base.specs.declared.answer.Ask.{Ask}
 use Rattle.resource_tree.specs.Content.{Content}
 use Rattle.resource_tree.specs.declared.faults.TreeFault.{TreeFault}
@@ -24,7 +25,7 @@ use Rattle.publisher.specs.declared.refusal.Refusal.{Refusal}
 use Rattle.publisher.specs.declared.refusal.Refusal.TheVariants.{Status, NoMemory}
 use Rattle.publisher.specs.declared.targets.PostTarget.{PostTarget}
 use Rattle.publisher.specs.Refusals.{of_form, of_operation, of_plan, tree_refusal}
-use Rattle.publisher.specs.Posting.{PostOutcome, ◌>>=◌, or_bad_request, or_refused, posting, post_target}
+use Rattle.publisher.specs.Posting.{PostOutcome, or_bad_request, or_refused, posting, post_target}
 use Rattle.publisher.specs.PostLaws.{PostsAreRefusedForCauses}
 
 -- ---- refusals for other causes than memory

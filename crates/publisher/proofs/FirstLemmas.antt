@@ -14,10 +14,10 @@ use Rattle.sp_base.proofs.ListLemmas.{any_next}
 use Rattle.sp_base.proofs.OptionLemmas.{none_from_test}
 use Rattle.resource_tree.specs.Content.{Content, IsGood, name_of, node_at, same_path}
 use Rattle.resource_tree.specs.Patches.{PatchEntries, entry_at, left_by, patching_at}
-use Rattle.resource_tree.specs.declared.nodes.Node.{Node}
 use Rattle.resource_tree.specs.declared.patch.PatchNode.{PatchNode}
 use Rattle.resource_tree.specs.declared.patch.PatchNode.TheVariants as patch_node
 use Rattle.resource_tree.proofs.PathLemmas.{path_from_same}
+use Rattle.url_maps.proofs.ParentLemmas.{left_of}
 use Rattle.url_split.specs.declared.decompose.Parts.{Parts}
 use Rattle.type_chain.specs.Types.{places, type_of}
 use Rattle.type_chain.specs.Chain.{chain_of, first_of, line, line_from, most_types, own_super, super_at, super_of, super_text, super_type, type_text, until_repeat, with_default}
@@ -201,17 +201,13 @@ none_changed change path before none =
     let parts = and_parts (length change.added == 0) (length change.gone == 0) none in
     (λ i. none_listed change.added path parts.0 i || (before && not (none_listed change.gone path parts.1 i))) ∙ as_before before
 
-left_alike : (row : PatchNode) (old : Option Node) → left_by (Some row) old ≡ left_by (Some row) None
-left_alike (patch_node.Node node) old = refl
-left_alike patch_node.Gone old = refl
-
 by_entry : (tree : Content) (path : Segments) (entry : Segments × PatchNode) (rest : Option PatchNode) (b : Bool) → same_path path entry.0 ≡ b → names_super tree entry ≡ false
     → super_in (left_by rest (node_at tree path)) ≡ super_in (node_at tree path) → super_in (left_by (cond b (Some entry.1) rest) (node_at tree path)) ≡ super_in (node_at tree path)
 by_entry tree path entry rest false same names is = is
 by_entry tree path entry rest true same names is =
     let parts = or_parts (is_some (super_in (node_at tree entry.0))) (is_some (super_in (left_by (Some entry.1) None))) names in
     let before : super_in (node_at tree path) ≡ None = ap (λ p. super_in (node_at tree p)) (path_from_same path entry.0 same) ∙ none_from_test (super_in (node_at tree entry.0)) parts.0 in
-    ap super_in (left_alike entry.1 (node_at tree path)) ∙ none_from_test (super_in (left_by (Some entry.1) None)) parts.1 ∙ sym before
+    ap super_in (left_of entry.1 (node_at tree path)) ∙ none_from_test (super_in (left_by (Some entry.1) None)) parts.1 ∙ sym before
 
 keeps : (tree : Content) (path : Segments) (entries : PatchEntries) → list_any (names_super tree) entries ≡ false → super_in (left_by (entry_at entries path) (node_at tree path)) ≡ super_in (node_at tree path)
 keeps tree path [] none = refl

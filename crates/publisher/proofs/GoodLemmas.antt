@@ -4,6 +4,7 @@ use Rattle.std.specs.Prelude.{IfOk, IfSome, Result, Ok, Err, option_map}
 use Rattle.std.specs.Option.{option_or}
 use Rattle.std.specs.Result.{result_ok}
 use Rattle.std.proofs.lemmas.List.{take-append-drop}
+use Rattle.sp_base.specs.Outcomes.{◌>>=◌}
 use Rattle.sp_base.specs.Paths.{is_path, parent_of, path_in, path_of}
 use Rattle.sp_base.specs.declared.path.PathFault.{PathFault}
 use Rattle.sp_base.specs.declared.answer.Ask.{Ask}
@@ -25,7 +26,7 @@ use Rattle.post_apply.specs.declared.fault.ApplyFault.{ApplyFault}
 use Rattle.publisher.specs.declared.refusal.Refusal.{Refusal}
 use Rattle.publisher.specs.declared.targets.PostTarget.{PostTarget}
 use Rattle.publisher.specs.Refusals.{of_form, of_operation, of_plan}
-use Rattle.publisher.specs.Posting.{PostOutcome, ◌>>=◌, ends_in_star, named_path, or_bad_request, or_refused, posting, posting_content, star_target, target_at, post_target}
+use Rattle.publisher.specs.Posting.{PostOutcome, ends_in_star, named_path, or_bad_request, or_refused, posting, posting_content, star_target, target_at, post_target}
 use Rattle.publisher.specs.Rendering.{content_after_request, is_post, mapping, posted_content}
 use Rattle.publisher.specs.PostLaws.{RequestsKeepContentGood}
 

@@ -53,15 +53,6 @@ unfolding parts_page
 text_is put [] = refl
 text_is put (c ∷ t) = ap (joined (text_page (c ∷ []))) (text_is put t)
 
--- the text of a text's parts
-pub text_back : (t : Text) → text_of_parts (text_parts t) ≡ t
-text_back [] = refl
-text_back (c ∷ t) = ap (λ (s : Text). c ∷ s) (text_back t)
-
-pub no_inclusion : (t : Text) → inclusions (text_parts t) ≡ 0
-no_inclusion [] = refl
-no_inclusion (c ∷ t) = sum_by-append (λ (p : Part). cond (is_inclusion p) 1 0) (Byte c ∷ []) (text_parts t) ∙ ap (λ (n : ℕ). 0 + n) (no_inclusion t)
-
 -- one part that puts something in
 pub script_is : (put : Part → Page) (name : Text) (vars : List (Text × Text)) → parts_page put (Script name vars ∷ []) ≡ joined one_inclusion (put (Script name vars))
 unfolding parts_page

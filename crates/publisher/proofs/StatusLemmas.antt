@@ -1,6 +1,7 @@
 -- No status is above 500.
 use Rattle.std.proofs.Common.{◌≡◌, ◌≢◌, ◌<◌, ◌≤◌, ℕ, Bool, true, false, cond, List, Option, Some, None, Result, Ok, Err, IfOk, length, nat_le, refl, sym, ◌∙◌, ap, subst, arith}
 use Rattle.std.specs.Prelude.{if◌then◌else◌}
+use Rattle.sp_base.specs.Outcomes.{◌>>=◌}
 use Rattle.sp_base.specs.Paths.{text_of}
 use Rattle.sp_base.specs.Texts.{Segments}
 use Rattle.sp_base.specs.declared.answer.Answer.{Answer}
@@ -47,7 +48,7 @@ use Rattle.publisher.specs.declared.refusal.Refusal.TheVariants.{Status, NoMemor
 use Rattle.publisher.specs.declared.targets.PostTarget.{PostTarget}
 use Rattle.publisher.proofs.RenderingLemmas.{error_fits, fits_as}
 use Rattle.publisher.specs.Refusals.{of_form, of_operation, of_plan, tree_refusal}
-use Rattle.publisher.specs.Posting.{PostOutcome, ◌>>=◌, or_bad_request, or_refused, posting, posting_answer, refusal_answer, post_target}
+use Rattle.publisher.specs.Posting.{PostOutcome, or_bad_request, or_refused, posting, posting_answer, refusal_answer, post_target}
 
 abbrev pub Short : Answer → Type 0
 Short a = a.status ≤ 500

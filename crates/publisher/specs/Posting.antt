@@ -2,6 +2,7 @@
 use Rattle.std.specs.Prelude.{◌++◌, ℕ, Bool, true, nat_eq, if◌then◌else◌, List, [], ◌∷◌, Option, Some, None, option_map, Result, Ok, Err, codes, decimal}
 use Rattle.std.specs.List.{ends_with}
 use Rattle.std.specs.Option.{option_or}
+use Rattle.sp_base.specs.Outcomes.{◌>>=◌}
 use Rattle.sp_base.specs.Texts.{Segments}
 use Rattle.sp_base.specs.Paths.{parent_of, path_in, text_of}
 use Rattle.sp_base.specs.declared.answer.Answer.{Answer}
@@ -25,12 +26,6 @@ use Rattle.publisher.specs.Refusals.{of_form, of_plan, of_operation}
 -- what a step of a POST gives, or why the POST is refused
 abbrev pub PostOutcome : Type 0 → Type 0
 PostOutcome A = Result A Refusal
-
-infixl 10 ◌>>=◌
--- a step, and the next one with what the first gave
-abbrev pub ◌>>=◌ : {A B : Type 0} → PostOutcome A → (A → PostOutcome B) → PostOutcome B
-(Ok x) >>= f = f x
-(Err e) >>= f = Err e
 
 -- what a crate below gives, its fault as a refusal
 abbrev pub or_refused : {A E : Type 0} → (E → Refusal) → Result A E → PostOutcome A

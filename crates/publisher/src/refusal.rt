@@ -1,7 +1,7 @@
 //! Why a POST changes nothing.
 ghost use Rattle.std.specs.Prelude.{◌≡◌};
 ghost use Rattle.publisher.specs.Refusals.{tree_refusal};
-ghost use Rattle.publisher.specs.declared.refusal.Refusal.TheVariants.{NoMemory as no_memory};
+ghost use Rattle.publisher.specs.declared.refusal.Refusal.TheVariants.{NoMemory as out_of_memory};
 
 use form_input::FormFault;
 use post_apply::ApplyFault;
@@ -19,7 +19,7 @@ pub(crate) enum Refusal {
 }
 
 impl From<NoMemory> for Refusal {
-    ghost from_gives = { λ _ e. e ≡ no_memory };
+    ghost from_gives = { λ _ e. e ≡ out_of_memory };
 
     fn from(_fault: NoMemory) -> Refusal {
         Refusal::NoMemory

@@ -1,7 +1,7 @@
 //! Why a text is no pattern.
 ghost use Rattle.std.specs.Prelude.{◌≡◌, Some};
 ghost use Rattle.regex_rules.specs.FaultTexts.{pattern_fault_text};
-ghost use Rattle.regex_rules.specs.declared.fault.PatternFault.TheVariants.{NoMemory as no_memory};
+ghost use Rattle.regex_rules.specs.declared.fault.PatternFault.TheVariants.{NoMemory as out_of_memory};
 
 use sp_base::NoMemory;
 use std::alloc::{AllocError, AllocFailed};
@@ -31,7 +31,7 @@ impl fmt::Display for PatternFault {
 }
 
 impl From<NoMemory> for PatternFault {
-    ghost from_gives = { λ _ e. e ≡ no_memory };
+    ghost from_gives = { λ _ e. e ≡ out_of_memory };
 
     fn from(_fault: NoMemory) -> PatternFault {
         PatternFault::NoMemory
@@ -39,7 +39,7 @@ impl From<NoMemory> for PatternFault {
 }
 
 impl From<AllocError> for PatternFault {
-    ghost from_gives = { λ _ e. e ≡ no_memory };
+    ghost from_gives = { λ _ e. e ≡ out_of_memory };
 
     fn from(_fault: AllocError) -> PatternFault {
         PatternFault::NoMemory
@@ -47,7 +47,7 @@ impl From<AllocError> for PatternFault {
 }
 
 impl<T: Drop> From<AllocFailed<T>> for PatternFault {
-    ghost from_gives = { λ _ e. e ≡ no_memory };
+    ghost from_gives = { λ _ e. e ≡ out_of_memory };
 
     fn from(_fault: AllocFailed<T>) -> PatternFault {
         PatternFault::NoMemory

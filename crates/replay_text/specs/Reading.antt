@@ -31,8 +31,8 @@ pub record SpellsActs (text bytes : List ℕ) : Type 0 where
 
 -- the fault names the line at which the text is refused
 abbrev pub Refuses : (List ℕ → Type 0) → List ℕ → ScenarioFault → Type 0
-Refuses Text bytes (Line n) = IsRefusedAt Text bytes n × (n ≤ length bytes)
-Refuses Text bytes NoMemory = Unit {0}
+Refuses Language bytes (Line n) = IsRefusedAt Language bytes n × (n ≤ length bytes)
+Refuses Language bytes NoMemory = Unit {0}
 
 -- a block, and after its dot a text of the language
 pub record BlockThen (Rest : List ℕ → Type 0) (text : List ℕ) : Type 0 where

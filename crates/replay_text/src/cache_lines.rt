@@ -11,6 +11,7 @@ use crate::event_line::EventLine;
 use crate::event_reader::{after_word, connection_after, first_word, number_from_one};
 use crate::lines::same;
 use crate::targets::target;
+use connections::ConnectionId;
 use cover_rules::Action;
 use sp_base::{Mem, TextBuf};
 use sp_outside::Way;
@@ -90,7 +91,7 @@ pub fn flush_line(alloc: Global, line: &[u8]) -> Mem<Option<EventLine>>
     let Some((action, handle, only)) = flushed(alloc, rest)? else {
         return Ok(None);
     };
-    Ok(Some(EventLine::Flush(c, action, handle, only)))
+    Ok(Some(EventLine::Flush(ConnectionId::new(c), action, handle, only)))
 }
 
 fn way_of(word: &[u8]) -> Option<Way>

@@ -38,7 +38,7 @@ fn target_after(alloc: Global, line: &[u8], word: &[u8]) -> Mem<Option<(Connecti
     let Some(target) = target(alloc, rest)? else {
         return Ok(None);
     };
-    Ok(Some((c, target)))
+    Ok(Some((ConnectionId::new(c), target)))
 }
 
 fn close_line(alloc: Global, line: &[u8]) -> Mem<Option<EventLine>>
@@ -73,7 +73,7 @@ fn bytes_line(alloc: Global, line: &[u8]) -> Mem<Option<EventLine>>
     if is_empty(&bytes) {
         return Ok(None);
     }
-    Ok(Some(EventLine::Bytes(c, bytes)))
+    Ok(Some(EventLine::Bytes(ConnectionId::new(c), bytes)))
 }
 
 // A target, and the body that is quoted after it.
@@ -103,7 +103,7 @@ fn post_line(alloc: Global, line: &[u8]) -> Mem<Option<EventLine>>
     let Some((target, body)) = target_and_body(alloc, rest)? else {
         return Ok(None);
     };
-    Ok(Some(EventLine::Post(c, target, body)))
+    Ok(Some(EventLine::Post(ConnectionId::new(c), target, body)))
 }
 
 // What a line about a connection asks for.

@@ -107,12 +107,12 @@ pub fn flight_after(alloc: Global, line: &[u8], word: &[u8]) -> Mem<Option<Fligh
     }
 }
 
-// A connection after a word that is the line's beginning, and the text after a blank.
+// The number of a connection after a word that is the line's beginning, and the text after a blank.
 pub fn connection_after<'a>(
     alloc: Global,
     line: &'a [u8],
     word: &[u8],
-) -> Mem<Option<(ConnectionId, &'a [u8])>>
+) -> Mem<Option<(u32, &'a [u8])>>
     ensures some { IfOk result (λ o. IfSome o (λ p. IsConnectionNumber p.0 × (line.now ≡ connection_text word.now p.0 p.1.now))) }
     ensures none { IfOk result (λ o. IfNone o ((c : ℕ) (rest : List ℕ) → IsConnectionNumber c → line.now ≢ connection_text word.now c rest)) }
 {
@@ -125,5 +125,5 @@ pub fn connection_after<'a>(
     let Some(c) = connection(alloc, number)? else {
         return Ok(None);
     };
-    Ok(Some((c, rest)))
+    Ok(Some((c.number(), rest)))
 }

@@ -1,7 +1,7 @@
 //! Scenarios, and why bytes are none.
 ghost use Rattle.std.specs.Prelude.{◌≡◌, Some};
 ghost use Rattle.replay_text.specs.FaultTexts.{scenario_fault_text};
-ghost use Rattle.replay_text.specs.declared.scenario.ScenarioFault.TheVariants.{NoMemory as no_memory};
+ghost use Rattle.replay_text.specs.declared.scenario.ScenarioFault.TheVariants.{NoMemory as out_of_memory};
 
 use sp_base::{ByteBuf, NoMemory};
 use std::alloc::AllocError;
@@ -38,7 +38,7 @@ impl fmt::Display for ScenarioFault {
 }
 
 impl From<AllocError> for ScenarioFault {
-    ghost from_gives = { λ _ e. e ≡ no_memory };
+    ghost from_gives = { λ _ e. e ≡ out_of_memory };
 
     fn from(_fault: AllocError) -> ScenarioFault {
         ScenarioFault::NoMemory
@@ -46,7 +46,7 @@ impl From<AllocError> for ScenarioFault {
 }
 
 impl From<NoMemory> for ScenarioFault {
-    ghost from_gives = { λ _ e. e ≡ no_memory };
+    ghost from_gives = { λ _ e. e ≡ out_of_memory };
 
     fn from(_fault: NoMemory) -> ScenarioFault {
         ScenarioFault::NoMemory

@@ -2,7 +2,8 @@
 use Rattle.std.proofs.Common.{◌≡◌, inl, inr, ℕ, cond, List, [], ◌∷◌, ◌++◌, length, Option, Some, Ok, Err, codes, refl, ap, sym, ◌∙◌, arith}
 use Rattle.std.specs.Prelude.{◌==◌}
 use Rattle.std.specs.List.{AllZip}
-use Rattle.any_config.specs.Farms.{◌>>=◌, FarmOutcome, member_value, name_or, group_in, group_of, member_word_in, member_word, or_missing, needed_group, group_or_none, optional_group, number_or_zero, decimal, member_number, or_bad, glob, glob_or_none, glob_at, test_in, test_of, test_or_none, test_at, rule_type, allow, rule, filter, each_after, each, entry, host, served_host, asked_in, publisher_address, only_in, only_farm, members_in, needed_rules, optional_rules, filters, deepest_level, with_cache, farm_of}
+use Rattle.sp_base.specs.Outcomes.{◌>>=◌}
+use Rattle.any_config.specs.Farms.{FarmOutcome, member_value, name_or, group_in, group_of, member_word_in, member_word, or_missing, needed_group, group_or_none, optional_group, number_or_zero, decimal, member_number, or_bad, glob, glob_or_none, glob_at, test_in, test_of, test_or_none, test_at, rule_type, allow, rule, filter, each_after, each, entry, host, served_host, asked_in, publisher_address, only_in, only_farm, members_in, needed_rules, optional_rules, filters, deepest_level, with_cache, farm_of}
 use Rattle.any_config.specs.Read.{Members}
 use Rattle.any_config.specs.declared.farm.Farm.{Farm}
 use Rattle.any_config.specs.declared.farm.Filter.{Filter}

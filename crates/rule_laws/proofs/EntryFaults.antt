@@ -1,12 +1,13 @@
 -- Entries and hosts that are at fault.
 use Rattle.std.proofs.Common.{◌≡◌, ◌≢◌, ◌⊎◌, inl, inr, ℕ, Bool, true, false, cond, List, [], ◌∷◌, Option, Some, None, Ok, Err, codes, refl, ap, sym, ◌∙◌}
+use Rattle.sp_base.specs.Outcomes.{◌>>=◌}
 use Rattle.glob_rules.specs.Reading.{glob_of}
 use Rattle.glob_rules.specs.declared.fault.GlobFault.{GlobFault}
 use Rattle.glob_rules.specs.declared.piece.GlobPiece.{GlobPiece}
 use Rattle.glob_rules.specs.declared.rule.Rule.{Rule}
 use Rattle.regex_rules.specs.Reading.{pattern_of}
 use Rattle.regex_rules.specs.declared.fault.PatternFault.{PatternFault}
-use Rattle.any_config.specs.Farms.{◌>>=◌, FarmOutcome, is_member_name, member_value, member_word, or_bad, glob, glob_or_none, glob_at, pattern, test_in, test_of, test_or_none, test_at, rule_type, allow, rule, filter, entry, name_or}
+use Rattle.any_config.specs.Farms.{FarmOutcome, is_member_name, member_value, member_word, or_bad, glob, glob_or_none, glob_at, pattern, test_in, test_of, test_or_none, test_at, rule_type, allow, rule, filter, entry, name_or}
 use Rattle.any_config.specs.Read.{Members}
 use Rattle.any_config.specs.declared.farm.Filter.{Filter}
 use Rattle.any_config.specs.declared.farm.Test.{Test}

@@ -9,7 +9,8 @@ use Rattle.regex_rules.specs.Reading.{pattern_of}
 use Rattle.regex_rules.specs.declared.fault.PatternFault.{PatternFault}
 use Rattle.regex_rules.specs.declared.place.Place.{Place}
 use Rattle.std.specs.Prelude.{Result}
-use Rattle.any_config.specs.Farms.{◌>>=◌, FarmOutcome, is_member_name, member_value, group_of, name_or, member_word, or_bad, glob_or_bad, glob, glob_or_none, glob_at, pattern_or_bad, pattern, test_in, test_of, test_or_none, test_at, rule_type, allow, rule, filter, entry}
+use Rattle.sp_base.specs.Outcomes.{◌>>=◌}
+use Rattle.any_config.specs.Farms.{FarmOutcome, is_member_name, member_value, group_of, name_or, member_word, or_bad, glob_or_bad, glob, glob_or_none, glob_at, pattern_or_bad, pattern, test_in, test_of, test_or_none, test_at, rule_type, allow, rule, filter, entry}
 use Rattle.any_config.specs.Read.{Members}
 use Rattle.any_config.specs.declared.farm.Filter.{Filter}
 use Rattle.any_config.specs.declared.farm.Test.{Test}

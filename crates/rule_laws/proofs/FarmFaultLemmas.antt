@@ -2,8 +2,9 @@
 use Rattle.std.proofs.Common.{◌≡◌, ◌⊎◌, inl, inr, ℕ, List, [], ◌∷◌, Err, codes, refl, ap, sym, ◌∙◌}
 use Rattle.std.specs.Prelude.{◌==◌}
 use Rattle.std.specs.List.{AllZip}
+use Rattle.sp_base.specs.Outcomes.{◌>>=◌}
 use Rattle.glob_rules.specs.declared.rule.Rule.{Rule}
-use Rattle.any_config.specs.Farms.{◌>>=◌, FarmOutcome, entry, rule, filter, each, needed_group, name_or, served_host, publisher_address, only_in, members_in, only_farm, needed_rules, optional_rules, filters, member_number, deepest_level, with_cache, farm_of}
+use Rattle.any_config.specs.Farms.{FarmOutcome, entry, rule, filter, each, needed_group, name_or, served_host, publisher_address, only_in, members_in, only_farm, needed_rules, optional_rules, filters, member_number, deepest_level, with_cache, farm_of}
 use Rattle.any_config.specs.Read.{Members}
 use Rattle.any_config.specs.declared.farm.Farm.{Farm}
 use Rattle.any_config.specs.declared.farm.Filter.{Filter}

@@ -1,8 +1,9 @@
 -- The farm of a file is its table.
 use Rattle.std.proofs.Common.{◌≡◌, ◌⊎◌, ◌==◌, inl, inr, ℕ, Bool, List, [], ◌∷◌, Ok, codes, refl, ap, sym, ◌∙◌, subst}
 use Rattle.std.specs.List.{AllZip}
+use Rattle.sp_base.specs.Outcomes.{◌>>=◌}
 use Rattle.glob_rules.specs.declared.rule.Rule.{Rule}
-use Rattle.any_config.specs.Farms.{◌>>=◌, FarmOutcome, entry, rule, filter, each, needed_group, optional_group, name_or, served_host, publisher_address, only_in, members_in, only_farm, needed_rules, optional_rules, filters, member_number, deepest_level, with_cache, farm_of}
+use Rattle.any_config.specs.Farms.{FarmOutcome, entry, rule, filter, each, needed_group, optional_group, name_or, served_host, publisher_address, only_in, members_in, only_farm, needed_rules, optional_rules, filters, member_number, deepest_level, with_cache, farm_of}
 use Rattle.any_config.specs.Read.{Members}
 use Rattle.any_config.specs.declared.farm.Farm.{Farm}
 use Rattle.any_config.specs.declared.farm.Filter.{Filter}

@@ -1,13 +1,14 @@
 -- Rows of the table that are at fault, and those that are right.
 use Rattle.std.proofs.Common.{◌≡◌, ◌⊎◌, inl, inr, ℕ, List, [], ◌∷◌, ◌++◌, Option, Some, None, Ok, Err, refl, ap, sym, ◌∙◌, subst}
 use Rattle.std.specs.Prelude.{Result}
+use Rattle.sp_base.specs.Outcomes.{◌>>=◌}
 use Rattle.glob_rules.specs.Reading.{glob_of}
 use Rattle.glob_rules.specs.declared.fault.GlobFault.{GlobFault}
 use Rattle.glob_rules.specs.declared.piece.GlobPiece.{GlobPiece}
 use Rattle.regex_rules.specs.Reading.{pattern_of}
 use Rattle.regex_rules.specs.declared.fault.PatternFault.{PatternFault}
 use Rattle.regex_rules.specs.declared.place.Place.{Place}
-use Rattle.any_config.specs.Farms.{◌>>=◌, FarmOutcome, member_value, group_in, group_of, member_word_in, member_word, or_missing, needed_group, group_or_none, optional_group, each_after, each, decimal, or_bad, number_or_zero, member_number, glob_or_bad, glob, pattern_or_bad, pattern}
+use Rattle.any_config.specs.Farms.{FarmOutcome, member_value, group_in, group_of, member_word_in, member_word, or_missing, needed_group, group_or_none, optional_group, each_after, each, decimal, or_bad, number_or_zero, member_number, glob_or_bad, glob, pattern_or_bad, pattern}
 use Rattle.any_config.specs.Read.{Members}
 use Rattle.any_config.specs.declared.farm_fault.FarmFault.{FarmFault}
 use Rattle.any_config.specs.declared.farm_fault.FarmFault.TheVariants.{BadKind, Missing, NotSupported}

@@ -1,11 +1,12 @@
 -- Hosts that are at fault.
 use Rattle.std.proofs.Common.{◌≡◌, ◌≢◌, ◌⊎◌, inl, inr, ℕ, Bool, true, false, cond, eqb, List, [], Option, Some, None, Ok, Err, codes, length, refl, ap, sym, ◌∙◌, subst}
+use Rattle.sp_base.specs.Outcomes.{◌>>=◌}
 use Rattle.sp_base.specs.Limits.{greatest_port}
 use Rattle.sp_base.proofs.ListLemmas.{nil_from_test}
 use Rattle.glob_rules.specs.Reading.{glob_of}
 use Rattle.glob_rules.specs.declared.fault.GlobFault.{GlobFault}
 use Rattle.glob_rules.specs.declared.piece.GlobPiece.{GlobPiece}
-use Rattle.any_config.specs.Farms.{◌>>=◌, FarmOutcome, member_word, or_bad, decimal, glob, at_last_colon, host_cut, host, served_host}
+use Rattle.any_config.specs.Farms.{FarmOutcome, member_word, or_bad, decimal, glob, at_last_colon, host_cut, host, served_host}
 use Rattle.any_config.specs.declared.farm.VirtualHost.{VirtualHost}
 use Rattle.any_config.specs.declared.farm_fault.FarmFault.{FarmFault}
 use Rattle.any_config.specs.declared.farm_fault.FarmFault.TheVariants.{BadKind}

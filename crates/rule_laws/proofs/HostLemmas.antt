@@ -3,10 +3,11 @@ use Rattle.std.proofs.Common.{◌≡◌, ℕ, Bool, true, false, cond, eqb, List
 use Rattle.std.specs.Prelude.{unwrap_or}
 use Rattle.std.specs.List.{AllZip}
 use Rattle.std.proofs.lemmas.Bool.{eqb-true, eqb-false, ne_eqb}
+use Rattle.sp_base.specs.Outcomes.{◌>>=◌}
 use Rattle.sp_base.specs.Limits.{greatest_port, http_port}
 use Rattle.sp_base.proofs.ListLemmas.{nil_from_test}
 use Rattle.glob_rules.specs.Reading.{glob_of}
-use Rattle.any_config.specs.Farms.{◌>>=◌, decimal, member_word, or_bad, glob, cut_again, at_last_colon, host_cut, host, served_host, asked_cut, asked_in, publisher_address, name_or_localhost}
+use Rattle.any_config.specs.Farms.{decimal, member_word, or_bad, glob, cut_again, at_last_colon, host_cut, host, served_host, asked_cut, asked_in, publisher_address, name_or_localhost}
 use Rattle.any_config.specs.Read.{Members}
 use Rattle.any_config.specs.declared.farm_fault.FarmFault.TheVariants.{BadKind}
 use Rattle.glob_rules.specs.declared.piece.GlobPiece.{GlobPiece}

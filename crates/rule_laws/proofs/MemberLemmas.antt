@@ -4,7 +4,8 @@ use Rattle.std.specs.Cmp.Lexicographic.{same_text}
 use Rattle.std.specs.List.{AllZip}
 use Rattle.std.proofs.lemmas.Slice.Eq.{bytes_eq-Decides}
 use Rattle.std.proofs.lemmas.List.{append-nil}
-use Rattle.any_config.specs.Farms.{◌>>=◌, FarmOutcome, is_member_name, member_value, group_in, group_of, member_word_in, member_word, or_missing, needed_group, group_or_none, optional_group, each_after, each, decimal, or_bad, number_or_zero, member_number}
+use Rattle.sp_base.specs.Outcomes.{◌>>=◌}
+use Rattle.any_config.specs.Farms.{FarmOutcome, is_member_name, member_value, group_in, group_of, member_word_in, member_word, or_missing, needed_group, group_or_none, optional_group, each_after, each, decimal, or_bad, number_or_zero, member_number}
 use Rattle.any_config.specs.Read.{Members}
 use Rattle.any_config.specs.declared.node.AnyNode.{AnyNode, out-AnyNode}
 use Rattle.any_config.specs.declared.node.AnyNode.TheOpen.{AnyNode-F}

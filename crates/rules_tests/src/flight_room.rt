@@ -6,12 +6,12 @@ use cache_ids::FlightId;
 use cover_rules::Stamp;
 use flights::{AskFault, Flight, Flights, a_flight_is_there_until_its_ticket_is_spent};
 
-fn unkeyed(number: u64) -> Flight
+fn unkeyed(number: FlightId) -> Flight
     ensures number { result.number ≡ number }
     ensures key { result.key ≡ None }
 {
     Flight {
-        number: FlightId::new(number),
+        number,
         key: None,
         auto: false,
         stamp: Stamp { epoch: 1, count: 1 },
@@ -27,7 +27,7 @@ fn most_in_the_air(flights: &mut Flights, number: u64) -> usize
     if number == 0 {
         return flights.len();
     }
-    match flights.ask(unkeyed(number)) {
+    match flights.ask(unkeyed(FlightId::new(number))) {
         Ok(ticket) => {
             let most = most_in_the_air(flights, number - 1);
             flights.lose(ticket);

@@ -52,27 +52,27 @@ written-same slot (Says answer) a b one x y = x ∙ sym y
 written-same slot (Cached farm log key) a b one x y = absurd one
 
 written-with-memory : (slot : Slot) (sending : Sending) → sending.out_of_memory ≡ false → MayAnswer slot sending → IsWritten slot slot.response sending.bytes
-written-with-memory slot sending had_memory (inl written) = written
-written-with-memory slot sending had_memory (inr out_of_memory) = absurd (let ran_out : sending.out_of_memory ≡ true = out_of_memory.0 in let no : ⊥ = cc in no)
+written-with-memory slot sending not_out_of_memory (inl written) = written
+written-with-memory slot sending not_out_of_memory (inr out_of_memory) = absurd (let ran_out : sending.out_of_memory ≡ true = out_of_memory.0 in let no : ⊥ = cc in no)
 
 same-bytes : (x y : Slot) (s t : Sending) → (x ≡ y) × IsOneAnswer x.response → MayAnswer x s → MayAnswer y t → s.out_of_memory ≡ false → t.out_of_memory ≡ false → s.bytes ≡ t.bytes
-same-bytes x y s t same one two had_memory other_had_memory =
-    written-same y y.response s.bytes t.bytes (subst (λ (z : Slot). IsOneAnswer z.response) same.0 same.1) (subst (λ (z : Slot). IsWritten z z.response s.bytes) same.0 (written-with-memory x s had_memory one)) (written-with-memory y t other_had_memory two)
+same-bytes x y s t same one two not_out_of_memory other_not_out_of_memory =
+    written-same y y.response s.bytes t.bytes (subst (λ (z : Slot). IsOneAnswer z.response) same.0 same.1) (subst (λ (z : Slot). IsWritten z z.response s.bytes) same.0 (written-with-memory x s not_out_of_memory one)) (written-with-memory y t other_not_out_of_memory two)
 
 begins-bytes : (xs ys : List Slot) (sent other : List Sending) → AnswersRun xs sent → AnswersRun ys other → AreAnsweredAlike xs ys → HaveNoSendingOutOfMemory sent → HaveNoSendingOutOfMemory other → OneBegins (bytes_sent sent) (bytes_sent other)
-begins-bytes xs ys [] other one two same had_memory other_had_memory = inl (bytes_sent other, refl)
-begins-bytes xs ys (s ∷ sent) [] one two same had_memory other_had_memory = inr (bytes_sent (s ∷ sent), refl)
-begins-bytes [] ys (s ∷ sent) (t ∷ other) one two same had_memory other_had_memory = absurd one
-begins-bytes (x ∷ xs) [] (s ∷ sent) (t ∷ other) one two same had_memory other_had_memory = absurd two
-begins-bytes (x ∷ xs) (y ∷ ys) (s ∷ sent) (t ∷ other) one two same had_memory other_had_memory =
-    begins-append s.bytes t.bytes (bytes_sent sent) (bytes_sent other) (same-bytes x y s t (same.0 one.2 two.2) one.0 two.0 had_memory.0 other_had_memory.0)
+begins-bytes xs ys [] other one two same not_out_of_memory other_not_out_of_memory = inl (bytes_sent other, refl)
+begins-bytes xs ys (s ∷ sent) [] one two same not_out_of_memory other_not_out_of_memory = inr (bytes_sent (s ∷ sent), refl)
+begins-bytes [] ys (s ∷ sent) (t ∷ other) one two same not_out_of_memory other_not_out_of_memory = absurd one
+begins-bytes (x ∷ xs) [] (s ∷ sent) (t ∷ other) one two same not_out_of_memory other_not_out_of_memory = absurd two
+begins-bytes (x ∷ xs) (y ∷ ys) (s ∷ sent) (t ∷ other) one two same not_out_of_memory other_not_out_of_memory =
+    begins-append s.bytes t.bytes (bytes_sent sent) (bytes_sent other) (same-bytes x y s t (same.0 one.2 two.2) one.0 two.0 not_out_of_memory.0 other_not_out_of_memory.0)
     (by_last (is_last x s.bytes) (is_last y t.bytes) one.1 two.1 (begins-bytes xs ys sent other))
   where
     by_last : (p q : Bool) → IsEndOr p sent (AnswersRun xs sent) → IsEndOr q other (AnswersRun ys other)
         → (AnswersRun xs sent → AnswersRun ys other → AreAnsweredAlike xs ys → HaveNoSendingOutOfMemory sent → HaveNoSendingOutOfMemory other → OneBegins (bytes_sent sent) (bytes_sent other)) → OneBegins (bytes_sent sent) (bytes_sent other)
     by_last true q ended next rest = inl (bytes_sent other, ap (λ xs. bytes_sent xs ++ bytes_sent other) (sym ended))
     by_last false true next ended rest = inr (bytes_sent sent, ap (λ xs. bytes_sent xs ++ bytes_sent sent) (sym ended))
-    by_last false false first second rest = rest first second same.1 had_memory.1 other_had_memory.1
+    by_last false false first second rest = rest first second same.1 not_out_of_memory.1 other_not_out_of_memory.1
 
 -- ---- the law
 -- the law of streams

@@ -321,10 +321,10 @@ step-one : Beginnings → (w : RunState) (e f : Event) (s : Step) → Quiet w �
 step-one law w e f s quiet ends one two a b = by_step s ends a b
   where
     p : Works e.conditions
-    p = record { disk = one.disk_worked; memory = one.had_memory }
+    p = record { disk = one.disk_worked; memory = one.not_out_of_memory }
 
     q : Works f.conditions
-    q = record { disk = two.disk_worked; memory = two.had_memory }
+    q = record { disk = two.disk_worked; memory = two.not_out_of_memory }
 
     by_step : (s : Step) → IsSameEnd w s e.ends f.ends → HappensBy w e s → HappensBy w f s → IsOneEvent w e f s
     by_step (step.Opened c peer) ends a b = record { body = a ∙ sym b; state = refl }
@@ -342,7 +342,7 @@ no-conditions : (m : Conditions) → m.disk_failed ≡ false → m.out_of_memory
 no-conditions m disk memory = rw (disk, memory) refl
 
 notes-with-memory : (e : Event) → IsDetermined e → notes_of e ≡ e.body
-notes-with-memory e one = ap (λ notes. e.body ++ notes) (no-conditions e.conditions one.disk_worked one.had_memory) ∙ append-nil e.body
+notes-with-memory e one = ap (λ notes. e.body ++ notes) (no-conditions e.conditions one.disk_worked one.not_out_of_memory) ∙ append-nil e.body
 
 state-one : (w : RunState) (e f : Event) → e.step ≡ f.step → IsOneEvent w e f e.step → after_event w e ≡ after_event w f
 state-one w e f same event = ap (λ v. state_after_notes v e.body) event.state ∙ ap (λ notes. state_after_notes (state_before_notes w f e.step) notes) event.body ∙ ap (λ s. state_after_notes (state_before_notes w f s) f.body) same

@@ -5,10 +5,11 @@ use Rattle.std.proofs.lemmas.List.Elements.{All-nil, All-push}
 use Rattle.std.proofs.lemmas.Str.{IsUtf8-from_ascii}
 use Rattle.std.proofs.lemmas.Str.Ascii.{IsAscii-cons, IsAscii-nil}
 use Rattle.sp_base.proofs.BoolLemmas.{or_first}
-use Rattle.httparse.specs.Grammar.{RequestHead, IsRequestHead, HasNoRequest, MayBecomeRequest, is_token_byte, is_uri_byte, print_blank, print_end, print_request, print_section, print_version, lf}
+use Rattle.httparse.specs.Grammar.{RequestHead, IsRequestHead, HasNoRequest, MayBecomeRequest, is_token_byte, is_uri_byte, print_request, lf}
 use Rattle.http_front.specs.Turns.{End, SpellsTurns, Waits}
 use Rattle.http_front.specs.declared.turn.Turn.{Turn}
 use Rattle.http_front.specs.declared.turn.Turn.TheVariants.{Continue, Whole}
+use Rattle.http_front.proofs.ParserLemmas.{head_takes_bytes}
 use Rattle.connections.specs.declared.awaited.Awaited.{Awaited}
 use Rattle.connections.specs.Slots.{Response, Slot, interim_slot}
 use Rattle.connections.specs.Connections.{Connection, Due, Send, with_due_continue, after_turn, with_piece, fresh, next_turn, with_end, with_sent, with_slot}
@@ -99,14 +100,8 @@ cons-append x a b = refl
 regrouped : (a b c d e f : List ℕ) → a ++ b ++ 32 ∷ c ++ 32 ∷ d ++ e ++ f ≡ a ++ (b ++ 32 ∷ (c ++ 32 ∷ (d ++ (e ++ f))))
 regrouped a b c d e f = simp (append_assoc, cons-append)
 
-is-long : (h : RequestHead) → 0 < length (print_request h)
-unfolding print_request
-is-long h =
-    subst (λ xs. 0 < length xs) (sym (regrouped (print_blank h.blank) h.method h.target (print_version h.minor) (print_end h.line_end) (print_section h.fields h.last)))
-    (long-with (print_blank h.blank) h.method 32 (h.target ++ 32 ∷ (print_version h.minor ++ (print_end h.line_end ++ print_section h.fields h.last))))
-
 none-yet : HasNoRequest []
-none-yet h rest x = omega (arith, is-long h, ap length x.1, length-append (print_request h) rest)
+none-yet h rest x = omega (arith, head_takes_bytes h, ap length x.1, length-append (print_request h) rest)
 
 nothing-spelled : SpellsTurns [] [] Waits
 nothing-spelled = inl ((none-yet, may-begin), omega arith)

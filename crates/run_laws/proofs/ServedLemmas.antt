@@ -76,21 +76,21 @@ one-request : (o : Option Request) (a b : Request) → o ≡ Some a → o ≡ So
 one-request o a b is also = let both : Some a ≡ Some b = sym is ∙ also in cc both
 
 gives-owed : (m : Conditions) (w : RunState) (c : ℕ) (owed : Due) (note : Note) → m.disk_failed ≡ false → m.out_of_memory ≡ false → due_of_connection w c ≡ owed → GivesDue m w c owed note → IsOwedTo w note
-gives-owed m w c (Send slot) note well had_memory is gives = rw gives.1 (λ d request treats. absurd treats)
-gives-owed m w c (Treat Continue) note well had_memory is gives = absurd gives
-gives-owed m w c (Treat (Whole request)) note well had_memory is (inl first) = λ d other treats treated owed.
+gives-owed m w c (Send slot) note well not_out_of_memory is gives = rw gives.1 (λ d request treats. absurd treats)
+gives-owed m w c (Treat Continue) note well not_out_of_memory is gives = absurd gives
+gives-owed m w c (Treat (Whole request)) note well not_out_of_memory is (inl first) = λ d other treats treated owed.
     let here : c ≡ d = first-treats m w c request note d first treats in
     let asked_here : treated_request (due_of_connection w c) ≡ Some other = subst (λ x. treated_request (due_of_connection w x) ≡ Some other) (sym here) treated in
     let one : request ≡ other = one-request (treated_request (due_of_connection w c)) request other (ap treated_request is) asked_here in
     let owed_here : IsHitOwed w c request = subst (λ r. IsHitOwed w c r) (sym one) (subst (λ x. IsHitOwed w x other) (sym here) owed) in
     let hit = first-owed m w c request note well first owed_here in
     (hit.0, ap (key_of w) (sym one) ∙ hit.1, hit.2 ∙ ap (λ x. Hit x hit.0) here)
-gives-owed m w c (Treat (Whole request)) note well had_memory is (inr out_of_memory) = absurd (let ran_out : m.out_of_memory ≡ true = out_of_memory.0 in let never : ⊥ = cc in never)
-gives-owed m w c (Refuse fault) note well had_memory is gives = rw gives (λ d request treats treated owed.
+gives-owed m w c (Treat (Whole request)) note well not_out_of_memory is (inr out_of_memory) = absurd (let ran_out : m.out_of_memory ≡ true = out_of_memory.0 in let never : ⊥ = cc in never)
+gives-owed m w c (Refuse fault) note well not_out_of_memory is gives = rw gives (λ d request treats treated owed.
     let there : treated_request (due_of_connection w c) ≡ Some request = subst (λ x. treated_request (due_of_connection w x) ≡ Some request) (sym treats) treated in
     absurd (let none : None ≡ Some request = sym (ap treated_request is) ∙ there in let never : ⊥ = cc in never))
-gives-owed m w c Close note well had_memory is gives = rw gives (λ d request treats. absurd treats)
-gives-owed m w c Nothing note well had_memory is gives = absurd gives
+gives-owed m w c Close note well not_out_of_memory is gives = rw gives (λ d request treats. absurd treats)
+gives-owed m w c Nothing note well not_out_of_memory is gives = absurd gives
 
 slice-none : (m : Conditions) (v : ℕ) (note : Note) → GivesSlice m v note → TreatsNone note
 slice-none m v note (inl done) = rw done (λ c treats. treats)
@@ -99,12 +99,12 @@ slice-none m v note (inr (inr (inl disk))) = rw disk.0 (λ c treats. treats)
 slice-none m v note (inr (inr (inr memory))) = rw memory.0 (λ c treats. treats)
 
 next-owed : (m : Conditions) (w : RunState) (c : ℕ) (slicing : Option ℕ) (note : Note) → m.disk_failed ≡ false → m.out_of_memory ≡ false → GivesNext m w c slicing note → IsOwedTo w note
-next-owed m w c None note well had_memory gives = gives-owed m w c (due_of_connection w c) note well had_memory refl gives
-next-owed m w c (Some v) note well had_memory gives = none-owed w note (slice-none m v note gives)
+next-owed m w c None note well not_out_of_memory gives = gives-owed m w c (due_of_connection w c) note well not_out_of_memory refl gives
+next-owed m w c (Some v) note well not_out_of_memory gives = none-owed w note (slice-none m v note gives)
 
 serves-owed : (m : Conditions) (w : RunState) (c : ℕ) (notes : List Note) → m.disk_failed ≡ false → m.out_of_memory ≡ false → Serves m w c notes → OwedAreHits w notes
-serves-owed m w c [] well had_memory serves = tt
-serves-owed m w c (note ∷ notes) well had_memory serves = (next-owed m w c w.slicing note well had_memory serves.0, serves-owed m (state_after_note w note) c notes well had_memory serves.1)
+serves-owed m w c [] well not_out_of_memory serves = tt
+serves-owed m w c (note ∷ notes) well not_out_of_memory serves = (next-owed m w c w.slicing note well not_out_of_memory serves.0, serves-owed m (state_after_note w note) c notes well not_out_of_memory serves.1)
 
 -- ---- the notes of a step
 idle-owed : (w : RunState) (notes : List Note) → notes ≡ Idle ∷ [] → OwedAreHits w notes
@@ -123,15 +123,15 @@ going-owed w None notes is = idle-owed w notes is
 going-owed w (Some k) notes is = rw is tt
 
 piece-owed : (w : RunState) (e : Event) (c : ℕ) (bytes : List ℕ) (at : Option Connection) → e.conditions.disk_failed ≡ false → e.conditions.out_of_memory ≡ false → PieceTo w e c bytes at → OwedAreHits (on_connection w c (with_piece bytes e.turns e.ends)) e.body
-piece-owed w e c bytes None well had_memory to = idle-owed (on_connection w c (with_piece bytes e.turns e.ends)) e.body to
-piece-owed w e c bytes (Some k) well had_memory to = serves-owed e.conditions (on_connection w c (with_piece bytes e.turns e.ends)) c e.body well had_memory to.settles.serves
+piece-owed w e c bytes None well not_out_of_memory to = idle-owed (on_connection w c (with_piece bytes e.turns e.ends)) e.body to
+piece-owed w e c bytes (Some k) well not_out_of_memory to = serves-owed e.conditions (on_connection w c (with_piece bytes e.turns e.ends)) c e.body well not_out_of_memory to.settles.serves
 
 render-owed : (w : RunState) (e : Event) (flying : Option Flying) → RenderTo w e flying → OwedAreHits w e.body
 render-owed w e None to = idle-owed w e.body to
 render-owed w e (Some f) to = rw to.2 ((λ c request treats. absurd treats), tt)
 
 leads-owed : (m : Conditions) (w : RunState) (first : Note) (c : ℕ) (notes : List Note) → m.disk_failed ≡ false → m.out_of_memory ≡ false → TreatsNone first → LeadsNotes w m first c notes → OwedAreHits w notes
-leads-owed m w first c notes well had_memory none leads = rw leads.begins (none-owed w first none, serves-owed m (state_after_note w first) c leads.rest well had_memory leads.settles.serves)
+leads-owed m w first c notes well not_out_of_memory none leads = rw leads.begins (none-owed w first none, serves-owed m (state_after_note w first) c leads.rest well not_out_of_memory leads.settles.serves)
 
 landing-none : (w : RunState) (m : Conditions) (f : Flying) (answer : Answer) (note : Note) → MayLand w m f answer note → TreatsNone note
 landing-none w m f answer note (inl kept) = rw kept.2 (λ c treats. treats)
@@ -139,20 +139,20 @@ landing-none w m f answer note (inr (inl unkept)) = rw unkept.0 (λ c treats. tr
 landing-none w m f answer note (inr (inr passed)) = rw passed.0 (λ c treats. treats)
 
 deliver-owed : (w : RunState) (e : Event) (f : Flying) (answer : Option Answer) → e.conditions.disk_failed ≡ false → e.conditions.out_of_memory ≡ false → DeliverAs w e f answer → OwedAreHits w e.body
-deliver-owed w e f None well had_memory to = idle-owed w e.body to
-deliver-owed w e f (Some answer) well had_memory to = leads-owed e.conditions w to.0 f.connection e.body well had_memory (landing-none w e.conditions f answer to.0 to.1) to.2
+deliver-owed w e f None well not_out_of_memory to = idle-owed w e.body to
+deliver-owed w e f (Some answer) well not_out_of_memory to = leads-owed e.conditions w to.0 f.connection e.body well not_out_of_memory (landing-none w e.conditions f answer to.0 to.1) to.2
 
 delivers-owed : (w : RunState) (e : Event) (flying : Option Flying) → e.conditions.disk_failed ≡ false → e.conditions.out_of_memory ≡ false → DeliverTo w e flying → OwedAreHits w e.body
-delivers-owed w e None well had_memory to = idle-owed w e.body to
-delivers-owed w e (Some f) well had_memory to = deliver-owed w e f f.rendered well had_memory to
+delivers-owed w e None well not_out_of_memory to = idle-owed w e.body to
+delivers-owed w e (Some f) well not_out_of_memory to = deliver-owed w e f f.rendered well not_out_of_memory to
 
 loses-owed : (w : RunState) (e : Event) (flying : Option Flying) → e.conditions.disk_failed ≡ false → e.conditions.out_of_memory ≡ false → LoseTo w e flying → OwedAreHits w e.body
-loses-owed w e None well had_memory to = idle-owed w e.body to
-loses-owed w e (Some f) well had_memory to = leads-owed e.conditions w (Lost f.number) f.connection e.body well had_memory (λ c treats. treats) to
+loses-owed w e None well not_out_of_memory to = idle-owed w e.body to
+loses-owed w e (Some f) well not_out_of_memory to = leads-owed e.conditions w (Lost f.number) f.connection e.body well not_out_of_memory (λ c treats. treats) to
 
 purges-owed : (w : RunState) (e : Event) (flushes : List Flushing) → e.conditions.disk_failed ≡ false → e.conditions.out_of_memory ≡ false → PurgeTo w e flushes → OwedAreHits w e.body
-purges-owed w e [] well had_memory to = idle-owed w e.body to
-purges-owed w e (flush ∷ flushes) well had_memory to = leads-owed e.conditions w to.0 flush.connection e.body well had_memory (slice-none e.conditions flush.number to.0 to.1) to.2
+purges-owed w e [] well not_out_of_memory to = idle-owed w e.body to
+purges-owed w e (flush ∷ flushes) well not_out_of_memory to = leads-owed e.conditions w to.0 flush.connection e.body well not_out_of_memory (slice-none e.conditions flush.number to.0 to.1) to.2
 
 -- ---- a restart treats no request
 none-append : (notes more : List Note) → AllTreatNone notes → AllTreatNone more → AllTreatNone (notes ++ more)
@@ -182,15 +182,15 @@ restart-owed w m notes restarts =
 
 -- ---- an event
 step-owed : (w : RunState) (e : Event) (s : Step) → e.conditions.disk_failed ≡ false → e.conditions.out_of_memory ≡ false → HappensBy w e s → OwedAreHits (state_before_notes w e s) e.body
-step-owed w e (step.Opened c peer) well had_memory is = opening-owed _ c w.connection_count (w.connection c) e.body is
-step-owed w e (step.Piece c bytes) well had_memory to = piece-owed w e c bytes (w.connection c) well had_memory to
-step-owed w e (step.Gone c) well had_memory is = going-owed _ (w.connection c) e.body is
-step-owed w e (step.Direct target) well had_memory to = rw to.2 ((λ c request treats. absurd treats), tt)
-step-owed w e (step.Render pick) well had_memory to = render-owed w e (picked_flight pick is_unrendered w.flights) to
-step-owed w e (step.Deliver pick) well had_memory to = delivers-owed w e (picked_flight pick is_rendered w.flights) well had_memory to
-step-owed w e (step.Lose pick) well had_memory to = loses-owed w e (picked_flight pick is_any w.flights) well had_memory to
-step-owed w e step.Purge well had_memory to = purges-owed w e w.flushes well had_memory to
-step-owed w e step.Restart well had_memory to = restart-owed w e.conditions e.body to
+step-owed w e (step.Opened c peer) well not_out_of_memory is = opening-owed _ c w.connection_count (w.connection c) e.body is
+step-owed w e (step.Piece c bytes) well not_out_of_memory to = piece-owed w e c bytes (w.connection c) well not_out_of_memory to
+step-owed w e (step.Gone c) well not_out_of_memory is = going-owed _ (w.connection c) e.body is
+step-owed w e (step.Direct target) well not_out_of_memory to = rw to.2 ((λ c request treats. absurd treats), tt)
+step-owed w e (step.Render pick) well not_out_of_memory to = render-owed w e (picked_flight pick is_unrendered w.flights) to
+step-owed w e (step.Deliver pick) well not_out_of_memory to = delivers-owed w e (picked_flight pick is_rendered w.flights) well not_out_of_memory to
+step-owed w e (step.Lose pick) well not_out_of_memory to = loses-owed w e (picked_flight pick is_any w.flights) well not_out_of_memory to
+step-owed w e step.Purge well not_out_of_memory to = purges-owed w e w.flushes well not_out_of_memory to
+step-owed w e step.Restart well not_out_of_memory to = restart-owed w e.conditions e.body to
 
 pub kept-served : KeptPagesAreServed
-kept-served w e run well had_memory = step-owed w e e.step well had_memory run.0.0
+kept-served w e run well not_out_of_memory = step-owed w e e.step well not_out_of_memory run.0.0

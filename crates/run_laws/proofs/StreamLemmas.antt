@@ -123,6 +123,12 @@ pub slots-of-turns : OfTurns → (s : Start) (events : List Event) (c : ℕ) (d 
     → (state_after_events (start_of s) events).connection c ≡ Some d → AreOfTurns d.turns d.ends d.slots
 slots-of-turns law s events c d run some = turns-past law d _ _ ((end-kept s events c run).held.here d some)
 
+pub stream-spells : (s : Start) (events : List Event) (c : ℕ) (d : Connection) → Run (start_of s) events
+    → (state_after_events (start_of s) events).connection c ≡ Some d → SpellsTurns d.stream d.turns d.ends
+stream-spells s events c d run some =
+    let past = (end-kept s events c run).held.here d some in
+    past.spells
+
 pub read-all : (s : Start) (events : List Event) (c : ℕ) (d : Connection) → Run (start_of s) events
     → (state_after_events (start_of s) events).connection c ≡ Some d → d.closing ≡ false → HasReadAll (came_since_opened c events) d
 read-all s events c d run some reads =

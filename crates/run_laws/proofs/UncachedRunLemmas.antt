@@ -159,7 +159,7 @@ restart-free w e unhindered room restarts =
     let v : RunState = state_after_notes (without_connections w) (cut_notes w restarts.connections) in
     let cuts = cuts-free w restarts.connections in
     let same : reach v.log ≡ reach w.log = notes-reach (without_connections w) (cut_notes w restarts.connections) cuts in
-    let last = last-free e.conditions v restarts.last unhindered.disk_worked unhindered.had_memory (omega (arith, same, room)) restarts.ends in
+    let last = last-free e.conditions v restarts.last unhindered.disk_worked unhindered.not_out_of_memory (omega (arith, same, room)) restarts.ends in
     let state : state_after_notes (without_connections w) e.body ≡ state_after_note v restarts.last = ap (state_after_notes (without_connections w)) restarts.notes_are ∙ notes_append (without_connections w) (cut_notes w restarts.connections) (restarts.last ∷ []) in
     record {
       no_choice = rw restarts.notes_are (no-choice-append (cut_notes w restarts.connections) (restarts.last ∷ []) (no-choices (cut_notes w restarts.connections) cuts) (last.0, tt));
@@ -196,7 +196,7 @@ run-free farm w (e ∷ events) uncached asks room unhindered run =
     let begun = begun-uncached farm steps w e e.step asks run.0.0 uncached in
     let free = event-free farm (coming_by steps) w e e.step begun unhindered.0 (omega (arith, room)) run.0.0 in
     let later : StepsAskNoCache farm steps = later-bring (Unasking farm) e.step steps asks in (
-      record { disk_worked = unhindered.0.disk_worked; had_memory = unhindered.0.had_memory; no_choice = free.no_choice },
+      record { disk_worked = unhindered.0.disk_worked; not_out_of_memory = unhindered.0.not_out_of_memory; no_choice = free.no_choice },
       run-free farm (after_event w e) events (notes-uncached farm (coming_by steps) (state_before_notes w e e.step) e.body begun) later (omega (arith, room, free.near)) unhindered.1 run.1,
     )
 

@@ -73,7 +73,7 @@ StepsTellTheEnds = (s : Start) (events : List Event) → Run (start_of s) events
 -- in the event neither the disk failed nor memory ran out
 pub record IsUnhindered (e : Event) : Type 0 where
   pub disk_worked : e.conditions.disk_failed ≡ false
-  pub had_memory : e.conditions.out_of_memory ≡ false
+  pub not_out_of_memory : e.conditions.out_of_memory ≡ false
 
 -- so it is in each event
 abbrev pub AreUnhindered : List Event → Type 0

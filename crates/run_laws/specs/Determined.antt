@@ -49,7 +49,7 @@ LeavesNoChoice _ = Unit {0}
 -- in the event neither the disk failed nor memory ran out, and no note of it leaves a choice
 pub record IsDetermined (e : Event) : Type 0 where
   pub disk_worked : e.conditions.disk_failed ≡ false
-  pub had_memory : e.conditions.out_of_memory ≡ false
+  pub not_out_of_memory : e.conditions.out_of_memory ≡ false
   pub no_choice : AllByRecursion LeavesNoChoice e.body
 
 -- so it is in each event

@@ -5,6 +5,7 @@ ghost use Rattle.run_events.specs.Events.{Event, Happens, Run, after_event, note
 ghost use Rattle.run_events.specs.States.{AreConnectionsCounted, AreFlightsRising, RunState, Start, start_of};
 ghost use Rattle.connections.specs.Histories.{AnswersRun, AreOfTurns};
 ghost use Rattle.connections.specs.Ids.{ConnectionId};
+ghost use Rattle.http_front.specs.Turns.{SpellsTurns};
 ghost use Rattle.run_laws.specs.Cuttings.{CuttingsAgree, SameStreamsHaveSameTurnsIfNeitherCloses};
 ghost use Rattle.run_laws.specs.Determined.{RunsWithMemoryAreOne, StreamsWithMemoryEndAlike};
 ghost use Rattle.run_laws.specs.Histories.{HasReadAll, came_since_opened, sent_since_opened, OfOpenConnections, AnswersItsStream};
@@ -101,13 +102,15 @@ pub fn streams_with_memory_end_alike()
 
 /// Whatever happens: what was sent on an open connection since it was opened answers its slots in their order, each once, up to the
 /// first that waits for a flight, and nothing after one that closes it; its slots are those of the turns of its stream, in their
-/// order, and after them that of the stream's fault, with its status; and unless it is closing, its stream is all that came, and each turn
-/// of it has its slot (RFC 9112, section 9.3). On a connection that is shut or gone, too, what was sent answers what came while it was
-/// there, or, only where a slot closes it, a prefix of that; and each turn has its slot, unless one closes the connection or memory ran
-/// out as something was sent.
+/// order, and after them that of the stream's fault, with its status; the stream of an open connection, as far as it was read, spells the
+/// turns that are kept of it, and ends so (`spells`); and unless it is closing, its stream is all that came, and each turn of it has its
+/// slot (RFC 9112, section 9.3). On a connection that is shut or gone, too, what was sent answers what came while it was there, or, only
+/// where a slot closes it, a prefix of that; and each turn has its slot, unless one closes the connection or memory ran out as something
+/// was sent.
 pub fn connections_are_answered_in_order()
     ensures answers { OfOpenConnections (λ events c connection. AnswersRun connection.slots (sent_since_opened c events)) }
     ensures slots { OfOpenConnections (λ events c connection. AreOfTurns connection.turns connection.ends connection.slots) }
+    ensures spells { OfOpenConnections (λ events c connection. SpellsTurns connection.stream connection.turns connection.ends) }
     ensures reads { OfOpenConnections (λ events c connection. connection.closing ≡ false → HasReadAll (came_since_opened c events) connection) }
     ensures streams { (s : Start) (events : List Event) (c : ConnectionId) → Run (start_of s) events → AnswersItsStream c events }
 {

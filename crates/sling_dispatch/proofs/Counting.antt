@@ -29,8 +29,8 @@ counts_add m n xs ys = λ i.
       done = counted is_done xs ys i;
       failed = counted is_failed xs ys i;
       sent = sum_by-append sent_size xs ys i;
-      hurt = counted is_hurt xs ys i;
-      dry = counted is_out_of_memory_note xs ys i;
+      disk_failed = counted is_hurt xs ys i;
+      out_of_memory = counted is_out_of_memory_note xs ys i;
     }
 
 pub plus_assoc : (a b c : Counts) → plus (plus a b) c ≡ plus a (plus b c)
@@ -47,8 +47,8 @@ plus_assoc a b c = λ i.
       done = add_assoc a.done b.done c.done i;
       failed = add_assoc a.failed b.failed c.failed i;
       sent = add_assoc a.sent b.sent c.sent i;
-      hurt = add_assoc a.hurt b.hurt c.hurt i;
-      dry = add_assoc a.dry b.dry c.dry i;
+      disk_failed = add_assoc a.disk_failed b.disk_failed c.disk_failed i;
+      out_of_memory = add_assoc a.out_of_memory b.out_of_memory c.out_of_memory i;
     }
 
 nothing : (n : ℕ) → n ≡ n + 0
@@ -69,8 +69,8 @@ plus_event c n e = λ i.
       done = nothing c.done i;
       failed = nothing c.failed i;
       sent = nothing c.sent i;
-      hurt = nothing c.hurt i;
-      dry = nothing c.dry i;
+      disk_failed = nothing c.disk_failed i;
+      out_of_memory = nothing c.out_of_memory i;
     }
 
 -- the first notes, and one more

@@ -4,7 +4,7 @@ use Rattle.sp_outside.specs.Files.{Files}
 use Rattle.any_config.specs.declared.farm.Farm.{Farm}
 use Rattle.content_json.specs.ContentOf.{content as content_of}
 use Rattle.content_json.specs.declared.fault.ContentFault.{ContentFault}
-use Rattle.content_json.specs.declared.fault.ContentFault.TheVariants.{NoMemory as no_memory}
+use Rattle.content_json.specs.declared.fault.ContentFault.TheVariants.{NoMemory as out_of_memory}
 use Rattle.outside_world.specs.Faults.{HasInputCause}
 use Rattle.outside_world.specs.InputFiles.{IsAnswerFor, longest_input}
 use Rattle.outside_world.specs.declared.inputs.InputFault.{InputFault}
@@ -76,7 +76,7 @@ due_second T asked source told new before after disk world words content fault a
 -- ---- inputs without a reading
 
 pub due_content_read : (asked : List (List ℕ)) (source : StreamReport (List ℕ)) (inputs : StreamReport Files) (disk : DiskReport) (world : WorldReport) (words : ServeWords) (content any : List ℕ) (fault : ContentFault)
-    → AreReadAs asked source inputs words content any → IsDiskUntouched disk → IsWorldUntouched world → (fault ≢ no_memory → content_of content ≡ Err fault)
+    → AreReadAs asked source inputs words content any → IsDiskUntouched disk → IsWorldUntouched world → (fault ≢ out_of_memory → content_of content ≡ Err fault)
     → (w : Writing) → IsContentOr fault w → IsDue (call_of asked source inputs disk world) w
 due_content_read asked source inputs disk world words content any fault read disk_is world_is err =
     due_unread_content (call_of asked source inputs disk world) fault world_is (λ not. record {

@@ -7,7 +7,7 @@ use Rattle.sp_outside.specs.Told.{held_after, before_taking, IsAtEnd}
 use Rattle.sockets.proofs.Giving.{held_after-nil}
 use Rattle.content_json.specs.ContentOf.{content as content_of}
 use Rattle.content_json.specs.declared.fault.ContentFault.{ContentFault}
-use Rattle.content_json.specs.declared.fault.ContentFault.TheVariants.{NoMemory as no_memory}
+use Rattle.content_json.specs.declared.fault.ContentFault.TheVariants.{NoMemory as content_out_of_memory}
 use Rattle.replay_text.specs.Languages.{IsRefusedWithin}
 use Rattle.sling_dispatch.specs.Streams.{IsReadOut}
 use Rattle.replay_text.specs.Scenario.{IsScenario, ReadsScenario, longest_scenario}
@@ -68,7 +68,7 @@ told_made items D w good ending (Ok t) sink due ends whole e told untold = told_
 told_made items D w good ending (Err x) sink due ends whole e told untold =
     subst (λ n. Means D n sink) (sym untold.0) (nothing_written D w due sink untold.1.0 untold.1.1)
 
-pub due_content : (s : Scenario) (fault : ContentFault) → (fault ≢ no_memory → content_of s.content ≡ Err fault) → (w : Writing) → IsContentOr fault w → IsDueIn s w
+pub due_content : (s : Scenario) (fault : ContentFault) → (fault ≢ content_out_of_memory → content_of s.content ≡ Err fault) → (w : Writing) → IsContentOr fault w → IsDueIn s w
 due_content s fault e Nothing d = tt
 due_content s fault e UsageLine d = d
 due_content s fault e SourceLine d = d
@@ -107,7 +107,7 @@ due_acts s (Summary number t events) d = absurd d
 due_acts s (OfServing w) d = absurd d
 
 pub content_told : (s : Scenario) (fault : ContentFault) (bytes : List ℕ) (ending : Ending) (sink : StreamReport (List ℕ)) → bytes ≡ s.content
-    → (fault ≢ no_memory → content_of bytes ≡ Err fault) → Means (IsContentOr fault) ending sink → Means (IsDueIn s) ending sink
+    → (fault ≢ content_out_of_memory → content_of bytes ≡ Err fault) → Means (IsContentOr fault) ending sink → Means (IsDueIn s) ending sink
 content_told s fault bytes ending sink same e m =
     means_weaker (IsContentOr fault) (IsDueIn s) (due_content s fault (λ h. sym (ap content_of same) ∙ e h)) ending sink m
 

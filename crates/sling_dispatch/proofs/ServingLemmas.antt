@@ -3,7 +3,7 @@ use Rattle.std.proofs.Common.{◌≡◌, ◌≢◌, inr, ℕ, List, [], false, s
 use Rattle.cache_files.specs.declared.epoch.OpenFault.{OpenFault}
 use Rattle.cache_files.specs.declared.epoch.OpenFault.TheVariants as open_fault
 use Rattle.content_json.specs.declared.fault.ContentFault.{ContentFault}
-use Rattle.content_json.specs.declared.fault.ContentFault.TheVariants.{NoMemory as no_memory}
+use Rattle.content_json.specs.declared.fault.ContentFault.TheVariants.{NoMemory as out_of_memory}
 use Rattle.outside_world.specs.declared.inputs.InputFault.{InputFault}
 use Rattle.outside_world.specs.declared.inputs.InputFault.TheVariants as input_fault
 use Rattle.serve_loop.specs.declared.serving.ServeEnd.{ServeEnd}
@@ -46,7 +46,7 @@ due_input c fault name apart lacks (OfServing w) d = input_line c fault name lac
 
 -- ---- the content and the farm of the inputs
 
-pub due_unread_content : (c : RunCall) (fault : ContentFault) → IsWorldUntouched c.world → (fault ≢ no_memory → LacksContent c fault) → (w : Writing) → IsContentOr fault w → IsDue c w
+pub due_unread_content : (c : RunCall) (fault : ContentFault) → IsWorldUntouched c.world → (fault ≢ out_of_memory → LacksContent c fault) → (w : Writing) → IsContentOr fault w → IsDue c w
 due_unread_content c fault apart lacks Nothing d = apart
 due_unread_content c fault apart lacks UsageLine d = absurd d
 due_unread_content c fault apart lacks SourceLine d = absurd d

@@ -49,7 +49,7 @@ unhindered host w (act ∷ acts) (e ∷ events) none steps armed memory =
     let found = has-step host act none.0 in
     let both : event_steps (e ∷ events) ≡ found.0 ∷ filter_map (step_of host) acts = steps ∙ ap (λ o. cons_option o (filter_map (step_of host) acts)) found.1 in
     let later : event_steps events ≡ filter_map (step_of host) acts = cc (both) in
-    (record { disk_worked = works-unarmed e.conditions.disk_failed here.0.may_fail; had_memory = memory.0 }, unhindered host (after_event w e) acts events none.1 later here.1 memory.1)
+    (record { disk_worked = works-unarmed e.conditions.disk_failed here.0.may_fail; not_out_of_memory = memory.0 }, unhindered host (after_event w e) acts events none.1 later here.1 memory.1)
 
 -- ---- a session
 acts-are : (s : Scenario) (events : List Event) → (session : IsSession s [] events) → IsActs s.acts session.made

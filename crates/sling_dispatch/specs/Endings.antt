@@ -6,7 +6,7 @@ use Rattle.sp_outside.specs.Told.{held_after, IsAtEnd}
 use Rattle.resource_tree.specs.Content.{Content}
 use Rattle.content_json.specs.ContentOf.{content as content_of}
 use Rattle.content_json.specs.declared.fault.ContentFault.{ContentFault}
-use Rattle.content_json.specs.declared.fault.ContentFault.TheVariants.{NoMemory as no_memory}
+use Rattle.content_json.specs.declared.fault.ContentFault.TheVariants.{NoMemory as out_of_memory}
 use Rattle.cache_files.specs.declared.epoch.OpenFault.{OpenFault}
 use Rattle.cache_files.specs.declared.epoch.OpenFault.TheVariants as open_fault
 use Rattle.outside_world.specs.declared.inputs.InputFault.{InputFault}
@@ -175,7 +175,7 @@ IsDue c UsageLine = (HasForm c.words → ⊥) × IsUntouched c.source
 IsDue c SourceLine = IsReplay c.words × HasFailed c.source
 IsDue c (RefusalLine before) = Replays c (λ bytes. IsRefusedWithin longest_scenario IsScenario bytes before) × IsReadOut (longest_scenario + 1) c.source.old c.source.new
 IsDue c (ContentLine fault) = (Replays c (λ bytes. (s : Scenario) × ReadsScenario bytes s × (content_of s.content ≡ Err fault)) × IsAtEnd c.source.new
-    × (fault ≢ no_memory)) ⊎ LacksContent c fault
+    × (fault ≢ out_of_memory)) ⊎ LacksContent c fault
 IsDue c (FarmLine refusal) = (Replays c (λ bytes. (s : Scenario) × ReadsScenario bytes s × HasContent s × (farm_in (farm_text s.farm) ≡ Err refusal))
     × IsAtEnd c.source.new × (is_out_of_memory refusal ≡ false)) ⊎ LacksFarm c refusal
 IsDue c (Events s events) = Replays c (λ bytes. ReadsScenario bytes s) × IsAtEnd c.source.new × IsRunOf s events

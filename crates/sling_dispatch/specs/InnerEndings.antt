@@ -7,7 +7,7 @@ use Rattle.sp_outside.specs.declared.sink.SinkFault.TheVariants.{Failed as sink_
 use Rattle.resource_tree.specs.Content.{Content}
 use Rattle.content_json.specs.ContentOf.{content as content_of}
 use Rattle.content_json.specs.declared.fault.ContentFault.{ContentFault}
-use Rattle.content_json.specs.declared.fault.ContentFault.TheVariants.{NoMemory as no_memory}
+use Rattle.content_json.specs.declared.fault.ContentFault.TheVariants.{NoMemory as out_of_memory}
 use Rattle.replay_text.specs.Languages.{IsRefusedWithin}
 use Rattle.replay_text.specs.Scenario.{IsActs, IsScenario, ReadsScenario, longest_scenario}
 use Rattle.sling_dispatch.specs.Reports.{StreamReport, HasNotFailed, HasFailed}
@@ -26,7 +26,7 @@ use Rattle.sling_dispatch.specs.declared.ending.Ending.TheVariants.{SinkFailed, 
 abbrev pub IsDueAt : List ℕ → Writing → Type 0
 IsDueAt text Nothing = Unit {0}
 IsDueAt text (RefusalLine before) = (rest : List ℕ) → (length text ≤ longest_scenario → rest ≡ []) → IsRefusedWithin longest_scenario IsScenario (text ++ rest) before
-IsDueAt text (ContentLine fault) = (fault ≢ no_memory) × (s : Scenario) × ReadsScenario text s × (content_of s.content ≡ Err fault)
+IsDueAt text (ContentLine fault) = (fault ≢ out_of_memory) × (s : Scenario) × ReadsScenario text s × (content_of s.content ≡ Err fault)
 IsDueAt text (FarmLine refusal) = (is_out_of_memory refusal ≡ false) × (s : Scenario) × ReadsScenario text s × HasContent s × (farm_in (farm_text s.farm) ≡ Err refusal)
 IsDueAt text (Events s events) = ReadsScenario text s × IsRunOf s events
 IsDueAt text _ = ⊥
@@ -34,7 +34,7 @@ IsDueAt text _ = ⊥
 -- what is written of a scenario
 abbrev pub IsDueIn : Scenario → Writing → Type 0
 IsDueIn s Nothing = Unit {0}
-IsDueIn s (ContentLine fault) = (content_of s.content ≡ Err fault) × (fault ≢ no_memory)
+IsDueIn s (ContentLine fault) = (content_of s.content ≡ Err fault) × (fault ≢ out_of_memory)
 IsDueIn s (FarmLine refusal) = HasContent s × (farm_in (farm_text s.farm) ≡ Err refusal) × (is_out_of_memory refusal ≡ false)
 IsDueIn s (Events t events) = (t ≡ s) × IsRunOf s events
 IsDueIn s _ = ⊥
@@ -48,7 +48,7 @@ IsDueOf s _ = ⊥
 -- nothing, or this line about a content
 abbrev pub IsContentOr : ContentFault → Writing → Type 0
 IsContentOr fault Nothing = Unit {0}
-IsContentOr fault (ContentLine f) = (f ≡ fault) × (fault ≢ no_memory)
+IsContentOr fault (ContentLine f) = (f ≡ fault) × (fault ≢ out_of_memory)
 IsContentOr fault _ = ⊥
 
 -- nothing, or this line about a farm

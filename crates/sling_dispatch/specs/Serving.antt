@@ -8,7 +8,7 @@ use Rattle.resource_tree.specs.Content.{Content}
 use Rattle.any_config.specs.declared.farm.Farm.{Farm}
 use Rattle.content_json.specs.ContentOf.{content as content_of}
 use Rattle.content_json.specs.declared.fault.ContentFault.{ContentFault}
-use Rattle.content_json.specs.declared.fault.ContentFault.TheVariants.{NoMemory as no_memory}
+use Rattle.content_json.specs.declared.fault.ContentFault.TheVariants.{NoMemory as out_of_memory}
 use Rattle.cache_files.specs.Epochs.{next_epoch}
 use Rattle.cache_files.specs.declared.epoch.OpenFault.{OpenFault}
 use Rattle.cache_files.specs.declared.epoch.OpenFault.TheVariants as open_fault
@@ -78,7 +78,7 @@ pub record LacksContent (c : RunCall) (fault : ContentFault) : Type 0 where
   pub not_failed : HasNotFailed c.inputs
   pub content : OfInput c.inputs words.content (λ bytes. content_of bytes ≡ Err fault)
   pub any : WasRead c.inputs words.any
-  pub not_memory : fault ≢ no_memory
+  pub not_memory : fault ≢ out_of_memory
 
 -- both inputs were read, and the content has a reading, but the farm's file has none
 pub record LacksFarm (c : RunCall) (refusal : FarmRefusal) : Type 0 where

@@ -75,8 +75,8 @@ counts events notes =
       done = count_by is_done notes;
       failed = count_by is_failed notes;
       sent = sum_by sent_size notes;
-      hurt = count_by is_hurt notes;
-      dry = count_by is_out_of_memory_note notes;
+      disk_failed = count_by is_hurt notes;
+      out_of_memory = count_by is_out_of_memory_note notes;
     }
 
 -- the counts of both
@@ -94,8 +94,8 @@ plus c d =
       done = c.done + d.done;
       failed = c.failed + d.failed;
       sent = c.sent + d.sent;
-      hurt = c.hurt + d.hurt;
-      dry = c.dry + d.dry;
+      disk_failed = c.disk_failed + d.disk_failed;
+      out_of_memory = c.out_of_memory + d.out_of_memory;
     }
 
 -- the counts of events
@@ -122,7 +122,7 @@ counts_text c =
     ++ (row (codes "done") c.done
     ++ (row (codes "failed") c.failed
     ++ (row (codes "sent") c.sent
-    ++ (row (codes "hurt") c.hurt ++ row (codes "dry") c.dry)))))))))))
+    ++ (row (codes "hurt") c.disk_failed ++ row (codes "dry") c.out_of_memory)))))))))))
 
 -- the summary of events
 abbrev pub summary_text : List Event → List ℕ

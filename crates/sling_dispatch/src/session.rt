@@ -1,10 +1,10 @@
 //! A scenario's session: a front before the publisher, the disk of its cache, and what was played so far.
 ghost use Rattle.std.specs.Prelude.{◌≡◌, ◌≢◌, ◌+◌, ◌≤◌, ◌<◌, ◌^◌, [], false, IfOk, OnOk, length};
 ghost use Rattle.run_events.specs.States.{start_of};
+ghost use Rattle.run_laws.specs.Logs.{is_restart};
 ghost use Rattle.sling_dispatch.specs.Fronts.{IsNext, IsNextEvent, MakesNext, SessionStandsFor, lines_of_event, FrontMakesNext};
 ghost use Rattle.sling_dispatch.specs.InnerEndings.{AreActLines};
 ghost use Rattle.sling_dispatch.specs.Runs.{Unarmed, asked_publisher_host, sling_start};
-ghost use Rattle.sling_dispatch.specs.Runs as spec;
 ghost use Rattle.sling_dispatch.specs.ScriptedDisks.{arming_of_disk, disk_in, files_of_disk};
 
 use crate::renderer::PublisherRenderer;
@@ -147,7 +147,7 @@ impl Session {
 }
 
 fn is_restart(step: &Step) -> bool
-    ensures { result ≡ spec.is_restart step.now }
+    ensures { result ≡ is_restart step.now }
 {
     matches!(step, Step::Restart)
 }

@@ -21,8 +21,8 @@ pub struct Counts {
     pub failed: u64,
     /// How many bytes were sent.
     pub sent: u64,
-    pub hurt: u64,
-    pub dry: u64,
+    pub disk_failed: u64,
+    pub out_of_memory: u64,
 }
 
 // A count that has no room for more gives up as memory does.
@@ -53,8 +53,8 @@ impl Counts {
             done: 0,
             failed: 0,
             sent: 0,
-            hurt: 0,
-            dry: 0,
+            disk_failed: 0,
+            out_of_memory: 0,
         }
     }
 
@@ -84,8 +84,8 @@ impl Counts {
             Note::Done(_) => add(&mut self.done, 1),
             Note::Failed(_, _) => add(&mut self.failed, 1),
             Note::Sent(_, bytes) => add(&mut self.sent, bytes.size()?),
-            Note::Hurt => add(&mut self.hurt, 1),
-            Note::OutOfMemory => add(&mut self.dry, 1),
+            Note::Hurt => add(&mut self.disk_failed, 1),
+            Note::OutOfMemory => add(&mut self.out_of_memory, 1),
             _ => Ok(()),
         }
     }
@@ -106,8 +106,8 @@ impl Counts {
         push_row(alloc, &mut out, b"done", self.done)?;
         push_row(alloc, &mut out, b"failed", self.failed)?;
         push_row(alloc, &mut out, b"sent", self.sent)?;
-        push_row(alloc, &mut out, b"hurt", self.hurt)?;
-        push_row(alloc, &mut out, b"dry", self.dry)?;
+        push_row(alloc, &mut out, b"hurt", self.disk_failed)?;
+        push_row(alloc, &mut out, b"dry", self.out_of_memory)?;
         Ok(out)
     }
 }

@@ -12,18 +12,18 @@ use Rattle.sp_base.proofs.ListLemmas.{cons_is_some}
 use Rattle.sp_base.proofs.PathLemmas.{is_not, lacks_of, lacks_slash, mangled_on, no_fault, pieces_lack, small_back, small_le, true_test}
 use Rattle.sp_base.proofs.PathText.{spelled-more, pieces-spelled}
 
--- a segment with a mark is the mark and one byte or more
-parts_after : (mark seg : List ℕ) (rest : List ℕ) → seg ≡ mark ++ rest → nat_lt (length mark) (length seg) ≡ true → (x : ℕ) × (more : List ℕ) × (seg ≡ mark ++ x ∷ more)
-parts_after mark seg [] e long =
-    let size : length seg ≡ length mark = ap length e ∙ length-append mark [] ∙ omega arith in
+-- a segment with a namespace mark is the namespace mark and one byte or more
+parts_after : (namespace_mark seg : List ℕ) (rest : List ℕ) → seg ≡ namespace_mark ++ rest → nat_lt (length namespace_mark) (length seg) ≡ true → (x : ℕ) × (more : List ℕ) × (seg ≡ namespace_mark ++ x ∷ more)
+parts_after namespace_mark seg [] e long =
+    let size : length seg ≡ length namespace_mark = ap length e ∙ length-append namespace_mark [] ∙ omega arith in
     absurd (grind (arith, nat_tests))
-parts_after mark seg (x ∷ more) e long = (x, more, e)
+parts_after namespace_mark seg (x ∷ more) e long = (x, more, e)
 
-split_mark : (mark seg : List ℕ) → is_mangled mark seg ≡ true → (x : ℕ) × (more : List ℕ) × (seg ≡ mark ++ x ∷ more)
-split_mark mark seg h =
-    let leading : mark ≡ take (length mark) seg = (bytes_decides mark (take (length mark) seg)).0 (and_first (starts_with nat_eq seg mark) _ h) in
-    parts_after mark seg (drop (length mark) seg) (sym (take-append-drop (length mark) seg) ∙ ap (λ (t : List ℕ). t ++ drop (length mark) seg) (sym leading))
-    (and_second (starts_with nat_eq seg mark) _ h)
+split_namespace_mark : (namespace_mark seg : List ℕ) → is_mangled namespace_mark seg ≡ true → (x : ℕ) × (more : List ℕ) × (seg ≡ namespace_mark ++ x ∷ more)
+split_namespace_mark namespace_mark seg h =
+    let leading : namespace_mark ≡ take (length namespace_mark) seg = (bytes_decides namespace_mark (take (length namespace_mark) seg)).0 (and_first (starts_with nat_eq seg namespace_mark) _ h) in
+    parts_after namespace_mark seg (drop (length namespace_mark) seg) (sym (take-append-drop (length namespace_mark) seg) ∙ ap (λ (t : List ℕ). t ++ drop (length namespace_mark) seg) (sym leading))
+    (and_second (starts_with nat_eq seg namespace_mark) _ h)
 
 pub jcr_mangled : (x : ℕ) (more : List ℕ) → mangled_seg (codes "jcr:" ++ x ∷ more) ≡ codes "_jcr_" ++ x ∷ more
 jcr_mangled x more = cond-true _ _ _ (mangled_on (codes "jcr:") (codes "jcr:" ++ x ∷ more) refl (cons_is_some x more))
@@ -57,13 +57,13 @@ pub mangled_cases : (P : List ℕ → Type 0) (seg : List ℕ) → ((x : ℕ) (m
     → ((x : ℕ) (more : List ℕ) → P (codes "nt:" ++ x ∷ more)) → ((x : ℕ) (more : List ℕ) → P (codes "cq:" ++ x ∷ more)) → (mangled_seg seg ≡ seg → P seg) → P seg
 mangled_cases P seg jcr sling nt cq plain =
     elim (is_namespaced (codes "jcr:") seg) as (λ t. is_namespaced (codes "jcr:") seg ≡ t → P seg) [
-      | true ↦ λ e. let w = split_mark (codes "jcr:") seg e in subst P (sym w.2) (jcr w.0 w.1)
+      | true ↦ λ e. let w = split_namespace_mark (codes "jcr:") seg e in subst P (sym w.2) (jcr w.0 w.1)
       | false ↦ λ e. elim (is_namespaced (codes "sling:") seg) as (λ t. is_namespaced (codes "sling:") seg ≡ t → P seg) [
-        | true ↦ λ f. let w = split_mark (codes "sling:") seg f in subst P (sym w.2) (sling w.0 w.1)
+        | true ↦ λ f. let w = split_namespace_mark (codes "sling:") seg f in subst P (sym w.2) (sling w.0 w.1)
         | false ↦ λ f. elim (is_namespaced (codes "nt:") seg) as (λ t. is_namespaced (codes "nt:") seg ≡ t → P seg) [
-          | true ↦ λ g. let w = split_mark (codes "nt:") seg g in subst P (sym w.2) (nt w.0 w.1)
+          | true ↦ λ g. let w = split_namespace_mark (codes "nt:") seg g in subst P (sym w.2) (nt w.0 w.1)
           | false ↦ λ g. elim (is_namespaced (codes "cq:") seg) as (λ t. is_namespaced (codes "cq:") seg ≡ t → P seg) [
-            | true ↦ λ h. let w = split_mark (codes "cq:") seg h in subst P (sym w.2) (cq w.0 w.1)
+            | true ↦ λ h. let w = split_namespace_mark (codes "cq:") seg h in subst P (sym w.2) (cq w.0 w.1)
             | false ↦ λ h. plain (four_false _ _ _ _ _ _ _ _ _ e f g h)
           ] refl
         ] refl
@@ -75,13 +75,13 @@ pub unmangled_cases : (P : List ℕ → Type 0) (seg : List ℕ) → ((x : ℕ) 
     → ((x : ℕ) (more : List ℕ) → P (codes "_nt_" ++ x ∷ more)) → ((x : ℕ) (more : List ℕ) → P (codes "_cq_" ++ x ∷ more)) → (unmangled_seg seg ≡ seg → P seg) → P seg
 unmangled_cases P seg jcr sling nt cq plain =
     elim (is_mangled (codes "_jcr_") seg) as (λ t. is_mangled (codes "_jcr_") seg ≡ t → P seg) [
-      | true ↦ λ e. let w = split_mark (codes "_jcr_") seg e in subst P (sym w.2) (jcr w.0 w.1)
+      | true ↦ λ e. let w = split_namespace_mark (codes "_jcr_") seg e in subst P (sym w.2) (jcr w.0 w.1)
       | false ↦ λ e. elim (is_mangled (codes "_sling_") seg) as (λ t. is_mangled (codes "_sling_") seg ≡ t → P seg) [
-        | true ↦ λ f. let w = split_mark (codes "_sling_") seg f in subst P (sym w.2) (sling w.0 w.1)
+        | true ↦ λ f. let w = split_namespace_mark (codes "_sling_") seg f in subst P (sym w.2) (sling w.0 w.1)
         | false ↦ λ f. elim (is_mangled (codes "_nt_") seg) as (λ t. is_mangled (codes "_nt_") seg ≡ t → P seg) [
-          | true ↦ λ g. let w = split_mark (codes "_nt_") seg g in subst P (sym w.2) (nt w.0 w.1)
+          | true ↦ λ g. let w = split_namespace_mark (codes "_nt_") seg g in subst P (sym w.2) (nt w.0 w.1)
           | false ↦ λ g. elim (is_mangled (codes "_cq_") seg) as (λ t. is_mangled (codes "_cq_") seg ≡ t → P seg) [
-            | true ↦ λ h. let w = split_mark (codes "_cq_") seg h in subst P (sym w.2) (cq w.0 w.1)
+            | true ↦ λ h. let w = split_namespace_mark (codes "_cq_") seg h in subst P (sym w.2) (cq w.0 w.1)
             | false ↦ λ h. plain (four_false _ _ _ _ _ _ _ _ _ e f g h)
           ] refl
         ] refl

@@ -32,8 +32,8 @@ chosen_bytes : (b : Bool) (x y : List ℕ) → AreBytes x → AreBytes y → Are
 chosen_bytes true x y p q = p
 chosen_bytes false x y p q = q
 
-marked_bytes : (prefix mark seg : List ℕ) → AreBytes mark → AreBytes seg → AreBytes (mangled_by prefix mark seg)
-marked_bytes prefix mark seg m p = both_are_bytes mark (drop (length prefix) seg) m (dropped_bytes (length prefix) seg p)
+marked_bytes : (prefix namespace_mark seg : List ℕ) → AreBytes namespace_mark → AreBytes seg → AreBytes (mangled_by prefix namespace_mark seg)
+marked_bytes prefix namespace_mark seg m p = both_are_bytes namespace_mark (drop (length prefix) seg) m (dropped_bytes (length prefix) seg p)
 
 jcr : AreBytes (codes "_jcr_")
 jcr = (omega arith, (omega arith, (omega arith, (omega arith, (omega arith, tt)))))

@@ -170,37 +170,37 @@ child_fits segs name path ok less =
 pub no_fault_left : (segs : List (List ℕ)) (name : List ℕ) (e : PathFault) → is_path segs ≡ true → child_of segs name ≡ Err e → seg_ok name ≡ true → length segs < 64 → ⊥
 no_fault_left segs name e path h ok less = cc (h, child_fits segs name path ok less)
 
--- whether a segment begins with a mark, by what stripping the mark answers
-lacks_mark : (mark seg : List ℕ) → ((rest : List ℕ) → seg ≢ mark ++ rest) → starts_with nat_eq seg mark ≡ false
-lacks_mark mark seg lacks =
-    let k = length mark in
-    elim (starts_with nat_eq seg mark) as (λ b. starts_with nat_eq seg mark ≡ b → b ≡ false) [
-      | true ↦ λ e. absurd (lacks (drop k seg) (sym (take-append-drop k seg) ∙ ap (λ leading. leading ++ drop k seg) (sym ((bytes_decides mark (take k seg)).0 e))))
+-- whether a segment begins with a namespace mark, by what stripping the namespace mark answers
+lacks_namespace_mark : (namespace_mark seg : List ℕ) → ((rest : List ℕ) → seg ≢ namespace_mark ++ rest) → starts_with nat_eq seg namespace_mark ≡ false
+lacks_namespace_mark namespace_mark seg lacks =
+    let k = length namespace_mark in
+    elim (starts_with nat_eq seg namespace_mark) as (λ b. starts_with nat_eq seg namespace_mark ≡ b → b ≡ false) [
+      | true ↦ λ e. absurd (lacks (drop k seg) (sym (take-append-drop k seg) ∙ ap (λ leading. leading ++ drop k seg) (sym ((bytes_decides namespace_mark (take k seg)).0 e))))
       | false ↦ λ e. refl
     ] refl
 
-has_mark : (mark seg : List ℕ) → seg ≡ mark ++ drop (length mark) seg → starts_with nat_eq seg mark ≡ true
-has_mark mark seg e =
-    let leading : mark ≡ take (length mark) seg = sym (ap (take (length mark)) e ∙ take_at mark (drop (length mark) seg) (length mark) refl) in
-    (bytes_decides mark (take (length mark) seg)).1 leading
+has_namespace_mark : (namespace_mark seg : List ℕ) → seg ≡ namespace_mark ++ drop (length namespace_mark) seg → starts_with nat_eq seg namespace_mark ≡ true
+has_namespace_mark namespace_mark seg e =
+    let leading : namespace_mark ≡ take (length namespace_mark) seg = sym (ap (take (length namespace_mark)) e ∙ take_at namespace_mark (drop (length namespace_mark) seg) (length namespace_mark) refl) in
+    (bytes_decides namespace_mark (take (length namespace_mark) seg)).1 leading
 
 longer : (m n k : ℕ) → (k == 0) ≡ false → n ≡ m + k → nat_lt m n ≡ true
 longer m n k h e = grind (arith, nat_tests)
 
-pub not_mangled : (mark seg : List ℕ) → ((rest : List ℕ) → seg ≢ mark ++ rest) → is_mangled mark seg ≡ false
-not_mangled mark seg lacks = ap (λ b. b && nat_lt (length mark) (length seg)) (lacks_mark mark seg lacks)
+pub not_mangled : (namespace_mark seg : List ℕ) → ((rest : List ℕ) → seg ≢ namespace_mark ++ rest) → is_mangled namespace_mark seg ≡ false
+not_mangled namespace_mark seg lacks = ap (λ b. b && nat_lt (length namespace_mark) (length seg)) (lacks_namespace_mark namespace_mark seg lacks)
 
-pub mangled_alone : (mark seg : List ℕ) → seg ≡ mark ++ drop (length mark) seg → (length (drop (length mark) seg) == 0) ≡ true → is_mangled mark seg ≡ false
-mangled_alone mark seg e none =
-    let zero_left = eqb-true (length (drop (length mark) seg)) 0 none in
-    let long : nat_lt (length mark) (length seg) ≡ false =
-    le-ltb (length mark) (length seg) (omega (arith, zero_left, ap length e, length-append mark (drop (length mark) seg))) in
-    ap (λ b. b && nat_lt (length mark) (length seg)) (has_mark mark seg e) ∙ long
+pub mangled_alone : (namespace_mark seg : List ℕ) → seg ≡ namespace_mark ++ drop (length namespace_mark) seg → (length (drop (length namespace_mark) seg) == 0) ≡ true → is_mangled namespace_mark seg ≡ false
+mangled_alone namespace_mark seg e none =
+    let zero_left = eqb-true (length (drop (length namespace_mark) seg)) 0 none in
+    let long : nat_lt (length namespace_mark) (length seg) ≡ false =
+    le-ltb (length namespace_mark) (length seg) (omega (arith, zero_left, ap length e, length-append namespace_mark (drop (length namespace_mark) seg))) in
+    ap (λ b. b && nat_lt (length namespace_mark) (length seg)) (has_namespace_mark namespace_mark seg e) ∙ long
 
-pub mangled_on : (mark seg : List ℕ) → seg ≡ mark ++ drop (length mark) seg → (length (drop (length mark) seg) == 0) ≡ false → is_mangled mark seg ≡ true
-mangled_on mark seg e some =
-    let long : nat_lt (length mark) (length seg) ≡ true = longer (length mark) (length seg) (length (drop (length mark) seg)) some (ap length e ∙ length-append mark (drop (length mark) seg)) in
-    ap (λ b. b && nat_lt (length mark) (length seg)) (has_mark mark seg e) ∙ long
+pub mangled_on : (namespace_mark seg : List ℕ) → seg ≡ namespace_mark ++ drop (length namespace_mark) seg → (length (drop (length namespace_mark) seg) == 0) ≡ false → is_mangled namespace_mark seg ≡ true
+mangled_on namespace_mark seg e some =
+    let long : nat_lt (length namespace_mark) (length seg) ≡ true = longer (length namespace_mark) (length seg) (length (drop (length namespace_mark) seg)) some (ap length e ∙ length-append namespace_mark (drop (length namespace_mark) seg)) in
+    ap (λ b. b && nat_lt (length namespace_mark) (length seg)) (has_namespace_mark namespace_mark seg e) ∙ long
 
 pub IfOk-from : {A E : Type 0} (r : Result A E) {P : A → Type 0} → ((x : A) → r ≡ Ok x → P x) → IfOk r P
 IfOk-from (Ok x) h = h x refl
@@ -224,16 +224,16 @@ lacks-append (x ∷ a) b h k = ap (λ t. t || has_slash (a ++ b)) (or_first _ _ 
 short_left : (n : ℕ) → T (not (nat_lt 200 n)) → n ≤ 200
 short_left n h = let e = false_from_T_not (nat_lt 200 n) h in grind (arith, nat_tests)
 
-kept : (mark prefix seg : List ℕ) → 0 < length prefix → is_dots (unmangled_by mark prefix seg) ≡ false
-    → length prefix ≤ length mark → length prefix ≤ 200 → has_slash prefix ≡ false → T (seg_ok seg) → T (seg_ok (unmangled_by mark prefix seg))
-kept mark prefix seg full dots le small slash h =
+kept : (namespace_mark prefix seg : List ℕ) → 0 < length prefix → is_dots (unmangled_by namespace_mark prefix seg) ≡ false
+    → length prefix ≤ length namespace_mark → length prefix ≤ 200 → has_slash prefix ≡ false → T (seg_ok seg) → T (seg_ok (unmangled_by namespace_mark prefix seg))
+kept namespace_mark prefix seg full dots le small slash h =
     let rest = T_second (not (is_dots seg)) _ (T_second (not (is_empty seg)) _ h) in
     let long = short_left (length seg) (T_first (not (is_long seg)) _ rest) in
     let lacks = false_from_T_not (has_slash seg) (T_second (not (is_long seg)) _ rest) in
-    let size : length (prefix ++ drop (length mark) seg) ≤ 200 =
-    omega (arith, long, le, small, length-append prefix (drop (length mark) seg), length-drop (length mark) seg) in
-    T_both _ _ (is_not _ (not_zero (length (prefix ++ drop (length mark) seg)) (omega (arith, full, length-append prefix (drop (length mark) seg))))) (T_both _ _ (is_not _ dots) (T_both _ _ (is_not _ (le-ltb 200 (length (prefix ++ drop (length mark) seg)) size))
-    (is_not _ (lacks-append prefix (drop (length mark) seg) slash (lacks-drop (length mark) seg lacks)))))
+    let size : length (prefix ++ drop (length namespace_mark) seg) ≤ 200 =
+    omega (arith, long, le, small, length-append prefix (drop (length namespace_mark) seg), length-drop (length namespace_mark) seg) in
+    T_both _ _ (is_not _ (not_zero (length (prefix ++ drop (length namespace_mark) seg)) (omega (arith, full, length-append prefix (drop (length namespace_mark) seg))))) (T_both _ _ (is_not _ dots) (T_both _ _ (is_not _ (le-ltb 200 (length (prefix ++ drop (length namespace_mark) seg)) size))
+    (is_not _ (lacks-append prefix (drop (length namespace_mark) seg) slash (lacks-drop (length namespace_mark) seg lacks)))))
 
 unmangled_ok : (seg : List ℕ) → T (seg_ok seg) → T (seg_ok (unmangled_seg seg))
 unmangled_ok seg h =

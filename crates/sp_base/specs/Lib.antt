@@ -14,3 +14,4 @@ pub mod HeldBytes
 pub mod Requests
 pub mod RequestBlocks
 pub mod FaultTexts
+pub mod Outcomes

@@ -5,7 +5,7 @@ use Rattle.std.specs.List.{list_any, list_all, position_from, starts_with}
 use Rattle.std.specs.Ordering.{nat_cmp}
 use Rattle.std.specs.declared.cmp.Ordering.{Ordering}
 use Rattle.std.specs.declared.cmp.Ordering.TheVariants.{Less, Equal, Greater}
-use Rattle.sp_base.specs.Texts.{Segments}
+use Rattle.sp_base.specs.Texts.{PathText, Segments}
 use Rattle.sp_base.specs.declared.path.PathFault.{PathFault}
 use Rattle.sp_base.specs.declared.path.PathFault.TheVariants.{EmptySegment, DotSegment}
 use Rattle.sp_base.specs.Paths.{is_empty, is_dots, is_long, has_slash, is_path, pieces, size_fault, is_under}
@@ -19,7 +19,7 @@ abbrev pub fault_after : ℕ → Segments → Option PathFault
 fault_after before parts = if list_any is_empty parts then Some EmptySegment else (if list_any is_dots parts then Some DotSegment else size_fault (position_from is_long before parts) (before + length parts))
 
 -- a slash before each segment: a path's text in memory, empty for the root
-abbrev pub spelling_of : Segments → List ℕ
+abbrev pub spelling_of : Segments → PathText
 spelling_of segs = flat_map (λ s. 47 ∷ s) segs
 
 -- segments without a slash, which a text with a slash before each keeps apart
@@ -27,11 +27,11 @@ abbrev pub lack_slashes : Segments → Bool
 lack_slashes segs = list_all (λ seg. not (has_slash seg)) segs
 
 -- the segments of such a text: the pieces after its first slash
-unfoldable pub segs_in : List ℕ → Segments
+unfoldable pub segs_in : PathText → Segments
 segs_in text = drop 1 (pieces text)
 
 -- a text that spells a path
-pub record IsPathText (text : List ℕ) : Type 0 where
+pub record IsPathText (text : PathText) : Type 0 where
   pub valid : IsTrue (is_path (segs_in text))
   pub whole : spelling_of (segs_in text) ≡ text
 

@@ -105,13 +105,13 @@ text_of (seg ∷ segs) = flat_map (λ s. 47 ∷ s) (seg ∷ segs)
 abbrev pub is_under : Segments → Segments → Bool
 is_under path other = starts_with (pointwise nat_eq) path other
 
--- the segment begins with a mark such as `_jcr_`, and goes on
+-- the segment begins with a namespace mark such as `_jcr_`, and goes on
 abbrev pub is_mangled : List ℕ → List ℕ → Bool
-is_mangled mark seg = starts_with nat_eq seg mark && nat_lt (length mark) (length seg)
+is_mangled namespace_mark seg = starts_with nat_eq seg namespace_mark && nat_lt (length namespace_mark) (length seg)
 
--- a prefix in place of the mark at the beginning
+-- a prefix in place of the namespace mark at the beginning
 abbrev pub unmangled_by : List ℕ → List ℕ → List ℕ → List ℕ
-unmangled_by mark prefix seg = prefix ++ drop (length mark) seg
+unmangled_by namespace_mark prefix seg = prefix ++ drop (length namespace_mark) seg
 
 -- the segment with its namespace prefix as it stands in the repository: `_jcr_content` is `jcr:content`
 -- (Apache Sling, "Mappings for resource resolution", namespace mangling)
@@ -129,9 +129,9 @@ unmangled_segs segs = map unmangled_seg segs
 abbrev pub is_namespaced : List ℕ → List ℕ → Bool
 is_namespaced prefix seg = starts_with nat_eq seg prefix && nat_lt (length prefix) (length seg)
 
--- a mark in place of the prefix at the beginning
+-- a namespace mark in place of the prefix at the beginning
 abbrev pub mangled_by : List ℕ → List ℕ → List ℕ → List ℕ
-mangled_by prefix mark seg = mark ++ drop (length prefix) seg
+mangled_by prefix namespace_mark seg = namespace_mark ++ drop (length prefix) seg
 
 -- the segment with its namespace prefix as it stands in URLs: `jcr:content` is `_jcr_content`
 abbrev pub mangled_seg : List ℕ → List ℕ

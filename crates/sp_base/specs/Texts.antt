@@ -10,6 +10,10 @@ Text = List ℕ
 abbrev pub Segments : Type 0
 Segments = List Text
 
+-- a path's text: a slash before each segment, nothing for the root
+abbrev pub PathText : Type 0
+PathText = Text
+
 -- names and what stands under each, in their order, of texts
 abbrev pub Pairs : Type 0
 Pairs = List (Text × Text)

@@ -8,8 +8,8 @@ use Rattle.sp_base.specs.Limits.{least_i64_magnitude}
 use Rattle.sp_base.specs.declared.value.Value.{Value}
 use Rattle.sp_base.specs.declared.value.Value.TheVariants.{Text, Long, Truth, Texts, Longs, Truths}
 use Rattle.sp_base.specs.declared.hint.Hint.{Hint}
-use Rattle.sp_base.specs.declared.hint.HintKind.{HintKind}
-use Rattle.sp_base.specs.declared.hint.HintKind.TheVariants.{Text as TextKind, Long as LongKind, Truth as TruthKind}
+use Rattle.sp_base.specs.declared.hint.HintedType.{HintedType}
+use Rattle.sp_base.specs.declared.hint.HintedType.TheVariants.{Text as TextKind, Long as LongKind, Truth as TruthKind}
 use Rattle.sp_base.specs.declared.hint.ValueFault.{ValueFault}
 use Rattle.sp_base.specs.declared.hint.ValueFault.TheVariants.{WrongCount, NotANumber}
 use Rattle.sp_base.specs.Texts as texts
@@ -43,7 +43,7 @@ long_value None = Err (NotANumber 0)
 long_value (Some n) = Ok (Long n)
 
 -- one word as a value
-abbrev pub one_of : HintKind → List ℕ → Result Value ValueFault
+abbrev pub one_of : HintedType → List ℕ → Result Value ValueFault
 one_of TextKind word = Ok (Text word)
 one_of LongKind word = long_value (number_of word)
 one_of TruthKind word = Ok (Truth (truth_of word))
@@ -54,13 +54,13 @@ longs_value (Ok ns) = Ok (Longs ns)
 longs_value (Err e) = Err e
 
 -- words as a list value
-abbrev pub many_of : HintKind → List texts.Text → Result Value ValueFault
+abbrev pub many_of : HintedType → List texts.Text → Result Value ValueFault
 many_of TextKind words = Ok (Texts words)
 many_of LongKind words = longs_value (longs_of words)
 many_of TruthKind words = Ok (Truths (map truth_of words))
 
 -- words as a single value: there must be just one
-abbrev pub single_of : HintKind → List texts.Text → Result Value ValueFault
+abbrev pub single_of : HintedType → List texts.Text → Result Value ValueFault
 single_of kind [] = Err (WrongCount 0)
 single_of kind (word ∷ []) = one_of kind word
 single_of kind (word ∷ next ∷ words) = Err (WrongCount (length (word ∷ next ∷ words)))

@@ -1,13 +1,13 @@
 //! What kind of value words are to become.
 ghost use Rattle.std.specs.Prelude.{◌≡◌};
-ghost use Rattle.sp_base.specs.declared.hint.ValueFault.TheVariants.{NoMemory as no_memory};
+ghost use Rattle.sp_base.specs.declared.hint.ValueFault.TheVariants.{NoMemory as out_of_memory};
 
 use crate::NoMemory;
 use std::alloc::{AllocError, AllocFailed};
 
 /// The kind of value that words are to become.
 #[derive(Clone, Copy, PartialEq, Eq, Debug, Drop)]
-pub enum HintKind {
+pub enum HintedType {
     Text,
     Long,
     Truth,
@@ -16,7 +16,7 @@ pub enum HintKind {
 /// What words are to become: one value of a kind, or a list of these.
 #[derive(Clone, Copy, PartialEq, Eq, Debug, Drop)]
 pub struct Hint {
-    pub kind: HintKind,
+    pub kind: HintedType,
     pub many: bool,
 }
 
@@ -31,7 +31,7 @@ pub enum ValueFault {
 }
 
 impl From<NoMemory> for ValueFault {
-    ghost from_gives = { λ _ e. e ≡ no_memory };
+    ghost from_gives = { λ _ e. e ≡ out_of_memory };
 
     fn from(_fault: NoMemory) -> ValueFault {
         ValueFault::NoMemory
@@ -39,7 +39,7 @@ impl From<NoMemory> for ValueFault {
 }
 
 impl From<AllocError> for ValueFault {
-    ghost from_gives = { λ _ e. e ≡ no_memory };
+    ghost from_gives = { λ _ e. e ≡ out_of_memory };
 
     fn from(_fault: AllocError) -> ValueFault {
         ValueFault::NoMemory
@@ -47,7 +47,7 @@ impl From<AllocError> for ValueFault {
 }
 
 impl<T: Drop> From<AllocFailed<T>> for ValueFault {
-    ghost from_gives = { λ _ e. e ≡ no_memory };
+    ghost from_gives = { λ _ e. e ≡ out_of_memory };
 
     fn from(_fault: AllocFailed<T>) -> ValueFault {
         ValueFault::NoMemory

@@ -25,7 +25,7 @@ mod value;
 pub use answer::{Answer, Ask, Mark};
 pub use bytes::{ByteBuf, begins_with_byte};
 pub use field::{FieldPlace, field_value};
-pub use hint::{Hint, HintKind, ValueFault};
+pub use hint::{Hint, HintedType, ValueFault};
 pub use items::{CallList, Items, LongList, NameList, PathList, TextList, TruthList};
 pub use laws::{
     a_path_and_its_text, a_path_has_bytes, mangling_and_unmangling, segments_and_their_spelling,

@@ -8,7 +8,7 @@ ghost use Rattle.std.specs.Hash as fed;
 ghost use Rattle.sp_base.specs.PathExact.{fed_alike};
 ghost use Rattle.sp_base.specs.Paths.{most_segments, name_of, seg_ok, path_of, child_of, join_of, parent_of, text_of, unmangled_segs, mangled_of, is_under, is_path, fault_of, path_or_fault};
 ghost use Rattle.sp_base.specs.PathTexts.{segs_in, spelling_of};
-ghost use Rattle.sp_base.specs.declared.path.PathFault.TheVariants.{NoMemory as no_memory};
+ghost use Rattle.sp_base.specs.declared.path.PathFault.TheVariants.{NoMemory as out_of_memory};
 
 use crate::order::text_order;
 use crate::segments::{
@@ -38,7 +38,7 @@ pub enum PathFault {
 }
 
 impl From<NoMemory> for PathFault {
-    ghost from_gives = { λ _ e. e ≡ no_memory };
+    ghost from_gives = { λ _ e. e ≡ out_of_memory };
 
     fn from(_fault: NoMemory) -> PathFault {
         PathFault::NoMemory
@@ -46,7 +46,7 @@ impl From<NoMemory> for PathFault {
 }
 
 impl From<AllocError> for PathFault {
-    ghost from_gives = { λ _ e. e ≡ no_memory };
+    ghost from_gives = { λ _ e. e ≡ out_of_memory };
 
     fn from(_fault: AllocError) -> PathFault {
         PathFault::NoMemory
@@ -54,7 +54,7 @@ impl From<AllocError> for PathFault {
 }
 
 impl<T: Drop> From<AllocFailed<T>> for PathFault {
-    ghost from_gives = { λ _ e. e ≡ no_memory };
+    ghost from_gives = { λ _ e. e ≡ out_of_memory };
 
     fn from(_fault: AllocFailed<T>) -> PathFault {
         PathFault::NoMemory

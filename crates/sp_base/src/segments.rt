@@ -157,16 +157,16 @@ pub fn piece_at(text: &str, n: usize) -> Option<&str>
     text.split('/').nth(n)
 }
 
-pub fn glued(alloc: Global, leading: &str, mark: &str, back: &str) -> Mem<String>
-    ensures { IfOk result (λ t. string_bytes t ≡ leading.now ++ (mark.now ++ back.now)) }
+pub fn glued(alloc: Global, leading: &str, between: &str, back: &str) -> Mem<String>
+    ensures { IfOk result (λ t. string_bytes t ≡ leading.now ++ (between.now ++ back.now)) }
 {
     let length = leading
         .len()
-        .saturating_add(mark.len())
+        .saturating_add(between.len())
         .saturating_add(back.len());
     let mut text = String::with_capacity(alloc, length)?;
     text.push_str(leading)?;
-    add_both(&mut text, mark, back)?;
+    add_both(&mut text, between, back)?;
     Ok(text)
 }
 
@@ -199,13 +199,13 @@ pub fn pieces_unmangled(alloc: Global, text: &str) -> Mem<String>
 pub fn mangled_parts(seg: &str) -> (&str, &str)
     ensures { result.0.now ++ result.1.now ≡ mangled_seg seg.now }
 {
-    if let Some(rest) = after_mark(seg, "jcr:") {
+    if let Some(rest) = after_namespace_mark(seg, "jcr:") {
         ("_jcr_", rest)
-    } else if let Some(rest) = after_mark(seg, "sling:") {
+    } else if let Some(rest) = after_namespace_mark(seg, "sling:") {
         ("_sling_", rest)
-    } else if let Some(rest) = after_mark(seg, "nt:") {
+    } else if let Some(rest) = after_namespace_mark(seg, "nt:") {
         ("_nt_", rest)
-    } else if let Some(rest) = after_mark(seg, "cq:") {
+    } else if let Some(rest) = after_namespace_mark(seg, "cq:") {
         ("_cq_", rest)
     } else {
         ("", seg)
@@ -219,8 +219,8 @@ pub fn pieces_mangled(alloc: Global, text: &str) -> Mem<String>
     let mut spelling = String::with_capacity(alloc, text.len().saturating_add(1))?;
     for piece in text.split('/') {
         spelling.push_str("/")?;
-        let (mark, rest) = mangled_parts(piece);
-        add_both(&mut spelling, mark, rest)?;
+        let (namespace_mark, rest) = mangled_parts(piece);
+        add_both(&mut spelling, namespace_mark, rest)?;
     }
     Ok(spelling)
 }
@@ -236,12 +236,12 @@ pub fn fault_in(text: &str) -> Option<PathFault>
     }
 }
 
-// What follows a mark such as `_jcr_` or `jcr:`, where something does.
-fn after_mark<'a>(seg: &'a str, mark: &str) -> Option<&'a str>
-    ensures some { IfSome result (λ rest. (is_mangled mark.now seg.now ≡ true) × (rest.now ≡ drop (length mark.now) seg.now)) }
-    ensures none { IfNone result (is_mangled mark.now seg.now ≡ false) }
+// What follows a namespace mark such as `_jcr_` or `jcr:`, where something does.
+fn after_namespace_mark<'a>(seg: &'a str, namespace_mark: &str) -> Option<&'a str>
+    ensures some { IfSome result (λ rest. (is_mangled namespace_mark.now seg.now ≡ true) × (rest.now ≡ drop (length namespace_mark.now) seg.now)) }
+    ensures none { IfNone result (is_mangled namespace_mark.now seg.now ≡ false) }
 {
-    match seg.strip_prefix(mark) {
+    match seg.strip_prefix(namespace_mark) {
         Some(rest) if !rest.is_empty() => Some(rest),
         _ => None,
     }
@@ -251,13 +251,13 @@ fn after_mark<'a>(seg: &'a str, mark: &str) -> Option<&'a str>
 fn add_unmangled(text: &mut String, seg: &str) -> Mem<()>
     ensures { OnOk result (string_bytes text.new ≡ string_bytes text.old ++ unmangled_seg seg.now) }
 {
-    if let Some(rest) = after_mark(seg, "_jcr_") {
+    if let Some(rest) = after_namespace_mark(seg, "_jcr_") {
         add_both(text, "jcr:", rest)
-    } else if let Some(rest) = after_mark(seg, "_sling_") {
+    } else if let Some(rest) = after_namespace_mark(seg, "_sling_") {
         add_both(text, "sling:", rest)
-    } else if let Some(rest) = after_mark(seg, "_nt_") {
+    } else if let Some(rest) = after_namespace_mark(seg, "_nt_") {
         add_both(text, "nt:", rest)
-    } else if let Some(rest) = after_mark(seg, "_cq_") {
+    } else if let Some(rest) = after_namespace_mark(seg, "_cq_") {
         add_both(text, "cq:", rest)
     } else {
         add_both(text, "", seg)

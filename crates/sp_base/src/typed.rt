@@ -2,7 +2,7 @@
 ghost use Rattle.std.specs.Prelude.{◌≡◌, ◌≢◌, map, IfOk, IfErr, Ok, Err};
 ghost use Rattle.sp_base.specs.Typed.{number_of, truth_of, one_of, longs_of, many_of, typed_of};
 
-use crate::hint::{Hint, HintKind, ValueFault};
+use crate::hint::{Hint, HintedType, ValueFault};
 use crate::items::{LongList, TextList, TruthList};
 use crate::{Mem, TextBuf, Value};
 use std::alloc::Global;
@@ -23,28 +23,28 @@ impl Value {
     }
 }
 
-fn many(alloc: Global, kind: HintKind, words: &TextList) -> Result<Value, ValueFault>
+fn many(alloc: Global, kind: HintedType, words: &TextList) -> Result<Value, ValueFault>
     ensures ok { IfOk result (λ v. many_of kind words.now ≡ Ok v) }
     ensures err { IfErr result (λ e. e ≢ ValueFault.NoMemory → many_of kind words.now ≡ Err e) }
 {
     match kind {
-        HintKind::Text => Ok(Value::Texts(words.duplicate(alloc)?)),
-        HintKind::Long => Ok(Value::Longs(longs(alloc, words)?)),
-        HintKind::Truth => Ok(Value::Truths(truths(alloc, words)?)),
+        HintedType::Text => Ok(Value::Texts(words.duplicate(alloc)?)),
+        HintedType::Long => Ok(Value::Longs(longs(alloc, words)?)),
+        HintedType::Truth => Ok(Value::Truths(truths(alloc, words)?)),
     }
 }
 
-fn one(alloc: Global, kind: HintKind, word: &str) -> Result<Value, ValueFault>
+fn one(alloc: Global, kind: HintedType, word: &str) -> Result<Value, ValueFault>
     ensures ok { IfOk result (λ v. one_of kind word.now ≡ Ok v) }
     ensures err { IfErr result (λ e. e ≢ ValueFault.NoMemory → one_of kind word.now ≡ Err e) }
 {
     match kind {
-        HintKind::Text => Ok(Value::Text(TextBuf::of(alloc, word)?)),
-        HintKind::Long => match number(word) {
+        HintedType::Text => Ok(Value::Text(TextBuf::of(alloc, word)?)),
+        HintedType::Long => match number(word) {
             Some(n) => Ok(Value::Long(n)),
             None => Err(ValueFault::NotANumber(0)),
         },
-        HintKind::Truth => Ok(Value::Truth(word == "true")),
+        HintedType::Truth => Ok(Value::Truth(word == "true")),
     }
 }
 

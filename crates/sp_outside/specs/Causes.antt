@@ -6,7 +6,7 @@ use Rattle.sp_outside.specs.declared.source.SourceFault.TheVariants.{Failed as s
 use Rattle.sp_outside.specs.declared.sink.SinkFault.{SinkFault}
 use Rattle.sp_outside.specs.declared.sink.SinkFault.TheVariants.{Failed as sink_failed, NoMemory}
 use Rattle.sp_outside.specs.declared.disk.DiskFault.{DiskFault}
-use Rattle.sp_outside.specs.declared.disk.DiskFault.TheVariants.{Failed as disk_failed, NoMemory as no_room}
+use Rattle.sp_outside.specs.declared.disk.DiskFault.TheVariants.{Failed as disk_failed, NoMemory as out_of_memory}
 
 -- one more, in a count that stands still at `greatest_u64`
 abbrev pub next : ℕ → ℕ
@@ -31,7 +31,7 @@ HasSinkCause before after (Err NoMemory) = after ≡ before
 abbrev pub HasDiskCause : {T : Type 0} → ℕ → ℕ → Result T DiskFault → Type 0
 HasDiskCause before after (Ok _) = after ≡ before
 HasDiskCause before after (Err disk_failed) = Rose before after
-HasDiskCause before after (Err no_room) = after ≡ before
+HasDiskCause before after (Err out_of_memory) = after ≡ before
 
 -- the disk is said to have failed exactly where its count of faults rose
 abbrev pub IsDiskFailure : ℕ → ℕ → Bool → Type 0

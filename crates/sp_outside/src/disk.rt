@@ -3,7 +3,7 @@ ghost use Rattle.std.specs.Prelude.{◌≡◌, ℕ, List, Option, IfSome, IfOk, 
 ghost use Rattle.sp_outside.specs.Files.{Files, IsName, IsListing, IsOldOrNew, file_at, told_with, told_without, names_after};
 ghost use Rattle.sp_outside.specs.Causes.{HasDiskCause};
 ghost use Rattle.sp_outside.specs.Calls.{Call, Get, Put, Remove, Names, told_call};
-ghost use Rattle.sp_outside.specs.declared.disk.DiskFault.TheVariants.{NoMemory as no_memory};
+ghost use Rattle.sp_outside.specs.declared.disk.DiskFault.TheVariants.{NoMemory as out_of_memory};
 
 use sp_base::{ByteBuf, NameList, NoMemory};
 use std::alloc::{AllocError, Global};
@@ -18,7 +18,7 @@ pub enum DiskFault {
 }
 
 impl From<NoMemory> for DiskFault {
-    ghost from_gives = { λ _ e. e ≡ no_memory };
+    ghost from_gives = { λ _ e. e ≡ out_of_memory };
 
     fn from(_fault: NoMemory) -> DiskFault {
         DiskFault::NoMemory
@@ -26,7 +26,7 @@ impl From<NoMemory> for DiskFault {
 }
 
 impl From<AllocError> for DiskFault {
-    ghost from_gives = { λ _ e. e ≡ no_memory };
+    ghost from_gives = { λ _ e. e ≡ out_of_memory };
 
     fn from(_fault: AllocError) -> DiskFault {
         DiskFault::NoMemory

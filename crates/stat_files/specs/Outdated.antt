@@ -1,7 +1,6 @@
 -- Which pages .stat files outdate (Adobe Dispatcher manual, "Invalidating Files by Folder Level"). Where the manual compares the times of
 -- files, stamps are compared: one is newer where its session is later, or the session is the same and its count is greater.
 use Rattle.std.specs.Prelude.{◌==◌, ◌&&◌, ◌||◌, ℕ, Bool, false, not, nat_lt, Option, Some, None, true, ◌<◌, ◌^◌, ◌≡◌, ◌≢◌}
-use Rattle.std.specs.List.{AllByRecursion}
 use Rattle.sp_outside.specs.Files.{Files, file_at}
 use Rattle.cover_rules.specs.Coverage.{stat_folder}
 use Rattle.cover_rules.specs.declared.page.PageKey.{PageKey}
@@ -9,9 +8,8 @@ use Rattle.cover_rules.specs.declared.stamp.Stamp.{Stamp}
 use Rattle.cover_rules.specs.Pages.{IsPageKey}
 use Rattle.stat_files.specs.Stamps.{stamp_at, files_with_stamp}
 use Rattle.sp_base.specs.Texts.{Text, Segments}
-use Rattle.sp_base.specs.Bytes.{AreBytes}
 use Rattle.sp_base.specs.Paths.{mangled_segs}
-use Rattle.docroot_format.specs.Names.{stat_name}
+use Rattle.docroot_format.specs.Names.{HaveBytes, stat_name}
 use Rattle.docroot_format.specs.Readings.{stat_of}
 
 -- a stamp is older than another
@@ -40,7 +38,7 @@ MissingStatsOutdateNothing = (level : ℕ) (auto : Bool) (files : Files) (key : 
 
 -- a touch of another folder doesn't change whether a page is outdated
 abbrev pub TouchesElsewhereChangeNothing : Type 0
-TouchesElsewhereChangeNothing = (level : ℕ) (auto : Bool) (files : Files) (key : PageKey) (folder : Segments) (stamp page : Stamp) → IsPageKey key → AllByRecursion AreBytes folder
+TouchesElsewhereChangeNothing = (level : ℕ) (auto : Bool) (files : Files) (key : PageKey) (folder : Segments) (stamp page : Stamp) → IsPageKey key → HaveBytes folder
     → mangled_segs folder ≢ mangled_segs (stat_folder level key)
     → is_outdated level auto (files_with_stamp files folder stamp) key page ≡ is_outdated level auto files key page
 

@@ -2,11 +2,9 @@
 use Rattle.std.specs.Prelude.{◌≡◌, ◌≢◌, ◌⊎◌, ◌<◌, ◌≤◌, Option, Some, None, option_and_then, option_map, ◌^◌}
 use Rattle.sp_base.specs.Paths.{mangled_segs}
 use Rattle.sp_base.specs.Texts.{Segments, Text}
-use Rattle.std.specs.List.{AllByRecursion}
-use Rattle.sp_base.specs.Bytes.{AreBytes}
 use Rattle.sp_base.specs.Limits.{greatest_u64}
 use Rattle.sp_outside.specs.Files.{Files, file_at, told_with, with_file}
-use Rattle.docroot_format.specs.Names.{stat_name}
+use Rattle.docroot_format.specs.Names.{HaveBytes, stat_name}
 use Rattle.docroot_format.specs.Faults.{IsLeftByFault}
 use Rattle.docroot_format.specs.Readings.{stat_of}
 use Rattle.docroot_format.specs.Texts.{stat_text}
@@ -55,7 +53,7 @@ LeftByTouch old new folder stamp fault = IsLeftByFault (Some old) (told_with_sta
 
 -- each folder with another mangled path than this has the stamp that it had
 abbrev pub KeepsOtherStamps : Files → Files → Segments → Type 0
-KeepsOtherStamps old new folder = (other : Segments) → AllByRecursion AreBytes other → mangled_segs other ≢ mangled_segs folder → stamp_at new other ≡ stamp_at old other
+KeepsOtherStamps old new folder = (other : Segments) → HaveBytes other → mangled_segs other ≢ mangled_segs folder → stamp_at new other ≡ stamp_at old other
 
 -- the stamp that a folder is given is read back
 abbrev pub IsReadBack : Files → Segments → Stamp → Type 0
@@ -71,7 +69,7 @@ KeepsStamp old new folder = stamp_at new folder ≡ stamp_at old folder
 
 -- a touch that failed leaves the stamps of other folders as they were
 abbrev pub FailedTouchesKeepOthers : Type 0
-FailedTouchesKeepOthers = (files new : Files) (folder : Segments) (stamp : Stamp) (fault : FileFault) → AllByRecursion AreBytes folder
+FailedTouchesKeepOthers = (files new : Files) (folder : Segments) (stamp : Stamp) (fault : FileFault) → HaveBytes folder
     → LeftByTouch files new folder stamp fault → KeepsOtherStamps files new folder
 
 -- it leaves the files as they were or, where the disk failed, with the new stamp

@@ -1,11 +1,9 @@
 //! What follows from the definitions of stamps: laws, on functions that do nothing.
 ghost use Rattle.std.specs.Prelude.{◌≡◌, ◌≢◌, ◌⊎◌, ◌<◌, ◌^◌, true, false, Some, None};
 ghost use Rattle.std.specs.FinMap.{empty};
-ghost use Rattle.std.specs.List.{AllByRecursion};
-ghost use Rattle.sp_base.specs.Bytes.{AreBytes};
 ghost use Rattle.sp_base.specs.Texts.{Segments, Text};
 ghost use Rattle.sp_outside.specs.Files.{Files, with_file, without_file};
-ghost use Rattle.docroot_format.specs.Names.{stat_name};
+ghost use Rattle.docroot_format.specs.Names.{HaveBytes, stat_name};
 ghost use Rattle.cover_rules.specs.declared.stamp.Stamp.{Stamp};
 ghost use Rattle.stat_files.specs.Outdated.{is_older, outdates_page, ForeignStatsOutdate, MissingStatsOutdateNothing, TouchesElsewhereChangeNothing, TouchesOutdateUnlessOlder};
 ghost use Rattle.stat_files.specs.Stamps.{IsHeldOrGreatest, IsUpTo, greatest_stamp, stamp_at, stamp_or_greatest, IsReadBack, StampsAreApart, KeepsStamp, FailedTouchesKeepOthers, FailedTouchesLeaveOldOrNew, FailedTouchesLeaveOldStampOrNew, FailedTouchesKeepOtherFiles};
@@ -23,7 +21,7 @@ pub fn a_stamp_is_read_back()
 
 /// The stamp of a folder is the same while another file is written or taken away, that of a folder with another mangled path among them.
 pub fn stamps_have_files_of_their_own()
-    ensures touched { (files : Files) (folder : Segments) (bytes : Text) → AllByRecursion AreBytes folder → StampsAreApart files folder bytes }
+    ensures touched { (files : Files) (folder : Segments) (bytes : Text) → HaveBytes folder → StampsAreApart files folder bytes }
     ensures written { (files : Files) (folder : Segments) (name bytes : Text) → name ≢ stat_name folder → KeepsStamp files (with_file files name bytes) folder }
     ensures removed { (files : Files) (folder : Segments) (name : Text) → name ≢ stat_name folder → KeepsStamp files (without_file files name) folder }
 {

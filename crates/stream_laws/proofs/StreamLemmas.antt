@@ -5,8 +5,8 @@ use Rattle.std.specs.List.{find}
 use Rattle.std.specs.Option.{is_none}
 use Rattle.std.proofs.lemmas.Bool.Decides.{nat_tests}
 use Rattle.std.proofs.lemmas.List.{append-nil, take-append-drop, length-take-le}
-use Rattle.httparse.specs.Grammar.{RequestHead, print_blank, print_end, print_request, print_section, print_version, HasNoRequest, MayBecomeRequest, NeverHasRequest, ReadsRequest}
-use Rattle.httparse.proofs.GrammarLemmas.{ReadsRequest-append, print_request-append}
+use Rattle.httparse.specs.Grammar.{RequestHead, print_request, HasNoRequest, MayBecomeRequest, NeverHasRequest, ReadsRequest}
+use Rattle.httparse.proofs.GrammarLemmas.{ReadsRequest-append}
 use Rattle.sp_base.specs.Requests.{Request}
 use Rattle.sp_base.specs.Texts.{Pairs}
 use Rattle.http_front.specs.declared.fault.InFault.{InFault}
@@ -18,6 +18,7 @@ use Rattle.http_front.specs.declared.turn.Turn.TheVariants.{Continue, Whole}
 use Rattle.http_front.specs.Heads.{AskedFields, Asks, HeadParts, asked_host, asked_of, asked_with, body_length, first_refusal, has_transfer_coding, head_fault, head_with, heads, longest_body, most_fields, parts_of}
 use Rattle.http_front.specs.Targets.{target_of}
 use Rattle.http_front.specs.Turns.{End, Waits, Breaks, longest_head, window, BeginsWith, BeginsAsking, BeginsWithRequest, HasBody, SpellsTurns, with_request_body}
+use Rattle.http_front.proofs.ParserLemmas.{head_takes_bytes}
 use Rattle.stream_laws.specs.Streams.{SpellsNone}
 
 -- ---- lists
@@ -31,21 +32,6 @@ front (x ∷ xs) (y ∷ ys) a b e le =
     let tail : xs ++ a ≡ ys ++ b = cc in
     let rest = front xs ys a b tail (omega (arith, le)) in
     λ i. head i ∷ rest i
-
--- a head takes a byte at least
-head_takes_bytes : (h : RequestHead) → 0 < length (print_request h)
-head_takes_bytes h =
-    let last = print_section h.fields h.last ++ [] in
-    let ends = print_end h.line_end ++ last in
-    let version = print_version h.minor ++ ends in
-    let target = h.target ++ 32 ∷ version in
-    omega (
-      arith,
-      length-append (print_request h) [],
-      ap length (print_request-append h []),
-      length-append (print_blank h.blank) (h.method ++ 32 ∷ target),
-      length-append h.method (32 ∷ target),
-    )
 
 -- ---- no head
 

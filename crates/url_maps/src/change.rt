@@ -78,7 +78,9 @@ fn change_by(alloc: Global, index: &MapIndex, tree: &Tree, patch: &Patch) -> Mem
 {
     Ok(IndexChange {
         aliases: siblings_change(alloc, tree, patch)?,
-        vanity_paths: vanity_change(alloc, index, tree, patch)?.led(alloc, tree, patch)?,
+        vanity_paths: vanity_change(alloc, index, tree, patch)?.put_leaders_first(
+            alloc, tree, patch,
+        )?,
         patterns: patterns_change(alloc, tree, patch)?,
     })
 }

@@ -120,11 +120,11 @@ impl Claims {
     }
 
     // Puts the path that leads before the others of its text, in each, in a tree with a patch over it.
-    pub(crate) fn led(self, alloc: Global, tree: &Tree, patch: &Patch) -> Mem<Claims>
+    pub(crate) fn put_leaders_first(self, alloc: Global, tree: &Tree, patch: &Patch) -> Mem<Claims>
         ensures { IfOk result (λ claims. (t : List ℕ) → PutsLeaderFirst (patching_at tree.now patch.now) (claimants self.rows t) (claimants claims.rows t)) }
     {
         let rows = ClaimsChange { rows: self.table };
-        let led = rows.led(alloc, tree, patch)?;
+        let led = rows.put_leaders_first(alloc, tree, patch)?;
         Ok(Claims {
             table: led.rows,
             longest: self.longest,

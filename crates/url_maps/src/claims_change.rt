@@ -9,7 +9,7 @@ ghost use Rattle.url_maps.specs.Noting.{LeadsRows, Notes, NotesEntry, has_row, i
 ghost use Rattle.url_maps.specs.Siblings.{PutsRows, or_else};
 
 use crate::claims::Claims;
-use crate::leaders::led;
+use crate::leaders::put_leader_first;
 use indexmap::IndexMap;
 use resource_tree::{Patch, Tree};
 use sp_base::{Mem, Path, PathList, TextBuf, TextList};
@@ -122,13 +122,18 @@ impl ClaimsChange {
     }
 
     // Puts the path that leads before the others of its row, in each, in a tree with a patch over it.
-    pub(crate) fn led(self, alloc: Global, tree: &Tree, patch: &Patch) -> Mem<ClaimsChange>
+    pub(crate) fn put_leaders_first(
+        self,
+        alloc: Global,
+        tree: &Tree,
+        patch: &Patch,
+    ) -> Mem<ClaimsChange>
         ensures { IfOk result (LeadsRows (patching_at tree.now patch.now) self) }
     {
         let mut rows = self.rows;
         let mut change = ClaimsChange::new(alloc, tree.seeds());
         while let Some((text, paths)) = rows.pop() {
-            change.put_row(text, led(alloc, tree, patch, paths)?)?;
+            change.put_row(text, put_leader_first(alloc, tree, patch, paths)?)?;
         }
         Ok(change)
     }

@@ -48,7 +48,7 @@ impl MapIndex {
         let unchanged = Patch::new(alloc, tree.seeds());
         Ok(MapIndex {
             aliases,
-            vanity_paths: vanity_paths.led(alloc, tree, &unchanged)?,
+            vanity_paths: vanity_paths.put_leaders_first(alloc, tree, &unchanged)?,
             patterns: patterns_of(alloc, tree, &unchanged)?,
         })
     }

@@ -14,7 +14,12 @@ use std::alloc::Global;
 use std::cmp::Ordering;
 
 // Puts the one of some paths before which none is before the others, in a tree with a patch over it.
-pub(crate) fn led(alloc: Global, tree: &Tree, patch: &Patch, paths: PathList) -> Mem<PathList>
+pub(crate) fn put_leader_first(
+    alloc: Global,
+    tree: &Tree,
+    patch: &Patch,
+    paths: PathList,
+) -> Mem<PathList>
     ensures { IfOk result (PutsLeaderFirst (patching_at tree.now patch.now) paths) }
 {
     if paths.len() < 2 {

@@ -1,7 +1,7 @@
 use Rattle.std.proofs.Common.{◌≡◌, Option, Some, ◌∙◌}
 use Rattle.docroot_changes.specs.Changes.{Told}
 use Rattle.docroot_changes.proofs.MadeCalls.{makes_more}
-use Rattle.front.specs.Clearings.{ClearsFiles, HasNoneBetween, is_of_kind}
+use Rattle.front.specs.Clearings.{ClearsFiles, HasNoneBetween, is_of_cache}
 use Rattle.front.proofs.ClearingLemmas.{ClearsUpTo, Relation, told-both, told-then, up-to-next}
 use Rattle.front.proofs.clearing.clear.Goals as goal
 
@@ -19,10 +19,10 @@ loop-last-preserved g c =
     let start = g.D.Disk.files c.args.disk.now in
     let before = g.D.Disk.files c.loop-last.disk in
     let after = g.D.Disk.files c.clear_next.new.disk in
-    let step : Relation = λ a b. ClearsFiles (is_of_kind kind) a b × HasNoneBetween kind last (Some next) b in
+    let step : Relation = λ a b. ClearsFiles (is_of_cache kind) a b × HasNoneBetween kind last (Some next) b in
     let none : Told (λ a b. HasNoneBetween kind last (Some next) b) before after = rw c.in-Some.is at c.in_ok-next.ensures.none in
     let near = rw c.in-Some.is at c.in_ok-next.ensures.nearer in
-    let one = told-both (ClearsFiles (is_of_kind kind)) (λ a b. HasNoneBetween kind last (Some next) b) step before after (λ a b p q. (p, q)) c.in_ok-next.ensures.left none in
+    let one = told-both (ClearsFiles (is_of_cache kind)) (λ a b. HasNoneBetween kind last (Some next) b) step before after (λ a b p q. (p, q)) c.in_ok-next.ensures.left none in
     record {
       cleared = told-then (ClearsUpTo kind last) step (ClearsUpTo kind next) start before after (λ a b d. up-to-next kind last next a b d) c.loop-last.invariant.cleared one;
       fits = near.fits;

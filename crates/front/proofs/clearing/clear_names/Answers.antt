@@ -2,7 +2,7 @@ use Rattle.std.proofs.Common.{◌≡◌, ◌+◌, None, sym, ◌∙◌, ap, get_
 use Rattle.std.specs.Prelude.{IsTrue}
 use Rattle.sp_outside.specs.Files.{file_at}
 use Rattle.docroot_changes.proofs.MadeCalls.{makes_more}
-use Rattle.front.specs.Clearings.{ClearsFiles, is_of_kind}
+use Rattle.front.specs.Clearings.{ClearsFiles, is_of_cache}
 use Rattle.front.proofs.ClearingLemmas.{ClearsTo, Relation, clears-to-more, told-both, told-then}
 use Rattle.front.proofs.clearing.clear_names.Goals as goal
 
@@ -18,8 +18,8 @@ loop-name-preserved g c =
     let start = g.D.Disk.files c.args.disk.now in
     let before = g.D.Disk.files c.loop-name.disk in
     let after = g.D.Disk.files c.clear_name.new.disk in
-    let step : Relation = λ a b. ClearsFiles (is_of_kind kind) a b × (IsTrue (is_of_kind kind name) → file_at b name ≡ None) in
-    let one = told-both (ClearsFiles (is_of_kind kind)) (λ a b. IsTrue (is_of_kind kind name) → file_at b name ≡ None) step before after (λ a b p q. (p, q)) c.in_ok-clear_name.ensures.left c.in_ok-clear_name.ensures.gone in
+    let step : Relation = λ a b. ClearsFiles (is_of_cache kind) a b × (IsTrue (is_of_cache kind name) → file_at b name ≡ None) in
+    let one = told-both (ClearsFiles (is_of_cache kind)) (λ a b. IsTrue (is_of_cache kind name) → file_at b name ≡ None) step before after (λ a b p q. (p, q)) c.in_ok-clear_name.ensures.left c.in_ok-clear_name.ensures.gone in
     record {
       cleared = told-then (ClearsTo kind names i) step (ClearsTo kind names (i + 1)) start before after (λ a b d. clears-to-more kind names i name c.loop-name-test.true (ap (get_or names i) c.text.ensures ∙ sym c.name-item.is ∙ sym c.text.ensures) a b d) c.loop-name.invariant.cleared one;
       faults = c.in_ok-clear_name.ensures.cause ∙ c.loop-name.invariant.faults;

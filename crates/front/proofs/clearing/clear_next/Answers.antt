@@ -4,7 +4,7 @@ use Rattle.sp_outside.specs.Calls.{Names}
 use Rattle.sp_outside.specs.Files.{IsListing, names_after}
 use Rattle.docroot_changes.specs.Changes.{Told}
 use Rattle.docroot_changes.proofs.MadeCalls.{makes_more}
-use Rattle.front.specs.Clearings.{ClearsFiles, HasNoneAmong, HasNoneBetween, is_of_kind}
+use Rattle.front.specs.Clearings.{ClearsFiles, HasNoneAmong, HasNoneBetween, is_of_cache}
 use Rattle.front.proofs.ClearingLemmas.{Relation, cleared-between, listed, nearer, not-full, told-both, told-known}
 use Rattle.front.proofs.UseLemmas.{calls-one}
 use Rattle.front.proofs.clearing.clear_next.Goals as goal
@@ -32,10 +32,10 @@ returns-in-Some-clause-none g c =
     let next = c.in_ok-duplicate-in-Some.field-0 in
     let before = g.D.Disk.files c.args.disk.now in
     let after = g.D.Disk.files c.clear_names.new.disk in
-    let both : Relation = λ a b. ClearsFiles (is_of_kind kind) a b × HasNoneAmong kind names b in
-    let left = told-both (ClearsFiles (is_of_kind kind)) (λ a b. HasNoneAmong kind c.as_slice.result.now b) (λ a b. ClearsFiles (is_of_kind kind) a b × HasNoneAmong kind c.as_slice.result.now b) _ _ (λ a b p q. (p, q)) c.in_ok-clear_names.ensures.left c.in_ok-clear_names.ensures.none in
-    let took : Told both before after = subst (λ (ns : List (List ℕ)). Told (λ a b. ClearsFiles (is_of_kind kind) a b × HasNoneAmong kind ns b) before after) c.as_slice.ensures
-    (subst (λ t. Told (λ a b. ClearsFiles (is_of_kind kind) a b × HasNoneAmong kind c.as_slice.result.now b) t after) c.in_ok-names.ensures.same left) in
+    let both : Relation = λ a b. ClearsFiles (is_of_cache kind) a b × HasNoneAmong kind names b in
+    let left = told-both (ClearsFiles (is_of_cache kind)) (λ a b. HasNoneAmong kind c.as_slice.result.now b) (λ a b. ClearsFiles (is_of_cache kind) a b × HasNoneAmong kind c.as_slice.result.now b) _ _ (λ a b p q. (p, q)) c.in_ok-clear_names.ensures.left c.in_ok-clear_names.ensures.none in
+    let took : Told both before after = subst (λ (ns : List (List ℕ)). Told (λ a b. ClearsFiles (is_of_cache kind) a b × HasNoneAmong kind ns b) before after) c.as_slice.ensures
+    (subst (λ t. Told (λ a b. ClearsFiles (is_of_cache kind) a b × HasNoneAmong kind c.as_slice.result.now b) t after) c.in_ok-names.ensures.same left) in
     let value = subst (λ l. IfSome before (λ held. names ≡ take 256 (names_after held [] l))) c.text.ensures c.in_ok-names.ensures.value in
     let has : Contains names next = subst (Contains names) (sym c.in_ok-duplicate-in-Some.ensures) (listed names 255 c.in-Some.next.now (sym c.in-Some.ensures)) in
     told-known (λ held. names ≡ take 256 (names_after held [] last)) both (λ a b. HasNoneBetween kind last (Some next) b) before after
@@ -48,10 +48,10 @@ returns-clause-none g c =
     let names = c.in_ok-names.names in
     let before = g.D.Disk.files c.args.disk.now in
     let after = g.D.Disk.files c.clear_names.new.disk in
-    let both : Relation = λ a b. ClearsFiles (is_of_kind kind) a b × HasNoneAmong kind names b in
-    let left = told-both (ClearsFiles (is_of_kind kind)) (λ a b. HasNoneAmong kind c.as_slice.result.now b) (λ a b. ClearsFiles (is_of_kind kind) a b × HasNoneAmong kind c.as_slice.result.now b) _ _ (λ a b p q. (p, q)) c.in_ok-clear_names.ensures.left c.in_ok-clear_names.ensures.none in
-    let took : Told both before after = subst (λ (ns : List (List ℕ)). Told (λ a b. ClearsFiles (is_of_kind kind) a b × HasNoneAmong kind ns b) before after) c.as_slice.ensures
-    (subst (λ t. Told (λ a b. ClearsFiles (is_of_kind kind) a b × HasNoneAmong kind c.as_slice.result.now b) t after) c.in_ok-names.ensures.same left) in
+    let both : Relation = λ a b. ClearsFiles (is_of_cache kind) a b × HasNoneAmong kind names b in
+    let left = told-both (ClearsFiles (is_of_cache kind)) (λ a b. HasNoneAmong kind c.as_slice.result.now b) (λ a b. ClearsFiles (is_of_cache kind) a b × HasNoneAmong kind c.as_slice.result.now b) _ _ (λ a b p q. (p, q)) c.in_ok-clear_names.ensures.left c.in_ok-clear_names.ensures.none in
+    let took : Told both before after = subst (λ (ns : List (List ℕ)). Told (λ a b. ClearsFiles (is_of_cache kind) a b × HasNoneAmong kind ns b) before after) c.as_slice.ensures
+    (subst (λ t. Told (λ a b. ClearsFiles (is_of_cache kind) a b × HasNoneAmong kind c.as_slice.result.now b) t after) c.in_ok-names.ensures.same left) in
     let value = subst (λ l. IfSome before (λ held. names ≡ take 256 (names_after held [] l))) c.text.ensures c.in_ok-names.ensures.value in
     told-known (λ held. names ≡ take 256 (names_after held [] last)) both (λ a b. HasNoneBetween kind last None b) before after
     (λ a b is w. cleared-between kind last None 256 names a b (λ name there reached. c.nothing_is_passed_over.ensures a [] last name 256 names is there reached) (λ name here. inr (not-full names 255 (sym c.in-None.ensures))) w) value took

@@ -1,6 +1,6 @@
 use Rattle.std.proofs.Common.{ap, sym, ◌∙◌}
 use Rattle.post_plan.specs.Entries.{Entry}
-use Rattle.post_plan.proofs.SpotPlaceLemmas.{set_before, set_first, within_places}
+use Rattle.post_plan.proofs.NumberedSpotLemmas.{set_before, set_first, within_places}
 use Rattle.post_plan.proofs.sets.set_here.Goals as goal
 
 pub is_later-requires : goal.is_later-requires

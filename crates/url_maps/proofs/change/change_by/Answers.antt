@@ -11,8 +11,8 @@ returns c =
     let at = patching_at tree patch in
     record {
       aliases = c.in_ok-siblings_change.ensures;
-      vanity_paths = changed_led at (claims_vanity_path tree) (patched_vanity_path tree patch) c.in_ok-vanity_change.field-0 c.in_ok-led.field-0 c.in_ok-led.ensures c.in_ok-vanity_change.ensures.changed;
-      others = others_led tree patch at c.in_ok-vanity_change.field-0 c.in_ok-led.field-0 c.in_ok-led.ensures c.in_ok-vanity_change.ensures.others;
-      leaders = rows_are_led at c.in_ok-vanity_change.field-0 c.in_ok-led.field-0 c.in_ok-led.ensures;
+      vanity_paths = changed_led at (claims_vanity_path tree) (patched_vanity_path tree patch) c.in_ok-vanity_change.field-0 c.in_ok-put_leaders_first.field-0 c.in_ok-put_leaders_first.ensures c.in_ok-vanity_change.ensures.changed;
+      others = others_led tree patch at c.in_ok-vanity_change.field-0 c.in_ok-put_leaders_first.field-0 c.in_ok-put_leaders_first.ensures c.in_ok-vanity_change.ensures.others;
+      leaders = rows_are_led at c.in_ok-vanity_change.field-0 c.in_ok-put_leaders_first.field-0 c.in_ok-put_leaders_first.ensures;
       patterns = c.in_ok-patterns_change.ensures;
     }

@@ -13,7 +13,7 @@ returns-then-contains_key c = ok-map-two c.idle.result c.idle.ensures.notes c.id
 pub returns-then-len-ge-MOST_CONNECTIONS : goal.returns-then-len-ge-MOST_CONNECTIONS
 returns-then-len-ge-MOST_CONNECTIONS c =
     ok-map-two c.one.result c.one.ensures.notes c.one.ensures.conditions (λ effect notes under files faults w tied.
-    opened-full (at_disk c.args.self.now files faults) w c.args.c c.args.peer.now effect tied (none_from_test _ (sym c.contains_key.ensures ∙ c.if-contains_key.false)) (grind (arith, common_steps)) notes (under ∙ c.with_memory.ensures))
+    opened-full (at_disk c.args.self.now files faults) w c.args.c c.args.peer.now effect tied (none_from_test _ (sym c.contains_key.ensures ∙ c.if-contains_key.false)) (grind (arith, common_steps)) notes (under ∙ c.not_out_of_memory.ensures))
 
 pub returns : goal.returns
 returns c = λ files faults w tied.

@@ -25,7 +25,7 @@ returns-clause-loss c = λ files faults w stands quiet.
     let found : Some c.in_ok-at.at ≡ position (λ flying. is_picked c.args.pick.now flying && is_any flying) (flying_of c.self.inside.flights.items) = rw c.deref.ensures.value at c.in_ok-at.ensures in
     let here = at-place (λ flying. is_picked c.args.pick.now flying && is_any flying) c.self.inside.flights.items c.in_ok-at.at c.remove-ticket.result found c.remove-ticket.ensures.value in
     let inside = subst (λ parts. BehindStandsFor (behind parts files faults) w) (sym c.self.view_is) stands in
-    rw (c.with_memory.ensures, ← c.self.view_is, c.remove-ticket.ensures.items) (loss-ends c.self.inside.core c.lose.new.self c.self.inside.flights.items c.self.inside.flushes.items files faults w c.in_ok-at.at c.remove-ticket.result c.args.pick.now c.self.invariant inside here found
+    rw (c.not_out_of_memory.ensures, ← c.self.view_is, c.remove-ticket.ensures.items) (loss-ends c.self.inside.core c.lose.new.self c.self.inside.flights.items c.self.inside.flushes.items files faults w c.in_ok-at.at c.remove-ticket.result c.args.pick.now c.self.invariant inside here found
     c.lose.ensures.flights c.lose.ensures.queue c.lose.ensures.kept c.lose.ensures.log quiet)
 
 pub returns-clause-first : goal.returns-clause-first

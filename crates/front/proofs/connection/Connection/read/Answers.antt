@@ -9,6 +9,6 @@ returns-then-is_closing c = λ m holds.
 pub returns : goal.returns
 returns c = λ m holds.
     let stays = sym (c.is_closing.ensures m holds.keeps.answers) ∙ c.if-is_closing.false in
-    let told = c.in_ok-feed.ensures.ok m.stream m.turns (holds.keeps.reads stays).told in
+    let read = c.in_ok-feed.ensures.ok m.stream m.turns (holds.keeps.reads stays).read in
     read-open c.args.self.now (record { peer = c.args.self.now.peer; intake = c.read_turns.new.intake; turns = c.read_turns.new.turns; fault = c.in_ok-self.field-0; answers = c.args.self.now.answers }) c.advance.new.self c.feed.new.self m c.args.bytes.now
-    stays holds told c.in_ok-self.ensures refl refl c.in_ok-advance.ensures.holds
+    stays holds read c.in_ok-self.ensures refl refl c.in_ok-advance.ensures.holds

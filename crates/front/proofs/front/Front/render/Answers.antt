@@ -14,4 +14,4 @@ returns g c = ok-map-two c.one.result c.one.ensures.notes c.one.ensures.conditio
     (λ f here. renders c.answer_flight-answer.result _ _ _ c.or_fixed-answer.result.answer c.or_fixed-answer.result.out_of_memory c.or_fixed-answer.ensures (ok-map c.answer_flight-answer.result c.answer_flight-answer.ensures.ok (λ a is. is f here)) c.answer_flight-answer.ensures.status
     (ok-then c.answer_flight-answer.result c.answer_flight-answer.ensures.after (λ is. is f here)) c.answer_flight-answer.ensures.unchanged)
     c.in_ok-copy.ensures.ok c.render-number.ensures.number c.render-number.ensures.flying c.render-number.ensures.core c.render-number.ensures.flushes refl refl refl
-    (notes ∙ ap (λ a. Rendered c.render-number.result a ∷ []) c.shared.ensures.same) (under ∙ c.if_memory_ran_out.ensures))
+    (notes ∙ ap (λ a. Rendered c.render-number.result a ∷ []) c.shared.ensures.same) (under ∙ c.if_out_of_memory.ensures))

@@ -18,5 +18,5 @@ returns c =
     (grown_on _ _ _ (row (codes "done") n.done) _ c.in_ok-push_row-9.ensures
     (grown_on _ _ _ (row (codes "failed") n.failed) _ c.in_ok-push_row-10.ensures
     (grown_on _ _ _ (row (codes "sent") n.sent) _ c.in_ok-push_row-11.ensures
-    (grown_on _ _ _ (row (codes "hurt") n.hurt) _ c.in_ok-push_row-12.ensures c.in_ok-push_row-13.ensures))))))))))) in
+    (grown_on _ _ _ (row (codes "hurt") n.disk_failed) _ c.in_ok-push_row-12.ensures c.in_ok-push_row-13.ensures))))))))))) in
     all ∙ ap (λ t. t ++ counts_text n) c.new-out.ensures.items

@@ -36,8 +36,8 @@ returns c =
     let rows = c.as_slice-rows.result.now in
     let are : AreRowsOf tree (map deref_pair rows) = subst (λ rs. AreRowsOf tree (map deref_pair rs)) (sym c.as_slice-rows.ensures.value) c.in_ok-all.ensures.rows in
     let old = whole_vanity_paths deref_pair tree c.loop-row.vanity_paths.rows rows c.loop-row.row-index are c.loop-row-test.false c.loop-row.invariant.vanity_paths in
-    let leads : (t : List ℕ) → PutsLeaderFirst (node_at tree) (claimants c.loop-row.vanity_paths.rows t) (claimants c.in_ok-led.field-0.rows t) = λ t.
-    subst (λ (rs : PatchEntries). PutsLeaderFirst (patching_at tree rs) (claimants c.loop-row.vanity_paths.rows t) (claimants c.in_ok-led.field-0.rows t)) c.new-unchanged.ensures (c.in_ok-led.ensures t) in
+    let leads : (t : List ℕ) → PutsLeaderFirst (node_at tree) (claimants c.loop-row.vanity_paths.rows t) (claimants c.in_ok-put_leaders_first.field-0.rows t) = λ t.
+    subst (λ (rs : PatchEntries). PutsLeaderFirst (patching_at tree rs) (claimants c.loop-row.vanity_paths.rows t) (claimants c.in_ok-put_leaders_first.field-0.rows t)) c.new-unchanged.ensures (c.in_ok-put_leaders_first.ensures t) in
     record {
       aliases = c.in_ok-aliases.ensures;
       vanity_paths = λ t q. (leads t).paths q ∙ old t q;

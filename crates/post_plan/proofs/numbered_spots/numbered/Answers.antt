@@ -1,7 +1,7 @@
 use Rattle.std.proofs.Common.{◌==◌, arith, filter}
-use Rattle.post_plan.specs.SpotPlaces.{first_place}
-use Rattle.post_plan.proofs.SpotPlaceLemmas.{own_all, own_step, within_places}
-use Rattle.post_plan.proofs.spot_places.numbered.Goals as goal
+use Rattle.post_plan.specs.NumberedSpots.{first_place}
+use Rattle.post_plan.proofs.NumberedSpotLemmas.{own_all, own_step, within_places}
+use Rattle.post_plan.proofs.numbered_spots.numbered.Goals as goal
 
 pub bounds-places-k : goal.bounds-places-k
 bounds-places-k c = within_places c.args.entries.now c.args.places.now c.loop-k.k c.requires (omega arith)

@@ -2,7 +2,7 @@ use Rattle.std.proofs.Common.{◌∙◌, ◌∷◌, ap, subst, arith}
 use Rattle.resource_tree.specs.Patches.{patching_at}
 use Rattle.url_maps.specs.Noting.{IsFirstOf, others}
 use Rattle.url_maps.proofs.LeaderLemmas.{leads_by, leads_few}
-use Rattle.url_maps.proofs.leaders.led.Goals as goal
+use Rattle.url_maps.proofs.leaders.put_leader_first.Goals as goal
 
 pub returns : goal.returns
 returns c =

@@ -2,7 +2,7 @@
 //! from then on, however long the spots' paths are.
 ghost use Rattle.std.specs.Prelude.{◌≡◌, ◌<◌, ◌==◌, ◌++◌, ◌∷◌, [], None, IfOk, OnOk, if◌then◌else◌, length, not, slice_index, unwrap_or};
 ghost use Rattle.post_plan.specs.declared.spot.Spot.{Spot as NamedSpot};
-ghost use Rattle.post_plan.specs.SpotPlaces.{first_places, noted_after, numbered, place_noted};
+ghost use Rattle.post_plan.specs.NumberedSpots.{first_places, noted_after, numbered, place_noted};
 
 use crate::Spot;
 use crate::entries::Entry;

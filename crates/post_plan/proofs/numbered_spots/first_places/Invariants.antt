@@ -1,6 +1,6 @@
 use Rattle.std.proofs.Common.{◌≡◌, map, take}
-use Rattle.post_plan.specs.SpotPlaces.{NotesPlaces, first_place, place_noted}
-use Rattle.post_plan.proofs.spot_places.first_places.Given as goal
+use Rattle.post_plan.specs.NumberedSpots.{NotesPlaces, first_place, place_noted}
+use Rattle.post_plan.proofs.numbered_spots.first_places.Given as goal
 
 -- the places so far, and what is noted of them
 abbrev pub invariant-loop-n : goal.invariant-loop-n

@@ -19,7 +19,7 @@ use Rattle.post_plan.specs.declared.spot.Spot.{Spot}
 use Rattle.post_plan.specs.declared.operation.PropSet.{PropSet}
 use Rattle.post_plan.specs.Hints.{hint_of}
 use Rattle.post_plan.specs.Entries.{Entry, is_of_spot, is_spot_named, is_word_true, same_bool, same_spot, same_suffix, set_by, set_here, set_of, without_blanks, words_at, words_or_defaults, words_or_source}
-use Rattle.post_plan.specs.SpotPlaces.{NotesPlaces, first_place, first_places, noted_after, numbered, place_noted, spot_cmp}
+use Rattle.post_plan.specs.NumberedSpots.{NotesPlaces, first_place, first_places, noted_after, numbered, place_noted, spot_cmp}
 use Rattle.post_plan.proofs.SetLemmas.{drop_here, named_push, nothing_left, same_path, take_more}
 
 -- ---- spots that are alike are one

@@ -1,7 +1,7 @@
 use Rattle.std.proofs.Common.{ap, arith}
 use Rattle.post_plan.specs.Entries.{Entry}
-use Rattle.post_plan.proofs.SpotPlaceLemmas.{places_end, places_start, places_step}
-use Rattle.post_plan.proofs.spot_places.first_places.Goals as goal
+use Rattle.post_plan.proofs.NumberedSpotLemmas.{places_end, places_start, places_step}
+use Rattle.post_plan.proofs.numbered_spots.first_places.Goals as goal
 
 pub loop-n-init : goal.loop-n-init
 loop-n-init c = places_start c.args.entries.now c.new-first.result c.new-places.result.items c.new-first.ensures.empty c.new-places.ensures.items

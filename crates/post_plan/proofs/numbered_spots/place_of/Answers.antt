@@ -1,8 +1,8 @@
 use Rattle.std.proofs.Common.{◌≡◌, Some, ap, sym, ◌∙◌}
 use Rattle.std.specs.Prelude.{unwrap_or}
-use Rattle.post_plan.specs.SpotPlaces.{place_noted}
-use Rattle.post_plan.proofs.SpotPlaceLemmas.{noted_key, noted_stays}
-use Rattle.post_plan.proofs.spot_places.place_of.Goals as goal
+use Rattle.post_plan.specs.NumberedSpots.{place_noted}
+use Rattle.post_plan.proofs.NumberedSpotLemmas.{noted_key, noted_stays}
+use Rattle.post_plan.proofs.numbered_spots.place_of.Goals as goal
 
 pub returns-in-Some-clause-place : goal.returns-in-Some-clause-place
 returns-in-Some-clause-place c =

@@ -1,7 +1,7 @@
 use Rattle.std.proofs.Common.{ap, sym}
 use Rattle.std.specs.Prelude.{unwrap_or}
-use Rattle.post_plan.proofs.SpotPlaceLemmas.{noted_new}
-use Rattle.post_plan.proofs.spot_places.new_place.Goals as goal
+use Rattle.post_plan.proofs.NumberedSpotLemmas.{noted_new}
+use Rattle.post_plan.proofs.numbered_spots.new_place.Goals as goal
 
 pub returns-clause-place : goal.returns-clause-place
 returns-clause-place c = sym (ap (λ o. unwrap_or o c.args.n) c.requires)

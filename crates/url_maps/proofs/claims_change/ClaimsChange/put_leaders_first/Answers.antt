@@ -4,7 +4,7 @@ use Rattle.resource_tree.specs.Patches.{patching_at}
 use Rattle.url_maps.specs.Claims.{ClaimRows}
 use Rattle.url_maps.specs.Noting.{LeadsRows}
 use Rattle.url_maps.proofs.LeaderLemmas.{none_left, rows_led, split_last, split_none}
-use Rattle.url_maps.proofs.claims_change.ClaimsChange.led.Goals as goal
+use Rattle.url_maps.proofs.claims_change.ClaimsChange.put_leaders_first.Goals as goal
 
 pub loop-text-init : goal.loop-text-init
 loop-text-init c = ([], sym c.self.view_is ∙ sym (append-nil (map (λ e. (string_bytes e.0, e.1)) c.self.inside.rows.entries)), λ t. subst (λ (rows : ClaimRows). LeadsRows (patching_at c.args.tree.now c.args.patch.now) [] rows) (sym c.new-change.ensures) (λ s. tt) t)
@@ -17,7 +17,7 @@ loop-text-preserved c =
     let entries : c.loop-text.rows.entries ≡ left ++ (c.in-Some.text, c.in-Some.paths) ∷ [] = c.pop.ensures.entries ∙ ap (λ o. left ++ option_to_list o) c.in-Some.is in (
       (string_bytes c.in-Some.text, c.in-Some.paths) ∷ inv.0,
       split_last _ string_bytes c.args.self c.loop-text.rows.entries left c.in-Some.text c.in-Some.paths inv.0 entries inv.1,
-      rows_led at inv.0 c.loop-text.change c.put_row.new.self (string_bytes c.in-Some.text) c.in-Some.paths c.in_ok-led.field-0 inv.2 c.in_ok-led.ensures c.in_ok-put_row.ensures,
+      rows_led at inv.0 c.loop-text.change c.put_row.new.self (string_bytes c.in-Some.text) c.in-Some.paths c.in_ok-put_leader_first.field-0 inv.2 c.in_ok-put_leader_first.ensures c.in_ok-put_row.ensures,
     )
 
 pub returns : goal.returns

@@ -17,6 +17,10 @@ use Rattle.publisher.specs.declared.first_scripts.FirstScript.{FirstScript}
 abbrev pub KeptFirsts : Type 0
 KeptFirsts = List (ℕ × FirstScript)
 
+-- how many are remembered at most
+abbrev pub most_firsts : ℕ
+most_firsts = 4096
+
 -- the one that is remembered under a number
 abbrev pub first_at : KeptFirsts → ℕ → Option FirstScript
 first_at firsts number = lookup (nat_eq number) firsts

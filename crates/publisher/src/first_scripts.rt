@@ -1,9 +1,9 @@
 // The scripts that rank first: each is searched for once, and remembered until a POST may change it.
-ghost use Rattle.std.specs.Prelude.{◌≡◌, ◌⊎◌, [], ℕ, Some, true, IfOk, IfSome, option_copied};
+ghost use Rattle.std.specs.Prelude.{◌≡◌, ◌≤◌, ◌<◌, ◌⊎◌, [], ℕ, Some, true, IfOk, IfSome, length, option_copied};
 ghost use Rattle.type_chain.specs.Chain.{chain_of, own_super};
 ghost use Rattle.script_rank.specs.Search.{search_result as first_script};
 ghost use Rattle.publisher.specs.declared.first_scripts.FirstScript.{FirstScript};
-ghost use Rattle.publisher.specs.FirstScripts.{AreAmongFirsts, AreFirst, IsKeptFor, first_at};
+ghost use Rattle.publisher.specs.FirstScripts.{AreAmongFirsts, AreFirst, IsKeptFor, first_at, most_firsts};
 ghost use Rattle.publisher.specs.Kept.{AreIndexesFor};
 
 use crate::kept_index::{Indexes, script_by_index};
@@ -164,11 +164,14 @@ pub(crate) struct FirstScripts {
 }
 
 impl Model for FirstScripts {
-    ghost use Rattle.publisher.specs.FirstScripts.{KeptFirsts};
+    ghost use Rattle.std.specs.Prelude.{◌≤◌, length};
+    ghost use Rattle.publisher.specs.FirstScripts.{KeptFirsts, most_firsts};
 
     ghost Value = { KeptFirsts };
 
     ghost view = { λ f. f.firsts.entries };
+
+    ghost invariant = { λ f. length f.firsts.entries ≤ most_firsts };
 }
 
 impl FirstScripts {
@@ -199,7 +202,8 @@ impl FirstScripts {
 
     // Forgets all where there is no place for one more.
     fn make_place(&mut self)
-        ensures { AreAmongFirsts self.old self.new }
+        ensures fewer { AreAmongFirsts self.old self.new }
+        ensures place { length self.new < most_firsts }
     {
         if self.firsts.len() < MOST_FIRSTS {
             return;
@@ -209,6 +213,7 @@ impl FirstScripts {
 
     // Remembers one more, if there is memory for it.
     fn put(&mut self, number: u64, first: FirstScript)
+        requires { length self.old < most_firsts }
         ensures { (n : ℕ) (other : FirstScript) → first_at self.new n ≡ Some other → (first_at self.old n ≡ Some other) ⊎ (other ≡ first) }
     {
         let _ = self.firsts.insert(number, first);

@@ -42,7 +42,7 @@ is_map_of tree nodes sorted same =
 
 -- ---- one more node
 
-insert_is_put : (es : Content) (path : List (List ℕ)) (node : Node) → insert_entry by_path es path node ≡ put by_path path node es
+pub insert_is_put : (es : Content) (path : List (List ℕ)) (node : Node) → insert_entry by_path es path node ≡ put by_path path node es
 insert_is_put [] path node = refl
 insert_is_put (e ∷ es) path node =
     elim (by_path path e.0) as (λ o. match_ordering o ((path, node) ∷ e ∷ es) ((e.0, node) ∷ es) (e ∷ insert_entry by_path es path node) ≡ by_order o ((path, node) ∷ e ∷ es) ((e.0, node) ∷ es) (e ∷ put by_path path node es)) [

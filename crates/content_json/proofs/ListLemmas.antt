@@ -7,12 +7,12 @@ use Rattle.std.proofs.lemmas.Bool.{true≢false, false≢true}
 use Rattle.std.proofs.lemmas.List.Folds.{list_all-append}
 use Rattle.json.specs.Token.{Token}
 use Rattle.json.specs.Json.{parse_map}
-use Rattle.serde_json.specs.Data.{Num, Data, null, boolean, number, string, array, object, Items, no_items, item, Members, no_members}
+use Rattle.serde_json.specs.Data.{Num, Data, null, boolean, number, string, array, object, Items, no_items, item, Members}
 use Rattle.serde_json.specs.Find.{as_i64, of_integer}
 use Rattle.serde_json.specs.Read.{number_of}
 use Rattle.sp_base.specs.declared.value.Value.{Value}
 use Rattle.sp_base.specs.declared.value.Value.TheVariants.{Text, Long, Truth, Texts, Longs, Truths}
-use Rattle.property_json.specs.PropertyJson.{fits_i64, has_longs}
+use Rattle.property_json.specs.PropertyJson.{fits_i64}
 use Rattle.content_json.specs.declared.fault.Cause.{Cause}
 use Rattle.content_json.specs.declared.fault.Cause.TheVariants.{BadNumber, MixedArray}
 use Rattle.content_json.specs.declared.kind.Kind.{Kind}
@@ -21,7 +21,6 @@ use Rattle.content_json.specs.declared.part.Part.{Part}
 use Rattle.content_json.specs.declared.part.Part.TheVariants as part
 use Rattle.content_json.specs.Faults.{here}
 use Rattle.content_json.specs.Lists.{is_of, item_cause, items_cause, array_cause}
-use Rattle.content_json.specs.Written.{keeps_kind}
 use Rattle.content_json.specs.Parts.{items_from, data_of_long, data_of}
 use Rattle.content_json.specs.Tokens.{value_in, items_in, members_in, token_data, is_list, list_items, is_open, items_then, IsList, Extends, MixesWith, Adds, Mixes, items_within, EndsUnfit, IsValuePart, IsNumberPart, ReadsItems, ReadsValue}
 use Rattle.content_json.proofs.PassLemmas.{one_value, begins_none, no_value, no_number, array_in, array_in_more, object_in_more, no_array, no_object}
@@ -45,22 +44,6 @@ more_longs ns n longs fits =
 
 pub more_truths : (bs : List Bool) (b : Bool) → Extends (Truths bs) (boolean b) (Truths (bs ++ b ∷ []))
 more_truths bs b = ((refl, refl, ap not (keeps_more bs b)), then_push boolean bs b)
-
--- the first item of an array
-open_items : (list : Value) → is_open list ≡ true → list_items list ≡ no_items
-open_items (Text t) h = refl
-open_items (Long n) h = refl
-open_items (Truth b) h = refl
-open_items (Texts []) h = refl
-open_items (Texts (t ∷ ts)) h = absurd (true≢false (sym h ∙ ne_eqb (length (t ∷ ts)) 0 (λ none. omega (arith, none))))
-open_items (Longs ns) h = absurd (false≢true h)
-open_items (Truths bs) h = absurd (false≢true h)
-
-pub first_long : (list : Value) (n : ℤ) → is_open list ≡ true → fits_i64 n ≡ true → Extends list (data_of_long n) (Longs (n ∷ []))
-first_long list n new fits = ((refl, rw fits refl, refl), λ rest. ap (λ ds. items_then ds (item (data_of_long n) rest)) (sym (open_items list new)))
-
-pub first_truth : (list : Value) (b : Bool) → is_open list ≡ true → Extends list (boolean b) (Truths (b ∷ []))
-first_truth list b new = ((refl, refl, refl), λ rest. ap (λ ds. items_then ds (item (boolean b) rest)) (sym (open_items list new)))
 
 -- ---- an item that isn't of the kind
 
@@ -239,4 +222,3 @@ pub number_made : (depth : ℕ) (s : List ℕ) (ts : List Token) (found : Option
     → MatchOption found (value_in depth (Token.number s ∷ ts) ≡ None) (ReadsValue depth (Token.number s ∷ ts) ts)
 number_made depth s ts None none = no_number depth s ts none
 number_made depth s ts (Some made) (n, some, is) = (number n, one_value depth (Token.number s) ts (number n) (ap (option_map number) some), is)
-

@@ -1,53 +1,32 @@
 -- What is made of the members of an object, and of the top.
-use Rattle.std.proofs.Common.{◌≡◌, ◌≢◌, ◌<◌, ◌≤◌, ◌+◌, ◌-◌, ◌==◌, ℕ, suc, nat_lt, Bool, true, false, not, ◌&&◌, ◌||◌, ⊎_elim, List, [], ◌∷◌, ◌++◌, map, length, Option, Some, None, is_some, if◌then◌else◌, ne_eqb, le-ltb, lt-ltb, refl, sym, ap, ◌∙◌, subst, arith}
+use Rattle.std.proofs.Common.{◌≡◌, ◌≢◌, ◌<◌, ◌≤◌, ◌+◌, ◌-◌, ◌==◌, ℕ, suc, nat_lt, Bool, true, false, not, ◌||◌, List, [], ◌∷◌, map, length, Option, Some, None, is_some, if◌then◌else◌, ne_eqb, le-ltb, lt-ltb, refl, sym, ap, ◌∙◌, subst, arith}
 use Rattle.std.specs.Prelude.{MatchOption}
-use Rattle.std.specs.Cmp.Lexicographic.{same_text}
-use Rattle.std.proofs.lemmas.Bool.{cases_Bool, true≢false, false≢true, and_parts}
+use Rattle.std.proofs.lemmas.Bool.{true≢false, false≢true}
 use Rattle.json.specs.Lex.{tokens}
 use Rattle.json.specs.Reads.{token_of}
 use Rattle.json.specs.Token as spec
 use Rattle.json.specs.declared.token.Token.{Token}
 use Rattle.json.specs.Json.{parse_map}
-use Rattle.serde_json.specs.Data.{Data, object, Members}
-use Rattle.sp_base.specs.Paths.{most_segments, seg_ok}
+use Rattle.serde_json.specs.Data.{object, Members}
+use Rattle.sp_base.specs.Paths.{most_segments}
 use Rattle.resource_tree.specs.Content.{Content, kid, most_nodes}
 use Rattle.content_json.specs.declared.part.Part.{Part}
 use Rattle.content_json.specs.declared.part.Part.TheVariants as part
 use Rattle.content_json.specs.declared.part.Placed.{Placed}
-use Rattle.content_json.specs.Names.{order_name, is_order, is_content_name}
 use Rattle.content_json.specs.ContentOf.{map_of}
 use Rattle.content_json.specs.Faults.{fault_in}
-use Rattle.content_json.specs.Nodes.{nodes_in, count_below, is_deeper, is_deeper_below}
+use Rattle.content_json.specs.Nodes.{nodes_in, count_below, is_deeper_below}
 use Rattle.content_json.specs.Steps.{is_sound}
 use Rattle.content_json.specs.Parts.{is_unfit, may_stand, is_unfit_object, IsPart, IsObjectPart, entry_of}
-use Rattle.content_json.specs.Tokens.{value_in, members_in, Passes, IsValuePart, ReadsValue, ReadsPart, ReadsObject, IsSoundContent, IsUnsound}
+use Rattle.content_json.specs.Tokens.{value_in, members_in, Passes, ReadsPart, ReadsObject, IsSoundContent, IsUnsound}
 use Rattle.content_json.proofs.PassLemmas.{object_in, passes_under, text_of_value, same_object}
 use Rattle.content_json.proofs.SizeLemmas.{length-nodes_in}
 
 -- ---- a member
 
--- one whose name may not stand
-pub unnamed_made : (levels : ℕ) (path : List (List ℕ)) (name : List ℕ) (ts rest : List spec.Token) (found : Option Part) (b : Bool) → found ≡ (if b then Some part.Unfit else None) → may_stand name ≡ false → Passes b (value_in (levels + 62) ts) rest
-    → MatchOption found (value_in (levels + 62) ts ≡ None) (ReadsPart levels path name ts rest)
-unnamed_made levels path name ts rest found true is bad (d, read) =
-    subst (λ o. MatchOption o (value_in (levels + 62) ts ≡ None) (ReadsPart levels path name ts rest)) (sym is) (d, read, ap (λ b. not b || is_unfit levels d) bad)
-unnamed_made levels path name ts rest found false is bad none = subst (λ o. MatchOption o (value_in (levels + 62) ts ≡ None) (ReadsPart levels path name ts rest)) (sym is) none
-
 or_true : (b : Bool) → (b || true) ≡ true
 or_true true = refl
 or_true false = refl
-
-value_is_part : (levels : ℕ) (path : List (List ℕ)) (name : List ℕ) (p : Part) (d : Data) → may_stand name ≡ true → IsValuePart p d → IsPart levels path name p d
-value_is_part levels path name part.Nothing d named is = (named, is)
-value_is_part levels path name (part.Value v) d named is = (named, is)
-value_is_part levels path name (part.Kid s) d named is = absurd is
-value_is_part levels path name part.Unfit d named is = ap (λ b. not (may_stand name) || (b || is_deeper levels d)) is ∙ or_true (not (may_stand name))
-
--- one that is no object
-pub value_made : (levels : ℕ) (path : List (List ℕ)) (name : List ℕ) (ts rest : List spec.Token) (found : Option Part) → may_stand name ≡ true → MatchOption found (value_in (levels + 62) ts ≡ None) (ReadsValue (levels + 62) ts rest)
-    → MatchOption found (value_in (levels + 62) ts ≡ None) (ReadsPart levels path name ts rest)
-value_made levels path name ts rest None named none = none
-value_made levels path name ts rest (Some p) named (d, read, is) = (d, read, value_is_part levels path name p d named is)
 
 -- an object that is too deep
 pub deep_made : (levels : ℕ) (path : List (List ℕ)) (name : List ℕ) (ts rest : List spec.Token) (found : Option Part) (b : Bool) → levels ≡ 0 → found ≡ (if b then Some part.Unfit else None) → Passes b (members_in 61 ts) rest
@@ -89,23 +68,7 @@ kid_made levels path at name ts rest found some named place made =
     told None none all = all ∙ ap (parse_map object) none
     told (Some p) (ms, read, is) all = (object ms, all ∙ ap (parse_map object) read, object_is_part levels path at name p ms some named place is)
 
--- a name that may stand is a segment
-pub names_segment : (name : List ℕ) → may_stand name ≡ true → seg_ok name ≡ true
-names_segment name h =
-    ⊎_elim
-    (λ is. ap seg_ok (same_text name order_name (sym is)))
-    (λ other. (and_parts (seg_ok name) _ (sym (ap (λ b. b || is_content_name name) other) ∙ h)).0)
-    (cases_Bool (is_order name))
-
 -- ---- the top
-
-unsound : (fault big deep : Bool) → (fault || deep) ≡ true → not (fault || (big || deep)) ≡ false
-unsound true big deep h = refl
-unsound false true deep h = refl
-unsound false false deep h = ap not h
-
-pub unfit_unsound : (ms : Members) → is_unfit_object most_segments ms ≡ true → is_sound ms ≡ false
-unfit_unsound ms h = unsound (is_some (fault_in (object ms))) (nat_lt most_nodes (suc (count_below ms))) (is_deeper_below most_segments ms) h
 
 too_big : (fault big deep : Bool) → big ≡ true → not (fault || (big || deep)) ≡ false
 too_big true big deep h = refl

@@ -1,5 +1,5 @@
 -- What is made of an object's members.
-use Rattle.std.proofs.Common.{◌≡◌, ◌≢◌, ℕ, Bool, true, false, cond, not, ◌&&◌, ◌||◌, ⊎_elim, List, [], ◌∷◌, ◌++◌, map, filter, append_assoc, Option, Some, None, option_map, is_some, unwrap_or, if◌then◌else◌, Bor, nat_cmp, Less, Equal, Greater, refl, sym, ap, ◌∙◌, subst}
+use Rattle.std.proofs.Common.{◌≡◌, ◌≢◌, ℕ, Bool, true, false, cond, not, ◌&&◌, ◌||◌, ⊎_elim, List, [], ◌∷◌, ◌++◌, filter, append_assoc, Option, Some, None, option_map, is_some, unwrap_or, if◌then◌else◌, Bor, nat_cmp, Less, Equal, Greater, refl, sym, ap, ◌∙◌, subst}
 use Rattle.std.specs.Prelude.{⊤, option_and_then, MatchOption}
 use Rattle.std.specs.BTreeMap.{insert_entry, is_at}
 use Rattle.std.specs.Cmp.Lexicographic.{slice_cmp, same_text}
@@ -30,8 +30,7 @@ use Rattle.content_json.specs.Lists.{items_cause, array_cause, item_list, data_v
 use Rattle.content_json.specs.Faults.{here, own_fault, names_kids, is_good_order, has_good_order, fault_in, fault_below, in_member}
 use Rattle.content_json.specs.Nodes.{order_names, kids_of, with_member, add_props, nodes_in, nodes_below, is_deeper, is_deeper_below}
 use Rattle.content_json.specs.Steps.{member_nodes}
-use Rattle.content_json.specs.Written.{keeps_kind}
-use Rattle.content_json.specs.Parts.{items_from, data_of, texts_array, is_unfit, may_stand, is_unfit_member, has_unfit, is_unfit_object, IsPart, AreParts, Lists, is_kid_part, kid_keys, listed_in}
+use Rattle.content_json.specs.Parts.{items_from, texts_array, is_unfit, may_stand, is_unfit_member, has_unfit, is_unfit_object, IsPart, AreParts, Lists, is_kid_part, kid_keys, listed_in}
 use Rattle.content_json.proofs.ValueLemmas.{texts_back, value_back, value_faultless, value_no_object, value_no_nodes, value_shallow}
 
 -- ---- one more member

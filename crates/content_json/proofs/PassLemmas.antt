@@ -1,5 +1,5 @@
 -- What tokens begin with, a token at a time.
-use Rattle.std.proofs.Common.{◌≡◌, ◌≢◌, ◌<◌, ◌-◌, ℕ, zero, suc, List, [], ◌∷◌, length, Bool, true, false, Option, Some, None, option_map, is_some, is_none, Bor, refl, sym, ap, ◌∙◌, subst, arith}
+use Rattle.std.proofs.Common.{◌≡◌, ◌<◌, ◌-◌, ℕ, suc, List, [], ◌∷◌, length, Bool, true, false, Option, Some, None, option_map, is_some, is_none, Bor, refl, sym, ap, ◌∙◌, subst}
 use Rattle.std.proofs.lemmas.Bool.{true≢false, false≢true}
 use Rattle.json.specs.Token.{Token}
 use Rattle.json.specs.Json as json
@@ -119,9 +119,6 @@ begins_object (Token.number s) e = absurd (cc)
 begins_object (Token.boolean b) e = absurd (cc)
 begins_object Token.null e = absurd (cc)
 begins_object Token.bad e = absurd (cc)
-
-pub apart_from_object : (t : Token) → is_begin_object t ≡ false → t ≢ Token.begin_object
-apart_from_object t e is = true≢false (sym (ap is_begin_object is) ∙ e)
 
 abbrev is_one : Option (Data × List Token) → Bool
 is_one None = false

@@ -5,7 +5,7 @@ use Rattle.std.specs.Fmt.{signed_decimal}
 use Rattle.std.specs.List.{filter_map, list_all}
 use Rattle.std.proofs.lemmas.Bool.{ltb-true, false≢true, and_parts}
 use Rattle.json.specs.Json as json
-use Rattle.serde_json.specs.Data.{Data, boolean, number, string, array, Items, no_items, item}
+use Rattle.serde_json.specs.Data.{boolean, number, string, array, item}
 use Rattle.serde_json.specs.Find.{as_str, as_bool, as_i64, of_integer}
 use Rattle.serde_json.specs.Read.{number_of, of_json, of_items}
 use Rattle.serde_json.proofs.Numbers.{number_of-decimal, number_of-negative}

@@ -1,5 +1,5 @@
 -- What proofs and private functions need: what is made of an object's members, of which some were read.
-use Rattle.std.specs.Prelude.{◌≡◌, ℕ, ℤ, not, ◌&&◌, ◌||◌, ◌++◌, List, [], ◌∷◌, map, Bool, true, false, Option, Some, None, is_some, unwrap_or, if◌then◌else◌, ⊤}
+use Rattle.std.specs.Prelude.{◌≡◌, ℕ, ℤ, not, ◌||◌, ◌++◌, List, [], ◌∷◌, map, Bool, true, false, Option, Some, None, is_some, unwrap_or, if◌then◌else◌, ⊤}
 use Rattle.std.specs.Bool.{MatchBool}
 use Rattle.std.specs.Borrow.{Bor}
 use Rattle.sp_base.specs.Texts.{Segments, Text as Bytes, Properties}

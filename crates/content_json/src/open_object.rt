@@ -86,7 +86,10 @@ fn add_part(
             Ok(true)
         }
         Part::Kid(sprout) => {
-            let Sprout { top, below: mut more } = Box::into_inner(sprout);
+            let Sprout {
+                top,
+                below: mut more,
+            } = Box::into_inner(sprout);
             below.push(top)?;
             below.append(&mut more)?;
             Ok(true)

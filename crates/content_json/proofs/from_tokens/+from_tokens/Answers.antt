@@ -1,14 +1,11 @@
-use Rattle.std.proofs.Common.{◌≡◌, ◌≢◌, ◌<◌, ◌≤◌, ◌+◌, ◌-◌, ◌∷◌, [], ◌||◌, length, Some, None, true, false, refl, sym, ap, ◌∙◌, subst, arith, rules}
+use Rattle.std.proofs.Common.{◌≡◌, ◌≢◌, ◌<◌, ◌+◌, ◌-◌, [], length, Some, None, true, ◌∙◌, subst, arith, rules}
 use Rattle.std.specs.Prelude.{MatchOption}
 use Rattle.std.proofs.lemmas.Result.{IfOk-weaker}
-use Rattle.json.specs.Token.{Token}
 use Rattle.json.specs.Json.{read_key, value}
-use Rattle.json.specs.Reads.{token_of}
 use Rattle.json.proofs.Grammar.{read_key-shorter}
 use Rattle.serde_json.specs.Data.{put}
-use Rattle.content_json.specs.Names.{is_order, is_content_name}
 use Rattle.content_json.specs.Parts.{may_stand}
-use Rattle.content_json.specs.Tokens.{value_in, members_in, ReadsPart}
+use Rattle.content_json.specs.Tokens.{value_in, ReadsPart}
 use Rattle.content_json.proofs.ReadLemmas.{member_read, member_refused, key_refused, members_over}
 use Rattle.content_json.proofs.PassLemmas.{none_left}
 use Rattle.content_json.proofs.MadeLemmas.{deep_made, kid_made}

@@ -1,4 +1,4 @@
-use Rattle.std.proofs.Common.{◌≡◌, ◌≤◌, ◌<◌, [], length, true, false, refl, sym, ap, ◌∙◌, subst, arith}
+use Rattle.std.proofs.Common.{◌≡◌, ◌≤◌, ◌<◌, [], length, ap, ◌∙◌, subst, arith}
 use Rattle.serde_json.specs.Data.{object}
 use Rattle.content_json.specs.ContentOf.{map_of}
 use Rattle.content_json.specs.Nodes.{nodes_in}

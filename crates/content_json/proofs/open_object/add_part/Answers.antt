@@ -1,5 +1,4 @@
-use Rattle.std.proofs.Common.{false, map, ap, sym, subst, arith, ◌≡◌}
-use Rattle.content_json.specs.declared.part.Part.TheVariants as part
+use Rattle.std.proofs.Common.{false, map, subst, arith, ◌≡◌}
 use Rattle.content_json.specs.Names.{is_order}
 use Rattle.content_json.specs.Parts.{IsPart, entry_of}
 use Rattle.content_json.proofs.PartLemmas.{value_added}

@@ -1,7 +1,5 @@
-use Rattle.std.proofs.Common.{Some, None, false, ap, sym, ◌∙◌, subst}
-use Rattle.std.specs.Option.{option_map_or}
+use Rattle.std.proofs.Common.{Some, None, sym, ◌∙◌, subst}
 use Rattle.serde_json.specs.Find.{get_member}
-use Rattle.content_json.specs.Parts.{is_kid_part}
 use Rattle.content_json.proofs.PartLemmas.{IsFound, part_found, is_kid_found}
 use Rattle.content_json.proofs.open_object.is_kid.Goals as goal
 

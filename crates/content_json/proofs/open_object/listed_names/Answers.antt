@@ -1,4 +1,4 @@
-use Rattle.std.proofs.Common.{Some, None, sym, subst}
+use Rattle.std.proofs.Common.{sym, subst}
 use Rattle.serde_json.specs.Find.{get_member}
 use Rattle.content_json.specs.Names.{order_name}
 use Rattle.content_json.proofs.PartLemmas.{IsFound, part_found, order_absent, order_made}

@@ -1,10 +1,8 @@
-use Rattle.std.proofs.Common.{◌≡◌, ◌<◌, ◌≤◌, ◌-◌, ℕ, [], ◌∷◌, length, Some, None, option_map, is_some, nat_lt, refl, sym, ap, ◌∙◌, subst, arith, rules, true, false}
-use Rattle.json.specs.Token.{Token}
-use Rattle.json.specs.Json.{parse_map, after_end_array, read_key, items, members, value}
+use Rattle.std.proofs.Common.{◌≡◌, ◌<◌, ◌-◌, [], ◌∷◌, length, Some, None, nat_lt, refl, sym, ap, ◌∙◌, subst, arith, true, false}
+use Rattle.json.specs.Json.{parse_map, after_end_array, read_key, value}
 use Rattle.json.specs.Reads.{token_of}
 use Rattle.json.proofs.Grammar.{read_key-shorter}
 use Rattle.serde_json.specs.Data.{null, boolean, string, array, object, item, no_items, no_members, put}
-use Rattle.serde_json.specs.Read.{of_items, of_members, converted}
 use Rattle.content_json.proofs.ReadLemmas.{item_read, item_refused, items_over, member_read, member_refused, key_refused, members_over, none_before}
 use Rattle.content_json.specs.Tokens.{value_in, items_in, items_within, members_in, Passes}
 use Rattle.content_json.proofs.PassLemmas.{one_value, no_value, none_left, array_in, object_in, no_array, no_object, passes_under, passes_number, named, keyed, twice}

@@ -1,4 +1,4 @@
-use Rattle.std.proofs.Common.{Some, option_map, IfOk, rules, SFits, w64, to_z-of_z, refl, sym, ap, ◌∙◌, subst}
+use Rattle.std.proofs.Common.{option_map, IfOk, rules, SFits, w64, to_z-of_z, refl, sym, ap, ◌∙◌, subst}
 use Rattle.std.specs.Prelude.{MatchOption}
 use Rattle.std.proofs.lemmas.Result.{IfOk-weaker}
 use Rattle.json.specs.Reads.{token_of}

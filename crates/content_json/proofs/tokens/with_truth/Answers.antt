@@ -1,4 +1,4 @@
-use Rattle.std.proofs.Common.{◌≡◌, ◌++◌, ◌∷◌, [], false, sym, ap, ◌∙◌, subst}
+use Rattle.std.proofs.Common.{◌≡◌, false, sym, subst}
 use Rattle.serde_json.specs.Data.{boolean}
 use Rattle.sp_base.specs.declared.value.Value.TheVariants.{Truths}
 use Rattle.content_json.specs.Tokens.{is_open, Extends}

@@ -1,7 +1,5 @@
-use Rattle.std.proofs.Common.{◌≡◌, ◌++◌, ◌∷◌, [], ℕ, List, Bor, true, false, map, append-nil, refl, sym, ap, ◌∙◌, subst}
+use Rattle.std.proofs.Common.{◌≡◌, ◌++◌, ◌∷◌, [], ℕ, List, Bor, false, map, append-nil, sym, ap, ◌∙◌, subst}
 use Rattle.std.specs.Prelude.{MatchOption}
-use Rattle.serde_json.specs.Data.{Members}
-use Rattle.resource_tree.specs.Content.{Content}
 use Rattle.content_json.specs.declared.part.Part.{Part}
 use Rattle.content_json.specs.Nodes.{add_props, nodes_below}
 use Rattle.content_json.specs.Faults.{has_good_order}

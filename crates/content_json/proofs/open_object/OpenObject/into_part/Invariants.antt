@@ -1,4 +1,4 @@
-use Rattle.std.proofs.Common.{◌≡◌, ◌++◌, ℕ, List, [], map}
+use Rattle.std.proofs.Common.{◌≡◌, ◌++◌, ℕ, [], map}
 use Rattle.serde_json.specs.Data.{Members}
 use Rattle.content_json.specs.Nodes.{add_props, nodes_below}
 use Rattle.content_json.specs.Parts.{AreParts, HoldsMembers, has_unfit, entry_of}

@@ -1,4 +1,4 @@
-use Rattle.std.proofs.Common.{sym, ap, subst}
+use Rattle.std.proofs.Common.{sym, subst}
 use Rattle.serde_json.specs.Data.{put}
 use Rattle.content_json.specs.Parts.{AreParts}
 use Rattle.content_json.proofs.PartLemmas.{parts-insert}

@@ -1,6 +1,5 @@
 -- Members that are inserted one after another.
 use Rattle.std.proofs.Common.{◌≡◌, ℕ, cond, T, ⊎_elim, List, [], ◌∷◌, Some, refl, sym, ap, ◌∙◌, subst}
-use Rattle.std.specs.Prelude.{⊤}
 use Rattle.std.specs.Cmp.{tied_itself}
 use Rattle.std.specs.Cmp.Lexicographic.{nat_list_cmp_total, same_text}
 use Rattle.std.specs.FinMap.Entries as entries

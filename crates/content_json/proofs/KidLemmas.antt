@@ -1,5 +1,5 @@
 -- The kids of an object are its members with objects.
-use Rattle.std.proofs.Common.{◌≡◌, ℕ, Bool, true, false, cond, not, ◌&&◌, ◌||◌, ⊎_elim, List, [], ◌∷◌, ◌++◌, Option, Some, None, filter, if◌then◌else◌, unwrap_or, append_assoc, refl, sym, ap, ◌∙◌, subst}
+use Rattle.std.proofs.Common.{◌≡◌, ℕ, Bool, true, false, cond, not, ◌&&◌, ◌||◌, ⊎_elim, List, [], ◌∷◌, ◌++◌, Option, Some, None, filter, if◌then◌else◌, unwrap_or, refl, sym, ap, ◌∙◌, subst}
 use Rattle.std.specs.List.{list_any, list_all, filter_map, cons_option}
 use Rattle.std.specs.Prelude.{option_and_then}
 use Rattle.std.specs.Option.{option_map_or}
@@ -131,14 +131,3 @@ pub kids_within : (ms : Members) → has_good_order ms ≡ true → list_all (λ
 kids_within ms h =
     all_append (λ k. list_any (bytes_eq k) (kid_names ms)) (order_names ms) (filter (λ name. not (list_any (bytes_eq name) (order_names ms))) (kid_names ms)) (order_within ms h)
     (list_all_filter (λ k. list_any (bytes_eq k) (kid_names ms)) (λ name. not (list_any (bytes_eq name) (order_names ms))) (kid_names ms) (all_among (kid_names ms)))
-
--- a member that goes to the kids, and one that doesn't
-pub kid_goes : (f : List ℕ → Bool) (kids : List (List ℕ)) (name : List ℕ) (d : Data) (ms : Members) → (is_kid_member name d && f name) ≡ true → kids ++ filter f (kid_names (member name d ms)) ≡ (kids ++ name ∷ []) ++ filter f (kid_names ms)
-kid_goes f kids name d ms h = let parts = and_parts (is_kid_member name d) (f name) h in rw (parts.0, parts.1) (sym (append_assoc kids (name ∷ []) (filter f (kid_names ms))))
-
-pub kid_stays : (f : List ℕ → Bool) (name : List ℕ) (d : Data) (ms : Members) → (is_kid_member name d && f name) ≡ false → filter f (kid_names (member name d ms)) ≡ filter f (kid_names ms)
-kid_stays f name d ms h =
-    elim (is_kid_member name d) as (λ t. (t && f name) ≡ false → filter f (if t then name ∷ kid_names ms else kid_names ms) ≡ filter f (kid_names ms)) [
-      | true ↦ λ no. rw no refl
-      | false ↦ λ no. refl
-    ] h

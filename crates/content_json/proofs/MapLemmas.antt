@@ -1,17 +1,15 @@
 -- A tree is the finite map of its nodes.
-use Rattle.std.proofs.Common.{◌≡◌, ℕ, Bool, true, false, cond, T, List, [], ◌∷◌, Option, Some, None, Less, Equal, Greater, refl, sym, ap, ◌∙◌, subst}
+use Rattle.std.proofs.Common.{◌≡◌, ℕ, cond, T, List, [], ◌∷◌, Some, Less, Equal, Greater, refl, sym, ap, ◌∙◌, subst}
 use Rattle.std.specs.FinMap.Entries.{by_order, put, find, is_sorted, below_all, is_sorted-put, find-put, same_entries}
 use Rattle.std.specs.List.{AllByRecursion}
 use Rattle.std.specs.List.Sorted.{IsStrictlySortedBy}
 use Rattle.std.specs.Map.{keys_of}
 use Rattle.std.specs.BTreeMap.{insert_entry}
-use Rattle.std.specs.Option.{option_or}
 use Rattle.std.specs.Ordering.{is_lt, match_ordering}
 use Rattle.sp_base.proofs.BoolLemmas.{T_both}
 use Rattle.sp_base.proofs.OrderingLemmas.{by_path_exact, by_path_total}
 use Rattle.resource_tree.specs.declared.nodes.Node.{Node}
 use Rattle.resource_tree.specs.Content.{Content, by_path, same_path, node_at}
-use Rattle.content_json.specs.Steps.{with_nodes_at}
 use Rattle.content_json.specs.ContentOf.{map_of}
 
 pub find_is_node_at : (q : List (List ℕ)) (es : Content) → find by_path q es ≡ node_at es q
@@ -42,7 +40,7 @@ is_map_of tree nodes sorted same =
 
 -- ---- one more node
 
-insert_is_put : (es : Content) (path : List (List ℕ)) (node : Node) → insert_entry by_path es path node ≡ put by_path path node es
+pub insert_is_put : (es : Content) (path : List (List ℕ)) (node : Node) → insert_entry by_path es path node ≡ put by_path path node es
 insert_is_put [] path node = refl
 insert_is_put (e ∷ es) path node =
     elim (by_path path e.0) as (λ o. match_ordering o ((path, node) ∷ e ∷ es) ((e.0, node) ∷ es) (e ∷ insert_entry by_path es path node) ≡ by_order o ((path, node) ∷ e ∷ es) ((e.0, node) ∷ es) (e ∷ put by_path path node es)) [
@@ -50,26 +48,3 @@ insert_is_put (e ∷ es) path node =
       | Equal ↦ refl
       | Greater ↦ ap (λ more. e ∷ more) (insert_is_put es path node)
     ]
-
-node_at-insert : (es : Content) (path q : List (List ℕ)) (node : Node) → node_at (insert_entry by_path es path node) q ≡ cond (same_path q path) (Some node) (node_at es q)
-node_at-insert es path q node =
-    ap (λ more. node_at more q) (insert_is_put es path node) ∙ sym (find_is_node_at q (put by_path path node es)) ∙ find-put by_path by_path_total q path node es
-    ∙ ap (cond (same_path q path) (Some node)) (find_is_node_at q es)
-
-covers : (b : Bool) (node : Node) (below old : Option Node) → cond b (Some node) (option_or below old) ≡ option_or (cond b (Some node) below) old
-covers true node below old = refl
-covers false node below old = refl
-
--- an object's own node comes over those below it
-pub own_node : (old mid new : Content) (path : List (List ℕ)) (node : Node) (below : Content) → ((q : List (List ℕ)) → node_at mid q ≡ with_nodes_at old below q) → new ≡ insert_entry by_path mid path node
-    → (q : List (List ℕ)) → node_at new q ≡ with_nodes_at old ((path, node) ∷ below) q
-own_node old mid new path node below was is q =
-    ap (λ t. node_at t q) is ∙ node_at-insert mid path q node ∙ ap (cond (same_path q path) (Some node)) (was q) ∙ covers (same_path q path) node (node_at below q) (node_at old q)
-
-or_none : (o : Option Node) → option_or o None ≡ o
-or_none None = refl
-or_none (Some node) = refl
-
--- nodes over none at all
-pub over_none : (nodes : Content) (q : List (List ℕ)) → with_nodes_at [] nodes q ≡ node_at nodes q
-over_none nodes q = or_none (node_at nodes q)

@@ -38,14 +38,6 @@ pub none_of_both : {A : Type 0} (a b : Option A) → option_or a b ≡ None → 
 none_of_both None b h = (refl, h)
 none_of_both (Some x) b h = absurd (cc)
 
-named : (order plain rest : Bool) → (not (order || plain) || rest) ≡ false → (order || plain) ≡ true
-named true plain rest h = refl
-named false true rest h = refl
-named false false rest h = absurd (cc)
-
-pub may_stand-first : (name : List ℕ) (d : Data) (ms : Members) → has_bad_name (member name d ms) ≡ false → (is_order name || is_content_name name) ≡ true
-may_stand-first name d ms h = named (is_order name) (is_content_name name) (has_bad_name ms) h
-
 none_of_map : {A B : Type 0} (f : A → B) (o : Option A) → option_map f o ≡ None → o ≡ None
 none_of_map f None h = refl
 none_of_map f (Some x) h = absurd (cc)

@@ -18,9 +18,3 @@ or_from_cond false b = refl
 -- the items that are left begin with this one
 pub drop_here : {A : Type 0} (xs : List A) (i : ℕ) (x : A) → i < length xs → x ≡ get_or xs i x → drop i xs ≡ x ∷ drop (i + 1) xs
 drop_here xs i x within is = rw (add-one, drop-cons xs i x) (ap (λ y. y ∷ drop (suc i) xs) (sym is))
-
--- a text moves from those that are left into the set
-pub moves_over : (is set rest all : Bool) → (set || (is || rest)) ≡ all → (cond is true set || rest) ≡ all
-moves_over true true rest all h = h
-moves_over true false rest all h = h
-moves_over false set rest all h = h

@@ -27,7 +27,8 @@ use Rattle.content_json.specs.Written.{has_no_colon, keeps_kind}
 use Rattle.content_json.proofs.Under.{bytes_eq_itself}
 use Rattle.content_json.specs.Members.{AllMembers}
 use Rattle.content_json.proofs.InsertLemmas.{tie_is}
-use Rattle.content_json.proofs.ValueLemmas.{items_from, value_faultless, value_shallow}
+use Rattle.content_json.specs.Parts.{items_from}
+use Rattle.content_json.proofs.ValueLemmas.{value_faultless, value_shallow}
 use Rattle.content_json.proofs.ReturnMembers.{members_of, IsMember, prop, order, kid, get_kid, get_order_some, get_order_none}
 
 -- what is read for a node at a path of a tree, no more than n levels deep

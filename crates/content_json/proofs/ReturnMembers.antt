@@ -26,7 +26,8 @@ use Rattle.content_json.specs.Written.{order_before, kids_json, has_no_colon, ke
 use Rattle.content_json.proofs.Under.{bytes_eq_itself}
 use Rattle.content_json.specs.Members.{AreSorted, AllMembers}
 use Rattle.content_json.proofs.InsertLemmas.{tie_is, get-put, sorted-insert_all, all-insert_all, insert_all}
-use Rattle.content_json.proofs.ValueLemmas.{items_from, data_of, texts_are, value_is}
+use Rattle.content_json.specs.Parts.{items_from, data_of}
+use Rattle.content_json.proofs.ValueLemmas.{texts_are, value_is}
 
 abbrev pub prop_entries : List (List ℕ × Value) → List (List ℕ × Data)
 prop_entries [] = []

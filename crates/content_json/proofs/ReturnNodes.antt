@@ -26,7 +26,8 @@ use Rattle.content_json.proofs.Under.{bytes_eq_itself}
 use Rattle.content_json.proofs.KidLemmas.{all_weaker}
 use Rattle.content_json.specs.Members.{entries_of, AreSorted, AllMembers}
 use Rattle.content_json.proofs.InsertLemmas.{tie_is, get-member}
-use Rattle.content_json.proofs.ValueLemmas.{data_of, texts_back, value_back, value_no_object}
+use Rattle.content_json.specs.Parts.{data_of}
+use Rattle.content_json.proofs.ValueLemmas.{texts_back, value_back, value_no_object}
 use Rattle.content_json.proofs.ReturnMembers.{less_apart, option_or-none, members_of, members_sorted, IsMember, prop, order, kid, get_kid, get_prop, get_order_some, get_order_none}
 use Rattle.content_json.proofs.ReturnFaults.{Node-is, order_no_kid, order_no_prop}
 

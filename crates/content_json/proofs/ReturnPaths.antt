@@ -26,7 +26,8 @@ use Rattle.content_json.proofs.KidLemmas.{or_split, kid_names_have}
 use Rattle.content_json.proofs.NodeLemmas.{none_unless, node_at-append, none_in, none_at_parent}
 use Rattle.content_json.proofs.BelowLemmas.{below_kid}
 use Rattle.content_json.specs.Members.{entries_of, AreSorted, AllMembers}
-use Rattle.content_json.proofs.ValueLemmas.{data_of, value_no_nodes}
+use Rattle.content_json.specs.Parts.{data_of}
+use Rattle.content_json.proofs.ValueLemmas.{value_no_nodes}
 use Rattle.content_json.proofs.ReturnMembers.{members_of, members_sorted, IsMember, prop, order, kid}
 use Rattle.content_json.proofs.ReturnFaults.{Returns, Node-is, kid_is_there, object_faultless, not_deeper_below}
 use Rattle.content_json.proofs.ReturnNodes.{node_back, prop_no_kid, order_name_no_kid, kid_no_order, kid_is_kid}

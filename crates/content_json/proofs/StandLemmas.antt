@@ -8,8 +8,7 @@ use Rattle.resource_tree.specs.declared.nodes.Node.{Node}
 use Rattle.content_json.specs.ContentOf.{content, json_of}
 use Rattle.content_json.specs.Lists.{data_value}
 use Rattle.content_json.specs.Names.{is_order}
-use Rattle.content_json.specs.Nodes.{node_of_members}
-use Rattle.content_json.specs.Ways.{way_end, node_of_value}
+use Rattle.content_json.specs.Ways.{way_end}
 use Rattle.content_json.proofs.GoodLemmas.{object_there, props_are}
 use Rattle.content_json.proofs.InOrder.{IsInOrder}
 use Rattle.content_json.proofs.LawLemmas.{in_order_top, node_at_path}

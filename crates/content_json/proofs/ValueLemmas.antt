@@ -5,7 +5,7 @@ use Rattle.std.specs.Fmt.{signed_decimal}
 use Rattle.std.specs.List.{filter_map, list_all}
 use Rattle.std.proofs.lemmas.Bool.{ltb-true, false≢true, and_parts}
 use Rattle.json.specs.Json as json
-use Rattle.serde_json.specs.Data.{Data, boolean, number, string, array, Items, no_items, item}
+use Rattle.serde_json.specs.Data.{boolean, number, string, array, item}
 use Rattle.serde_json.specs.Find.{as_str, as_bool, as_i64, of_integer}
 use Rattle.serde_json.specs.Read.{number_of, of_json, of_items}
 use Rattle.serde_json.proofs.Numbers.{number_of-decimal, number_of-negative}
@@ -17,23 +17,8 @@ use Rattle.content_json.specs.Names.{is_object}
 use Rattle.content_json.specs.Lists.{as_long, items_cause, item_list, data_value}
 use Rattle.content_json.specs.Faults.{here, fault_in}
 use Rattle.content_json.specs.Nodes.{nodes_in, is_deeper}
+use Rattle.content_json.specs.Parts.{items_from, data_of_long, data_of}
 use Rattle.content_json.specs.Written.{keeps_kind}
-
-abbrev pub items_from : {A : Type 0} → (A → Data) → List A → Items
-items_from g [] = no_items
-items_from g (x ∷ xs) = item (g x) (items_from g xs)
-
-abbrev pub data_of_long : ℤ → Data
-data_of_long n = number (of_integer n)
-
--- what a value is written as, seen as data
-abbrev pub data_of : Value → Data
-data_of (Text t) = string t
-data_of (Long n) = data_of_long n
-data_of (Truth b) = boolean b
-data_of (Texts ts) = array (items_from string ts)
-data_of (Longs ns) = array (items_from data_of_long ns)
-data_of (Truths bs) = array (items_from boolean bs)
 
 -- ---- reading gives this data
 

@@ -4,7 +4,7 @@ use Rattle.std.specs.FinMap.Entries.{put}
 use Rattle.std.specs.List.{list_any}
 use Rattle.std.specs.Str.{is_utf8}
 use Rattle.sp_base.specs.Texts.{Segments, Text}
-use Rattle.serde_json.specs.Data.{Data, null, boolean, number, string, array, object, Members}
+use Rattle.serde_json.specs.Data.{Data, object, Members}
 use Rattle.serde_json.specs.Read.{read}
 use Rattle.sp_base.specs.Paths.{most_segments}
 use Rattle.resource_tree.specs.Content.{Content, by_path, most_nodes}

@@ -7,6 +7,6 @@ pub mod Ways
 pub mod ContentOf
 pub mod Written
 pub mod Steps
-pub mod OpenProps
-pub mod FromTokens
+pub mod Parts
+pub mod Tokens
 pub mod FaultTexts

@@ -1,19 +1,13 @@
 -- What proofs and private functions need: the steps of reading and of writing.
-use Rattle.std.specs.Prelude.{◌≡◌, ◌-◌, ◌&&◌, ◌||◌, not, nat_lt, is_some, ℕ, List, [], ◌∷◌, Bool, true, false, T, Option, Some, None, option_map, if◌then◌else◌, flat_map, length}
+use Rattle.std.specs.Prelude.{◌≡◌, ◌-◌, ◌&&◌, ◌||◌, not, is_some, ℕ, List, [], ◌∷◌, Bool, true, false, T, Option, Some, None, option_map, if◌then◌else◌, flat_map, length}
 use Rattle.std.specs.FinMap.Entries.{is_sorted}
-use Rattle.std.specs.List.{list_all, list_any, filter_map}
-use Rattle.std.specs.Option.{option_or}
+use Rattle.std.specs.List.{list_all, list_any}
 use Rattle.std.specs.Str.{bytes_eq}
-use Rattle.std.specs.BTreeSet.{contains_by, BTreeSet}
-use Rattle.std.specs.Cmp.Lexicographic.{slice_cmp}
-use Rattle.std.specs.Ordering.{nat_cmp}
-use Rattle.std.specs.Borrow.{Bor}
 use Rattle.sp_base.specs.Texts.{Segments, Text, Properties}
 use Rattle.json.specs.Json as json
 use Rattle.json.specs.Token.{Token}
 use Rattle.json.specs.Tree.{json_tokens}
-use Rattle.serde_json.specs.Data.{Data, Members, object, Items}
-use Rattle.serde_json.specs.Find.{as_str}
+use Rattle.serde_json.specs.Data.{Data, Members, object}
 use Rattle.sp_base.specs.Paths.{most_segments}
 use Rattle.sp_base.specs.Names.{by_name}
 use Rattle.resource_tree.specs.declared.nodes.Node.{Node}
@@ -23,9 +17,8 @@ use Rattle.content_json.specs.declared.fault.Found.{Found}
 use Rattle.content_json.specs.Names.{order_name, is_order}
 use Rattle.content_json.specs.Faults.{in_member, fault_in}
 use Rattle.content_json.specs.ContentOf.{is_too_big}
-use Rattle.content_json.specs.Nodes.{nodes_in, count_in, count_below, is_deeper, is_deeper_below}
+use Rattle.content_json.specs.Nodes.{nodes_in}
 use Rattle.content_json.specs.Written.{node_json}
-use Rattle.content_json.specs.Lists.{item_list}
 
 -- the second path is the first or is below it
 abbrev pub is_at_or_below : Segments → Segments → Bool
@@ -43,21 +36,9 @@ member_fault name d = if is_order name then None else option_map (in_member name
 abbrev pub member_nodes : Segments → List ℕ → Data → Content
 member_nodes path name d = if is_order name then [] else nodes_in (kid path name) d
 
--- the node at a path of a tree with other nodes added
-abbrev pub with_nodes_at : Content → Content → Segments → Option Node
-with_nodes_at tree nodes q = option_or (node_at nodes q) (node_at tree q)
-
 -- no fault, and not too big
 abbrev pub is_sound : Members → Bool
 is_sound ms = not (is_some (fault_in (object ms)) || is_too_big ms)
-
--- how many of n nodes are left beside those of a value. There is no answer where it has a fault, more nodes, or one more levels below
-abbrev pub room_after : ℕ → ℕ → Data → Option ℕ
-room_after most levels d = if is_some (fault_in d) || (nat_lt most (count_in d) || is_deeper levels d) then None else Some (most - count_in d)
-
--- and beside those of the members of an object
-abbrev pub room_beside : ℕ → ℕ → Members → Option ℕ
-room_beside most levels ms = if is_some (fault_in (object ms)) || (nat_lt most (count_below ms) || is_deeper_below levels ms) then None else Some (most - count_below ms)
 
 -- ---- writing
 
@@ -86,7 +67,3 @@ AreBelow tree path = (q : Segments) (node : Node) → is_at_or_below path q ≡ 
 -- and at or below one of these kids
 abbrev pub AreBelowKids : Content → Segments → List Text → Type 0
 AreBelowKids tree path names = (name : List ℕ) → list_any (bytes_eq name) names ≡ true → AreBelow tree (kid path name)
-
--- a set holds the texts among the items
-abbrev pub HoldsTexts : Items → BTreeSet (Bor (List ℕ)) → Type 0
-HoldsTexts items set = (q : List ℕ) → contains_by (λ k. slice_cmp nat_cmp q k.now) set ≡ list_any (bytes_eq q) (filter_map as_str (item_list items))

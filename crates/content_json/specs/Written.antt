@@ -9,7 +9,7 @@ use Rattle.json.specs.Tree.{json_tokens}
 use Rattle.json.specs.Print.{print}
 use Rattle.sp_base.specs.Paths.{most_segments}
 use Rattle.sp_base.specs.declared.value.Value.{Value}
-use Rattle.sp_base.specs.declared.value.Value.TheVariants.{Text, Long, Truth, Texts, Longs, Truths}
+use Rattle.sp_base.specs.declared.value.Value.TheVariants.{Longs, Truths}
 use Rattle.resource_tree.specs.declared.nodes.Node.{Node}
 use Rattle.resource_tree.specs.Content.{Content, node_at, kid}
 use Rattle.resource_tree.specs.Changes.{kids_at}

@@ -1,99 +1,119 @@
-// Reads content straight from the tokens of its JSON into nodes, where it has no fault and no kid is replaced.
-ghost use Rattle.std.specs.Prelude.{◌≡◌, ◌≤◌, ◌+◌, ◌∷◌, Some, None, true, false, length, IfOk, IfSome, OnOk};
-ghost use Rattle.serde_json.specs.Data.{no_members, object};
-ghost use Rattle.json.specs.Reads.{token_of};
+// Reads content straight from the tokens of its JSON.
+ghost use Rattle.std.specs.Prelude.{◌≡◌, ◌≤◌, ◌+◌, ◌∷◌, [], Some, None, true, false, length, IfOk, OnOk, MatchOption, if◌then◌else◌};
+ghost use Rattle.std.specs.Bool.{MatchBool};
+ghost use Rattle.json.specs.Token.{begin_object};
+ghost use Rattle.serde_json.specs.Data.{object, Members, no_members};
 ghost use Rattle.sp_base.specs.Paths.{most_segments};
-ghost use Rattle.content_json.specs.Names.{is_content_name, order_name};
-ghost use Rattle.content_json.specs.FromTokens.{HoldsMembers, IsSoundContent, AddsObject, AddsMembers, AddsMemberAt, AddsKidAt, TakesIn};
+ghost use Rattle.content_json.specs.ContentOf.{map_of};
+ghost use Rattle.content_json.specs.Nodes.{nodes_in};
+ghost use Rattle.content_json.specs.Steps.{is_sound};
+ghost use Rattle.content_json.specs.declared.part.Part.TheVariants as part;
+ghost use Rattle.content_json.specs.Parts.{IsObjectPart, HoldsMembers, may_stand, nodes_of};
+ghost use Rattle.content_json.specs.Tokens.{value_in, members_in, depth_beside_levels, ReadsPart, ReadsMembers, ReadsObject, IsSoundContent, IsUnsound};
 
-use crate::names::{is_content_name, is_order};
+use crate::names::{is_content_name, is_order, kid_path};
 use crate::open_object::OpenObject;
-use crate::tokens::{listed_texts, property};
-use crate::walk::kid_path;
-use json::{Reader, Scratch, Token};
+use crate::part::{Part, Sprout};
+use crate::pass::{pass_members, pass_value};
+use crate::tokens::{is_begin_object, value_part};
+use json::{Reader, Scratch};
 use resource_tree::{MOST_NODES, NodeMap};
 use sp_base::{MOST_SEGMENTS, Mem, Path};
 use std::alloc::Global;
 use std::hash::RandomState;
 
-// Where a member with a name stands: in the object at a path, below which there may be `levels` more levels.
-#[derive(Clone, Copy)]
-struct MemberPlace<'p, 'a> {
-    path: &'p Path,
-    levels: usize,
-    name: &'a str,
-}
+// How deep values may nest in a member beside the levels of nodes: 127 in all, without the top and 64 levels.
+const DEPTH_BESIDE_LEVELS: usize = 62;
 
-/// The nodes of sound content. There may be none where a member takes the place of a kid of its name, where a fault is replaced by a
-/// later member of its name, and of content that isn't sound.
+/// The nodes of sound content. There are none of content that isn't sound, and of a text that isn't JSON.
 pub(crate) fn nodes_of_text(alloc: Global, seeds: RandomState, text: &str) -> Mem<Option<NodeMap>>
-    ensures { IfOk result (λ found. IfSome found (IsSoundContent text.now)) }
+    ensures { IfOk result (λ found. MatchOption found (IsUnsound text.now) (IsSoundContent text.now)) }
 {
     let mut scratch = Scratch::new(alloc);
     let mut reader = Reader::new(text, &mut scratch)?;
-    let Some(Token::BeginObject) = reader.next() else {
+    let Some(first) = reader.next() else {
         return Ok(None);
     };
-    let mut nodes = NodeMap::new(alloc, seeds);
-    let whole = add_object(
-        alloc,
-        &mut reader,
-        &mut nodes,
-        Path::root(alloc),
-        MOST_SEGMENTS,
-    )?;
-    if !whole || reader.next().is_some() {
+    if !is_begin_object(first) {
         return Ok(None);
     }
-    // `add_object` stops before there are more; the length is what is shown of it.
-    if nodes.len() > MOST_NODES {
+    let root = Path::root(alloc);
+    let Some(part) = read_object(alloc, &mut reader, root, MOST_SEGMENTS)? else {
+        return Ok(None);
+    };
+    if reader.next().is_some() {
         return Ok(None);
     }
-    Ok(Some(nodes))
+    nodes_of_part(alloc, seeds, part)
 }
 
-// Adds the node of an object after its opening brace, and each below it, and answers whether it did. There may be `levels` more
-// levels below the object.
+// The nodes of what is made of the top. There are none where it is unfit, or there are too many.
+fn nodes_of_part(alloc: Global, seeds: RandomState, part: Part) -> Mem<Option<NodeMap>>
+    ensures { IfOk result (λ found. (ms : Members) → IsObjectPart most_segments [] part ms
+        → MatchOption found (is_sound ms ≡ false) (λ nodes. (is_sound ms ≡ true) × (nodes ≡ map_of (nodes_in [] (object ms))))) }
+{
+    match part {
+        Part::Kid(sprout) => {
+            let sprout = Box::into_inner(sprout);
+            if sprout.below.len() >= MOST_NODES {
+                return Ok(None);
+            }
+            Ok(Some(planted(alloc, seeds, sprout)?))
+        }
+        Part::Unfit => Ok(None),
+        Part::Nothing => Ok(None),
+        Part::Value(_value) => Ok(None),
+    }
+}
+
+// The nodes as a map.
+fn planted(alloc: Global, seeds: RandomState, sprout: Sprout) -> Mem<NodeMap>
+    ensures { IfOk result (λ nodes. nodes ≡ map_of (nodes_of sprout)) }
+{
+    let Sprout { top, mut below } = sprout;
+    let mut nodes = NodeMap::new(alloc, seeds);
+    'nodes: while let Some(placed) = below.pop() {
+        nodes.insert(placed.path, placed.node)?;
+    }
+    nodes.insert(top.path, top.node)?;
+    Ok(nodes)
+}
+
+// What is made of an object at a path, after its opening brace. There may be `levels` more levels below it. There is no answer where
+// the tokens begin with no object.
 #[cycle(from_tokens)]
-fn add_object(
+fn read_object(
     alloc: Global,
     reader: &mut Reader<'_>,
-    nodes: &mut NodeMap,
     path: Path,
     levels: usize,
-) -> Mem<bool>
+) -> Mem<Option<Part>>
     requires levels { length path + levels ≡ most_segments }
     ensures shorter { OnOk result (length reader.new ≤ length reader.old) }
-    ensures added { IfOk result (λ done. done ≡ true → AddsObject levels path nodes.old nodes.new reader.old reader.new) }
+    ensures read { IfOk result (λ found. MatchOption found (members_in (levels + depth_beside_levels) reader.old ≡ None)
+        (ReadsObject levels path reader.old reader.new)) }
 {
     let mut own = OpenObject::new(alloc);
-    let whole = add_members(alloc, reader, nodes, &path, levels, &mut own)?;
-    if !whole || nodes.len() >= MOST_NODES {
-        return Ok(false);
+    if !read_members(alloc, reader, &path, levels, &mut own)? {
+        return Ok(None);
     }
-    match own.into_node(alloc)? {
-        Some(node) => {
-            nodes.insert(path, node)?;
-            Ok(true)
-        }
-        None => Ok(false),
-    }
+    Ok(Some(own.into_part(alloc, path)?))
 }
 
-// Takes in the members up to the closing brace, and adds the nodes of those that are kids.
+// Takes in the members up to the closing brace, and answers whether the tokens begin with some.
 #[cycle(from_tokens)]
-fn add_members<'a>(
+fn read_members<'a>(
     alloc: Global,
     reader: &mut Reader<'a>,
-    nodes: &mut NodeMap,
     path: &Path,
     levels: usize,
     parent: &mut OpenObject<'a>,
 ) -> Mem<bool>
     requires levels { length path.now + levels ≡ most_segments }
-    requires fresh { HoldsMembers parent.old no_members }
+    requires fresh { HoldsMembers levels path.now parent.old no_members }
     ensures shorter { OnOk result (length reader.new ≤ length reader.old) }
-    ensures added { IfOk result (λ done. done ≡ true → AddsMembers levels path.now parent.new nodes.old nodes.new reader.old reader.new) }
+    ensures read { IfOk result (λ done. MatchBool done (ReadsMembers levels path.now parent.new reader.old reader.new)
+        (members_in (levels + depth_beside_levels) reader.old ≡ None)) }
 {
     'members: loop {
         let Ok(key) = reader.next_key() else {
@@ -102,92 +122,66 @@ fn add_members<'a>(
         let Some(name) = key else {
             return Ok(true);
         };
-        let place = MemberPlace { path, levels, name };
-        if !add_member(alloc, reader, nodes, &place, parent)? {
+        let Some(part) = read_member(alloc, reader, path, levels, name)? else {
             return Ok(false);
-        }
+        };
+        parent.put(name, part)?;
     }
 }
 
-// Takes in the value of a member, and adds its nodes where it is a kid.
+// What is made of what isn't looked at.
+fn unfit_if(whole: bool) -> Option<Part>
+    ensures { result ≡ (if whole then Some part.Unfit else None) }
+{
+    if whole { Some(Part::Unfit) } else { None }
+}
+
+// What is made of the value of a member with a name. There is no answer where the tokens begin with no value.
 #[cycle(from_tokens)]
-fn add_member<'a>(
+fn read_member(
     alloc: Global,
-    reader: &mut Reader<'a>,
-    nodes: &mut NodeMap,
-    place: &MemberPlace<'_, 'a>,
-    parent: &mut OpenObject<'a>,
-) -> Mem<bool>
-    requires levels { length place.now.path.now + place.now.levels ≡ most_segments }
+    reader: &mut Reader<'_>,
+    path: &Path,
+    levels: usize,
+    name: &str,
+) -> Mem<Option<Part>>
+    requires levels { length path.now + levels ≡ most_segments }
     ensures shorter { OnOk result (length reader.new ≤ length reader.old) }
-    ensures added { IfOk result (λ done. done ≡ true → AddsMemberAt place.now parent.old parent.new nodes.old nodes.new reader.old reader.new) }
+    ensures read { IfOk result (λ found. MatchOption found (value_in (levels + depth_beside_levels) reader.old ≡ None)
+        (ReadsPart levels path.now name.now reader.old reader.new)) }
 {
-    if is_order(place.name) {
-        return add_order(alloc, reader, parent);
-    }
-    if !is_content_name(place.name) {
-        return Ok(false);
-    }
-    match reader.next() {
-        Some(Token::BeginObject) => add_kid(alloc, reader, nodes, place, parent),
-        Some(Token::Null) => parent.put_null(place.name),
-        Some(first) => add_property(alloc, reader, first, place.name, parent),
-        None => Ok(false),
-    }
-}
-
-// Takes in a member with an object, after its opening brace.
-#[cycle(from_tokens)]
-fn add_kid<'a>(
-    alloc: Global,
-    reader: &mut Reader<'a>,
-    nodes: &mut NodeMap,
-    place: &MemberPlace<'_, 'a>,
-    parent: &mut OpenObject<'a>,
-) -> Mem<bool>
-    requires levels { length place.now.path.now + place.now.levels ≡ most_segments }
-    requires plain { is_content_name place.now.name.now ≡ true }
-    ensures shorter { OnOk result (length reader.new ≤ length reader.old) }
-    ensures added { IfOk result (λ done. done ≡ true → AddsKidAt place.now parent.old parent.new nodes.old nodes.new reader.old reader.new) }
-{
-    if place.levels == 0 || !parent.put_kid(place.name)? {
-        return Ok(false);
-    }
-    let kid = kid_path(alloc, place.path, place.name)?;
-    add_object(alloc, reader, nodes, kid, place.levels - 1)
-}
-
-// Takes in what `:order` lists.
-fn add_order<'a>(alloc: Global, reader: &mut Reader<'a>, parent: &mut OpenObject<'a>) -> Mem<bool>
-    ensures shorter { OnOk result (length reader.new ≤ length reader.old) }
-    ensures added { IfOk result (λ done. done ≡ true → TakesIn order_name parent.old parent.new reader.old reader.new) }
-{
-    let Some(Token::BeginArray) = reader.next() else {
-        return Ok(false);
+    let Some(first) = reader.next() else {
+        return Ok(None);
     };
-    match listed_texts(alloc, reader)? {
-        Some(names) => {
-            parent.put_order(names);
-            Ok(true)
-        }
-        None => Ok(false),
+    let depth = levels + DEPTH_BESIDE_LEVELS;
+    if !is_order(name) && !is_content_name(name) {
+        return Ok(unfit_if(pass_value(reader, first, depth)));
+    }
+    if is_begin_object(first) {
+        read_kid(alloc, reader, path, levels, name)
+    } else {
+        value_part(alloc, reader, first, depth)
     }
 }
 
-// Takes in the value of a property that begins with this token.
-fn add_property<'a>(
+// What is made of a member that is an object, after its opening brace.
+#[cycle(from_tokens)]
+fn read_kid(
     alloc: Global,
-    reader: &mut Reader<'a>,
-    first: Token<'a>,
-    name: &'a str,
-    parent: &mut OpenObject<'a>,
-) -> Mem<bool>
-    requires plain { is_content_name name.now ≡ true }
+    reader: &mut Reader<'_>,
+    path: &Path,
+    levels: usize,
+    name: &str,
+) -> Mem<Option<Part>>
+    requires levels { length path.now + levels ≡ most_segments }
+    requires named { may_stand name.now ≡ true }
     ensures shorter { OnOk result (length reader.new ≤ length reader.old) }
-    ensures added { IfOk result (λ done. done ≡ true → TakesIn name.now parent.old parent.new (token_of first.entry ∷ reader.old) reader.new) }
+    ensures read { IfOk result (λ found. MatchOption found (value_in (levels + depth_beside_levels) (begin_object ∷ reader.old) ≡ None)
+        (ReadsPart levels path.now name.now (begin_object ∷ reader.old) reader.new)) }
 {
-    match property(alloc, reader, first)? {
-        Some(value) => parent.put_value(alloc, name, value),
-        None => Ok(false),
+    if levels == 0 {
+        return Ok(unfit_if(pass_members(reader, DEPTH_BESIDE_LEVELS - 1)));
     }
+    let kid = kid_path(alloc, path, name)?;
+    read_object(alloc, reader, kid, levels - 1)
 }

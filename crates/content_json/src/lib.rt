@@ -5,16 +5,14 @@ mod fault;
 mod from_tokens;
 mod kind;
 mod laws;
-mod measure;
 mod names;
 mod open_object;
-mod open_props;
 mod order;
+mod part;
+mod pass;
 mod read;
 mod search;
 mod tokens;
-mod values;
-mod walk;
 mod write;
 
 pub use fault::ContentFault;

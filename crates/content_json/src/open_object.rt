@@ -1,133 +1,176 @@
 // An object of content of which some members were read.
-ghost use Rattle.std.specs.Prelude.{◌≡◌, ◌++◌, ℕ, List, true, not, IfOk, IfSome, OnOk, map, filter};
+ghost use Rattle.std.specs.Prelude.{◌≡◌, ◌++◌, ◌&&◌, ℕ, false, not, IfOk, OnOk, filter, option_map, MatchOption};
 ghost use Rattle.std.specs.BTreeSet.{contains_by, IsOrdered};
 ghost use Rattle.std.specs.Cmp.Lexicographic.{slice_cmp};
 ghost use Rattle.std.specs.Ordering.{nat_cmp};
-ghost use Rattle.serde_json.specs.Data.{Members};
-ghost use Rattle.content_json.specs.FromTokens.{texts_in, with_others, NamesKidsIfHeld};
+ghost use Rattle.serde_json.specs.Data.{Data, Members};
+ghost use Rattle.sp_base.specs.Texts.{Segments};
+ghost use Rattle.content_json.specs.Names.{is_order, is_kid};
+ghost use Rattle.content_json.specs.Faults.{has_good_order};
+ghost use Rattle.content_json.specs.Parts.{HoldsMembers, IsPart, Lists, NamesKids, listed_in, AddsPart, is_kid_part, kid_keys, has_unfit};
 
-use crate::open_props::OpenProps;
+use crate::names::{ORDER, is_order};
+use crate::part::{Part, Placed, Sprout};
 use resource_tree::Node;
-use sp_base::{Mem, TextBuf, TextList, Value};
+use sp_base::{Mem, Path, PropList, TextBuf, TextList, Value};
 use std::alloc::Global;
-use std::collections::BTreeSet;
+use std::collections::{BTreeMap, BTreeSet};
 
-/// What is kept of an object's members: the values of its properties, the names of its kids, and what `:order` lists.
+/// What the members' values make of an object. Of several members of one name the last stays.
 #[derive(Drop)]
 pub(crate) struct OpenObject<'a> {
-    props: OpenProps<'a>,
-    kids: BTreeSet<&'a str>,
-    order: Vec<&'a str>,
+    members: BTreeMap<&'a str, Part>,
 }
 
 impl<'a> OpenObject<'a> {
-    ghost use Rattle.std.specs.Prelude.{◌≡◌, ℕ, List, Some, true, IfOk, IfSome, map};
-    ghost use Rattle.serde_json.specs.Data.{Data, null, object, Members, no_members};
-    ghost use Rattle.content_json.specs.Names.{is_content_name, order_name};
-    ghost use Rattle.content_json.specs.Lists.{data_value};
-    ghost use Rattle.content_json.specs.Faults.{has_good_order};
-    ghost use Rattle.content_json.specs.Nodes.{node_of_members};
-    ghost use Rattle.content_json.specs.FromTokens.{HoldsMembers, Gains, texts_array, texts_in};
+    ghost use Rattle.std.specs.Prelude.{◌≡◌, ℕ, IfOk, OnOk};
+    ghost use Rattle.serde_json.specs.Data.{Data, Members, no_members, put};
+    ghost use Rattle.sp_base.specs.Texts.{Segments};
+    ghost use Rattle.content_json.specs.Parts.{HoldsMembers, IsPart, IsObjectPart};
 
     pub(crate) fn new(alloc: Global) -> OpenObject<'a>
-        ensures { HoldsMembers result no_members }
+        ensures { (levels : ℕ) (path : Segments) → HoldsMembers levels path result no_members }
     {
         OpenObject {
-            props: OpenProps::new(alloc),
-            kids: BTreeSet::new(alloc),
-            order: Vec::new(alloc),
+            members: BTreeMap::new(alloc),
         }
     }
 
-    /// Takes the value of a property in, unless it has the name of a kid.
-    pub(crate) fn put_value(&mut self, alloc: Global, name: &'a str, value: Value) -> Mem<bool>
-        requires plain { is_content_name name.now ≡ true }
-        ensures { IfOk result (λ done. done ≡ true → (d : Data) → data_value d ≡ Some value → Gains self.old self.new name.entry.now d) }
+    /// Takes a member in, in place of a former one of its name.
+    pub(crate) fn put(&mut self, name: &'a str, part: Part) -> Mem<()>
+        ensures { OnOk result ((levels : ℕ) (path : Segments) (d : Data) (ms : Members) → IsPart levels path name.entry.now part d
+            → HoldsMembers levels path self.old ms → HoldsMembers levels path self.new (put name.entry.now d ms)) }
     {
-        if self.kids.contains(name) {
-            return Ok(false);
+        drop(self.members.insert(name, part)?);
+        Ok(())
+    }
+
+    /// What the object at a path makes of the one that it is a member of.
+    pub(crate) fn into_part(self, alloc: Global, path: Path) -> Mem<Part>
+        ensures { IfOk result (λ part. (levels : ℕ) (ms : Members) → HoldsMembers levels path self.entry ms → IsObjectPart levels path part ms) }
+    {
+        let Some(kids) = kids_in_order(alloc, &self.members)? else {
+            return Ok(Part::Unfit);
+        };
+        let mut props = PropList::new(alloc);
+        let mut below = Vec::new(alloc);
+        for (name, part) in self.members {
+            if !add_part(alloc, &mut props, &mut below, name, part)? {
+                return Ok(Part::Unfit);
+            }
         }
-        self.props.put(alloc, name, value)?;
-        Ok(true)
-    }
-
-    /// Takes `null` in, which takes the place of a property of its name, unless it has the name of a kid.
-    pub(crate) fn put_null(&mut self, name: &'a str) -> Mem<bool>
-        requires plain { is_content_name name.now ≡ true }
-        ensures { IfOk result (λ done. done ≡ true → Gains self.old self.new name.entry.now null) }
-    {
-        if !self.kids.contains(name) {
-            self.props.remove(name)?;
-            return Ok(true);
-        }
-        Ok(false)
-    }
-
-    /// Takes the name of a kid in, which takes the place of a property of its name, unless another kid has it.
-    pub(crate) fn put_kid(&mut self, name: &'a str) -> Mem<bool>
-        requires plain { is_content_name name.now ≡ true }
-        ensures { IfOk result (λ done. done ≡ true → (ms : Members) → Gains self.old self.new name.entry.now (object ms)) }
-    {
-        self.props.remove(name)?;
-        Ok(self.kids.insert(name)?)
-    }
-
-    /// Takes what `:order` lists in, in place of what it listed before.
-    pub(crate) fn put_order(&mut self, names: Vec<&'a str>)
-        ensures { Gains self.old self.new order_name (texts_array (texts_in names.entry.items)) }
-    {
-        self.order = names;
-    }
-
-    /// The node of the object, if `:order` lists names of kids, each once.
-    pub(crate) fn into_node(self, alloc: Global) -> Mem<Option<Node>>
-        ensures { IfOk result (λ found. IfSome found (λ node. (ms : Members) → HoldsMembers self.entry ms → (node ≡ node_of_members ms) × (has_good_order ms ≡ true))) }
-    {
-        let OpenObject { props, kids, order } = self;
-        match kids_in_order(alloc, &order, &kids)? {
-            Some(kids) => Ok(Some(Node {
-                props: props.into_list(alloc)?,
-                kids,
-            })),
-            None => Ok(None),
-        }
+        let node = Node { props, kids };
+        let top = Placed { path, node };
+        Ok(Part::Kid(Box::new(alloc, Sprout { top, below })?))
     }
 }
 
-// The names of the kids, those first that are listed. There is no answer where a name is listed that is no kid's, or twice.
-fn kids_in_order<'a>(
+// Adds the value of a property, or the nodes of a kid. Answers whether the member is fit.
+fn add_part(
     alloc: Global,
-    listed: &[&'a str],
-    kids: &BTreeSet<&'a str>,
-) -> Mem<Option<TextList>>
-    ensures ordered { IfOk result (λ found. IfSome found (λ _. IsOrdered (λ j k. slice_cmp nat_cmp j.now k.now) kids.now)) }
-    ensures kids { IfOk result (λ found. IfSome found (λ names. names ≡ with_others (texts_in listed.now) (texts_in kids.now.keys))) }
-    ensures good { IfOk result (λ found. IfSome found (λ _. NamesKidsIfHeld kids.now listed.now)) }
+    props: &mut PropList,
+    below: &mut Vec<Placed>,
+    name: &str,
+    part: Part,
+) -> Mem<bool>
+    ensures { IfOk result (λ done. (levels : ℕ) (path : Segments) (d : Data) → IsPart levels path name.now part d
+        → AddsPart levels path name.now d done props.old props.new below.old.items below.new.items) }
 {
+    if is_order(name) {
+        return Ok(true);
+    }
+    match part {
+        Part::Nothing => Ok(true),
+        Part::Value(value) => {
+            props.put(alloc, name, value)?;
+            Ok(true)
+        }
+        Part::Kid(sprout) => {
+            let Sprout {
+                top,
+                below: mut more,
+            } = Box::into_inner(sprout);
+            below.push(top)?;
+            below.append(&mut more)?;
+            Ok(true)
+        }
+        Part::Unfit => Ok(false),
+    }
+}
+
+// The texts of a list of texts.
+fn listed_in(part: &Part) -> Option<&[TextBuf]>
+    ensures { option_map (λ names. names.now) result ≡ listed_in part.now }
+{
+    match part {
+        Part::Value(Value::Texts(names)) => Some(names.as_slice()),
+        Part::Value(_) | Part::Nothing | Part::Kid(_) | Part::Unfit => None,
+    }
+}
+
+// What `:order` lists. There is no answer where it is no list of texts.
+fn listed_names<'m>(members: &'m BTreeMap<&str, Part>) -> Option<&'m [TextBuf]>
+    ensures { (levels : ℕ) (path : Segments) (ms : Members) → HoldsMembers levels path (record { members = members.now }) ms
+        → MatchOption result (has_good_order ms ≡ false) (λ names. Lists ms names.now) }
+{
+    match members.get(ORDER) {
+        Some(part) => listed_in(part),
+        None => Some(&[]),
+    }
+}
+
+// Whether a member is a kid.
+fn is_kid_part(name: &str, part: &Part) -> bool
+    ensures { result ≡ is_kid_part name.now part.now }
+{
+    !is_order(name) && matches!(part, Part::Kid(_))
+}
+
+fn is_kid(members: &BTreeMap<&str, Part>, name: &str) -> bool
+    ensures { (levels : ℕ) (path : Segments) (ms : Members) → HoldsMembers levels path (record { members = members.now }) ms
+        → has_unfit levels ms ≡ false → result ≡ (not (is_order name.now) && is_kid ms name.now) }
+{
+    match members.get(name) {
+        Some(part) => is_kid_part(name, part),
+        None => false,
+    }
+}
+
+// The names of the kids, those first that `:order` lists. There is no answer where it lists another name, or one twice, or is no list.
+fn kids_in_order(alloc: Global, members: &BTreeMap<&str, Part>) -> Mem<Option<TextList>>
+    ensures { IfOk result (λ found. (levels : ℕ) (path : Segments) (ms : Members) → HoldsMembers levels path (record { members = members.now }) ms
+        → has_unfit levels ms ≡ false → MatchOption found (has_good_order ms ≡ false) (NamesKids ms)) }
+{
+    let Some(listed) = listed_names(members) else {
+        return Ok(None);
+    };
     let mut first = BTreeSet::new(alloc);
     let mut names = TextList::new(alloc);
-    for name in listed {
-        if !kids.contains(*name) || !first.insert(*name)? {
+    for text in listed {
+        let name = text.text();
+        if !is_kid(members, name) {
+            return Ok(None);
+        }
+        if !first.insert(name)? {
             return Ok(None);
         }
         names.push(TextBuf::of(alloc, name)?)?;
     }
-    add_others(alloc, &mut names, kids, &first)?;
+    add_others(alloc, &mut names, members, &first)?;
     Ok(Some(names))
 }
 
 // Adds the names of the kids that aren't among the first.
-fn add_others<'a>(
+fn add_others(
     alloc: Global,
     names: &mut TextList,
-    kids: &BTreeSet<&'a str>,
-    first: &BTreeSet<&'a str>,
+    members: &BTreeMap<&str, Part>,
+    first: &BTreeSet<&str>,
 ) -> Mem<()>
-    ensures ordered { IsOrdered (λ j k. slice_cmp nat_cmp j.now k.now) kids.now }
-    ensures names { OnOk result (names.new ≡ names.old ++ filter (λ n. not (contains_by (λ k. slice_cmp nat_cmp n k.now) first.now)) (texts_in kids.now.keys)) }
+    ensures { OnOk result (names.new ≡ names.old ++ filter (λ n. not (contains_by (λ k. slice_cmp nat_cmp n k.now) first.now)) (kid_keys members.now.entries)) }
 {
-    for name in kids {
-        if !first.contains(*name) {
+    for (name, part) in members.iter() {
+        if is_kid_part(name, part) && !first.contains(*name) {
             names.push(TextBuf::of(alloc, name)?)?;
         }
     }

@@ -1,21 +1,17 @@
 // Reads content: the JSON, and then its nodes, or why it is refused.
-ghost use Rattle.std.specs.Prelude.{◌≡◌, ◌≢◌, None, Some, Ok, Err, [], false, is_some, IfOk, IfErr, IfSome};
-ghost use Rattle.serde_json.specs.Data.{object};
+ghost use Rattle.std.specs.Prelude.{◌≡◌, ◌≢◌, None, Some, Ok, Err, false, IfOk, IfErr, MatchOption};
+ghost use Rattle.serde_json.specs.Data.{Members, object};
 ghost use Rattle.serde_json.specs.View.{view, members_view};
-ghost use Rattle.content_json.specs.Faults.{fault_in};
-ghost use Rattle.content_json.specs.Nodes.{nodes_in};
-ghost use Rattle.content_json.specs.ContentOf.{json_of, is_too_big, refused_by, map_of, content_in, content};
+ghost use Rattle.content_json.specs.ContentOf.{json_of, refused_by, content_in, content};
 ghost use Rattle.content_json.specs.Steps.{is_sound};
 
 use crate::ContentFault;
 use crate::fault::{Cause, Found};
 use crate::from_tokens::nodes_of_text;
-use crate::measure::room_beside;
 use crate::search::object_fault;
-use crate::walk::add_nodes;
-use resource_tree::{MOST_NODES, NodeMap, Tree};
+use resource_tree::Tree;
 use serde_json::{Map, Value};
-use sp_base::{MOST_SEGMENTS, Mem, Path};
+use sp_base::Mem;
 use std::alloc::Global;
 use std::hash::RandomState;
 
@@ -28,29 +24,36 @@ pub fn read_tree(alloc: Global, seeds: RandomState, bytes: &[u8]) -> Result<Tree
     ensures ok { IfOk result (λ tree. content bytes.now ≡ Ok tree) }
     ensures err { IfErr result (λ fault. fault ≢ ContentFault.NoMemory → content bytes.now ≡ Err fault) }
 {
-    if let Some(tree) = tree_from_tokens(alloc, seeds, bytes)? {
-        return Ok(tree);
+    match tree_from_tokens(alloc, seeds, bytes)? {
+        Some(tree) => Ok(tree),
+        None => refused(alloc, bytes),
     }
+}
+
+// Why bytes that aren't sound content are refused.
+fn refused(alloc: Global, bytes: &[u8]) -> Result<Tree, ContentFault>
+    requires { (ms : Members) → json_of bytes.now ≡ Some (object ms) → is_sound ms ≡ false }
+    ensures ok { IfOk result (λ tree. content bytes.now ≡ Ok tree) }
+    ensures err { IfErr result (λ fault. fault ≢ ContentFault.NoMemory → content bytes.now ≡ Err fault) }
+{
     let Value::Object(members) = json_of(alloc, bytes)? else {
         return Err(ContentFault::NotObject);
     };
-    if !is_sound(alloc, &members)? {
-        return Err(refusal(alloc, &members)?);
-    }
-    let nodes = nodes_of(alloc, seeds, members)?;
-    Ok(Tree::of(nodes))
+    Err(refusal(alloc, &members)?)
 }
 
-// The tree of content that is read straight from its tokens, where it can be.
+// The tree of sound content. There is none of content that isn't sound, and of bytes that aren't JSON.
 fn tree_from_tokens(alloc: Global, seeds: RandomState, bytes: &[u8]) -> Mem<Option<Tree>>
-    ensures { IfOk result (λ found. IfSome found (λ tree. content bytes.now ≡ Ok tree)) }
+    ensures { IfOk result (λ found. MatchOption found
+        ((ms : Members) → json_of bytes.now ≡ Some (object ms) → is_sound ms ≡ false)
+        (λ tree. content bytes.now ≡ Ok tree)) }
 {
-    let Ok(text) = simdutf8::compat::from_utf8(bytes) else {
-        return Ok(None);
-    };
-    match nodes_of_text(alloc, seeds, text)? {
-        Some(nodes) => Ok(Some(Tree::of(nodes))),
-        None => Ok(None),
+    match simdutf8::compat::from_utf8(bytes) {
+        Ok(text) => match nodes_of_text(alloc, seeds, text)? {
+            Some(nodes) => Ok(Some(Tree::of(nodes))),
+            None => Ok(None),
+        },
+        Err(_fault) => Ok(None),
     }
 }
 
@@ -83,13 +86,6 @@ fn refused_by(found: Found) -> ContentFault
     }
 }
 
-// Whether an object has no fault and isn't too big: one look at each member tells.
-fn is_sound(alloc: Global, members: &Map<String, Value>) -> Mem<bool>
-    ensures { IfOk result (λ sound. sound ≡ is_sound (members_view members.now.entries)) }
-{
-    Ok(room_beside(alloc, members, MOST_NODES - 1, MOST_SEGMENTS)?.is_some())
-}
-
 // Why an object that isn't sound is refused: its first fault, or else its size.
 fn refusal(alloc: Global, members: &Map<String, Value>) -> Mem<ContentFault>
     requires { is_sound (members_view members.now.entries) ≡ false }
@@ -99,17 +95,4 @@ fn refusal(alloc: Global, members: &Map<String, Value>) -> Mem<ContentFault>
         Some(found) => Ok(refused_by(found)),
         None => Ok(ContentFault::TooBig),
     }
-}
-
-// The nodes of an object without a fault.
-fn nodes_of(alloc: Global, seeds: RandomState, members: Map<String, Value>) -> Mem<NodeMap>
-    requires faultless { fault_in (object (members_view members.entries)) ≡ None }
-    requires small { is_too_big (members_view members.entries) ≡ false }
-    ensures { IfOk result (λ nodes. nodes ≡ map_of (nodes_in [] (object (members_view members.entries)))) }
-{
-    let mut nodes = NodeMap::new(alloc, seeds);
-    add_nodes(alloc, &mut nodes, Path::root(alloc), members)?;
-    // `len` says that the nodes stand in the order of their paths, so that equal look-ups make equal maps.
-    let _ = nodes.len();
-    Ok(nodes)
 }

@@ -9,9 +9,8 @@ ghost use Rattle.content_json.specs.Faults.{own_fault, fault_in, fault_below, in
 
 use crate::fault::{Cause, Found};
 use crate::kind::array_cause;
-use crate::names::{has_bad_name, is_order};
+use crate::names::{has_bad_name, is_order, kid_path};
 use crate::order::has_good_order;
-use crate::walk::kid_path;
 use serde_json::{Map, Value};
 use sp_base::{MOST_SEGMENTS, Mem, NoMemory, Path, PathFault};
 use std::alloc::Global;

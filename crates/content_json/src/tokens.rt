@@ -1,31 +1,25 @@
 // The values of properties, read from the tokens of JSON.
-ghost use Rattle.std.specs.Prelude.{◌≡◌, ◌==◌, ◌<◌, ◌≤◌, ◌∷◌, Some, true, false, length, slice_index, IsTrue, IfOk, IfSome, OnOk};
-ghost use Rattle.json.specs.Json as json;
+ghost use Rattle.std.specs.Prelude.{◌≡◌, ◌<◌, ◌≤◌, ◌∷◌, ℕ, None, Some, true, false, length, IfOk, OnOk, MatchOption, option_and_then};
+ghost use Rattle.json.specs.Json.{after_end_array};
 ghost use Rattle.json.specs.Reads.{token_of};
-ghost use Rattle.json.specs.Token as token;
-ghost use Rattle.json.specs.Token.{begin_array};
-ghost use Rattle.serde_json.specs.Data.{string};
-ghost use Rattle.serde_json.specs.Find.{of_integer};
+ghost use Rattle.serde_json.specs.Data.{Data, boolean, number, string};
+ghost use Rattle.serde_json.specs.Find.{as_i64, of_integer};
 ghost use Rattle.serde_json.specs.Read.{number_from, number_of};
 ghost use Rattle.property_json.specs.PropertyJson.{fits_i64};
-ghost use Rattle.content_json.specs.FromTokens.{BeginWith, ReadsTexts};
+ghost use Rattle.content_json.specs.Parts.{data_of_long};
+ghost use Rattle.content_json.specs.Tokens.{value_in, items_in, is_begin_object, is_open, IsList, Extends, Mixes, MixesWith, Adds, ReadsValue, ReadsItems, IsNumberPart, EndsUnfit};
 
+use crate::part::Part;
+use crate::pass::{has_minus, has_number, pass_items, pass_value};
 use fast_float::Numeral;
 use json::{Reader, Token};
 use sp_base::{LongList, Mem, TextBuf, TextList, TruthList, Value};
 use std::alloc::Global;
 
-fn has_minus(bytes: &[u8]) -> bool
-    ensures value { result ≡ (slice_index bytes.now 0 == 45) }
-    ensures some { IsTrue result → 0 < length bytes.now }
-{
-    !bytes.is_empty() && bytes[0] == b'-'
-}
-
 // The number whose digits stand after a minus. `-0` is none, since JSON is read with a float there.
 fn negative(numeral: &Numeral<'_>) -> Option<i64>
-    ensures read { IfSome result (λ number. number_from true numeral.now ≡ Some (of_integer number)) }
-    ensures fits { IfSome result (λ number. fits_i64 number ≡ true) }
+    ensures { MatchOption result (option_and_then as_i64 (number_from true numeral.now) ≡ None)
+        (λ number. (number_from true numeral.now ≡ Some (of_integer number)) × (fits_i64 number ≡ true)) }
 {
     match numeral.to_i64(true) {
         Some(number) if number < 0 => Some(number),
@@ -34,16 +28,16 @@ fn negative(numeral: &Numeral<'_>) -> Option<i64>
 }
 
 fn unsigned(numeral: &Numeral<'_>) -> Option<i64>
-    ensures read { IfSome result (λ number. number_from false numeral.now ≡ Some (of_integer number)) }
-    ensures fits { IfSome result (λ number. fits_i64 number ≡ true) }
+    ensures { MatchOption result (option_and_then as_i64 (number_from false numeral.now) ≡ None)
+        (λ number. (number_from false numeral.now ≡ Some (of_integer number)) × (fits_i64 number ≡ true)) }
 {
     numeral.to_i64(false)
 }
 
 // The number of a token, where it is written as a whole number of 64 bits with a sign.
 fn long_of(text: &str) -> Option<i64>
-    ensures read { IfSome result (λ number. number_of text.now ≡ Some (of_integer number)) }
-    ensures fits { IfSome result (λ number. fits_i64 number ≡ true) }
+    ensures { MatchOption result (option_and_then as_i64 (number_of text.now) ≡ None)
+        (λ number. (number_of text.now ≡ Some (of_integer number)) × (fits_i64 number ≡ true)) }
 {
     let bytes = text.as_bytes();
     if has_minus(bytes) {
@@ -53,114 +47,183 @@ fn long_of(text: &str) -> Option<i64>
     }
 }
 
-/// The value of a property that begins with this token: a text, a truth, a whole number of 64 bits, or a list of one kind of these.
-/// There is none where the tokens say something else.
-pub(crate) fn property(
+fn with_text(alloc: Global, list: Value, text: &str) -> Mem<Option<Value>>
+    requires { IsList list }
+    ensures { IfOk result (λ found. MatchOption found (MixesWith list (string text.now)) (Extends list (string text.now))) }
+{
+    match list {
+        Value::Texts(mut texts) => {
+            texts.push(TextBuf::of(alloc, text)?)?;
+            Ok(Some(Value::Texts(texts)))
+        }
+        _other => Ok(None),
+    }
+}
+
+// Whether an array has no item yet, so that its kind is open.
+fn is_open(list: &Value) -> bool
+    ensures { result ≡ is_open list.now }
+{
+    match list {
+        Value::Texts(texts) => texts.is_empty(),
+        _ => false,
+    }
+}
+
+fn with_long(alloc: Global, list: Value, long: i64) -> Mem<Option<Value>>
+    requires list { IsList list }
+    requires fits { fits_i64 long ≡ true }
+    ensures { IfOk result (λ found. MatchOption found (MixesWith list (data_of_long long)) (Extends list (data_of_long long))) }
+{
+    match list {
+        Value::Longs(mut longs) => {
+            longs.push(long)?;
+            Ok(Some(Value::Longs(longs)))
+        }
+        other => {
+            if !is_open(&other) {
+                return Ok(None);
+            }
+            let mut longs = LongList::new(alloc);
+            longs.push(long)?;
+            Ok(Some(Value::Longs(longs)))
+        }
+    }
+}
+
+fn with_truth(alloc: Global, list: Value, truth: bool) -> Mem<Option<Value>>
+    requires { IsList list }
+    ensures { IfOk result (λ found. MatchOption found (MixesWith list (boolean truth)) (Extends list (boolean truth))) }
+{
+    match list {
+        Value::Truths(mut truths) => {
+            truths.push(truth)?;
+            Ok(Some(Value::Truths(truths)))
+        }
+        other => {
+            if !is_open(&other) {
+                return Ok(None);
+            }
+            let mut truths = TruthList::new(alloc);
+            truths.push(truth)?;
+            Ok(Some(Value::Truths(truths)))
+        }
+    }
+}
+
+// A list with one item more, of the kind of those before it. There is none where the item that begins with this token is no such.
+fn with_item(alloc: Global, list: Value, item: Token<'_>) -> Mem<Option<Value>>
+    requires { IsList list }
+    ensures { IfOk result (λ found. MatchOption found (Mixes list (token_of item.entry)) (Adds list (token_of item.entry))) }
+{
+    match item {
+        Token::String(text) => with_text(alloc, list, text),
+        Token::Number(text) => match long_of(text) {
+            Some(long) => with_long(alloc, list, long),
+            None => Ok(None),
+        },
+        Token::Bool(truth) => with_truth(alloc, list, truth),
+        Token::BeginObject => Ok(None),
+        Token::EndObject => Ok(None),
+        Token::BeginArray => Ok(None),
+        Token::EndArray => Ok(None),
+        Token::Key(_) => Ok(None),
+        Token::Null => Ok(None),
+        Token::Bad => Ok(None),
+    }
+}
+
+// What is made of a list of which no value comes, from the item on that begins with this token.
+fn unfit_list(reader: &mut Reader<'_>, item: Token<'_>, depth: usize) -> Option<Part>
+    ensures shorter { length reader.new ≤ length reader.old }
+    ensures read { (n : ℕ) → length reader.old < n → after_end_array (token_of item.entry ∷ reader.old) ≡ None
+        → EndsUnfit n depth (token_of item.entry ∷ reader.old) reader.new result }
+{
+    if !pass_value(reader, item, depth) {
+        return None;
+    }
+    if !pass_items(reader, depth) {
+        return None;
+    }
+    Some(Part::Unfit)
+}
+
+// The list after its opening bracket, in whose items values may nest as deep.
+fn list(alloc: Global, reader: &mut Reader<'_>, depth: usize) -> Mem<Option<Part>>
+    ensures shorter { OnOk result (length reader.new ≤ length reader.old) }
+    ensures read { IfOk result (λ found. MatchOption found (items_in depth reader.old ≡ None) (ReadsItems depth reader.old reader.new)) }
+{
+    // An array without items is one of texts.
+    let mut list = Value::Texts(TextList::new(alloc));
+    'items: while !reader.take_end_array() {
+        let Some(item) = reader.next() else {
+            return Ok(None);
+        };
+        match with_item(alloc, list, item)? {
+            Some(longer) => list = longer,
+            None => return Ok(unfit_list(reader, item, depth)),
+        }
+    }
+    Ok(Some(Part::Value(list)))
+}
+
+// What is made of a number. There is no answer where it is too large for a float.
+fn number_part(text: &str) -> Option<Part>
+    ensures { MatchOption result (number_of text.now ≡ None) (IsNumberPart (number_of text.now)) }
+{
+    match long_of(text) {
+        Some(long) => Some(Part::Value(Value::Long(long))),
+        None => {
+            if has_number(text) {
+                Some(Part::Unfit)
+            } else {
+                None
+            }
+        }
+    }
+}
+
+pub(crate) fn is_begin_object(first: Token<'_>) -> bool
+    ensures { result ≡ is_begin_object (token_of first.entry) }
+{
+    match first {
+        Token::BeginObject => true,
+        Token::EndObject
+        | Token::BeginArray
+        | Token::EndArray
+        | Token::Key(_)
+        | Token::String(_)
+        | Token::Number(_)
+        | Token::Bool(_)
+        | Token::Null
+        | Token::Bad => false,
+    }
+}
+
+/// What is made of a value that begins with this token and isn't an object: a text, a truth, a whole number of 64 bits, a list of
+/// one kind of these, or nothing of `null`. There is no answer where the tokens begin with no value.
+pub(crate) fn value_part(
     alloc: Global,
     reader: &mut Reader<'_>,
     first: Token<'_>,
-) -> Mem<Option<Value>>
+    depth: usize,
+) -> Mem<Option<Part>>
+    requires nests { 0 < depth }
+    requires no_object { is_begin_object (token_of first) ≡ false }
     ensures shorter { OnOk result (length reader.new ≤ length reader.old) }
-    ensures read { IfOk result (λ found. IfSome found (BeginWith (token_of first.entry ∷ reader.old) reader.new)) }
+    ensures read { IfOk result (λ found. MatchOption found (value_in depth (token_of first.entry ∷ reader.old) ≡ None)
+        (ReadsValue depth (token_of first.entry ∷ reader.old) reader.new)) }
 {
     match first {
-        Token::String(text) => Ok(Some(Value::Text(TextBuf::of(alloc, text)?))),
-        Token::Number(text) => match long_of(text) {
-            Some(number) => Ok(Some(Value::Long(number))),
-            None => Ok(None),
-        },
-        Token::Bool(truth) => Ok(Some(Value::Truth(truth))),
-        Token::BeginArray => list(alloc, reader),
-        Token::BeginObject
-        | Token::EndObject
-        | Token::EndArray
-        | Token::Key(_)
-        | Token::Null
-        | Token::Bad => Ok(None),
+        Token::Null => Ok(Some(Part::Nothing)),
+        Token::String(text) => Ok(Some(Part::Value(Value::Text(TextBuf::of(alloc, text)?)))),
+        Token::Bool(truth) => Ok(Some(Part::Value(Value::Truth(truth)))),
+        Token::Number(text) => Ok(number_part(text)),
+        Token::BeginArray => list(alloc, reader, depth - 1),
+        Token::BeginObject => Ok(None),
+        Token::EndObject => Ok(None),
+        Token::EndArray => Ok(None),
+        Token::Key(_) => Ok(None),
+        Token::Bad => Ok(None),
     }
-}
-
-// The list after its opening bracket, of the kind of its first item.
-fn list(alloc: Global, reader: &mut Reader<'_>) -> Mem<Option<Value>>
-    ensures shorter { OnOk result (length reader.new ≤ length reader.old) }
-    ensures read { IfOk result (λ found. IfSome found (BeginWith (begin_array ∷ reader.old) reader.new)) }
-{
-    if reader.take_end_array() {
-        return Ok(Some(Value::Texts(TextList::new(alloc))));
-    }
-    match reader.next() {
-        Some(Token::String(text)) => texts(alloc, reader, text),
-        Some(Token::Number(text)) => longs(alloc, reader, text),
-        Some(Token::Bool(truth)) => truths(alloc, reader, truth),
-        _ => Ok(None),
-    }
-}
-
-// The texts of a list, of which the first was read.
-fn texts(alloc: Global, reader: &mut Reader<'_>, first: &str) -> Mem<Option<Value>>
-    ensures shorter { OnOk result (length reader.new ≤ length reader.old) }
-    ensures read { IfOk result (λ found. IfSome found (BeginWith (begin_array ∷ token.string first.now ∷ reader.old) reader.new)) }
-{
-    let mut found = TextList::new(alloc);
-    found.push(TextBuf::of(alloc, first)?)?;
-    'items: while !reader.take_end_array() {
-        let Some(Token::String(text)) = reader.next() else {
-            return Ok(None);
-        };
-        found.push(TextBuf::of(alloc, text)?)?;
-    }
-    Ok(Some(Value::Texts(found)))
-}
-
-// The numbers of a list, of which the first was read.
-fn longs(alloc: Global, reader: &mut Reader<'_>, first: &str) -> Mem<Option<Value>>
-    ensures shorter { OnOk result (length reader.new ≤ length reader.old) }
-    ensures read { IfOk result (λ found. IfSome found (BeginWith (begin_array ∷ token.number first.now ∷ reader.old) reader.new)) }
-{
-    let Some(number) = long_of(first) else {
-        return Ok(None);
-    };
-    let mut found = LongList::new(alloc);
-    found.push(number)?;
-    'items: while !reader.take_end_array() {
-        let Some(Token::Number(text)) = reader.next() else {
-            return Ok(None);
-        };
-        let Some(number) = long_of(text) else {
-            return Ok(None);
-        };
-        found.push(number)?;
-    }
-    Ok(Some(Value::Longs(found)))
-}
-
-// The truths of a list, of which the first was read.
-fn truths(alloc: Global, reader: &mut Reader<'_>, first: bool) -> Mem<Option<Value>>
-    ensures shorter { OnOk result (length reader.new ≤ length reader.old) }
-    ensures read { IfOk result (λ found. IfSome found (BeginWith (begin_array ∷ token.boolean first ∷ reader.old) reader.new)) }
-{
-    let mut found = TruthList::new(alloc);
-    found.push(first)?;
-    'items: while !reader.take_end_array() {
-        let Some(Token::Bool(truth)) = reader.next() else {
-            return Ok(None);
-        };
-        found.push(truth)?;
-    }
-    Ok(Some(Value::Truths(found)))
-}
-
-/// The texts that an array lists, after its opening bracket. There are none where it lists something else.
-pub(crate) fn listed_texts<'a>(alloc: Global, reader: &mut Reader<'a>) -> Mem<Option<Vec<&'a str>>>
-    ensures shorter { OnOk result (length reader.new ≤ length reader.old) }
-    ensures read { IfOk result (λ texts. IfSome texts (λ found. ReadsTexts reader.old reader.new found.items)) }
-{
-    let mut found = Vec::new(alloc);
-    'items: while !reader.take_end_array() {
-        let Some(Token::String(text)) = reader.next() else {
-            return Ok(None);
-        };
-        found.push(text)?;
-    }
-    Ok(Some(found))
 }

@@ -7,8 +7,7 @@ ghost use Rattle.content_json.specs.ContentOf.{content};
 ghost use Rattle.content_json.specs.Written.{is_plain_tree, tree_text};
 ghost use Rattle.content_json.specs.Steps.{order_tokens, whole_at, kid_tokens, AreBelow, AreBelowKids};
 
-use crate::names::ORDER;
-use crate::walk::kid_path;
+use crate::names::{ORDER, kid_path};
 use json::Writer;
 use property_json::{properties_come_first, write_properties, write_texts};
 use resource_tree::{Node, Tree};

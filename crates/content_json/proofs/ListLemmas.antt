@@ -22,7 +22,7 @@ use Rattle.content_json.specs.declared.part.Part.TheVariants as part
 use Rattle.content_json.specs.Faults.{here}
 use Rattle.content_json.specs.Lists.{is_of, item_cause, items_cause, array_cause}
 use Rattle.content_json.specs.Parts.{items_from, data_of_long, data_of}
-use Rattle.content_json.specs.Tokens.{value_in, items_in, members_in, token_data, is_list, list_items, is_open, items_then, IsList, Extends, MixesWith, Adds, Mixes, items_within, EndsUnfit, IsValuePart, IsNumberPart, ReadsItems, ReadsValue}
+use Rattle.content_json.specs.Tokens.{value_of_tokens, items_of_tokens, members_of_tokens, token_data, is_list_value, list_items, is_open_list, items_then, IsList, HasItemMore, MixesWith, AddsToken, Mixes, items_within, EndsUnfit, IsValuePart, IsNumberPart, ReadsItems, ReadsValue}
 use Rattle.content_json.proofs.PassLemmas.{one_value, begins_none, no_value, no_number, array_in, array_in_more, object_in_more, no_array, no_object}
 
 -- ---- one item more
@@ -34,15 +34,15 @@ then_push g (y ∷ xs) x rest = ap (item (g y)) (then_push g xs x rest)
 keeps_more : {A : Type 0} (xs : List A) (x : A) → (length (xs ++ x ∷ []) == 0) ≡ false
 keeps_more xs x = ne_eqb (length (xs ++ x ∷ [])) 0 (λ none. omega (arith, none, length-append xs (x ∷ [])))
 
-pub more_texts : (ts : List (List ℕ)) (t : List ℕ) → Extends (Texts ts) (string t) (Texts (ts ++ t ∷ []))
+pub more_texts : (ts : List (List ℕ)) (t : List ℕ) → HasItemMore (Texts ts) (string t) (Texts (ts ++ t ∷ []))
 more_texts ts t = ((refl, refl, refl), then_push string ts t)
 
-pub more_longs : (ns : List ℤ) (n : ℤ) → list_all fits_i64 ns ≡ true → fits_i64 n ≡ true → Extends (Longs ns) (data_of_long n) (Longs (ns ++ n ∷ []))
+pub more_longs : (ns : List ℤ) (n : ℤ) → list_all fits_i64 ns ≡ true → fits_i64 n ≡ true → HasItemMore (Longs ns) (data_of_long n) (Longs (ns ++ n ∷ []))
 more_longs ns n longs fits =
     let last : list_all fits_i64 (n ∷ []) ≡ true = rw fits refl in
     ((refl, list_all-append fits_i64 ns (n ∷ []) ∙ rw longs last, ap not (keeps_more ns n)), then_push data_of_long ns n)
 
-pub more_truths : (bs : List Bool) (b : Bool) → Extends (Truths bs) (boolean b) (Truths (bs ++ b ∷ []))
+pub more_truths : (bs : List Bool) (b : Bool) → HasItemMore (Truths bs) (boolean b) (Truths (bs ++ b ∷ []))
 more_truths bs b = ((refl, refl, ap not (keeps_more bs b)), then_push boolean bs b)
 
 -- ---- an item that isn't of the kind
@@ -83,7 +83,7 @@ either : (b : Bool) → is_some (if b then Some BadNumber else Some MixedArray) 
 either true = refl
 either false = refl
 
-pub long_mixes : (list : Value) (n : ℤ) → IsList list → is_open list ≡ false → ((ns : List ℤ) → list ≡ Longs ns → ⊥) → MixesWith list (data_of_long n)
+pub long_mixes : (list : Value) (n : ℤ) → IsList list → is_open_list list ≡ false → ((ns : List ℤ) → list ≡ Longs ns → ⊥) → MixesWith list (data_of_long n)
 long_mixes (Text t) n is full other = absurd (false≢true is.0)
 long_mixes (Long m) n is full other = absurd (false≢true is.0)
 long_mixes (Truth b) n is full other = absurd (false≢true is.0)
@@ -93,7 +93,7 @@ long_mixes (Longs ns) n is full other = absurd (other ns refl)
 long_mixes (Truths []) n is full other = absurd (false≢true is.2)
 long_mixes (Truths (b ∷ bs)) n is full other = mixes_truths b bs (data_of_long n) (either (is_none (as_i64 (of_integer n))))
 
-pub truth_mixes : (list : Value) (b : Bool) → IsList list → is_open list ≡ false → ((bs : List Bool) → list ≡ Truths bs → ⊥) → MixesWith list (boolean b)
+pub truth_mixes : (list : Value) (b : Bool) → IsList list → is_open_list list ≡ false → ((bs : List Bool) → list ≡ Truths bs → ⊥) → MixesWith list (boolean b)
 truth_mixes (Text t) b is full other = absurd (false≢true is.0)
 truth_mixes (Long n) b is full other = absurd (false≢true is.0)
 truth_mixes (Truth c) b is full other = absurd (false≢true is.0)
@@ -143,7 +143,7 @@ told : {A : Type 0} (o : Option (A × List Token)) (f : A → Data) (d : Data) (
 told None f d rest P e each = absurd (cc)
 told (Some p) f d rest P e each = subst P (ap (first_of d) e) (each p.0)
 
-same_told : (depth : ℕ) (t : Token) (ts rest : List Token) (d x : Data) → token_data t ≡ Some x → value_in depth (t ∷ ts) ≡ Some (d, rest) → x ≡ d
+same_told : (depth : ℕ) (t : Token) (ts rest : List Token) (d x : Data) → token_data t ≡ Some x → value_of_tokens depth (t ∷ ts) ≡ Some (d, rest) → x ≡ d
 same_told depth t ts rest d x e h = ap (first_of d) (sym (one_value depth t ts x e) ∙ h)
 
 pub token_mixes : (list : Value) (t : Token) (x : Data) → token_data t ≡ Some x → MixesWith list x → Mixes list t
@@ -158,12 +158,12 @@ none_mixes list t e depth ts rest d h = absurd (let never : None ≡ Some (d, re
 pub array_token_mixes : (list : Value) → IsList list → Mixes list Token.begin_array
 array_token_mixes list is zero ts rest d h = absurd (let never : None ≡ Some (d, rest) = sym (no_array 0 ts refl) ∙ h in cc)
 array_token_mixes list is (suc depth) ts rest d h =
-    told (items_in depth ts) array d rest (MixesWith list) (sym (array_in_more depth ts) ∙ h) (λ ds. array_mixes list ds is)
+    told (items_of_tokens depth ts) array d rest (MixesWith list) (sym (array_in_more depth ts) ∙ h) (λ ds. array_mixes list ds is)
 
 pub object_token_mixes : (list : Value) → IsList list → Mixes list Token.begin_object
 object_token_mixes list is zero ts rest d h = absurd (let never : None ≡ Some (d, rest) = sym (no_object 0 ts refl) ∙ h in cc)
 object_token_mixes list is (suc depth) ts rest d h =
-    told (members_in depth ts) object d rest (MixesWith list) (sym (object_in_more depth ts) ∙ h) (λ ms. object_mixes list ms is)
+    told (members_of_tokens depth ts) object d rest (MixesWith list) (sym (object_in_more depth ts) ∙ h) (λ ms. object_mixes list ms is)
 
 pub number_token_mixes : (list : Value) (s : List ℕ) → IsList list → option_and_then as_i64 (number_of s) ≡ None → Mixes list (Token.number s)
 number_token_mixes list s is bad depth ts rest d h =
@@ -178,7 +178,7 @@ pub none_then : (ds : Items) → items_then ds no_items ≡ ds
 none_then no_items = refl
 none_then (item d ds) = ap (item d) (none_then ds)
 
-pub list_data : (list : Value) → is_list list ≡ true → data_of list ≡ array (list_items list)
+pub list_data : (list : Value) → is_list_value list ≡ true → data_of list ≡ array (list_items list)
 list_data (Text t) h = absurd (false≢true h)
 list_data (Long n) h = absurd (false≢true h)
 list_data (Truth b) h = absurd (false≢true h)
@@ -190,13 +190,13 @@ pub one_more_item : (f g : Items → Items) (d : Data) (o : Option (Items × Lis
 one_more_item f g d None e = refl
 one_more_item f g d (Some p) e = ap (λ ds. Some (ds, p.1)) (sym (e p.0))
 
-pub item_made : (list : Value) (t : Token) (x : Data) (found : Option Value) → token_data t ≡ Some x → MatchOption found (MixesWith list x) (Extends list x) → MatchOption found (Mixes list t) (Adds list t)
+pub item_made : (list : Value) (t : Token) (x : Data) (found : Option Value) → token_data t ≡ Some x → MatchOption found (MixesWith list x) (HasItemMore list x) → MatchOption found (Mixes list t) (AddsToken list t)
 item_made list t x None e made = token_mixes list t x e made
 item_made list t x (Some more) e made = (x, e, made)
 
 -- a list that ends with an item that is none has a fault
-pub unfit_made : (depth n : ℕ) (all left rest : List Token) (list : Value) (t : Token) (found : Option Part) → items_in depth all ≡ parse_map (items_then (list_items list)) (items_within n depth (t ∷ left)) → Mixes list t
-    → EndsUnfit n depth (t ∷ left) rest found → MatchOption found (items_in depth all ≡ None) (ReadsItems depth all rest)
+pub unfit_made : (depth n : ℕ) (all left rest : List Token) (list : Value) (t : Token) (found : Option Part) → items_of_tokens depth all ≡ parse_map (items_then (list_items list)) (items_within n depth (t ∷ left)) → Mixes list t
+    → EndsUnfit n depth (t ∷ left) rest found → MatchOption found (items_of_tokens depth all ≡ None) (ReadsItems depth all rest)
 unfit_made depth n all left rest list t None so_far mixes none = so_far ∙ ap (parse_map (items_then (list_items list))) none
 unfit_made depth n all left rest list t (Some made) so_far mixes (is, d, r, first, ds, ends) =
     let items = items_then (list_items list) (item d ds) in
@@ -207,18 +207,18 @@ unfit_made depth n all left rest list t (Some made) so_far mixes (is, d, r, firs
     some_map (Some c) h = refl
 
 -- the last item of a list that has a value
-pub list_made : (depth n : ℕ) (all left rest : List Token) (list : Value) → items_in depth all ≡ parse_map (items_then (list_items list)) (items_within n depth left) → IsList list → items_within n depth left ≡ Some (no_items, rest)
+pub list_made : (depth n : ℕ) (all left rest : List Token) (list : Value) → items_of_tokens depth all ≡ parse_map (items_then (list_items list)) (items_within n depth left) → IsList list → items_within n depth left ≡ Some (no_items, rest)
     → ReadsItems depth all rest (part.Value list)
 list_made depth n all left rest list so_far is ends =
     (items_then (list_items list) no_items, so_far ∙ ap (parse_map (items_then (list_items list))) ends, (sym (list_data list is.0 ∙ ap array (sym (none_then (list_items list)))), is.1, is.2))
 
 -- the list that is made of an array
-pub array_made : (depth : ℕ) (ts rest : List Token) (found : Option Part) → 0 < depth → MatchOption found (items_in (depth - 1) ts ≡ None) (ReadsItems (depth - 1) ts rest)
-    → MatchOption found (value_in depth (Token.begin_array ∷ ts) ≡ None) (ReadsValue depth (Token.begin_array ∷ ts) rest)
+pub array_made : (depth : ℕ) (ts rest : List Token) (found : Option Part) → 0 < depth → MatchOption found (items_of_tokens (depth - 1) ts ≡ None) (ReadsItems (depth - 1) ts rest)
+    → MatchOption found (value_of_tokens depth (Token.begin_array ∷ ts) ≡ None) (ReadsValue depth (Token.begin_array ∷ ts) rest)
 array_made depth ts rest None h none = array_in depth ts h ∙ ap (parse_map array) none
 array_made depth ts rest (Some made) h (ds, read, is) = (array ds, array_in depth ts h ∙ ap (parse_map array) read, is)
 
 pub number_made : (depth : ℕ) (s : List ℕ) (ts : List Token) (found : Option Part) → MatchOption found (number_of s ≡ None) (IsNumberPart (number_of s))
-    → MatchOption found (value_in depth (Token.number s ∷ ts) ≡ None) (ReadsValue depth (Token.number s ∷ ts) ts)
+    → MatchOption found (value_of_tokens depth (Token.number s ∷ ts) ≡ None) (ReadsValue depth (Token.number s ∷ ts) ts)
 number_made depth s ts None none = no_number depth s ts none
 number_made depth s ts (Some made) (n, some, is) = (number n, one_value depth (Token.number s) ts (number n) (ap (option_map number) some), is)

@@ -30,34 +30,34 @@ use Rattle.content_json.specs.Lists.{items_cause, array_cause, item_list, data_v
 use Rattle.content_json.specs.Faults.{here, own_fault, names_kids, is_good_order, has_good_order, fault_in, fault_below, in_member}
 use Rattle.content_json.specs.Nodes.{order_names, kids_of, with_member, add_props, nodes_in, nodes_below, is_deeper, is_deeper_below}
 use Rattle.content_json.specs.Steps.{member_nodes}
-use Rattle.content_json.specs.Parts.{items_from, texts_array, is_unfit, may_stand, is_unfit_member, has_unfit, is_unfit_object, IsPart, AreParts, Lists, is_kid_part, kid_keys, listed_in}
+use Rattle.content_json.specs.Parts.{items_from, texts_array, is_unfit_value, may_stand, is_unfit_member, has_unfit, is_unfit_object, IsMemberPart, AreMemberParts, Lists, is_kid_part, kid_keys, listed_in}
 use Rattle.content_json.proofs.ValueLemmas.{texts_back, value_back, value_faultless, value_no_object, value_no_nodes, value_shallow}
 
 -- ---- one more member
 
-pub parts-insert : (levels : ℕ) (path : List (List ℕ)) (k : Bor (List ℕ)) (p : Part) (d : Data) (es : List (Bor (List ℕ) × Part)) (ms : Members) → IsPart levels path k.now p d
-    → AreParts levels path es ms → AreParts levels path (insert_entry (λ j k. slice_cmp nat_cmp j.now k.now) es k p) (put k.now d ms)
+pub parts-insert : (levels : ℕ) (path : List (List ℕ)) (k : Bor (List ℕ)) (p : Part) (d : Data) (es : List (Bor (List ℕ) × Part)) (ms : Members) → IsMemberPart levels path k.now p d
+    → AreMemberParts levels path es ms → AreMemberParts levels path (insert_entry (λ j k. slice_cmp nat_cmp j.now k.now) es k p) (put k.now d ms)
 parts-insert levels path k p d [] no_members is h = (refl, is, tt)
 parts-insert levels path k p d [] (member l x ms) is h = absurd h
 parts-insert levels path k p d (e ∷ es) no_members is h = absurd h
 parts-insert levels path k p d (e ∷ es) (member l x ms) is h =
     let same : by_name k.now e.0.now ≡ by_name k.now l = ap (by_name k.now) h.0 in
     let more = insert_entry (λ j k. slice_cmp nat_cmp j.now k.now) es k p in
-    subst (λ (o : Ordering). AreParts levels path (match_ordering o ((k, p) ∷ e ∷ es) ((e.0, p) ∷ es) (e ∷ more)) (put k.now d (member l x ms))) (sym same)
-    (elim (by_name k.now l) as (λ o. by_name k.now l ≡ o → AreParts levels path (match_ordering o ((k, p) ∷ e ∷ es) ((e.0, p) ∷ es) (e ∷ more)) (match_ordering o (member k.now d (member l x ms)) (member l d ms) (member l x (put k.now d ms)))) [
+    subst (λ (o : Ordering). AreMemberParts levels path (match_ordering o ((k, p) ∷ e ∷ es) ((e.0, p) ∷ es) (e ∷ more)) (put k.now d (member l x ms))) (sym same)
+    (elim (by_name k.now l) as (λ o. by_name k.now l ≡ o → AreMemberParts levels path (match_ordering o ((k, p) ∷ e ∷ es) ((e.0, p) ∷ es) (e ∷ more)) (match_ordering o (member k.now d (member l x ms)) (member l d ms) (member l x (put k.now d ms)))) [
       | Less ↦ λ _. (refl, is, h)
-      | Equal ↦ λ tie. (h.0, subst (λ (n : List ℕ). IsPart levels path n p d) (same_name k.now l tie) is, h.2)
+      | Equal ↦ λ tie. (h.0, subst (λ (n : List ℕ). IsMemberPart levels path n p d) (same_name k.now l tie) is, h.2)
       | Greater ↦ λ _. (h.0, h.1, parts-insert levels path k p d es ms is h.2)
     ] refl)
 
 -- ---- the first member
 
-pub first_part : (levels : ℕ) (path : List (List ℕ)) (e : Bor (List ℕ) × Part) (es : List (Bor (List ℕ) × Part)) (ms : Members) → AreParts levels path (e ∷ es) ms
-    → (d : Data) × (more : Members) × (ms ≡ member e.0.now d more) × IsPart levels path e.0.now e.1 d × AreParts levels path es more
+pub first_part : (levels : ℕ) (path : List (List ℕ)) (e : Bor (List ℕ) × Part) (es : List (Bor (List ℕ) × Part)) (ms : Members) → AreMemberParts levels path (e ∷ es) ms
+    → (d : Data) × (more : Members) × (ms ≡ member e.0.now d more) × IsMemberPart levels path e.0.now e.1 d × AreMemberParts levels path es more
 first_part levels path e es no_members h = absurd h
-first_part levels path e es (member l d ms) h = (d, ms, ap (λ n. member n d ms) (sym h.0), subst (λ (n : List ℕ). IsPart levels path n e.1 d) (sym h.0) h.1, h.2)
+first_part levels path e es (member l d ms) h = (d, ms, ap (λ n. member n d ms) (sym h.0), subst (λ (n : List ℕ). IsMemberPart levels path n e.1 d) (sym h.0) h.1, h.2)
 
-pub no_part : (levels : ℕ) (path : List (List ℕ)) (ms : Members) → AreParts levels path [] ms → ms ≡ no_members
+pub no_part : (levels : ℕ) (path : List (List ℕ)) (ms : Members) → AreMemberParts levels path [] ms → ms ≡ no_members
 no_part levels path no_members h = refl
 no_part levels path (member l d ms) h = absurd h
 
@@ -67,9 +67,9 @@ abbrev pub IsFound : ℕ → List (List ℕ) → List ℕ → Option Part → Op
 IsFound levels path q None None = ⊤
 IsFound levels path q None (Some d) = ⊥
 IsFound levels path q (Some p) None = ⊥
-IsFound levels path q (Some p) (Some d) = IsPart levels path q p d
+IsFound levels path q (Some p) (Some d) = IsMemberPart levels path q p d
 
-pub part_found : (levels : ℕ) (path : List (List ℕ)) (q : List ℕ) (es : List (Bor (List ℕ) × Part)) (ms : Members) → AreParts levels path es ms
+pub part_found : (levels : ℕ) (path : List (List ℕ)) (q : List ℕ) (es : List (Bor (List ℕ) × Part)) (ms : Members) → AreMemberParts levels path es ms
     → IsFound levels path q (lookup (is_at (λ k. slice_cmp nat_cmp q k.now)) es) (get_member q ms)
 part_found levels path q [] no_members h = tt
 part_found levels path q [] (member l d ms) h = absurd h
@@ -80,7 +80,7 @@ part_found levels path q (e ∷ es) (member l d ms) h =
     subst (λ (o : Ordering). IsFound levels path q (cond (is_eq o) (Some e.1) rest) (get_member q (member l d ms))) (sym same)
     (elim (by_name q l) as (λ o. by_name q l ≡ o → IsFound levels path q (cond (is_eq o) (Some e.1) rest) (match_ordering o (get_member q ms) (Some d) (get_member q ms))) [
       | Less ↦ λ _. part_found levels path q es ms h.2
-      | Equal ↦ λ tie. subst (λ (n : List ℕ). IsPart levels path n e.1 d) (sym (same_name q l tie)) h.1
+      | Equal ↦ λ tie. subst (λ (n : List ℕ). IsMemberPart levels path n e.1 d) (sym (same_name q l tie)) h.1
       | Greater ↦ λ _. part_found levels path q es ms h.2
     ] refl)
 
@@ -112,13 +112,13 @@ unfit_order : (order stands unfit : Bool) → (not stands || unfit) ≡ true →
 unfit_order true stands unfit g h = refl
 unfit_order false stands unfit g h = absurd (true≢false (sym g ∙ h))
 
-pub is_kid_made : (levels : ℕ) (path : List (List ℕ)) (name : List ℕ) (p : Part) (d : Data) → IsPart levels path name p d → is_unfit_member levels name d ≡ false → is_kid_part name p ≡ is_kid_member name d
+pub is_kid_made : (levels : ℕ) (path : List (List ℕ)) (name : List ℕ) (p : Part) (d : Data) → IsMemberPart levels path name p d → is_unfit_member levels name d ≡ false → is_kid_part name p ≡ is_kid_member name d
 is_kid_made levels path name part.Nothing d h fit = no_kid name d (ap is_object h.1)
 is_kid_made levels path name (part.Value v) d h fit = no_kid name d (ap is_object h.1.0 ∙ value_no_object v)
 is_kid_made levels path name (part.Kid s) d h fit = sym (ap (λ x. not (is_order name) && is_object x) h.3 ∙ and_true (not (is_order name)))
-is_kid_made levels path name part.Unfit d h fit = let order = unfit_order (is_order name) (may_stand name) (is_unfit levels d) h fit in sym (ap (λ b. not b && is_object d) order)
+is_kid_made levels path name part.Unfit d h fit = let order = unfit_order (is_order name) (may_stand name) (is_unfit_value levels d) h fit in sym (ap (λ b. not b && is_object d) order)
 
-pub kid_keys_are : (levels : ℕ) (path : List (List ℕ)) (es : List (Bor (List ℕ) × Part)) (ms : Members) → AreParts levels path es ms → has_unfit levels ms ≡ false → kid_keys es ≡ kid_names ms
+pub kid_keys_are : (levels : ℕ) (path : List (List ℕ)) (es : List (Bor (List ℕ) × Part)) (ms : Members) → AreMemberParts levels path es ms → has_unfit levels ms ≡ false → kid_keys es ≡ kid_names ms
 kid_keys_are levels path [] no_members h fit = refl
 kid_keys_are levels path [] (member l d ms) h fit = absurd h
 kid_keys_are levels path (e ∷ es) no_members h fit = absurd h
@@ -176,7 +176,7 @@ some_cause None h e = true≢false (sym h)
 some_cause (Some c) h e = absurd (cc)
 
 -- an unfit value of `:order` is none that is good
-unfit_no_order : (levels : ℕ) (ms : Members) (d : Data) → is_unfit levels d ≡ true → is_good_order ms d ≡ false
+unfit_no_order : (levels : ℕ) (ms : Members) (d : Data) → is_unfit_value levels d ≡ true → is_good_order ms d ≡ false
 unfit_no_order levels ms null h = refl
 unfit_no_order levels ms (boolean b) h = refl
 unfit_no_order levels ms (number n) h = refl
@@ -185,7 +185,7 @@ unfit_no_order levels ms (array ds) h =
     ⊎_elim (λ good. absurd (some_cause (array_cause ds) h (no_cause_of_order ms ds good))) (λ bad. bad) (cases_Bool (names_kids ms [] ds))
 unfit_no_order levels ms (object xs) h = refl
 
-no_order : (levels : ℕ) (path : List (List ℕ)) (ms : Members) (p : Part) (d : Data) → IsPart levels path order_name p d → listed_in p ≡ None → is_good_order ms d ≡ false
+no_order : (levels : ℕ) (path : List (List ℕ)) (ms : Members) (p : Part) (d : Data) → IsMemberPart levels path order_name p d → listed_in p ≡ None → is_good_order ms d ≡ false
 no_order levels path ms part.Nothing d h none = ap (is_good_order ms) h.1
 no_order levels path ms (part.Value (Text t)) d h none = ap (is_good_order ms) h.1.0
 no_order levels path ms (part.Value (Long n)) d h none = ap (is_good_order ms) h.1.0
@@ -206,7 +206,7 @@ pub order_bad : (levels : ℕ) (path : List (List ℕ)) (ms : Members) (p : Part
 order_bad levels path ms p h none =
     elim (get_member order_name ms) as (λ m. IsFound levels path order_name (Some p) m → option_map_or (is_good_order ms) m true ≡ false) [ None ↦ λ found. absurd found | Some d ↦ λ found. no_order levels path ms p d found none ] h
 
-listed_array : (levels : ℕ) (path : List (List ℕ)) (p : Part) (d : Data) (names : List (List ℕ)) → IsPart levels path order_name p d → listed_in p ≡ Some names → d ≡ texts_array names
+listed_array : (levels : ℕ) (path : List (List ℕ)) (p : Part) (d : Data) (names : List (List ℕ)) → IsMemberPart levels path order_name p d → listed_in p ≡ Some names → d ≡ texts_array names
 listed_array levels path part.Nothing d names h e = absurd (cc)
 listed_array levels path (part.Value (Text t)) d names h e = absurd (cc)
 listed_array levels path (part.Value (Long n)) d names h e = absurd (cc)
@@ -249,10 +249,10 @@ listed_are ms names e = order_names_are (get_member order_name ms) names e
 
 -- ---- what a member adds
 
-pub value_added : (levels : ℕ) (path : List (List ℕ)) (name : List ℕ) (v : Value) (d : Data) (props more : Properties) (nodes : Content) → is_order name ≡ false → IsPart levels path name (part.Value v) d → more ≡ entries.put by_name name v props
+pub value_added : (levels : ℕ) (path : List (List ℕ)) (name : List ℕ) (v : Value) (d : Data) (props more : Properties) (nodes : Content) → is_order name ≡ false → IsMemberPart levels path name (part.Value v) d → more ≡ entries.put by_name name v props
     → (is_unfit_member levels name d ≡ false) × (more ≡ with_member name d props) × (nodes ≡ nodes ++ member_nodes path name d)
 value_added levels path name v d props more nodes other h put =
-    let fits : is_unfit levels d ≡ false = ap (is_unfit levels) h.1.0 ∙ rw (value_faultless v h.1.1, value_shallow levels v) refl in
+    let fits : is_unfit_value levels d ≡ false = ap (is_unfit_value levels) h.1.0 ∙ rw (value_faultless v h.1.1, value_shallow levels v) refl in
     let value : data_value d ≡ Some v = ap data_value h.1.0 ∙ value_back v h.1.1 h.1.2 in
     let none : member_nodes path name d ≡ [] = rw other (ap (nodes_in (kid path name)) h.1.0 ∙ value_no_nodes (kid path name) v) in (
       rw (h.0, other) fits,

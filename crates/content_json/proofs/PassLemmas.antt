@@ -10,13 +10,13 @@ use Rattle.serde_json.specs.Read.{number_of, of_json, converted, read}
 use Rattle.content_json.proofs.ReadLemmas.{converted-array, converted-object, whole, whole_read}
 use Rattle.json.specs.Lex.{tokens}
 use Rattle.content_json.specs.Names.{is_object}
-use Rattle.content_json.specs.Tokens.{is_begin_object, IsUnsound, value_in, items_in, members_in, Passes, token_data}
+use Rattle.content_json.specs.Tokens.{is_begin_object, IsUnsound, value_of_tokens, items_of_tokens, members_of_tokens, IsPassedOver, token_data}
 
 read_as : (ts : List Token) (o : Option Data) (d : Data) → o ≡ Some d → option_map {U = Data × List Token} (λ x. (x, ts)) o ≡ Some (d, ts)
 read_as ts o d e = ap (option_map (λ x. (x, ts))) e
 
 -- a token that is a value by itself
-pub one_value : (depth : ℕ) (t : Token) (ts : List Token) (d : Data) → token_data t ≡ Some d → value_in depth (t ∷ ts) ≡ Some (d, ts)
+pub one_value : (depth : ℕ) (t : Token) (ts : List Token) (d : Data) → token_data t ≡ Some d → value_of_tokens depth (t ∷ ts) ≡ Some (d, ts)
 one_value depth Token.begin_object ts d e = absurd (cc)
 one_value depth Token.end_object ts d e = absurd (cc)
 one_value depth Token.begin_array ts d e = absurd (cc)
@@ -29,7 +29,7 @@ one_value depth Token.null ts d e = ap (converted of_json) (value_is depth _) �
 one_value depth Token.bad ts d e = absurd (cc)
 
 -- a number that is none
-pub no_number : (depth : ℕ) (s : List ℕ) (ts : List Token) → number_of s ≡ None → value_in depth (Token.number s ∷ ts) ≡ None
+pub no_number : (depth : ℕ) (s : List ℕ) (ts : List Token) → number_of s ≡ None → value_of_tokens depth (Token.number s ∷ ts) ≡ None
 no_number depth s ts e = ap (converted of_json) (value_is depth _) ∙ ap (λ o. option_map (λ x. (x, ts)) (option_map number o)) e
 
 -- a token that no value begins with
@@ -45,7 +45,7 @@ begins_none (Token.boolean b) = false
 begins_none Token.null = false
 begins_none Token.bad = true
 
-pub no_value : (depth : ℕ) (t : Token) (ts : List Token) → begins_none t ≡ true → value_in depth (t ∷ ts) ≡ None
+pub no_value : (depth : ℕ) (t : Token) (ts : List Token) → begins_none t ≡ true → value_of_tokens depth (t ∷ ts) ≡ None
 no_value depth Token.begin_object ts e = absurd (cc)
 no_value depth Token.end_object ts e = ap (converted of_json) (value_is depth _)
 no_value depth Token.begin_array ts e = absurd (cc)
@@ -58,39 +58,39 @@ no_value depth Token.null ts e = absurd (cc)
 no_value depth Token.bad ts e = ap (converted of_json) (value_is depth _)
 
 -- no token at all
-pub none_left : (depth : ℕ) (ts : List Token) → ts ≡ [] → value_in depth ts ≡ None
+pub none_left : (depth : ℕ) (ts : List Token) → ts ≡ [] → value_of_tokens depth ts ≡ None
 none_left depth ts e = ap (λ us. converted of_json (value depth us)) e ∙ ap (converted of_json) (value_is depth [])
 
-pub array_in : (depth : ℕ) (ts : List Token) → 0 < depth → value_in depth (Token.begin_array ∷ ts) ≡ parse_map array (items_in (depth - 1) ts)
+pub array_in : (depth : ℕ) (ts : List Token) → 0 < depth → value_of_tokens depth (Token.begin_array ∷ ts) ≡ parse_map array (items_of_tokens (depth - 1) ts)
 array_in depth ts h = ap (converted of_json) (value-begin_array depth ts h) ∙ converted-array (items (value (depth - 1)) (length ts) ts)
 
-pub object_in : (depth : ℕ) (ts : List Token) → 0 < depth → value_in depth (Token.begin_object ∷ ts) ≡ parse_map object (members_in (depth - 1) ts)
+pub object_in : (depth : ℕ) (ts : List Token) → 0 < depth → value_of_tokens depth (Token.begin_object ∷ ts) ≡ parse_map object (members_of_tokens (depth - 1) ts)
 object_in depth ts h = ap (converted of_json) (value-begin_object depth ts h) ∙ converted-object (members (value (depth - 1)) (length ts) ts)
 
-pub array_in_more : (depth : ℕ) (ts : List Token) → value_in (suc depth) (Token.begin_array ∷ ts) ≡ parse_map array (items_in depth ts)
+pub array_in_more : (depth : ℕ) (ts : List Token) → value_of_tokens (suc depth) (Token.begin_array ∷ ts) ≡ parse_map array (items_of_tokens depth ts)
 unfolding value
 array_in_more depth ts = converted-array (items (value depth) (length ts) ts)
 
-pub object_in_more : (depth : ℕ) (ts : List Token) → value_in (suc depth) (Token.begin_object ∷ ts) ≡ parse_map object (members_in depth ts)
+pub object_in_more : (depth : ℕ) (ts : List Token) → value_of_tokens (suc depth) (Token.begin_object ∷ ts) ≡ parse_map object (members_of_tokens depth ts)
 unfolding value
 object_in_more depth ts = converted-object (members (value depth) (length ts) ts)
 
-pub no_array : (depth : ℕ) (ts : List Token) → depth ≡ 0 → value_in depth (Token.begin_array ∷ ts) ≡ None
-no_array depth ts e = ap (λ n. value_in n (Token.begin_array ∷ ts)) e ∙ ap (converted of_json) (value_is 0 _)
+pub no_array : (depth : ℕ) (ts : List Token) → depth ≡ 0 → value_of_tokens depth (Token.begin_array ∷ ts) ≡ None
+no_array depth ts e = ap (λ n. value_of_tokens n (Token.begin_array ∷ ts)) e ∙ ap (converted of_json) (value_is 0 _)
 
-pub no_object : (depth : ℕ) (ts : List Token) → depth ≡ 0 → value_in depth (Token.begin_object ∷ ts) ≡ None
-no_object depth ts e = ap (λ n. value_in n (Token.begin_object ∷ ts)) e ∙ ap (converted of_json) (value_is 0 _)
+pub no_object : (depth : ℕ) (ts : List Token) → depth ≡ 0 → value_of_tokens depth (Token.begin_object ∷ ts) ≡ None
+no_object depth ts e = ap (λ n. value_of_tokens n (Token.begin_object ∷ ts)) e ∙ ap (converted of_json) (value_is 0 _)
 
 -- what is passed is passed under what is made of it
-pub passes_under : {A B : Type 0} (f : A → B) (b : Bool) (o : Option (A × List Token)) (rest : List Token) → Passes b o rest → Passes b (parse_map f o) rest
+pub passes_under : {A B : Type 0} (f : A → B) (b : Bool) (o : Option (A × List Token)) (rest : List Token) → IsPassedOver b o rest → IsPassedOver b (parse_map f o) rest
 passes_under f true o rest h = (f h.0, ap (parse_map f) h.1)
 passes_under f false o rest h = ap (parse_map f) h
 
-pub passes_number : (depth : ℕ) (s : List ℕ) (ts : List Token) (b : Bool) → b ≡ is_some (number_of s) → Passes b (value_in depth (Token.number s ∷ ts)) ts
+pub passes_number : (depth : ℕ) (s : List ℕ) (ts : List Token) (b : Bool) → b ≡ is_some (number_of s) → IsPassedOver b (value_of_tokens depth (Token.number s ∷ ts)) ts
 passes_number depth s ts b e =
-    elim (number_of s) as (λ o. number_of s ≡ o → b ≡ is_some o → Passes b (value_in depth (Token.number s ∷ ts)) ts) [
-      | None ↦ λ none same. subst (λ (c : Bool). Passes c (value_in depth (Token.number s ∷ ts)) ts) (sym same) (no_number depth s ts none)
-      | Some n ↦ λ found same. subst (λ (c : Bool). Passes c (value_in depth (Token.number s ∷ ts)) ts) (sym same) (number n, one_value depth (Token.number s) ts (number n) (ap (option_map number) found))
+    elim (number_of s) as (λ o. number_of s ≡ o → b ≡ is_some o → IsPassedOver b (value_of_tokens depth (Token.number s ∷ ts)) ts) [
+      | None ↦ λ none same. subst (λ (c : Bool). IsPassedOver c (value_of_tokens depth (Token.number s ∷ ts)) ts) (sym same) (no_number depth s ts none)
+      | Some n ↦ λ found same. subst (λ (c : Bool). IsPassedOver c (value_of_tokens depth (Token.number s ∷ ts)) ts) (sym same) (number n, one_value depth (Token.number s) ts (number n) (ap (option_map number) found))
     ] refl e
 
 -- ---- keys
@@ -132,10 +132,10 @@ no_number_one : (ts : List Token) (o : Option Num) → is_one (option_map (λ x.
 no_number_one ts None = refl
 no_number_one ts (Some n) = refl
 
-told_no_object : (depth : ℕ) (t : Token) (ts : List Token) → is_begin_object t ≡ false → is_one (value_in (suc depth) (t ∷ ts)) ≡ false
+told_no_object : (depth : ℕ) (t : Token) (ts : List Token) → is_begin_object t ≡ false → is_one (value_of_tokens (suc depth) (t ∷ ts)) ≡ false
 told_no_object depth Token.begin_object ts e = absurd (cc)
 told_no_object depth Token.end_object ts e = ap is_one (no_value (suc depth) Token.end_object ts refl)
-told_no_object depth Token.begin_array ts e = ap is_one (array_in_more depth ts) ∙ no_one (items_in depth ts)
+told_no_object depth Token.begin_array ts e = ap is_one (array_in_more depth ts) ∙ no_one (items_of_tokens depth ts)
 told_no_object depth Token.end_array ts e = ap is_one (no_value (suc depth) Token.end_array ts refl)
 told_no_object depth (Token.key s) ts e = ap is_one (no_value (suc depth) (Token.key s) ts refl)
 told_no_object depth (Token.string s) ts e = ap is_one (one_value (suc depth) (Token.string s) ts _ refl)
@@ -152,16 +152,16 @@ read_back (Some (j, [])) d e = ap (option_map (λ x. (x, []))) e
 read_back (Some (j, t ∷ r)) d e = absurd (cc)
 
 -- what a text is, is what its tokens begin with, before no others
-pub value_of_text : (text : List ℕ) (d : Data) → read text ≡ Some d → value_in 127 (tokens text) ≡ Some (d, [])
+pub value_of_text : (text : List ℕ) (d : Data) → read text ≡ Some d → value_of_tokens 127 (tokens text) ≡ Some (d, [])
 value_of_text text d e = read_back (value 127 (tokens text)) d e
 
-pub text_of_value : (text : List ℕ) (d : Data) → value_in 127 (tokens text) ≡ Some (d, []) → read text ≡ Some d
+pub text_of_value : (text : List ℕ) (d : Data) → value_of_tokens 127 (tokens text) ≡ Some (d, []) → read text ≡ Some d
 text_of_value text d e = whole_read (value 127 (tokens text)) d e
 
-pub unsound_unless_read : (text : List ℕ) → value_in 127 (tokens text) ≡ None → IsUnsound text
+pub unsound_unless_read : (text : List ℕ) → value_of_tokens 127 (tokens text) ≡ None → IsUnsound text
 unsound_unless_read text e ms is = absurd (let never : None ≡ Some (object ms, []) = sym e ∙ value_of_text text (object ms) is in cc)
 
-pub unsound_unless_last : (text : List ℕ) (d : Data) (t : Token) (rest : List Token) → value_in 127 (tokens text) ≡ Some (d, t ∷ rest) → IsUnsound text
+pub unsound_unless_last : (text : List ℕ) (d : Data) (t : Token) (rest : List Token) → value_of_tokens 127 (tokens text) ≡ Some (d, t ∷ rest) → IsUnsound text
 unsound_unless_last text d t rest e ms is = absurd (false≢true (ap ends (sym (value_of_text text (object ms) is) ∙ e) ∙ refl))
   where
     ends : Option (Data × List Token) → Bool
@@ -171,13 +171,13 @@ unsound_unless_last text d t rest e ms is = absurd (false≢true (ap ends (sym (
 
 pub unsound_unless_object : (text : List ℕ) (t : Token) (ts : List Token) → tokens text ≡ t ∷ ts → is_begin_object t ≡ false → IsUnsound text
 unsound_unless_object text t ts first other ms is =
-    absurd (true≢false (ap is_one (sym (value_of_text text (object ms) is) ∙ ap (value_in 127) first) ∙ told_no_object 126 t ts other))
+    absurd (true≢false (ap is_one (sym (value_of_text text (object ms) is) ∙ ap (value_of_tokens 127) first) ∙ told_no_object 126 t ts other))
 
 pub unsound_unless_begun : (text : List ℕ) → tokens text ≡ [] → IsUnsound text
 unsound_unless_begun text e = unsound_unless_read text (none_left 127 (tokens text) e)
 
 -- what is found is of the one object that the text is
-pub same_object : (text : List ℕ) (found ms : Members) → value_in 127 (tokens text) ≡ Some (object found, []) → read text ≡ Some (object ms) → found ≡ ms
+pub same_object : (text : List ℕ) (found ms : Members) → value_of_tokens 127 (tokens text) ≡ Some (object found, []) → read text ≡ Some (object ms) → found ≡ ms
 same_object text found ms e is = ap (members_or found) (sym (text_of_value text (object found) e) ∙ is)
   where
     members_or : Members → Option Data → Members

@@ -57,8 +57,8 @@ nodes_of sprout = entry_of sprout.top ∷ map entry_of sprout.below.items
 -- ---- what content may not hold
 
 -- a value has a fault, or a node of it stands more levels below
-abbrev pub is_unfit : ℕ → Data → Bool
-is_unfit levels d = is_some (fault_in d) || is_deeper levels d
+abbrev pub is_unfit_value : ℕ → Data → Bool
+is_unfit_value levels d = is_some (fault_in d) || is_deeper levels d
 
 -- a name may stand in content
 abbrev pub may_stand : Bytes → Bool
@@ -66,7 +66,7 @@ may_stand name = is_order name || is_content_name name
 
 -- the same of a member of an object without one of its own in `:order`
 abbrev pub is_unfit_member : ℕ → Bytes → Data → Bool
-is_unfit_member levels name d = not (may_stand name) || (if is_order name then false else is_unfit levels d)
+is_unfit_member levels name d = not (may_stand name) || (if is_order name then false else is_unfit_value levels d)
 
 abbrev pub has_unfit : ℕ → Members → Bool
 has_unfit levels no_members = false
@@ -79,23 +79,23 @@ is_unfit_object levels ms = is_some (fault_in (object ms)) || is_deeper_below le
 -- ---- what is made of members
 
 -- the part is made of the value of a member of this name, in the object at a path, below which there may be as many levels
-abbrev pub IsPart : ℕ → Segments → Bytes → Part → Data → Type 0
-IsPart levels path name part.Nothing d = (may_stand name ≡ true) × (d ≡ null)
-IsPart levels path name (part.Value value) d = (may_stand name ≡ true) × IsOfValue value d
-IsPart levels path name (part.Kid sprout) d =
-    (may_stand name ≡ true) × (is_unfit levels d ≡ false) × (ms : Members) × (d ≡ object ms) × (nodes_of sprout.value ≡ nodes_in (kid path name) d)
-IsPart levels path name part.Unfit d = (not (may_stand name) || is_unfit levels d) ≡ true
+abbrev pub IsMemberPart : ℕ → Segments → Bytes → Part → Data → Type 0
+IsMemberPart levels path name part.Nothing d = (may_stand name ≡ true) × (d ≡ null)
+IsMemberPart levels path name (part.Value value) d = (may_stand name ≡ true) × IsOfValue value d
+IsMemberPart levels path name (part.Kid sprout) d =
+    (may_stand name ≡ true) × (is_unfit_value levels d ≡ false) × (ms : Members) × (d ≡ object ms) × (nodes_of sprout.value ≡ nodes_in (kid path name) d)
+IsMemberPart levels path name part.Unfit d = (not (may_stand name) || is_unfit_value levels d) ≡ true
 
 -- each part is made of the member of its name
-abbrev pub AreParts : ℕ → Segments → List (Bor Bytes × Part) → Members → Type 0
-AreParts levels path [] no_members = ⊤
-AreParts levels path [] (member name d ms) = ⊥
-AreParts levels path (e ∷ es) no_members = ⊥
-AreParts levels path (e ∷ es) (member name d ms) = (e.0.now ≡ name) × IsPart levels path name e.1 d × AreParts levels path es ms
+abbrev pub AreMemberParts : ℕ → Segments → List (Bor Bytes × Part) → Members → Type 0
+AreMemberParts levels path [] no_members = ⊤
+AreMemberParts levels path [] (member name d ms) = ⊥
+AreMemberParts levels path (e ∷ es) no_members = ⊥
+AreMemberParts levels path (e ∷ es) (member name d ms) = (e.0.now ≡ name) × IsMemberPart levels path name e.1 d × AreMemberParts levels path es ms
 
 -- what is kept of the object at a path is of these members
 abbrev pub HoldsMembers : ℕ → Segments → OpenObject → Members → Type 0
-HoldsMembers levels path parent ms = AreParts levels path parent.members.entries ms
+HoldsMembers levels path parent ms = AreMemberParts levels path parent.members.entries ms
 
 -- what is made of the object at a path
 abbrev pub IsObjectPart : ℕ → Segments → Part → Members → Type 0
@@ -117,25 +117,16 @@ abbrev pub Lists : Members → List Bytes → Type 0
 Lists ms names = unwrap_or (get_member order_name ms) (texts_array []) ≡ texts_array names
 
 abbrev pub listed_in : Part → Option (List Bytes)
-listed_in part.Nothing = None
-listed_in (part.Value (Text t)) = None
-listed_in (part.Value (Long n)) = None
-listed_in (part.Value (Truth b)) = None
 listed_in (part.Value (Texts ts)) = Some ts
-listed_in (part.Value (Longs ns)) = None
-listed_in (part.Value (Truths bs)) = None
-listed_in (part.Kid sprout) = None
-listed_in part.Unfit = None
+listed_in _ = None
 
 -- these are the names of the kids in their order
 abbrev pub NamesKids : Members → List Bytes → Type 0
 NamesKids ms names = (has_good_order ms ≡ true) × (names ≡ kids_of ms)
 
 abbrev pub is_kid_part : Bytes → Part → Bool
-is_kid_part name part.Nothing = false
-is_kid_part name (part.Value value) = false
 is_kid_part name (part.Kid sprout) = not (is_order name)
-is_kid_part name part.Unfit = false
+is_kid_part name _ = false
 
 abbrev pub kid_keys : List (Bor Bytes × Part) → List Bytes
 kid_keys [] = []

@@ -18,77 +18,60 @@ use Rattle.content_json.specs.ContentOf.{map_of}
 use Rattle.content_json.specs.Faults.{fault_in}
 use Rattle.content_json.specs.Lists.{array_cause}
 use Rattle.content_json.specs.Nodes.{nodes_in}
-use Rattle.content_json.specs.Parts.{items_from, data_of_long, IsOfValue, IsPart, HoldsMembers, IsObjectPart}
+use Rattle.content_json.specs.Parts.{items_from, data_of_long, IsOfValue, IsMemberPart, HoldsMembers, IsObjectPart}
 use Rattle.content_json.specs.Steps.{is_sound}
 use Rattle.content_json.specs.Written.{keeps_kind}
 
 -- the value that tokens begin with, in which values nest so deep at most, and the tokens after it
-abbrev pub value_in : ℕ → List Token → Option (Data × List Token)
-value_in depth ts = converted of_json (json.value depth ts)
+abbrev pub value_of_tokens : ℕ → List Token → Option (Data × List Token)
+value_of_tokens depth ts = converted of_json (json.value depth ts)
 
 -- the items of an array after its opening bracket. The first number bounds how many there are; that of the tokens is enough
 abbrev pub items_within : ℕ → ℕ → List Token → Option (Items × List Token)
 items_within n depth ts = converted of_items (json.items (json.value depth) n ts)
 
-abbrev pub items_in : ℕ → List Token → Option (Items × List Token)
-items_in depth ts = items_within (length ts) depth ts
+abbrev pub items_of_tokens : ℕ → List Token → Option (Items × List Token)
+items_of_tokens depth ts = items_within (length ts) depth ts
 
 -- and the members of an object
-abbrev pub members_in : ℕ → List Token → Option (Members × List Token)
-members_in depth ts = converted (λ js. of_members js no_members) (json.members (json.value depth) (length ts) ts)
+abbrev pub members_of_tokens : ℕ → List Token → Option (Members × List Token)
+members_of_tokens depth ts = converted (λ js. of_members js no_members) (json.members (json.value depth) (length ts) ts)
 
 -- whether there is something, before these tokens
-abbrev pub Passes : {A : Type 0} → Bool → Option (A × List Token) → List Token → Type 0
-Passes {A} passed found rest = MatchBool passed ((a : A) × (found ≡ Some (a, rest))) (found ≡ None)
+abbrev pub IsPassedOver : {A : Type 0} → Bool → Option (A × List Token) → List Token → Type 0
+IsPassedOver {A} passed found rest = MatchBool passed ((a : A) × (found ≡ Some (a, rest))) (found ≡ None)
 
 -- the value that a token is by itself
 abbrev pub token_data : Token → Option Data
-token_data token.begin_object = None
-token_data token.end_object = None
-token_data token.begin_array = None
-token_data token.end_array = None
-token_data (token.key s) = None
 token_data (token.string s) = Some (string s)
 token_data (token.number s) = option_map number (number_of s)
 token_data (token.boolean b) = Some (boolean b)
 token_data token.null = Some null
-token_data token.bad = None
+token_data _ = None
 
 abbrev pub is_begin_object : Token → Bool
 is_begin_object token.begin_object = true
-is_begin_object token.end_object = false
-is_begin_object token.begin_array = false
-is_begin_object token.end_array = false
-is_begin_object (token.key s) = false
-is_begin_object (token.string s) = false
-is_begin_object (token.number s) = false
-is_begin_object (token.boolean b) = false
-is_begin_object token.null = false
-is_begin_object token.bad = false
+is_begin_object _ = false
 
 -- ---- lists
 
-abbrev pub is_list : Value → Bool
-is_list (Text t) = false
-is_list (Long n) = false
-is_list (Truth b) = false
-is_list (Texts ts) = true
-is_list (Longs ns) = true
-is_list (Truths bs) = true
+abbrev pub is_list_value : Value → Bool
+is_list_value (Texts ts) = true
+is_list_value (Longs ns) = true
+is_list_value (Truths bs) = true
+is_list_value _ = false
 
 -- the items of a list
 abbrev pub list_items : Value → Items
-list_items (Text t) = no_items
-list_items (Long n) = no_items
-list_items (Truth b) = no_items
 list_items (Texts ts) = items_from string ts
 list_items (Longs ns) = items_from data_of_long ns
 list_items (Truths bs) = items_from boolean bs
+list_items _ = no_items
 
 -- an array without items, of which the kind is open
-abbrev pub is_open : Value → Bool
-is_open (Texts ts) = length ts == 0
-is_open _ = false
+abbrev pub is_open_list : Value → Bool
+is_open_list (Texts ts) = length ts == 0
+is_open_list _ = false
 
 -- items before others
 abbrev pub items_then : Items → Items → Items
@@ -97,22 +80,22 @@ items_then (item d ds) rest = item d (items_then ds rest)
 
 -- the value of an array so far
 abbrev pub IsList : Value → Type 0
-IsList list = (is_list list ≡ true) × (has_longs list ≡ true) × (keeps_kind list ≡ true)
+IsList list = (is_list_value list ≡ true) × (has_longs list ≡ true) × (keeps_kind list ≡ true)
 
 -- the list has one item more
-abbrev pub Extends : Value → Data → Value → Type 0
-Extends list d more = IsList more × ((rest : Items) → items_then (list_items more) rest ≡ items_then (list_items list) (item d rest))
+abbrev pub HasItemMore : Value → Data → Value → Type 0
+HasItemMore list d more = IsList more × ((rest : Items) → items_then (list_items more) rest ≡ items_then (list_items list) (item d rest))
 
 -- an array may not go on with this item
 abbrev pub MixesWith : Value → Data → Type 0
 MixesWith list d = (rest : Items) → is_some (array_cause (items_then (list_items list) (item d rest))) ≡ true
 
-abbrev pub Adds : Value → Token → Value → Type 0
-Adds list token more = (d : Data) × (token_data token ≡ Some d) × Extends list d more
+abbrev pub AddsToken : Value → Token → Value → Type 0
+AddsToken list token more = (d : Data) × (token_data token ≡ Some d) × HasItemMore list d more
 
 -- nor with the value that begins with this token
 abbrev pub Mixes : Value → Token → Type 0
-Mixes list token = (depth : ℕ) (ts rest : List Token) (d : Data) → value_in depth (token ∷ ts) ≡ Some (d, rest) → MixesWith list d
+Mixes list token = (depth : ℕ) (ts rest : List Token) (d : Data) → value_of_tokens depth (token ∷ ts) ≡ Some (d, rest) → MixesWith list d
 
 -- ---- what is made of them
 
@@ -127,15 +110,15 @@ abbrev pub IsNumberPart : Option Num → Part → Type 0
 IsNumberPart found made = (n : Num) × (found ≡ Some n) × IsValuePart made (number n)
 
 abbrev pub ReadsItems : ℕ → List Token → List Token → Part → Type 0
-ReadsItems depth ts rest made = (ds : Items) × (items_in depth ts ≡ Some (ds, rest)) × IsValuePart made (array ds)
+ReadsItems depth ts rest made = (ds : Items) × (items_of_tokens depth ts ≡ Some (ds, rest)) × IsValuePart made (array ds)
 
 -- of a list, from an item on that is none
 abbrev pub EndsUnfit : ℕ → ℕ → List Token → List Token → Option Part → Type 0
 EndsUnfit n depth ts rest found = MatchOption found (items_within n depth ts ≡ None)
-    (λ made. (made ≡ part.Unfit) × (d : Data) × (r : List Token) × (value_in depth ts ≡ Some (d, r)) × (ds : Items) × (items_within n depth ts ≡ Some (item d ds, rest)))
+    (λ made. (made ≡ part.Unfit) × (d : Data) × (r : List Token) × (value_of_tokens depth ts ≡ Some (d, r)) × (ds : Items) × (items_within n depth ts ≡ Some (item d ds, rest)))
 
 abbrev pub ReadsValue : ℕ → List Token → List Token → Part → Type 0
-ReadsValue depth ts rest made = (d : Data) × (value_in depth ts ≡ Some (d, rest)) × IsValuePart made d
+ReadsValue depth ts rest made = (d : Data) × (value_of_tokens depth ts ≡ Some (d, rest)) × IsValuePart made d
 
 -- how deep values may nest in a member beside the levels of nodes: 127 in all, without the top and 64 levels
 abbrev pub depth_beside_levels : ℕ
@@ -143,15 +126,15 @@ depth_beside_levels = 62
 
 -- of a member's value
 abbrev pub ReadsPart : ℕ → Segments → Bytes → List Token → List Token → Part → Type 0
-ReadsPart levels path name ts rest made = (d : Data) × (value_in (levels + depth_beside_levels) ts ≡ Some (d, rest)) × IsPart levels path name made d
+ReadsPart levels path name ts rest made = (d : Data) × (value_of_tokens (levels + depth_beside_levels) ts ≡ Some (d, rest)) × IsMemberPart levels path name made d
 
 -- of all members of an object up to its closing brace
 abbrev pub ReadsMembers : ℕ → Segments → OpenObject → List Token → List Token → Type 0
-ReadsMembers levels path after ts rest = (ms : Members) × (members_in (levels + depth_beside_levels) ts ≡ Some (ms, rest)) × HoldsMembers levels path after ms
+ReadsMembers levels path after ts rest = (ms : Members) × (members_of_tokens (levels + depth_beside_levels) ts ≡ Some (ms, rest)) × HoldsMembers levels path after ms
 
 -- and of the object
 abbrev pub ReadsObject : ℕ → Segments → List Token → List Token → Part → Type 0
-ReadsObject levels path ts rest made = (ms : Members) × (members_in (levels + depth_beside_levels) ts ≡ Some (ms, rest)) × IsObjectPart levels path made ms
+ReadsObject levels path ts rest made = (ms : Members) × (members_of_tokens (levels + depth_beside_levels) ts ≡ Some (ms, rest)) × IsObjectPart levels path made ms
 
 -- the text is sound content, and these are its nodes
 abbrev pub IsSoundContent : List ℕ → Content → Type 0

@@ -9,7 +9,7 @@ ghost use Rattle.content_json.specs.Nodes.{nodes_in};
 ghost use Rattle.content_json.specs.Steps.{is_sound};
 ghost use Rattle.content_json.specs.declared.part.Part.TheVariants as part;
 ghost use Rattle.content_json.specs.Parts.{IsObjectPart, HoldsMembers, may_stand, nodes_of};
-ghost use Rattle.content_json.specs.Tokens.{value_in, members_in, depth_beside_levels, ReadsPart, ReadsMembers, ReadsObject, IsSoundContent, IsUnsound};
+ghost use Rattle.content_json.specs.Tokens.{value_of_tokens, members_of_tokens, depth_beside_levels, ReadsPart, ReadsMembers, ReadsObject, IsSoundContent, IsUnsound};
 
 use crate::names::{is_content_name, is_order, kid_path};
 use crate::open_object::OpenObject;
@@ -90,7 +90,7 @@ fn read_object(
 ) -> Mem<Option<Part>>
     requires levels { length path + levels ≡ most_segments }
     ensures shorter { OnOk result (length reader.new ≤ length reader.old) }
-    ensures read { IfOk result (λ found. MatchOption found (members_in (levels + depth_beside_levels) reader.old ≡ None)
+    ensures read { IfOk result (λ found. MatchOption found (members_of_tokens (levels + depth_beside_levels) reader.old ≡ None)
         (ReadsObject levels path reader.old reader.new)) }
 {
     let mut own = OpenObject::new(alloc);
@@ -113,7 +113,7 @@ fn read_members<'a>(
     requires fresh { HoldsMembers levels path.now parent.old no_members }
     ensures shorter { OnOk result (length reader.new ≤ length reader.old) }
     ensures read { IfOk result (λ done. MatchBool done (ReadsMembers levels path.now parent.new reader.old reader.new)
-        (members_in (levels + depth_beside_levels) reader.old ≡ None)) }
+        (members_of_tokens (levels + depth_beside_levels) reader.old ≡ None)) }
 {
     'members: loop {
         let Ok(key) = reader.next_key() else {
@@ -147,7 +147,7 @@ fn read_member(
 ) -> Mem<Option<Part>>
     requires levels { length path.now + levels ≡ most_segments }
     ensures shorter { OnOk result (length reader.new ≤ length reader.old) }
-    ensures read { IfOk result (λ found. MatchOption found (value_in (levels + depth_beside_levels) reader.old ≡ None)
+    ensures read { IfOk result (λ found. MatchOption found (value_of_tokens (levels + depth_beside_levels) reader.old ≡ None)
         (ReadsPart levels path.now name.now reader.old reader.new)) }
 {
     let Some(first) = reader.next() else {
@@ -176,7 +176,7 @@ fn read_kid(
     requires levels { length path.now + levels ≡ most_segments }
     requires named { may_stand name.now ≡ true }
     ensures shorter { OnOk result (length reader.new ≤ length reader.old) }
-    ensures read { IfOk result (λ found. MatchOption found (value_in (levels + depth_beside_levels) (begin_object ∷ reader.old) ≡ None)
+    ensures read { IfOk result (λ found. MatchOption found (value_of_tokens (levels + depth_beside_levels) (begin_object ∷ reader.old) ≡ None)
         (ReadsPart levels path.now name.now (begin_object ∷ reader.old) reader.new)) }
 {
     if levels == 0 {

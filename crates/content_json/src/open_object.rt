@@ -7,7 +7,7 @@ ghost use Rattle.serde_json.specs.Data.{Data, Members};
 ghost use Rattle.sp_base.specs.Texts.{Segments};
 ghost use Rattle.content_json.specs.Names.{is_order, is_kid};
 ghost use Rattle.content_json.specs.Faults.{has_good_order};
-ghost use Rattle.content_json.specs.Parts.{HoldsMembers, IsPart, Lists, NamesKids, listed_in, AddsPart, is_kid_part, kid_keys, has_unfit};
+ghost use Rattle.content_json.specs.Parts.{HoldsMembers, IsMemberPart, Lists, NamesKids, listed_in, AddsPart, is_kid_part, kid_keys, has_unfit};
 
 use crate::names::{ORDER, is_order};
 use crate::part::{Part, Placed, Sprout};
@@ -26,7 +26,7 @@ impl<'a> OpenObject<'a> {
     ghost use Rattle.std.specs.Prelude.{◌≡◌, ℕ, IfOk, OnOk};
     ghost use Rattle.serde_json.specs.Data.{Data, Members, no_members, put};
     ghost use Rattle.sp_base.specs.Texts.{Segments};
-    ghost use Rattle.content_json.specs.Parts.{HoldsMembers, IsPart, IsObjectPart};
+    ghost use Rattle.content_json.specs.Parts.{HoldsMembers, IsMemberPart, IsObjectPart};
 
     pub(crate) fn new(alloc: Global) -> OpenObject<'a>
         ensures { (levels : ℕ) (path : Segments) → HoldsMembers levels path result no_members }
@@ -38,7 +38,7 @@ impl<'a> OpenObject<'a> {
 
     /// Takes a member in, in place of a former one of its name.
     pub(crate) fn put(&mut self, name: &'a str, part: Part) -> Mem<()>
-        ensures { OnOk result ((levels : ℕ) (path : Segments) (d : Data) (ms : Members) → IsPart levels path name.entry.now part d
+        ensures { OnOk result ((levels : ℕ) (path : Segments) (d : Data) (ms : Members) → IsMemberPart levels path name.entry.now part d
             → HoldsMembers levels path self.old ms → HoldsMembers levels path self.new (put name.entry.now d ms)) }
     {
         drop(self.members.insert(name, part)?);
@@ -73,7 +73,7 @@ fn add_part(
     name: &str,
     part: Part,
 ) -> Mem<bool>
-    ensures { IfOk result (λ done. (levels : ℕ) (path : Segments) (d : Data) → IsPart levels path name.now part d
+    ensures { IfOk result (λ done. (levels : ℕ) (path : Segments) (d : Data) → IsMemberPart levels path name.now part d
         → AddsPart levels path name.now d done props.old props.new below.old.items below.new.items) }
 {
     if is_order(name) {

@@ -2,7 +2,7 @@
 ghost use Rattle.std.specs.Prelude.{◌≡◌, ◌==◌, ◌<◌, ◌≤◌, ◌∷◌, ℕ, false, true, is_some, length, slice_index, IsTrue};
 ghost use Rattle.json.specs.Reads.{token_of};
 ghost use Rattle.serde_json.specs.Read.{number_from, number_of};
-ghost use Rattle.content_json.specs.Tokens.{value_in, items_within, members_in, Passes};
+ghost use Rattle.content_json.specs.Tokens.{value_of_tokens, items_within, members_of_tokens, IsPassedOver};
 
 use fast_float::Numeral;
 use json::{Reader, Token};
@@ -47,7 +47,7 @@ pub(crate) fn has_number(text: &str) -> bool
 #[cycle(pass)]
 pub(crate) fn pass_value(reader: &mut Reader<'_>, first: Token<'_>, depth: usize) -> bool
     ensures shorter { length reader.new ≤ length reader.old }
-    ensures passes { Passes result (value_in depth (token_of first.entry ∷ reader.old)) reader.new }
+    ensures passes { IsPassedOver result (value_of_tokens depth (token_of first.entry ∷ reader.old)) reader.new }
 {
     match first {
         Token::String(_) => true,
@@ -67,7 +67,7 @@ pub(crate) fn pass_value(reader: &mut Reader<'_>, first: Token<'_>, depth: usize
 #[cycle(pass)]
 pub(crate) fn pass_items(reader: &mut Reader<'_>, depth: usize) -> bool
     ensures shorter { length reader.new ≤ length reader.old }
-    ensures passes { (n : ℕ) → length reader.old ≤ n → Passes result (items_within n depth reader.old) reader.new }
+    ensures passes { (n : ℕ) → length reader.old ≤ n → IsPassedOver result (items_within n depth reader.old) reader.new }
 {
     'items: while !reader.take_end_array() {
         let Some(first) = reader.next() else {
@@ -84,7 +84,7 @@ pub(crate) fn pass_items(reader: &mut Reader<'_>, depth: usize) -> bool
 #[cycle(pass)]
 pub(crate) fn pass_members(reader: &mut Reader<'_>, depth: usize) -> bool
     ensures shorter { length reader.new ≤ length reader.old }
-    ensures passes { Passes result (members_in depth reader.old) reader.new }
+    ensures passes { IsPassedOver result (members_of_tokens depth reader.old) reader.new }
 {
     'members: loop {
         let Ok(key) = reader.next_key() else {

@@ -7,7 +7,7 @@ ghost use Rattle.serde_json.specs.Find.{as_i64, of_integer};
 ghost use Rattle.serde_json.specs.Read.{number_from, number_of};
 ghost use Rattle.property_json.specs.PropertyJson.{fits_i64};
 ghost use Rattle.content_json.specs.Parts.{data_of_long};
-ghost use Rattle.content_json.specs.Tokens.{value_in, items_in, is_begin_object, is_open, IsList, Extends, Mixes, MixesWith, Adds, ReadsValue, ReadsItems, IsNumberPart, EndsUnfit};
+ghost use Rattle.content_json.specs.Tokens.{value_of_tokens, items_of_tokens, is_begin_object, is_open_list, IsList, HasItemMore, Mixes, MixesWith, AddsToken, ReadsValue, ReadsItems, IsNumberPart, EndsUnfit};
 
 use crate::part::Part;
 use crate::pass::{has_minus, has_number, pass_items, pass_value};
@@ -49,7 +49,7 @@ fn long_of(text: &str) -> Option<i64>
 
 fn with_text(alloc: Global, list: Value, text: &str) -> Mem<Option<Value>>
     requires { IsList list }
-    ensures { IfOk result (λ found. MatchOption found (MixesWith list (string text.now)) (Extends list (string text.now))) }
+    ensures { IfOk result (λ found. MatchOption found (MixesWith list (string text.now)) (HasItemMore list (string text.now))) }
 {
     match list {
         Value::Texts(mut texts) => {
@@ -62,7 +62,7 @@ fn with_text(alloc: Global, list: Value, text: &str) -> Mem<Option<Value>>
 
 // Whether an array has no item yet, so that its kind is open.
 fn is_open(list: &Value) -> bool
-    ensures { result ≡ is_open list.now }
+    ensures { result ≡ is_open_list list.now }
 {
     match list {
         Value::Texts(texts) => texts.is_empty(),
@@ -73,7 +73,7 @@ fn is_open(list: &Value) -> bool
 fn with_long(alloc: Global, list: Value, long: i64) -> Mem<Option<Value>>
     requires list { IsList list }
     requires fits { fits_i64 long ≡ true }
-    ensures { IfOk result (λ found. MatchOption found (MixesWith list (data_of_long long)) (Extends list (data_of_long long))) }
+    ensures { IfOk result (λ found. MatchOption found (MixesWith list (data_of_long long)) (HasItemMore list (data_of_long long))) }
 {
     match list {
         Value::Longs(mut longs) => {
@@ -93,7 +93,7 @@ fn with_long(alloc: Global, list: Value, long: i64) -> Mem<Option<Value>>
 
 fn with_truth(alloc: Global, list: Value, truth: bool) -> Mem<Option<Value>>
     requires { IsList list }
-    ensures { IfOk result (λ found. MatchOption found (MixesWith list (boolean truth)) (Extends list (boolean truth))) }
+    ensures { IfOk result (λ found. MatchOption found (MixesWith list (boolean truth)) (HasItemMore list (boolean truth))) }
 {
     match list {
         Value::Truths(mut truths) => {
@@ -114,7 +114,7 @@ fn with_truth(alloc: Global, list: Value, truth: bool) -> Mem<Option<Value>>
 // A list with one item more, of the kind of those before it. There is none where the item that begins with this token is no such.
 fn with_item(alloc: Global, list: Value, item: Token<'_>) -> Mem<Option<Value>>
     requires { IsList list }
-    ensures { IfOk result (λ found. MatchOption found (Mixes list (token_of item.entry)) (Adds list (token_of item.entry))) }
+    ensures { IfOk result (λ found. MatchOption found (Mixes list (token_of item.entry)) (AddsToken list (token_of item.entry))) }
 {
     match item {
         Token::String(text) => with_text(alloc, list, text),
@@ -151,7 +151,7 @@ fn unfit_list(reader: &mut Reader<'_>, item: Token<'_>, depth: usize) -> Option<
 // The list after its opening bracket, in whose items values may nest as deep.
 fn list(alloc: Global, reader: &mut Reader<'_>, depth: usize) -> Mem<Option<Part>>
     ensures shorter { OnOk result (length reader.new ≤ length reader.old) }
-    ensures read { IfOk result (λ found. MatchOption found (items_in depth reader.old ≡ None) (ReadsItems depth reader.old reader.new)) }
+    ensures read { IfOk result (λ found. MatchOption found (items_of_tokens depth reader.old ≡ None) (ReadsItems depth reader.old reader.new)) }
 {
     // An array without items is one of texts.
     let mut list = Value::Texts(TextList::new(alloc));
@@ -211,7 +211,7 @@ pub(crate) fn value_part(
     requires nests { 0 < depth }
     requires no_object { is_begin_object (token_of first) ≡ false }
     ensures shorter { OnOk result (length reader.new ≤ length reader.old) }
-    ensures read { IfOk result (λ found. MatchOption found (value_in depth (token_of first.entry ∷ reader.old) ≡ None)
+    ensures read { IfOk result (λ found. MatchOption found (value_of_tokens depth (token_of first.entry ∷ reader.old) ≡ None)
         (ReadsValue depth (token_of first.entry ∷ reader.old) reader.new)) }
 {
     match first {

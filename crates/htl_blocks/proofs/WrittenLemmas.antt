@@ -15,7 +15,7 @@ use Rattle.htl_blocks.specs.declared.run_fault.RunFault.{RunFault}
 use Rattle.htl_blocks.specs.declared.keeping.Keeping.{Keeping}
 use Rattle.htl_blocks.specs.Sheets.{SheetText, empty_sheet, with_parts, Stops, WroteParts}
 use Rattle.htl_blocks.specs.Written.{round_parts, statement_value, tag_parts}
-use Rattle.htl_blocks.specs.VariableRoom.{HasRoom}
+use Rattle.htl_blocks.specs.VariableRoom.{HasVariableRoom}
 use Rattle.htl_blocks.proofs.RoomLemmas.{stands}
 use Rattle.htl_blocks.proofs.SheetLemmas.{after, stopped, with_both, with_none}
 
@@ -127,7 +127,7 @@ inside_stops f s0 s1 s2 s3 vars keeps stand start end_tag b same is opened fille
 
 -- a round
 pub round_written : {A : Type 0} (r : Result A RunFault) (old mid new : SheetText) (inside : Bindings → List Part) (vars inner : List (List ℕ × List ℕ)) (name item : List ℕ)
-    → mid ≡ with_parts old (Round ∷ []) → inner ≡ (name, item) ∷ vars → HasRoom name vars item → WroteParts r mid new (inside (with_vars mid.scope inner)) → WroteParts r old new (round_parts name inside (with_vars old.scope vars) item)
+    → mid ≡ with_parts old (Round ∷ []) → inner ≡ (name, item) ∷ vars → HasVariableRoom name vars item → WroteParts r mid new (inside (with_vars mid.scope inner)) → WroteParts r old new (round_parts name inside (with_vars old.scope vars) item)
 round_written r old mid new inside vars inner name item begun is fits w =
     subst (λ (ps : List Part). WroteParts r old new ps) (sym (stands inside (with_vars old.scope vars) name item fits))
     (subst (λ (v : List (List ℕ × List ℕ)). WroteParts r old new (Round ∷ inside (with_vars old.scope v))) is (second r old mid new inner (Round ∷ []) inside begun w))

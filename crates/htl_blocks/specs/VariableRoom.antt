@@ -7,17 +7,17 @@ use Rattle.htl_blocks.specs.declared.run_fault.RunFault.TheVariants.{TooLong, No
 use Rattle.htl_blocks.specs.Written.{text_of_vars}
 
 -- so much is left of a room by so many bytes, if they have room in it
-abbrev pub IsLeft : ℕ → ℕ → Result ℕ RunFault → Type 0
-IsLeft room len (Ok left) = left + len ≡ room
-IsLeft room len (Err fault) = (fault ≡ TooLong) × (room < len)
+abbrev pub IsRoomLeft : ℕ → ℕ → Result ℕ RunFault → Type 0
+IsRoomLeft room len (Ok left) = left + len ≡ room
+IsRoomLeft room len (Err fault) = (fault ≡ TooLong) × (room < len)
 
 -- how many bytes variables have
 abbrev pub vars_len : Pairs → ℕ
 vars_len vars = length (text_of_vars vars)
 
 -- with one more, variables aren't too long
-abbrev pub HasRoom : List ℕ → Pairs → List ℕ → Type 0
-HasRoom name vars text = vars_len ((name, text) ∷ vars) ≤ most_rendered_bytes
+abbrev pub HasVariableRoom : List ℕ → Pairs → List ℕ → Type 0
+HasVariableRoom name vars text = vars_len ((name, text) ∷ vars) ≤ most_rendered_bytes
 
 -- with one more they are, unless memory lacks
 abbrev pub HasNoRoomIfMemory : List ℕ → Pairs → List ℕ → RunFault → Type 0

@@ -2,7 +2,7 @@
 
 ghost use Rattle.std.specs.Prelude.{◌≡◌, ◌+◌, IfOk, IfErr, IfSome, [], length, get_or, slice_get};
 ghost use Rattle.htl_expr.specs.Variables.{lent_pairs, vars_of};
-ghost use Rattle.htl_blocks.specs.VariableRoom.{HasRoom, HasNoRoomIfMemory, IsLeft, vars_len};
+ghost use Rattle.htl_blocks.specs.VariableRoom.{HasVariableRoom, HasNoRoomIfMemory, IsRoomLeft, vars_len};
 
 use crate::repetition::Repetition;
 use crate::run_fault::RunFault;
@@ -12,7 +12,7 @@ use std::alloc::Global;
 
 // What a text leaves of a room.
 fn left_by(room: usize, text: &str) -> Result<usize, RunFault>
-    ensures { IsLeft room (length text.now) result }
+    ensures { IsRoomLeft room (length text.now) result }
 {
     if text.len() > room {
         return Err(RunFault::TooLong);
@@ -22,7 +22,7 @@ fn left_by(room: usize, text: &str) -> Result<usize, RunFault>
 
 // What a name and its text leave.
 fn left_by_one(room: usize, name: &str, text: &str) -> Result<usize, RunFault>
-    ensures { IsLeft room (length name.now + length text.now) result }
+    ensures { IsRoomLeft room (length name.now + length text.now) result }
 {
     let left = left_by(room, name)?;
     left_by(left, text)
@@ -32,7 +32,7 @@ fn left_by_one(room: usize, name: &str, text: &str) -> Result<usize, RunFault>
 #[cycle(left_by_pairs)]
 #[tactic(auto, using(crate::proofs::RoomLemmas::vars_len_more))]
 fn left_by_pairs(room: usize, pairs: &[(&str, &str)]) -> Result<usize, RunFault>
-    ensures { IsLeft room (vars_len (lent_pairs pairs.now)) result }
+    ensures { IsRoomLeft room (vars_len (lent_pairs pairs.now)) result }
 {
     match pairs {
         [] => Ok(room),
@@ -47,7 +47,7 @@ fn left_by_pairs(room: usize, pairs: &[(&str, &str)]) -> Result<usize, RunFault>
 #[cycle(left_by_vars)]
 #[tactic(auto, using(crate::proofs::RoomLemmas::vars_len_more))]
 fn left_by_vars(room: usize, vars: &Variables) -> Result<usize, RunFault>
-    ensures { IsLeft room (vars_len (vars_of vars.now)) result }
+    ensures { IsRoomLeft room (vars_len (vars_of vars.now)) result }
 {
     match vars {
         Variables::None => Ok(room),
@@ -67,7 +67,7 @@ pub fn item_at<'v, 'a: 'v>(
     index: usize,
 ) -> Result<Option<ItemText<'v>>, RunFault>
     ensures ok { IfOk result (λ item. item ≡ slice_get repetition.now.items index) }
-    ensures room { IfOk result (λ item. IfSome item (HasRoom repetition.now.name.now (vars_of vars.now))) }
+    ensures room { IfOk result (λ item. IfSome item (HasVariableRoom repetition.now.name.now (vars_of vars.now))) }
     ensures err { IfErr result (HasNoRoomIfMemory repetition.now.name.now (vars_of vars.now) (get_or repetition.now.items index [])) }
 {
     let beside = left_by_vars(MOST_RENDERED_BYTES, vars)?;

@@ -1,14 +1,17 @@
 -- What a call of `run` made of the objects of the outside.
-use Rattle.std.specs.Prelude.{◌≡◌, ℕ, List, Option}
+use Rattle.std.specs.Prelude.{◌≡◌, ℕ, List, Option, map}
 use Rattle.std.specs.Borrow.{Bor}
 use Rattle.sp_base.specs.Texts.{Text}
-use Rattle.content_json.specs.FromTokens.{texts_in}
 use Rattle.sp_outside.specs.Files.{Files}
 use Rattle.sp_outside.specs.Causes.{Rose}
 use Rattle.serve_loop.specs.Served.{DiskReport, WorldReport, disk_over, world_over}
 use Rattle.outside_world.specs.declared.world.WorldEntry.{WorldEntry}
 use Rattle.sling_dispatch.specs.declared.outside.Outside.{Outside}
 use Rattle.sling_dispatch.specs.Forms.{IsServe}
+
+-- the texts of words that are lent
+abbrev pub texts_in : List (Bor Text) → List Text
+texts_in words = map (λ word. word.now) words
 
 -- an object of the outside over one call: what it told before and after, and its count of faults before and after
 pub record StreamReport (T : Type 0) : Type 0 where

@@ -1,6 +1,5 @@
 //! The run: what the words say is done, from the source, the inputs, the disk and the world to the sink.
 ghost use Rattle.std.specs.Prelude.{◌≡◌, ◌+◌};
-ghost use Rattle.content_json.specs.FromTokens.{texts_in};
 ghost use Rattle.replay_text.specs.Scenario.{longest_scenario};
 ghost use Rattle.docroot_changes.specs.DocrootCalls.{MakesDocrootCalls};
 ghost use Rattle.sling_dispatch.specs.Streams.{HasTaken};
@@ -8,7 +7,7 @@ ghost use Rattle.sling_dispatch.specs.Endings.{Means, IsReplay};
 ghost use Rattle.sling_dispatch.specs.Forms.{IsServe};
 ghost use Rattle.sling_dispatch.specs.RunEndings.{EndsAsIsDue, MeansWhatIsDue};
 ghost use Rattle.sling_dispatch.specs.InnerServing.{IsScenarioOr, IsSummaryOr, ReplaysSource};
-ghost use Rattle.sling_dispatch.specs.Reports.{IsUntouched, report_over, IsApartUnlessServe};
+ghost use Rattle.sling_dispatch.specs.Reports.{IsUntouched, report_over, IsApartUnlessServe, texts_in};
 
 use crate::ending::Ending;
 use crate::form::{Form, form_of};

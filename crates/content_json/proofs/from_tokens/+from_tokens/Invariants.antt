@@ -3,7 +3,7 @@ use Rattle.json.specs.Json.{members, value}
 use Rattle.serde_json.specs.Data.{Members}
 use Rattle.serde_json.specs.Read.{of_members, converted}
 use Rattle.content_json.specs.Parts.{HoldsMembers}
-use Rattle.content_json.specs.Tokens.{members_in}
+use Rattle.content_json.specs.Tokens.{members_of_tokens}
 use Rattle.content_json.proofs.from_tokens.+from_tokens.Given as goal
 
 -- the levels that are left fall with each kid
@@ -23,7 +23,7 @@ decreases-read_kid l = 4 * l.levels
 abbrev pub invariant-read_members-members : goal.invariant-read_members-members
 invariant-read_members-members l =
     (n : ℕ) × (found : Members) × (length l.reader ≤ n)
-    × (members_in (l.levels + 62) l.initial.reader ≡ converted (λ js. of_members js found) (members (value (l.levels + 62)) n l.reader))
+    × (members_of_tokens (l.levels + 62) l.initial.reader ≡ converted (λ js. of_members js found) (members (value (l.levels + 62)) n l.reader))
     × (length l.reader ≤ length l.initial.reader) × HoldsMembers l.levels l.path l.parent found
 
 abbrev pub decreases-read_members-members : goal.decreases-read_members-members

@@ -4,7 +4,7 @@ use Rattle.json.specs.Reads.{token_of}
 use Rattle.json.proofs.Grammar.{read_key-shorter}
 use Rattle.serde_json.specs.Data.{null, boolean, string, array, object, item, no_items, no_members, put}
 use Rattle.content_json.proofs.ReadLemmas.{item_read, item_refused, items_over, member_read, member_refused, key_refused, members_over, none_before}
-use Rattle.content_json.specs.Tokens.{value_in, items_in, items_within, members_in, Passes}
+use Rattle.content_json.specs.Tokens.{value_of_tokens, items_of_tokens, items_within, members_of_tokens, IsPassedOver}
 use Rattle.content_json.proofs.PassLemmas.{one_value, no_value, none_left, array_in, object_in, no_array, no_object, passes_under, passes_number, named, keyed, twice}
 use Rattle.content_json.proofs.pass.+pass.Goals as goal
 
@@ -26,8 +26,8 @@ pass_items-returns-then-not-pass_value-clause-passes t c most enough =
     let going : (after_end_array l.reader ≡ None) × (c.take_end_array.new.self ≡ l.reader) = grind arith in
     let first : l.reader ≡ token_of c.in-Some.first ∷ c.next.new.self = grind arith in
     let failed : c.pass_value.result ≡ false = grind arith in
-    let none : value_in c.args.depth (token_of c.in-Some.first ∷ c.next.new.self) ≡ None = subst (λ b. Passes b (value_in c.args.depth (token_of c.in-Some.first ∷ c.next.new.self)) c.pass_value.new.reader) failed c.pass_value.ensures.passes in
-    so_far.3 ∙ ap (parse_map so_far.1) (item_refused (value c.args.depth) so_far.0 l.reader going.0 (ap (value_in c.args.depth) first ∙ none))
+    let none : value_of_tokens c.args.depth (token_of c.in-Some.first ∷ c.next.new.self) ≡ None = subst (λ b. IsPassedOver b (value_of_tokens c.args.depth (token_of c.in-Some.first ∷ c.next.new.self)) c.pass_value.new.reader) failed c.pass_value.ensures.passes in
+    so_far.3 ∙ ap (parse_map so_far.1) (item_refused (value c.args.depth) so_far.0 l.reader going.0 (ap (value_of_tokens c.args.depth) first ∙ none))
 
 pub pass_items-items-preserved : goal.pass_items-items-preserved
 pass_items-items-preserved t c =
@@ -37,7 +37,7 @@ pass_items-items-preserved t c =
     let going : (after_end_array l.reader ≡ None) × (c.take_end_array.new.self ≡ l.reader) = grind arith in
     let first : l.reader ≡ token_of c.in-Some.first ∷ c.next.new.self = grind arith in
     let done : c.pass_value.result ≡ true = grind arith in
-    let one = subst (λ b. Passes b (value_in c.args.depth (token_of c.in-Some.first ∷ c.next.new.self)) r) done c.pass_value.ensures.passes in
+    let one = subst (λ b. IsPassedOver b (value_of_tokens c.args.depth (token_of c.in-Some.first ∷ c.next.new.self)) r) done c.pass_value.ensures.passes in
     let fewer : length r < length l.reader = omega (arith, ap length first, c.pass_value.ensures.shorter) in (
       λ most enough.
           let so_far = l.invariant.0 most enough in
@@ -45,7 +45,7 @@ pass_items-items-preserved t c =
             n - 1,
             (λ ds. so_far.1 (item one.0 ds)),
             omega (arith, so_far.2, fewer),
-            so_far.3 ∙ ap (parse_map so_far.1) (item_read p n l.reader r one.0 (omega (arith, so_far.2, fewer)) going.0 (ap (value_in c.args.depth) first ∙ one.1)) ∙ twice so_far.1 (item one.0) (items_within (n - 1) c.args.depth r),
+            so_far.3 ∙ ap (parse_map so_far.1) (item_read p n l.reader r one.0 (omega (arith, so_far.2, fewer)) going.0 (ap (value_of_tokens c.args.depth) first ∙ one.1)) ∙ twice so_far.1 (item one.0) (items_within (n - 1) c.args.depth r),
           ),
       omega (arith, l.invariant.1, fewer),
     )
@@ -87,8 +87,8 @@ pass_members-returns-then-not-pass_value-clause-passes t c =
     let key : read_key l.reader ≡ Some (Some some.0, s) = keyed l.reader s c.in-Ok.key some.0 some.1 (grind arith) in
     let first : s ≡ token_of c.in-Some.first ∷ c.next.new.self = grind arith in
     let failed : c.pass_value.result ≡ false = grind arith in
-    let none : value_in c.args.depth (token_of c.in-Some.first ∷ c.next.new.self) ≡ None = subst (λ b. Passes b (value_in c.args.depth (token_of c.in-Some.first ∷ c.next.new.self)) c.pass_value.new.reader) failed c.pass_value.ensures.passes in
-    l.invariant.3 ∙ member_refused (value c.args.depth) l.invariant.1 l.invariant.0 some.0 l.reader s key (ap (value_in c.args.depth) first ∙ none)
+    let none : value_of_tokens c.args.depth (token_of c.in-Some.first ∷ c.next.new.self) ≡ None = subst (λ b. IsPassedOver b (value_of_tokens c.args.depth (token_of c.in-Some.first ∷ c.next.new.self)) c.pass_value.new.reader) failed c.pass_value.ensures.passes in
+    l.invariant.3 ∙ member_refused (value c.args.depth) l.invariant.1 l.invariant.0 some.0 l.reader s key (ap (value_of_tokens c.args.depth) first ∙ none)
 
 pub pass_members-members-preserved : goal.pass_members-members-preserved
 pass_members-members-preserved t c =
@@ -100,61 +100,61 @@ pass_members-members-preserved t c =
     let key : read_key l.reader ≡ Some (Some some.0, s) = keyed l.reader s c.in-Ok.key some.0 some.1 (grind arith) in
     let first : s ≡ token_of c.in-Some.first ∷ c.next.new.self = grind arith in
     let done : c.pass_value.result ≡ true = grind arith in
-    let one = subst (λ b. Passes b (value_in c.args.depth (token_of c.in-Some.first ∷ c.next.new.self)) r) done c.pass_value.ensures.passes in
+    let one = subst (λ b. IsPassedOver b (value_of_tokens c.args.depth (token_of c.in-Some.first ∷ c.next.new.self)) r) done c.pass_value.ensures.passes in
     let less = read_key-shorter l.reader (Some some.0) s key in
     let fewer : length r < length l.reader = omega (arith, ap length first, c.pass_value.ensures.shorter, less) in (
       n - 1,
       put some.0 one.0 l.invariant.1,
       omega (arith, l.invariant.2, fewer),
-      l.invariant.3 ∙ member_read (value c.args.depth) l.invariant.1 n some.0 l.reader s r one.0 (omega (arith, l.invariant.2, fewer)) key (ap (value_in c.args.depth) first ∙ one.1),
+      l.invariant.3 ∙ member_read (value c.args.depth) l.invariant.1 n some.0 l.reader s r one.0 (omega (arith, l.invariant.2, fewer)) key (ap (value_of_tokens c.args.depth) first ∙ one.1),
       omega (arith, l.invariant.4, fewer),
     )
 
 pub pass_value-returns-in-String-clause-passes : goal.pass_value-returns-in-String-clause-passes
-pass_value-returns-in-String-clause-passes t c = (string c.in-String.field-0.now, ap (λ k. value_in c.args.depth (token_of k ∷ c.args.reader.now)) c.in-String.is ∙ one_value c.args.depth _ c.args.reader.now _ refl)
+pass_value-returns-in-String-clause-passes t c = (string c.in-String.field-0.now, ap (λ k. value_of_tokens c.args.depth (token_of k ∷ c.args.reader.now)) c.in-String.is ∙ one_value c.args.depth _ c.args.reader.now _ refl)
 
 pub pass_value-returns-in-Bool-clause-passes : goal.pass_value-returns-in-Bool-clause-passes
-pass_value-returns-in-Bool-clause-passes t c = (boolean c.in-Bool.field-0, ap (λ k. value_in c.args.depth (token_of k ∷ c.args.reader.now)) c.in-Bool.is ∙ one_value c.args.depth _ c.args.reader.now _ refl)
+pass_value-returns-in-Bool-clause-passes t c = (boolean c.in-Bool.field-0, ap (λ k. value_of_tokens c.args.depth (token_of k ∷ c.args.reader.now)) c.in-Bool.is ∙ one_value c.args.depth _ c.args.reader.now _ refl)
 
 pub pass_value-returns-in-Null-clause-passes : goal.pass_value-returns-in-Null-clause-passes
-pass_value-returns-in-Null-clause-passes t c = (null, ap (λ k. value_in c.args.depth (token_of k ∷ c.args.reader.now)) c.in-Null.is ∙ one_value c.args.depth _ c.args.reader.now _ refl)
+pass_value-returns-in-Null-clause-passes t c = (null, ap (λ k. value_of_tokens c.args.depth (token_of k ∷ c.args.reader.now)) c.in-Null.is ∙ one_value c.args.depth _ c.args.reader.now _ refl)
 
 pub pass_value-returns-in-Number-clause-passes : goal.pass_value-returns-in-Number-clause-passes
 pass_value-returns-in-Number-clause-passes t c =
-    subst (λ o. Passes c.has_number.result o c.args.reader.now) (sym (ap (λ k. value_in c.args.depth (token_of k ∷ c.args.reader.now)) c.in-Number.is)) (passes_number c.args.depth c.in-Number.text.now c.args.reader.now c.has_number.result c.has_number.ensures)
+    subst (λ o. IsPassedOver c.has_number.result o c.args.reader.now) (sym (ap (λ k. value_of_tokens c.args.depth (token_of k ∷ c.args.reader.now)) c.in-Number.is)) (passes_number c.args.depth c.in-Number.text.now c.args.reader.now c.has_number.result c.has_number.ensures)
 
 pub pass_value-returns-then-depth-gt0-clause-passes : goal.pass_value-returns-then-depth-gt0-clause-passes
 pass_value-returns-then-depth-gt0-clause-passes t c =
     let ts = c.args.reader.now in
-    subst (λ o. Passes c.pass_items.result o c.pass_items.new.reader) (sym (ap (λ k. value_in c.args.depth (token_of k ∷ ts)) c.in-BeginArray.is ∙ array_in c.args.depth ts (omega (arith, c.if-depth-gt0.true))))
-    (passes_under array c.pass_items.result (items_in (c.args.depth - 1) ts) c.pass_items.new.reader (c.pass_items.ensures.passes (length ts) (omega arith)))
+    subst (λ o. IsPassedOver c.pass_items.result o c.pass_items.new.reader) (sym (ap (λ k. value_of_tokens c.args.depth (token_of k ∷ ts)) c.in-BeginArray.is ∙ array_in c.args.depth ts (omega (arith, c.if-depth-gt0.true))))
+    (passes_under array c.pass_items.result (items_of_tokens (c.args.depth - 1) ts) c.pass_items.new.reader (c.pass_items.ensures.passes (length ts) (omega arith)))
 
 pub pass_value-returns-else-depth-gt0-clause-passes : goal.pass_value-returns-else-depth-gt0-clause-passes
 pass_value-returns-else-depth-gt0-clause-passes t c =
     let ts = c.args.reader.now in
     let none : c.args.depth ≡ 0 = omega (arith, c.if-depth-gt0.false) in
-    subst (λ b. Passes b (value_in c.args.depth (token_of c.args.first ∷ ts)) ts) (sym (ap (nat_lt 0) none)) (ap (λ k. value_in c.args.depth (token_of k ∷ ts)) c.in-BeginArray.is ∙ no_array c.args.depth ts none)
+    subst (λ b. IsPassedOver b (value_of_tokens c.args.depth (token_of c.args.first ∷ ts)) ts) (sym (ap (nat_lt 0) none)) (ap (λ k. value_of_tokens c.args.depth (token_of k ∷ ts)) c.in-BeginArray.is ∙ no_array c.args.depth ts none)
 
 pub pass_value-returns-then-depth-gt0-2-clause-passes : goal.pass_value-returns-then-depth-gt0-2-clause-passes
 pass_value-returns-then-depth-gt0-2-clause-passes t c =
     let ts = c.args.reader.now in
-    subst (λ o. Passes c.pass_members.result o c.pass_members.new.reader) (sym (ap (λ k. value_in c.args.depth (token_of k ∷ ts)) c.in-BeginObject.is ∙ object_in c.args.depth ts (omega (arith, c.if-depth-gt0-2.true))))
-    (passes_under object c.pass_members.result (members_in (c.args.depth - 1) ts) c.pass_members.new.reader c.pass_members.ensures.passes)
+    subst (λ o. IsPassedOver c.pass_members.result o c.pass_members.new.reader) (sym (ap (λ k. value_of_tokens c.args.depth (token_of k ∷ ts)) c.in-BeginObject.is ∙ object_in c.args.depth ts (omega (arith, c.if-depth-gt0-2.true))))
+    (passes_under object c.pass_members.result (members_of_tokens (c.args.depth - 1) ts) c.pass_members.new.reader c.pass_members.ensures.passes)
 
 pub pass_value-returns-else-depth-gt0-2-clause-passes : goal.pass_value-returns-else-depth-gt0-2-clause-passes
 pass_value-returns-else-depth-gt0-2-clause-passes t c =
     let ts = c.args.reader.now in
     let none : c.args.depth ≡ 0 = omega (arith, c.if-depth-gt0-2.false) in
-    subst (λ b. Passes b (value_in c.args.depth (token_of c.args.first ∷ ts)) ts) (sym (ap (nat_lt 0) none)) (ap (λ k. value_in c.args.depth (token_of k ∷ ts)) c.in-BeginObject.is ∙ no_object c.args.depth ts none)
+    subst (λ b. IsPassedOver b (value_of_tokens c.args.depth (token_of c.args.first ∷ ts)) ts) (sym (ap (nat_lt 0) none)) (ap (λ k. value_of_tokens c.args.depth (token_of k ∷ ts)) c.in-BeginObject.is ∙ no_object c.args.depth ts none)
 
 pub pass_value-returns-in-EndObject-clause-passes : goal.pass_value-returns-in-EndObject-clause-passes
-pass_value-returns-in-EndObject-clause-passes t c = ap (λ k. value_in c.args.depth (token_of k ∷ c.args.reader.now)) c.in-EndObject.is ∙ no_value c.args.depth _ c.args.reader.now refl
+pass_value-returns-in-EndObject-clause-passes t c = ap (λ k. value_of_tokens c.args.depth (token_of k ∷ c.args.reader.now)) c.in-EndObject.is ∙ no_value c.args.depth _ c.args.reader.now refl
 
 pub pass_value-returns-in-EndArray-clause-passes : goal.pass_value-returns-in-EndArray-clause-passes
-pass_value-returns-in-EndArray-clause-passes t c = ap (λ k. value_in c.args.depth (token_of k ∷ c.args.reader.now)) c.in-EndArray.is ∙ no_value c.args.depth _ c.args.reader.now refl
+pass_value-returns-in-EndArray-clause-passes t c = ap (λ k. value_of_tokens c.args.depth (token_of k ∷ c.args.reader.now)) c.in-EndArray.is ∙ no_value c.args.depth _ c.args.reader.now refl
 
 pub pass_value-returns-in-Key-clause-passes : goal.pass_value-returns-in-Key-clause-passes
-pass_value-returns-in-Key-clause-passes t c = ap (λ k. value_in c.args.depth (token_of k ∷ c.args.reader.now)) c.in-Key.is ∙ no_value c.args.depth _ c.args.reader.now refl
+pass_value-returns-in-Key-clause-passes t c = ap (λ k. value_of_tokens c.args.depth (token_of k ∷ c.args.reader.now)) c.in-Key.is ∙ no_value c.args.depth _ c.args.reader.now refl
 
 pub pass_value-returns-in-Bad-clause-passes : goal.pass_value-returns-in-Bad-clause-passes
-pass_value-returns-in-Bad-clause-passes t c = ap (λ k. value_in c.args.depth (token_of k ∷ c.args.reader.now)) c.in-Bad.is ∙ no_value c.args.depth _ c.args.reader.now refl
+pass_value-returns-in-Bad-clause-passes t c = ap (λ k. value_of_tokens c.args.depth (token_of k ∷ c.args.reader.now)) c.in-Bad.is ∙ no_value c.args.depth _ c.args.reader.now refl

@@ -2,7 +2,7 @@ use Rattle.std.proofs.Common.{◌≡◌, ℕ, ◌+◌, ◌*◌, ◌≤◌, lengt
 use Rattle.json.specs.Json.{members, value, parse_map}
 use Rattle.serde_json.specs.Data.{Items, Members}
 use Rattle.serde_json.specs.Read.{of_members, converted}
-use Rattle.content_json.specs.Tokens.{items_within, members_in}
+use Rattle.content_json.specs.Tokens.{items_within, members_of_tokens}
 use Rattle.content_json.proofs.pass.+pass.Given as goal
 
 -- the depth that is left falls with each array and each object
@@ -29,7 +29,7 @@ decreases-pass_items-items l = length l.reader
 abbrev pub invariant-pass_members-members : goal.invariant-pass_members-members
 invariant-pass_members-members l =
     (n : ℕ) × (found : Members) × (length l.reader ≤ n)
-    × (members_in l.depth l.initial.reader ≡ converted (λ js. of_members js found) (members (value l.depth) n l.reader))
+    × (members_of_tokens l.depth l.initial.reader ≡ converted (λ js. of_members js found) (members (value l.depth) n l.reader))
     × (length l.reader ≤ length l.initial.reader)
 
 abbrev pub decreases-pass_members-members : goal.decreases-pass_members-members

@@ -4,7 +4,7 @@ use Rattle.json.specs.Json.{parse_map, after_end_array, value}
 use Rattle.json.specs.Reads.{token_of}
 use Rattle.serde_json.specs.Data.{string}
 use Rattle.content_json.specs.Parts.{items_from}
-use Rattle.content_json.specs.Tokens.{value_in, items_in, items_within, list_items, items_then, Mixes, Adds}
+use Rattle.content_json.specs.Tokens.{value_of_tokens, items_of_tokens, items_within, list_items, items_then, Mixes, AddsToken}
 use Rattle.content_json.proofs.ReadLemmas.{item_read, item_refused, items_over, none_before}
 use Rattle.content_json.proofs.PassLemmas.{none_left, one_value}
 use Rattle.content_json.proofs.ListLemmas.{one_more_item, unfit_made, list_made}
@@ -12,7 +12,7 @@ use Rattle.content_json.proofs.tokens.list.Goals as goal
 
 pub items-init : goal.items-init
 items-init c =
-    let all = items_in c.args.depth c.args.reader.now in
+    let all = items_of_tokens c.args.depth c.args.reader.now in
     (length c.args.reader.now, omega arith, (refl, refl, refl), none_before all ∙ ap (λ ts. parse_map (items_then (items_from string ts)) all) (sym c.new.ensures), omega arith)
 
 pub returns-in_default-clause-read : goal.returns-in_default-clause-read
@@ -32,8 +32,8 @@ items-preserved c =
     let t = token_of c.in-Some.item in
     let going : (after_end_array l.reader ≡ None) × (c.take_end_array.new.self ≡ l.reader) = grind arith in
     let first : l.reader ≡ t ∷ r = grind arith in
-    let adds = subst (λ o. MatchOption o (Mixes l.list t) (Adds l.list t)) c.in-Some-2.is c.in_ok-longer.ensures in
-    let turn = item_read (value c.args.depth) n l.reader r adds.0 (omega (arith, inv.1, ap length first)) going.0 (ap (value_in c.args.depth) first ∙ one_value c.args.depth t r adds.0 adds.1) in (
+    let adds = subst (λ o. MatchOption o (Mixes l.list t) (AddsToken l.list t)) c.in-Some-2.is c.in_ok-longer.ensures in
+    let turn = item_read (value c.args.depth) n l.reader r adds.0 (omega (arith, inv.1, ap length first)) going.0 (ap (value_of_tokens c.args.depth) first ∙ one_value c.args.depth t r adds.0 adds.1) in (
       n - 1,
       omega (arith, inv.1, ap length first),
       adds.2.0,
@@ -51,7 +51,7 @@ returns-in-None-clause-read c =
     let t = token_of c.in-Some.item in
     let going : (after_end_array l.reader ≡ None) × (c.take_end_array.new.self ≡ l.reader) = grind arith in
     let first : l.reader ≡ t ∷ r = grind arith in
-    let mixes = subst (λ o. MatchOption o (Mixes l.list t) (Adds l.list t)) c.in-None.is c.in_ok-longer.ensures in
+    let mixes = subst (λ o. MatchOption o (Mixes l.list t) (AddsToken l.list t)) c.in-None.is c.in_ok-longer.ensures in
     unfit_made c.args.depth n c.args.reader.now r c.unfit_list.new.reader l.list t c.unfit_list.result (inv.3 ∙ ap (λ ts. parse_map (items_then (list_items l.list)) (items_within n c.args.depth ts)) first) mixes
     (c.unfit_list.ensures.read n (omega (arith, inv.1, ap length first)) (ap after_end_array (sym first) ∙ going.0))
 

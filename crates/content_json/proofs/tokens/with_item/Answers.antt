@@ -4,7 +4,7 @@ use Rattle.std.proofs.lemmas.Result.{IfOk-weaker}
 use Rattle.json.specs.Reads.{token_of}
 use Rattle.serde_json.specs.Data.{boolean, number, string}
 use Rattle.content_json.specs.Parts.{data_of_long}
-use Rattle.content_json.specs.Tokens.{token_data, MixesWith, Extends, Mixes}
+use Rattle.content_json.specs.Tokens.{token_data, MixesWith, HasItemMore, Mixes}
 use Rattle.content_json.proofs.ListLemmas.{item_made, none_mixes, null_token_mixes, array_token_mixes, object_token_mixes, number_token_mixes}
 use Rattle.content_json.proofs.tokens.with_item.Goals as goal
 
@@ -18,7 +18,7 @@ returns-in-Some c =
     let fits : SFits w64 n = search rules in
     IfOk-weaker c.with_long.result _ _
     (λ found made. item_made c.args.list (token_of c.args.item) (data_of_long n) found (ap (λ t. token_data (token_of t)) c.in-Number.is ∙ ap (option_map number) c.in-Some.ensures.0) made)
-    (subst (λ m. IfOk c.with_long.result (λ found. MatchOption found (MixesWith c.args.list (data_of_long m)) (Extends c.args.list (data_of_long m)))) (to_z-of_z fits) c.with_long.ensures)
+    (subst (λ m. IfOk c.with_long.result (λ found. MatchOption found (MixesWith c.args.list (data_of_long m)) (HasItemMore c.args.list (data_of_long m)))) (to_z-of_z fits) c.with_long.ensures)
 
 pub returns-in-None : goal.returns-in-None
 returns-in-None c = subst (Mixes c.args.list) (sym (ap token_of c.in-Number.is)) (number_token_mixes c.args.list c.in-Number.text.now c.requires c.in-None.ensures)

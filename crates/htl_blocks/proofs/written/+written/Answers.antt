@@ -10,7 +10,7 @@ use Rattle.htl_blocks.specs.Parts.{Round}
 use Rattle.htl_blocks.specs.Sheets.{Stops}
 use Rattle.htl_blocks.specs.Written.{block_parts, blocks_parts, body_parts, round_parts}
 use Rattle.htl_blocks.proofs.WrittenLemmas.{each_stopped, inner_place, item_is, place_stays, round_item, round_written, same_scope}
-use Rattle.htl_blocks.specs.VariableRoom.{HasRoom}
+use Rattle.htl_blocks.specs.VariableRoom.{HasVariableRoom}
 use Rattle.htl_blocks.proofs.RoomLemmas.{item_stops}
 use Rattle.htl_blocks.proofs.ElementSteps.{repeated_some, tags_written, tags_stop, between_stops, block_element}
 use Rattle.htl_blocks.proofs.written.+written.Goals as goal
@@ -82,6 +82,6 @@ round-returns t c =
     let there = sym c.in-Some.is ∙ c.in_ok-item.ensures.ok in
     let same = item_is c.args.repetition.now.items c.args.index c.in-Some.item there in
     let is = c.text.ensures ∙ same in
-    let fits = subst (HasRoom c.args.repetition.now.name.now (vars_of c.args.place.now.vars.now)) same (rw c.in-Some.is at c.in_ok-item.ensures.room) in
+    let fits = subst (HasVariableRoom c.args.repetition.now.name.now (vars_of c.args.place.now.vars.now)) same (rw c.in-Some.is at c.in_ok-item.ensures.room) in
     round_written c.inside.result c.args.sheet.now c.begin_round.new.self c.inside.new.sheet (λ (s : Bindings). body_parts c.args.repetition.now.body.now (λ (s : Bindings). blocks_parts s c.args.content.now) s) (vars_of c.args.place.now.vars.now) _ c.args.repetition.now.name.now (get_or c.args.repetition.now.items c.args.index [])
     c.in_ok-begin_round.ensures (with_one c.args.repetition.now.name c.text.result c.args.place.now.vars ∙ ap (λ (x : List ℕ). (c.args.repetition.now.name.now, x) ∷ (vars_of c.args.place.now.vars.now)) is) fits c.inside.ensures

@@ -1,7 +1,6 @@
 -- The media type of each answer may be kept and sent.
 use Rattle.std.proofs.Common.{◌≡◌, ℕ, Bool, true, false, cond, List, Option, Some, None, Ok, Err, IsTrue, length, nat_le, refl}
 use Rattle.sp_base.specs.MediaTypes.{is_kind}
-use Rattle.sp_base.specs.Paths.{text_of}
 use Rattle.sp_base.specs.Texts.{Segments}
 use Rattle.sp_base.specs.declared.answer.Answer.{Answer}
 use Rattle.sp_base.specs.declared.answer.Ask.{Ask}

@@ -1,5 +1,5 @@
 -- What a script writes, from the relations that tell which script it is and what its text spells.
-use Rattle.std.proofs.Common.{◌≡◌, ℕ, Bool, true, false, cond, List, [], ◌∷◌, Option, Some, None, IfSome, IfNone, length, nat_le, append-nil, refl, sym, ◌∙◌, ap, arith}
+use Rattle.std.proofs.Common.{◌≡◌, ℕ, Bool, true, false, cond, List, [], ◌∷◌, Option, Some, None, Result, Ok, Err, IfSome, IfNone, length, nat_le, append-nil, refl, sym, ◌∙◌, ap, arith}
 use Rattle.sp_base.specs.Limits.{most_rendered_bytes}
 use Rattle.sp_base.specs.declared.answer.Answer.{Answer}
 use Rattle.sp_base.specs.declared.answer.Mark.{Mark}
@@ -9,9 +9,15 @@ use Rattle.type_chain.specs.declared.type_name.TypeName.{TypeName}
 use Rattle.script_rank.specs.Ranking.{HasNoCandidate, IsFirstScript}
 use Rattle.htl_expr.specs.Bindings.{Bindings}
 use Rattle.htl_text.specs.declared.piece.TemplatePiece.{TemplatePiece}
-use Rattle.htl_text.specs.Template.{template_output}
+use Rattle.htl_text.specs.declared.fault.TextFault.{TextFault}
+use Rattle.htl_text.specs.Template.{template_of, template_output, template_pieces}
+use Rattle.htl_blocks.specs.declared.block.Block.{Block}
 use Rattle.htl_blocks.specs.declared.block.Block.TheVariants as block
+use Rattle.htl_blocks.specs.Laws.{HasNoBlock}
+use Rattle.htl_blocks.specs.Markup.{parts as markup_parts}
 use Rattle.htl_blocks.specs.Parts.{Part, text_parts}
+use Rattle.htl_blocks.specs.Reading.{most_nested_blocks}
+use Rattle.htl_blocks.specs.Spelling.{SpellsBlocks, no_element, no_text, template}
 use Rattle.htl_blocks.specs.Written.{block_parts, blocks_parts}
 use Rattle.error_answers.specs.Errors.{error_answer}
 use Rattle.publisher.specs.Errors.{answer_with_body}
@@ -44,10 +50,26 @@ body_is answer mark page is ok =
     ap (λ (a : Answer). a.body) is ∙ page_body (is_over page) mark page.text (sym (ap (λ (a : Answer). a.status) is) ∙ ok)
 
 -- the page of one template is what it writes
-pub template_page : (tree : Content) (place : Place) (pieces : List TemplatePiece) → ((scope : Bindings) (ps : List TemplatePiece) → block_parts (block.Text ps) scope ≡ text_parts (template_output scope ps))
+template_page : (tree : Content) (place : Place) (pieces : List TemplatePiece) → ((scope : Bindings) (ps : List TemplatePiece) → block_parts (block.Text ps) scope ≡ text_parts (template_output scope ps))
     → (page_of tree place (block.Text pieces ∷ [])).text ≡ template_output (bindings_at place []) pieces
 template_page tree place pieces writes =
     let parts : blocks_parts (bindings_at place []) (block.Text pieces ∷ []) ≡ text_parts (template_output (bindings_at place []) pieces) =
     append-nil (block_parts (block.Text pieces) (bindings_at place [])) ∙ writes (bindings_at place []) pieces in
     ap (λ (ps : List Part). (parts_page (inclusion tree most_levels place) ps).text) parts
     ∙ ap (λ (p : Page). p.text) (text_is (inclusion tree most_levels place) (template_output (bindings_at place []) pieces))
+
+pieces_in : Result (List TemplatePiece) TextFault → List TemplatePiece
+pieces_in (Ok pieces) = pieces
+pieces_in (Err fault) = []
+
+-- the page of an empty script is empty
+empty_page : (tree : Content) (place : Place) (pieces : List TemplatePiece) → template_of [] ≡ Ok pieces → (page_of tree place []).text ≡ template_output (bindings_at place []) pieces
+unfolding template_pieces parts_page pieces_in
+empty_page tree place pieces is = ap (template_output (bindings_at place [])) (ap pieces_in is)
+
+-- what is the page of the blocks that a text spells is what its template writes, where no block tag stands in the text
+pub plain_page : (tree : Content) (place : Place) (text : List ℕ) (pieces : List TemplatePiece) (body : List ℕ) → template_of text ≡ Ok pieces → HasNoBlock (markup_parts text)
+    → ((scope : Bindings) (ps : List TemplatePiece) → block_parts (block.Text ps) scope ≡ text_parts (template_output scope ps))
+    → ((blocks : List Block) → SpellsBlocks most_nested_blocks text blocks → body ≡ (page_of tree place blocks).text) → body ≡ template_output (bindings_at place []) pieces
+plain_page tree place [] pieces body is plain writes page = page [] (no_element plain no_text) ∙ empty_page tree place pieces is
+plain_page tree place (c ∷ text) pieces body is plain writes page = page (block.Text pieces ∷ []) (no_element plain (template is)) ∙ template_page tree place pieces writes

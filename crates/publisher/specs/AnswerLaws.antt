@@ -1,9 +1,8 @@
 -- What the laws of the rendering say of an answer, and under which condition.
-use Rattle.std.specs.Prelude.{◌≡◌, ◌≢◌, ◌≤◌, ◌<◌, ◌||◌, ℕ, true, List, [], length}
+use Rattle.std.specs.Prelude.{◌≡◌, ◌≢◌, ◌≤◌, ◌||◌, ℕ, true, List, [], length}
 use Rattle.sp_base.specs.Limits.{most_rendered_bytes}
 use Rattle.sp_base.specs.Paths.{text_of}
 use Rattle.sp_base.specs.Texts.{Text}
-use Rattle.sp_base.specs.declared.answer.Answer.{Answer}
 use Rattle.sp_base.specs.declared.answer.Ask.{Ask}
 use Rattle.resource_tree.specs.Content.{Content}
 use Rattle.resource_tree.specs.Seen.{Resource}
@@ -54,6 +53,6 @@ WritesPageIfSpelled tree ask res text blocks = (reads : ReadsByScript tree ask r
 
 -- a page that a script without a block tag gives is what the pieces write that its text spells
 abbrev pub IsWrittenIfPlain : Content → Ask → Resource → Text → List TemplatePiece → Type 0
-IsWrittenIfPlain tree ask res text pieces = (reads : ReadsByScript tree ask res text) → 0 < length text → HasNoBlock (markup_parts text)
+IsWrittenIfPlain tree ask res text pieces = (reads : ReadsByScript tree ask res text) → HasNoBlock (markup_parts text)
     → SpellsTemplate text pieces [] → (answer_to_request tree ask).status ≡ 200
     → (answer_to_request tree ask).body ≡ template_output (bindings_at (place_for reads.script res) []) pieces

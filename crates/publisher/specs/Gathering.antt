@@ -32,11 +32,11 @@ parts_in s blocks = blocks_parts (bindings_in s) blocks
 
 -- what stands in a setting for a part that puts something in
 abbrev pub inclusion_in : Setting → Part → Page
-inclusion_in s = inclusion s.tree.now s.levels (place_in s)
+inclusion_in s = inclusion s.content.now s.levels (place_in s)
 
 -- what the script of a setting writes there, with what it puts in
 abbrev pub script_page : Setting → Page
-script_page s = written_page (inclusion s.tree.now s.levels) (written_by_script s.tree.now (place_in s) (vars_in s))
+script_page s = written_page (inclusion s.content.now s.levels) (written_by_script s.content.now (place_in s) (vars_in s))
 
 -- a limit is passed, what waits counted too
 abbrev pub IsPassed : Waiting → Page → Type 0

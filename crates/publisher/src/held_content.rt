@@ -6,6 +6,7 @@ ghost use Rattle.publisher.specs.Rendering.{seen_resources, mapped_answer, mappi
 use crate::errors::redirect;
 use crate::first_scripts::{FirstScripts, first_script};
 use crate::kept_index::{Indexes, mapped};
+use crate::lent_content::LentContent;
 use crate::methods::{is_post, is_read};
 use crate::parts::parts_of;
 use crate::representations::resource_answer;
@@ -131,7 +132,8 @@ impl HeldContent {
                     res.props(),
                     parts,
                 )?;
-                resource_answer(alloc, &self.tree, &mut self.templates, parts, &res, script)
+                let content = LentContent::of(&self.tree, &self.indexes);
+                resource_answer(alloc, &content, &mut self.templates, parts, &res, script)
             }
             None => error_answer(alloc, 404),
         }

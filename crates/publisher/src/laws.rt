@@ -17,9 +17,7 @@ ghost use Rattle.publisher.specs.Rendering.{content_after_request, is_read, answ
 
 use form_input::forms_are_refused_for_causes;
 use get_servlet::{over_is_the_greatest_depth, streams_have_media_types};
-use htl_blocks::{
-    a_text_without_blocks_is_a_template, a_text_writes_its_template, the_blocks_are_the_text,
-};
+use htl_blocks::{a_text_writes_its_template, the_blocks_are_the_text};
 use htl_text::the_pieces_are_the_text;
 use post_apply::{operations_keep_content_good, refusals_have_causes};
 use post_plan::operations_name_paths;
@@ -105,10 +103,8 @@ pub fn a_script_writes_its_page()
 pub fn a_script_without_blocks_writes_its_pieces()
     ensures { (tree : Content) (ask : Ask) (res : Resource) (text : Text) (pieces : List TemplatePiece) → IsGood tree → IsWrittenIfPlain tree ask res text pieces }
 {
-    an_answer_is_one_of_the_cases();
+    a_script_writes_its_page();
     the_pieces_are_the_text();
-    the_blocks_are_the_text();
-    a_text_without_blocks_is_a_template();
     a_text_writes_its_template();
 }
 

@@ -9,6 +9,7 @@ mod first_scripts;
 mod held_content;
 mod kept_index;
 mod laws;
+mod lent_content;
 mod methods;
 mod names;
 mod page_fault;

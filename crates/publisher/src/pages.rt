@@ -51,9 +51,9 @@ pub(crate) fn write_blocks(
     setting: &Setting,
     blocks: &Blocks,
 ) -> Result<(), PageFault>
-    requires kept { AreReadings setting.now.tree.now templates.old }
+    requires kept { AreReadings setting.now.content.now templates.old }
     ensures page { Gathered setting.now.waiting result page.old page.new (parts_page (inclusion_in setting.now) (parts_in setting.now blocks.now)) }
-    ensures kept { AreReadings setting.now.tree.now templates.new }
+    ensures kept { AreReadings setting.now.content.now templates.new }
 {
     let scope = scope_in(setting);
     let list = pieces(alloc, &scope, blocks)?;
@@ -72,22 +72,17 @@ fn write_pieces(
     list: &PieceList,
     least: Waiting,
 ) -> Result<(), PageFault>
-    requires kept { AreReadings setting.now.tree.now templates.old }
+    requires kept { AreReadings setting.now.content.now templates.old }
     requires least { IsLeastOf least list.now.parts }
     ensures page { Gathered setting.now.waiting result page.old page.new (parts_page (inclusion_in setting.now) list.now.parts) }
-    ensures kept { AreReadings setting.now.tree.now templates.new }
+    ensures kept { AreReadings setting.now.content.now templates.new }
 {
     let mut left = least;
     for piece in list.pieces() {
         left = left.without(size_of_piece(piece));
         let inner = Setting {
-            tree: &*setting.tree,
-            script: &*setting.script,
-            path: &*setting.path,
-            props: &*setting.props,
-            vars: &*setting.vars,
-            levels: setting.levels,
             waiting: setting.waiting.beside(left),
+            ..*setting
         };
         write_piece(page, alloc, templates, &inner, list, piece)?;
     }
@@ -103,9 +98,9 @@ fn write_piece<'l>(
     list: &PieceList<'l>,
     piece: &Piece<'l>,
 ) -> Result<(), PageFault>
-    requires kept { AreReadings setting.now.tree.now templates.old }
+    requires kept { AreReadings setting.now.content.now templates.old }
     ensures page { Gathered setting.now.waiting result page.old page.new (parts_page (inclusion_in setting.now) (piece_parts list.now.scope piece.now)) }
-    ensures kept { AreReadings setting.now.tree.now templates.new }
+    ensures kept { AreReadings setting.now.content.now templates.new }
 {
     match piece {
         Piece::Text(text) => page.push(text.text()),
@@ -133,9 +128,9 @@ fn include_script(
     name: &str,
     vars: &Variables,
 ) -> Result<(), PageFault>
-    requires kept { AreReadings setting.now.tree.now templates.old }
+    requires kept { AreReadings setting.now.content.now templates.old }
     ensures page { Gathered setting.now.waiting result page.old page.new (inclusion_in setting.now (part.Script name.now (vars_of vars.now))) }
-    ensures kept { AreReadings setting.now.tree.now templates.new }
+    ensures kept { AreReadings setting.now.content.now templates.new }
 {
     if setting.levels == 0 {
         return Err(PageFault::Over);
@@ -145,13 +140,10 @@ fn include_script(
         return Ok(());
     };
     let inner = Setting {
-        tree: &*setting.tree,
         script: &script,
-        path: &*setting.path,
-        props: &*setting.props,
         vars: &*vars,
         levels: setting.levels - 1,
-        waiting: setting.waiting,
+        ..*setting
     };
     write_script(page, alloc, templates, &inner)
 }
@@ -165,9 +157,9 @@ fn include_resource(
     setting: &Setting,
     name: &str,
 ) -> Result<(), PageFault>
-    requires kept { AreReadings setting.now.tree.now templates.old }
+    requires kept { AreReadings setting.now.content.now templates.old }
     ensures page { Gathered setting.now.waiting result page.old page.new (inclusion_in setting.now (part.Resource name.now)) }
-    ensures kept { AreReadings setting.now.tree.now templates.new }
+    ensures kept { AreReadings setting.now.content.now templates.new }
 {
     if setting.levels == 0 {
         return Err(PageFault::Over);
@@ -175,20 +167,19 @@ fn include_resource(
     let Some(path) = path_named(alloc, setting.path, name)? else {
         return Ok(());
     };
-    let Some(res) = merged_alone(alloc, setting.tree, &path)? else {
+    let Some(res) = merged_alone(alloc, setting.content.tree(), &path)? else {
         return Ok(());
     };
-    let Some(script) = html_script(alloc, setting.tree, &res)? else {
+    let Some(script) = html_script(alloc, setting.content, &res)? else {
         return Ok(());
     };
     let inner = Setting {
-        tree: &*setting.tree,
         script: &script,
         path: res.path(),
         props: res.props(),
         vars: &Variables::None,
         levels: setting.levels - 1,
-        waiting: setting.waiting,
+        ..*setting
     };
     write_script(page, alloc, templates, &inner)
 }
@@ -201,11 +192,12 @@ fn write_script(
     templates: &mut Templates,
     setting: &Setting,
 ) -> Result<(), PageFault>
-    requires kept { AreReadings setting.now.tree.now templates.old }
+    requires kept { AreReadings setting.now.content.now templates.old }
     ensures page { Gathered setting.now.waiting result page.old page.new (script_page setting.now) }
-    ensures kept { AreReadings setting.now.tree.now templates.new }
+    ensures kept { AreReadings setting.now.content.now templates.new }
 {
-    let Some(blocks) = script_blocks(alloc, setting.tree, templates, setting.script)? else {
+    let Some(blocks) = script_blocks(alloc, setting.content.tree(), templates, setting.script)?
+    else {
         return Ok(());
     };
     write_blocks(page, alloc, templates, setting, blocks.get())

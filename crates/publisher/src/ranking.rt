@@ -5,8 +5,8 @@ ghost use Rattle.type_chain.specs.Chain.{chain_of};
 ghost use Rattle.script_rank.specs.Search.{search_result as first_script};
 ghost use Rattle.publisher.specs.Pages.{html_parts};
 
-use resource_tree::{Res, Tree};
-use script_rank::script_of;
+use crate::lent_content::LentContent;
+use resource_tree::Res;
 use sp_base::{Mem, Path, TextBuf, TextList};
 use std::alloc::Global;
 use url_split::Parts;
@@ -23,9 +23,9 @@ fn html_parts(alloc: Global, path: &Path) -> Mem<Parts>
 }
 
 /// The script that ranks first for a resource that is put in.
-pub(crate) fn html_script(alloc: Global, tree: &Tree, res: &Res) -> Mem<Option<Path>>
-    ensures { IfOk result (λ o. o ≡ first_script tree.now (chain_of tree.now res.now.props) (html_parts res.now.path)) }
+pub(crate) fn html_script(alloc: Global, content: &LentContent, res: &Res) -> Mem<Option<Path>>
+    ensures { IfOk result (λ o. o ≡ first_script content.now (chain_of content.now res.now.props) (html_parts res.now.path)) }
 {
     let parts = html_parts(alloc, res.path())?;
-    script_of(alloc, tree, res.props(), &parts)
+    content.first_script(alloc, res.props(), &parts)
 }

@@ -11,6 +11,7 @@ ghost use Rattle.publisher.specs.SeenAlone.{IsSeenAlone, answer_seen, seen_answe
 use crate::choices::choices_text;
 use crate::depths::depth_of;
 use crate::errors::answer_of;
+use crate::lent_content::LentContent;
 use crate::methods::mark_of;
 use crate::scripts::script_representation;
 use crate::templates::{Templates, reading_at};
@@ -140,19 +141,20 @@ fn default_answer_there(alloc: Global, tree: &Tree, parts: &Parts, res: &Res) ->
 // The answer of a resource by the script at a path, or of the default GET servlet where there is no script's text.
 fn answer_by_script(
     alloc: Global,
-    tree: &Tree,
+    content: &LentContent,
     templates: &mut Templates,
     parts: &Parts,
     res: &Res,
     script: Path,
 ) -> Mem<Answer>
-    requires kept { AreReadings tree.now templates.old }
-    requires seen { IsSeenAlone tree.now parts.now res.now }
-    ensures answer { IfOk result (λ a. a ≡ seen_answer (script_there tree.now script) tree.now parts.now) }
-    ensures kept { AreReadings tree.now templates.new }
+    requires kept { AreReadings content.now templates.old }
+    requires seen { IsSeenAlone content.now parts.now res.now }
+    ensures answer { IfOk result (λ a. a ≡ seen_answer (script_there content.now script) content.now parts.now) }
+    ensures kept { AreReadings content.now templates.new }
 {
+    let tree = content.tree();
     match reading_at(alloc, tree, templates, &script)? {
-        Some(reading) => script_representation(alloc, tree, templates, &script, &reading, res),
+        Some(reading) => script_representation(alloc, content, templates, &script, &reading, res),
         None => default_answer_there(alloc, tree, parts, res),
     }
 }
@@ -162,20 +164,20 @@ fn answer_by_script(
 #[tactic(auto, unfolding(crate::specs::Rendering::script_for))]
 pub(crate) fn resource_answer(
     alloc: Global,
-    tree: &Tree,
+    content: &LentContent,
     templates: &mut Templates,
     parts: &Parts,
     res: &Res,
     script: Option<Path>,
 ) -> Mem<Answer>
-    requires kept { AreReadings tree.now templates.old }
-    requires script { script ≡ first_script tree.now (chain_of tree.now res.now.props) parts.now }
-    requires seen { IsSeenAlone tree.now parts.now res.now }
-    ensures answer { IfOk result (λ a. a ≡ resource_answer tree.now parts.now (seen_resources tree.now parts.now.path)) }
-    ensures kept { AreReadings tree.now templates.new }
+    requires kept { AreReadings content.now templates.old }
+    requires script { script ≡ first_script content.now (chain_of content.now res.now.props) parts.now }
+    requires seen { IsSeenAlone content.now parts.now res.now }
+    ensures answer { IfOk result (λ a. a ≡ resource_answer content.now parts.now (seen_resources content.now parts.now.path)) }
+    ensures kept { AreReadings content.now templates.new }
 {
     match script {
-        Some(script) => answer_by_script(alloc, tree, templates, parts, res, script),
-        None => default_answer_there(alloc, tree, parts, res),
+        Some(script) => answer_by_script(alloc, content, templates, parts, res, script),
+        None => default_answer_there(alloc, content.tree(), parts, res),
     }
 }

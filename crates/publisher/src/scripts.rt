@@ -4,6 +4,7 @@ ghost use Rattle.publisher.specs.Kept.{AreReadings};
 ghost use Rattle.publisher.specs.Pages.{page_of, place_for};
 ghost use Rattle.publisher.specs.Rendering.{mark_of, page_answer, script_representation};
 
+use crate::lent_content::LentContent;
 use crate::methods::mark_of;
 use crate::page_fault::PageFault;
 use crate::page_text::PageText;
@@ -15,7 +16,7 @@ use crate::waiting::Waiting;
 use error_answers::error_answer;
 use htl_blocks::Blocks;
 use htl_expr::Variables;
-use resource_tree::{Res, Tree};
+use resource_tree::Res;
 use sp_base::{Answer, Mem, NoMemory, Path};
 use std::alloc::Global;
 
@@ -27,18 +28,18 @@ const MOST_LEVELS: usize = 16;
 // The page that a script's blocks write for a resource.
 fn page_representation(
     alloc: Global,
-    tree: &Tree,
+    content: &LentContent,
     templates: &mut Templates,
     script: &Path,
     blocks: &Blocks,
     res: &Res,
 ) -> Mem<Answer>
-    requires kept { AreReadings tree.now templates.old }
-    ensures answer { IfOk result (λ a. a ≡ page_answer (mark_of res.now) (page_of tree.now (place_for script.now res.now) blocks.now)) }
-    ensures kept { AreReadings tree.now templates.new }
+    requires kept { AreReadings content.now templates.old }
+    ensures answer { IfOk result (λ a. a ≡ page_answer (mark_of res.now) (page_of content.now (place_for script.now res.now) blocks.now)) }
+    ensures kept { AreReadings content.now templates.new }
 {
     let setting = Setting {
-        tree,
+        content,
         script,
         path: res.path(),
         props: res.props(),
@@ -57,19 +58,19 @@ fn page_representation(
 /// What a script writes for a resource; an error where the script's text has no reading.
 pub(crate) fn script_representation(
     alloc: Global,
-    tree: &Tree,
+    content: &LentContent,
     templates: &mut Templates,
     script: &Path,
     reading: &Reading,
     res: &Res,
 ) -> Mem<Answer>
-    requires kept { AreReadings tree.now templates.old }
-    ensures answer { IfOk result (λ a. a ≡ script_representation tree.now res.now script.now reading.now) }
-    ensures kept { AreReadings tree.now templates.new }
+    requires kept { AreReadings content.now templates.old }
+    ensures answer { IfOk result (λ a. a ≡ script_representation content.now res.now script.now reading.now) }
+    ensures kept { AreReadings content.now templates.new }
 {
     match reading {
         Reading::Parsed(blocks) => {
-            page_representation(alloc, tree, templates, script, blocks.get(), res)
+            page_representation(alloc, content, templates, script, blocks.get(), res)
         }
         Reading::Refused => error_answer(alloc, 500),
     }

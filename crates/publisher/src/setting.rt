@@ -3,17 +3,17 @@
 ghost use Rattle.std.specs.Prelude.{◌≡◌};
 ghost use Rattle.publisher.specs.Gathering.{bindings_in};
 
+use crate::lent_content::LentContent;
 use crate::waiting::Waiting;
 use htl_expr::{Scope, Variables};
-use resource_tree::Tree;
 use sp_base::{Path, PropList};
 use type_chain::type_text;
 
-/// What a script is written in: the tree, the script's path, the path and the properties of the resource, the variables, how many scripts and
+/// What a script is written in: the content, the script's path, the path and the properties of the resource, the variables, how many scripts and
 /// resources may still stand one in another, and what waits behind it.
 #[derive(Clone, Copy, Drop)]
 pub(crate) struct Setting<'p> {
-    pub(crate) tree: &'p Tree,
+    pub(crate) content: &'p LentContent<'p>,
     pub(crate) script: &'p Path,
     pub(crate) path: &'p Path,
     pub(crate) props: &'p PropList,

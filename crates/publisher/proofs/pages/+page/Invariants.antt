@@ -25,4 +25,4 @@ decreases-include_resource l = 5 * l.setting.now.levels
 
 abbrev pub invariant-write_pieces-loop-piece : goal.invariant-write_pieces-loop-piece
 invariant-write_pieces-loop-piece l =
-    IsSoFar (inclusion_in l.fn.setting) l.fn.page l.page l.left (pieces_parts l.fn.list.scope (take l.piece-index l.piece-items)) (pieces_parts l.fn.list.scope l.piece-items) × AreReadings l.fn.setting.tree.now l.templates
+    IsSoFar (inclusion_in l.fn.setting) l.fn.page l.page l.left (pieces_parts l.fn.list.scope (take l.piece-index l.piece-items)) (pieces_parts l.fn.list.scope l.piece-items) × AreReadings l.fn.setting.content.now l.templates

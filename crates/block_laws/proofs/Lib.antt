@@ -6,3 +6,4 @@ mod ValueLemmas
 mod EachLemmas
 mod TagLemmas
 mod LeftLemmas
+mod ShownLemmas

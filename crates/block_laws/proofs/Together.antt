@@ -13,7 +13,7 @@ use Rattle.htl_blocks.proofs.ElementLemmas.{element_is, text_is, in_tags}
 use Rattle.block_laws.specs.Together.{without_test, without_unwrap, without_body, without_text, body_alone, inner_element, IsWrittenAsWithoutTestIfTrue, IsWrittenAsWithoutTagsIfUnwrapped, IsWrittenAsWithoutUnwrapIfFalse, ListsRepeatWhatStandsWithin, TextsStandAsContent, BodiesStandAsContent}
 
 -- what the content of an element writes
-abbrev written : List Block → Bindings → List Part
+abbrev pub written : List Block → Bindings → List Part
 written content = λ scope. blocks_parts scope content
 
 pub as_without_test : (scope : Bindings) (tag : Tag) (content : List Block) (end_tag : Text) → IsWrittenAsWithoutTestIfTrue scope tag content end_tag
@@ -42,7 +42,7 @@ as_without_unwrap scope tag content end_tag stands =
     ∙ sym (element_is (without_unwrap tag) content end_tag scope)
 
 -- what stands in an element
-within_is : (tag : Tag) (content : List Block) (scope : Bindings) → block_parts (inner_element tag content) scope ≡ body_parts tag.attributes.body (written content) scope
+pub within_is : (tag : Tag) (content : List Block) (scope : Bindings) → block_parts (inner_element tag content) scope ≡ body_parts tag.attributes.body (written content) scope
 within_is tag content scope = element_is (body_alone tag.attributes.body) content [] scope ∙ append-nil (body_parts tag.attributes.body (written content) scope)
 
 pub each_round : ListsRepeatWhatStandsWithin

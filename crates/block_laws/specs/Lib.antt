@@ -1,3 +1,4 @@
 pub mod Together
 pub mod PartKinds
 pub mod TagStatements
+pub mod ShownTags

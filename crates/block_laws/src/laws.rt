@@ -11,6 +11,7 @@ ghost use Rattle.htl_blocks.specs.Attributes.{tag_attributes};
 ghost use Rattle.htl_blocks.specs.Markup.{parts};
 ghost use Rattle.htl_blocks.specs.Spelling.{whole_text};
 ghost use Rattle.block_laws.specs.PartKinds.{AreParts};
+ghost use Rattle.block_laws.specs.ShownTags.{StatementsDontShowInTags, StatementsDontShowInTagsOfLists};
 ghost use Rattle.block_laws.specs.TagStatements.{HasNoStatementLeftIfApart, IsTagWith};
 ghost use Rattle.block_laws.specs.Together.{IsWrittenAsWithoutTestIfTrue, IsWrittenAsWithoutTagsIfUnwrapped, IsWrittenAsWithoutUnwrapIfFalse, ListsRepeatWhatStandsWithin, TextsStandAsContent, BodiesStandAsContent};
 
@@ -55,4 +56,11 @@ pub fn a_tag_is_its_pieces_and_statements()
 /// What is left of a tag has no statement, where after each of its statements the tag goes on with a blank, `/` or `>`, or ends.
 pub fn no_statement_is_left()
     ensures { (tag : Text) (pieces : List Text) (each : List Attribute) → HasNoStatementLeftIfApart tag pieces each }
+{}
+
+/// Of an element that stands in its tags show the text of the start tag without the statements, then what stands in it, and then the end tag
+/// (`once`); with a list, what stands in it once for each item (`list`).
+pub fn statements_of_a_tag_dont_show()
+    ensures once { StatementsDontShowInTags }
+    ensures list { StatementsDontShowInTagsOfLists }
 {}

@@ -18,9 +18,9 @@ use Rattle.htl_blocks.specs.Parts.{Part, Script, Resource as ResourcePart}
 use Rattle.htl_blocks.specs.Reading.{blocks_of, most_nested_blocks}
 use Rattle.htl_blocks.specs.Spelling.{SpellsBlocks}
 use Rattle.publisher.specs.Pages.{Place, html_parts, included_resource, included_script, inclusion, joined, one_inclusion, parts_page, path_named, place_for, put_in, readable_blocks, resource_by, script_blocks, written_resource, written_at, written_page}
-use Rattle.publisher.proofs.PageLemmas.{resource_is, script_is}
+use Rattle.publisher.proofs.PageLemmas.{joined_blank, resource_is, script_is}
 use Rattle.publisher.proofs.ScriptLaw.{found_first}
-use Rattle.page_laws.specs.Inclusions.{HasScript, ScriptsStandForTheSameResource, ResourcesStandByTheirFirstScript, NothingStandsForMissingScripts, NothingStandsForMissingResources, PagesOfOneIncludeAreThatScripts, PagesOfOneResourceAreThatResources}
+use Rattle.page_laws.specs.Inclusions.{HasScript, ScriptsStandForTheSameResource, ResourcesStandByTheirFirstScript, NothingStandsForMissingScripts, NothingStandsForMissingResources, PagesOfOneIncludeAreThatScripts, PagesOfOneResourceAreThatResources, MissingScriptsAreCounted, MissingResourcesAreCounted}
 
 -- what the layers below say: a script is read as the blocks that it spells, and the search finds the script that ranks first
 pub record Known : Type 0 where
@@ -116,9 +116,17 @@ no_resource_stands known tree levels place name apart = nothing_stands tree leve
 -- ---- whole pages
 
 pub include_page : Known → PagesOfOneIncludeAreThatScripts
-include_page known tree place own name vars script blocks is x =
-    ap (parts_page (inclusion tree 16 place)) is ∙ script_is (inclusion tree 16 place) name vars ∙ ap (joined one_inclusion) (scripts_stand known tree 15 place name vars script blocks x)
+include_page known tree place own name script blocks is x =
+    ap (parts_page (inclusion tree 16 place)) is ∙ script_is (inclusion tree 16 place) name [] ∙ ap (joined one_inclusion) (scripts_stand known tree 15 place name [] script blocks x)
 
 pub resource_page : Known → PagesOfOneResourceAreThatResources
 resource_page known tree place own name res script blocks is x =
     ap (parts_page (inclusion tree 16 place)) is ∙ resource_is (inclusion tree 16 place) name ∙ ap (joined one_inclusion) (resources_stand known tree 15 place name res script blocks x)
+
+pub no_include_page : Known → MissingScriptsAreCounted
+no_include_page known tree place own name is apart =
+    ap (parts_page (inclusion tree 16 place)) is ∙ script_is (inclusion tree 16 place) name [] ∙ ap (joined one_inclusion) (no_script_stands known tree 15 place name [] apart) ∙ joined_blank one_inclusion
+
+pub no_resource_page : Known → MissingResourcesAreCounted
+no_resource_page known tree place own name is apart =
+    ap (parts_page (inclusion tree 16 place)) is ∙ resource_is (inclusion tree 16 place) name ∙ ap (joined one_inclusion) (no_resource_stands known tree 15 place name apart) ∙ joined_blank one_inclusion

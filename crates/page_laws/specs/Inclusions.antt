@@ -60,12 +60,24 @@ NothingStandsForMissingResources = (tree : Content) (levels : ℕ) (place : Plac
 
 -- so the page of a script that is one include is that script's page, and one inclusion more
 abbrev pub PagesOfOneIncludeAreThatScripts : Type 0
-PagesOfOneIncludeAreThatScripts = (tree : Content) (place : Place) (own : List Block) (name : Text) (vars : Pairs) (script : Segments) (blocks : List Block)
-    → blocks_parts (bindings_at place []) own ≡ Script name vars ∷ [] → LeadsToScript tree place name script blocks
-    → page_of tree place own ≡ joined one_inclusion (page_within tree 15 (record place { script = script }) vars blocks)
+PagesOfOneIncludeAreThatScripts = (tree : Content) (place : Place) (own : List Block) (name : Text) (script : Segments) (blocks : List Block)
+    → blocks_parts (bindings_at place []) own ≡ Script name [] ∷ [] → LeadsToScript tree place name script blocks
+    → page_of tree place own ≡ joined one_inclusion (page_within tree 15 (record place { script = script }) [] blocks)
 
 -- and the page of one that is one resource is that resource's page, and one inclusion more
 abbrev pub PagesOfOneResourceAreThatResources : Type 0
 PagesOfOneResourceAreThatResources = (tree : Content) (place : Place) (own : List Block) (name : Text) (res : Resource) (script : Segments) (blocks : List Block)
     → blocks_parts (bindings_at place []) own ≡ ResourcePart name ∷ [] → LeadsToResource tree place name res script blocks
     → page_of tree place own ≡ joined one_inclusion (page_within tree 15 (place_for script res) [] blocks)
+
+-- those that aren't there are counted too: the page of a script that is one include, which leads to no script, is one inclusion and no text
+abbrev pub MissingScriptsAreCounted : Type 0
+MissingScriptsAreCounted = (tree : Content) (place : Place) (own : List Block) (name : Text)
+    → blocks_parts (bindings_at place []) own ≡ Script name [] ∷ [] → ((script : Segments) (blocks : List Block) → LeadsToScript tree place name script blocks → ⊥)
+    → page_of tree place own ≡ one_inclusion
+
+-- and so is the page of one that is one resource, which leads to none with a script
+abbrev pub MissingResourcesAreCounted : Type 0
+MissingResourcesAreCounted = (tree : Content) (place : Place) (own : List Block) (name : Text)
+    → blocks_parts (bindings_at place []) own ≡ ResourcePart name ∷ [] → ((res : Resource) (script : Segments) (blocks : List Block) → LeadsToResource tree place name res script blocks → ⊥)
+    → page_of tree place own ≡ one_inclusion

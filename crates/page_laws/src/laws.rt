@@ -1,6 +1,6 @@
 //! What a page puts in, and where it is refused: laws of the definitions, on functions that do nothing.
 
-ghost use Rattle.page_laws.specs.Inclusions.{ScriptsStandForTheSameResource, ResourcesStandByTheirFirstScript, NothingStandsForMissingScripts, NothingStandsForMissingResources, PagesOfOneIncludeAreThatScripts, PagesOfOneResourceAreThatResources};
+ghost use Rattle.page_laws.specs.Inclusions.{ScriptsStandForTheSameResource, ResourcesStandByTheirFirstScript, NothingStandsForMissingScripts, NothingStandsForMissingResources, PagesOfOneIncludeAreThatScripts, PagesOfOneResourceAreThatResources, MissingScriptsAreCounted, MissingResourcesAreCounted};
 ghost use Rattle.page_laws.specs.Limits.{PagesAreRefusedWhereTheyPassALimit};
 
 use htl_blocks::the_blocks_are_the_text;
@@ -10,7 +10,8 @@ use script_rank::{one_script_is_first, search_finds_the_first};
 /// For a script that is put in stands its page for the same resource with the variables of the place (`script`), and for a resource that of the
 /// resource by the script that ranks first for it, without variables (`resource`); where none is there, nothing (`no_script`, `no_resource`). So
 /// the page of a script that is one include is that script's page, and one inclusion more (`include_page`), and likewise of a resource
-/// (`resource_page`).
+/// (`resource_page`); where it leads nowhere, the page is one inclusion and no text, so that what isn't there is counted too (`no_include_page`,
+/// `no_resource_page`).
 pub fn what_is_put_in_is_its_own_page()
     ensures script { ScriptsStandForTheSameResource }
     ensures resource { ResourcesStandByTheirFirstScript }
@@ -18,6 +19,8 @@ pub fn what_is_put_in_is_its_own_page()
     ensures no_resource { NothingStandsForMissingResources }
     ensures include_page { PagesOfOneIncludeAreThatScripts }
     ensures resource_page { PagesOfOneResourceAreThatResources }
+    ensures no_include_page { MissingScriptsAreCounted }
+    ensures no_resource_page { MissingResourcesAreCounted }
 {
     search_finds_the_first();
     one_script_is_first();

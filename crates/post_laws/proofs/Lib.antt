@@ -4,3 +4,4 @@ pub mod FrameLemmas
 pub mod PropertyLemmas
 pub mod SetLemmas
 pub mod GoneLemmas
+pub mod BroughtLemmas

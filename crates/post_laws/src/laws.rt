@@ -1,4 +1,5 @@
 //! What a POST leaves as it is, and what it leaves at the places that it names: laws of the definitions, on functions that do nothing.
+ghost use Rattle.post_laws.specs.Brought.{CopiesBringTheirSource, CopiesLeaveTheirSource, MovesBringTheirSource, MovesEmptyTheirSource};
 ghost use Rattle.post_laws.specs.Laws.{LastValuesStay, OperationsLeaveWhatIsApart, RemovalsStayUnlessNamed};
 
 /// An operation that isn't refused leaves each node as it was that is apart from all places that it names, with the same properties and the
@@ -16,4 +17,13 @@ pub fn the_last_value_of_a_property_stays()
 /// that place, or one above or under it.
 pub fn what_is_taken_away_is_gone()
     ensures { RemovalsStayUnlessNamed }
+{}
+
+/// After a copy that isn't refused there is at the goal what stood at the source, node and all below it (`copy_goal`), and at the source still
+/// (`copy_source`). After a move it is at the goal (`move_goal`), and no node at the source (`move_source`).
+pub fn a_copy_and_a_move_bring_the_source()
+    ensures copy_goal { CopiesBringTheirSource }
+    ensures copy_source { CopiesLeaveTheirSource }
+    ensures move_goal { MovesBringTheirSource }
+    ensures move_source { MovesEmptyTheirSource }
 {}

@@ -4,5 +4,6 @@
 mod laws;
 
 pub use laws::{
-    operations_leave_what_is_apart, the_last_value_of_a_property_stays, what_is_taken_away_is_gone,
+    a_copy_and_a_move_bring_the_source, operations_leave_what_is_apart,
+    the_last_value_of_a_property_stays, what_is_taken_away_is_gone,
 };

@@ -1,4 +1,4 @@
-use Rattle.page_laws.proofs.InclusionLemmas.{Known, scripts_stand, resources_stand, no_script_stands, no_resource_stands, include_page, resource_page}
+use Rattle.page_laws.proofs.InclusionLemmas.{Known, scripts_stand, resources_stand, no_script_stands, no_resource_stands, include_page, resource_page, no_include_page, no_resource_page}
 use Rattle.page_laws.proofs.laws.what_is_put_in_is_its_own_page.Goals as goal
 
 pub returns : goal.returns
@@ -17,4 +17,6 @@ returns c =
       no_resource = no_resource_stands known;
       include_page = include_page known;
       resource_page = resource_page known;
+      no_include_page = no_include_page known;
+      no_resource_page = no_resource_page known;
     }

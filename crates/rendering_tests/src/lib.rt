@@ -2,6 +2,8 @@
 #![tactic(auto)]
 
 #[cfg(test)]
+mod block_limits;
+#[cfg(test)]
 mod block_texts;
 #[cfg(test)]
 mod blocks;

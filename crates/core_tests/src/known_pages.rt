@@ -137,7 +137,11 @@ fn is_answered(alloc: Global, core: &mut Core, disk: &mut MemDisk, row: &(Framin
     let Ok(req) = get_of(alloc, PAGE) else {
         return false;
     };
-    match core.request(alloc, disk, &req, "127.0.0.1").got {
+    let Requested {
+        got,
+        disk_failed: _,
+    } = core.request(alloc, disk, &req, "127.0.0.1");
+    match got {
         Got::Hit(_, answer) => {
             matches!(answer.bytes(alloc, framing), Ok(bytes) if bytes.is(wanted.as_bytes()))
         }
@@ -145,8 +149,15 @@ fn is_answered(alloc: Global, core: &mut Core, disk: &mut MemDisk, row: &(Framin
             core.lose(ticket);
             false
         }
-        Got::Down | Got::Denied | Got::Flush(_, _) | Got::FlushRefused(_) => false,
-        Got::FlushForbidden | Got::FullAir | Got::FullPurge | Got::Worn | Got::NoMemory => false,
+        Got::Down => false,
+        Got::Denied => false,
+        Got::Flush(_, _) => false,
+        Got::FlushRefused(_) => false,
+        Got::FlushForbidden => false,
+        Got::FullAir => false,
+        Got::FullPurge => false,
+        Got::Worn => false,
+        Got::NoMemory => false,
     }
 }
 

@@ -4,7 +4,7 @@ use std::hash::RandomState;
 use std::test::Fail;
 
 // Each script, as a JSON string has it, and its page.
-const PAGES: [(&str, &str); 67] = [
+const PAGES: [(&str, &str); 70] = [
     // no blocks
     ("", ""),
     ("a${properties.n}${k}b", "a3b"),
@@ -72,6 +72,9 @@ const PAGES: [(&str, &str); 67] = [
     ("<p data-sly-list='${properties.empty}'>x</p>y", "y"),
     ("<p data-sly-list='${properties.absent}'>x</p>y", "y"),
     ("<p data-sly-list='${properties.n}'>x</p>y", "y"),
+    ("<p data-sly-list='${properties.title}'>x</p>y", "y"),
+    ("<p data-sly-list='${properties.blank}'>x</p>y", "y"),
+    ("<p data-sly-list='${properties.yes}'>x</p>y", "y"),
     ("<p data-sly-list='a'>x</p>y", "y"),
     ("<p data-sly-list='${[]}'>x</p>y", "y"),
     (

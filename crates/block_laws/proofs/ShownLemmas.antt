@@ -10,7 +10,7 @@ use Rattle.htl_blocks.specs.declared.fault.BlockFault.TheVariants.{TooDeep}
 use Rattle.htl_blocks.specs.Parts.{Part, Round, text_parts}
 use Rattle.htl_blocks.specs.Attributes.{tag_attributes}
 use Rattle.htl_blocks.specs.Reading.{known_tag, start_tag, tag_of}
-use Rattle.htl_blocks.specs.Written.{block_parts, with_variable}
+use Rattle.htl_blocks.specs.Written.{block_parts, with_variable, within_room}
 use Rattle.htl_blocks.proofs.ElementLemmas.{element_is, in_tags}
 use Rattle.block_laws.specs.Together.{inner_element}
 use Rattle.block_laws.specs.ShownTags.{IsReadFrom, StatementsDontShowInTags, StatementsDontShowInTagsOfLists}
@@ -42,4 +42,4 @@ shown_with_list scope tag text shown content end_tag name list item items read s
     each_round scope tag content end_tag name list item items stands has some
     ∙ ap
     (λ (pieces : List TemplatePiece).
-    text_parts (template_output scope pieces) ++ (flat_map (λ (one : Text). Round ∷ block_parts (inner_element tag content) (with_variable scope name one)) (item ∷ items) ++ text_parts end_tag)) (start_is tag text shown read)
+    text_parts (template_output scope pieces) ++ (flat_map (λ (one : Text). Round ∷ within_room (block_parts (inner_element tag content)) (with_variable scope name one)) (item ∷ items) ++ text_parts end_tag)) (start_is tag text shown read)

@@ -11,7 +11,7 @@ use Rattle.htl_blocks.specs.declared.block.Block.{Block}
 use Rattle.htl_blocks.specs.declared.block.Block.TheVariants as block
 use Rattle.htl_blocks.specs.Parts.{text_parts, Round}
 use Rattle.htl_blocks.specs.Reading.{tag_of}
-use Rattle.htl_blocks.specs.Written.{statement_value, with_variable, block_parts}
+use Rattle.htl_blocks.specs.Written.{statement_value, with_variable, within_room, block_parts}
 use Rattle.htl_blocks.specs.WrittenLaws.{StandsInTags}
 use Rattle.block_laws.specs.TagStatements.{IsTagWith}
 use Rattle.block_laws.specs.Together.{inner_element}
@@ -36,4 +36,4 @@ abbrev pub StatementsDontShowInTagsOfLists : Type 0
 StatementsDontShowInTagsOfLists = (scope : Bindings) (tag : Tag) (text : Text) (shown : List TemplatePiece) (content : List Block) (end_tag name : Text) (list : List TemplatePiece) (item : Text) (items : List Text)
     → IsReadFrom tag text shown → StandsInTags scope tag → tag.attributes.list ≡ Some (name, list) → list_in (statement_value scope list) ≡ Some (item ∷ items)
     → block_parts (block.Element tag content end_tag) scope
-    ≡ text_parts (template_output scope shown) ++ (flat_map (λ one. Round ∷ block_parts (inner_element tag content) (with_variable scope name one)) (item ∷ items) ++ text_parts end_tag)
+    ≡ text_parts (template_output scope shown) ++ (flat_map (λ one. Round ∷ within_room (block_parts (inner_element tag content)) (with_variable scope name one)) (item ∷ items) ++ text_parts end_tag)

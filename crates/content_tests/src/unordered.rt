@@ -24,6 +24,25 @@ pub(crate) const UNORDERED: &[(&str, &str)] = &[
         r#"{"a":2,":order":["b"],"b":{"y":1}}"#,
     ),
     (r#"{"b":{"x":{}},"b":null,"a":2}"#, r#"{"a":2}"#),
+    // Another member takes the place of one with a fault, or with one below it.
+    (r#"{"a":1.5,"a":1}"#, r#"{"a":1}"#),
+    (
+        r#"{"a":[1,"x",{"y":[2.5]}],"b":2,"a":"t"}"#,
+        r#"{"a":"t","b":2}"#,
+    ),
+    (
+        r#"{"a":{"b":{"x":1.5},"c":{}},"a":{"c":{"d":2}}}"#,
+        r#"{":order":["a"],"a":{":order":["c"],"c":{"d":2}}}"#,
+    ),
+    (r#"{"a":{"b":{":x":1},"c":{}},"a":null}"#, r#"{}"#),
+    (
+        r#"{"a":{":order":["x"],"y":{}},"a":{"x":{}}}"#,
+        r#"{":order":["a"],"a":{":order":["x"],"x":{}}}"#,
+    ),
+    (
+        r#"{":order":5,"b":{},"a":{},":order":["b"]}"#,
+        r#"{":order":["b","a"],"b":{},"a":{}}"#,
+    ),
     // Kids before properties.
     (
         r#"{"k":{"z":1,"y":2},"j":{},"b":1,"a":2}"#,

@@ -140,7 +140,8 @@ def growth(title, counts, time_per_one):
     each = [time_per_one(count) for count in counts]
     for count, seconds in zip(counts, each):
         print(f"  {count:7} {seconds * 1e6:8.2f} us")
-    print(f"  greatest to least {max(each) / min(each):.2f}")
+    least = min(each)
+    print(f"  greatest to least {max(each) / least:.2f}" if least > 0 else "  the least is less than can be told")
 
 
 PLACE = os.path.abspath("out/bench")

@@ -3,7 +3,7 @@ use Rattle.std.specs.Prelude.{◌≡◌, ◌≤◌, ◌+◌, ◌⊎◌, ℕ, Boo
 use Rattle.std.specs.List.{list_all}
 use Rattle.sp_base.specs.Texts.{Text, Pairs}
 use Rattle.form_input.specs.declared.fault.FormFault.{FormFault}
-use Rattle.form_input.specs.declared.fault.FormFault.TheVariants.{WrongKind, NoBoundary, BadPart, TooMany, NoMemory}
+use Rattle.form_input.specs.declared.fault.FormFault.TheVariants.{BadPart, TooMany}
 use Rattle.form_input.specs.Lines.{lines}
 use Rattle.form_input.specs.Multipart.{dash_boundary, line_form, is_plain_line, pair_of, most_pairs}
 use Rattle.form_input.specs.Bodies.{BodyPart, part_lines, are_plain, is_body_part}

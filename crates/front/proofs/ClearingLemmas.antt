@@ -15,7 +15,7 @@ use Rattle.sp_base.proofs.ListLemmas.{last_or_before}
 use Rattle.sp_base.proofs.OrderingLemmas.{equal_from_test}
 use Rattle.sp_outside.specs.Calls.{Remove}
 use Rattle.sp_outside.specs.FileNames.{HasReached, IsNameAfter, names_left}
-use Rattle.sp_outside.specs.Files.{Files, IsListing, IsName, IsOldOrNew, file_at, names_after, told_without, without_file}
+use Rattle.sp_outside.specs.Files.{Files, IsListing, IsName, IsOldOrNew, file_at, told_without, without_file}
 use Rattle.sp_outside.specs.declared.disk.DiskFault.{DiskFault}
 use Rattle.docroot_format.specs.Names.{epoch_name, is_page_file, is_stat_file}
 use Rattle.docroot_changes.specs.Changes.{Told}

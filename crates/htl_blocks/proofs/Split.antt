@@ -11,7 +11,7 @@ use Rattle.htl_blocks.specs.ElementText.{ElementText}
 use Rattle.htl_blocks.specs.Markup.{markup_quoting_step, ends_tag, tag_end, ended_len, tag_len, is_ended, begins_tag, part_len, parts, parts_after, tag_name, has_no_content, inside_len}
 use Rattle.htl_blocks.specs.Attributes.{is_block_tag}
 use Rattle.htl_blocks.specs.Reading.{text_run_len, run_of, after_text_run, cut_at, cut_after, element_cut}
-use Rattle.htl_blocks.specs.Laws.{HasNoBlock, Balanced, Closes, bytes_of}
+use Rattle.htl_blocks.specs.Laws.{HasNoBlock, bytes_of}
 use Rattle.htl_blocks.specs.Laws as laws
 use Rattle.htl_blocks.specs.Spelling.{whole_text, FirstTag, Closed, Element}
 use Rattle.htl_blocks.specs.Spelling as spelling

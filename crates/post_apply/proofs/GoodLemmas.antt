@@ -52,7 +52,7 @@ use Rattle.post_apply.specs.Posting.{PostEffect, PostedNode, carry, content_afte
 
 -- ---- paths
 
-parent_path : (path : List (List ℕ)) → is_path path ≡ true → is_path (parent_of path) ≡ true
+pub parent_path : (path : List (List ℕ)) → is_path path ≡ true → is_path (parent_of path) ≡ true
 parent_path path valid = path_before (parent_of path) (drop (length path - 1) path) (ap is_path (take-append-drop (length path - 1) path) ∙ valid)
 
 within : (path : List (List ℕ)) → (length path == 0) ≡ false → length path - 1 < length path
@@ -69,10 +69,10 @@ name_ok path valid some =
 
 -- ---- one step after another
 
-abbrev okay : {A : Type 0} → A → ApplyOutcome A
+abbrev pub okay : {A : Type 0} → A → ApplyOutcome A
 okay x = Ok x
 
-abbrev refused : {A : Type 0} → ApplyFault → ApplyOutcome A
+abbrev pub refused : {A : Type 0} → ApplyFault → ApplyOutcome A
 refused e = Err e
 
 pub followed : {A B : Type 0} (P : A → Type 0) (Q : B → Type 0) (o : ApplyOutcome A) (f : A → ApplyOutcome B) → IfOk o P → ((x : A) → P x → IfOk (f x) Q) → IfOk (o >>= f) Q

@@ -27,8 +27,8 @@ use Rattle.post_apply.specs.Carries.{carry_fault, carry_node, carry_outcome, end
 use Rattle.post_apply.specs.Posting.{PostEffect}
 use Rattle.post_laws.specs.Brought.{HasNoNodes, HasWhatStoodAt, CopiesBringTheirSource, CopiesLeaveTheirSource, MovesBringTheirSource, MovesEmptyTheirSource}
 use Rattle.post_laws.proofs.PropertyLemmas.{parent_clear}
-use Rattle.post_apply.proofs.GoodLemmas.{by_test, followed}
-use Rattle.post_laws.proofs.StepLemmas.{okay, unless_holds}
+use Rattle.post_apply.proofs.GoodLemmas.{by_test, followed, okay}
+use Rattle.post_laws.proofs.StepLemmas.{unless_holds}
 
 -- ---- faults
 

@@ -1,6 +1,5 @@
 -- Flights with their tickets, and one more of them.
-use Rattle.std.proofs.Common.{◌≡◌, ℕ, ◌+◌, ◌<◌, ◌≤◌, ◌++◌, ◌||◌, List, [], ◌∷◌, Option, None, refl, ap, sym, ◌∙◌, ◌⊎◌}
-use Rattle.std.specs.Prelude.{◌==◌}
+use Rattle.std.proofs.Common.{◌≡◌, ℕ, ◌+◌, ◌++◌, List, [], ◌∷◌, Option, None, refl, ap, sym, ◌∙◌}
 use Rattle.flights.specs.Flights.{numbers_of}
 use Rattle.cover_rules.specs.declared.page.PageKey.{PageKey}
 use Rattle.coherence_core.specs.Cores.{FlightsRise, flights_of}

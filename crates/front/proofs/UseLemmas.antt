@@ -1,5 +1,5 @@
 -- How calls use a disk, one after the other.
-use Rattle.std.proofs.Common.{◌≡◌, ◌≤◌, ◌<◌, ◌+◌, ◌++◌, ℕ, Bool, true, false, List, [], ◌∷◌, Option, Result, Ok, Err, refl, arith}
+use Rattle.std.proofs.Common.{◌≡◌, ◌≤◌, ◌+◌, ◌++◌, ℕ, Bool, true, false, List, [], ◌∷◌, Option, Result, Ok, Err, refl, arith}
 use Rattle.sp_outside.specs.Calls.{Call, told_call, told_calls}
 use Rattle.sp_outside.specs.Causes.{IsDiskFailure}
 use Rattle.cache_files.specs.Epochs.{HasOpenCause}

@@ -1,5 +1,5 @@
 -- How events are written.
-use Rattle.std.specs.Prelude.{◌≡◌, ◌+◌, ◌<◌, ◌/◌, ◌%◌, ◌++◌, ◌==◌, ℕ, Bool, true, false, if◌then◌else◌, nat_lt, List, [], ◌∷◌, codes, flat_map, Option, Some, None}
+use Rattle.std.specs.Prelude.{◌+◌, ◌<◌, ◌/◌, ◌%◌, ◌++◌, ◌==◌, ℕ, Bool, true, false, if◌then◌else◌, nat_lt, List, [], ◌∷◌, codes, flat_map, Option, Some, None}
 use Rattle.std.specs.Fmt.{decimal}
 use Rattle.sp_base.specs.Bytes.{is_printable_ascii}
 use Rattle.sp_base.specs.declared.answer.Answer.{Answer}

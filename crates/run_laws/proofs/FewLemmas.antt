@@ -1,5 +1,5 @@
 -- No more flights are in the air than may be.
-use Rattle.std.proofs.Common.{◌≡◌, ◌≤◌, ◌<◌, ◌+◌, ◌++◌, ◌||◌, ◌∙◌, ℕ, Bool, true, false, not, List, [], ◌∷◌, Option, Some, None, Result, Ok, Err, refl, sym, subst, inl, inr, length, arith}
+use Rattle.std.proofs.Common.{◌≡◌, ◌≤◌, ◌<◌, ◌+◌, ◌||◌, ℕ, Bool, true, false, not, List, [], ◌∷◌, Option, Some, None, Result, Ok, Err, refl, sym, subst, inl, inr, length, arith}
 use Rattle.std.specs.Prelude.{IsTrue, if◌then◌else◌, nat_eq, nat_le}
 use Rattle.std.specs.Map.{update}
 use Rattle.std.proofs.lemmas.List.{length-append, length-map}

@@ -1,5 +1,5 @@
 -- What renders and landings make of the flights in the air.
-use Rattle.std.proofs.Common.{◌≡◌, ◌≤◌, ◌<◌, ◌+◌, ◌++◌, ◌⊎◌, ◌∙◌, ℕ, Bool, true, false, not, List, [], ◌∷◌, Option, Some, None, refl, ap, sym, subst, inl, inr, arith, eq-eqb, map}
+use Rattle.std.proofs.Common.{◌≡◌, ◌≤◌, ◌+◌, ◌++◌, ◌⊎◌, ◌∙◌, ℕ, Bool, true, false, not, List, [], ◌∷◌, Option, Some, None, refl, ap, sym, subst, inl, inr, arith, eq-eqb, map}
 use Rattle.std.specs.Prelude.{IsSome, if◌then◌else◌, is_some, nat_eq, nat_le}
 use Rattle.std.specs.List.{AllByRecursion}
 use Rattle.std.specs.Map.{update}

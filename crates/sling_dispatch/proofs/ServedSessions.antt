@@ -1,5 +1,5 @@
 -- A session that is served is a run that begins in a legal log.
-use Rattle.std.proofs.Common.{◌≡◌, ◌≢◌, ◌++◌, ◌∷◌, ◌∙◌, ℕ, List, [], Option, refl, sym, ap, subst}
+use Rattle.std.proofs.Common.{◌≡◌, ◌≢◌, ◌∷◌, ◌∙◌, ℕ, List, [], Option, refl, sym, ap, subst}
 use Rattle.std.specs.Prelude.{IfSome, Ok}
 use Rattle.sp_outside.specs.Files.{Files}
 use Rattle.any_config.specs.declared.farm.Farm.{Farm}

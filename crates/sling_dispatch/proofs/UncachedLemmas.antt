@@ -1,5 +1,5 @@
 -- The transcript of a scenario that leaves the cache alone, in which memory doesn't run out.
-use Rattle.std.proofs.Common.{◌≡◌, ◌≢◌, ◌∙◌, ◌+◌, ◌≤◌, ◌++◌, ℕ, Bool, true, false, List, [], ◌∷◌, Some, None, IsTrue, map, refl, ap, sym, subst, arith, append-nil}
+use Rattle.std.proofs.Common.{◌≡◌, ◌≢◌, ◌∙◌, ℕ, Bool, true, false, List, [], ◌∷◌, Some, None, IsTrue, map, refl, ap, sym, subst, arith, append-nil}
 use Rattle.std.specs.List.{cons_option, filter_map}
 use Rattle.run_events.specs.Events.{Event, after_event}
 use Rattle.run_events.specs.States.{RunState, Start, start_of}

@@ -1,4 +1,4 @@
-use Rattle.std.proofs.Common.{◌≡◌, Some, ◌∙◌}
+use Rattle.std.proofs.Common.{Some, ◌∙◌}
 use Rattle.docroot_changes.specs.Changes.{Told}
 use Rattle.docroot_changes.proofs.MadeCalls.{makes_more}
 use Rattle.front.specs.Clearings.{ClearsFiles, HasNoneBetween, is_of_cache}

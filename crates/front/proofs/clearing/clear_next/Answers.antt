@@ -1,4 +1,4 @@
-use Rattle.std.proofs.Common.{◌≡◌, List, ℕ, [], None, Some, inl, inr, sym, ◌∙◌, subst, take, refl}
+use Rattle.std.proofs.Common.{◌≡◌, List, ℕ, [], None, Some, inl, inr, sym, subst, take, refl}
 use Rattle.std.specs.Prelude.{Contains, IfSome, IsUtf8, is_ok}
 use Rattle.sp_outside.specs.Calls.{Names}
 use Rattle.sp_outside.specs.Files.{IsListing, names_after}

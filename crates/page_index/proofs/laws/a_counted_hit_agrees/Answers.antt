@@ -1,4 +1,4 @@
-use Rattle.std.proofs.Common.{ap, option_map, ◌∙◌}
+use Rattle.std.proofs.Common.{ap, option_map}
 use Rattle.page_index.specs.Held.{after_hit}
 use Rattle.page_index.specs.Notes.{page_noted}
 use Rattle.page_index.proofs.AgreementLemmas.{counted_agrees}

@@ -1,4 +1,4 @@
-use Rattle.std.proofs.Common.{sym, ◌∙◌, subst, ◌+◌, ◌-◌, ◌≤◌, length, take, arith}
+use Rattle.std.proofs.Common.{sym, subst, ◌-◌, ◌≤◌, length, take, arith}
 use Rattle.std.proofs.lemmas.Result.{MatchResult-weaker}
 use Rattle.replay_text.specs.Reading.{Refuses, Acts, SpellsActs}
 use Rattle.replay_text.proofs.ReadingActs.{passed_none, passed_within, passed_one_more, passed_act, passed_all, refused_past_end, refused_at_line, refused_at_end}

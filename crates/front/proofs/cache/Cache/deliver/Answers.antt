@@ -1,4 +1,4 @@
-use Rattle.std.proofs.Common.{◌≡◌, ◌&&◌, Some, sym, subst, ◌∙◌}
+use Rattle.std.proofs.Common.{◌≡◌, ◌&&◌, Some, sym, subst}
 use Rattle.std.specs.Prelude.{position}
 use Rattle.run_events.specs.Events.{is_picked, is_rendered}
 use Rattle.front.specs.Caches.{BehindStandsFor, behind, flying_of}

@@ -1,4 +1,4 @@
-use Rattle.std.proofs.Common.{◌≡◌, ◌&&◌, Some, sym, subst, ◌∙◌}
+use Rattle.std.proofs.Common.{◌≡◌, ◌&&◌, Some, sym, subst}
 use Rattle.std.specs.Prelude.{position}
 use Rattle.run_events.specs.Events.{is_any, is_picked}
 use Rattle.run_events.specs.declared.step.Pick.TheVariants.{First}

@@ -83,12 +83,12 @@ fn are_refused(alloc: Global, hint: Hint, texts: &[&str], wanted: ValueFault) ->
 }
 
 const NUMBERS: Hint = Hint {
-    kind: HintedType::Long,
+    hinted: HintedType::Long,
     many: true,
 };
 
 const TRUTH: Hint = Hint {
-    kind: HintedType::Truth,
+    hinted: HintedType::Truth,
     many: false,
 };
 

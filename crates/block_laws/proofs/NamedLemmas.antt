@@ -1,6 +1,6 @@
 -- The names of statements, and what they say.
-use Rattle.std.proofs.Common.{◌≡◌, ◌≤◌, inl, inr, ℕ, Bool, true, false, cond, ◌&&◌, eqb, nat_eq, List, [], ◌∷◌, ◌++◌, drop, length, codes, Some, None, Result, Ok, Err, refl, ap, sym, ◌∙◌, arith}
-use Rattle.std.proofs.lemmas.Bool.{and_parts, eqb-true}
+use Rattle.std.proofs.Common.{◌≡◌, ◌≤◌, inl, inr, Bool, true, false, cond, ◌&&◌, eqb, nat_eq, List, [], ◌∷◌, ◌++◌, drop, length, codes, Some, None, Result, Ok, Err, refl, ap, sym, ◌∙◌, arith}
+use Rattle.std.proofs.lemmas.Bool.{and_parts}
 use Rattle.std.specs.List.{starts_with}
 use Rattle.std.specs.Cmp.Lexicographic.{pointwise, same_text}
 use Rattle.sp_base.specs.Texts.{Text}
@@ -14,22 +14,14 @@ use Rattle.htl_blocks.specs.declared.attribute.Unwrap.TheVariants as unwrap
 use Rattle.htl_blocks.specs.declared.statement.Statement.{Statement}
 use Rattle.htl_blocks.specs.declared.statement.Statement.TheVariants as statement
 use Rattle.htl_blocks.specs.Attributes.{ValueText, none, unquoted, quoted, at_most_one, one_piece, is_variable, list_statement, statement_of, statement_attribute, unwraps, value_of, with_read_value, attribute_with, attribute_without}
+use Rattle.htl_blocks.proofs.Split.{begins_with}
 use Rattle.block_laws.specs.TagStatements.{IsNamed, Says}
 
 -- ---- names
 
--- a text that begins with another goes on after it
-goes_on : (t start : Text) → starts_with nat_eq t start ≡ true → (more : Text) × (t ≡ start ++ more)
-goes_on t [] e = (t, refl)
-goes_on [] (d ∷ start) e = absurd cc
-goes_on (c ∷ t) (d ∷ start) e =
-    let both = and_parts (eqb d c) (starts_with nat_eq t start) e in
-    let more = goes_on t start both.1 in
-    (more.0, ap (λ (u : Text). c ∷ u) more.1 ∙ ap (λ (n : ℕ). n ∷ (start ++ more.0)) (sym (eqb-true d c both.0)))
-
 named_list : (name : Text) (s : Statement) → starts_with nat_eq name (codes "data-sly-list.") ≡ true → list_statement (drop 14 name) ≡ Some s → IsNamed name s
 named_list name s starts e =
-    let x = goes_on name (codes "data-sly-list.") starts in
+    let x = begins_with name (codes "data-sly-list.") starts in
     let rest : drop 14 name ≡ x.0 = ap (drop 14) x.1 in
     go x.0 x.1 (is_variable x.0) refl (ap list_statement (sym rest) ∙ e)
   where

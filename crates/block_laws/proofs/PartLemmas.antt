@@ -12,9 +12,10 @@ use Rattle.htl_blocks.specs.declared.quoting.Quoting.TheVariants.{Outside, Withi
 use Rattle.htl_blocks.specs.Markup.{begins_end_tag, begins_tag, ended_len, ends_run, ends_after_name, ends_tag, is_name_byte, tag_name_len, part_len, parts, parts_after, markup_quoting_step, run_bytes, tag_end, tag_len}
 use Rattle.htl_blocks.specs.Spelling.{whole_text}
 use Rattle.htl_blocks.proofs.Parts.{parts_after_skipped}
-use Rattle.htl_blocks.proofs.Split.{part_is_tag, parts_none}
+use Rattle.htl_blocks.proofs.Split.{part_is_tag, parts_none, take_all}
+use Rattle.htl_blocks.proofs.Plain.{drop_all}
 use Rattle.block_laws.specs.PartKinds.{quoting_after, HoldsOfNone, ends_tag_before, IsTagName, end_tag_of, BeginsNoEndTag, IsPart, AreParts}
-use Rattle.block_laws.proofs.Scans.{take_all, drop_all, cut_behind, scan, Finds, scan_finds, scan_is, scan_none, Run, run_found, run_is}
+use Rattle.block_laws.proofs.Scans.{cut_behind, scan, Finds, scan_finds, scan_is, scan_none, Run, run_found, run_is}
 
 -- ---- tags
 

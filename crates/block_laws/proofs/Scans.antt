@@ -11,14 +11,6 @@ use Rattle.block_laws.specs.TagStatements.{BeginsApart}
 
 -- ---- a text in two
 
-pub take_all : (t : Text) → take (length t) t ≡ t
-take_all [] = refl
-take_all (c ∷ t) = ap (λ (u : Text). c ∷ u) (take_all t)
-
-pub drop_all : (t : Text) → drop (length t) t ≡ []
-drop_all [] = refl
-drop_all (c ∷ t) = drop_all t
-
 -- a text cut behind its first bytes
 pub cut_behind : (w later t : Text) (n : ℕ) → t ≡ w ++ later → n ≡ length w → (take n t ≡ w) × (drop n t ≡ later)
 cut_behind w later t n whole len =

@@ -9,6 +9,7 @@ use Rattle.json.specs.declared.token.Token.{Token}
 use Rattle.json.specs.Json.{parse_map}
 use Rattle.serde_json.specs.Data.{object, Members}
 use Rattle.sp_base.specs.Paths.{most_segments}
+use Rattle.sp_base.proofs.BoolLemmas.{or_true}
 use Rattle.resource_tree.specs.Content.{Content, kid, most_nodes}
 use Rattle.content_json.specs.declared.part.Part.{Part}
 use Rattle.content_json.specs.declared.part.Part.TheVariants as part
@@ -23,10 +24,6 @@ use Rattle.content_json.proofs.PassLemmas.{object_in, passes_under, text_of_valu
 use Rattle.content_json.proofs.SizeLemmas.{length-nodes_in}
 
 -- ---- a member
-
-or_true : (b : Bool) → (b || true) ≡ true
-or_true true = refl
-or_true false = refl
 
 -- an object that is too deep
 pub deep_made : (levels : ℕ) (path : List (List ℕ)) (name : List ℕ) (ts rest : List spec.Token) (found : Option Part) (b : Bool) → levels ≡ 0 → found ≡ (if b then Some part.Unfit else None) → IsPassedOver b (members_of_tokens 61 ts) rest

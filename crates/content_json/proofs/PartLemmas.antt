@@ -20,6 +20,8 @@ use Rattle.sp_base.specs.Texts.{Properties}
 use Rattle.sp_base.specs.declared.value.Value.{Value}
 use Rattle.sp_base.specs.declared.value.Value.TheVariants.{Text, Long, Truth, Texts, Longs, Truths}
 use Rattle.sp_base.proofs.PropertyLemmas.{same_name}
+use Rattle.sp_base.proofs.BoolLemmas.{and_false, and_true}
+use Rattle.sp_base.proofs.OptionLemmas.{is_some-option_map}
 use Rattle.resource_tree.specs.Content.{Content, kid}
 use Rattle.content_json.specs.declared.fault.Cause.{Cause}
 use Rattle.content_json.specs.declared.kind.Kind.TheVariants as kind
@@ -96,14 +98,6 @@ fit_found levels q d (member l x ms) h e =
     ] refl e
 
 -- ---- kids
-
-and_false : (b : Bool) → (b && false) ≡ false
-and_false true = refl
-and_false false = refl
-
-and_true : (b : Bool) → (b && true) ≡ b
-and_true true = refl
-and_true false = refl
 
 no_kid : (name : List ℕ) (d : Data) → is_object d ≡ false → false ≡ is_kid_member name d
 no_kid name d e = sym (ap (λ b. not (is_order name) && b) e ∙ and_false (not (is_order name)))
@@ -266,10 +260,6 @@ some_or : {A : Type 0} (a b : Option A) → is_some (option_or a b) ≡ (is_some
 some_or None b = refl
 some_or (Some x) b = refl
 
-some_map : {A B : Type 0} (f : A → B) (o : Option A) → is_some (option_map f o) ≡ is_some o
-some_map f None = refl
-some_map f (Some x) = refl
-
 own : {A : Type 0} (bad good : Bool) (x y : A) → is_some (if bad then Some x else (if good then None else Some y)) ≡ (bad || not good)
 own true good x y = refl
 own false true x y = refl
@@ -296,7 +286,7 @@ step order stands fault deep bad faults deeper rest e = ap (λ r. (not stands ||
 
 member_faults : (order : Bool) (name : List ℕ) (d : Data) → is_some (if order then None else option_map (in_member name) (fault_in d)) ≡ (if order then false else is_some (fault_in d))
 member_faults true name d = refl
-member_faults false name d = some_map (in_member name) (fault_in d)
+member_faults false name d = is_some-option_map (in_member name) (fault_in d)
 
 pub has_unfit_is : (levels : ℕ) (ms : Members) → has_unfit levels ms ≡ ((has_bad_name ms || is_some (fault_below ms)) || is_deeper_below levels ms)
 has_unfit_is levels no_members = refl

@@ -1,9 +1,9 @@
 -- How long file names are.
-use Rattle.std.proofs.Common.{ℕ, Bool, true, false, cond, List, [], ◌∷◌, ◌++◌, ◌+◌, ◌<◌, ◌≤◌, length, take, get_or, flat_map, refl, sym, ◌∙◌, ap, ◌≡◌, arith, length-append, nat_le}
+use Rattle.std.proofs.Common.{ℕ, false, List, [], ◌∷◌, ◌++◌, ◌+◌, ◌<◌, ◌≤◌, length, take, get_or, flat_map, sym, ◌∙◌, ap, ◌≡◌, arith, length-append}
 use Rattle.std.proofs.lemmas.Bool.Decides.{nat_tests}
 use Rattle.std.proofs.lemmas.List.{take_more}
 use Rattle.std.proofs.lemmas.List.Concat.{flat_map-append}
-use Rattle.cover_rules.specs.Names.{file_byte, file_name, has_file_name, is_plain_name_byte}
+use Rattle.cover_rules.specs.Names.{file_byte, file_name, has_file_name}
 
 some_bytes : (b : ℕ) → 1 ≤ length (file_byte b)
 some_bytes b = grind arith

@@ -6,7 +6,7 @@ use Rattle.std.specs.Str.Lossy.{utf8_lossy}
 use Rattle.sp_base.specs.Requests.{Request}
 use Rattle.sp_base.specs.declared.answer.Answer.{Answer}
 use Rattle.sp_base.specs.declared.answer.Mark.{Mark}
-use Rattle.sp_base.specs.declared.answer.Mark.TheVariants.{Plain, NoCache, NoStore, MustRevalidate}
+use Rattle.sp_base.specs.declared.answer.Mark.TheVariants.{Plain}
 use Rattle.sp_base.specs.Fields.{field_of}
 use Rattle.form_urlencoded.specs.Form.{raw_pairs, decode}
 use Rattle.glob_rules.specs.Rules.{allows}

@@ -1,5 +1,5 @@
 -- The folders of keys and of invalidations are mangled paths whose segments have file names.
-use Rattle.std.proofs.Common.{◌≡◌, ◌<◌, ◌+◌, ◌-◌, ℕ, zero, suc, Bool, true, false, cond, List, [], ◌∷◌, Some, None, Contains, drop, length, take, map, get_or, refl, sym, ◌∙◌, ap, subst, arith}
+use Rattle.std.proofs.Common.{◌≡◌, ◌+◌, ◌-◌, ℕ, zero, suc, Bool, true, false, cond, List, [], ◌∷◌, Some, None, Contains, drop, length, take, get_or, refl, sym, ◌∙◌, ap, subst, arith}
 use Rattle.std.proofs.lemmas.Bool.{and_from}
 use Rattle.std.proofs.lemmas.List.{take-map}
 use Rattle.std.specs.List.{list_all, prefix_len, take_while}
@@ -50,11 +50,6 @@ pub page_file : (path : List (List ℕ)) (key : PageKey) → mangled_segs (mangl
 page_file path key again e = subst (λ (f : List ℕ). mangled_segs (f ∷ []) ≡ f ∷ []) (sym (page_is path key e).1) (last_is (mangled_segs path) again)
 
 -- ---- the folders that an invalidation touches
-
-get_map : (seg : List ℕ) (paths : List (List (List ℕ))) (n : ℕ) (d e : List (List ℕ)) → n < length paths → get_or (map (λ path. seg ∷ path) paths) n d ≡ seg ∷ get_or paths n e
-get_map seg [] n d e h = absurd (omega arith)
-get_map seg (path ∷ paths) zero d e h = refl
-get_map seg (path ∷ paths) (suc n) d e h = get_map seg paths n d e (omega arith)
 
 named : (segs : List (List ℕ)) → list_all has_file_name (take_while is_folder_segment segs) ≡ true
 named [] = refl

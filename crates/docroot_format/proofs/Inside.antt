@@ -13,7 +13,7 @@ use Rattle.sp_base.proofs.BoolLemmas.{and_first, and_second}
 use Rattle.cover_rules.specs.declared.page.PageKey.{PageKey}
 use Rattle.cover_rules.specs.Pages.{is_file, is_page, key_at, page_key_of}
 use Rattle.cover_rules.specs.Names.{is_plain_name_byte, file_byte, file_name}
-use Rattle.docroot_format.specs.Names.{body_name, epoch_name, folder_name, head_name, stat_name, is_file_name_byte}
+use Rattle.docroot_format.specs.Names.{body_name, folder_name, head_name, stat_name, is_file_name_byte}
 use Rattle.docroot_format.proofs.NameLemmas.{append_both}
 use Rattle.docroot_format.proofs.NameSizes.{file_some}
 

@@ -8,38 +8,38 @@ use Rattle.form_input.specs.declared.fault.FormFault.{FormFault}
 use Rattle.form_input.specs.declared.fault.FormFault.TheVariants.{TooMany}
 use Rattle.form_input.specs.declared.boundary.LineForm.{LineForm}
 use Rattle.form_input.specs.declared.boundary.LineForm.TheVariants.{Opening, Closing, Plain}
-use Rattle.form_input.specs.Multipart.{Section, Sections, line_kind, is_plain_line, is_closing_line, sections, pair_of, before_all, with_part, pairs_of, dash_boundary, multipart_of}
+use Rattle.form_input.specs.Multipart.{Section, Sections, line_form, is_plain_line, is_closing_line, sections, pair_of, before_all, with_part, pairs_of, dash_boundary, multipart_of}
 use Rattle.form_input.specs.Lines.{lines}
 use Rattle.form_input.specs.Bodies.{BodyPart, part_lines, are_plain, is_body_part, HasPairs}
 use Rattle.form_input.proofs.FormLemmas.{Pairs, closing_section, part_section, end_of_sections, last_section}
 
-plain_kind : (k : LineForm) → is_plain_line k ≡ true → k ≡ Plain
-plain_kind Opening e = absurd cc
-plain_kind Closing e = absurd cc
-plain_kind Plain e = refl
+plain_form : (k : LineForm) → is_plain_line k ≡ true → k ≡ Plain
+plain_form Opening e = absurd cc
+plain_form Closing e = absurd cc
+plain_form Plain e = refl
 
-closing_kind : (k : LineForm) → is_closing_line k ≡ true → k ≡ Closing
-closing_kind Opening e = absurd cc
-closing_kind Closing e = refl
-closing_kind Plain e = absurd cc
+closing_form : (k : LineForm) → is_closing_line k ≡ true → k ≡ Closing
+closing_form Opening e = absurd cc
+closing_form Closing e = refl
+closing_form Plain e = absurd cc
 
-pub opening_kind : (k : LineForm) → not (is_plain_line k) ≡ true → not (is_closing_line k) ≡ true → k ≡ Opening
-opening_kind Opening e f = refl
-opening_kind Closing e f = absurd cc
-opening_kind Plain e f = absurd cc
+pub opening_form : (k : LineForm) → not (is_plain_line k) ≡ true → not (is_closing_line k) ≡ true → k ≡ Opening
+opening_form Opening e f = refl
+opening_form Closing e f = absurd cc
+opening_form Plain e f = absurd cc
 
 module _ (dash : List ℕ) where
-  plain_line : (at : ℕ) (line : List ℕ) (more : List (List ℕ)) → line_kind dash line ≡ Plain
+  plain_line : (at : ℕ) (line : List ℕ) (more : List (List ℕ)) → line_form dash line ≡ Plain
       → ◌≡◌ {A = Sections} (sections dash at (line ∷ more)) (record { before = line ∷ (sections dash (at + length line + 2) more).before; later = (sections dash (at + length line + 2) more).later })
   unfolding sections
   plain_line at line more e = rw e refl
 
-  pub opening_line : (at : ℕ) (line : List ℕ) (more : List (List ℕ)) → line_kind dash line ≡ Opening
+  pub opening_line : (at : ℕ) (line : List ℕ) (more : List (List ℕ)) → line_form dash line ≡ Opening
       → ◌≡◌ {A = Sections} (sections dash at (line ∷ more)) (record { before = []; later = record { place = at; closing = false; content = (sections dash (at + length line + 2) more).before } ∷ (sections dash (at + length line + 2) more).later })
   unfolding sections
   opening_line at line more e = rw e refl
 
-  pub closing_line : (at : ℕ) (line : List ℕ) (more : List (List ℕ)) → line_kind dash line ≡ Closing
+  pub closing_line : (at : ℕ) (line : List ℕ) (more : List (List ℕ)) → line_form dash line ≡ Closing
       → ◌≡◌ {A = Sections} (sections dash at (line ∷ more)) (record { before = []; later = record { place = at; closing = true; content = (sections dash (at + length line + 2) more).before } ∷ (sections dash (at + length line + 2) more).later })
   unfolding sections
   closing_line at line more e = rw e refl
@@ -55,8 +55,8 @@ module _ (dash : List ℕ) where
   unfolding place_after
   plain_lines at [] rest e = refl
   plain_lines at (line ∷ prefix) rest e =
-      let ih = plain_lines (at + length line + 2) prefix rest (and_second (is_plain_line (line_kind dash line)) _ e) in
-      plain_line at line (prefix ++ rest) (plain_kind (line_kind dash line) (and_first (is_plain_line (line_kind dash line)) _ e))
+      let ih = plain_lines (at + length line + 2) prefix rest (and_second (is_plain_line (line_form dash line)) _ e) in
+      plain_line at line (prefix ++ rest) (plain_form (line_form dash line) (and_first (is_plain_line (line_form dash line)) _ e))
       ∙ ap (λ (s : Sections). record { before = line ∷ s.before; later = s.later }) ih
 
   -- the sections of parts and a closing line begin with a boundary line
@@ -66,41 +66,41 @@ module _ (dash : List ℕ) where
     pub before : (sections dash at ls).before ≡ []
     pub later : (sections dash at ls).later ≡ first ∷ more
 
-  begins : (at : ℕ) (parts : List BodyPart) (closing : List ℕ) (epilogue : List (List ℕ)) → list_all (is_body_part dash) parts ≡ true → is_closing_line (line_kind dash closing) ≡ true
+  begins : (at : ℕ) (parts : List BodyPart) (closing : List ℕ) (epilogue : List (List ℕ)) → list_all (is_body_part dash) parts ≡ true → is_closing_line (line_form dash closing) ≡ true
       → Begins at (part_lines parts ++ closing ∷ epilogue)
   begins at [] closing epilogue opened closed =
-      let e = closing_line at closing epilogue (closing_kind (line_kind dash closing) closed) in
+      let e = closing_line at closing epilogue (closing_form (line_form dash closing) closed) in
       record { first = _; more = _; before = ap (λ (s : Sections). s.before) e; later = ap (λ (s : Sections). s.later) e }
   begins at (p ∷ parts) closing epilogue opened closed =
       let here = and_first (is_body_part dash p) _ opened in
-      let kind = opening_kind (line_kind dash p.line) (and_first _ _ here) (and_first _ _ (and_second (not (is_plain_line (line_kind dash p.line))) _ here)) in
-      let e = opening_line at p.line ((p.content ++ part_lines parts) ++ closing ∷ epilogue) kind in
+      let form = opening_form (line_form dash p.line) (and_first _ _ here) (and_first _ _ (and_second (not (is_plain_line (line_form dash p.line))) _ here)) in
+      let e = opening_line at p.line ((p.content ++ part_lines parts) ++ closing ∷ epilogue) form in
       record { first = _; more = _; before = ap (λ (s : Sections). s.before) e; later = ap (λ (s : Sections). s.later) e }
 
   few_more : (end n : ℕ) (place : ℕ) (pair : List ℕ × List ℕ) (rest : Pairs) → n < 1000 → with_part n place (Some pair) (Ok rest) ≡ Ok (pair ∷ rest)
   few_more end n place pair rest low = let other : eqb n 1000 ≡ false = grind (arith, nat_tests) in rw other refl
 
   -- parts and a closing line read as their pairs
-  read_parts : (end n at : ℕ) (parts : List BodyPart) (pairs : Pairs) (closing : List ℕ) (epilogue : List (List ℕ)) → list_all (is_body_part dash) parts ≡ true → is_closing_line (line_kind dash closing) ≡ true
+  read_parts : (end n at : ℕ) (parts : List BodyPart) (pairs : Pairs) (closing : List ℕ) (epilogue : List (List ℕ)) → list_all (is_body_part dash) parts ≡ true → is_closing_line (line_form dash closing) ≡ true
       → map (λ (p : BodyPart). pair_of p.content) parts ≡ map Some pairs → n + length pairs ≤ 1000 → pairs_of end n (sections dash at (part_lines parts ++ closing ∷ epilogue)).later ≡ Ok pairs
   read_parts end n at [] [] closing epilogue opened closed each few =
-      ap (λ (s : Sections). pairs_of end n s.later) (closing_line at closing epilogue (closing_kind (line_kind dash closing) closed)) ∙ closing_section end n _ _ refl
+      ap (λ (s : Sections). pairs_of end n s.later) (closing_line at closing epilogue (closing_form (line_form dash closing) closed)) ∙ closing_section end n _ _ refl
   read_parts end n at [] (q ∷ pairs) closing epilogue opened closed each few = absurd cc
   read_parts end n at (p ∷ parts) [] closing epilogue opened closed each few = absurd cc
   read_parts end n at (p ∷ parts) (q ∷ pairs) closing epilogue opened closed each few =
       let here = and_first (is_body_part dash p) _ opened in
-      let rest = and_second (not (is_plain_line (line_kind dash p.line))) _ here in
-      let kind = opening_kind (line_kind dash p.line) (and_first _ _ here) (and_first _ _ rest) in
+      let rest = and_second (not (is_plain_line (line_form dash p.line))) _ here in
+      let form = opening_form (line_form dash p.line) (and_first _ _ here) (and_first _ _ rest) in
       let tail = part_lines parts ++ closing ∷ epilogue in
       let after = place_after (at + length p.line + 2) p.content in
       let b = begins after parts closing epilogue (and_second (is_body_part dash p) _ opened) closed in
-      let inner = ap (sections dash (at + length p.line + 2)) (append_assoc p.content (part_lines parts) (closing ∷ epilogue)) ∙ plain_lines (at + length p.line + 2) p.content tail (and_second (not (is_closing_line (line_kind dash p.line))) _ rest) in
+      let inner = ap (sections dash (at + length p.line + 2)) (append_assoc p.content (part_lines parts) (closing ∷ epilogue)) ∙ plain_lines (at + length p.line + 2) p.content tail (and_second (not (is_closing_line (line_form dash p.line))) _ rest) in
       let content : (sections dash (at + length p.line + 2) ((p.content ++ part_lines parts) ++ closing ∷ epilogue)).before ≡ p.content = ap (λ (s : Sections). s.before) inner ∙ ap (λ (ls : List (List ℕ)). p.content ++ ls) b.before ∙ append-nil p.content in
       let later : (sections dash (at + length p.line + 2) ((p.content ++ part_lines parts) ++ closing ∷ epilogue)).later ≡ (sections dash after tail).later = ap (λ (s : Sections). s.later) inner in
       let pair : pair_of p.content ≡ Some q = cc in
       let others : map (λ (p : BodyPart). pair_of p.content) parts ≡ map Some pairs = cc in
       let ih = read_parts end (n + 1) after parts pairs closing epilogue (and_second (is_body_part dash p) _ opened) closed others (omega (arith, few)) in
-      ap (λ (s : Sections). pairs_of end n s.later) (opening_line at p.line ((p.content ++ part_lines parts) ++ closing ∷ epilogue) kind)
+      ap (λ (s : Sections). pairs_of end n s.later) (opening_line at p.line ((p.content ++ part_lines parts) ++ closing ∷ epilogue) form)
       ∙ rw (content, later, b.later) (part_section end n _ b.first b.more refl ∙ rw (pair, ← b.later, ih) (few_more end n at q pairs (omega (arith, few))))
 
   -- lines that read as pairs are spelled by parts
@@ -112,7 +112,7 @@ module _ (dash : List ℕ) where
     spells : ls ≡ preamble ++ (part_lines parts ++ closing ∷ epilogue)
     plain : are_plain dash preamble ≡ true
     opened : list_all (is_body_part dash) parts ≡ true
-    closed : is_closing_line (line_kind dash closing) ≡ true
+    closed : is_closing_line (line_form dash closing) ≡ true
     prefix : (sections dash at ls).before ≡ preamble
     each : map (λ (p : BodyPart). pair_of p.content) parts ≡ map Some pairs
     few : n + length pairs ≤ 1000
@@ -138,7 +138,7 @@ module _ (dash : List ℕ) where
   unfolding sections
   no_lines at = refl
 
-  opened_part : (line : List ℕ) (content : List (List ℕ)) (parts : List BodyPart) → line_kind dash line ≡ Opening → are_plain dash content ≡ true → list_all (is_body_part dash) parts ≡ true
+  opened_part : (line : List ℕ) (content : List (List ℕ)) (parts : List BodyPart) → line_form dash line ≡ Opening → are_plain dash content ≡ true → list_all (is_body_part dash) parts ≡ true
       → list_all (is_body_part dash) (record { line = line; content = content } ∷ parts) ≡ true
   opened_part line content parts k plain opened = rw (k, plain) opened
 
@@ -157,9 +157,9 @@ module _ (dash : List ℕ) where
       let none = end_of_sections end n in
       let nil = no_lines at in
       absurd (let f : pairs_of end n [] ≡ Ok pairs = sym (ap (pairs_of end n) nil) ∙ e in cc)
-  spelled end n at (line ∷ more) pairs small e = go (line_kind dash line) refl (λ m qs low f. spelled end m (at + length line + 2) more qs low f)
+  spelled end n at (line ∷ more) pairs small e = go (line_form dash line) refl (λ m qs low f. spelled end m (at + length line + 2) more qs low f)
     where
-      go : (k : LineForm) → line_kind dash line ≡ k → ((m : ℕ) (qs : Pairs) → m ≤ 1000 → pairs_of end m (sections dash (at + length line + 2) more).later ≡ Ok qs → Spelled m (at + length line + 2) more qs) → Spelled n at (line ∷ more) pairs
+      go : (k : LineForm) → line_form dash line ≡ k → ((m : ℕ) (qs : Pairs) → m ≤ 1000 → pairs_of end m (sections dash (at + length line + 2) more).later ≡ Ok qs → Spelled m (at + length line + 2) more qs) → Spelled n at (line ∷ more) pairs
       go Plain k ih =
           let here = plain_line at line more k in
           let w = ih n pairs small (sym (ap (λ (s : Sections). pairs_of end n s.later) here) ∙ e) in

@@ -3,7 +3,7 @@ use Rattle.std.proofs.Common.{◌≡◌, ◌≤◌, ◌+◌, ◌-◌, ℕ, suc, 
 use Rattle.std.proofs.Math.Seq.{take-append_seam}
 use Rattle.std.proofs.lemmas.List.{append-nil}
 use Rattle.form_input.specs.Lines.{lines, lines_left}
-use Rattle.form_input.specs.Multipart.{Sections, line_kind, is_plain_line, is_closing_line, with_line, sections}
+use Rattle.form_input.specs.Multipart.{Sections, line_form, is_plain_line, is_closing_line, with_line, sections}
 use Rattle.form_input.specs.Boundaries.{sections_left, with_lines, prefix_of, IsEnded, ArePartsPassed}
 use Rattle.std.proofs.lemmas.Bool.Decides.{nat_tests}
 use Rattle.form_input.proofs.LineLemmas.{lines_append}
@@ -13,7 +13,7 @@ passed_nothing dash end whole = record { prefix = []; done = []; parts = refl; e
 
 -- the sections from a line on
 first_line : (dash : List ℕ) (end : ℕ) (rest line : List ℕ) (more : List (List ℕ)) → lines rest ≡ line ∷ more
-    → sections_left dash end (Some rest) ≡ with_line (line_kind dash line) (end - length rest) line (sections dash (end - length rest + length line + 2) more)
+    → sections_left dash end (Some rest) ≡ with_line (line_form dash line) (end - length rest) line (sections dash (end - length rest + length line + 2) more)
 unfolding sections
 first_line dash end rest line more e = rw e refl
 
@@ -33,7 +33,7 @@ ended_more prefix line done alone e = elim e as (λ _. IsEnded (prefix ++ (line 
 
 -- one more line was read
 pub passed_line : (dash : List ℕ) (end : ℕ) (whole rest line more : List ℕ) → lines rest ≡ line ∷ lines more → lines line ≡ line ∷ [] → rest ≡ line ++ 13 ∷ 10 ∷ more
-    → is_plain_line (line_kind dash line) ≡ true → length whole ≤ end → ArePartsPassed dash end whole rest → ArePartsPassed dash end whole more
+    → is_plain_line (line_form dash line) ≡ true → length whole ≤ end → ArePartsPassed dash end whole rest → ArePartsPassed dash end whole more
 passed_line dash end whole rest line more first alone parts plain within p =
     let size : length rest ≡ length line + suc (suc (length more)) = rw parts (rw length-append refl) in
     let whole_size : length whole ≡ length p.prefix + length rest = rw p.parts (length-append p.prefix rest) in
@@ -43,7 +43,7 @@ passed_line dash end whole rest line more first alone parts plain within p =
       done = p.done ++ line ∷ [];
       parts = p.parts ∙ rw (parts, append_assoc, append_assoc) refl;
       ended = ended_more p.prefix line p.done alone p.ended;
-      same = p.same ∙ ap (with_lines p.done) (first_line dash end rest line (lines more) first ∙ plain_line (is_plain_line (line_kind dash line)) (is_closing_line (line_kind dash line)) (end - length rest) line _ plain ∙ rw at refl) ∙ twice p.done line _;
+      same = p.same ∙ ap (with_lines p.done) (first_line dash end rest line (lines more) first ∙ plain_line (is_plain_line (line_form dash line)) (is_closing_line (line_form dash line)) (end - length rest) line _ plain ∙ rw at refl) ∙ twice p.done line _;
     }
 
 mark_line : (kind : Bool) (closing : Bool) (at : ℕ) (line : List ℕ) (s : Sections) → kind ≡ false
@@ -85,13 +85,13 @@ pub record Reached (dash : List ℕ) (end : ℕ) (whole : List ℕ) (prefix afte
   pub later : (sections_left dash end (Some whole)).later ≡ record { place = place; closing = closing; content = (sections_left dash end after).before } ∷ (sections_left dash end after).later
 
 pub reached : (dash : List ℕ) (end : ℕ) (whole rest line : List ℕ) (after : Option (List ℕ)) → lines rest ≡ line ∷ lines_left after → ((more : List ℕ) → after ≡ Some more → rest ≡ line ++ 13 ∷ 10 ∷ more)
-    → is_plain_line (line_kind dash line) ≡ false → length whole ≤ end → ArePartsPassed dash end whole rest
-    → Reached dash end whole (prefix_of whole (length rest)) after (end - length rest) (is_closing_line (line_kind dash line))
+    → is_plain_line (line_form dash line) ≡ false → length whole ≤ end → ArePartsPassed dash end whole rest
+    → Reached dash end whole (prefix_of whole (length rest)) after (end - length rest) (is_closing_line (line_form dash line))
 reached dash end whole rest line after first parts plain within p =
     let whole_size : length whole ≡ length p.prefix + length rest = rw p.parts (length-append p.prefix rest) in
     let here = first_line dash end rest line (lines_left after) first
-    ∙ mark_line (is_plain_line (line_kind dash line)) (is_closing_line (line_kind dash line)) (end - length rest) line (sections dash (end - length rest + length line + 2) (lines_left after)) plain
-    ∙ ap (λ (s : Sections). record { before = []; later = record { place = end - length rest; closing = is_closing_line (line_kind dash line); content = s.before } ∷ s.later }) (left_after dash end rest line after (omega (arith, whole_size, within)) parts) in
+    ∙ mark_line (is_plain_line (line_form dash line)) (is_closing_line (line_form dash line)) (end - length rest) line (sections dash (end - length rest + length line + 2) (lines_left after)) plain
+    ∙ ap (λ (s : Sections). record { before = []; later = record { place = end - length rest; closing = is_closing_line (line_form dash line); content = s.before } ∷ s.later }) (left_after dash end rest line after (omega (arith, whole_size, within)) parts) in
     let all = p.same ∙ ap (with_lines p.done) here in
     record {
       before = ap (λ (s : Sections). s.before) all ∙ append-nil p.done ∙ sym (rw p.parts (prefix_lines p.prefix rest p.done p.ended));
@@ -99,10 +99,10 @@ reached dash end whole rest line after first parts plain within p =
     }
 
 -- no boundary line is left
-pub none_left : (dash : List ℕ) (end : ℕ) (whole rest line : List ℕ) → lines rest ≡ line ∷ [] → is_plain_line (line_kind dash line) ≡ true → ArePartsPassed dash end whole rest → (sections_left dash end (Some whole)).later ≡ []
+pub none_left : (dash : List ℕ) (end : ℕ) (whole rest line : List ℕ) → lines rest ≡ line ∷ [] → is_plain_line (line_form dash line) ≡ true → ArePartsPassed dash end whole rest → (sections_left dash end (Some whole)).later ≡ []
 unfolding sections
 none_left dash end whole rest line first plain p =
-    ap (λ (s : Sections). s.later) (p.same ∙ ap (with_lines p.done) (first_line dash end rest line [] first ∙ plain_line (is_plain_line (line_kind dash line)) (is_closing_line (line_kind dash line)) (end - length rest) line (sections dash (end - length rest + length line + 2) []) plain))
+    ap (λ (s : Sections). s.later) (p.same ∙ ap (with_lines p.done) (first_line dash end rest line [] first ∙ plain_line (is_plain_line (line_form dash line)) (is_closing_line (line_form dash line)) (end - length rest) line (sections dash (end - length rest + length line + 2) []) plain))
 
 -- what holds of what a reference points to
 pub copied : (P : List ℕ → Type 0) (o : Option (Bor (List ℕ))) → IfSome o (λ r. P r.now) → (more : List ℕ) → option_copied o ≡ Some more → P more

@@ -8,12 +8,12 @@ use Rattle.form_input.specs.declared.fault.FormFault.{FormFault}
 use Rattle.form_input.specs.declared.fault.FormFault.TheVariants.{WrongKind, NoBoundary, BadPart, TooMany, NoMemory}
 use Rattle.form_input.specs.declared.boundary.LineForm.{LineForm}
 use Rattle.form_input.specs.declared.boundary.LineForm.TheVariants.{Opening, Closing, Plain}
-use Rattle.form_input.specs.Multipart.{Sections, line_kind, is_plain_line, is_closing_line, sections, pair_of, with_part, pairs_of, dash_boundary, multipart_of}
+use Rattle.form_input.specs.Multipart.{Sections, line_form, is_plain_line, is_closing_line, sections, pair_of, with_part, pairs_of, dash_boundary, multipart_of}
 use Rattle.form_input.specs.Lines.{lines}
 use Rattle.form_input.specs.Bodies.{BodyPart, part_lines, are_plain, is_body_part}
 use Rattle.form_input.specs.BodyFaults.{bytes_of_lines, is_boundary_line, HasNoPart, LacksEnd, HasBadPart, HasTooMany, IsBodyFault}
 use Rattle.form_input.proofs.FormLemmas.{Pairs, part_section, end_of_sections, last_section}
-use Rattle.form_input.proofs.BodyLemmas.{opening_kind, opening_line, closing_line, place_after, plain_lines, no_lines, Begins}
+use Rattle.form_input.proofs.BodyLemmas.{opening_form, opening_line, closing_line, place_after, plain_lines, no_lines, Begins}
 
 module _ (dash : List ℕ) where
   place_append : (at : ℕ) (prefix rest : List (List ℕ)) → place_after dash at (prefix ++ rest) ≡ place_after dash (place_after dash at prefix) rest
@@ -27,23 +27,23 @@ module _ (dash : List ℕ) where
   place_is at (line ∷ more) = let ih = place_is (at + length line + 2) more in omega (arith, ih)
 
   bounded : (at : ℕ) (line : List ℕ) (more : List (List ℕ)) → is_boundary_line dash line ≡ true → Begins dash at (line ∷ more)
-  bounded at line more b = go (line_kind dash line) refl b
+  bounded at line more b = go (line_form dash line) refl b
     where
-      go : (k : LineForm) → line_kind dash line ≡ k → not (is_plain_line k) ≡ true → Begins dash at (line ∷ more)
+      go : (k : LineForm) → line_form dash line ≡ k → not (is_plain_line k) ≡ true → Begins dash at (line ∷ more)
       go Opening k b = let e = opening_line dash at line more k in record { first = _; more = _; before = ap (λ (s : Sections). s.before) e; later = ap (λ (s : Sections). s.later) e }
       go Closing k b = let e = closing_line dash at line more k in record { first = _; more = _; before = ap (λ (s : Sections). s.before) e; later = ap (λ (s : Sections). s.later) e }
       go Plain k b = absurd cc
 
-  part_kind : (p : BodyPart) → is_body_part dash p ≡ true → line_kind dash p.line ≡ Opening
-  part_kind p here = opening_kind (line_kind dash p.line) (and_first _ _ here) (and_first _ _ (and_second (not (is_plain_line (line_kind dash p.line))) _ here))
+  part_form : (p : BodyPart) → is_body_part dash p ≡ true → line_form dash p.line ≡ Opening
+  part_form p here = opening_form (line_form dash p.line) (and_first _ _ here) (and_first _ _ (and_second (not (is_plain_line (line_form dash p.line))) _ here))
 
   part_plain : (p : BodyPart) → is_body_part dash p ≡ true → are_plain dash p.content ≡ true
-  part_plain p here = and_second (not (is_closing_line (line_kind dash p.line))) _ (and_second (not (is_plain_line (line_kind dash p.line))) _ here)
+  part_plain p here = and_second (not (is_closing_line (line_form dash p.line))) _ (and_second (not (is_plain_line (line_form dash p.line))) _ here)
 
   begins : (at : ℕ) (parts : List BodyPart) (tail : List (List ℕ)) → list_all (is_body_part dash) parts ≡ true → ((a : ℕ) → Begins dash a tail) → Begins dash at (part_lines parts ++ tail)
   begins at [] tail opened tails = tails at
   begins at (p ∷ parts) tail opened tails =
-      let e = opening_line dash at p.line ((p.content ++ part_lines parts) ++ tail) (part_kind p (and_first (is_body_part dash p) _ opened)) in
+      let e = opening_line dash at p.line ((p.content ++ part_lines parts) ++ tail) (part_form p (and_first (is_body_part dash p) _ opened)) in
       record { first = _; more = _; before = ap (λ (s : Sections). s.before) e; later = ap (λ (s : Sections). s.later) e }
 
   -- a part and what begins with a boundary line
@@ -55,7 +55,7 @@ module _ (dash : List ℕ) where
       let inner = plain_lines dash (at + length p.line + 2) p.content rest (part_plain p here) in
       let content : (sections dash (at + length p.line + 2) (p.content ++ rest)).before ≡ p.content = ap (λ (s : Sections). s.before) inner ∙ ap (λ (ls : List (List ℕ)). p.content ++ ls) b.before ∙ append-nil p.content in
       let later : (sections dash (at + length p.line + 2) (p.content ++ rest)).later ≡ (sections dash after rest).later = ap (λ (s : Sections). s.later) inner in
-      ap (λ (s : Sections). pairs_of end n s.later) (opening_line dash at p.line (p.content ++ rest) (part_kind p here))
+      ap (λ (s : Sections). pairs_of end n s.later) (opening_line dash at p.line (p.content ++ rest) (part_form p here))
       ∙ rw (content, later, b.later) (part_section end n _ b.first b.more refl)
 
   fault_later : (n place : ℕ) (o : Option (List ℕ × List ℕ)) (q : List ℕ × List ℕ) (r : Result Pairs FormFault) (f : FormFault) → o ≡ Some q → n < 1000 → r ≡ Err f → with_part n place o r ≡ Err f
@@ -112,7 +112,7 @@ module _ (dash : List ℕ) where
   last_part end m at p here =
       let inner = plain_lines dash (at + length p.line + 2) p.content [] (part_plain p here) in
       let later : (sections dash (at + length p.line + 2) p.content).later ≡ [] = ap (λ (ls : List (List ℕ)). (sections dash (at + length p.line + 2) ls).later) (sym (append-nil p.content)) ∙ ap (λ (s : Sections). s.later) inner ∙ no_lines dash _ in
-      ap (λ (s : Sections). pairs_of end m s.later) (opening_line dash at p.line p.content (part_kind p here))
+      ap (λ (s : Sections). pairs_of end m s.later) (opening_line dash at p.line p.content (part_form p here))
       ∙ rw later (last_section end m _ refl)
 
   -- a part without a pair
@@ -121,7 +121,7 @@ module _ (dash : List ℕ) where
   bad_part end m at p next more here ended none = one_part end m at p (next ∷ more) here (λ a. bounded a next more ended) ∙ rw none refl
 
   opens : (p : BodyPart) → is_body_part dash p ≡ true → is_boundary_line dash p.line ≡ true
-  opens p here = and_first (not (is_plain_line (line_kind dash p.line))) _ here
+  opens p here = and_first (not (is_plain_line (line_form dash p.line))) _ here
 
 module _ (boundary body : List ℕ) where
   abbrev dash : List ℕ

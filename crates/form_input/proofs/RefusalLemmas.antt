@@ -6,7 +6,7 @@ use Rattle.form_input.specs.declared.fault.FormFault.{FormFault}
 use Rattle.form_input.specs.declared.fault.FormFault.TheVariants.{BadPart, TooMany}
 use Rattle.form_input.specs.declared.boundary.LineForm.{LineForm}
 use Rattle.form_input.specs.declared.boundary.LineForm.TheVariants.{Opening, Closing, Plain}
-use Rattle.form_input.specs.Multipart.{line_kind, is_closing_line, pair_of, dash_boundary, multipart_of}
+use Rattle.form_input.specs.Multipart.{line_form, is_closing_line, pair_of, dash_boundary, multipart_of}
 use Rattle.form_input.specs.Lines.{lines}
 use Rattle.form_input.specs.Bodies.{BodyPart, part_lines, are_plain, is_body_part}
 use Rattle.form_input.specs.BodyFaults.{bytes_of_lines, is_boundary_line, BeginsWithPairs, IsBodyFault}
@@ -28,7 +28,7 @@ module _ (dash : List ℕ) where
     closing : List ℕ
     epilogue : List (List ℕ)
     parted : Parted ls pairs (closing ∷ epilogue)
-    closed : is_closing_line (line_kind dash closing) ≡ true
+    closed : is_closing_line (line_form dash closing) ≡ true
     few : n + length pairs ≤ 1000
 
   record Lacks (n : ℕ) (ls : List (List ℕ)) : Type 0 where
@@ -97,11 +97,11 @@ module _ (dash : List ℕ) where
   abbrev Reading : ℕ → List (List ℕ) → Type 0
   Reading n ls = (are_plain dash ls ≡ true) ⊎ Bounded n ls
 
-  opening : (line : List ℕ) (content : List (List ℕ)) → line_kind dash line ≡ Opening → are_plain dash content ≡ true → is_body_part dash (record { line = line; content = content }) ≡ true
+  opening : (line : List ℕ) (content : List (List ℕ)) → line_form dash line ≡ Opening → are_plain dash content ≡ true → is_body_part dash (record { line = line; content = content }) ≡ true
   opening line content k plain = rw (k, plain) refl
 
   -- an opening line, and lines that are read after it
-  opened_by : (n : ℕ) (line : List ℕ) (more : List (List ℕ)) → n ≤ 1000 → line_kind dash line ≡ Opening → ((m : ℕ) → m ≤ 1000 → Reading m more) → Bounded n (line ∷ more)
+  opened_by : (n : ℕ) (line : List ℕ) (more : List (List ℕ)) → n ≤ 1000 → line_form dash line ≡ Opening → ((m : ℕ) → m ≤ 1000 → Reading m more) → Bounded n (line ∷ more)
   opened_by n line more small k readings = record { preamble = []; next = line; more = more; spells = refl; plain = refl; ended = rw k refl; tail = by_count (eqb n 1000) refl }
     where
       lacks : are_plain dash more ≡ true → Tail n (line ∷ more)
@@ -152,15 +152,15 @@ module _ (dash : List ℕ) where
       by_count true e = full (grind (arith, nat_tests)) (readings 0 (omega arith))
       by_count false e = others (readings (n + 1) (grind (arith, nat_tests)))
 
-  plain_before : (n : ℕ) (line : List ℕ) (more : List (List ℕ)) → line_kind dash line ≡ Plain → Reading n more → Reading n (line ∷ more)
+  plain_before : (n : ℕ) (line : List ℕ) (more : List (List ℕ)) → line_form dash line ≡ Plain → Reading n more → Reading n (line ∷ more)
   plain_before n line more k (inl plain) = inl (rw k plain)
   plain_before n line more k (inr b) = inr (record { preamble = line ∷ b.preamble; next = b.next; more = b.more; spells = ap (λ (l : List (List ℕ)). line ∷ l) b.spells; plain = rw k b.plain; ended = b.ended; tail = b.tail })
 
   reading : (n : ℕ) (ls : List (List ℕ)) → n ≤ 1000 → Reading n ls
   reading n [] small = inl refl
-  reading n (line ∷ more) small = go (line_kind dash line) refl (λ m low. reading m more low)
+  reading n (line ∷ more) small = go (line_form dash line) refl (λ m low. reading m more low)
     where
-      go : (k : LineForm) → line_kind dash line ≡ k → ((m : ℕ) → m ≤ 1000 → Reading m more) → Reading n (line ∷ more)
+      go : (k : LineForm) → line_form dash line ≡ k → ((m : ℕ) → m ≤ 1000 → Reading m more) → Reading n (line ∷ more)
       go Plain k ih = plain_before n line more k (ih n small)
       go Closing k ih = inr (record {
         preamble = [];

@@ -3,9 +3,9 @@ use Rattle.std.specs.Prelude.{◌≡◌, ◌≤◌, ◌+◌, ◌⊎◌, ℕ, Boo
 use Rattle.std.specs.List.{list_all}
 use Rattle.sp_base.specs.Texts.{Text, Pairs}
 use Rattle.form_input.specs.declared.fault.FormFault.{FormFault}
-use Rattle.form_input.specs.declared.fault.FormFault.TheVariants.{WrongKind, NoBoundary, BadPart, TooMany, NoMemory}
+use Rattle.form_input.specs.declared.fault.FormFault.TheVariants.{BadPart, TooMany}
 use Rattle.form_input.specs.Lines.{lines}
-use Rattle.form_input.specs.Multipart.{dash_boundary, line_kind, is_plain_line, pair_of, most_pairs}
+use Rattle.form_input.specs.Multipart.{dash_boundary, line_form, is_plain_line, pair_of, most_pairs}
 use Rattle.form_input.specs.Bodies.{BodyPart, part_lines, are_plain, is_body_part}
 
 -- the bytes of lines, each with its line end
@@ -15,7 +15,7 @@ bytes_of_lines (line ∷ more) = length line + 2 + bytes_of_lines more
 
 -- a boundary line, be it the closing one or not
 abbrev pub is_boundary_line : List ℕ → List ℕ → Bool
-is_boundary_line dash line = not (is_plain_line (line_kind dash line))
+is_boundary_line dash line = not (is_plain_line (line_form dash line))
 
 -- lines begin with a preamble and with parts that each have a pair; the others are left
 pub record BeginsWithPairs (boundary : List ℕ) (ls : List Text) (pairs : Pairs) (left : List Text) : Type 0 where

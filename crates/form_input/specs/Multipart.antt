@@ -15,14 +15,14 @@ abbrev pub dash_boundary : List ℕ → List ℕ
 dash_boundary boundary = codes "--" ++ boundary
 
 -- what a line is by what follows those bytes: blanks, or `--` and blanks
-abbrev pub kind_after : List ℕ → LineForm
-kind_after rest = if list_all is_space_or_tab rest then Opening else (if bytes_eq (take 2 rest) (codes "--") && list_all is_space_or_tab (drop 2 rest) then Closing else Plain)
+abbrev pub form_after : List ℕ → LineForm
+form_after rest = if list_all is_space_or_tab rest then Opening else (if bytes_eq (take 2 rest) (codes "--") && list_all is_space_or_tab (drop 2 rest) then Closing else Plain)
 
 -- what a line is: a boundary line begins with the bytes of the boundary
-abbrev pub line_kind : List ℕ → List ℕ → LineForm
-line_kind dash line = if bytes_eq (take (length dash) line) dash then kind_after (drop (length dash) line) else Plain
+abbrev pub line_form : List ℕ → List ℕ → LineForm
+line_form dash line = if bytes_eq (take (length dash) line) dash then form_after (drop (length dash) line) else Plain
 
--- whether a line of this kind is no boundary line
+-- whether a line of this form is no boundary line
 abbrev pub is_plain_line : LineForm → Bool
 is_plain_line Opening = false
 is_plain_line Closing = false
@@ -47,13 +47,13 @@ pub record Sections : Type 0 where
 
 -- a line at a place before sections
 abbrev pub with_line : LineForm → ℕ → List ℕ → Sections → Sections
-with_line kind at line s = if is_plain_line kind then record { before = line ∷ s.before; later = s.later }
-    else record { before = []; later = record { place = at; closing = is_closing_line kind; content = s.before } ∷ s.later }
+with_line form at line s = if is_plain_line form then record { before = line ∷ s.before; later = s.later }
+    else record { before = []; later = record { place = at; closing = is_closing_line form; content = s.before } ∷ s.later }
 
 -- the sections of lines, of which the first begins at this place of the body; a line takes its bytes and CR LF
 unfoldable pub sections : List ℕ → ℕ → List Text → Sections
 sections dash at [] = record { before = []; later = [] }
-sections dash at (line ∷ more) = with_line (line_kind dash line) at line (sections dash (at + length line + 2) more)
+sections dash at (line ∷ more) = with_line (line_form dash line) at line (sections dash (at + length line + 2) more)
 
 -- the first text, where it is there, else the other
 abbrev pub first_some : Option (List ℕ) → Option (List ℕ) → Option (List ℕ)

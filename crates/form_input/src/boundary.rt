@@ -1,6 +1,6 @@
 //! The boundary lines of a multipart body.
 ghost use Rattle.std.specs.Prelude.{◌≡◌, ◌<◌, ◌≤◌, [], Some, length, option_copied, IfSome, IfNone};
-ghost use Rattle.form_input.specs.Multipart.{kind_after, line_kind, is_plain_line, is_closing_line};
+ghost use Rattle.form_input.specs.Multipart.{form_after, line_form, is_plain_line, is_closing_line};
 ghost use Rattle.form_input.specs.Boundaries.{IsMark, prefix_of, sections_left};
 
 use crate::lines::{LINE_END, next_line};
@@ -16,8 +16,8 @@ pub enum LineForm {
     Plain,
 }
 
-fn kind_after(rest: &[u8]) -> LineForm
-    ensures { result ≡ kind_after rest.now }
+fn form_after(rest: &[u8]) -> LineForm
+    ensures { result ≡ form_after rest.now }
 {
     if all_blank(rest) {
         return LineForm::Opening;
@@ -34,11 +34,11 @@ fn kind_after(rest: &[u8]) -> LineForm
     }
 }
 
-fn kind_of(dash: &[u8], line: &[u8]) -> LineForm
-    ensures { result ≡ line_kind dash.now line.now }
+fn line_form(dash: &[u8], line: &[u8]) -> LineForm
+    ensures { result ≡ line_form dash.now line.now }
 {
     match line.strip_prefix(dash) {
-        Some(rest) => kind_after(rest),
+        Some(rest) => form_after(rest),
         None => LineForm::Plain,
     }
 }
@@ -65,11 +65,11 @@ pub fn next_mark<'a>(dash: &[u8], end: usize, text: &'a [u8]) -> Option<Boundary
     let mut rest = text;
     loop {
         let (line, after) = next_line(rest);
-        let kind = kind_of(dash, line);
-        if !is_plain(kind) {
+        let form = line_form(dash, line);
+        if !is_plain(form) {
             return Some(BoundaryLine {
                 place: end - rest.len(),
-                closing: is_closing(kind),
+                closing: is_closing(form),
                 before: before(text, rest.len()),
                 after,
             });
@@ -81,20 +81,20 @@ pub fn next_mark<'a>(dash: &[u8], end: usize, text: &'a [u8]) -> Option<Boundary
     }
 }
 
-fn is_plain(kind: LineForm) -> bool
-    ensures { result ≡ is_plain_line kind }
+fn is_plain(form: LineForm) -> bool
+    ensures { result ≡ is_plain_line form }
 {
-    match kind {
+    match form {
         LineForm::Opening => false,
         LineForm::Closing => false,
         LineForm::Plain => true,
     }
 }
 
-fn is_closing(kind: LineForm) -> bool
-    ensures { result ≡ is_closing_line kind }
+fn is_closing(form: LineForm) -> bool
+    ensures { result ≡ is_closing_line form }
 {
-    match kind {
+    match form {
         LineForm::Opening => false,
         LineForm::Closing => true,
         LineForm::Plain => false,

@@ -1,11 +1,10 @@
 -- Whole answers of the cache to a request.
-use Rattle.std.proofs.Common.{◌≡◌, ℕ, ◌+◌, ◌<◌, ◌≤◌, ◌++◌, ◌||◌, Bool, true, false, suc, List, [], ◌∷◌, Option, Some, None, Result, Ok, Err, length, map, refl, ap, sym, subst, ◌∙◌, arith, ◌⊎◌, inl, inr}
-use Rattle.std.specs.Prelude.{◌==◌, IsTrue, nat_eq, nat_le, not, remove, slice_get}
-use Rattle.flights.specs.Flights.{AreRising as AreRisingFlights, numbers_of, without as flights_without, most_flights}
-use Rattle.flights.specs.declared.flight.Flight.{Flight}
+use Rattle.std.proofs.Common.{◌≡◌, ℕ, ◌+◌, ◌<◌, ◌≤◌, ◌++◌, ◌||◌, Bool, true, false, suc, List, [], ◌∷◌, Option, Some, Result, Ok, Err, length, refl, ap, sym, subst, ◌∙◌, arith, ◌⊎◌, inl, inr}
+use Rattle.std.specs.Prelude.{◌==◌, IsTrue, nat_le}
+use Rattle.flights.specs.Flights.{most_flights}
 use Rattle.std.specs.Option.{option_map}
 use Rattle.std.proofs.lemmas.Bool.{or_from}
-use Rattle.std.proofs.lemmas.List.{append-nil, length-map}
+use Rattle.std.proofs.lemmas.List.{append-nil}
 use Rattle.std.proofs.lemmas.Map.{update_here}
 use Rattle.sp_base.specs.declared.answer.Answer.{Answer}
 use Rattle.sp_base.specs.Requests.{Request}
@@ -14,41 +13,36 @@ use Rattle.glob_rules.specs.Rules.{allows}
 use Rattle.any_config.specs.declared.farm.Farm.{Farm}
 use Rattle.cover_rules.specs.declared.page.PageKey.{PageKey}
 use Rattle.cover_rules.specs.declared.invalidation.Invalidation.{Invalidation}
-use Rattle.dispatch_rules.specs.Admission.{admits}
 use Rattle.dispatch_rules.specs.Caching.{cache_key}
 use Rattle.http_front.specs.declared.turn.Turn.TheVariants.{Whole}
 use Rattle.invalidation.specs.Invalidations.{invalidation_of, is_invalidation}
 use Rattle.invalidation.specs.declared.inv_fault.InvFault.{InvFault}
-use Rattle.cache_log.specs.Entries.{LogEntry, flights_asked, flushes_begun, is_up, stamps_drawn}
+use Rattle.cache_log.specs.Entries.{flights_asked, flushes_begun, stamps_drawn}
 use Rattle.cache_log.specs.Rules.{IsOwed}
-use Rattle.coherence_core.specs.Cores.{ExtendsCore, FlightsRise, KeepsFarm, CoreStandsFor, drawn_of, flight_labels, flights_of, flush_numbers, flushes_of}
-use Rattle.coherence_core.specs.Requests.{GotAs, HasRoomToFlush, MayFlush, ReachesCache, ReachesPublisher, got_entries, got_flights, got_flushes, got_labels, requested_under}
+use Rattle.coherence_core.specs.Cores.{drawn_of}
+use Rattle.coherence_core.specs.Requests.{HasRoomToFlush, MayFlush, ReachesPublisher, got_entries, got_flushes, got_labels}
 use Rattle.coherence_core.specs.declared.answers.Got.{Got}
-use Rattle.coherence_core.specs.declared.answers.Requested.{Requested}
 use Rattle.coherence_core.specs.declared.answers.Got.TheVariants as got
 use Rattle.coherence_core.specs.declared.core_state.Core.{Core}
-use Rattle.coherence_core.specs.declared.pending.Pending.{Pending}
-use Rattle.connections.specs.Connections.{Connection, Due, Treat, is_crowded}
+use Rattle.connections.specs.Connections.{Connection, Treat, is_crowded}
 use Rattle.run_events.specs.declared.conditions.Conditions.{Conditions}
 use Rattle.run_events.specs.declared.flying.Flying.{Flying}
 use Rattle.run_events.specs.declared.flying.Flushing.{Flushing}
 use Rattle.run_events.specs.declared.note.Note.{Note}
 use Rattle.run_events.specs.declared.note.Note.TheVariants.{Ask as asked, Flush, Hit, Local}
-use Rattle.run_events.specs.Causes.{IsHitOwedTo, Spoils}
-use Rattle.run_events.specs.Points.{AnswersFlush, AnswersInvalidation, BeginsFlush, Crowded, Fallen, Invalidating, Hidden, Held, Full, Free, IsFirstPoint, IsHitOwed, are_stamps_drawn, is_crowded_if_open, is_front_full, is_full_of_flushes, IsPermitted, key_of, peer_of, points}
+use Rattle.run_events.specs.Causes.{Spoils}
+use Rattle.run_events.specs.Points.{AnswersFlush, AnswersInvalidation, BeginsFlush, IsFirstPoint, are_stamps_drawn, is_front_full, is_full_of_flushes, IsPermitted, key_of, points}
 use Rattle.run_events.specs.Moves.{GivesDue, GivesNext, due_if_open, due_of_connection, local_slot, new_flight, state_after_ask, state_after_flush, state_after_hit, state_after_note, treated_request, with_turn_slot}
 use Rattle.run_events.specs.States.{AirRises, RunState}
 use Rattle.connections.specs.AnswerQueues.{ReplyStandsFor}
 use Rattle.connections.specs.Slots.{Awaits as Awaits_response, Cached, IsHit, local_response, request_slot}
 use Rattle.connections.specs.declared.awaited.Awaited.TheVariants.{Flight as flight_awaited, Flush as flush_awaited}
 use Rattle.connections.specs.declared.place.Reply.TheVariants.{Awaits, Says}
-use Rattle.front.specs.declared.ticketed.TicketedFlight.{TicketedFlight}
-use Rattle.front.specs.Caches.{Allows, AreTicketed, AreFlushesRising, AsksCache, Behind, BehindStandsFor, GivesIn, IsAnswered, IsSlicing, behind, HaveKinds, flushing_numbers, flying_labels, flying_of, local_reply, only_disk, tickets_of}
+use Rattle.front.specs.Caches.{Allows, AreFlushesRising, AsksCache, Behind, BehindStandsFor, GivesIn, IsAnswered, IsSlicing, behind, flushing_numbers, flying_labels, local_reply, only_disk}
 use Rattle.front.specs.declared.answered.Answered.{Answered}
 use Rattle.front.proofs.FlightListLemmas.{rising-push}
-use Rattle.front.proofs.RequestLemmas.{CoreGot, IsNoteOf, Reaches, behind-after, core-got, crowd-is, down-is, down-note, drawn-is, fallen-is, farm-key, flights-many, flush-note, flushes-many, full-note, full-of, hidden-note, local-spoils, owed-from, owed-is, past-crowded, past-fallen, past-flush, past-hidden, queue-length, reaches, told-failure, up-from, up-is}
+use Rattle.front.proofs.RequestLemmas.{CoreGot, IsNoteOf, behind-after, down-note, drawn-is, farm-key, flights-many, flush-note, flushes-many, full-note, full-of, hidden-note, local-spoils, owed-from, owed-is, past-hidden, reaches, told-failure}
 use Rattle.cache_log.specs.Limits.{most_flushes, most_stamps}
-use Rattle.sp_outside.specs.Causes.{IsDiskFailure}
 
 -- ---- whole answers
 -- what an answer of the front itself leaves

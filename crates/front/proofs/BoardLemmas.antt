@@ -1,12 +1,12 @@
 -- The connections of a board, when one of them changes.
-use Rattle.std.proofs.Common.{◌≡◌, ◌≢◌, ℕ, ◌+◌, ◌++◌, Bool, true, false, List, [], ◌∷◌, Option, Some, None, cond, refl, ap, sym, subst, ◌∙◌, arith, eq-eqb, ⊎_elim}
-use Rattle.std.specs.Prelude.{IsSome, IsTrue, is_some, nat_eq, if◌then◌else◌}
+use Rattle.std.proofs.Common.{◌≡◌, ◌≢◌, ℕ, ◌+◌, ◌++◌, Bool, true, false, List, [], ◌∷◌, Option, Some, None, refl, ap, sym, subst, ◌∙◌, arith, ⊎_elim}
+use Rattle.std.specs.Prelude.{IsSome, is_some, nat_eq, if◌then◌else◌}
 use Rattle.std.specs.Option.{option_map}
 use Rattle.std.specs.Ordering.{nat_cmp}
 use Rattle.std.specs.BTreeMap.{BTreeMap, get, is_at, Updates, WritesThrough, btree_map_len}
 use Rattle.std.proofs.lemmas.Map.{update_apart, update_here}
 use Rattle.std.proofs.lemmas.Map.Lookups.{exact_unsigned}
-use Rattle.std.proofs.lemmas.Bool.{cases_eq, ne_eqb}
+use Rattle.std.proofs.lemmas.Bool.{cases_eq}
 use Rattle.sp_base.proofs.OrderingLemmas.{equal_from_test}
 use Rattle.sp_outside.specs.Files.{Files}
 use Rattle.connections.specs.Connections.{Connection}
@@ -20,10 +20,9 @@ use Rattle.front.specs.Boards.{AllGiven, BoardAt, BoardStandsFor, ConnectionsSta
 use Rattle.front.specs.Caches.{Allows, Behind, BehindStandsFor, CacheParts, RepliesFor, behind, under_both, under_nothing, with_end_if}
 use Rattle.front.specs.KeptConnections.{ConnectionStandsFor}
 use Rattle.front.specs.declared.answered.Ended.{Ended as EndedAs}
-use Rattle.front.specs.declared.board.Board.{Board}
 use Rattle.front.specs.declared.connection.Connection.{Connection as KeptConnection}
 use Rattle.front.specs.declared.effect.Effect.{Effect}
-use Rattle.front.proofs.CauseLemmas.{allows-left, allows-right, cause-first, cause-push, no-failure}
+use Rattle.front.proofs.CauseLemmas.{allows-left, allows-right, cause-first, cause-push}
 use Rattle.front.proofs.MoveLemmas.{Frame, afters-push, serves-frame, serves-push}
 
 -- ---- maps by number

@@ -1,7 +1,7 @@
 -- What notes show of what they ran under.
-use Rattle.std.proofs.Common.{◌≡◌, ℕ, ◌+◌, ◌-◌, ◌<◌, ◌≤◌, ◌++◌, ◌||◌, Bool, true, false, List, [], ◌∷◌, refl, ap, sym, subst, ◌∙◌, arith, ◌⊎◌, inl, inr}
+use Rattle.std.proofs.Common.{ℕ, ◌+◌, ◌-◌, ◌<◌, ◌≤◌, ◌++◌, ◌||◌, Bool, true, false, List, [], ◌∷◌, refl, sym, subst, ◌∙◌, arith, ◌⊎◌, inl, inr}
 use Rattle.std.proofs.lemmas.Bool.{or_left, or_right}
-use Rattle.std.specs.Prelude.{IsTrue, min}
+use Rattle.std.specs.Prelude.{IsTrue}
 use Rattle.sp_base.specs.Limits.{greatest_u64}
 use Rattle.sp_outside.specs.Causes.{Rose, next, IsDiskFailure}
 use Rattle.run_events.specs.declared.conditions.Conditions.{Conditions}

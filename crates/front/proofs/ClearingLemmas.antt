@@ -15,7 +15,7 @@ use Rattle.sp_base.proofs.ListLemmas.{last_or_before}
 use Rattle.sp_base.proofs.OrderingLemmas.{equal_from_test}
 use Rattle.sp_outside.specs.Calls.{Remove}
 use Rattle.sp_outside.specs.FileNames.{HasReached, IsNameAfter, names_left}
-use Rattle.sp_outside.specs.Files.{Files, IsListing, IsName, IsOldOrNew, file_at, names_after, told_without, without_file}
+use Rattle.sp_outside.specs.Files.{Files, IsListing, IsName, IsOldOrNew, file_at, told_without, without_file}
 use Rattle.sp_outside.specs.declared.disk.DiskFault.{DiskFault}
 use Rattle.docroot_format.specs.Names.{epoch_name, is_page_file, is_stat_file}
 use Rattle.docroot_changes.specs.Changes.{Told}
@@ -108,37 +108,37 @@ clears-one is_gone files name is gone = record {
 }
 
 -- ---- which calls
-pub kind-call : (kind : CacheFile) (name : Text) (answered : Bool) → IsTrue (is_of_cache kind name) → IsDocrootCall (Remove name answered)
-kind-call Page name answered is = inl is
-kind-call Stamp name answered is = inr is
+pub cache_file-call : (cache_file : CacheFile) (name : Text) (answered : Bool) → IsTrue (is_of_cache cache_file name) → IsDocrootCall (Remove name answered)
+cache_file-call Page name answered is = inl is
+cache_file-call Stamp name answered is = inr is
 
 -- ---- names gone through one after the other
 -- the files of this kind among the first names are gone, and only files of this kind went
-pub record ClearsTo (kind : CacheFile) (names : List Text) (seen : ℕ) (old new : Files) : Type 0 where
-  pub clears : ClearsFiles (is_of_cache kind) old new
-  pub none : HasNoneAmong kind (take seen names) new
+pub record ClearsTo (cache_file : CacheFile) (names : List Text) (seen : ℕ) (old new : Files) : Type 0 where
+  pub clears : ClearsFiles (is_of_cache cache_file) old new
+  pub none : HasNoneAmong cache_file (take seen names) new
 
-pub clears-to-none : (kind : CacheFile) (names : List Text) (files : Files) → ClearsTo kind names 0 files files
-clears-to-none kind names files = record { clears = clears-none (is_of_cache kind) files; none = λ name has. absurd (omega (arith, has.1)) }
+pub clears-to-none : (cache_file : CacheFile) (names : List Text) (files : Files) → ClearsTo cache_file names 0 files files
+clears-to-none cache_file names files = record { clears = clears-none (is_of_cache cache_file) files; none = λ name has. absurd (omega (arith, has.1)) }
 
-pub clears-to-more : (kind : CacheFile) (names : List Text) (i : ℕ) (name : Text) → i < length names → get_or names i name ≡ name → (a b c : Files) → ClearsTo kind names i a b → ClearsFiles (is_of_cache kind) b c × (IsTrue (is_of_cache kind name) → file_at c name ≡ None) → ClearsTo kind names (i + 1) a c
-clears-to-more kind names i name lt at a b c first then = record {
-  clears = clears-then (is_of_cache kind) a b c first.clears then.0;
+pub clears-to-more : (cache_file : CacheFile) (names : List Text) (i : ℕ) (name : Text) → i < length names → get_or names i name ≡ name → (a b c : Files) → ClearsTo cache_file names i a b → ClearsFiles (is_of_cache cache_file) b c × (IsTrue (is_of_cache cache_file name) → file_at c name ≡ None) → ClearsTo cache_file names (i + 1) a c
+clears-to-more cache_file names i name lt at a b c first then = record {
+  clears = clears-then (is_of_cache cache_file) a b c first.clears then.0;
   none = λ other has is. ⊎_elim
-      (λ before. stays-gone (is_of_cache kind) b c other then.0 (first.none other before is))
-      (λ same. subst (λ n. file_at c n ≡ None) (sym same) (then.1 (subst (λ n. IsTrue (is_of_cache kind n)) same is)))
+      (λ before. stays-gone (is_of_cache cache_file) b c other then.0 (first.none other before is))
+      (λ same. subst (λ n. file_at c n ≡ None) (sym same) (then.1 (subst (λ n. IsTrue (is_of_cache cache_file n)) same is)))
       (last_or_before (take i names) name other (subst (λ (l : List Text). Contains l other) (take_more names i name lt ∙ ap (λ n. take i names ++ n ∷ []) at) has));
 }
 
 -- ---- one list
 -- the files of this kind are gone that the list came to
-pub cleared-between : (kind : CacheFile) (last : Text) (next : Option Text) (most : ℕ) (names : List Text) (a b : Files)
+pub cleared-between : (cache_file : CacheFile) (last : Text) (next : Option Text) (most : ℕ) (names : List Text) (a b : Files)
     → ((name : Text) → IsNameAfter a [] last name → HasReached names most name → Contains names name)
-    → ((name : Text) → IsClearedTo next name → HasReached names most name) → ClearsFiles (is_of_cache kind) a b × HasNoneAmong kind names b → HasNoneBetween kind last next b
-cleared-between kind last next most names a b contains reached left name is after here = by_file (file_at a name) refl
+    → ((name : Text) → IsClearedTo next name → HasReached names most name) → ClearsFiles (is_of_cache cache_file) a b × HasNoneAmong cache_file names b → HasNoneBetween cache_file last next b
+cleared-between cache_file last next most names a b contains reached left name is after here = by_file (file_at a name) refl
   where
     by_file : (o : Option Text) → file_at a name ≡ o → file_at b name ≡ None
-    by_file None e = stays-gone (is_of_cache kind) a b name left.0 e
+    by_file None e = stays-gone (is_of_cache cache_file) a b name left.0 e
     by_file (Some bytes) e = left.1 name (contains name (refl, after, λ none. absurd (let no : None ≡ Some bytes = sym none ∙ e in cc no)) (reached name here)) is
 
 -- ---- lists one after another
@@ -148,34 +148,34 @@ less-or-not Equal = inr (λ e. absurd (cc e))
 less-or-not Greater = inr (λ e. absurd (cc e))
 
 -- up to a name, and then up to the next
-pub record ClearsUpTo (kind : CacheFile) (last : Text) (old new : Files) : Type 0 where
-  pub clears : ClearsFiles (is_of_cache kind) old new
-  pub none : HasNoneUpTo kind last new
+pub record ClearsUpTo (cache_file : CacheFile) (last : Text) (old new : Files) : Type 0 where
+  pub clears : ClearsFiles (is_of_cache cache_file) old new
+  pub none : HasNoneUpTo cache_file last new
 
-pub up-to-next : (kind : CacheFile) (last next : Text) (a b c : Files) → ClearsUpTo kind last a b → ClearsFiles (is_of_cache kind) b c × HasNoneBetween kind last (Some next) c → ClearsUpTo kind next a c
-up-to-next kind last next a b c so_far one = record {
-  clears = clears-then (is_of_cache kind) a b c so_far.clears one.0;
-  none = λ name is up_to. ⊎_elim (λ after. one.1 name is after up_to) (λ before. stays-gone (is_of_cache kind) b c name one.0 (so_far.none name is before)) (less-or-not (by_name last name));
+pub up-to-next : (cache_file : CacheFile) (last next : Text) (a b c : Files) → ClearsUpTo cache_file last a b → ClearsFiles (is_of_cache cache_file) b c × HasNoneBetween cache_file last (Some next) c → ClearsUpTo cache_file next a c
+up-to-next cache_file last next a b c so_far one = record {
+  clears = clears-then (is_of_cache cache_file) a b c so_far.clears one.0;
+  none = λ name is up_to. ⊎_elim (λ after. one.1 name is after up_to) (λ before. stays-gone (is_of_cache cache_file) b c name one.0 (so_far.none name is before)) (less-or-not (by_name last name));
 }
 
-pub up-to-end : (kind : CacheFile) (last : Text) (a b c : Files) → ClearsUpTo kind last a b → ClearsFiles (is_of_cache kind) b c × HasNoneBetween kind last None c → ClearsFiles (is_of_cache kind) a c × HasNoFile kind c
-up-to-end kind last a b c so_far one =
-    (clears-then (is_of_cache kind) a b c so_far.clears one.0, λ name is. ⊎_elim (λ after. one.1 name is after tt) (λ before. stays-gone (is_of_cache kind) b c name one.0 (so_far.none name is before)) (less-or-not (by_name last name)))
+pub up-to-end : (cache_file : CacheFile) (last : Text) (a b c : Files) → ClearsUpTo cache_file last a b → ClearsFiles (is_of_cache cache_file) b c × HasNoneBetween cache_file last None c → ClearsFiles (is_of_cache cache_file) a c × HasNoFile cache_file c
+up-to-end cache_file last a b c so_far one =
+    (clears-then (is_of_cache cache_file) a b c so_far.clears one.0, λ name is. ⊎_elim (λ after. one.1 name is after tt) (λ before. stays-gone (is_of_cache cache_file) b c name one.0 (so_far.none name is before)) (less-or-not (by_name last name)))
 
 -- no name of this kind is empty
-named : (kind : CacheFile) → is_of_cache kind [] ≡ false
+named : (cache_file : CacheFile) → is_of_cache cache_file [] ≡ false
 named Page = refl
 named Stamp = refl
 
-pub up-to-none : (kind : CacheFile) (files : Files) → ClearsUpTo kind [] files files
-up-to-none kind files = record { clears = clears-none (is_of_cache kind) files; none = λ name is before. none name is before }
+pub up-to-none : (cache_file : CacheFile) (files : Files) → ClearsUpTo cache_file [] files files
+up-to-none cache_file files = record { clears = clears-none (is_of_cache cache_file) files; none = λ name is before. none name is before }
   where
-    none : (name : Text) → IsTrue (is_of_cache kind name) → by_name [] name ≢ Less → file_at files name ≡ None
-    none [] is before = absurd (let no : true ≡ false = sym is ∙ named kind in cc no)
+    none : (name : Text) → IsTrue (is_of_cache cache_file name) → by_name [] name ≢ Less → file_at files name ≡ None
+    none [] is before = absurd (let no : true ≡ false = sym is ∙ named cache_file in cc no)
     none (b ∷ name) is before = absurd (before refl)
 
 -- ---- both kinds
-pub clears-either : (kind : CacheFile) (a b : Files) → ClearsFiles (is_of_cache kind) a b → ClearsFiles is_page_or_stamp a b
+pub clears-either : (cache_file : CacheFile) (a b : Files) → ClearsFiles (is_of_cache cache_file) a b → ClearsFiles is_page_or_stamp a b
 clears-either Page a b clears = clears-more is_page_file is_page_or_stamp a b (λ name is. or_left (is_page_file name) (is_stat_file name) is) clears
 clears-either Stamp a b clears = clears-more is_stat_file is_page_or_stamp a b (λ name is. or_right (is_page_file name) (is_stat_file name) is) clears
 

@@ -1,6 +1,6 @@
 -- Flights that land or are lost, and slices of flushes: what they leave behind the connections.
-use Rattle.std.proofs.Common.{◌≡◌, ◌≢◌, ℕ, zero, suc, ◌+◌, ◌<◌, ◌≤◌, ◌++◌, ◌&&◌, Bool, true, false, List, [], ◌∷◌, Option, Some, None, get_or, length, map, nat_eq, refl, ap, sym, subst, ◌∙◌, ◌⊎◌, inl, inr, arith}
-use Rattle.std.specs.Prelude.{◌==◌, IfSome, IsSome, IsTrue, if◌then◌else◌, position, remove, slice_get, unwrap_or, option_and_then}
+use Rattle.std.proofs.Common.{◌≡◌, ℕ, zero, suc, ◌<◌, ◌&&◌, Bool, true, false, List, [], ◌∷◌, Option, Some, None, get_or, length, nat_eq, refl, ap, sym, subst, ◌∙◌, inl, inr, arith}
+use Rattle.std.specs.Prelude.{◌==◌, IfSome, IsSome, IsTrue, if◌then◌else◌, position, remove, slice_get, unwrap_or}
 use Rattle.std.specs.List.{find}
 use Rattle.std.specs.Map.{update}
 use Rattle.std.specs.Option.{option_map}
@@ -13,16 +13,14 @@ use Rattle.sp_base.specs.MediaTypes.{is_kind}
 use Rattle.sp_base.specs.declared.answer.Answer.{Answer}
 use Rattle.sp_base.proofs.ListLemmas.{find_passes}
 use Rattle.sp_outside.specs.Files.{Files}
-use Rattle.any_config.specs.declared.farm.Farm.{Farm}
 use Rattle.cover_rules.specs.declared.page.PageKey.{PageKey}
 use Rattle.dispatch_rules.specs.Caching.{cache_key}
 use Rattle.error_answers.specs.Errors.{error_answer}
 use Rattle.flights.specs.Flights.{AreRising, flight_at, numbers_of, without}
 use Rattle.flights.specs.declared.flight.Flight.{Flight}
 use Rattle.cache_log.specs.Entries.{Fate, Kept, Landed, LogEntry, Lost as lost_entry, Passed, Unkept, flights_asked, flushes_begun}
-use Rattle.cache_ids.specs.Ids.{FlightId}
-use Rattle.cache_log.specs.Rules.{CallConditions, HasFallenShort, MayStore}
-use Rattle.coherence_core.specs.Cores.{ExtendsCore, FlightsRise, KeepsFarm, CoreStandsFor, flight_labels, flights_of, flush_numbers, flushes_of}
+use Rattle.cache_log.specs.Rules.{CallConditions, MayStore}
+use Rattle.coherence_core.specs.Cores.{ExtendsCore, FlightsRise, KeepsFarm, CoreStandsFor, flight_labels, flights_of, flush_numbers}
 use Rattle.coherence_core.specs.Landings.{IsKeptAs, fate_of, landed_under}
 use Rattle.coherence_core.specs.declared.answers.Landed.{Landed as LandedAs}
 use Rattle.coherence_core.specs.declared.answers.Landed.TheVariants as landed
@@ -41,14 +39,13 @@ use Rattle.run_events.specs.declared.note.Note.{Note}
 use Rattle.run_events.specs.declared.note.Note.TheVariants as note
 use Rattle.run_events.specs.declared.step.Pick.{Pick}
 use Rattle.run_events.specs.declared.step.Pick.TheVariants.{First}
-use Rattle.run_events.specs.Causes.{ShowsOutOfMemory, Spoils}
-use Rattle.run_events.specs.Events.{MayLand, is_any, is_picked, is_rendered, picked_flight}
+use Rattle.run_events.specs.Events.{is_any, is_picked, is_rendered, picked_flight}
 use Rattle.run_events.specs.Moves.{over_with, state_after_landing, state_after_note}
 use Rattle.run_events.specs.Moves as moves
 use Rattle.run_events.specs.Points.{key_of}
 use Rattle.run_events.specs.States as states
 use Rattle.run_events.specs.States.{RunState}
-use Rattle.front.specs.Caches.{AreTicketed, Behind, BehindStandsFor, HasNoteCause, HaveKinds, IsEnding, IsDelivery, IsLoss, RepliesFor, behind, flying_labels, flying_of, landing_end_of, only_disk, tickets_of, with_end_if}
+use Rattle.front.specs.Caches.{AreTicketed, Behind, BehindStandsFor, HasNoteCause, HaveKinds, IsEnding, IsDelivery, IsLoss, RepliesFor, behind, flying_labels, flying_of, landing_end_of, only_disk, with_end_if}
 use Rattle.front.specs.declared.answered.Ended.{Ended}
 use Rattle.front.specs.declared.ticketed.TicketedFlight.{TicketedFlight}
 use Rattle.front.proofs.FlightListLemmas.{found-some, get-within, got, place, rising-remove}

@@ -9,21 +9,18 @@ use Rattle.std.specs.BTreeMap.{BTreeMap, get, Updates, btree_map_len}
 use Rattle.std.proofs.lemmas.Map.{update_apart, update_here}
 use Rattle.std.proofs.lemmas.Bool.{cases_eq}
 use Rattle.sp_base.proofs.OptionLemmas.{none_from_test, value_there}
-use Rattle.sp_outside.specs.Files.{Files}
 use Rattle.http_front.specs.Turns.{Waits}
 use Rattle.connections.specs.Connections.{with_piece, fresh}
-use Rattle.run_events.specs.declared.conditions.Conditions.{Conditions}
 use Rattle.run_events.specs.declared.flying.Flying.{Flying}
 use Rattle.run_events.specs.declared.note.Note.{Note}
-use Rattle.run_events.specs.declared.note.Note.TheVariants.{Idle, Lost, Refused}
+use Rattle.run_events.specs.declared.note.Note.TheVariants.{Idle, Refused}
 use Rattle.run_events.specs.declared.step.Pick.{Pick}
-use Rattle.run_events.specs.declared.step.Step.{Step}
 use Rattle.run_events.specs.declared.step.Step.TheVariants.{Deliver, Gone, Lose, Opened, Piece, Purge}
 use Rattle.run_events.specs.Events.{DeliverAs, DeliverTo, Event, LeadsNotes, LoseTo, PieceTo, PurgeTo, after_event, state_after_going, going, is_any, is_picked, is_rendered, most_connections, state_after_opening, opening, picked_flight}
 use Rattle.run_events.specs.Moves.{state_after_note, state_after_notes, Settles, on_connection}
 use Rattle.run_events.specs.States.{RunState}
-use Rattle.front.specs.Boards.{BoardAt, BoardMakesEvent, BoardStandsFor, FirstThen, HasEnded, HaveCause, IsEventOf, ReadAt, SettlesIn, at_disk, behind_board, event_of}
-use Rattle.front.specs.Caches.{Allows, Behind, BehindStandsFor, IsDelivery, IsLoss, IsPurging, behind, under_nothing}
+use Rattle.front.specs.Boards.{BoardAt, BoardStandsFor, FirstThen, HaveCause, IsEventOf, ReadAt, SettlesIn, at_disk, behind_board, event_of}
+use Rattle.front.specs.Caches.{Behind, BehindStandsFor, IsDelivery, IsLoss, IsPurging, behind, under_nothing}
 use Rattle.front.specs.KeptConnections.{ConnectionStandsFor}
 use Rattle.front.specs.declared.answered.Ended.{Ended as EndedAs}
 use Rattle.front.specs.declared.board.Board.{Board}

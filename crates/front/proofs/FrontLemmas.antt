@@ -1,7 +1,6 @@
 -- Whole steps of a front.
 use Rattle.std.proofs.Common.{◌≡◌, ℕ, ◌&&◌, ◌++◌, Bool, true, false, zero, suc, List, [], ◌∷◌, Option, Some, None, Result, Ok, Err, get_or, map, refl, ap, sym, subst, ◌∙◌, arith, inl, inr}
 use Rattle.std.specs.Prelude.{◌==◌, ◌≢◌, IfOk, IsTrue, OnErr, OnOk, if◌then◌else◌, position, slice_get, slice_set}
-use Rattle.std.specs.List.{find}
 use Rattle.std.proofs.lemmas.Bool.{ne_eqb}
 use Rattle.std.specs.Ordering.{nat_cmp}
 use Rattle.std.specs.BTreeMap.{BTreeMap, btree_map_len, get, WritesThrough}
@@ -27,12 +26,12 @@ use Rattle.run_events.specs.declared.note.Note.TheVariants.{Answer as answered, 
 use Rattle.run_events.specs.declared.step.Pick.{Pick}
 use Rattle.run_events.specs.declared.step.Step.{Step}
 use Rattle.run_events.specs.declared.step.Step.TheVariants.{Direct, Render}
-use Rattle.run_events.specs.Events.{Event, Extends, HasCause, IsOrFixed, RenderTo, after_event, is_picked, is_unrendered, condition_notes, picked_flight}
+use Rattle.run_events.specs.Events.{Event, Extends, IsOrFixed, RenderTo, after_event, is_picked, is_unrendered, condition_notes, picked_flight}
 use Rattle.run_events.specs.Moves.{state_after_note, state_after_notes, content_rendered, flying_at, published_for, with_rendered, with_rendered_at}
 use Rattle.run_events.specs.Publishers.{Publication, Publishing, direct_answer}
 use Rattle.run_events.specs.States.{RunState}
 use Rattle.run_events.proofs.StillEvents.{IsStillStep, step-same}
-use Rattle.front.specs.Boards.{BoardAt, BoardMakesEvent, BoardStandsFor, HaveCause, IsEventOf, ReadAt, at_disk, behind_board, event_of}
+use Rattle.front.specs.Boards.{BoardAt, BoardMakesEvent, ReadAt, behind_board, event_of}
 use Rattle.front.specs.Caches.{Behind, BehindStandsFor, CacheParts, behind, flying_labels, under_nothing}
 use Rattle.front.specs.Fronts.{BeginsRun, FrontStandsFor, IsRenderGiven, MakesEvent}
 use Rattle.front.specs.KeptConnections.{ConnectionStandsFor, ConnectionReads}

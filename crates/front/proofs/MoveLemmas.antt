@@ -1,21 +1,18 @@
 -- Notes, one after another, and what they leave alone.
 use Rattle.std.proofs.Common.{◌≡◌, ◌≢◌, ℕ, ◌+◌, ◌++◌, true, List, [], ◌∷◌, Option, Some, None, refl, ap, sym, subst, ◌∙◌, arith, ◌⊎◌, inl, inr, ⊎_elim}
-use Rattle.std.specs.Prelude.{nat_eq, nat_le, if◌then◌else◌}
-use Rattle.std.specs.Map.{update}
-use Rattle.std.specs.Option.{option_map}
+use Rattle.std.specs.Prelude.{nat_eq, if◌then◌else◌}
 use Rattle.std.proofs.lemmas.Map.{update_apart, update_here}
 use Rattle.sp_base.specs.Requests.{Request}
 use Rattle.cover_rules.specs.declared.page.PageKey.{PageKey}
 use Rattle.cover_rules.specs.declared.invalidation.Invalidation.{Invalidation}
 use Rattle.cache_log.specs.Entries.{FlushOutcome}
-use Rattle.connections.specs.Connections.{Connection, fresh}
+use Rattle.connections.specs.Connections.{Connection}
 use Rattle.connections.specs.Slots.{Response}
 use Rattle.run_events.specs.declared.conditions.Conditions.{Conditions}
 use Rattle.run_events.specs.declared.flying.Flushing.{Flushing}
-use Rattle.run_events.specs.declared.note.Failure.TheVariants.{Disk, Memory}
 use Rattle.run_events.specs.declared.note.Note.{Note}
-use Rattle.run_events.specs.declared.note.Note.TheVariants.{Answer as answered, Local, Shut, Refused, Idle}
-use Rattle.run_events.specs.Moves.{GivesNext, GivesSlice, Serves, state_after_ask, state_after_ending, state_after_flush, state_after_hit, state_after_landing, state_after_note, state_after_notes, due_of_connection, flush_at, treated_request}
+use Rattle.run_events.specs.declared.note.Note.TheVariants.{Local, Shut}
+use Rattle.run_events.specs.Moves.{GivesNext, GivesSlice, Serves, state_after_ask, state_after_ending, state_after_flush, state_after_hit, state_after_note, state_after_notes, due_of_connection, flush_at, treated_request}
 use Rattle.run_events.specs.States.{RunState}
 use Rattle.run_events.proofs.NoteLemmas.{IsGift, IsTreatment, gift}
 

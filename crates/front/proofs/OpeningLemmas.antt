@@ -1,5 +1,5 @@
 -- Where a front begins, and what its files hold.
-use Rattle.std.proofs.Common.{◌≡◌, ◌≤◌, ◌++◌, ◌∙◌, ℕ, false, List, [], ◌∷◌, Option, Some, None, refl, ap, sym, subst, arith}
+use Rattle.std.proofs.Common.{◌≡◌, ◌≤◌, ◌++◌, ◌∙◌, ℕ, false, List, [], ◌∷◌, Option, Some, None, refl, ap, sym, arith}
 use Rattle.std.specs.Prelude.{map}
 use Rattle.std.specs.BTreeMap.{btree_map_len, get}
 use Rattle.std.specs.Ordering.{nat_cmp}
@@ -11,10 +11,10 @@ use Rattle.docroot_changes.specs.Changes.{Told}
 use Rattle.cover_rules.specs.declared.page.PageKey.{PageKey}
 use Rattle.flights.specs.declared.flight.Flight.{Flight}
 use Rattle.flights.specs.Flights.{numbers_of}
-use Rattle.cache_log.specs.Entries.{LogEntry, Session}
+use Rattle.cache_log.specs.Entries.{Session}
 use Rattle.cache_ids.specs.Ids.{FlightId}
 use Rattle.coherence_core.specs.Cores.{StandsOver, flight_labels, flights_of, flushes_of}
-use Rattle.coherence_core.specs.Holds.{HoldsClosed, files_counted}
+use Rattle.coherence_core.specs.Holds.{files_counted}
 use Rattle.coherence_core.specs.Openings.{IsCleared, IsCoreOpened, OpensCore}
 use Rattle.coherence_core.specs.Sessions.{closing_entries, failed_entries, lost_entries}
 use Rattle.coherence_core.specs.declared.core_state.Core.{Core}
@@ -23,7 +23,6 @@ use Rattle.run_events.specs.Publishers.{Publishing}
 use Rattle.run_events.specs.States.{RunState}
 use Rattle.front.specs.Boards.{at_disk}
 use Rattle.front.specs.Caches.{BehindStandsFor, behind, flushing_numbers, flying_labels}
-use Rattle.front.specs.Clearings.{ClearsFiles}
 use Rattle.front.specs.Endings.{closing_entries_of}
 use Rattle.front.specs.Fronts.{BeginsFresh, IsFrontOpened, OpensFront}
 use Rattle.front.specs.declared.board.Board.{Board}

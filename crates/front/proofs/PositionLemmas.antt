@@ -1,6 +1,6 @@
 -- Where the first stands that passes, among what others are made of.
-use Rattle.std.proofs.Common.{◌≡◌, ℕ, Bool, true, false, List, [], ◌∷◌, length, map, zero, suc, refl, ap, arith}
-use Rattle.std.specs.Prelude.{Option, position, remove}
+use Rattle.std.proofs.Common.{◌≡◌, ℕ, Bool, true, false, List, [], ◌∷◌, map, zero, suc, refl, ap, arith}
+use Rattle.std.specs.Prelude.{position, remove}
 use Rattle.std.specs.List.{position_or_len}
 use Rattle.std.proofs.lemmas.Grind.{common_steps}
 use Rattle.std.proofs.lemmas.List.{length-map}

@@ -1,10 +1,10 @@
 -- A restart of a board is an event.
-use Rattle.std.proofs.Common.{◌≡◌, ℕ, ◌-◌, ◌++◌, Bool, true, false, List, [], ◌∷◌, Option, Some, None, map, refl, ap, sym, subst, ◌∙◌, arith, ◌⊎◌, inl, inr}
+use Rattle.std.proofs.Common.{◌≡◌, ℕ, ◌-◌, ◌++◌, true, List, [], ◌∷◌, Option, Some, None, map, refl, ap, sym, subst, ◌∙◌, arith, ◌⊎◌, inl, inr}
 use Rattle.std.specs.Prelude.{IsTrue, is_some, nat_eq}
 use Rattle.std.specs.Map.{update}
 use Rattle.std.specs.Option.{option_map}
 use Rattle.std.specs.Ordering.{nat_cmp}
-use Rattle.std.specs.BTreeMap.{BTreeMap, get, keys, btree_map_len}
+use Rattle.std.specs.BTreeMap.{get, keys, btree_map_len}
 use Rattle.std.proofs.lemmas.List.{append_assoc}
 use Rattle.std.proofs.lemmas.Map.{update_apart, update_here}
 use Rattle.std.proofs.lemmas.Bool.{cases_eq}
@@ -26,9 +26,9 @@ use Rattle.run_events.specs.Causes.{SomeShowsOutOfMemory, Spoils, SpoilAtMost}
 use Rattle.run_events.specs.Moves.{failure_status, flush_at, state_after_ending, state_after_note, state_after_notes}
 use Rattle.run_events.specs.Restarts.{EndsRestart, cut_notes, without_connections}
 use Rattle.run_events.specs.Points.{call_conditions}
-use Rattle.run_events.specs.States.{AreOpen, RunState}
+use Rattle.run_events.specs.States.{RunState}
 use Rattle.run_events.proofs.NoteLemmas.{notes_append}
-use Rattle.front.specs.Boards.{BoardAt, BoardStandsFor, EntryStandsFor, HaveCause, IsEventOf, behind_board}
+use Rattle.front.specs.Boards.{BoardAt, BoardStandsFor, EntryStandsFor, IsEventOf, behind_board}
 use Rattle.front.specs.Caches.{Behind, BehindStandsFor}
 use Rattle.front.specs.Restarts.{AreKeys, IsReopened, IsShut, LosesFlights, failed_notes, lost_notes}
 use Rattle.front.specs.declared.connection.Connection.{Connection as KeptConnection}

@@ -1,5 +1,5 @@
 -- A restart loses each flight in the air.
-use Rattle.std.proofs.Common.{◌≡◌, ℕ, ◌++◌, ◌&&◌, Bool, true, false, List, [], ◌∷◌, Option, Some, None, map, nat_eq, refl, ap, sym, subst, ◌∙◌, append_assoc, append-nil, arith}
+use Rattle.std.proofs.Common.{◌≡◌, ℕ, ◌++◌, ◌&&◌, Bool, true, false, List, [], ◌∷◌, Option, None, nat_eq, refl, ap, sym, subst, ◌∙◌, append_assoc, append-nil, arith}
 use Rattle.std.specs.Prelude.{if◌then◌else◌, position}
 use Rattle.std.specs.Option.{option_map}
 use Rattle.std.proofs.lemmas.Grind.{common_steps}
@@ -16,7 +16,7 @@ use Rattle.run_events.specs.declared.step.Pick.TheVariants.{First}
 use Rattle.run_events.specs.Events.{is_any, is_picked}
 use Rattle.run_events.specs.Moves.{state_after_note, state_after_notes}
 use Rattle.run_events.specs.States.{RunState}
-use Rattle.front.specs.Caches.{AreTicketed, Behind, BehindStandsFor, CacheParts, IsEnding, IsLoss, behind, flying_of, tickets_of, with_end_if}
+use Rattle.front.specs.Caches.{AreTicketed, Behind, BehindStandsFor, CacheParts, IsEnding, IsLoss, behind, flying_of, with_end_if}
 use Rattle.front.specs.Restarts.{HasLost, IsShut, LosesFlights, lost_notes}
 use Rattle.front.specs.declared.answered.Ended.{Ended}
 use Rattle.front.specs.declared.ticketed.TicketedFlight.{TicketedFlight}

@@ -14,7 +14,7 @@ use Rattle.connections.specs.AnswerQueues.{PlaceStandsFor, ReplyStandsFor}
 use Rattle.connections.specs.Connections.{Connection, Due, IsInPlaceOfDue, Refuse, Send, Treat, due, is_crowded, with_sent}
 use Rattle.connections.specs.Histories.{IsDueSending}
 use Rattle.connections.specs.Slots as model
-use Rattle.connections.specs.Slots.{Response, Slot, fault_slot, local_response, request_slot}
+use Rattle.connections.specs.Slots.{Response, fault_slot, local_response, request_slot}
 use Rattle.connections.specs.declared.place.AnswerPlace.{AnswerPlace}
 use Rattle.connections.specs.declared.place.Reply.{Reply}
 use Rattle.connections.specs.declared.place.Reply.TheVariants.{Fixed, Own}
@@ -23,17 +23,16 @@ use Rattle.run_events.specs.declared.conditions.Conditions.{Conditions}
 use Rattle.run_events.specs.declared.flying.Flushing.{Flushing}
 use Rattle.run_events.specs.declared.note.Note.{Note}
 use Rattle.run_events.specs.declared.note.Note.TheVariants.{Local, Sent}
-use Rattle.run_events.specs.Causes.{ShowsOutOfMemory, Spoils, IsHitOwedTo}
+use Rattle.run_events.specs.Causes.{IsHitOwedTo}
 use Rattle.run_events.specs.Moves.{GivesDue, GivesNext, GivesSlice, due_if_open, due_of_connection, local_slot, on_connection, state_after_note, treated_request, with_turn_slot}
 use Rattle.run_events.specs.Points.{is_crowded_if_open}
 use Rattle.run_events.specs.States.{RunState}
-use Rattle.front.specs.Boards.{OpenAfterNote, OpenStandsFor, OpenWithoutSending, OwesFault, OwesRequest, ServedAs, TreatedAs}
-use Rattle.front.specs.Caches.{Allows, AsksCache, Behind, BehindStandsFor, GivesIn, HasNoteCause, IsAnswered, IsPurging, IsSlicing, RepliesFor, local_reply, under_nothing, with_end_if}
+use Rattle.front.specs.Boards.{OpenAfterNote, OpenStandsFor, OwesFault, OwesRequest, TreatedAs}
+use Rattle.front.specs.Caches.{AsksCache, Behind, BehindStandsFor, GivesIn, HasNoteCause, IsAnswered, IsPurging, RepliesFor, local_reply, under_nothing, with_end_if}
 use Rattle.front.specs.KeptConnections.{AnswersStandFor, ConnectionStandsFor, Owes}
 use Rattle.front.specs.declared.answered.Answered.{Answered}
 use Rattle.front.specs.declared.answered.Ended.{Ended}
 use Rattle.front.specs.declared.connection.Connection.{Connection as KeptConnection}
-use Rattle.front.specs.declared.treat.Treated.{Treated}
 
 -- what is due decides what a note has to be, where no slice is due
 due-gives : (m : Conditions) (w : RunState) (c : ℕ) (owed : Due) (note : Note) → w.slicing ≡ None → due_of_connection w c ≡ owed → GivesDue m w c owed note → GivesNext m w c w.slicing note

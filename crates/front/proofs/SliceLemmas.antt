@@ -1,5 +1,5 @@
 -- A slice of the oldest unfinished flush: what it leaves behind the connections.
-use Rattle.std.proofs.Common.{◌≡◌, ℕ, ◌<◌, ◌≤◌, Bool, true, false, List, [], ◌∷◌, Option, Some, None, drop, get_or, map, nat_eq, refl, ap, sym, subst, ◌∙◌, inl, inr, arith}
+use Rattle.std.proofs.Common.{◌≡◌, ℕ, ◌<◌, ◌≤◌, Bool, true, false, List, [], ◌∷◌, Option, Some, None, get_or, nat_eq, refl, ap, sym, subst, ◌∙◌, inl, inr, arith}
 use Rattle.std.specs.Prelude.{◌==◌, IfSome, if◌then◌else◌, length}
 use Rattle.std.specs.Option.{option_map}
 use Rattle.std.proofs.lemmas.Bool.Decides.{nat_tests}
@@ -8,19 +8,16 @@ use Rattle.sp_base.proofs.NatLemmas.{nat_eq_itself}
 use Rattle.error_answers.specs.Errors.{error_answer}
 use Rattle.http_front.specs.Faults.{insufficient_storage}
 use Rattle.sp_outside.specs.Files.{Files}
-use Rattle.cache_log.specs.Entries.{Done as done_outcome, Ended as ended_entry, Failed as failed_outcome, LogEntry, FlushOutcome, Sliced as sliced_entry, flights_asked, flushes_begun}
-use Rattle.cache_ids.specs.Ids.{FlushId}
+use Rattle.cache_log.specs.Entries.{Done as done_outcome, Ended as ended_entry, Failed as failed_outcome, FlushOutcome, Sliced as sliced_entry, flushes_begun}
 use Rattle.cache_log.specs.Rules.{CallConditions}
-use Rattle.coherence_core.specs.Cores.{ExtendsCore, KeepsFarm, CoreStandsFor, flight_labels, flights_of, flushes_of}
+use Rattle.coherence_core.specs.Cores.{ExtendsCore, KeepsFarm, flight_labels, flights_of, flushes_of}
 use Rattle.coherence_core.specs.Flushes.{PurgedAs, purged_entries, purged_under}
 use Rattle.coherence_core.specs.declared.answers.Purged.{Purged}
 use Rattle.coherence_core.specs.declared.answers.Purged.TheVariants as purged
 use Rattle.coherence_core.specs.declared.core_state.Core.{Core}
 use Rattle.connections.specs.Connections.{Connection, with_end}
-use Rattle.connections.specs.AnswerQueues.{ReplyStandsFor}
 use Rattle.connections.specs.Slots as model
 use Rattle.connections.specs.declared.awaited.Awaited.TheVariants.{Flush as flush_awaited}
-use Rattle.connections.specs.declared.place.Reply.{Reply}
 use Rattle.connections.specs.declared.place.Reply.TheVariants.{Own}
 use Rattle.run_events.specs.declared.conditions.Conditions.{Conditions}
 use Rattle.run_events.specs.declared.flying.Flying.{Flying}
@@ -30,7 +27,7 @@ use Rattle.run_events.specs.declared.note.Note.{Note}
 use Rattle.run_events.specs.declared.note.Note.TheVariants as note
 use Rattle.run_events.specs.Moves.{GivesSlice, flush_at, state_after_ending, state_after_note, without_flush}
 use Rattle.run_events.specs.States.{RunState}
-use Rattle.front.specs.Caches.{Allows, AreFlushesRising, Behind, BehindStandsFor, HasNoteCause, IsEnding, IsPurging, behind, flushing_numbers, left_after, only_disk, slice_end_of, with_end_if}
+use Rattle.front.specs.Caches.{Allows, AreFlushesRising, BehindStandsFor, HasNoteCause, IsPurging, behind, flushing_numbers, left_after, only_disk, slice_end_of, with_end_if}
 use Rattle.front.specs.declared.answered.Ended.{Ended}
 use Rattle.front.proofs.EndingLemmas.{ending-in, no-false, updated-with}
 use Rattle.sp_outside.specs.Causes.{IsDiskFailure}

@@ -1,7 +1,7 @@
 -- How calls use a disk, one after the other.
-use Rattle.std.proofs.Common.{◌≡◌, ◌≤◌, ◌<◌, ◌+◌, ◌++◌, ℕ, Bool, true, false, List, [], ◌∷◌, Option, Result, Ok, Err, refl, subst, arith}
+use Rattle.std.proofs.Common.{◌≡◌, ◌≤◌, ◌+◌, ◌++◌, ℕ, Bool, true, false, List, [], ◌∷◌, Option, Result, Ok, Err, refl, arith}
 use Rattle.sp_outside.specs.Calls.{Call, told_call, told_calls}
-use Rattle.sp_outside.specs.Causes.{Rose, IsDiskFailure}
+use Rattle.sp_outside.specs.Causes.{IsDiskFailure}
 use Rattle.cache_files.specs.Epochs.{HasOpenCause}
 use Rattle.cache_files.specs.declared.epoch.OpenFault.{OpenFault}
 use Rattle.cache_files.specs.declared.epoch.OpenFault.TheVariants as open_fault

@@ -10,7 +10,6 @@ use Rattle.http_front.specs.Turns.{End}
 use Rattle.http_front.specs.declared.fault.InFault.{InFault}
 use Rattle.http_front.specs.declared.turn.Turn.{Turn}
 use Rattle.http_front.specs.declared.turn.Turn.TheVariants.{Whole}
-use Rattle.cache_ids.specs.Ids.{FlushId}
 use Rattle.connections.specs.Connections.{Connection, Close, Nothing, Refuse, Treat, due_without_sending, is_crowded}
 use Rattle.connections.specs.Connections as model
 use Rattle.connections.specs.Ids.{ConnectionId}
@@ -21,7 +20,7 @@ use Rattle.run_events.specs.declared.conditions.Conditions.{Conditions}
 use Rattle.run_events.specs.declared.note.Note.{Note}
 use Rattle.run_events.specs.declared.step.Step.{Step}
 use Rattle.run_events.specs.Causes.{ShowsIfOutOfMemory, SpoilAtMost}
-use Rattle.run_events.specs.Events.{Event, HappensBy, HasCause, after_event, state_before_notes}
+use Rattle.run_events.specs.Events.{Event, HappensBy, after_event, state_before_notes}
 use Rattle.run_events.specs.Moves.{Serves, Settles, state_after_note, state_after_notes, due_of_connection}
 use Rattle.run_events.specs.States.{RunState}
 use Rattle.front.specs.declared.answered.Ended.{Ended as EndedAs}

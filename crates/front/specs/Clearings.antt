@@ -30,15 +30,15 @@ ClearsPagesFirst old new = ((name : Text) → IsTrue (is_stat_file name) → fil
 
 -- no file of this kind is there
 abbrev pub HasNoFile : CacheFile → Files → Type 0
-HasNoFile kind files = (name : Text) → IsTrue (is_of_cache kind name) → file_at files name ≡ None
+HasNoFile cache_file files = (name : Text) → IsTrue (is_of_cache cache_file name) → file_at files name ≡ None
 
 -- the files of this kind are gone whose names aren't after this one
 abbrev pub HasNoneUpTo : CacheFile → Text → Files → Type 0
-HasNoneUpTo kind last files = (name : Text) → IsTrue (is_of_cache kind name) → by_name last name ≢ Less → file_at files name ≡ None
+HasNoneUpTo cache_file last files = (name : Text) → IsTrue (is_of_cache cache_file name) → by_name last name ≢ Less → file_at files name ≡ None
 
 -- those of this kind are gone that are among these names
 abbrev pub HasNoneAmong : CacheFile → List Text → Files → Type 0
-HasNoneAmong kind names files = (name : Text) → Contains names name → IsTrue (is_of_cache kind name) → file_at files name ≡ None
+HasNoneAmong cache_file names files = (name : Text) → Contains names name → IsTrue (is_of_cache cache_file name) → file_at files name ≡ None
 
 -- the name isn't after that of which the names after it are left, if any are
 abbrev pub IsClearedTo : Option Text → Text → Type 0
@@ -47,7 +47,7 @@ IsClearedTo (Some next) name = by_name next name ≢ Less
 
 -- the files of this kind are gone that are after this name, up to the next one, or to the end
 abbrev pub HasNoneBetween : CacheFile → Text → Option Text → Files → Type 0
-HasNoneBetween kind last next files = (name : Text) → IsTrue (is_of_cache kind name) → by_name last name ≡ Less → IsClearedTo next name → file_at files name ≡ None
+HasNoneBetween cache_file last next files = (name : Text) → IsTrue (is_of_cache cache_file name) → by_name last name ≡ Less → IsClearedTo next name → file_at files name ≡ None
 
 -- the walk comes nearer to its end with this name
 pub record IsNearer (last next : Text) : Type 0 where

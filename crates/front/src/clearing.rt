@@ -48,14 +48,14 @@ impl<R: Renderer + Drop> Front<R> {
 }
 
 // Clears the cache's files of this kind away.
-fn clear<D: Disk>(alloc: Global, disk: &mut D, kind: CacheFile) -> Result<(), FileFault>
-    ensures left { Told (ClearsFiles (spec.is_of_cache kind)) (D.files disk.old) (D.files disk.new) }
-    ensures none { OnOk result (Told (λ _ files. HasNoFile kind files) (D.files disk.old) (D.files disk.new)) }
+fn clear<D: Disk>(alloc: Global, disk: &mut D, cache_file: CacheFile) -> Result<(), FileFault>
+    ensures left { Told (ClearsFiles (spec.is_of_cache cache_file)) (D.files disk.old) (D.files disk.new) }
+    ensures none { OnOk result (Told (λ _ files. HasNoFile cache_file files) (D.files disk.old) (D.files disk.new)) }
     ensures cause { HasFileCause (D.faults disk.old) (D.faults disk.new) result }
     ensures calls { MakesDocrootCalls (D.calls disk.old) (D.calls disk.new) }
 {
     let mut last = TextBuf::of(alloc, "")?;
-    while let Some(next) = clear_next(alloc, disk, kind, &last)? {
+    while let Some(next) = clear_next(alloc, disk, cache_file, &last)? {
         last = next;
     }
     Ok(())
@@ -65,12 +65,12 @@ fn clear<D: Disk>(alloc: Global, disk: &mut D, kind: CacheFile) -> Result<(), Fi
 fn clear_next<D: Disk>(
     alloc: Global,
     disk: &mut D,
-    kind: CacheFile,
+    cache_file: CacheFile,
     last: &TextBuf,
 ) -> Result<Option<TextBuf>, FileFault>
     requires { length last.now ≤ longest_file_name }
-    ensures left { Told (ClearsFiles (spec.is_of_cache kind)) (D.files disk.old) (D.files disk.new) }
-    ensures none { IfOk result (λ next. Told (λ _ files. HasNoneBetween kind last.now next files) (D.files disk.old) (D.files disk.new)) }
+    ensures left { Told (ClearsFiles (spec.is_of_cache cache_file)) (D.files disk.old) (D.files disk.new) }
+    ensures none { IfOk result (λ next. Told (λ _ files. HasNoneBetween cache_file last.now next files) (D.files disk.old) (D.files disk.new)) }
     ensures nearer { IfOk result (λ next. IfSome next (IsNearer last.now)) }
     ensures cause { HasFileCause (D.faults disk.old) (D.faults disk.new) result }
     ensures calls { MakesDocrootCalls (D.calls disk.old) (D.calls disk.new) }
@@ -78,7 +78,7 @@ fn clear_next<D: Disk>(
     nothing_is_passed_over();
     fewer_names_follow();
     let names = disk.list(alloc, "", last.text(), NAMES_LISTED)?;
-    clear_names(disk, kind, names.as_slice())?;
+    clear_names(disk, cache_file, names.as_slice())?;
     match names.get(NAMES_LISTED - 1) {
         Some(next) => Ok(Some(next.duplicate(alloc)?)),
         None => Ok(None),
@@ -86,27 +86,31 @@ fn clear_next<D: Disk>(
 }
 
 // Clears the files with these names away that are of this kind.
-fn clear_names<D: Disk>(disk: &mut D, kind: CacheFile, names: &[TextBuf]) -> Result<(), DiskFault>
-    ensures left { Told (ClearsFiles (spec.is_of_cache kind)) (D.files disk.old) (D.files disk.new) }
-    ensures none { OnOk result (Told (λ _ files. HasNoneAmong kind names.now files) (D.files disk.old) (D.files disk.new)) }
+fn clear_names<D: Disk>(
+    disk: &mut D,
+    cache_file: CacheFile,
+    names: &[TextBuf],
+) -> Result<(), DiskFault>
+    ensures left { Told (ClearsFiles (spec.is_of_cache cache_file)) (D.files disk.old) (D.files disk.new) }
+    ensures none { OnOk result (Told (λ _ files. HasNoneAmong cache_file names.now files) (D.files disk.old) (D.files disk.new)) }
     ensures cause { HasDiskCause (D.faults disk.old) (D.faults disk.new) result }
     ensures calls { MakesDocrootCalls (D.calls disk.old) (D.calls disk.new) }
 {
     for name in names {
-        clear_name(disk, kind, name.text())?;
+        clear_name(disk, cache_file, name.text())?;
     }
     Ok(())
 }
 
 // Clears the file of this name away, where it is of this kind.
-fn clear_name<D: Disk>(disk: &mut D, kind: CacheFile, name: &str) -> Result<(), DiskFault>
-    ensures left { Told (ClearsFiles (spec.is_of_cache kind)) (D.files disk.old) (D.files disk.new) }
-    ensures gone { OnOk result (Told (λ _ files. IsTrue (spec.is_of_cache kind name.now) → file_at files name.now ≡ None) (D.files disk.old) (D.files disk.new)) }
+fn clear_name<D: Disk>(disk: &mut D, cache_file: CacheFile, name: &str) -> Result<(), DiskFault>
+    ensures left { Told (ClearsFiles (spec.is_of_cache cache_file)) (D.files disk.old) (D.files disk.new) }
+    ensures gone { OnOk result (Told (λ _ files. IsTrue (spec.is_of_cache cache_file name.now) → file_at files name.now ≡ None) (D.files disk.old) (D.files disk.new)) }
     ensures cause { HasDiskCause (D.faults disk.old) (D.faults disk.new) result }
     ensures calls { MakesDocrootCalls (D.calls disk.old) (D.calls disk.new) }
 {
     files_have_names();
-    if is_of_cache(kind, name) {
+    if is_of_cache(cache_file, name) {
         disk.remove(name)
     } else {
         Ok(())
@@ -114,10 +118,10 @@ fn clear_name<D: Disk>(disk: &mut D, kind: CacheFile, name: &str) -> Result<(), 
 }
 
 // Whether the file of this name is of this kind.
-fn is_of_cache(kind: CacheFile, name: &str) -> bool
-    ensures { result ≡ spec.is_of_cache kind name.now }
+fn is_of_cache(cache_file: CacheFile, name: &str) -> bool
+    ensures { result ≡ spec.is_of_cache cache_file name.now }
 {
-    match kind {
+    match cache_file {
         CacheFile::Page => is_page_file(name),
         CacheFile::Stamp => is_stat_file(name),
     }

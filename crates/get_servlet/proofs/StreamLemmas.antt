@@ -2,12 +2,11 @@
 use Rattle.std.proofs.Common.{◌≡◌, ◌&&◌, ◌-◌, ◌==◌, ℕ, Bool, true, false, cond, not, List, Option, Some, None, IsTrue, option_map, codes, length, slice_index, refl, subst}
 use Rattle.sp_base.specs.MediaTypes.{is_kind}
 use Rattle.sp_base.specs.Properties.{text_in}
-use Rattle.sp_base.specs.declared.value.Value.{Value}
 use Rattle.resource_tree.specs.Seen.{Resource, Seen}
 use Rattle.get_servlet.specs.declared.kids.Kid.{Kid}
 use Rattle.get_servlet.specs.declared.streams.Stream.{Stream}
 use Rattle.get_servlet.specs.Rendering.{lists_kid, kid_of_name}
-use Rattle.get_servlet.specs.Streams.{is_media_type, kid_stream, make_stream, media_type_of, stream_in, stream_of}
+use Rattle.get_servlet.specs.Streams.{is_media_type, kid_stream, make_stream, media_type_of, stream_of}
 
 middle : (a b c : Bool) → (a && (b && c)) ≡ true → b ≡ true
 middle true true c e = refl

@@ -6,7 +6,7 @@ mod Steps
 mod Balance
 mod Turns
 pub mod Values
-mod Plain
+pub mod Plain
 pub mod Split
 mod Spelled
 mod FirstFault

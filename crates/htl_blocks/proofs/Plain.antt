@@ -33,7 +33,7 @@ no_block_run zero (c ∷ t) h x =
     let ih = no_block_run (part_len (c ∷ t) - 1) t (omega (arith, within.1, within.0)) y.1 in
     rw y.0 (omega (arith, size, ih, within.0))
 
-drop_all : (t : List ℕ) → drop (length t) t ≡ []
+pub drop_all : (t : List ℕ) → drop (length t) t ≡ []
 drop_all [] = refl
 drop_all (c ∷ t) = drop_all t
 

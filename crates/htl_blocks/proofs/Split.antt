@@ -1,5 +1,7 @@
 -- A text split at its first block tag, and the element that begins there.
-use Rattle.std.proofs.Common.{◌⊎◌, ◌≡◌, ◌<◌, ◌≤◌, ◌+◌, ◌-◌, ℕ, zero, suc, Bool, true, false, cond, eqb, List, [], ◌∷◌, ◌++◌, take, drop, length, Option, Some, None, Result, Ok, Err, refl, ap, sym, subst, ◌∙◌, arith, append_assoc, length-append, inl, inr}
+use Rattle.std.proofs.Common.{◌⊎◌, ◌≡◌, ◌<◌, ◌≤◌, ◌+◌, ◌-◌, ℕ, zero, suc, Bool, true, false, cond, eqb, nat_eq, List, [], ◌∷◌, ◌++◌, take, drop, length, Option, Some, None, Result, Ok, Err, refl, ap, sym, subst, ◌∙◌, arith, append_assoc, length-append, inl, inr}
+use Rattle.std.specs.List.{starts_with}
+use Rattle.std.proofs.lemmas.Bool.{eqb-true}
 use Rattle.sp_base.specs.Bytes.{begins_with_byte}
 use Rattle.sp_base.proofs.BoolLemmas.{and_first, and_second}
 use Rattle.htl_syntax.specs.Tokens.{begins}
@@ -11,7 +13,7 @@ use Rattle.htl_blocks.specs.ElementText.{ElementText}
 use Rattle.htl_blocks.specs.Markup.{markup_quoting_step, ends_tag, tag_end, ended_len, tag_len, is_ended, begins_tag, part_len, parts, parts_after, tag_name, has_no_content, inside_len}
 use Rattle.htl_blocks.specs.Attributes.{is_block_tag}
 use Rattle.htl_blocks.specs.Reading.{text_run_len, run_of, after_text_run, cut_at, cut_after, element_cut}
-use Rattle.htl_blocks.specs.Laws.{HasNoBlock, Balanced, Closes, bytes_of}
+use Rattle.htl_blocks.specs.Laws.{HasNoBlock, bytes_of}
 use Rattle.htl_blocks.specs.Laws as laws
 use Rattle.htl_blocks.specs.Spelling.{whole_text, FirstTag, Closed, Element}
 use Rattle.htl_blocks.specs.Spelling as spelling
@@ -21,6 +23,14 @@ use Rattle.htl_blocks.proofs.Plain.{parts_whole}
 use Rattle.htl_blocks.proofs.Balance.{found_is_balanced, balanced_is_found}
 
 -- ---- texts and their parts
+
+-- a text that begins with another goes on after it
+pub begins_with : (a b : List ℕ) → starts_with nat_eq a b ≡ true → (rest : List ℕ) × (a ≡ b ++ rest)
+begins_with a [] e = (a, refl)
+begins_with [] (d ∷ b) e = absurd cc
+begins_with (c ∷ a) (d ∷ b) e =
+    let more = begins_with a b (and_second (eqb d c) (starts_with nat_eq a b) e) in
+    (more.0, ap (λ (t : List ℕ). c ∷ t) more.1 ∙ ap (λ (n : ℕ). n ∷ (b ++ more.0)) (sym (eqb-true d c (and_first (eqb d c) (starts_with nat_eq a b) e))))
 
 pub take_front : (a b : List ℕ) → take (length a) (a ++ b) ≡ a
 take_front [] b = refl
@@ -146,7 +156,7 @@ end_within quoting n (c ∷ t) m h = go (ends_tag quoting c) refl h (end_within 
     go true e x ih = rw e x
     go false e x ih = rw e (later (tag_end_at (markup_quoting_step quoting c) (n + 1) t m x).0 (ih x))
 
-take_all : (t : List ℕ) → take (length t) t ≡ t
+pub take_all : (t : List ℕ) → take (length t) t ≡ t
 take_all [] = refl
 take_all (c ∷ t) = ap (λ (u : List ℕ). c ∷ u) (take_all t)
 

@@ -1,5 +1,5 @@
 -- Answers in two parts.
-use Rattle.std.proofs.Common.{◌≡◌, ◌++◌, Bool, sym, append_assoc}
+use Rattle.std.proofs.Common.{◌≡◌, ◌++◌, Bool, append_assoc}
 use Rattle.sp_base.specs.declared.answer.Answer.{Answer}
 use Rattle.http_front.specs.Answers.{answer_bytes, answer_content, answer_head}
 

@@ -9,7 +9,6 @@ use Rattle.std.proofs.lemmas.Map.Keys.{IsDistinct-cons, IsDistinct-head, IsDisti
 use Rattle.sp_base.proofs.ListLemmas.{all_append, all_filter, all_weaker}
 use Rattle.resource_tree.specs.Content.{Content, IsTree, node_at}
 use Rattle.resource_tree.specs.Seen.{Resource, res_at}
-use Rattle.overlay_merge.specs.declared.order.KidMove.{KidMove}
 use Rattle.overlay_merge.specs.Kids.{all_kids, has_text, kids_there, with_kids_of}
 use Rattle.overlay_merge.specs.Walk.{AreNodesOf}
 use Rattle.overlay_merge.proofs.KidLemmas.{node_of}

@@ -1,5 +1,5 @@
 -- When notes agree with files, note by note.
-use Rattle.std.proofs.Common.{◌≡◌, ◌≢◌, ◌⊎◌, ◌==◌, ℕ, Bool, true, false, not, List, Option, Some, None, inl, inr, ⊎_elim, length, refl, sym, ◌∙◌, ap, subst, option_map, nat_eq}
+use Rattle.std.proofs.Common.{◌≡◌, ◌⊎◌, ◌==◌, ℕ, Bool, true, false, Option, Some, None, inl, inr, ⊎_elim, length, refl, sym, ◌∙◌, ap, subst, option_map}
 use Rattle.std.proofs.lemmas.Option.{none-some}
 use Rattle.std.specs.Prelude.{Contains, IfSome, if◌then◌else◌, nat_le, option_and_then}
 use Rattle.sp_base.specs.Texts.{Segments, Text}
@@ -16,9 +16,9 @@ use Rattle.stat_files.specs.Stamps.{stamp_at}
 use Rattle.docroot_changes.specs.Changes.{IsStampFolder}
 use Rattle.page_index.specs.Agreement.{Agrees, HasNoneCovered}
 use Rattle.page_index.specs.Effects.{IsFewer}
-use Rattle.page_index.specs.Held.{after_hit, body_after, fresh_note, kept_of}
+use Rattle.page_index.specs.Held.{after_hit, body_after, fresh_note}
 use Rattle.page_index.specs.Limits.{hits_before_keeping, longest_kept}
-use Rattle.page_index.specs.Notes.{head_noted, known_page, page_from, page_noted, stamp_noted}
+use Rattle.page_index.specs.Notes.{page_from, page_noted, stamp_noted}
 use Rattle.page_index.specs.declared.index.PageIndex.{PageIndex}
 use Rattle.page_index.specs.declared.page_note.PageNote.{PageNote}
 

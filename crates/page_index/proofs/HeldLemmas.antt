@@ -4,7 +4,6 @@ use Rattle.std.specs.Prelude.{IfSome, IsSome, if◌then◌else◌, nat_le, nat_l
 use Rattle.std.specs.BTreeMap.{insert_entry, is_at}
 use Rattle.std.specs.Cmp.{eq_by_cmp_equiv, nat_cmp_total}
 use Rattle.std.specs.List.{filter, sum_by, IsDistinct}
-use Rattle.std.specs.List.Sorted.{IsStrictlySortedBy}
 use Rattle.std.specs.Map.{keys_of, lookup, remove_entry, values_of}
 use Rattle.std.specs.Ordering.{eq_by_cmp, match_ordering, nat_cmp}
 use Rattle.std.specs.declared.cmp.Ordering.{Ordering}
@@ -18,7 +17,7 @@ use Rattle.sp_base.specs.Paths.{is_under, parent_of}
 use Rattle.cover_rules.specs.Coverage.{covers, deletes, handle_of, stat_folder}
 use Rattle.cover_rules.specs.declared.invalidation.Invalidation.{Invalidation}
 use Rattle.cover_rules.specs.declared.page.PageKey.{PageKey}
-use Rattle.page_index.specs.Held.{HeldNotes, IsBounded, bytes_kept, has_room, held_note, of_key, same_key, weight_of}
+use Rattle.page_index.specs.Held.{HeldNotes, IsBounded, bytes_kept, has_room, of_key, same_key, weight_of}
 use Rattle.page_index.specs.Limits.{most_young, most_young_bytes}
 use Rattle.page_index.specs.declared.page_note.PageNote.{PageNote}
 use Rattle.page_index.proofs.KeyLemmas.{key_is, key_itself}

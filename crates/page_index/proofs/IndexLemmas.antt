@@ -1,7 +1,7 @@
 -- What the calls make of the notes, and what changes of the files leave of them.
 use Rattle.std.proofs.Common.{◌≡◌, ◌≢◌, ◌⊎◌, ◌≤◌, ℕ, true, false, cond, Bor, Option, Some, None, inl, inr, ⊎_elim, length, option_map, refl, sym, ◌∙◌, ap, subst, arith}
 use Rattle.std.specs.Option.{option_or}
-use Rattle.std.specs.Prelude.{Contains, IfSome, is_some}
+use Rattle.std.specs.Prelude.{Contains, is_some}
 use Rattle.std.proofs.lemmas.Bool.{cases_Bool, true≢false}
 use Rattle.std.proofs.lemmas.Option.{same_Some}
 use Rattle.sp_base.specs.Texts.{Segments}
@@ -20,7 +20,7 @@ use Rattle.page_index.specs.Limits.{longest_kept, most_young}
 use Rattle.page_index.specs.Notes.{held_stamp, page_noted, stamp_noted}
 use Rattle.page_index.specs.declared.index.PageIndex.{PageIndex}
 use Rattle.page_index.specs.declared.page_note.PageNote.{PageNote}
-use Rattle.page_index.proofs.AgreementLemmas.{NoteAgrees, PageAgrees, agrees_by, covered_by, files_agree, none_from_head, none_stays, pages_of, same_note, same_or_no_stamp, same_or_none}
+use Rattle.page_index.proofs.AgreementLemmas.{PageAgrees, agrees_by, covered_by, files_agree, none_from_head, none_stays, pages_of, same_note, same_or_no_stamp, same_or_none}
 use Rattle.page_index.proofs.HeldLemmas.{no_room, this_place}
 use Rattle.page_index.proofs.StampLemmas.{gone_here}
 use Rattle.page_index.proofs.KeyLemmas.{folder_apart, folder_is, folder_itself, key_apart, key_is, key_itself}

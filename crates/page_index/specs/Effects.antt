@@ -1,5 +1,5 @@
 -- What the calls make of the notes.
-use Rattle.std.specs.Prelude.{◌≡◌, ◌≢◌, ◌⊎◌, ◌≤◌, ℕ, Bool, false, Contains, Option, Some, None, IsTrue, length}
+use Rattle.std.specs.Prelude.{◌≡◌, ◌≢◌, ◌⊎◌, ◌≤◌, ℕ, false, Contains, Option, None, IsTrue, length}
 use Rattle.sp_base.specs.Texts.{Segments}
 use Rattle.cover_rules.specs.Coverage.{deletes, touched_of}
 use Rattle.cover_rules.specs.declared.invalidation.Invalidation.{Invalidation}

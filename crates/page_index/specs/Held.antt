@@ -1,6 +1,6 @@
 -- How notes are held. A page's note stands at the place that its key's hash names, in the younger of two generations or in the older one; a
 -- folder's stamp stands under its path. Beside `specs/Notes.antt` only private functions and proofs need these.
-use Rattle.std.specs.Prelude.{◌≡◌, ◌≤◌, ◌+◌, ◌&&◌, ◌++◌, ℕ, Bool, true, false, List, Option, Some, None, if◌then◌else◌, length, nat_eq, nat_le, nat_lt, min, option_and_then}
+use Rattle.std.specs.Prelude.{◌≤◌, ◌+◌, ◌&&◌, ℕ, Bool, List, Option, Some, None, if◌then◌else◌, length, nat_eq, nat_le, nat_lt, min, option_and_then}
 use Rattle.std.specs.Cmp.Lexicographic.{pointwise}
 use Rattle.std.specs.Hash as fed
 use Rattle.std.specs.Hash.DefaultHasher.{finish, initial, write}

@@ -1,8 +1,8 @@
 -- What is noted: of a page's key its head or that there is none, and maybe its body; of a folder its stamp or that there is none.
-use Rattle.std.specs.Prelude.{◌+◌, ℕ, List, Option, Some, None, length, option_and_then, option_map}
+use Rattle.std.specs.Prelude.{◌+◌, ℕ, Option, length, option_and_then, option_map}
 use Rattle.std.specs.Map.{lookup}
 use Rattle.std.specs.Option.{option_or}
-use Rattle.sp_base.specs.Texts.{Segments, Text}
+use Rattle.sp_base.specs.Texts.{Segments}
 use Rattle.cover_rules.specs.declared.page.PageKey.{PageKey}
 use Rattle.cover_rules.specs.declared.stamp.Stamp.{Stamp}
 use Rattle.cache_files.specs.Pages.{page_under}

@@ -27,6 +27,7 @@ use Rattle.post_apply.specs.Values.{named_outcome, put_at, put_on_way, set_at, h
 use Rattle.post_apply.specs.Carries.{bring, bring_node, bring_value, carry_outcome, carry_at, carry_fault, carry_node, ends_at_root, outcome_without_goal, content_left, property_at, replacement_outcome, unless}
 use Rattle.post_apply.specs.Names.{name_given}
 use Rattle.post_apply.specs.Posting.{PostedNode, carry, modify_outcome, modify, modify_at, content_placed, post_outcome, posted_node, posted_node_of}
+use Rattle.post_apply.proofs.GoodLemmas.{okay, refused}
 
 -- ---- faults of the tree
 
@@ -78,12 +79,6 @@ move_known tree from to = first_known (ends_fault tree from to) (cond (is_too_de
 
 abbrev Told : {A : Type 0} → ApplyOutcome A → Type 0
 Told o = IfErr o (λ (e : ApplyFault). is_post_out_of_memory e ≡ false)
-
-abbrev okay : {A : Type 0} → A → ApplyOutcome A
-okay x = Ok x
-
-abbrev refused : {A : Type 0} → ApplyFault → ApplyOutcome A
-refused e = Err e
 
 chained : {A B : Type 0} (o : ApplyOutcome A) (f : A → ApplyOutcome B) → Told o → ((x : A) → Told (f x)) → Told (o >>= f)
 chained (Ok x) f was next = next x

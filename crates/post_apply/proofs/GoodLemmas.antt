@@ -52,7 +52,7 @@ use Rattle.post_apply.specs.Posting.{PostEffect, PostedNode, carry, content_afte
 
 -- ---- paths
 
-parent_path : (path : List (List ℕ)) → is_path path ≡ true → is_path (parent_of path) ≡ true
+pub parent_path : (path : List (List ℕ)) → is_path path ≡ true → is_path (parent_of path) ≡ true
 parent_path path valid = path_before (parent_of path) (drop (length path - 1) path) (ap is_path (take-append-drop (length path - 1) path) ∙ valid)
 
 within : (path : List (List ℕ)) → (length path == 0) ≡ false → length path - 1 < length path
@@ -69,10 +69,10 @@ name_ok path valid some =
 
 -- ---- one step after another
 
-abbrev okay : {A : Type 0} → A → ApplyOutcome A
+abbrev pub okay : {A : Type 0} → A → ApplyOutcome A
 okay x = Ok x
 
-abbrev refused : {A : Type 0} → ApplyFault → ApplyOutcome A
+abbrev pub refused : {A : Type 0} → ApplyFault → ApplyOutcome A
 refused e = Err e
 
 pub followed : {A B : Type 0} (P : A → Type 0) (Q : B → Type 0) (o : ApplyOutcome A) (f : A → ApplyOutcome B) → IfOk o P → ((x : A) → P x → IfOk (f x) Q) → IfOk (o >>= f) Q
@@ -155,12 +155,12 @@ at_spot node spot f valid next = followed (λ (p : List (List ℕ)). is_path p �
 
 -- ---- what is taken away
 
-sorted-removal : (tree : Content) (path : List (List ℕ)) → IsStrictlySortedBy by_path (keys_of tree) → IsStrictlySortedBy by_path (keys_of (removal tree path))
+pub sorted-removal : (tree : Content) (path : List (List ℕ)) → IsStrictlySortedBy by_path (keys_of tree) → IsStrictlySortedBy by_path (keys_of (removal tree path))
 sorted-removal tree path sorted =
     subst (λ (ks : List (List (List ℕ))). IsStrictlySortedBy by_path ks) (sym (keys_of-filter (λ p. not (is_under p path)) (change_at tree (parent_of path) (without_kid (name_of path)))))
     (IsStrictlySortedBy-filter by_path (λ p. not (is_under p path)) (keys_of (change_at tree (parent_of path) (without_kid (name_of path)))) (sorted-change_at tree (parent_of path) (without_kid (name_of path)) sorted))
 
-good_removed : (tree : Content) (path : List (List ℕ)) → IsGood tree → Good (removal_outcome tree path)
+pub good_removed : (tree : Content) (path : List (List ℕ)) → IsGood tree → Good (removal_outcome tree path)
 good_removed tree path good =
     unless_tree (fixed_fault tree path) (removal tree path) (λ allowed. IsGood-removal (removal tree path) tree path good (can_move tree path allowed) refl (sorted-removal tree path good.ordered))
 
@@ -229,7 +229,7 @@ good_carried : (moves : Bool) (from to : List (List ℕ)) (tree : Content) → I
 good_carried false from to tree good = unless_tree (copy_fault tree from to) (copy tree from to) (good_copy tree from to good)
 good_carried true from to tree good = unless_tree (move_fault tree from to) (relocation tree from to) (good_move tree from to good)
 
-good_given : (tree : Content) (to : List (List ℕ)) → IsGood tree → Good (outcome_without_goal tree to)
+pub good_given : (tree : Content) (to : List (List ℕ)) → IsGood tree → Good (outcome_without_goal tree to)
 good_given tree to good = if_test (is_some (node_at tree to)) (removal_outcome tree to) (okay tree) (λ _. good_removed tree to good) (λ _. good)
 
 good_replacing : (moves : Bool) (from to : List (List ℕ)) (tree : Content) → IsGood tree → Good (replacement_outcome moves from to tree)

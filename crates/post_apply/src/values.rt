@@ -29,7 +29,7 @@ fn hinted(alloc: Global, hint: Hint, words: &LentWords) -> Result<Value, ValueFa
     ensures ok { IfOk result (λ v. typed_of hint words.now ≡ Ok v) }
     ensures err { IfErr result (λ e. e ≢ ValueFault.NoMemory → typed_of hint words.now ≡ Err e) }
 {
-    match (hint.kind, hint.many) {
+    match (hint.hinted, hint.many) {
         (HintedType::Text, true) => Ok(Value::Texts(words.copied(alloc)?)),
         (HintedType::Text, false) => one_text(alloc, words),
         _ => Value::typed(alloc, hint, &words.copied(alloc)?),

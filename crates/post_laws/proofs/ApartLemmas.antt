@@ -27,9 +27,9 @@ use Rattle.post_apply.specs.Removals.{deletion_outcome, removal_outcome, without
 use Rattle.post_apply.specs.Values.{put_at, put_on_way}
 use Rattle.post_apply.specs.Carries.{bring, bring_node, bring_value, carry_outcome, carry_fault, carry_node, outcome_without_goal, content_left, property_at, replacement_outcome, unless}
 use Rattle.post_apply.specs.Posting.{content_placed}
-use Rattle.post_apply.proofs.GoodLemmas.{by_test, followed}
+use Rattle.post_apply.proofs.GoodLemmas.{by_test, followed, okay, refused}
 use Rattle.post_laws.specs.Places.{IsApart}
-use Rattle.post_laws.proofs.StepLemmas.{beside_part, kid_outside, okay, other_change, refused, unless_begun, unless_holds}
+use Rattle.post_laws.proofs.StepLemmas.{beside_part, kid_outside, other_change, unless_begun, unless_holds}
 
 module _ (tree : Content) (q : List (List ℕ)) where
   -- the path is as before, and those of its kids that were there are there

@@ -1,24 +1,19 @@
 -- A copy and a move bring what stood at the source to the goal.
 use Rattle.std.proofs.Common.{◌≡◌, ◌∙◌, ap, sym, refl, subst, ℕ, List, [], ◌∷◌, ◌++◌, Option, Some, None, Bool, true, false, cond}
-use Rattle.std.specs.Prelude.{◌&&◌, ◌||◌, IfOk, is_none, is_some, nat_eq, not}
+use Rattle.std.specs.Prelude.{◌&&◌, ◌||◌, IfOk, is_none, is_some, nat_eq}
 use Rattle.std.specs.Cmp.Lexicographic.{nat_list_eq_equiv, pointwise, same_text}
-use Rattle.std.specs.List.Sorted.{IsStrictlySortedBy}
-use Rattle.std.specs.Map.{keys_of}
 use Rattle.std.proofs.lemmas.Bool.{and_parts, false_from_ne_true, or_parts, true≢false}
-use Rattle.std.proofs.lemmas.List.Kept.{IsStrictlySortedBy-filter}
 use Rattle.sp_base.specs.Paths.{is_under}
-use Rattle.resource_tree.specs.declared.faults.TreeFault.{TreeFault}
-use Rattle.resource_tree.specs.Content.{Content, IsGood, by_path, name_of, node_at, parent_of, same_path}
-use Rattle.resource_tree.specs.Changes.{change_at, fixed_fault, removal, without_kid}
-use Rattle.resource_tree.specs.Moves.{copy, copy_fault, ends_fault, first_fault, move_fault, part_size_fault, relocation, target_fault}
+use Rattle.resource_tree.specs.Content.{Content, IsGood, node_at, parent_of, same_path}
+use Rattle.resource_tree.specs.Changes.{fixed_fault, removal}
+use Rattle.resource_tree.specs.Moves.{copy, copy_fault, ends_fault, move_fault, part_size_fault, relocation, target_fault}
 use Rattle.resource_tree.proofs.PathLemmas.{same_path_apart}
 use Rattle.resource_tree.proofs.Copying.{there-append}
 use Rattle.resource_tree.proofs.PartThere.{under_append}
 use Rattle.resource_tree.proofs.Removal.{IsGood-removal, node_at-removal}
 use Rattle.resource_tree.proofs.Reordering.{can_move}
 use Rattle.resource_tree.proofs.Under.{under_root}
-use Rattle.resource_tree.proofs.Without.{keys_of-filter}
-use Rattle.resource_tree.proofs.Copied.{is_free, node_at-copy, sorted-change_at}
+use Rattle.resource_tree.proofs.Copied.{is_free, node_at-copy, no_first}
 use Rattle.resource_tree.proofs.Relocated.{may_go, node_at-relocation}
 use Rattle.post_plan.specs.declared.operation.CarryOp.{CarryOp}
 use Rattle.post_apply.specs.declared.fault.ApplyFault.{ApplyFault}
@@ -27,14 +22,10 @@ use Rattle.post_apply.specs.Carries.{carry_fault, carry_node, carry_outcome, end
 use Rattle.post_apply.specs.Posting.{PostEffect}
 use Rattle.post_laws.specs.Brought.{HasNoNodes, HasWhatStoodAt, CopiesBringTheirSource, CopiesLeaveTheirSource, MovesBringTheirSource, MovesEmptyTheirSource}
 use Rattle.post_laws.proofs.PropertyLemmas.{parent_clear}
-use Rattle.post_apply.proofs.GoodLemmas.{by_test, followed}
-use Rattle.post_laws.proofs.StepLemmas.{okay, unless_holds}
+use Rattle.post_apply.proofs.GoodLemmas.{by_test, followed, okay, sorted-removal}
+use Rattle.post_laws.proofs.StepLemmas.{unless_holds}
 
 -- ---- faults
-
-none_first : (one other : Option TreeFault) → first_fault one other ≡ None → one ≡ None
-none_first None other e = refl
-none_first (Some fault) other e = absurd cc
 
 no_cause : (b : Bool) (fault : ApplyFault) (rest : Option ApplyFault) → cond b (Some fault) rest ≡ None → (b ≡ false) × (rest ≡ None)
 no_cause true fault rest e = absurd cc
@@ -86,29 +77,24 @@ module _ (from to : List (List ℕ)) (apart : AreBeside from to) where
   removed_beside : (tree : Content) (rest : List (List ℕ)) → node_at (removal tree to) (from ++ rest) ≡ node_at tree (from ++ rest)
   removed_beside tree rest = let out = below rest in let other = no_parent rest in node_at-removal tree to (from ++ rest) ∙ rw (out, other) refl
 
-  sorted-removal : (tree : Content) → IsStrictlySortedBy by_path (keys_of tree) → IsStrictlySortedBy by_path (keys_of (removal tree to))
-  sorted-removal tree sorted =
-      subst (λ (ks : List (List (List ℕ))). IsStrictlySortedBy by_path ks) (sym (keys_of-filter (λ p. not (is_under p to)) (change_at tree (parent_of to) (without_kid (name_of to)))))
-      (IsStrictlySortedBy-filter by_path (λ p. not (is_under p to)) (keys_of (change_at tree (parent_of to) (without_kid (name_of to)))) (sorted-change_at tree (parent_of to) (without_kid (name_of to)) sorted))
-
   given_way : (tree : Content) → IsGood tree → IfOk (outcome_without_goal tree to) (Ready tree)
   given_way tree good =
       by_test (Ready tree) (is_some (node_at tree to)) (removal_outcome tree to) (okay tree)
       (λ _. unless_holds (Ready tree) (fixed_fault tree to) (removal tree to) (λ allowed.
-      (IsGood-removal (removal tree to) tree to good (can_move tree to allowed) refl (sorted-removal tree good.ordered), removed_beside tree)))
+      (IsGood-removal (removal tree to) tree to good (can_move tree to allowed) refl (sorted-removal tree to good.ordered), removed_beside tree)))
       (λ _. (good, λ rest. refl))
 
   -- ---- a copy
 
   copied_there : (t : Content) → IsGood t → copy_fault t from to ≡ None → HasWhatStoodAt from t to (copy t from to)
   copied_there t good allowed rest =
-      let can = is_free t from to (none_first (target_fault t from to) (part_size_fault t from to) allowed) in
+      let can = is_free t from to (no_first (target_fault t from to) (part_size_fault t from to) allowed) in
       let under = under_append to rest in
       node_at-copy t from to good can (to ++ rest) ∙ rw under (ap (node_at t) (there-append to from rest))
 
   copied_here : (t : Content) → IsGood t → copy_fault t from to ≡ None → HasWhatStoodAt from t from (copy t from to)
   copied_here t good allowed rest =
-      let can = is_free t from to (none_first (target_fault t from to) (part_size_fault t from to) allowed) in
+      let can = is_free t from to (no_first (target_fault t from to) (part_size_fault t from to) allowed) in
       let out = below rest in
       let other = no_parent rest in
       node_at-copy t from to good can (from ++ rest) ∙ rw (out, other) refl
@@ -117,13 +103,13 @@ module _ (from to : List (List ℕ)) (apart : AreBeside from to) where
 
   moved_there : (t : Content) → IsGood t → move_fault t from to ≡ None → HasWhatStoodAt from t to (relocation t from to)
   moved_there t good allowed rest =
-      let may = may_go t from to (none_first (ends_fault t from to) _ allowed) in
+      let may = may_go t from to (no_first (ends_fault t from to) _ allowed) in
       let under = under_append to rest in
       node_at-relocation t from to good may (to ++ rest) ∙ rw under (ap (node_at t) (there-append to from rest))
 
   moved_away : (t : Content) → IsGood t → move_fault t from to ≡ None → HasNoNodes from (relocation t from to)
   moved_away t good allowed rest =
-      let may = may_go t from to (none_first (ends_fault t from to) _ allowed) in
+      let may = may_go t from to (no_first (ends_fault t from to) _ allowed) in
       let out = below rest in
       let other = no_parent rest in
       let under = under_append from rest in

@@ -21,10 +21,10 @@ use Rattle.post_apply.specs.Values.{named_outcome, put_on_way, set_at, hinted_va
 use Rattle.post_apply.specs.Carries.{bring, carry_at, carry_node}
 use Rattle.post_apply.specs.Names.{name_given}
 use Rattle.post_apply.specs.Posting.{PostEffect, PostedNode, carry, modify_outcome, modify, modify_at, post_outcome, remove, posted_node, posted_node_of}
-use Rattle.post_apply.proofs.GoodLemmas.{followed}
+use Rattle.post_apply.proofs.GoodLemmas.{followed, okay}
 use Rattle.post_laws.specs.Laws.{IsAsBefore, LeavesWhatIsApart}
 use Rattle.post_laws.specs.Places.{IsApart, IsApartFrom, goal_path, places_named, set_path, source_path}
-use Rattle.post_laws.proofs.StepLemmas.{all_both, all_of_map, all_split, any_is, deep_is, for_each, full_spot, okay, weaker, when}
+use Rattle.post_laws.proofs.StepLemmas.{all_both, all_of_map, all_split, any_is, deep_is, for_each, full_spot, weaker, when}
 use Rattle.post_laws.proofs.ApartLemmas.{Keeps, Stays, chained, kept_bring, kept_carry_node, kept_deleted, kept_on_way, kept_placed, kept_removed, kept_way, turns}
 
 module _ (tree : Content) (q : List (List ℕ)) (good : IsGood tree) where

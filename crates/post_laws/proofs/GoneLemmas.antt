@@ -34,11 +34,11 @@ use Rattle.post_apply.specs.Values.{named_outcome, put_at, put_on_way, set_at, h
 use Rattle.post_apply.specs.Carries.{bring, bring_node, bring_value, carry_at, carry_outcome, carry_fault, content_left, outcome_without_goal, property_at, replacement_outcome, unless}
 use Rattle.post_apply.specs.Names.{name_given}
 use Rattle.post_apply.specs.Posting.{PostEffect, PostedNode, content_placed, modify_at, modify_outcome, post_outcome, posted_node, posted_node_of}
-use Rattle.post_apply.proofs.GoodLemmas.{by_test, followed}
+use Rattle.post_apply.proofs.GoodLemmas.{by_test, followed, okay, refused}
 use Rattle.post_laws.specs.Places.{goal_path, set_path}
 use Rattle.post_laws.specs.Laws.{IsGoneUnlessNamed}
 use Rattle.post_laws.specs.Decided.{IsBeside, HasNothingAt, IsNamedNoMore}
-use Rattle.post_laws.proofs.StepLemmas.{all_of_map, all_split, any_is, beside_part, for_each, full_spot, okay, refused, unless_begun, unless_holds, when}
+use Rattle.post_laws.proofs.StepLemmas.{all_of_map, all_split, any_is, beside_part, for_each, full_spot, unless_begun, unless_holds, when}
 use Rattle.post_laws.proofs.PropertyLemmas.{first_clear, lost, none_there, not_root, not_self, not_the_root, nothing_free, parent_clear, prop_changed, prop_cleared, prop_cleared_own, prop_created, prop_put, prop_removed}
 
 module _ (path : List (List ℕ)) where

@@ -27,11 +27,11 @@ use Rattle.post_apply.specs.Removals.{delete_at}
 use Rattle.post_apply.specs.Values.{named_outcome, put_at, put_on_way, set_at, hinted_value}
 use Rattle.post_apply.specs.Carries.{carry_at, property_at}
 use Rattle.post_apply.specs.Posting.{PostEffect, PostedNode, content_placed, modify_at, modify_outcome, post_outcome, posted_node_of}
-use Rattle.post_apply.proofs.GoodLemmas.{by_test, followed}
+use Rattle.post_apply.proofs.GoodLemmas.{by_test, followed, okay, refused}
 use Rattle.post_laws.specs.Places.{set_path}
 use Rattle.post_laws.specs.Laws.{HasItsValueUnlessSetLater}
 use Rattle.post_laws.specs.Decided.{HasItsValue, is_set_at}
-use Rattle.post_laws.proofs.StepLemmas.{any_is, full_spot, okay, refused, unless_holds, weaker, when}
+use Rattle.post_laws.proofs.StepLemmas.{any_is, full_spot, unless_holds, weaker, when}
 use Rattle.post_laws.proofs.PropertyLemmas.{not_root, nothing_free, prop_changed, prop_inserted, prop_put}
 
 module _ (path : List (List ℕ)) (value : Value) where

@@ -20,14 +20,9 @@ use Rattle.post_plan.specs.Spots.{full_path}
 use Rattle.post_apply.specs.declared.fault.ApplyFault.{ApplyFault}
 use Rattle.post_apply.specs.Carries.{unless}
 use Rattle.post_apply.specs.Steps.{ApplyOutcome, changed_unless_fault, or_too_deep, path_of_spot}
+use Rattle.post_apply.proofs.GoodLemmas.{okay}
 
 -- ---- outcomes
-
-abbrev pub okay : {A : Type 0} → A → ApplyOutcome A
-okay x = Ok x
-
-abbrev pub refused : {A : Type 0} → ApplyFault → ApplyOutcome A
-refused e = Err e
 
 pub any_is : {A : Type 0} (o : ApplyOutcome A) → IfOk o (λ (x : A). x ≡ x)
 any_is (Ok x) = refl

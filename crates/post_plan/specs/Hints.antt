@@ -25,7 +25,7 @@ hinted_type word = if is_text_word word then Some Text
 -- the hint of a kind, for one value or for many
 abbrev pub hint_by : Bool → Option HintedType → Option Hint
 hint_by many None = None
-hint_by many (Some kind) = Some (record { kind = kind; many = many })
+hint_by many (Some hinted) = Some (record { hinted = hinted; many = many })
 
 -- the hint that a word names; `[]` at its end asks for many values
 abbrev pub hint_of : List ℕ → Option Hint

@@ -27,11 +27,11 @@ fn kind_of(word: &[u8]) -> Option<HintedType>
     }
 }
 
-fn hint_by(many: bool, kind: Option<HintedType>) -> Option<Hint>
-    ensures { result ≡ spec.hint_by many kind }
+fn hint_by(many: bool, hinted: Option<HintedType>) -> Option<Hint>
+    ensures { result ≡ spec.hint_by many hinted }
 {
-    match kind {
-        Some(kind) => Some(Hint { kind, many }),
+    match hinted {
+        Some(hinted) => Some(Hint { hinted, many }),
         None => None,
     }
 }

@@ -15,7 +15,6 @@ use Rattle.sp_base.proofs.OptionLemmas.{none_from_test}
 use Rattle.resource_tree.specs.Content.{Content, IsGood, name_of, node_at, same_path}
 use Rattle.resource_tree.specs.Patches.{PatchEntries, entry_at, left_by, patching_at}
 use Rattle.resource_tree.specs.declared.patch.PatchNode.{PatchNode}
-use Rattle.resource_tree.specs.declared.patch.PatchNode.TheVariants as patch_node
 use Rattle.resource_tree.proofs.PathLemmas.{path_from_same}
 use Rattle.url_maps.proofs.ParentLemmas.{left_of}
 use Rattle.url_split.specs.declared.decompose.Parts.{Parts}

@@ -1,14 +1,12 @@
 -- The content after a request is good: a POST's target is a path, so the operation names paths, and that leaves the content good.
-use Rattle.std.proofs.Common.{◌≡◌, ◌∙◌, ◌-◌, ap, refl, ℕ, List, Option, Some, None, length, take, drop, Bool, true, false, cond}
+use Rattle.std.proofs.Common.{◌≡◌, refl, ℕ, List, Option, Some, None, take, Bool, true, false, cond}
 use Rattle.std.specs.Prelude.{IfOk, IfSome, Result, Ok, Err, option_map}
 use Rattle.std.specs.Option.{option_or}
 use Rattle.std.specs.Result.{result_ok}
-use Rattle.std.proofs.lemmas.List.{take-append-drop}
 use Rattle.sp_base.specs.Outcomes.{◌>>=◌}
 use Rattle.sp_base.specs.Paths.{is_path, parent_of, path_in, path_of}
 use Rattle.sp_base.specs.declared.path.PathFault.{PathFault}
 use Rattle.sp_base.specs.declared.answer.Ask.{Ask}
-use Rattle.sp_base.proofs.PathTests.{path_before}
 use Rattle.resource_tree.specs.Content.{Content, IsGood}
 use Rattle.overlay_merge.specs.Merged.{has_resource}
 use Rattle.url_maps.specs.declared.answer.MapAnswer.{MapAnswer}
@@ -23,17 +21,13 @@ use Rattle.post_plan.specs.Plan.{plan_of}
 use Rattle.post_apply.specs.Posting.{PostEffect, content_after_post, post_outcome}
 use Rattle.post_apply.specs.Laws.{OperationsKeepContentGood}
 use Rattle.post_apply.specs.declared.fault.ApplyFault.{ApplyFault}
+use Rattle.post_apply.proofs.GoodLemmas.{parent_path}
 use Rattle.publisher.specs.declared.refusal.Refusal.{Refusal}
 use Rattle.publisher.specs.declared.targets.PostTarget.{PostTarget}
 use Rattle.publisher.specs.Refusals.{of_form, of_operation, of_plan}
 use Rattle.publisher.specs.Posting.{PostOutcome, ends_in_star, named_path, or_bad_request, or_refused, posting, posting_content, star_target, target_at, post_target}
 use Rattle.publisher.specs.Rendering.{content_after_request, is_post, mapping, posted_content}
 use Rattle.publisher.specs.PostLaws.{RequestsKeepContentGood}
-
--- ---- the parent of a path
-
-parent_path : (path : List (List ℕ)) → is_path path ≡ true → is_path (parent_of path) ≡ true
-parent_path path valid = path_before (parent_of path) (drop (length path - 1) path) (ap is_path (take-append-drop (length path - 1) path) ∙ valid)
 
 -- ---- one step after another
 

@@ -1,5 +1,5 @@
 -- The text of a handle as it stands in URLs tells the handle.
-use Rattle.std.proofs.Common.{◌≡◌, ◌≢◌, ◌≤◌, ◌<◌, ◌+◌, ◌++◌, ◌∙◌, ℕ, length, take, get_or, Bool, true, false, List, [], ◌∷◌, codes, sym, ap, refl, drop, map, subst, if◌then◌else◌}
+use Rattle.std.proofs.Common.{◌≡◌, ◌≢◌, ◌≤◌, ◌<◌, ◌+◌, ◌++◌, ◌∙◌, ℕ, length, take, get_or, Bool, true, false, List, [], ◌∷◌, codes, sym, ap, refl, drop, subst, if◌then◌else◌}
 use Rattle.std.specs.Prelude.{IsTrue, flat_map}
 use Rattle.std.proofs.lemmas.Grind.{flat_map-append}
 use Rattle.std.proofs.lemmas.List.{append-nil, take_all, take_more}

@@ -1,8 +1,8 @@
 -- A scenario has one text.
-use Rattle.std.proofs.Common.{◌≡◌, ◌++◌, ◌∙◌, ℕ, List, [], ◌∷◌, Option, Some, None, codes, map, ap, sym, subst}
+use Rattle.std.proofs.Common.{◌≡◌, ◌++◌, ◌∙◌, ℕ, List, [], ◌∷◌, Option, Some, None, codes, map, ap, sym}
 use Rattle.replay_text.specs.Lines.{text_of_lines}
 use Rattle.replay_text.specs.EventLines.{line_of}
-use Rattle.replay_text.specs.Scenario.{IsFarm, IsSpelled, SpellsScenario, act_lines}
+use Rattle.replay_text.specs.Scenario.{IsFarm, SpellsScenario, act_lines}
 use Rattle.replay_text.specs.Written.{farm_part, scenario_text}
 use Rattle.replay_text.specs.declared.scenario.Scenario.{Scenario}
 use Rattle.replay_text.proofs.LineLaws.{text_of_lines-append}

@@ -1,12 +1,12 @@
 -- How events are written.
-use Rattle.std.specs.Prelude.{◌≡◌, ◌+◌, ◌<◌, ◌/◌, ◌%◌, ◌++◌, ◌==◌, ℕ, Bool, true, false, if◌then◌else◌, nat_lt, List, [], ◌∷◌, codes, flat_map, Option, Some, None, IsTrue}
+use Rattle.std.specs.Prelude.{◌+◌, ◌<◌, ◌/◌, ◌%◌, ◌++◌, ◌==◌, ℕ, Bool, true, false, if◌then◌else◌, nat_lt, List, [], ◌∷◌, codes, flat_map, Option, Some, None}
 use Rattle.std.specs.Fmt.{decimal}
 use Rattle.sp_base.specs.Bytes.{is_printable_ascii}
 use Rattle.sp_base.specs.declared.answer.Answer.{Answer}
 use Rattle.sp_base.specs.declared.answer.Mark.{Mark}
 use Rattle.sp_base.specs.declared.answer.Mark.TheVariants.{Plain, NoCache, NoStore, MustRevalidate}
-use Rattle.sp_base.specs.Paths.{is_path, mangled_segs, text_of, unmangled_segs}
-use Rattle.cover_rules.specs.Pages.{page_key_of, page_text}
+use Rattle.sp_base.specs.Paths.{mangled_segs, text_of}
+use Rattle.cover_rules.specs.Pages.{page_text}
 use Rattle.cover_rules.specs.declared.page.PageKey.{PageKey}
 use Rattle.cover_rules.specs.declared.invalidation.Invalidation.{Invalidation}
 use Rattle.cover_rules.specs.declared.invalidation.Action.{Action}

@@ -10,6 +10,7 @@ use Rattle.std.proofs.lemmas.Map.{keys-set_value}
 use Rattle.sp_base.specs.Paths.{is_path, is_under}
 use Rattle.sp_base.proofs.OptionLemmas.{none_from_test}
 use Rattle.resource_tree.specs.declared.nodes.Node.{Node}
+use Rattle.resource_tree.specs.declared.faults.TreeFault.{TreeFault}
 use Rattle.resource_tree.specs.declared.faults.TreeFault.TheVariants.{TooDeep, FullTree}
 use Rattle.resource_tree.specs.declared.patch.PatchNode.TheVariants as patch_node
 use Rattle.resource_tree.specs.Content.{Content, IsGood, by_path, same_path, node_at, kid, prop_at, parent_of, name_of, empty_node}
@@ -66,6 +67,10 @@ part_too_deep tree source target deep = ap (λ b. cond b (Some TooDeep) (cond (n
 pub part_too_many : (tree : Content) (source target : List (List ℕ)) → is_too_deep tree source target ≡ false → 200001 ≤ length tree + length (part tree source) → part_size_fault tree source target ≡ Some FullTree
 part_too_many tree source target fits large =
     ap (λ b. cond b (Some TooDeep) (cond (nat_lt 200000 (length tree + length (part tree source))) (Some FullTree) None)) fits ∙ ap (λ b. cond b (Some FullTree) None) (more _ large)
+
+pub no_first : (one other : Option TreeFault) → first_fault one other ≡ None → one ≡ None
+no_first None other none = refl
+no_first (Some fault) other none = absurd (false≢true (sym (ap is_some none)))
 
 pub copy_fault_is : (tree : Content) (source target : List (List ℕ)) → target_fault tree source target ≡ None → copy_fault tree source target ≡ part_size_fault tree source target
 copy_fault_is tree source target free = ap (λ f. first_fault f (part_size_fault tree source target)) free

@@ -1,7 +1,6 @@
 -- What an event's notes show of a failing disk and of memory that ran out.
-use Rattle.std.specs.Prelude.{◌≡◌, ◌+◌, ◌⊎◌, ℕ, Bool, true, false, List, [], ◌∷◌, Option, Some, None, IsTrue}
+use Rattle.std.specs.Prelude.{◌≡◌, ◌+◌, ◌⊎◌, ℕ, List, [], ◌∷◌, Option, Some, None, IsTrue}
 use Rattle.sp_base.specs.Requests.{Request}
-use Rattle.sp_outside.specs.Causes.{Rose}
 use Rattle.http_front.specs.Faults.{insufficient_storage}
 use Rattle.cache_log.specs.Rules.{IsOwed}
 use Rattle.connections.specs.Connections.{IsInPlaceOfDue}

@@ -14,7 +14,7 @@ use Rattle.run_events.specs.declared.step.Step.TheVariants as step
 use Rattle.run_events.specs.States.{RunState}
 use Rattle.run_events.specs.Moves.{GivesDue, GivesNext, due_if_open, due_of_connection, state_after_note, state_after_notes}
 use Rattle.run_events.specs.Events.{Event, HappensBy, going, most_connections, state_after_going, state_after_opening, state_before_notes}
-use Rattle.run_laws.specs.Addressed.{AddsNoConnection, AreAddressed, IsAddressed, WasThereOrOpenedIfThere, LeavesSession, opened_by_step}
+use Rattle.run_laws.specs.Addressed.{AddsNoConnection, AreAddressed, IsAddressed, WasThereOrOpenedIfThere, LeavesSession}
 use Rattle.run_laws.proofs.CountLemmas.{note-there, there-map}
 use Rattle.run_laws.proofs.EachNoteLemmas.{AllIn, IsOfEach, step-all}
 use Rattle.run_laws.proofs.FormLemmas.{IsLandingNote, IsRequestNote, IsSliceNote, slice-form, treated-form}

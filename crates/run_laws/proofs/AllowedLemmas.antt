@@ -27,7 +27,7 @@ use Rattle.run_laws.specs.Logs.{AddsAllowed, EventsAddWhatIsAllowed, is_restart}
 use Rattle.run_laws.proofs.ComesLemmas.{AllCome, AskComes, Comes, FlushComes, HitComes, IsSound, LandingComes, LossComes, MayFail}
 use Rattle.run_laws.proofs.EachNoteLemmas.{AllIn, IsOfEach, step-all}
 use Rattle.run_laws.proofs.EntryLemmas.{begun-log}
-use Rattle.run_laws.proofs.FormLemmas.{IsLandingNote, IsRequestNote, IsSliceNote, treated-form}
+use Rattle.run_laws.proofs.FormLemmas.{IsLandingNote, IsRequestNote, treated-form}
 use Rattle.run_laws.proofs.LogLemmas.{begun-farm, note-farm, run-farm, start-sound}
 use Rattle.run_laws.proofs.SoundEventLemmas.{begun-sound, run-sound, step-come}
 use Rattle.run_laws.proofs.SoundRunLemmas.{answered-in, first-oldest, note-sound}

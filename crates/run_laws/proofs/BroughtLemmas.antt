@@ -21,7 +21,7 @@ use Rattle.run_events.specs.declared.note.Note.{Note}
 use Rattle.run_events.specs.declared.note.Note.TheVariants.{Ask as asked, Hit, Local, Flush, Sliced, Done, Failed, Rendered, Kept, Unkept, Passed, Lost, Sent, Shut, Up, Down}
 use Rattle.run_events.specs.declared.step.Step.{Step}
 use Rattle.run_events.specs.declared.step.Step.TheVariants as step
-use Rattle.run_events.specs.States.{RunState, Start, start_of}
+use Rattle.run_events.specs.States.{RunState, start_of}
 use Rattle.run_events.specs.Moves.{due_of_connection, flying_at, flush_at, on_connection, over_with, state_after_ask, state_after_ending, state_after_flush, state_after_hit, state_after_note, state_after_notes, treated_request}
 use Rattle.run_events.specs.Events.{Event, HappensBy, PieceTo, Run, after_event, most_connections, state_after_going, state_after_opening, state_before_notes}
 use Rattle.run_laws.specs.Brought.{EachBeginning, StepsBring, StepsTellTheEnds, comes_on}

@@ -1,5 +1,5 @@
 -- Each event leaves nothing due.
-use Rattle.std.proofs.Common.{◌≡◌, ◌≢◌, ◌+◌, ◌∙◌, ℕ, Bool, true, false, List, [], ◌∷◌, Option, Some, None, refl, ap, sym, subst, inl, inr, eq-eqb}
+use Rattle.std.proofs.Common.{◌≡◌, ◌+◌, ◌∙◌, ℕ, Bool, true, false, List, [], ◌∷◌, Option, Some, None, refl, ap, sym, inl, inr, eq-eqb}
 use Rattle.std.specs.Prelude.{if◌then◌else◌, is_some, nat_eq, nat_le}
 use Rattle.std.specs.Map.{update}
 use Rattle.sp_base.specs.declared.answer.Answer.{Answer}
@@ -10,15 +10,15 @@ use Rattle.run_events.specs.declared.conditions.Conditions.{Conditions}
 use Rattle.run_events.specs.declared.flying.Flying.{Flying}
 use Rattle.run_events.specs.declared.flying.Flushing.{Flushing}
 use Rattle.run_events.specs.declared.note.Note.{Note}
-use Rattle.run_events.specs.declared.note.Note.TheVariants.{Failed, Lost, Shut, Up, Down, Rendered, Refused, Idle}
+use Rattle.run_events.specs.declared.note.Note.TheVariants.{Failed, Lost, Shut, Up, Down, Refused, Idle}
 use Rattle.run_events.specs.declared.step.Step.{Step}
 use Rattle.run_events.specs.declared.step.Step.TheVariants as step
 use Rattle.run_events.specs.States.{RunState}
-use Rattle.run_events.specs.Moves.{due_if_open, flying_at, flush_at, on_connection, over_with, state_after_ending, state_after_landing, state_after_note, state_after_notes}
+use Rattle.run_events.specs.Moves.{due_if_open, flying_at, flush_at, on_connection, over_with, state_after_ending, state_after_note, state_after_notes}
 use Rattle.run_events.specs.Restarts.{without_connections}
 use Rattle.run_events.specs.Events.{DeliverAs, DeliverTo, Event, HappensBy, LeadsNotes, LoseTo, PieceTo, PurgeTo, RenderTo, going, is_any, is_rendered, is_unrendered, most_connections, opening, picked_flight, state_after_going, state_after_opening, state_before_notes}
 use Rattle.run_laws.proofs.AskLemmas.{Numbered, picked-there}
-use Rattle.run_laws.proofs.CountLemmas.{NoneThere, cuts-none}
+use Rattle.run_laws.proofs.CountLemmas.{cuts-none}
 use Rattle.run_laws.proofs.DueLemmas.{IsGiven, ServesOne, given-absent, given-with, one-changed, one-given, one-over, one-slice, settles-given}
 use Rattle.run_laws.proofs.FormLemmas.{AreCutNotes, IsCutNote, IsLandingNote, landing-form, restart-cut, slice-form}
 

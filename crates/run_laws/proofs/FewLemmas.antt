@@ -1,5 +1,5 @@
 -- No more flights are in the air than may be.
-use Rattle.std.proofs.Common.{◌≡◌, ◌≤◌, ◌<◌, ◌+◌, ◌++◌, ◌||◌, ◌∙◌, ℕ, Bool, true, false, not, List, [], ◌∷◌, Option, Some, None, Result, Ok, Err, refl, ap, sym, subst, inl, inr, length, arith}
+use Rattle.std.proofs.Common.{◌≡◌, ◌≤◌, ◌<◌, ◌+◌, ◌||◌, ℕ, Bool, true, false, not, List, [], ◌∷◌, Option, Some, None, Result, Ok, Err, refl, sym, subst, inl, inr, length, arith}
 use Rattle.std.specs.Prelude.{IsTrue, if◌then◌else◌, nat_eq, nat_le}
 use Rattle.std.specs.Map.{update}
 use Rattle.std.proofs.lemmas.List.{length-append, length-map}
@@ -18,11 +18,11 @@ use Rattle.run_events.specs.declared.conditions.Conditions.{Conditions}
 use Rattle.run_events.specs.declared.flying.Flying.{Flying}
 use Rattle.run_events.specs.declared.flying.Flushing.{Flushing}
 use Rattle.run_events.specs.declared.note.Note.{Note}
-use Rattle.run_events.specs.declared.note.Note.TheVariants.{Ask as asked, Hit, Local, Flush, Sliced, Done, Failed, Rendered, Kept, Unkept, Passed, Lost, Sent, Shut, Refused, Idle, Up, Down}
+use Rattle.run_events.specs.declared.note.Note.TheVariants.{Ask as asked, Hit, Local, Flush, Sliced, Done, Failed, Rendered, Kept, Unkept, Passed, Lost, Sent, Shut, Up, Down}
 use Rattle.run_events.specs.declared.step.Step.{Step}
 use Rattle.run_events.specs.declared.step.Step.TheVariants as step
 use Rattle.run_events.specs.States.{RunState}
-use Rattle.run_events.specs.Points.{AnswersFlush, AnswersInvalidation, BeginsFlush, IsFirstPoint, are_stamps_drawn, is_front_full, is_full_of_flushes, peer_of, points}
+use Rattle.run_events.specs.Points.{AnswersFlush, AnswersInvalidation, BeginsFlush, IsFirstPoint, are_stamps_drawn, is_full_of_flushes, peer_of, points}
 use Rattle.run_events.specs.Moves.{GivesDue, GivesNext, due_of_connection, flying_at, flush_at, has_number, over_with, state_after_ask, state_after_ending, state_after_flush, state_after_hit, state_after_note, state_after_notes, treated_request, air_without}
 use Rattle.run_events.specs.Events.{Event, HappensBy, most_connections, state_after_going, state_after_opening, state_before_notes}
 use Rattle.run_laws.proofs.EachNoteLemmas.{AllIn, IsOfEach, step-all}

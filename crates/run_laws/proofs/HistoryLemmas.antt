@@ -17,7 +17,7 @@ use Rattle.cache_log.specs.Entries.{LogEntry, FlushOutcome, Done as done_outcome
 use Rattle.connections.specs.declared.awaited.Awaited.{Awaited}
 use Rattle.connections.specs.declared.awaited.Awaited.TheVariants.{Flight as flight_awaited, Flush as flush_awaited}
 use Rattle.connections.specs.Slots.{Slot, Awaits, Cached, Fixed, Response, Says, local_response, request_slot}
-use Rattle.connections.specs.Connections.{Connection, Due, Send, Treat, Refuse, Close, Nothing, with_piece, fresh, is_crowded, with_end, with_sent}
+use Rattle.connections.specs.Connections.{Connection, Due, Send, Treat, Refuse, Close, Nothing, is_crowded, with_end, with_sent}
 use Rattle.connections.specs.Connections as model
 use Rattle.connections.specs.Histories.{Ending, IsAtRest, IsMove, Sent as SentMove, Treatment}
 use Rattle.connections.specs.Histories as history

@@ -14,7 +14,7 @@ use Rattle.error_answers.specs.Errors.{error_answer}
 use Rattle.http_front.specs.Turns.{SpellsTurns}
 use Rattle.cache_log.specs.Entries.{LogEntry, FlushOutcome, Done as done_outcome, Failed as failed_outcome, flights_asked, flushes_begun}
 use Rattle.connections.specs.Slots.{Response, Says}
-use Rattle.connections.specs.Connections.{Connection, Due, Send, Treat, Refuse, Close, Nothing, with_piece, fresh, is_crowded, with_end, with_sent}
+use Rattle.connections.specs.Connections.{Connection, Nothing, with_piece, fresh}
 use Rattle.connections.specs.Connections as model
 use Rattle.connections.specs.Histories.{IsAtRest}
 use Rattle.connections.specs.declared.sending.Sending.{Sending}

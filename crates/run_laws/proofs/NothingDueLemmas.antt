@@ -1,5 +1,5 @@
 -- The laws for a loop over events, of their steps.
-use Rattle.std.proofs.Common.{◌≡◌, ◌<◌, ◌≤◌, ◌+◌, ◌⊎◌, ℕ, List, [], ◌∷◌, Option, None, refl, sym, subst, arith}
+use Rattle.std.proofs.Common.{◌≡◌, ◌⊎◌, ℕ, List, [], ◌∷◌, refl, sym, subst, arith}
 use Rattle.std.specs.List.{AllByRecursion}
 use Rattle.sp_base.specs.declared.answer.Answer.{Answer}
 use Rattle.cache_log.specs.Entries.{flights_asked}

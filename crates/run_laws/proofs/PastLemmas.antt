@@ -12,7 +12,7 @@ use Rattle.http_front.specs.declared.turn.Turn.TheVariants.{Continue, Whole}
 use Rattle.http_front.proofs.ParserLemmas.{head_takes_bytes}
 use Rattle.connections.specs.declared.awaited.Awaited.{Awaited}
 use Rattle.connections.specs.Slots.{Response, Slot, interim_slot}
-use Rattle.connections.specs.Connections.{Connection, Due, Send, with_due_continue, after_turn, with_piece, fresh, next_turn, with_end, with_sent, with_slot}
+use Rattle.connections.specs.Connections.{Connection, with_due_continue, after_turn, with_piece, fresh, next_turn, with_end, with_sent, with_slot}
 use Rattle.connections.specs.Connections as model
 use Rattle.connections.specs.Histories.{AreMovesOf, IsAtRest, IsMove, Ending, Move, Shut as ShutMove, Sent as SentMove, Piece as PieceMove, Treatment, after_all, sendings}
 use Rattle.connections.specs.Histories as history

@@ -7,7 +7,7 @@ use Rattle.http_front.specs.declared.turn.Turn.{Turn}
 use Rattle.http_front.specs.declared.turn.Turn.TheVariants.{Continue, Whole}
 use Rattle.connections.specs.declared.awaited.Awaited.{Awaited}
 use Rattle.connections.specs.Slots.{Cached, Response, Slot, interim_slot, is_answered, is_awaiting}
-use Rattle.connections.specs.Connections.{Close, Connection, Due, Refuse, Send, Treat, after_turn, due_at_end, due_at_slot, due_without_sending, fresh, next_turn, slots_with_end, with_due_continue, with_end, with_piece, with_response, with_sent, with_slot}
+use Rattle.connections.specs.Connections.{Close, Connection, Send, after_turn, due_at_slot, due_without_sending, next_turn, slots_with_end, with_due_continue, with_piece, with_response, with_slot}
 use Rattle.connections.specs.Connections as model
 use Rattle.connections.proofs.HistoryLemmas.{without_sending-no-send}
 

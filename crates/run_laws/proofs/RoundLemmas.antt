@@ -1,5 +1,5 @@
 -- What renders and landings make of the flights in the air.
-use Rattle.std.proofs.Common.{◌≡◌, ◌≤◌, ◌<◌, ◌+◌, ◌++◌, ◌⊎◌, ◌∙◌, ℕ, Bool, true, false, not, List, [], ◌∷◌, Option, Some, None, refl, ap, sym, subst, inl, inr, arith, eq-eqb, map}
+use Rattle.std.proofs.Common.{◌≡◌, ◌≤◌, ◌+◌, ◌++◌, ◌⊎◌, ◌∙◌, ℕ, Bool, true, false, not, List, [], ◌∷◌, Option, Some, None, refl, ap, sym, subst, inl, inr, arith, eq-eqb, map}
 use Rattle.std.specs.Prelude.{IsSome, if◌then◌else◌, is_some, nat_eq, nat_le}
 use Rattle.std.specs.List.{AllByRecursion}
 use Rattle.std.specs.Map.{update}
@@ -15,7 +15,6 @@ use Rattle.run_events.specs.declared.flying.Flying.{Flying}
 use Rattle.run_events.specs.declared.flying.Flushing.{Flushing}
 use Rattle.run_events.specs.declared.note.Note.{Note}
 use Rattle.run_events.specs.declared.note.Note.TheVariants.{Ask as asked, Hit, Local, Flush, Sliced, Done, Failed, Rendered, Kept, Unkept, Passed, Lost, Sent, Shut, Refused, Idle, Up, Down}
-use Rattle.run_events.specs.declared.step.Pick.{Pick}
 use Rattle.run_events.specs.declared.step.Pick.TheVariants.{First}
 use Rattle.run_events.specs.declared.step.Step.{Step}
 use Rattle.run_events.specs.declared.step.Step.TheVariants as step
@@ -25,7 +24,7 @@ use Rattle.run_events.specs.Events.{DeliverAs, DeliverTo, Event, HappensBy, Lead
 use Rattle.run_events.proofs.NoteLemmas.{AreStillNotes, IsStillNote}
 use Rattle.run_events.proofs.StillEvents.{IsStillStep, step-still}
 use Rattle.run_laws.specs.Rounds.{AreUnrendered, BringsBytes, LeavesFlights, LeavesUnrendered, TreatsNoTurn}
-use Rattle.run_laws.proofs.DueLemmas.{HasNoTurns, IsSendingNote, OnlySend, ending-turns, over-turns, serves-send}
+use Rattle.run_laws.proofs.DueLemmas.{HasNoTurns, IsSendingNote, ending-turns, over-turns, serves-send}
 use Rattle.run_laws.proofs.FormLemmas.{AreCutNotes, IsCutNote, IsLandingNote, IsSliceNote, landing-form, restart-cut, slice-form}
 
 -- ---- the first flight

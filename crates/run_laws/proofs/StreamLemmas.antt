@@ -4,7 +4,7 @@ use Rattle.std.specs.Prelude.{if◌then◌else◌, slice_get}
 use Rattle.http_front.specs.Turns.{Breaks, End, SpellsTurns, Waits}
 use Rattle.http_front.specs.declared.turn.Turn.{Turn}
 use Rattle.connections.specs.Slots.{Slot, is_answered}
-use Rattle.connections.specs.Connections.{Close, Connection, Due, Nothing, Refuse, Send, Treat, due_at_end, due_at_slot, due_at_turn, due_without_sending, fresh, next_turn}
+use Rattle.connections.specs.Connections.{Close, Connection, Nothing, Send, due_at_end, due_at_slot, due_at_turn, due_without_sending, fresh, next_turn}
 use Rattle.connections.specs.Connections as model
 use Rattle.connections.specs.Histories.{AnswersRun, AreAllTreated, AreOfTurns, AreMovesOf, HaveNoSendingOutOfMemory, IsAtRest, Move, after_all, sendings, some_closes}
 use Rattle.connections.specs.declared.sending.Sending.{Sending}

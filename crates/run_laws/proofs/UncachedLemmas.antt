@@ -13,7 +13,7 @@ use Rattle.run_events.specs.declared.note.Note.{Note}
 use Rattle.run_events.specs.declared.note.Note.TheVariants.{Up, Down}
 use Rattle.run_events.specs.States.{RunState}
 use Rattle.run_events.specs.Points.{IsFirstPoint, key_of, points}
-use Rattle.run_events.specs.Moves.{GivesDue, GivesNext, GivesSlice, due_if_open, due_of_connection, state_after_note}
+use Rattle.run_events.specs.Moves.{GivesDue, GivesNext, due_if_open, due_of_connection, state_after_note}
 use Rattle.run_laws.specs.Brought.{AsksNoCache, TurnAsksNoCache, TurnsAskNoCache}
 use Rattle.run_laws.specs.Determined.{LeavesNoChoice}
 use Rattle.run_laws.proofs.BroughtLemmas.{AllRead, note_read}

@@ -18,14 +18,13 @@ use Rattle.run_events.specs.declared.note.Note.{Note}
 use Rattle.run_events.specs.declared.note.Note.TheVariants.{Ask as asked, Hit, Local, Flush, Sliced, Done, Failed, Rendered, Kept, Unkept, Passed, Lost, Sent, Shut, Up, Down}
 use Rattle.run_events.specs.declared.step.Step.{Step}
 use Rattle.run_events.specs.declared.step.Step.TheVariants as step
-use Rattle.run_events.specs.States.{RunState, Start, start_of}
+use Rattle.run_events.specs.States.{RunState, start_of}
 use Rattle.run_events.specs.Points.{call_conditions}
 use Rattle.run_events.specs.Moves.{due_of_connection, flying_at, flush_at, over_with, state_after_ask, state_after_ending, state_after_flush, state_after_hit, state_after_note, state_after_notes, treated_request}
 use Rattle.run_events.specs.Restarts.{EndsRestart, Restarts, cut_notes, without_connections}
 use Rattle.run_events.specs.Events.{Event, HappensBy, Run, after_event, state_before_notes}
 use Rattle.run_events.proofs.NoteLemmas.{notes_append}
 use Rattle.run_laws.specs.Determined.{AreDetermined, LeavesNoChoice, event_steps}
-use Rattle.run_laws.specs.Logs.{IsBeginning}
 use Rattle.run_laws.specs.Brought.{AreUnhindered, IsUnhindered, StepsAskNoCache, TurnsAskNoCache, UncachedRunsLeaveNoChoice}
 use Rattle.run_laws.proofs.BroughtLemmas.{begun_read, coming_by, later-bring}
 use Rattle.run_laws.proofs.EachNoteLemmas.{AllIn, IsOfEach, step-all}

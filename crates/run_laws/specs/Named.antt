@@ -1,9 +1,6 @@
 -- What the notes of a run name: pages of the cache, and handles of invalidations (Adobe Dispatcher manual, "Invalidating Cached Pages From
 -- AEM").
-use Rattle.std.specs.Prelude.{◌≡◌, ℕ, IsTrue, List, [], ◌∷◌, Option, Some, None}
-use Rattle.sp_base.specs.Paths.{is_path, unmangled_segs}
-use Rattle.cover_rules.specs.Pages.{page_key_of}
-use Rattle.cover_rules.specs.declared.page.PageKey.{PageKey}
+use Rattle.std.specs.Prelude.{ℕ, List, [], ◌∷◌, Some}
 use Rattle.run_events.specs.declared.note.Note.{Note}
 use Rattle.run_events.specs.declared.note.Note.TheVariants.{Ask as asked, Hit, Flush, Kept}
 use Rattle.run_events.specs.Named.{IsPage, IsHandle}

@@ -1,5 +1,5 @@
 -- What is so between events, and what rounds of renders and landings may rely on.
-use Rattle.std.specs.Prelude.{◌≡◌, ◌≤◌, ◌⊎◌, ℕ, List, [], ◌∷◌, Option, None, IsSome, length}
+use Rattle.std.specs.Prelude.{◌≡◌, ◌≤◌, ℕ, List, [], ◌∷◌, None, IsSome, length}
 use Rattle.std.specs.List.{AllByRecursion}
 use Rattle.sp_base.specs.declared.answer.Answer.{Answer}
 use Rattle.connections.specs.Connections.{Nothing}
@@ -9,10 +9,10 @@ use Rattle.run_events.specs.declared.note.Note.{Note}
 use Rattle.run_events.specs.declared.note.Note.TheVariants.{Ask as asked, Hit, Local, Flush}
 use Rattle.run_events.specs.declared.step.Pick.TheVariants.{First}
 use Rattle.run_events.specs.declared.step.Step.{Step}
-use Rattle.run_events.specs.declared.step.Step.TheVariants.{Opened, Piece, Gone, Direct, Render, Deliver, Lose, Purge, Restart}
-use Rattle.run_events.specs.Events.{Event, Happens, Run, after_event, state_after_events}
+use Rattle.run_events.specs.declared.step.Step.TheVariants.{Opened, Piece, Gone, Direct, Render, Deliver, Purge}
+use Rattle.run_events.specs.Events.{Event, Happens, after_event}
 use Rattle.run_events.specs.Moves.{due_of_connection, with_rendered}
-use Rattle.run_events.specs.States.{AreFlightsRising, RunState, Start, start_of}
+use Rattle.run_events.specs.States.{AreFlightsRising, RunState}
 use Rattle.flights.specs.Flights.{most_flights}
 
 -- ---- between events

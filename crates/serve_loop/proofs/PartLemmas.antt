@@ -21,8 +21,7 @@ use Rattle.run_laws.specs.Rounds.{AreUnrendered, HasNothingDue, LeavesFlights, L
 use Rattle.serve_loop.specs.declared.handing.HandedOn.{HandedOn}
 use Rattle.serve_loop.specs.declared.handing.HandedOn.TheVariants.{All, FailedAt, NoMemory}
 use Rattle.serve_loop.specs.Turns.{AreDue, AreWholeTurns, Begins, Delivers, Goes, HandedEvent, IsCutTurn, IsHandedOn, MayRest, Renders, Rests, ServedTurn, Stage, Stops, due_step, entries_of_notes, events_made, has_unrendered, is_flushing, stage_after, stage_handed, stage_of, turn_events, with_cut}
-use Rattle.serve_loop.specs.Served.{IsServed, IsServerAtRest}
-use Rattle.serve_loop.specs.TurnParts.{ConnectionsGoForACause, EndsUnsent, HasOneSlice, HasTurn, IsGoing, MayGo, TurnsHaveOneSlice, TurnsLandAll}
+use Rattle.serve_loop.specs.TurnParts.{ConnectionsGoForACause, EndsUnsent, HasOneSlice, IsGoing, MayGo, TurnsHaveOneSlice, TurnsLandAll}
 use Rattle.serve_loop.proofs.ChainLemmas.{state_append}
 use Rattle.serve_loop.proofs.RoundLemmas.{FirstLeft, FlightLaws, first_is_found, render_due}
 use Rattle.serve_loop.proofs.TurnLemmas.{events_of_both}

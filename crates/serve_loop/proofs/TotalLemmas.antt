@@ -1,12 +1,11 @@
 -- The sum of what a failing disk costs the events of a session.
-use Rattle.std.proofs.Common.{◌≡◌, ◌+◌, ◌-◌, ◌<◌, ◌≤◌, ◌∙◌, ℕ, Bool, true, false, List, [], ◌∷◌, refl, sym, subst, arith, cond}
+use Rattle.std.proofs.Common.{◌≡◌, ◌+◌, ◌-◌, ◌<◌, ◌≤◌, ℕ, Bool, true, false, List, [], ◌∷◌, refl, arith, cond}
 use Rattle.std.proofs.lemmas.List.Sums.{sum_by-append}
 use Rattle.sp_base.specs.Limits.{greatest_u64}
-use Rattle.sp_outside.specs.Causes.{IsDiskFailure, Rose}
-use Rattle.run_events.specs.Causes.{SpoilAtMost}
-use Rattle.run_events.specs.Events.{Event, HasCause, after_event, state_before_notes}
+use Rattle.sp_outside.specs.Causes.{IsDiskFailure}
+use Rattle.run_events.specs.Events.{Event, after_event}
 use Rattle.run_events.specs.States.{RunState}
-use Rattle.serve_loop.specs.Served.{AreCaused, DiskReport, IsLastCount, IsServed, WorldReport}
+use Rattle.serve_loop.specs.Served.{AreCaused, IsLastCount}
 use Rattle.serve_loop.specs.Totals.{EventsSpoilAtMost, FailuresAreCounted, count_failed}
 use Rattle.serve_loop.specs.Turns.{turn_events, with_cut}
 use Rattle.serve_loop.specs.declared.serving.ServeEnd.{ServeEnd}

@@ -1,5 +1,5 @@
 -- What a disk that fails costs a whole session, beside what it costs each event.
-use Rattle.std.specs.Prelude.{◌+◌, ◌-◌, ◌≤◌, ◌<◌, ℕ, Bool, List, [], ◌∷◌}
+use Rattle.std.specs.Prelude.{◌+◌, ◌-◌, ◌≤◌, ◌<◌, ℕ, List, [], ◌∷◌}
 use Rattle.std.specs.List.{count_by}
 use Rattle.sp_base.specs.Limits.{greatest_u64}
 use Rattle.run_events.specs.Causes.{SpoilAtMost}

@@ -1,5 +1,5 @@
 -- A session that is served is a run that begins in a legal log.
-use Rattle.std.proofs.Common.{◌≡◌, ◌≢◌, ◌++◌, ◌∷◌, ◌∙◌, ℕ, false, List, [], Option, Some, refl, sym, ap, subst}
+use Rattle.std.proofs.Common.{◌≡◌, ◌≢◌, ◌∷◌, ◌∙◌, ℕ, List, [], Option, refl, sym, ap, subst}
 use Rattle.std.specs.Prelude.{IfSome, Ok}
 use Rattle.sp_outside.specs.Files.{Files}
 use Rattle.any_config.specs.declared.farm.Farm.{Farm}
@@ -7,7 +7,7 @@ use Rattle.cache_files.specs.Epochs.{next_epoch}
 use Rattle.cache_log.specs.Entries.{LogEntry, Session}
 use Rattle.cache_log.specs.Rules.{IsLegal, KeepsBound}
 use Rattle.coherence_core.specs.Holds.{HoldsClosed}
-use Rattle.run_events.specs.Events.{Event, Run, after_event, state_after_events}
+use Rattle.run_events.specs.Events.{Event, Run, state_after_events}
 use Rattle.run_events.specs.States.{RunState, Start, start_of}
 use Rattle.run_laws.specs.Logs.{HitsAreFresh, IsBeginning, KeptPagesAreServed, RepliesInFlightAreNotStored, log_after}
 use Rattle.serve_loop.specs.Served.{DiskReport, IsServed, LeavesLegalLog, WorldReport, left_log}
@@ -16,7 +16,7 @@ use Rattle.serve_loop.specs.declared.serving.ServeEnd.{ServeEnd}
 use Rattle.serve_loop.specs.declared.serving.ServeEnd.TheVariants.{NoMemory}
 use Rattle.sling_dispatch.specs.Reports.{RunCall}
 use Rattle.sling_dispatch.specs.ServedLaws.{ServedHitsAreFresh, ServedLogsAreLegal, ServedRepliesInFlightAreNotStored, ServedSession, ServedSessionsGoOn, ServedSessionsLeaveLegalLogs, ServedSessionsServeKeptPages, SessionsAreServed, served_session_end, served_session_events, served_session_start}
-use Rattle.sling_dispatch.specs.Serving.{MayBeginOver, ServesSite, served_start}
+use Rattle.sling_dispatch.specs.Serving.{MayBeginOver, served_start}
 use Rattle.sling_dispatch.specs.declared.form.Beginning.{Beginning}
 use Rattle.sling_dispatch.specs.declared.form.Beginning.TheVariants.{Fresh, Warm}
 use Rattle.sling_dispatch.specs.declared.form.ServeWords.{ServeWords}

@@ -1,7 +1,6 @@
 -- The transcript of a scenario that leaves the cache alone, in which memory doesn't run out.
-use Rattle.std.proofs.Common.{◌≡◌, ◌≢◌, ◌∙◌, ◌+◌, ◌≤◌, ◌++◌, ℕ, Bool, true, false, List, [], ◌∷◌, Option, Some, None, IsTrue, length, map, refl, ap, sym, subst, arith, append-nil}
-use Rattle.std.specs.List.{AllByRecursion, cons_option, filter_map}
-use Rattle.any_config.specs.declared.farm.Farm.{Farm}
+use Rattle.std.proofs.Common.{◌≡◌, ◌≢◌, ◌∙◌, ℕ, Bool, true, false, List, [], ◌∷◌, Some, None, IsTrue, map, refl, ap, sym, subst, arith, append-nil}
+use Rattle.std.specs.List.{cons_option, filter_map}
 use Rattle.run_events.specs.Events.{Event, after_event}
 use Rattle.run_events.specs.States.{RunState, Start, start_of}
 use Rattle.run_events.specs.declared.step.Step.{Step}
@@ -11,7 +10,7 @@ use Rattle.replay_text.specs.Scenario.{IsActs, ReadsScenario}
 use Rattle.replay_text.specs.declared.event_line.EventLine.{EventLine}
 use Rattle.replay_text.specs.declared.event_line.EventLine.TheVariants as line
 use Rattle.replay_text.specs.declared.scenario.Scenario.{Scenario}
-use Rattle.sling_dispatch.specs.Runs.{AreArmed, IsArmed, IsSession, Unarmed, arming_of, asked_publisher_host, sling_start, step_of}
+use Rattle.sling_dispatch.specs.Runs.{AreArmed, IsSession, Unarmed, arming_of, asked_publisher_host, sling_start, step_of}
 use Rattle.sling_dispatch.specs.SessionsWithMemory.{HaveMemory, LeavesCacheAlone, PlanNoFailure, SessionsWithMemoryAreOne, UncachedTextsAreOne, UncachedScenariosAreOne}
 use Rattle.sling_dispatch.proofs.MemoryLemmas.{TellsFirst, sessions-alike}
 use Rattle.sling_dispatch.proofs.SessionLemmas.{session_begins}

@@ -10,7 +10,7 @@ use Rattle.cache_log.specs.Flown.{IsUnfinishedFlush}
 use Rattle.cache_log.specs.Hits.{Covers}
 use Rattle.cache_ids.specs.Ids.{FlightId, FlushId}
 use Rattle.cache_log.specs.Rules.{IsLegal, KeepsBound}
-use Rattle.coherence_core.specs.Holds.{HoldsClosed, files_counted}
+use Rattle.coherence_core.specs.Holds.{files_counted}
 use Rattle.connections.specs.Slots.{IsHit}
 use Rattle.run_events.specs.Events.{Event, state_after_events, state_before_notes}
 use Rattle.run_events.specs.States.{RunState, Start, start_of}
@@ -21,8 +21,7 @@ use Rattle.serve_loop.specs.declared.serving.ServeEnd.{ServeEnd}
 use Rattle.serve_loop.specs.declared.serving.ServeEnd.TheVariants.{NoMemory}
 use Rattle.sling_dispatch.specs.Reports.{RunCall, StreamReport, HasNotFailed, HasFailed}
 use Rattle.sling_dispatch.specs.Serving.{MayBeginOver, ServesSite, served_start, IsServable}
-use Rattle.sling_dispatch.specs.declared.form.Beginning.{Beginning}
-use Rattle.sling_dispatch.specs.declared.form.Beginning.TheVariants.{Fresh, Warm}
+use Rattle.sling_dispatch.specs.declared.form.Beginning.TheVariants.{Warm}
 use Rattle.sling_dispatch.specs.declared.form.ServeWords.{ServeWords}
 use Rattle.sling_dispatch.specs.declared.ending.Ending.{Ending}
 use Rattle.sling_dispatch.specs.Endings.{Means, IsDue, IsReplay, HasContent, HasFarm}

@@ -2,7 +2,7 @@
 use Rattle.std.proofs.Common.{[], ap, append_assoc, arith, drop, false, inl, inr, length, nat_eq, refl, sym, take, true, ℕ, ⊎_elim, ◌&&◌, ◌++◌, ◌<◌, ◌==◌, ◌∙◌, ◌∷◌, ◌≡◌, ◌≢◌, ◌≤◌, ◌⊎◌}
 use Rattle.std.specs.Char.{is_ascii_digit}
 use Rattle.std.specs.Cmp.Lexicographic.{bytes_decides, nat_list_eq_equiv, pointwise, same_text}
-use Rattle.std.specs.List.{list_all, starts_with}
+use Rattle.std.specs.List.{starts_with}
 use Rattle.std.specs.Prelude.{encode_utf8_all}
 use Rattle.std.specs.Str.{all_ascii_digits, bytes_eq}
 use Rattle.std.specs.Str.Parse.{digits_value}
@@ -87,10 +87,6 @@ one_run_of_digits end (b ∷ x) (c ∷ y) r s n p q e =
     let more : x ++ end ∷ r ≡ y ++ end ∷ s = cc in
     let tail = one_run_of_digits end x y r s n (and_parts (is_ascii_digit b) (all_ascii_digits x) p).1 (and_parts (is_ascii_digit c) (all_ascii_digits y) q).1 more in
     (cc (head, tail.0), tail.1)
-
-pub all_digits : (word : Text) → list_all is_ascii_digit word ≡ all_ascii_digits word
-all_digits [] = refl
-all_digits (b ∷ word) = ap (λ rest. is_ascii_digit b && rest) (all_digits word)
 
 pub digits_are_numerals : IsNumeralModel (λ ds. all_ascii_digits ds ≡ true) (digits_value 10)
 digits_are_numerals = numerals_by_value (λ ds. all_ascii_digits ds ≡ true) tells_all_ascii_digits

@@ -2,7 +2,7 @@
 use Rattle.std.specs.Prelude.{ℕ, List, [], ◌∷◌, Option, Some, None, option_and_then}
 use Rattle.std.specs.FinMap.Entries.{find}
 use Rattle.sp_base.specs.declared.value.Value.{Value}
-use Rattle.sp_base.specs.declared.value.Value.TheVariants.{Text, Long, Truth, Texts, Longs, Truths}
+use Rattle.sp_base.specs.declared.value.Value.TheVariants.{Text, Texts}
 use Rattle.sp_base.specs.Texts as texts
 use Rattle.sp_base.specs.Texts.{Properties}
 pub use Rattle.sp_base.specs.Names.{by_name}

@@ -61,10 +61,10 @@ many_of TruthKind words = Ok (Truths (map truth_of words))
 
 -- words as a single value: there must be just one
 abbrev pub single_of : HintedType → List texts.Text → Result Value ValueFault
-single_of kind [] = Err (WrongCount 0)
-single_of kind (word ∷ []) = one_of kind word
-single_of kind (word ∷ next ∷ words) = Err (WrongCount (length (word ∷ next ∷ words)))
+single_of hinted [] = Err (WrongCount 0)
+single_of hinted (word ∷ []) = one_of hinted word
+single_of hinted (word ∷ next ∷ words) = Err (WrongCount (length (word ∷ next ∷ words)))
 
 -- the value of words by a hint, or the first fault
 abbrev pub typed_of : Hint → List texts.Text → Result Value ValueFault
-typed_of hint words = if hint.many then many_of hint.kind words else single_of hint.kind words
+typed_of hint words = if hint.many then many_of hint.hinted words else single_of hint.hinted words

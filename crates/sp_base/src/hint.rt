@@ -16,7 +16,7 @@ pub enum HintedType {
 /// What words are to become: one value of a kind, or a list of these.
 #[derive(Clone, Copy, PartialEq, Eq, Debug, Drop)]
 pub struct Hint {
-    pub kind: HintedType,
+    pub hinted: HintedType,
     pub many: bool,
 }
 

@@ -14,31 +14,31 @@ impl Value {
         ensures err { IfErr result (λ e. e ≢ ValueFault.NoMemory → typed_of hint words.now ≡ Err e) }
     {
         if hint.many {
-            return many(alloc, hint.kind, words);
+            return many(alloc, hint.hinted, words);
         }
         match words.as_slice() {
-            [word] => one(alloc, hint.kind, word.text()),
+            [word] => one(alloc, hint.hinted, word.text()),
             _ => Err(ValueFault::WrongCount(words.len())),
         }
     }
 }
 
-fn many(alloc: Global, kind: HintedType, words: &TextList) -> Result<Value, ValueFault>
-    ensures ok { IfOk result (λ v. many_of kind words.now ≡ Ok v) }
-    ensures err { IfErr result (λ e. e ≢ ValueFault.NoMemory → many_of kind words.now ≡ Err e) }
+fn many(alloc: Global, hinted: HintedType, words: &TextList) -> Result<Value, ValueFault>
+    ensures ok { IfOk result (λ v. many_of hinted words.now ≡ Ok v) }
+    ensures err { IfErr result (λ e. e ≢ ValueFault.NoMemory → many_of hinted words.now ≡ Err e) }
 {
-    match kind {
+    match hinted {
         HintedType::Text => Ok(Value::Texts(words.duplicate(alloc)?)),
         HintedType::Long => Ok(Value::Longs(longs(alloc, words)?)),
         HintedType::Truth => Ok(Value::Truths(truths(alloc, words)?)),
     }
 }
 
-fn one(alloc: Global, kind: HintedType, word: &str) -> Result<Value, ValueFault>
-    ensures ok { IfOk result (λ v. one_of kind word.now ≡ Ok v) }
-    ensures err { IfErr result (λ e. e ≢ ValueFault.NoMemory → one_of kind word.now ≡ Err e) }
+fn one(alloc: Global, hinted: HintedType, word: &str) -> Result<Value, ValueFault>
+    ensures ok { IfOk result (λ v. one_of hinted word.now ≡ Ok v) }
+    ensures err { IfErr result (λ e. e ≢ ValueFault.NoMemory → one_of hinted word.now ≡ Err e) }
 {
-    match kind {
+    match hinted {
         HintedType::Text => Ok(Value::Text(TextBuf::of(alloc, word)?)),
         HintedType::Long => match number(word) {
             Some(n) => Ok(Value::Long(n)),

@@ -1,5 +1,5 @@
 -- Each stream spells some turns: by its first head, if it has one, and else by how it may go on.
-use Rattle.std.proofs.Common.{◌≡◌, ◌<◌, ◌≤◌, ◌⊎◌, inl, inr, ℕ, zero, suc, Bool, true, false, List, [], ◌∷◌, ◌++◌, ◌-◌, Option, Some, None, length, take, drop, refl, sym, ◌∙◌, ap, subst, arith, append_assoc, length-append, length-take, length-drop, nat_le, nat_lt, ⊎_elim}
+use Rattle.std.proofs.Common.{◌≡◌, ◌<◌, ◌≤◌, ◌⊎◌, inl, inr, ℕ, zero, suc, Bool, true, false, List, [], ◌∷◌, ◌++◌, ◌-◌, Option, Some, None, length, take, drop, refl, sym, ◌∙◌, ap, subst, arith, length-append, length-take, length-drop, nat_lt, ⊎_elim}
 use Rattle.std.specs.Prelude.{option_and_then, option_map, unwrap_or}
 use Rattle.std.specs.List.{find}
 use Rattle.std.specs.Option.{is_none}
@@ -13,11 +13,10 @@ use Rattle.http_front.specs.declared.fault.InFault.{InFault}
 use Rattle.http_front.specs.declared.fault.InFault.TheVariants.{BadHead, BadLength, BadTarget, LongBody, LongHead, ManyHeaders, NoLength}
 use Rattle.http_front.specs.declared.head.AskedHead.{AskedHead}
 use Rattle.http_front.specs.declared.target.Target.{Target}
-use Rattle.http_front.specs.declared.turn.Turn.{Turn}
 use Rattle.http_front.specs.declared.turn.Turn.TheVariants.{Continue, Whole}
-use Rattle.http_front.specs.Heads.{AskedFields, Asks, HeadParts, asked_host, asked_of, asked_with, body_length, first_refusal, has_transfer_coding, head_fault, head_with, heads, longest_body, most_fields, parts_of}
+use Rattle.http_front.specs.Heads.{AskedFields, asked_host, asked_of, asked_with, body_length, first_refusal, has_transfer_coding, head_fault, head_with, heads, longest_body, most_fields, parts_of}
 use Rattle.http_front.specs.Targets.{target_of}
-use Rattle.http_front.specs.Turns.{End, Waits, Breaks, longest_head, window, BeginsWith, BeginsAsking, BeginsWithRequest, HasBody, SpellsTurns, with_request_body}
+use Rattle.http_front.specs.Turns.{Waits, Breaks, longest_head, window, BeginsWith, BeginsAsking, BeginsWithRequest, with_request_body}
 use Rattle.http_front.proofs.ParserLemmas.{head_takes_bytes}
 use Rattle.stream_laws.specs.Streams.{SpellsNone}
 

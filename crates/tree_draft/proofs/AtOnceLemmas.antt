@@ -1,12 +1,9 @@
 -- A changed content by look-ups, whichever the change is.
-use Rattle.std.proofs.Common.{◌≡◌, ap, sym, ℕ, List, [], Option, None, Some, refl}
-use Rattle.std.specs.Prelude.{is_some}
-use Rattle.std.proofs.lemmas.Bool.{false≢true}
-use Rattle.resource_tree.specs.declared.faults.TreeFault.{TreeFault}
+use Rattle.std.proofs.Common.{◌≡◌, ℕ, List, [], None}
 use Rattle.resource_tree.specs.Content.{Content, IsGood, node_at, parent_of, name_of}
 use Rattle.resource_tree.specs.Changes.{with_order, with_value, without_value}
-use Rattle.resource_tree.specs.Moves.{ends_fault, first_fault, target_fault}
-use Rattle.resource_tree.proofs.Copied.{is_free, node_at-copy}
+use Rattle.resource_tree.specs.Moves.{ends_fault, target_fault}
+use Rattle.resource_tree.proofs.Copied.{is_free, node_at-copy, no_first}
 use Rattle.resource_tree.proofs.Creation.{can_create, node_at-creation}
 use Rattle.resource_tree.proofs.NodeLookups.{node_at-change_at}
 use Rattle.resource_tree.proofs.Relocated.{may_go, node_at-relocation}
@@ -14,10 +11,6 @@ use Rattle.resource_tree.proofs.Removal.{node_at-removal}
 use Rattle.tree_draft.specs.declared.at_once.Change.{Change}
 use Rattle.tree_draft.specs.declared.at_once.Change.TheVariants.{Create, Set, Unset, Order, Remove, Copy, Move}
 use Rattle.tree_draft.specs.AtOnce.{change_fault, changed, changed_at}
-
-no_first : (one other : Option TreeFault) → first_fault one other ≡ None → one ≡ None
-no_first None other none = refl
-no_first (Some fault) other none = absurd (false≢true (sym (ap is_some none)))
 
 pub node_at-changed : (tree : Content) (change : Change) (q : List (List ℕ)) → IsGood tree → change_fault tree change ≡ None → node_at (changed tree change) q ≡ changed_at tree change q
 node_at-changed tree (Create path) q good allowed = node_at-creation tree path.now good.shape (can_create tree path.now allowed) [] q

@@ -1,11 +1,11 @@
 -- The first front among the rows of an index, and the pair that it gives.
-use Rattle.std.proofs.Common.{◌≡◌, ◌≢◌, ◌⊎◌, inl, inr, ◌≤◌, ◌<◌, ◌+◌, ◌-◌, ℕ, suc, Bool, true, false, cond, List, [], ◌∷◌, ◌++◌, Option, Some, None, take, drop, length, get_or, refl, sym, ◌∙◌, ap, subst, arith, ⊎_elim, length-append}
-use Rattle.std.specs.Prelude.{◌==◌, is_some, nat_lt, IsTrue, if◌then◌else◌}
+use Rattle.std.proofs.Common.{◌≡◌, ◌≢◌, ◌⊎◌, inl, inr, ◌≤◌, ◌<◌, ◌+◌, ◌-◌, ℕ, true, false, cond, List, [], ◌∷◌, ◌++◌, Option, Some, None, take, drop, length, get_or, refl, sym, ◌∙◌, ap, subst, arith, ⊎_elim, length-append}
+use Rattle.std.specs.Prelude.{◌==◌, is_some, nat_lt, if◌then◌else◌}
 use Rattle.std.specs.Borrow.{Bor}
 use Rattle.std.specs.Ordering.{is_lt}
 use Rattle.std.specs.Str.{chars}
 use Rattle.std.specs.declared.cmp.Ordering.TheVariants.{Less}
-use Rattle.std.proofs.lemmas.Bool.{cases_Bool, true≢false, false≢true, cases_lt, cases_eq, eqb-true}
+use Rattle.std.proofs.lemmas.Bool.{cases_Bool, true≢false, cases_lt, cases_eq, eqb-true}
 use Rattle.std.proofs.lemmas.Bool.Decides.{nat_tests}
 use Rattle.std.proofs.lemmas.List.{length-take-le}
 use Rattle.std.proofs.Math.Seq.{take-append-add, drop-append-add}
@@ -25,9 +25,9 @@ use Rattle.url_maps.specs.declared.pairs.PairKind.{PairKind}
 use Rattle.url_maps.specs.declared.pairs.PairKind.TheVariants.{Pattern}
 use Rattle.url_maps.specs.Found.{IsBehind, IsFirstFront, IsFirstRow, IsLongestPair, first_row, is_ahead, pair_if_at}
 use Rattle.url_maps.specs.Mappings.{mapping_of}
-use Rattle.url_maps.specs.Pairs.{Applies, IsPairOf, goes_on_after_prefix}
-use Rattle.url_maps.specs.Patterns.{Asked, GivesPair, HasPattern, IsFrontOf, IsLongestFront, IsPatternPair, mappings_path}
-use Rattle.url_maps.specs.PatternRows.{ArePatterns, HasRowOf, IsRowAt, IsRowOf, LeadsBy}
+use Rattle.url_maps.specs.Pairs.{IsPairOf, goes_on_after_prefix}
+use Rattle.url_maps.specs.Patterns.{Asked, GivesPair, IsFrontOf, mappings_path}
+use Rattle.url_maps.specs.PatternRows.{ArePatterns, HasRowOf, IsRowAt, IsRowOf}
 use Rattle.url_maps.specs.Search.{HasNoneBeyond, IsMappingPair, IsOf}
 use Rattle.url_maps.proofs.NameLemmas.{not_less, less_trans}
 use Rattle.url_maps.proofs.PatternLemmas.{kid_listed}

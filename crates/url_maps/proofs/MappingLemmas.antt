@@ -13,8 +13,6 @@ use Rattle.resource_tree.specs.declared.nodes.Node.{Node}
 use Rattle.resource_tree.specs.Content.{Content, IsTree, node_at}
 use Rattle.url_maps.specs.Mappings.{IsMapping, IsPlain, mapping_of}
 use Rattle.url_maps.specs.declared.pairs.Pair.{Pair}
-use Rattle.url_maps.specs.declared.pairs.PairKind.TheVariants.{Mapping}
-use Rattle.url_maps.specs.Pairs.{IsPair, IsPairOf}
 use Rattle.url_maps.specs.Search.{IsMappingOf, IsMappingPair, below_host_node, mapped_path}
 use Rattle.url_maps.proofs.PathLemmas.{IsReadBack}
 

@@ -1,16 +1,13 @@
 -- The one answer of patterns is that of the relation.
-use Rattle.std.proofs.Common.{◌≡◌, ◌↔◌, ◌≤◌, ◌<◌, ◌⊎◌, inl, inr, ℕ, zero, suc, Bool, true, false, cond, List, [], ◌∷◌, ◌++◌, Option, Some, None, take, drop, length, refl, sym, ◌∙◌, ap, subst, arith, ⊎_elim}
-use Rattle.std.specs.Prelude.{◌&&◌, ◌≢◌, is_some, nat_eq, option_and_then, option_map}
+use Rattle.std.proofs.Common.{◌≡◌, ◌≤◌, ◌<◌, ◌⊎◌, ℕ, zero, suc, true, false, cond, List, [], ◌∷◌, ◌++◌, Option, Some, None, take, drop, length, refl, sym, ◌∙◌, ap, subst, arith, ⊎_elim}
+use Rattle.std.specs.Prelude.{◌≢◌, is_some, nat_eq, option_and_then, option_map}
 use Rattle.std.specs.Cmp.Lexicographic.{pointwise}
 use Rattle.std.specs.Option.{option_map_or}
 use Rattle.std.specs.Str.{chars}
-use Rattle.std.proofs.lemmas.Bool.{cases_Bool, true≢false, false≢true, and_parts, and_from, cases_lt, cases_eq}
+use Rattle.std.proofs.lemmas.Bool.{cases_Bool, true≢false, false≢true, and_parts, and_from, cases_eq}
 use Rattle.std.proofs.lemmas.List.{length-take-le}
-use Rattle.std.specs.declared.cmp.Ordering.TheVariants.{Less}
-use Rattle.sp_base.specs.Names.{by_name}
 use Rattle.sp_base.proofs.TextLemmas.{text_is, text_itself}
 use Rattle.regex_rules.specs.Trees.{Tree}
-use Rattle.regex_rules.specs.Spelling.{IsPattern}
 use Rattle.regex_rules.specs.Deciding.{pattern_tree}
 use Rattle.regex_rules.specs.Languages.{in_language}
 use Rattle.regex_rules.specs.Fronts.{may_cut}
@@ -19,11 +16,9 @@ use Rattle.regex_rules.proofs.DecidingLemmas.{tree_spelled}
 use Rattle.resource_tree.specs.declared.nodes.Node.{Node}
 use Rattle.resource_tree.specs.Content.{Content, IsTree, kid, name_of, node_at}
 use Rattle.resource_tree.specs.Changes.{kids_at}
-use Rattle.url_maps.specs.declared.pairs.Pair.{Pair}
-use Rattle.url_maps.specs.declared.pairs.PairKind.{PairKind}
 use Rattle.url_maps.specs.declared.pairs.PairKind.TheVariants.{Pattern}
 use Rattle.url_maps.specs.Mappings.{mapping_of}
-use Rattle.url_maps.specs.Patterns.{Asked, GivesPair, HasPattern, IsFrontOf, IsLongestFront, IsPatternPair, mappings_path, match_text}
+use Rattle.url_maps.specs.Patterns.{Asked, GivesPair, HasPattern, IsFrontOf, IsLongestFront, mappings_path, match_text}
 use Rattle.url_maps.specs.PatternAnswers.{given_at, given_by, givers, has_front, is_front, last_front, least, longest_front, node_pattern, pattern_pair, pattern_with}
 use Rattle.url_maps.specs.Pairs.{IsPairOf}
 use Rattle.url_maps.specs.Search.{IsOf}

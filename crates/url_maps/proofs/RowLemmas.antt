@@ -1,9 +1,7 @@
 -- The rows of an index with the nodes that have a pattern.
 use Rattle.std.proofs.Common.{◌≡◌, ◌↔◌, ◌⊎◌, inl, inr, ◌≤◌, ◌<◌, ◌+◌, ℕ, Bool, true, false, List, [], ◌∷◌, ◌++◌, Option, Some, None, Result, Ok, Err, take, length, get_or, refl, sym, ◌∙◌, ap, subst, arith, ⊎_elim, length-append}
-use Rattle.std.specs.Prelude.{IfOk, ◌≢◌, ◌||◌, ◌&&◌, is_some, nat_eq, nat_le, slice_get, unwrap_or, if◌then◌else◌}
+use Rattle.std.specs.Prelude.{IfOk, ◌≢◌, ◌||◌, is_some, nat_eq, slice_get, unwrap_or, if◌then◌else◌}
 use Rattle.std.specs.Cmp.Lexicographic.{pointwise}
-use Rattle.std.specs.List.{list_any}
-use Rattle.std.specs.Map.{lookup}
 use Rattle.std.specs.Option.{option_map_or}
 use Rattle.std.proofs.lemmas.Bool.{cases_Bool, true≢false, false≢true, cases_lt}
 use Rattle.std.proofs.lemmas.List.{get_or_append_left, get_or_default}
@@ -11,7 +9,7 @@ use Rattle.std.proofs.Math.Seq.{get_or-append_seam}
 use Rattle.std.proofs.lemmas.List.Folds.{list_any_at, list_any_more}
 use Rattle.std.proofs.lemmas.Option.{get_or_from_slice_get, same_Some, slice_get_within}
 use Rattle.std.specs.Str.{chars}
-use Rattle.sp_base.specs.Paths.{is_path, is_under, path_or_none}
+use Rattle.sp_base.specs.Paths.{is_path, path_or_none}
 use Rattle.sp_base.proofs.TextLemmas.{text_is}
 use Rattle.regex_rules.specs.Trees.{Tree, tree_of}
 use Rattle.regex_rules.specs.Spelling.{IsPattern}
@@ -25,7 +23,7 @@ use Rattle.resource_tree.proofs.PathLemmas.{path_from_same}
 use Rattle.url_maps.specs.declared.patterns.PatternNode.{PatternNode}
 use Rattle.url_maps.specs.Mappings.{mapping_of}
 use Rattle.url_maps.specs.Patterns.{mappings_path, match_text}
-use Rattle.url_maps.specs.PatternRows.{AddsPattern, ArePatterns, ArePatternsAfter, AreRowsOfNames, HasRowOf, IsListed, IsRowAt, IsRowOf, IsRowOrNone, LeadsBy, is_of_family, touches}
+use Rattle.url_maps.specs.PatternRows.{AddsPattern, ArePatterns, ArePatternsAfter, AreRowsOfNames, IsListed, IsRowAt, IsRowOf, IsRowOrNone, LeadsBy, is_of_family, touches}
 use Rattle.url_maps.proofs.NameLemmas.{is_named}
 
 abbrev Lookup : Type 0

@@ -1,7 +1,6 @@
 -- One turn more.
-use Rattle.std.proofs.Common.{◌≡◌, ◌<◌, ◌+◌, ◌-◌, ap, ℕ, zero, suc, true, false, List, ◌++◌, Option, Some, None, refl, sym, ◌∙◌, subst, arith, ⊎_elim, inl, inr}
+use Rattle.std.proofs.Common.{◌≡◌, ◌<◌, ◌+◌, ◌-◌, ap, ℕ, suc, true, List, ◌++◌, Option, Some, None, refl, sym, ◌∙◌, subst, arith, ⊎_elim, inl, inr}
 use Rattle.std.specs.Prelude.{if◌then◌else◌, option_and_then}
-use Rattle.std.proofs.lemmas.Bool.{cases_Bool, true≢false}
 use Rattle.sp_base.specs.Paths.{is_path, path_or_none}
 use Rattle.sp_base.proofs.PathTests.{path_before}
 use Rattle.resource_tree.specs.Content.{Content, IsTree, node_at}

@@ -6,7 +6,7 @@ use Rattle.url_maps.specs.declared.answer.MapAnswer.{MapAnswer}
 use Rattle.url_maps.specs.declared.answer.MapAnswer.TheVariants.{Inside, Away}
 use Rattle.url_maps.specs.declared.pairs.Pair.{Pair}
 use Rattle.url_maps.specs.declared.pairs.PairKind.{PairKind}
-use Rattle.url_maps.specs.declared.pairs.PairKind.TheVariants.{Mapping, Pattern, Alias, VanityPath}
+use Rattle.url_maps.specs.declared.pairs.PairKind.TheVariants.{VanityPath}
 use Rattle.url_maps.specs.Patterns.{Asked, asked_for}
 use Rattle.url_maps.specs.Pairs.{Decides, HasNoPair}
 use Rattle.sp_base.specs.Texts.{Text}

@@ -1,7 +1,7 @@
 use Rattle.std.proofs.Common.{sym, rules}
 use Rattle.std.specs.Prelude.{⊤, Err, Ok, true, false}
 use Rattle.std.proofs.lemmas.Result.{err_from_is_err_and}
-use Rattle.coherence_core.proofs.CallsOfLooks.{look_body, look_headfault, look_headless, look_stale, look_statfault, outdated_before, stat_before}
+use Rattle.coherence_core.proofs.CallsOfLooks.{look_body, look_headfault, look_stale, look_statfault, outdated_before, stat_before}
 use Rattle.coherence_core.proofs.LookLemmas.{notes_then, notes_with_body}
 use Rattle.coherence_core.proofs.lookup.look_in_files.Goals as goal
 

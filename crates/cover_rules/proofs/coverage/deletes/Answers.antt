@@ -1,4 +1,4 @@
-use Rattle.std.proofs.Common.{◌≡◌, ◌∙◌, ◌==◌, ◌&&◌, ◌||◌, [], codes, nat_eq, not, length, sym, ap, Bool}
+use Rattle.std.proofs.Common.{◌∙◌, ◌==◌, ◌&&◌, ◌||◌, [], codes, nat_eq, not, length, sym, ap, Bool}
 use Rattle.std.specs.List.{starts_with}
 use Rattle.sp_base.specs.PathTexts.{text_under}
 use Rattle.cover_rules.specs.Coverage.{handle_of}

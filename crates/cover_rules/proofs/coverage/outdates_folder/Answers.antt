@@ -1,4 +1,4 @@
-use Rattle.std.proofs.Common.{◌≡◌, ◌∙◌, ◌≤◌, ◌-◌, length, take, sym, subst, false, arith}
+use Rattle.std.proofs.Common.{◌∙◌, ◌≤◌, ◌-◌, length, take, sym, subst, false, arith}
 use Rattle.sp_base.specs.Paths.{mangled_segs}
 use Rattle.sp_base.specs.PathTexts.{spelling_of}
 use Rattle.cover_rules.specs.Walk.{Leaves}

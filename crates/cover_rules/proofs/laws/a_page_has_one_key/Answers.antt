@@ -1,4 +1,4 @@
-use Rattle.std.proofs.Common.{◌∙◌, sym, ap}
+use Rattle.std.proofs.Common.{◌∙◌, ap}
 use Rattle.sp_base.specs.Paths.{mangled_segs}
 use Rattle.cover_rules.specs.Pages.{key_at}
 use Rattle.cover_rules.proofs.PageLemmas.{own_path}

@@ -1,6 +1,6 @@
-use Rattle.std.proofs.Common.{◌≡◌, ◌∙◌, Ok, sym, ap, false, List, ℕ}
+use Rattle.std.proofs.Common.{◌≡◌, ◌∙◌, ap, false, List, ℕ}
 use Rattle.std.specs.List.{list_any}
-use Rattle.sp_base.specs.Paths.{is_long, mangled_segs, mangled_of}
+use Rattle.sp_base.specs.Paths.{is_long, mangled_segs}
 use Rattle.cover_rules.proofs.TouchLemmas.{first_named, first_fits}
 use Rattle.cover_rules.proofs.touch.folder_above.Goals as goal
 

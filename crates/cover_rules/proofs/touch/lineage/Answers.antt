@@ -1,4 +1,4 @@
-use Rattle.std.proofs.Common.{◌≡◌, ◌∙◌, ◌++◌, ◌∷◌, ◌<◌, ◌≤◌, [], length, take, sym, ap, arith, List, ℕ}
+use Rattle.std.proofs.Common.{◌≡◌, ◌∙◌, ◌++◌, ◌∷◌, ◌≤◌, [], length, take, sym, ap, arith, List, ℕ}
 use Rattle.cover_rules.specs.Coverage.{lineage}
 use Rattle.cover_rules.proofs.TouchLemmas.{lineage_more, lineage_whole}
 use Rattle.cover_rules.proofs.touch.lineage.Goals as goal

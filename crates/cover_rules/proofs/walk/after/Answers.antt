@@ -1,9 +1,9 @@
-use Rattle.std.proofs.Common.{◌≡◌, ◌≢◌, ◌∷◌, ◌++◌, ◌∙◌, [], IfSome, IfNone, false, lit<, sym, ap, subst, map, take, List, ℕ}
+use Rattle.std.proofs.Common.{◌≡◌, ◌≢◌, ◌∷◌, ◌++◌, ◌∙◌, [], false, lit<, ap, subst, take, List, ℕ}
 use Rattle.std.proofs.lemmas.Iterator.{YieldsList-from_take}
 use Rattle.std.proofs.lemmas.Iterator.Consumers.{YieldsList-at, YieldsList-end}
 use Rattle.std.proofs.lemmas.Iterator.Splits.{YieldsList-from_str_split}
 use Rattle.sp_base.specs.Paths.{has_slash, mangled_segs, mangled_seg, pieces}
-use Rattle.sp_base.specs.PathTexts.{lack_slashes, spelling_of}
+use Rattle.sp_base.specs.PathTexts.{spelling_of}
 use Rattle.cover_rules.specs.Walk.{Lacks, Leaves, LeavesNext, left_text}
 use Rattle.cover_rules.proofs.WalkLemmas.{along, astray, next_of, lacking_take}
 use Rattle.cover_rules.proofs.walk.after.Goals as goal

@@ -1,6 +1,6 @@
-use Rattle.std.proofs.Common.{◌≡◌, ◌<◌, ◌∷◌, [], ◌∙◌, ap, arith, length, not, true, false, sym}
+use Rattle.std.proofs.Common.{◌∷◌, [], arith}
 use Rattle.std.proofs.lemmas.Bool.Decides.{nat_tests}
-use Rattle.sp_base.specs.Paths.{has_slash, mangled_seg}
+use Rattle.sp_base.specs.Paths.{mangled_seg}
 use Rattle.cover_rules.proofs.WalkLemmas.{folder_ends, folder_differs, file_differs, mangled_lacks}
 use Rattle.cover_rules.proofs.walk.after_segment.Goals as goal
 

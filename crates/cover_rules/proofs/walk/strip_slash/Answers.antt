@@ -1,4 +1,4 @@
-use Rattle.std.proofs.Common.{◌≡◌, ◌∙◌, sym}
+use Rattle.std.proofs.Common.{◌∙◌, sym}
 use Rattle.sp_base.proofs.ListLemmas.{same_tail}
 use Rattle.sp_base.proofs.OptionLemmas.{IfNone-map}
 use Rattle.cover_rules.proofs.walk.strip_slash.Goals as goal

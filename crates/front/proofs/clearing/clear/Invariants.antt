@@ -8,7 +8,7 @@ use Rattle.front.proofs.clearing.clear.Given as goal
 
 abbrev pub invariant-loop-last : goal.invariant-loop-last
 invariant-loop-last g l = record {
-  cleared : Told (ClearsUpTo l.kind l.last) (g.D.Disk.files l.initial.disk) (g.D.Disk.files l.disk);
+  cleared : Told (ClearsUpTo l.cache_file l.last) (g.D.Disk.files l.initial.disk) (g.D.Disk.files l.disk);
   fits : length l.last ≤ longest_file_name;
   faults : g.D.Disk.faults l.disk ≡ g.D.Disk.faults l.initial.disk;
   calls : MakesDocrootCalls (g.D.Disk.calls l.initial.disk) (g.D.Disk.calls l.disk);

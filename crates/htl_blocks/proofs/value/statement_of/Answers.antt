@@ -1,14 +1,13 @@
-use Rattle.std.proofs.Common.{◌≡◌, ℕ, Bool, true, false, eqb, nat_eq, List, [], ◌∷◌, ◌++◌, codes, Option, Some, None, refl, ap, sym, ◌∙◌}
+use Rattle.std.proofs.Common.{◌≡◌, ℕ, Bool, true, false, nat_eq, List, ◌++◌, codes, Option, Some, None, refl, ap, sym, ◌∙◌}
 use Rattle.std.specs.List.{starts_with}
 use Rattle.std.specs.Cmp.Lexicographic.{pointwise}
-use Rattle.std.proofs.lemmas.Bool.{eqb-true}
 use Rattle.std.proofs.lemmas.Result.{IfOk-weaker}
-use Rattle.sp_base.proofs.BoolLemmas.{and_first, and_second}
 use Rattle.sp_base.proofs.TextLemmas.{text_is}
 use Rattle.htl_syntax.specs.Tokens.{begins}
 use Rattle.htl_blocks.specs.declared.statement.Statement.{Statement}
 use Rattle.htl_blocks.specs.declared.statement.Statement.TheVariants as statement
 use Rattle.htl_blocks.specs.Attributes.{statement_of, list_statement, is_variable}
+use Rattle.htl_blocks.proofs.Split.{begins_with}
 use Rattle.htl_blocks.proofs.value.statement_of.Goals as goal
 
 not_same : (a b : List ℕ) → (a ≡ b → ⊥) → pointwise nat_eq a b ≡ false
@@ -17,14 +16,6 @@ not_same a b apart = go (pointwise nat_eq a b) refl
     go : (x : Bool) → pointwise nat_eq a b ≡ x → x ≡ false
     go true e = absurd (apart (text_is a b e))
     go false e = refl
-
--- a text that begins with another goes on after it
-begins_with : (a b : List ℕ) → starts_with nat_eq a b ≡ true → (rest : List ℕ) × (a ≡ b ++ rest)
-begins_with a [] e = (a, refl)
-begins_with [] (d ∷ b) e = absurd cc
-begins_with (c ∷ a) (d ∷ b) e =
-    let more = begins_with a b (and_second (eqb d c) (starts_with nat_eq a b) e) in
-    (more.0, ap (λ (t : List ℕ). c ∷ t) more.1 ∙ ap (λ (n : ℕ). n ∷ (b ++ more.0)) (sym (eqb-true d c (and_first (eqb d c) (starts_with nat_eq a b) e))))
 
 no_beginning : (a b : List ℕ) → ((rest : List ℕ) → a ≡ b ++ rest → ⊥) → starts_with nat_eq a b ≡ false
 no_beginning a b apart = go (starts_with nat_eq a b) refl

@@ -1,7 +1,7 @@
-use Rattle.std.proofs.Common.{None, ap, option_map, ◌∙◌}
+use Rattle.std.proofs.Common.{ap, option_map}
 use Rattle.page_index.specs.Held.{after_hit}
 use Rattle.page_index.specs.Notes.{page_noted}
-use Rattle.page_index.proofs.AgreementLemmas.{counted_agrees, pages_of}
+use Rattle.page_index.proofs.AgreementLemmas.{counted_agrees}
 use Rattle.page_index.proofs.IndexLemmas.{set_agrees, set_covered}
 use Rattle.page_index.proofs.laws.a_counted_hit_agrees.Goals as goal
 

@@ -1,6 +1,6 @@
 use Rattle.std.proofs.Common.{sym, ◌∙◌}
 use Rattle.std.proofs.lemmas.Option.{none-some}
-use Rattle.page_index.specs.Notes.{page_noted, stamp_noted}
+use Rattle.page_index.specs.Notes.{page_noted}
 use Rattle.page_index.proofs.AgreementLemmas.{agrees_by, no_note, none_in_head}
 use Rattle.page_index.proofs.laws.no_notes_agree_with_any_files.Goals as goal
 

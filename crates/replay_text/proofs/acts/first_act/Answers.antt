@@ -1,4 +1,4 @@
-use Rattle.std.proofs.Common.{◌≡◌, ◌++◌, ◌∷◌, ◌∙◌, sym, ap, arith}
+use Rattle.std.proofs.Common.{◌∷◌, ◌∙◌, sym, ap, arith}
 use Rattle.replay_text.specs.Lines.{newlines}
 use Rattle.replay_text.specs.EventLines.{line_of}
 use Rattle.replay_text.proofs.LineLaws.{newlines-append, one_first_line}

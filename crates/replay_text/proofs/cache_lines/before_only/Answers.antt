@@ -1,4 +1,4 @@
-use Rattle.std.proofs.Common.{◌≡◌, ◌++◌, ◌∙◌, codes, sym}
+use Rattle.std.proofs.Common.{◌∙◌, codes, sym}
 use Rattle.std.proofs.lemmas.Bool.{false≢true}
 use Rattle.replay_text.proofs.WordLemmas.{one_first_word}
 use Rattle.replay_text.proofs.cache_lines.before_only.Goals as goal

@@ -1,4 +1,4 @@
-use Rattle.std.proofs.Common.{◌≡◌, ◌++◌, ◌∷◌, ℕ, List, codes, subst}
+use Rattle.std.proofs.Common.{◌≡◌, ◌∷◌, ℕ, codes, subst}
 use Rattle.std.specs.Prelude.{IfNone, IfSome}
 use Rattle.replay_text.specs.EventLines.{flushed_text}
 use Rattle.replay_text.specs.Quoting.{connection_text, IsNoFlushed}

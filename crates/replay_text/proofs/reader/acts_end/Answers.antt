@@ -1,7 +1,7 @@
-use Rattle.std.proofs.Common.{sym, ◌∙◌, ap, subst, ◌+◌, ◌-◌, ◌≤◌, length, length-append, take, arith}
+use Rattle.std.proofs.Common.{sym, subst, ◌-◌, ◌≤◌, length, take, arith}
 use Rattle.std.proofs.lemmas.Result.{MatchResult-weaker}
 use Rattle.replay_text.specs.Reading.{Refuses, Acts, SpellsActs}
-use Rattle.replay_text.proofs.ReadingActs.{Passed, passed_none, passed_within, passed_one_more, passed_act, passed_all, refused_past_end, refused_at_line, refused_at_end}
+use Rattle.replay_text.proofs.ReadingActs.{passed_none, passed_within, passed_one_more, passed_act, passed_all, refused_past_end, refused_at_line, refused_at_end}
 use Rattle.replay_text.proofs.reader.acts_end.Goals as goal
 
 pub loop-line-init : goal.loop-line-init

@@ -1,4 +1,4 @@
-use Rattle.std.proofs.Common.{sym, subst, ◌∙◌, ◌+◌, []}
+use Rattle.std.proofs.Common.{sym, subst, ◌+◌, []}
 use Rattle.std.proofs.lemmas.List.{take_rest}
 use Rattle.replay_text.specs.Lines.{text_of_lines}
 use Rattle.replay_text.specs.Scenario.{act_lines}

@@ -1,4 +1,4 @@
-use Rattle.std.proofs.Common.{◌≡◌, [], sym, subst}
+use Rattle.std.proofs.Common.{[], sym, subst}
 use Rattle.cache_log.specs.Rules.{IsLegal}
 use Rattle.serve_loop.proofs.laws.sessions_begin_in_legal_logs.Goals as goal
 

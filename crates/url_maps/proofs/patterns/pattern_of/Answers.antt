@@ -1,5 +1,4 @@
 use Rattle.std.proofs.Common.{◌∙◌, ap, sym, Some}
-use Rattle.url_maps.specs.declared.patterns.PatternNode.{PatternNode}
 use Rattle.url_maps.proofs.RowLemmas.{none_read, read_row}
 use Rattle.url_maps.proofs.patterns.pattern_of.Goals as goal
 

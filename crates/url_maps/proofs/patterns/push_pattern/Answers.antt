@@ -1,4 +1,4 @@
-use Rattle.std.proofs.Common.{◌≡◌, ◌∙◌, ℕ, List, Some, None, ap, subst, sym}
+use Rattle.std.proofs.Common.{◌≡◌, ◌∙◌, ℕ, List, ap, subst, sym}
 use Rattle.sp_base.specs.Paths.{path_or_none}
 use Rattle.resource_tree.specs.Content.{kid}
 use Rattle.resource_tree.specs.Patches.{patching_at}

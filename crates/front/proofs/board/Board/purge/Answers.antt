@@ -1,4 +1,3 @@
-use Rattle.std.proofs.Common.{refl}
 use Rattle.front.specs.Boards.{at_disk}
 use Rattle.front.proofs.EventLemmas.{sliced, sliced-none}
 use Rattle.front.proofs.FrontLemmas.{ok-map-two}

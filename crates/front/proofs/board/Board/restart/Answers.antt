@@ -1,4 +1,4 @@
-use Rattle.std.proofs.Common.{refl, ◌∙◌}
+use Rattle.std.proofs.Common.{refl}
 use Rattle.front.specs.Boards.{at_disk}
 use Rattle.front.specs.Caches.{behind}
 use Rattle.front.proofs.RestartEventLemmas.{notes-joined, restart-event}

@@ -1,8 +1,8 @@
-use Rattle.std.proofs.Common.{◌≡◌, ◌&&◌, Some, ap, refl, sym, subst, ◌∙◌}
-use Rattle.std.specs.Prelude.{position, slice_get}
+use Rattle.std.proofs.Common.{◌≡◌, ◌&&◌, Some, sym, subst}
+use Rattle.std.specs.Prelude.{position}
 use Rattle.run_events.specs.Events.{is_picked, is_rendered}
 use Rattle.front.specs.Caches.{BehindStandsFor, behind, flying_of}
-use Rattle.front.proofs.EndingLemmas.{at-place, flying-at, is-some, kind-at, landing-ends, passes, ticket-at, ticketed-left}
+use Rattle.front.proofs.EndingLemmas.{at-place, flying-at, is-some, kind-at, landing-ends, ticket-at, ticketed-left}
 use Rattle.front.proofs.cache.Cache.deliver.Goals as goal
 
 pub rendered_answer-answer-requires : goal.rendered_answer-answer-requires

@@ -1,4 +1,4 @@
-use Rattle.std.proofs.Common.{◌≡◌, [], ap, length, refl, sym, ◌∙◌}
+use Rattle.std.proofs.Common.{◌≡◌, [], ap, length, ◌∙◌}
 use Rattle.front.specs.Caches.{CacheParts, flying_of}
 use Rattle.front.proofs.RestartLemmas.{no-tickets, none-flies}
 use Rattle.front.proofs.cache.Cache.end.Goals as goal

@@ -1,8 +1,8 @@
-use Rattle.std.proofs.Common.{◌≡◌, ◌&&◌, Some, ap, refl, sym, subst, ◌∙◌}
-use Rattle.std.specs.Prelude.{position, slice_get}
+use Rattle.std.proofs.Common.{◌≡◌, ◌&&◌, Some, sym, subst}
+use Rattle.std.specs.Prelude.{position}
 use Rattle.run_events.specs.Events.{is_any, is_picked}
 use Rattle.run_events.specs.declared.step.Pick.TheVariants.{First}
-use Rattle.front.specs.Caches.{BehindStandsFor, IsLoss, behind, flying_of}
+use Rattle.front.specs.Caches.{BehindStandsFor, behind, flying_of}
 use Rattle.front.proofs.EndingLemmas.{at-place, first-left, loss-ends, ticket-at, ticketed-left}
 use Rattle.front.proofs.cache.Cache.lose.Goals as goal
 

@@ -1,5 +1,4 @@
 use Rattle.std.proofs.Common.{◌≡◌, [], refl, ap, subst, sym, ◌∙◌}
-use Rattle.sp_outside.specs.Files.{Files}
 use Rattle.coherence_core.specs.Cores.{flights_of}
 use Rattle.front.specs.Caches.{CacheParts, behind}
 use Rattle.front.specs.Restarts.{LosesFlights}

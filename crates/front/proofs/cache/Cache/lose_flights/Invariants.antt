@@ -1,4 +1,4 @@
-use Rattle.std.specs.Prelude.{◌≡◌, length}
+use Rattle.std.specs.Prelude.{length}
 use Rattle.front.specs.Restarts.{HasLost}
 use Rattle.front.proofs.cache.Cache.lose_flights.Given as goal
 

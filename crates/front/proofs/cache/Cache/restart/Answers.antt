@@ -1,4 +1,4 @@
-use Rattle.std.proofs.Common.{ap, sym, ◌∙◌}
+use Rattle.std.proofs.Common.{ap, ◌∙◌}
 use Rattle.coherence_core.specs.Cores.{flights_of, flush_numbers}
 use Rattle.front.specs.Caches.{CacheParts}
 use Rattle.front.proofs.ReopenLemmas.{reopened}

@@ -1,4 +1,4 @@
-use Rattle.std.proofs.Common.{◌≡◌, [], ap, refl, sym, ◌∙◌}
+use Rattle.std.proofs.Common.{[], ap, sym, ◌∙◌}
 use Rattle.std.specs.Prelude.{◌==◌}
 use Rattle.front.proofs.SliceLemmas.{slice-ends, some-flushes}
 use Rattle.front.proofs.cache.Cache.slice.Goals as goal

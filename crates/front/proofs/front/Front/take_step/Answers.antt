@@ -1,4 +1,3 @@
-use Rattle.front.specs.Boards.{at_disk}
 use Rattle.front.proofs.FrontLemmas.{board-tells, ok-map}
 use Rattle.front.proofs.front.Front.take_step.Goals as goal
 

@@ -1,7 +1,6 @@
-use Rattle.std.proofs.Common.{◌≡◌, ◌∷◌, [], refl, sym, ◌∙◌, ap}
+use Rattle.std.proofs.Common.{◌∷◌, [], sym, ◌∙◌, ap}
 use Rattle.std.proofs.lemmas.Map.Iter.{rest_all, rest_more}
 use Rattle.std.specs.Map.Iter.{deref_pair}
-use Rattle.overlay_merge.specs.Lent.{properties_lent}
 use Rattle.overlay_merge.specs.Properties.{put_all}
 use Rattle.overlay_merge.proofs.LentLemmas.{copy_end, copy_step}
 use Rattle.overlay_merge.proofs.lent_props.LentProps.copied.Goals as goal

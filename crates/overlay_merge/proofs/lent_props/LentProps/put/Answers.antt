@@ -1,4 +1,4 @@
-use Rattle.std.proofs.Common.{sym, ◌∙◌, ap}
+use Rattle.std.proofs.Common.{◌∙◌, ap}
 use Rattle.std.specs.FinMap.Entries.{put}
 use Rattle.sp_base.specs.Names.{by_name}
 use Rattle.overlay_merge.specs.Lent.{properties_lent}

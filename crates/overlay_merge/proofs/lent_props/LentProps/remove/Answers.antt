@@ -1,4 +1,4 @@
-use Rattle.std.proofs.Common.{not, sym, ◌∙◌, ap}
+use Rattle.std.proofs.Common.{not, ◌∙◌, ap}
 use Rattle.std.specs.FinMap.Entries.{where_key}
 use Rattle.std.specs.Ordering.{eq_by_cmp}
 use Rattle.sp_base.specs.Names.{by_name}

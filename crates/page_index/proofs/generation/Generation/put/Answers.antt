@@ -1,4 +1,4 @@
-use Rattle.std.proofs.Common.{◌≡◌, ◌≤◌, ◌+◌, Some, true, length, sym, ◌∙◌, ap, subst}
+use Rattle.std.proofs.Common.{◌≡◌, ◌≤◌, ◌+◌, Some, true, sym, ◌∙◌, ap, subst}
 use Rattle.std.specs.Prelude.{is_some}
 use Rattle.page_index.specs.Held.{bytes_kept, has_room, held_note, weight_of}
 use Rattle.page_index.proofs.HeldLemmas.{Notes, beside_place, bounded_more, displaced, heavier_with, put_here}

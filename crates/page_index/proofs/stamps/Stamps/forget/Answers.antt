@@ -1,4 +1,4 @@
-use Rattle.std.proofs.Common.{◌≡◌, None, cond, ◌∙◌, ap}
+use Rattle.std.proofs.Common.{None, cond, ◌∙◌, ap}
 use Rattle.page_index.specs.Held.{HeldStamps, same_folder}
 use Rattle.page_index.specs.Notes.{held_stamp}
 use Rattle.page_index.proofs.StampLemmas.{forgotten_in_both}

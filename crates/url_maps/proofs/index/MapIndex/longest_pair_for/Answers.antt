@@ -1,13 +1,12 @@
-use Rattle.std.proofs.Common.{◌≡◌, ◌∙◌, ◌-◌, ℕ, List, Option, Some, None, ap, length, subst, sym}
+use Rattle.std.proofs.Common.{◌≡◌, ◌∙◌, ◌-◌, ℕ, List, Some, None, ap, length, subst, sym}
 use Rattle.sp_base.specs.Paths.{path_or_none}
 use Rattle.resource_tree.specs.Content.{kid}
 use Rattle.url_maps.specs.Claims.{Index}
 use Rattle.url_maps.specs.Patterns.{mappings_path}
 use Rattle.url_maps.specs.declared.pairs.PairKind.TheVariants.{Pattern}
-use Rattle.url_maps.specs.declared.fronts.RowFront.{RowFront}
 use Rattle.url_maps.specs.Found.{IsFirstFront, IsLongestPair}
 use Rattle.url_maps.specs.Search.{IsMappingPair}
-use Rattle.url_maps.proofs.FrontLemmas.{found_pair, from_of, no_pair, no_such_node, no_such_pair, no_such_path, of_index, whole_of}
+use Rattle.url_maps.proofs.FrontLemmas.{found_pair, no_pair, no_such_node, no_such_pair, no_such_path, of_index}
 use Rattle.url_maps.proofs.index.MapIndex.longest_pair_for.Goals as goal
 
 pub returns-in_default : goal.returns-in_default

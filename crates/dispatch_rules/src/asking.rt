@@ -1,5 +1,5 @@
 //! What the publisher is asked.
-ghost use Rattle.std.specs.Prelude.{◌≡◌, IfOk, Some, codes};
+ghost use Rattle.std.specs.Prelude.{◌≡◌, IfOk, Some, [], codes, if◌then◌else◌};
 ghost use Rattle.sp_base.specs.Fields.{field_of};
 ghost use Rattle.dispatch_rules.specs.Asking as spec;
 
@@ -10,12 +10,12 @@ use std::alloc::Global;
 use std::str::from_utf8;
 
 /// What the publisher is asked for a request: at the farm's host, without the query, and with a body for POST alone.
-pub fn ask_of(alloc: Global, farm: &Farm, req: &Req) -> Mem<Ask>
-    ensures { IfOk result (λ ask. ask ≡ spec.publisher_ask farm.now req.now) }
+pub fn ask_of(alloc: Global, farm: &Farm, req: &mut Req) -> Mem<Ask>
+    ensures ask { IfOk result (λ ask. ask ≡ spec.publisher_ask farm.now req.old) }
+    ensures same { req.new ≡ req.old }
 {
-    let post = req.method() == "POST";
-    let kind = if post { media_type(req) } else { "" };
-    let body: &[u8] = if post { req.body() } else { b"" };
+    let body = posted_body(alloc, req)?;
+    let kind = if req.method() == "POST" { media_type(req) } else { "" };
     Ok(Ask {
         method: TextBuf::of(alloc, req.method())?,
         host: farm.ask_host.duplicate(alloc)?,
@@ -23,8 +23,20 @@ pub fn ask_of(alloc: Global, farm: &Farm, req: &Req) -> Mem<Ask>
         path: req.path().duplicate(alloc)?,
         slash: req.slash(),
         kind: TextBuf::of(alloc, kind)?,
-        body: ByteBuf::of(alloc, body)?,
+        body,
     })
+}
+
+// The body of a POST, shared; else none.
+fn posted_body(alloc: Global, req: &mut Req) -> Mem<ByteBuf>
+    ensures body { IfOk result (λ body. body ≡ (if spec.is_post_request req.old then req.old.body else [])) }
+    ensures same { req.new ≡ req.old }
+{
+    if req.method() == "POST" {
+        req.share_body(alloc)
+    } else {
+        Ok(ByteBuf::from(Vec::new(alloc)))
+    }
 }
 
 // The value of the first Content-Type field, where it is UTF-8.

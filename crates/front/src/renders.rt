@@ -32,12 +32,13 @@ impl Cache {
         Some(self.flights[at].flying.number)
     }
 
-    /// What the publisher is asked for the flight that stands there.
-    pub(crate) fn ask_at(&self, alloc: Global, at: usize) -> Mem<Ask>
-        requires { at < length self.now.flying }
-        ensures { IfOk result (λ ask. (flying : model.Flying) → slice_get self.now.flying at ≡ Some flying → ask ≡ publisher_ask self.now.core.farm flying.request) }
+    /// What the publisher is asked for the flight that stands there. A POST's body is shared with it.
+    pub(crate) fn ask_at(&mut self, alloc: Global, at: usize) -> Mem<Ask>
+        requires { at < length self.old.flying }
+        ensures ask { IfOk result (λ ask. (flying : model.Flying) → slice_get self.old.flying at ≡ Some flying → ask ≡ publisher_ask self.old.core.farm flying.request) }
+        ensures same { self.new ≡ self.old }
     {
-        ask_of(alloc, self.core.farm(), &self.flights[at].flying.request)
+        ask_of(alloc, self.core.farm(), &mut self.flights[at].flying.request)
     }
 
     /// The flight that stands there is rendered. Its number is given.

@@ -149,15 +149,15 @@ fn flushes_for_this_host_alone(farm: &Farm) -> bool {
         && !may_flush(farm, "::1")
 }
 
-fn asks_for_target_alone(alloc: Global, farm: &Farm, req: &Req) -> bool {
+fn asks_for_target_alone(alloc: Global, farm: &Farm, req: &mut Req) -> bool {
     matches!(ask_of(alloc, farm, req), Ok(ask) if ask.kind.text() == "" && ask.body.bytes().len() == 0)
 }
 
 // Whether the publisher isn't handed the form that a GET brings.
 fn hands_on_no_form(alloc: Global, farm: &Farm) -> Result<bool, PathFault> {
     let req = request_with(alloc, CONTENT_TYPE, b"text/plain")?;
-    let req = req.with_body(ByteBuf::of(alloc, b"a=b")?);
-    Ok(asks_for_target_alone(alloc, farm, &req))
+    let mut req = req.with_body(ByteBuf::of(alloc, b"a=b")?);
+    Ok(asks_for_target_alone(alloc, farm, &mut req))
 }
 
 fn decides(alloc: Global, farm: &Farm, rows: &[Row]) -> bool {

@@ -194,6 +194,14 @@ impl Req {
         self.body.bytes()
     }
 
+    /// The body once more, without a copy. The first share takes memory, but not for the bytes.
+    pub fn share_body(&mut self, alloc: Global) -> Mem<ByteBuf>
+        ensures ok { IfOk result (λ body. body ≡ self.old.body) }
+        ensures same { self.new ≡ self.old }
+    {
+        self.body.share(alloc)
+    }
+
     /// Whether the connection closes after the answer.
     pub fn close(&self) -> bool
         ensures { result ≡ self.now.close }

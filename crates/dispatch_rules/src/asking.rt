@@ -15,7 +15,11 @@ pub fn ask_of(alloc: Global, farm: &Farm, req: &mut Req) -> Mem<Ask>
     ensures same { req.new ≡ req.old }
 {
     let body = posted_body(alloc, req)?;
-    let kind = if req.method() == "POST" { media_type(req) } else { "" };
+    let kind = if req.method() == "POST" {
+        media_type(req)
+    } else {
+        ""
+    };
     Ok(Ask {
         method: TextBuf::of(alloc, req.method())?,
         host: farm.ask_host.duplicate(alloc)?,

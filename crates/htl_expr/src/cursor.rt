@@ -93,8 +93,27 @@ fn piece_text<'t>(
     }
 }
 
-// The same of two pieces, whose texts are lent or were made before.
-fn pieces_same_behind(
+/// Makes the texts of two pieces, where they are properties.
+#[tactic(auto, using(crate::proofs::Remembered::has_text_still))]
+pub(crate) fn keep_pieces(
+    alloc: Global,
+    scope: &Scope,
+    texts: &mut BTreeMap<TextBuf, TextBuf>,
+    a: &ItemPiece,
+    b: &ItemPiece,
+) -> Mem<()>
+    requires { RemembersItemTexts scope.now texts.old }
+    ensures has { OnOk result (HasPieceText scope.now texts.new a.now) }
+    ensures has_other { OnOk result (HasPieceText scope.now texts.new b.now) }
+    ensures texts { RemembersItemTexts scope.now texts.new }
+{
+    keep_piece(alloc, scope, texts, a)?;
+    keep_piece(alloc, scope, texts, b)
+}
+
+/// For how many bytes two pieces are the same, behind so many of each and up to the end of one of them or of its comma. Nothing where a
+/// byte differs. Their texts are lent or were made before.
+pub(crate) fn pieces_same_behind(
     scope: &Scope,
     texts: &BTreeMap<TextBuf, TextBuf>,
     a: &ItemPiece,
@@ -114,26 +133,4 @@ fn pieces_same_behind(
     let text = piece_text(scope, texts, a, &mut buffer);
     let other_text = piece_text(scope, texts, b, &mut other);
     texts_same_behind(text, bytes, other_text, other_bytes)
-}
-
-/// For how many bytes two pieces are the same, behind so many of each and up to the end of one of them or of its comma. Nothing where a
-/// byte differs.
-pub(crate) fn same_behind(
-    alloc: Global,
-    scope: &Scope,
-    texts: &mut BTreeMap<TextBuf, TextBuf>,
-    a: &ItemPiece,
-    bytes: usize,
-    b: &ItemPiece,
-    other_bytes: usize,
-) -> Mem<Option<usize>>
-    requires texts { RemembersItemTexts scope.now texts.old }
-    requires within { bytes ≤ length (item_piece_text scope.now a.now) }
-    requires within_other { other_bytes ≤ length (item_piece_text scope.now b.now) }
-    ensures same { IfOk result (λ same. AreSameFor same (piece_left (item_piece_text scope.now a.now) bytes) (piece_left (item_piece_text scope.now b.now) other_bytes)) }
-    ensures texts { RemembersItemTexts scope.now texts.new }
-{
-    keep_piece(alloc, scope, texts, a)?;
-    keep_piece(alloc, scope, texts, b)?;
-    Ok(pieces_same_behind(scope, texts, a, bytes, b, other_bytes))
 }

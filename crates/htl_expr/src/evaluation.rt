@@ -10,7 +10,7 @@ ghost use Rattle.htl_expr.specs.Print.{plain};
 ghost use Rattle.htl_expr.specs.Value as spec;
 
 use crate::compare::{SameBy, same_by};
-use crate::cursor::same_behind;
+use crate::cursor::{keep_pieces, pieces_same_behind};
 use crate::kept::{is_item, item_len};
 use crate::numbered::{Aspect, Numbering, has_one_number};
 use crate::pieces::ItemPiece;
@@ -136,15 +136,8 @@ impl<'a> Evaluation<'a> {
         ensures same { IfOk result (λ same. AreSameFor same (piece_left (item_piece_text self.old a.now) bytes) (piece_left (item_piece_text self.old b.now) other_bytes)) }
         ensures scope { self.new ≡ self.old }
     {
-        same_behind(
-            alloc,
-            &self.scope,
-            &mut self.item_texts,
-            a,
-            bytes,
-            b,
-            other_bytes,
-        )
+        keep_pieces(alloc, &self.scope, &mut self.item_texts, a, b)?;
+        Ok(pieces_same_behind(&self.scope, &self.item_texts, a, bytes, b, other_bytes))
     }
 
     /// Whether two properties have the same kind and the same content.

@@ -22,7 +22,7 @@ use Rattle.content_json.specs.declared.part.Part.TheVariants as part
 use Rattle.content_json.specs.Faults.{here}
 use Rattle.content_json.specs.Lists.{is_of, item_cause, items_cause, array_cause}
 use Rattle.content_json.specs.Parts.{items_from, data_of_long, data_of}
-use Rattle.content_json.specs.Tokens.{value_of_tokens, items_of_tokens, members_of_tokens, token_data, is_list_value, list_items, is_open_list, items_then, IsList, HasItemMore, MixesWith, AddsToken, Mixes, items_within, EndsUnfit, IsValuePart, IsNumberPart, ReadsItems, ReadsValue}
+use Rattle.content_json.specs.Tokens.{value_of_tokens, items_of_tokens, members_of_tokens, token_data, is_list_value, list_items, is_open_list, items_then, IsList, HasItemMore, MixesWith, AddsToken, Mixes, items_within, EndsUnfit, IsValuePart, IsNumberPart, ReadsItems, ReadsItemsIfThere, ReadsValueIfThere}
 use Rattle.content_json.proofs.PassLemmas.{one_value, begins_none, no_value, no_number, array_in, array_in_more, object_in_more, no_array, no_object}
 
 -- ---- one item more
@@ -196,7 +196,7 @@ item_made list t x (Some more) e made = (x, e, made)
 
 -- a list that ends with an item that is none has a fault
 pub unfit_made : (depth n : ℕ) (all left rest : List Token) (list : Value) (t : Token) (found : Option Part) → items_of_tokens depth all ≡ parse_map (items_then (list_items list)) (items_within n depth (t ∷ left)) → Mixes list t
-    → EndsUnfit n depth (t ∷ left) rest found → MatchOption found (items_of_tokens depth all ≡ None) (ReadsItems depth all rest)
+    → EndsUnfit n depth (t ∷ left) rest found → ReadsItemsIfThere depth all rest found
 unfit_made depth n all left rest list t None so_far mixes none = so_far ∙ ap (parse_map (items_then (list_items list))) none
 unfit_made depth n all left rest list t (Some made) so_far mixes (is, d, r, first, ds, ends) =
     let items = items_then (list_items list) (item d ds) in
@@ -213,12 +213,12 @@ list_made depth n all left rest list so_far is ends =
     (items_then (list_items list) no_items, so_far ∙ ap (parse_map (items_then (list_items list))) ends, (sym (list_data list is.0 ∙ ap array (sym (none_then (list_items list)))), is.1, is.2))
 
 -- the list that is made of an array
-pub array_made : (depth : ℕ) (ts rest : List Token) (found : Option Part) → 0 < depth → MatchOption found (items_of_tokens (depth - 1) ts ≡ None) (ReadsItems (depth - 1) ts rest)
-    → MatchOption found (value_of_tokens depth (Token.begin_array ∷ ts) ≡ None) (ReadsValue depth (Token.begin_array ∷ ts) rest)
+pub array_made : (depth : ℕ) (ts rest : List Token) (found : Option Part) → 0 < depth → ReadsItemsIfThere (depth - 1) ts rest found
+    → ReadsValueIfThere depth (Token.begin_array ∷ ts) rest found
 array_made depth ts rest None h none = array_in depth ts h ∙ ap (parse_map array) none
 array_made depth ts rest (Some made) h (ds, read, is) = (array ds, array_in depth ts h ∙ ap (parse_map array) read, is)
 
 pub number_made : (depth : ℕ) (s : List ℕ) (ts : List Token) (found : Option Part) → MatchOption found (number_of s ≡ None) (IsNumberPart (number_of s))
-    → MatchOption found (value_of_tokens depth (Token.number s ∷ ts) ≡ None) (ReadsValue depth (Token.number s ∷ ts) ts)
+    → ReadsValueIfThere depth (Token.number s ∷ ts) ts found
 number_made depth s ts None none = no_number depth s ts none
 number_made depth s ts (Some made) (n, some, is) = (number n, one_value depth (Token.number s) ts (number n) (ap (option_map number) some), is)

@@ -14,12 +14,11 @@ use Rattle.resource_tree.specs.Content.{Content, kid, most_nodes}
 use Rattle.content_json.specs.declared.part.Part.{Part}
 use Rattle.content_json.specs.declared.part.Part.TheVariants as part
 use Rattle.content_json.specs.declared.part.Placed.{Placed}
-use Rattle.content_json.specs.ContentOf.{map_of}
 use Rattle.content_json.specs.Faults.{fault_in}
 use Rattle.content_json.specs.Nodes.{nodes_in, count_below, is_deeper_below}
 use Rattle.content_json.specs.Steps.{is_sound}
 use Rattle.content_json.specs.Parts.{is_unfit_value, may_stand, is_unfit_object, IsMemberPart, IsObjectPart, entry_of}
-use Rattle.content_json.specs.Tokens.{value_of_tokens, members_of_tokens, IsPassedOver, ReadsPart, ReadsObject, IsSoundContent, IsUnsound}
+use Rattle.content_json.specs.Tokens.{value_of_tokens, members_of_tokens, IsPassedOver, ReadsPartIfThere, ReadsObjectIfThere, IsSoundContent, IsUnsound, AreNodesIfSound}
 use Rattle.content_json.proofs.PassLemmas.{object_in, passes_under, text_of_value, same_object}
 use Rattle.content_json.proofs.SizeLemmas.{length-nodes_in}
 
@@ -27,7 +26,7 @@ use Rattle.content_json.proofs.SizeLemmas.{length-nodes_in}
 
 -- an object that is too deep
 pub deep_made : (levels : ℕ) (path : List (List ℕ)) (name : List ℕ) (ts rest : List spec.Token) (found : Option Part) (b : Bool) → levels ≡ 0 → found ≡ (if b then Some part.Unfit else None) → IsPassedOver b (members_of_tokens 61 ts) rest
-    → MatchOption found (value_of_tokens (levels + 62) (spec.begin_object ∷ ts) ≡ None) (ReadsPart levels path name (spec.begin_object ∷ ts) rest)
+    → ReadsPartIfThere levels path name (spec.begin_object ∷ ts) rest found
 deep_made levels path name ts rest found b none is passes =
     let all : value_of_tokens (levels + 62) (spec.begin_object ∷ ts) ≡ parse_map object (members_of_tokens 61 ts) = ap (λ n. value_of_tokens (n + 62) (spec.begin_object ∷ ts)) none ∙ object_in 62 ts (omega arith) in
     made b is (subst (λ o. IsPassedOver b o rest) (sym all) (passes_under object b (members_of_tokens 61 ts) rest passes)) passes all
@@ -38,10 +37,10 @@ deep_made levels path name ts rest found b none is passes =
         ap (λ b. not (may_stand name) || (is_some (fault_in (object ms)) || (b || is_deeper_below (levels - 1) ms))) first ∙ ap (λ b. not (may_stand name) || b) (or_true (is_some (fault_in (object ms)))) ∙ or_true (not (may_stand name))
 
     made : (b : Bool) → found ≡ (if b then Some part.Unfit else None) → IsPassedOver b (value_of_tokens (levels + 62) (spec.begin_object ∷ ts)) rest → IsPassedOver b (members_of_tokens 61 ts) rest
-        → value_of_tokens (levels + 62) (spec.begin_object ∷ ts) ≡ parse_map object (members_of_tokens 61 ts) → MatchOption found (value_of_tokens (levels + 62) (spec.begin_object ∷ ts) ≡ None) (ReadsPart levels path name (spec.begin_object ∷ ts) rest)
+        → value_of_tokens (levels + 62) (spec.begin_object ∷ ts) ≡ parse_map object (members_of_tokens 61 ts) → ReadsPartIfThere levels path name (spec.begin_object ∷ ts) rest found
     made true is here (ms, read) all =
-        subst (λ o. MatchOption o (value_of_tokens (levels + 62) (spec.begin_object ∷ ts) ≡ None) (ReadsPart levels path name (spec.begin_object ∷ ts) rest)) (sym is) (object ms, all ∙ ap (parse_map object) read, deep ms)
-    made false is here none all = subst (λ o. MatchOption o (value_of_tokens (levels + 62) (spec.begin_object ∷ ts) ≡ None) (ReadsPart levels path name (spec.begin_object ∷ ts) rest)) (sym is) here
+        subst (ReadsPartIfThere levels path name (spec.begin_object ∷ ts) rest) (sym is) (object ms, all ∙ ap (parse_map object) read, deep ms)
+    made false is here none all = subst (ReadsPartIfThere levels path name (spec.begin_object ∷ ts) rest) (sym is) here
 
 object_is_part : (levels : ℕ) (path at : List (List ℕ)) (name : List ℕ) (p : Part) (ms : Members) → levels ≢ 0 → may_stand name ≡ true → at ≡ kid path name → IsObjectPart (levels - 1) at p ms → IsMemberPart levels path name p (object ms)
 object_is_part levels path at name part.Nothing ms some named place is = absurd is
@@ -53,15 +52,15 @@ object_is_part levels path at name part.Unfit ms some named place is =
 
 -- an object
 pub kid_made : (levels : ℕ) (path at : List (List ℕ)) (name : List ℕ) (ts rest : List spec.Token) (found : Option Part) → levels ≢ 0 → may_stand name ≡ true → at ≡ kid path name
-    → MatchOption found (members_of_tokens (levels - 1 + 62) ts ≡ None) (ReadsObject (levels - 1) at ts rest)
-    → MatchOption found (value_of_tokens (levels + 62) (spec.begin_object ∷ ts) ≡ None) (ReadsPart levels path name (spec.begin_object ∷ ts) rest)
+    → ReadsObjectIfThere (levels - 1) at ts rest found
+    → ReadsPartIfThere levels path name (spec.begin_object ∷ ts) rest found
 kid_made levels path at name ts rest found some named place made =
     let all : value_of_tokens (levels + 62) (spec.begin_object ∷ ts) ≡ parse_map object (members_of_tokens (levels - 1 + 62) ts) =
     object_in (levels + 62) ts (omega arith) ∙ ap (λ n. parse_map object (members_of_tokens n ts)) (omega (arith, some)) in
     told found made all
   where
-    told : (found : Option Part) → MatchOption found (members_of_tokens (levels - 1 + 62) ts ≡ None) (ReadsObject (levels - 1) at ts rest) → value_of_tokens (levels + 62) (spec.begin_object ∷ ts) ≡ parse_map object (members_of_tokens (levels - 1 + 62) ts)
-        → MatchOption found (value_of_tokens (levels + 62) (spec.begin_object ∷ ts) ≡ None) (ReadsPart levels path name (spec.begin_object ∷ ts) rest)
+    told : (found : Option Part) → ReadsObjectIfThere (levels - 1) at ts rest found → value_of_tokens (levels + 62) (spec.begin_object ∷ ts) ≡ parse_map object (members_of_tokens (levels - 1 + 62) ts)
+        → ReadsPartIfThere levels path name (spec.begin_object ∷ ts) rest found
     told None none all = all ∙ ap (parse_map object) none
     told (Some p) (ms, read, is) all = (object ms, all ∙ ap (parse_map object) read, object_is_part levels path at name p ms some named place is)
 
@@ -106,7 +105,7 @@ pub none_more : (o : Option Token) (old new : List spec.Token) → MatchOption o
 none_more None old new h none = h.0
 none_more (Some t) old new h none = absurd (true≢false none)
 
-pub text_made : (text : List ℕ) (ms : Members) (found : Option Content) → value_of_tokens 127 (tokens text) ≡ Some (object ms, []) → MatchOption found (is_sound ms ≡ false) (λ nodes. (is_sound ms ≡ true) × (nodes ≡ map_of (nodes_in [] (object ms))))
+pub text_made : (text : List ℕ) (ms : Members) (found : Option Content) → value_of_tokens 127 (tokens text) ≡ Some (object ms, []) → AreNodesIfSound ms found
     → MatchOption found (IsUnsound text) (IsSoundContent text)
 text_made text ms None e none = λ other is. ap is_sound (sym (same_object text ms other e is)) ∙ none
 text_made text ms (Some nodes) e h = (ms, text_of_value text (object ms) e, h.0, h.1)

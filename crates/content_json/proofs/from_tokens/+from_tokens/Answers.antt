@@ -1,11 +1,10 @@
 use Rattle.std.proofs.Common.{◌≡◌, ◌≢◌, ◌<◌, ◌+◌, ◌-◌, [], length, Some, None, true, ◌∙◌, subst, arith, rules}
-use Rattle.std.specs.Prelude.{MatchOption}
 use Rattle.std.proofs.lemmas.Result.{IfOk-weaker}
 use Rattle.json.specs.Json.{read_key, value}
 use Rattle.json.proofs.Grammar.{read_key-shorter}
 use Rattle.serde_json.specs.Data.{put}
 use Rattle.content_json.specs.Parts.{may_stand}
-use Rattle.content_json.specs.Tokens.{value_of_tokens, ReadsPart}
+use Rattle.content_json.specs.Tokens.{ReadsPartIfThere}
 use Rattle.content_json.proofs.ReadLemmas.{member_read, member_refused, key_refused, members_over}
 use Rattle.content_json.proofs.PassLemmas.{none_left}
 use Rattle.content_json.proofs.MadeLemmas.{deep_made, kid_made}
@@ -49,7 +48,7 @@ read_members-returns-in_default-2-clause-read t c =
     let k = c.in-Some.name.now in
     let s = c.next_key.new.self in
     let key : read_key l.reader ≡ Some (Some k, s) = grind arith in
-    let none = subst (λ o. MatchOption o (value_of_tokens (c.args.levels + 62) s ≡ None) (ReadsPart c.args.levels c.args.path.now k s c.read_member.new.reader)) c.in_default-2.is c.in_ok-part.ensures.read in
+    let none = subst (ReadsPartIfThere c.args.levels c.args.path.now k s c.read_member.new.reader) c.in_default-2.is c.in_ok-part.ensures.read in
     inv.3 ∙ member_refused (value (c.args.levels + 62)) inv.1 inv.0 k l.reader s key none
 
 pub read_members-members-preserved : goal.read_members-members-preserved
@@ -61,7 +60,7 @@ read_members-members-preserved t c =
     let s = c.next_key.new.self in
     let r = c.read_member.new.reader in
     let key : read_key l.reader ≡ Some (Some k, s) = grind arith in
-    let one = subst (λ o. MatchOption o (value_of_tokens (c.args.levels + 62) s ≡ None) (ReadsPart c.args.levels c.args.path.now k s r)) c.in-Some-2.is c.in_ok-part.ensures.read in
+    let one = subst (ReadsPartIfThere c.args.levels c.args.path.now k s r) c.in-Some-2.is c.in_ok-part.ensures.read in
     let less = read_key-shorter l.reader (Some k) s key in
     let lesser = c.in_ok-part.ensures.shorter in
     let fewer : length r < length l.reader = omega (arith, less, lesser) in (

@@ -1,9 +1,7 @@
-use Rattle.std.proofs.Common.{◌≡◌, drop, get_or, true, false, ◌==◌, Some, None, sym, ap, ◌∙◌, subst, arith, take_all, length-drop}
-use Rattle.std.specs.Prelude.{option_and_then, MatchOption}
+use Rattle.std.proofs.Common.{◌≡◌, drop, get_or, true, false, ◌==◌, sym, ap, ◌∙◌, subst, arith, take_all, length-drop}
 use Rattle.fast_float.specs.Text.{scan}
-use Rattle.serde_json.specs.Find.{as_i64, of_integer}
 use Rattle.serde_json.specs.Read.{number_of, number_from}
-use Rattle.property_json.specs.PropertyJson.{fits_i64}
+use Rattle.content_json.specs.Tokens.{IsLongOf}
 use Rattle.content_json.proofs.tokens.long_of.Goals as goal
 
 pub returns-then-has_minus : goal.returns-then-has_minus
@@ -13,7 +11,7 @@ returns-then-has_minus c =
     let signed : (get_or s 0 0 == 45) ≡ true = sym c.if-has_minus.ensures.value in
     let parts : c.scan.result ≡ scan (drop 1 s) = c.scan.ensures.parts ∙ ap scan (take_all _ (drop 1 s) (omega (arith, length-drop 1 s))) in
     let read : number_from true (scan (drop 1 s)) ≡ number_of s = rw signed in
-    subst (λ o. MatchOption c.negative.result (option_and_then as_i64 o ≡ None) (λ number. (o ≡ Some (of_integer number)) × (fits_i64 number ≡ true)))
+    subst (λ o. IsLongOf o c.negative.result)
     (ap (number_from true) parts ∙ read ∙ ap number_of c.as_bytes-bytes.ensures.value) c.negative.ensures
 
 pub returns-else-has_minus : goal.returns-else-has_minus
@@ -22,5 +20,5 @@ returns-else-has_minus c =
     let s = c.as_bytes-bytes.result.now in
     let plain : (get_or s 0 0 == 45) ≡ false = sym c.if-has_minus.ensures.value in
     let read : number_from false (scan s) ≡ number_of s = rw plain in
-    subst (λ o. MatchOption c.unsigned.result (option_and_then as_i64 o ≡ None) (λ number. (o ≡ Some (of_integer number)) × (fits_i64 number ≡ true)))
+    subst (λ o. IsLongOf o c.unsigned.result)
     (ap (number_from false) c.scan-else-has_minus.ensures.parts ∙ read ∙ ap number_of c.as_bytes-bytes.ensures.value) c.unsigned.ensures

@@ -1,10 +1,9 @@
-use Rattle.std.proofs.Common.{None, ◌∷◌, ◌≡◌, refl, sym, ap, ◌∙◌, subst}
-use Rattle.std.specs.Prelude.{MatchOption}
+use Rattle.std.proofs.Common.{◌∷◌, refl, sym, ap, ◌∙◌, subst}
 use Rattle.std.proofs.lemmas.Bool.{true≢false}
 use Rattle.std.proofs.lemmas.Result.{IfOk-weaker}
 use Rattle.json.specs.Reads.{token_of}
 use Rattle.serde_json.specs.Data.{null, boolean, string}
-use Rattle.content_json.specs.Tokens.{value_of_tokens, is_begin_object, ReadsValue}
+use Rattle.content_json.specs.Tokens.{value_of_tokens, is_begin_object, ReadsValueIfThere}
 use Rattle.content_json.proofs.PassLemmas.{one_value, no_value}
 use Rattle.content_json.proofs.ListLemmas.{array_made, number_made}
 use Rattle.content_json.proofs.tokens.value_part.Goals as goal
@@ -23,14 +22,14 @@ returns-in-Bool-clause-read c =
 pub returns-in-Number-clause-read : goal.returns-in-Number-clause-read
 returns-in-Number-clause-read c =
     let ts = c.args.reader.now in
-    subst (λ k. MatchOption c.number_part.result (value_of_tokens c.args.depth (token_of k ∷ ts) ≡ None) (ReadsValue c.args.depth (token_of k ∷ ts) ts)) (sym c.in-Number.is)
+    subst (λ k. ReadsValueIfThere c.args.depth (token_of k ∷ ts) ts c.number_part.result) (sym c.in-Number.is)
     (number_made c.args.depth c.in-Number.text.now ts c.number_part.result c.number_part.ensures)
 
 pub returns-in-BeginArray-clause-read : goal.returns-in-BeginArray-clause-read
 returns-in-BeginArray-clause-read c =
     let ts = c.args.reader.now in
     IfOk-weaker c.list.result _ _
-    (λ found made. subst (λ k. MatchOption found (value_of_tokens c.args.depth (token_of k ∷ ts) ≡ None) (ReadsValue c.args.depth (token_of k ∷ ts) c.list.new.reader)) (sym c.in-BeginArray.is)
+    (λ found made. subst (λ k. ReadsValueIfThere c.args.depth (token_of k ∷ ts) c.list.new.reader found) (sym c.in-BeginArray.is)
     (array_made c.args.depth ts c.list.new.reader found c.requires.nests made))
     c.list.ensures.read
 

@@ -11,6 +11,7 @@ pub mod Split
 mod Spelled
 mod FirstFault
 pub mod SheetLemmas
+pub mod LookedAt
 pub mod Bounded
 pub mod SheetSteps
 pub mod ElementLemmas

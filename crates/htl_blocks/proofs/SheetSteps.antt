@@ -1,5 +1,5 @@
 -- One step of writing: a text, or a piece that is put in.
-use Rattle.std.proofs.Common.{◌≡◌, ◌≢◌, ◌≤◌, ◌<◌, ◌+◌, inr, ℕ, true, List, [], ◌∷◌, ◌++◌, length, Result, Ok, Err, OnOk, IfErr, refl, ap, sym, subst, ◌∙◌, arith, append_assoc, length-append, append-nil, zero-add}
+use Rattle.std.proofs.Common.{◌≡◌, ◌≢◌, ◌≤◌, ◌<◌, ◌+◌, inl, inr, ℕ, true, List, [], ◌∷◌, ◌++◌, length, Result, Ok, Err, OnOk, IfErr, refl, ap, sym, subst, ◌∙◌, arith, append_assoc, length-append, append-nil, zero-add}
 use Rattle.std.proofs.lemmas.Bool.{false≢true}
 use Rattle.std.proofs.lemmas.List.{map-append}
 use Rattle.std.proofs.lemmas.List.Concat.{flat_map-append}
@@ -12,11 +12,11 @@ use Rattle.htl_blocks.specs.declared.keeping.Keeping.{Keeping}
 use Rattle.htl_blocks.specs.declared.keeping.Keeping.TheVariants as keep
 use Rattle.htl_blocks.specs.declared.run_fault.RunFault.{RunFault}
 use Rattle.htl_blocks.specs.declared.run_fault.RunFault.TheVariants.{TooLong, TooMany, NoMemory}
-use Rattle.htl_blocks.specs.Parts.{Part, Byte, text_parts, part_text, text_of_parts, is_inclusion, inclusions, rounds}
+use Rattle.htl_blocks.specs.Parts.{Part, Byte, Round, text_parts, part_text, text_of_parts, is_inclusion, inclusions, rounds}
 use Rattle.htl_blocks.specs.Pieces.{inclusion_count, piece_len, piece_parts, pieces_parts, puts_in, text_len, with_text_piece}
-use Rattle.htl_blocks.specs.Refused.{most_inclusions}
-use Rattle.htl_blocks.specs.Sheets.{SheetText, IsOverLimit, Stops, WroteParts, kept, kept_part, with_parts}
-use Rattle.htl_blocks.proofs.SheetLemmas.{count-append, over_more, with_none}
+use Rattle.htl_blocks.specs.Refused.{most_inclusions, most_rounds}
+use Rattle.htl_blocks.specs.Sheets.{SheetText, IsOverLimit, PassesLimit, WroteParts, kept, kept_part, with_parts}
+use Rattle.htl_blocks.proofs.SheetLemmas.{count-append, passed_at_end, with_none}
 use Rattle.htl_blocks.proofs.Bounded.{included_with}
 
 -- ---- texts as parts
@@ -73,8 +73,9 @@ text_written scope k ps tail more new n e =
     (ap (λ (t : List ℕ). ps ++ text_parts t) e ∙ ap (λ (t : List Part). ps ++ t) (map-append Byte tail more) ∙ sym (append_assoc ps (text_parts tail) (text_parts more)) ∙ ap (λ (t : List Part). (ps ++ text_parts tail) ++ t) (sym (kept_text k more)))
     ∙ ap (made ((ps ++ text_parts tail) ++ kept k (text_parts more))) (let none = no_rounds more in let same : n ≡ n + rounds (text_parts more) = omega (arith, none) in same)
 
-pub text_over : (scope : Bindings) (k : Keeping) (ps : List Part) (tail more : List ℕ) (n room : ℕ) → room + length (text_of_parts ps) ≡ most_rendered_bytes → room < length (tail ++ more) → IsOverLimit TooLong (with_parts (sheet_of scope k ps tail n) (text_parts more))
-text_over scope k ps tail more n room left h =
+pub text_over : (scope : Bindings) (k : Keeping) (ps : List Part) (tail more : List ℕ) (n room : ℕ) → n ≤ most_rounds → room + length (text_of_parts ps) ≡ most_rendered_bytes → room < length (tail ++ more)
+    → IsOverLimit TooLong (with_parts (sheet_of scope k ps tail n) (text_parts more))
+text_over scope k ps tail more n room few left h =
     let whole = ap (length {A = ℕ}) (flat_map-append part_text (ps ++ text_parts tail) (kept k (text_parts more)) ∙ ap (λ (t : List ℕ). t ++ text_of_parts (kept k (text_parts more))) (flat_map-append part_text ps (text_parts tail))) in
     let last = ap (λ (q : List Part). length (text_of_parts q)) (kept_text k more) in
     let a = ap (length {A = ℕ}) (text_of_text more) in
@@ -82,26 +83,27 @@ text_over scope k ps tail more n room left h =
     let one = length-append (text_of_parts ps ++ text_of_parts (text_parts tail)) (text_of_parts (kept k (text_parts more))) in
     let two = length-append (text_of_parts ps) (text_of_parts (text_parts tail)) in
     let three = length-append tail more in
-    omega (arith, left, h, whole, last, a, b, one, two, three)
+    let none = no_rounds more in
+    (omega (arith, few, none), omega (arith, left, h, whole, last, a, b, one, two, three))
 
 -- a text is written after the others, or is too long beside them
-pub text_result : {A : Type 0} (r : Result A RunFault) (old : SheetText) (scope : Bindings) (k : Keeping) (ps : List Part) (tail more new : List ℕ) (n room : ℕ) → sheet_of scope k ps tail n ≡ old → room + length (text_of_parts ps) ≡ most_rendered_bytes
+pub text_result : {A : Type 0} (r : Result A RunFault) (old : SheetText) (scope : Bindings) (k : Keeping) (ps : List Part) (tail more new : List ℕ) (n room : ℕ) → sheet_of scope k ps tail n ≡ old → n ≤ most_rounds → room + length (text_of_parts ps) ≡ most_rendered_bytes
     → OnOk r (new ≡ tail ++ more) → IfErr r (λ f. f ≢ NoMemory → (f ≡ TooLong) × (room < length (tail ++ more)))
     → WroteParts r old (sheet_of scope k ps new n) (text_parts more)
-text_result (Ok x) old scope k ps tail more new n room view left ok err = text_written scope k ps tail more new n ok ∙ ap (λ (s : SheetText). with_parts s (text_parts more)) view
-text_result (Err f) old scope k ps tail more new n room view left ok err = λ ne.
+text_result (Ok x) old scope k ps tail more new n room view few left ok err = text_written scope k ps tail more new n ok ∙ ap (λ (s : SheetText). with_parts s (text_parts more)) view
+text_result (Err f) old scope k ps tail more new n room view few left ok err = λ ne.
     let both = err ne in
-    let over = subst (λ (g : RunFault). IsOverLimit g (with_parts (sheet_of scope k ps tail n) (text_parts more))) (sym both.0) (text_over scope k ps tail more n room left both.1) in
-    subst (λ (s : SheetText). IsOverLimit f (with_parts s (text_parts more))) view over
+    let over = subst (λ (g : RunFault). IsOverLimit g (with_parts (sheet_of scope k ps tail n) (text_parts more))) (sym both.0) (text_over scope k ps tail more n room few left both.1) in
+    passed_at_end f old (text_parts more) (subst (λ (s : SheetText). IsOverLimit f (with_parts s (text_parts more))) view over)
 
 -- the same, where what it is written for is found out anew
 pub template_result : {A : Type 0} (r : Result A RunFault) (old : SheetText) (scope after : Bindings) (k : Keeping) (pieces : List Piece) (tail more new : List ℕ) (n room : ℕ)
-    → sheet_of scope k (pieces_parts scope pieces) tail n ≡ old → room + text_len pieces ≡ most_rendered_bytes → after ≡ scope
+    → sheet_of scope k (pieces_parts scope pieces) tail n ≡ old → n ≤ most_rounds → room + text_len pieces ≡ most_rendered_bytes → after ≡ scope
     → OnOk r (new ≡ tail ++ more) → IfErr r (λ f. f ≢ NoMemory → (f ≡ TooLong) × (room < length (tail ++ more)))
     → WroteParts r old (sheet_of after k (pieces_parts after pieces) new n) (text_parts more)
-template_result r old scope after k pieces tail more new n room view left same ok err =
+template_result r old scope after k pieces tail more new n room view few left same ok err =
     subst (λ (s : Bindings). WroteParts r old (sheet_of s k (pieces_parts s pieces) new n) (text_parts more)) (sym same)
-    (text_result r old scope k (pieces_parts scope pieces) tail more new n room view (room_beside scope pieces room left) ok err)
+    (text_result r old scope k (pieces_parts scope pieces) tail more new n room view few (room_beside scope pieces room left) ok err)
 
 -- ---- pieces
 
@@ -156,24 +158,6 @@ not_kept s scope p h is =
     let nothing : kept s.keeping (piece_parts scope p) ≡ [] = ap (λ (k : Keeping). kept k (piece_parts scope p)) is ∙ unkept scope p h in
     sym (with_none s) ∙ ap (λ (q : List Part). made (s.parts ++ q) (s.rounds + 0)) (sym nothing) ∙ ap (λ (n : ℕ). made (s.parts ++ kept s.keeping (piece_parts scope p)) (s.rounds + n)) (sym (no_round_in scope p h))
 
--- the text after the pieces is too long
-pub tail_over : (scope : Bindings) (k : Keeping) (ps : List Piece) (tail : List ℕ) (n : ℕ) → most_rendered_bytes < text_len ps + length tail → IsOverLimit TooLong (sheet_of scope k (pieces_parts scope ps) tail n)
-tail_over scope k ps tail n h =
-    let both = ap (length {A = ℕ}) (flat_map-append part_text (pieces_parts scope ps) (text_parts tail)) in
-    let lens = length-append (text_of_parts (pieces_parts scope ps)) (text_of_parts (text_parts tail)) in
-    let itself = ap (length {A = ℕ}) (text_of_text tail) in
-    let len = text_len_is scope ps in
-    omega (arith, h, both, lens, itself, len)
-
--- the text before a piece is too long
-pub text_stops : (f : RunFault) (old : SheetText) (scope : Bindings) (k : Keeping) (ps : List Piece) (tail : List ℕ) (n : ℕ) (new : SheetText) (more : List Part)
-    → sheet_of scope k (pieces_parts scope ps) tail n ≡ old → (f ≢ NoMemory → (f ≡ TooLong) × (most_rendered_bytes < text_len ps + length tail)) → Stops f old more
-text_stops f old scope k ps tail n new more view h = λ ne.
-    let both = h ne in
-    let over = over_more TooLong (sheet_of scope k (pieces_parts scope ps) tail n) more (tail_over scope k ps tail n both.1) in
-    let here = subst (λ (g : RunFault). IsOverLimit g (with_parts (sheet_of scope k (pieces_parts scope ps) tail n) more)) (sym both.0) over in
-    subst (λ (s : SheetText). IsOverLimit f (with_parts s more)) view here
-
 -- a piece is put in after the text before it, or there are too many
 pub inclusion_result : {A : Type 0} (r : Result A RunFault) (old : SheetText) (scope : Bindings) (k : Keeping) (ps mid new : List Piece) (p : Piece) (tail : List ℕ) (n : ℕ)
     → sheet_of scope k (pieces_parts scope ps) tail n ≡ old → k ≡ keep.All → puts_in p ≡ true → mid ≡ with_text_piece ps tail
@@ -202,9 +186,45 @@ inclusion_result (Err f) old scope k ps mid new p tail n view all h is ok err = 
     let enough = both.1 in
     let over : most_inclusions < inclusions (before ++ kept k (piece_parts scope p)) = omega (arith, whole, parts, none, one, here, there, enough) in
     let here = subst (λ (g : RunFault). IsOverLimit g (with_parts (sheet_of scope k (pieces_parts scope ps) tail n) (piece_parts scope p))) (sym both.0) (inr over) in
-    subst (λ (s : SheetText). IsOverLimit f (with_parts s (piece_parts scope p))) view here
+    passed_at_end f old (piece_parts scope p) (subst (λ (s : SheetText). IsOverLimit f (with_parts s (piece_parts scope p))) view here)
+
+-- ---- rounds
+
+-- the text of a sheet has the bytes of its pieces and of the text after them
+sheet_len : (scope : Bindings) (ps : List Piece) (tail : List ℕ) → length (text_of_parts (pieces_parts scope ps ++ text_parts tail)) ≡ text_len ps + length tail
+sheet_len scope ps tail =
+    let both = ap (length {A = ℕ}) (flat_map-append part_text (pieces_parts scope ps) (text_parts tail)) in
+    let lens = length-append (text_of_parts (pieces_parts scope ps)) (text_of_parts (text_parts tail)) in
+    let itself = ap (length {A = ℕ}) (text_of_text tail) in
+    let len = text_len_is scope ps in
+    omega (arith, both, lens, itself, len)
+
+no_text_of_round : (k : Keeping) → text_of_parts (kept k (Round ∷ [])) ≡ []
+no_text_of_round keep.All = refl
+no_text_of_round keep.TextAlone = refl
+
+-- a round is one too many, after a text that isn't too long
+pub round_over : (old : SheetText) (scope : Bindings) (k : Keeping) (ps : List Piece) (tail : List ℕ) (n : ℕ) → sheet_of scope k (pieces_parts scope ps) tail n ≡ old → most_rounds ≤ n → text_len ps + length tail ≤ most_rendered_bytes
+    → PassesLimit TooMany old (Round ∷ [])
+round_over old scope k ps tail n view many fits =
+    let before = pieces_parts scope ps ++ text_parts tail in
+    let whole = ap (length {A = ℕ}) (flat_map-append part_text before (kept k (Round ∷ []))) in
+    let sum = length-append (text_of_parts before) (text_of_parts (kept k (Round ∷ []))) in
+    let none = ap (length {A = ℕ}) (no_text_of_round k) in
+    let len = sheet_len scope ps tail in
+    let over : IsOverLimit TooMany (with_parts (sheet_of scope k (pieces_parts scope ps) tail n) (Round ∷ [])) = inl (omega (arith, many), omega (arith, fits, whole, sum, none, len)) in
+    passed_at_end TooMany old (Round ∷ []) (subst (λ (s : SheetText). IsOverLimit TooMany (with_parts s (Round ∷ []))) view over)
 
 -- ---- the end
+
+-- where the text before a piece, or the last text, fits, only memory can lack
+pub memory_lacks : (f : RunFault) (ps : List Piece) (tail : List ℕ) → text_len ps + length tail ≤ most_rendered_bytes → (f ≢ NoMemory → (f ≡ TooLong) × (most_rendered_bytes < text_len ps + length tail)) → f ≢ NoMemory → ⊥
+memory_lacks f ps tail fits h ne = let both = h ne in let long = both.1 in omega (arith, fits, long)
+
+pub is_memory : (f : RunFault) → (f ≢ NoMemory → ⊥) → f ≡ NoMemory
+is_memory NoMemory h = refl
+is_memory TooLong h = absurd (h (λ e. let clash : TooLong ≡ NoMemory = e in absurd cc))
+is_memory TooMany h = absurd (h (λ e. let clash : TooMany ≡ NoMemory = e in absurd cc))
 
 -- what the pieces stand for, with the last text
 pub finished_parts : (scope here : Bindings) (ps new : List Piece) (tail : List ℕ) → here ≡ scope → new ≡ with_text_piece ps tail → pieces_parts here new ≡ pieces_parts scope ps ++ text_parts tail
@@ -216,11 +236,3 @@ finished_text scope ps h = let is = text_len_is scope ps in omega (arith, is, h)
 
 pub finished_inclusions : (scope : Bindings) (ps : List Piece) → inclusion_count ps ≤ most_inclusions → inclusions (pieces_parts scope ps) ≤ most_inclusions
 finished_inclusions scope ps h = let is = inclusions_are scope ps in omega (arith, is, h)
-
--- the last text is too long
-pub finished_over : (f : RunFault) (old : SheetText) (scope : Bindings) (k : Keeping) (ps : List Piece) (tail : List ℕ) (n : ℕ) → sheet_of scope k (pieces_parts scope ps) tail n ≡ old
-    → (f ≢ NoMemory → (f ≡ TooLong) × (most_rendered_bytes < text_len ps + length tail)) → f ≢ NoMemory → IsOverLimit f old
-finished_over f old scope k ps tail n view h ne =
-    let both = h ne in
-    let here = subst (λ (g : RunFault). IsOverLimit g (sheet_of scope k (pieces_parts scope ps) tail n)) (sym both.0) (tail_over scope k ps tail n both.1) in
-    subst (λ (s : SheetText). IsOverLimit f s) view here

@@ -7,7 +7,6 @@ use Rattle.std.proofs.lemmas.List.Sums.{fold-append}
 use Rattle.std.specs.List.{flat_map, slice_index_or}
 use Rattle.htl_expr.specs.Bindings.{Bindings, with_vars}
 use Rattle.htl_expr.specs.Value.{list_in}
-use Rattle.htl_expr.specs.declared.variables.Variables.TheVariants as vars
 use Rattle.htl_blocks.specs.Parts.{Part, Round, text_parts}
 use Rattle.htl_blocks.specs.Pieces.{item_of, items_in, with_round, within}
 use Rattle.htl_blocks.specs.declared.piece.Round.{Round as RoundOf}

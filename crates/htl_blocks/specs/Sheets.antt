@@ -1,5 +1,5 @@
 -- A text that is being written. Only proofs and private functions need this.
-use Rattle.std.specs.Prelude.{◌≡◌, ◌≢◌, ℕ, ◌+◌, ◌<◌, ◌⊎◌, List, [], ◌++◌, Result, Ok, Err, length}
+use Rattle.std.specs.Prelude.{◌≡◌, ◌≢◌, ℕ, ◌+◌, ◌<◌, ◌≤◌, ◌⊎◌, List, [], ◌++◌, Result, Ok, Err, length}
 use Rattle.std.specs.List.{flat_map}
 use Rattle.sp_base.specs.Limits.{most_rendered_bytes}
 use Rattle.htl_expr.specs.Bindings.{Bindings}
@@ -34,17 +34,25 @@ empty_sheet scope what = record { scope = scope; keeping = what; parts = []; rou
 abbrev pub with_parts : SheetText → List Part → SheetText
 with_parts s ps = record { scope = s.scope; keeping = s.keeping; parts = s.parts ++ kept s.keeping ps; rounds = s.rounds + rounds ps }
 
--- a limit is passed
+-- A limit is passed: that of the text while there aren't too many rounds, that of the rounds while the text isn't too long, or that of what
+-- is put in.
 abbrev pub IsOverLimit : RunFault → SheetText → Type 0
-IsOverLimit TooLong s = most_rendered_bytes < length (text_of_parts s.parts)
-IsOverLimit TooMany s = (most_rounds < s.rounds) ⊎ (most_inclusions < inclusions s.parts)
+IsOverLimit TooLong s = (s.rounds ≤ most_rounds) × (most_rendered_bytes < length (text_of_parts s.parts))
+IsOverLimit TooMany s = ((most_rounds < s.rounds) × (length (text_of_parts s.parts) ≤ most_rendered_bytes)) ⊎ (most_inclusions < inclusions s.parts)
 IsOverLimit NoMemory s = Unit {0}
 
--- with parts more a limit is passed
-abbrev pub Stops : RunFault → SheetText → List Part → Type 0
-Stops f old ps = f ≢ NoMemory → IsOverLimit f (with_parts old ps)
+-- with a beginning of these parts more a limit is passed
+pub record PassesLimit (f : RunFault) (old : SheetText) (ps : List Part) : Type 0 where
+  pub before : List Part
+  pub later : List Part
+  pub whole : ps ≡ before ++ later
+  pub over : IsOverLimit f (with_parts old before)
 
--- parts are written, or with them a limit is passed
+-- the writing of parts stops at a limit, unless memory lacks
+abbrev pub Stops : RunFault → SheetText → List Part → Type 0
+Stops f old ps = f ≢ NoMemory → PassesLimit f old ps
+
+-- parts are written, or at one of them a limit is passed
 abbrev pub WroteParts : {A : Type 0} → Result A RunFault → SheetText → SheetText → List Part → Type 0
 WroteParts (Ok _) old new ps = new ≡ with_parts old ps
 WroteParts (Err f) old new ps = Stops f old ps

@@ -10,9 +10,9 @@ use Rattle.htl_blocks.specs.Written.{keeps_tags, passes, block_parts, blocks_par
 use Rattle.htl_blocks.specs.declared.block.Block.{Block}
 use Rattle.htl_blocks.specs.declared.block.Block.TheVariants.{Element}
 use Rattle.htl_blocks.specs.declared.attribute.Body.TheVariants as body
-use Rattle.htl_blocks.specs.declared.run_fault.RunFault.TheVariants.{TooLong}
-use Rattle.htl_blocks.specs.Parts.{Part, text_parts, Round, Script, Resource}
-use Rattle.htl_blocks.specs.Refused.{IsRefused}
+use Rattle.htl_blocks.specs.declared.run_fault.RunFault.TheVariants.{TooLong, TooMany}
+use Rattle.htl_blocks.specs.Parts.{Part, text_parts, Round, Script, Resource, rounds}
+use Rattle.htl_blocks.specs.Refused.{IsRefused, most_rounds}
 use Rattle.htl_text.specs.Template.{template_output}
 use Rattle.htl_text.specs.declared.piece.TemplatePiece.{TemplatePiece}
 
@@ -73,7 +73,13 @@ ResourcesStandInTags = (scope : Bindings) (tag : Tag) (content : List Block) (en
 abbrev pub IsWrittenIfVariablesFit : (Bindings → List Part) → Bindings → List ℕ → List ℕ → Type 0
 IsWrittenIfVariablesFit inside scope name item = length (text_of_vars (with_variable scope name item).vars) ≤ most_rendered_bytes → round_parts name inside scope item ≡ Round ∷ inside (with_variable scope name item)
 
--- else the script is refused, whatever else it writes
+-- else the script is refused as too long, whatever else it writes, if the round isn't one too many
 abbrev pub IsRefusedIfVariablesAreTooLong : (Bindings → List Part) → Bindings → List ℕ → List ℕ → Type 0
 IsRefusedIfVariablesAreTooLong inside scope name item =
-    (before after : List Part) → most_rendered_bytes < length (text_of_vars (with_variable scope name item).vars) → IsRefused TooLong (before ++ (round_parts name inside scope item ++ after))
+    (before after : List Part) → most_rendered_bytes < length (text_of_vars (with_variable scope name item).vars) → rounds before < most_rounds → IsRefused TooLong (before ++ (round_parts name inside scope item ++ after))
+
+-- and if it is, as too long where what stands before is so, and else for the rounds, whatever the variables are
+abbrev pub IsRefusedIfRoundIsOneTooMany : (Bindings → List Part) → Bindings → List ℕ → List ℕ → Type 0
+IsRefusedIfRoundIsOneTooMany inside scope name item = (before after : List Part) → most_rounds ≤ rounds before
+    → (IsRefused TooLong before → IsRefused TooLong (before ++ (round_parts name inside scope item ++ after)))
+    × ((IsRefused TooLong before → ⊥) → IsRefused TooMany (before ++ (round_parts name inside scope item ++ after)))

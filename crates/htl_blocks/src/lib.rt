@@ -45,6 +45,6 @@ pub use run_fault::RunFault;
 pub use written_laws::{
     a_body_stands_in_place_of_the_content, a_content_stands_once_for_each_item,
     a_false_test_leaves_the_element_out, a_list_without_items_leaves_the_element_out,
-    a_text_writes_its_template, statements_dont_show, unwrapping_keeps_the_content,
-    variables_that_are_too_long_refuse_a_script,
+    a_script_fits_or_has_one_fault, a_text_writes_its_template, statements_dont_show,
+    unwrapping_keeps_the_content, variables_that_are_too_long_refuse_a_script,
 };

@@ -3,7 +3,7 @@
 ghost use Rattle.std.specs.Prelude.{◌≡◌, ◌≢◌, IfOk, IfErr};
 ghost use Rattle.htl_blocks.specs.Parts.{seen};
 ghost use Rattle.htl_blocks.specs.Refused.{Fits, IsRefused};
-ghost use Rattle.htl_blocks.specs.Sheets.{IsOverLimit, empty_sheet, kept, with_parts};
+ghost use Rattle.htl_blocks.specs.Sheets.{PassesLimit, Stops, empty_sheet, kept, with_parts};
 ghost use Rattle.htl_blocks.specs.Written.{blocks_parts};
 ghost use Rattle.htl_blocks.specs.Pieces.{IsWithinLimits, StandsForParts};
 
@@ -27,7 +27,7 @@ fn filled<'a>(
     all: &'a [Block],
 ) -> Result<Sheet<'a>, RunFault>
     ensures ok { IfOk result (λ sheet. sheet ≡ with_parts (empty_sheet scope.now keeping) (blocks_parts scope.now all.now)) }
-    ensures err { IfErr result (λ f. f ≢ RunFault.NoMemory → IsOverLimit f (with_parts (empty_sheet scope.now keeping) (blocks_parts scope.now all.now))) }
+    ensures err { IfErr result (λ f. Stops f (empty_sheet scope.now keeping) (blocks_parts scope.now all.now)) }
 {
     let mut sheet = Sheet::new(alloc, scope, keeping);
     let frame = Frame::outer(alloc);
@@ -48,15 +48,15 @@ fn written<'a>(
 ) -> Result<PieceList<'a>, RunFault>
     ensures parts { IfOk result (StandsForParts scope.now (kept keeping) (blocks_parts scope.now all.now)) }
     ensures fits { IfOk result IsWithinLimits }
-    ensures err { IfErr result (λ f. f ≢ RunFault.NoMemory → IsOverLimit f (with_parts (empty_sheet scope.now keeping) (blocks_parts scope.now all.now))) }
+    ensures err { IfErr result (λ f. Stops f (empty_sheet scope.now keeping) (blocks_parts scope.now all.now)) }
 {
     let sheet = filled(alloc, scope, keeping, all)?;
     finished(sheet, scope)
 }
 
-// The fault where there is too much but maybe not too much text.
+// The fault where there is too much: of the text, if what is looked at of it is too long.
 fn fault_beside<'a>(alloc: Global, scope: &Scope<'a>, all: &'a [Block]) -> RunFault
-    requires { IsOverLimit RunFault.TooMany (with_parts (empty_sheet scope.now Keeping.All) (blocks_parts scope.now all.now)) }
+    requires { PassesLimit RunFault.TooMany (empty_sheet scope.now Keeping.All) (blocks_parts scope.now all.now) }
     ensures { result ≢ RunFault.NoMemory → IsRefused result (blocks_parts scope.now all.now) }
 {
     let Err(fault) = written(alloc, scope, Keeping::TextAlone, all) else {
@@ -67,7 +67,7 @@ fn fault_beside<'a>(alloc: Global, scope: &Scope<'a>, all: &'a [Block]) -> RunFa
 
 impl Blocks {
     /// What the script writes for a resource and variables, with what is put in from elsewhere. Where there is too much of the rest and too
-    /// much text, it is the text that is told; but after 1,000,000 rounds nothing more is looked at.
+    /// much text, it is the text that is told; but from the round that is one too many on, nothing is looked at.
     #[tactic(auto, using(crate::proofs::PieceLemmas::all_are_seen, crate::proofs::PieceLemmas::all_fits, crate::proofs::PieceLemmas::long_is_refused))]
     pub fn pieces<'a>(&'a self, alloc: Global, scope: &Scope<'a>) -> Result<PieceList<'a>, RunFault>
         ensures parts { IfOk result (StandsForParts scope.now seen (blocks_parts scope.now self.now)) }

@@ -43,23 +43,25 @@ pub struct Sheet<'a> {
 }
 
 impl<'a> Model for Sheet<'a> {
-    ghost use Rattle.std.specs.Prelude.{◌≤◌, ◌++◌, string_bytes};
+    ghost use Rattle.std.specs.Prelude.{◌≤◌, ◌+◌, ◌++◌, length, string_bytes};
+    ghost use Rattle.sp_base.specs.Limits.{most_rendered_bytes};
     ghost use Rattle.htl_blocks.specs.Parts.{text_parts};
     ghost use Rattle.htl_blocks.specs.Refused.{most_rounds};
-    ghost use Rattle.htl_blocks.specs.Pieces.{pieces_parts};
+    ghost use Rattle.htl_blocks.specs.Pieces.{pieces_parts, text_len};
     ghost use Rattle.htl_blocks.specs.Sheets.{SheetText};
 
     ghost Value = { SheetText };
 
     ghost view = { λ s. record { scope = s.of; keeping = s.keeping; parts = pieces_parts s.of s.pieces ++ text_parts (string_bytes s.tail); rounds = s.rounds } };
 
-    ghost invariant = { λ s. s.rounds ≤ most_rounds };
+    ghost invariant = { λ s. (s.rounds ≤ most_rounds) × (text_len s.pieces + length (string_bytes s.tail) ≤ most_rendered_bytes) };
 }
 
 // Adds a text to another, where both have room.
 fn push_within(text: &mut String, room: usize, more: &str) -> Result<(), RunFault>
     ensures ok { OnOk result (string_bytes text.new ≡ string_bytes text.old ++ more.now) }
     ensures err { IfErr result (spec.RunFailsAsTooLongIfMemory room (string_bytes text.old ++ more.now)) }
+    ensures room { length (string_bytes text.old) ≤ room → length (string_bytes text.new) ≤ room }
 {
     let len = text.as_str().len();
     if len > room || more.len() > room - len {
@@ -69,7 +71,7 @@ fn push_within(text: &mut String, room: usize, more: &str) -> Result<(), RunFaul
     Ok(())
 }
 
-// Adds what a template writes to a text, where both have room.
+// Adds what a template writes to a text, where both have room. Else no text is left, so that none is too long.
 fn push_template<'v, 'a: 'v>(
     text: &mut String,
     alloc: Global,
@@ -80,12 +82,19 @@ fn push_template<'v, 'a: 'v>(
 ) -> Result<(), RunFault>
     ensures ok { OnOk result (string_bytes text.new ≡ string_bytes text.old ++ template_output (with_vars of.old (vars_of vars.now)) template.now) }
     ensures err { IfErr result (spec.RunFailsAsTooLongIfMemory room (string_bytes text.old ++ template_output (with_vars of.old (vars_of vars.now)) template.now)) }
+    ensures room { length (string_bytes text.new) ≤ room }
     ensures resource { of.new ≡ of.old }
 {
     match template.write(text, alloc, of, vars, room) {
         Ok(()) => Ok(()),
-        Err(RenderFault::TooLong) => Err(RunFault::TooLong),
-        Err(RenderFault::NoMemory) => Err(RunFault::NoMemory),
+        Err(RenderFault::TooLong) => {
+            text.clear();
+            Err(RunFault::TooLong)
+        }
+        Err(RenderFault::NoMemory) => {
+            text.clear();
+            Err(RunFault::NoMemory)
+        }
     }
 }
 
@@ -112,7 +121,8 @@ impl<'a> Sheet<'a> {
 
     /// Begins a round.
     pub fn begin_round(&mut self) -> Result<(), RunFault>
-        ensures { spec.WroteParts result self.old self.new (part.Round ∷ []) }
+        ensures parts { spec.WroteParts result self.old self.new (part.Round ∷ []) }
+        ensures within { OnOk result (self.new.rounds ≤ most_rounds) }
     {
         if self.rounds >= MOST_ROUNDS {
             return Err(RunFault::TooMany);
@@ -254,12 +264,12 @@ fn list_of<'a>(scope: &Scope<'a>, pieces: BoundedPieces<'a>, rounds: usize) -> P
     }
 }
 
-/// What was written, if it isn't too long.
+/// What was written. It isn't too long, as each text was looked at before it was added.
 pub fn finished<'a>(sheet: Sheet<'a>, scope: &Scope<'a>) -> Result<PieceList<'a>, RunFault>
     requires { scope.now ≡ sheet.scope }
     ensures parts { IfOk result (λ l. (l.scope ≡ sheet.entry.scope) × (l.parts ≡ sheet.entry.parts) × (l.rounds ≡ sheet.entry.rounds)) }
     ensures fits { IfOk result IsWithinLimits }
-    ensures err { IfErr result (λ f. f ≢ RunFault.NoMemory → spec.IsOverLimit f sheet.entry) }
+    ensures err { IfErr result (λ f. f ≡ RunFault.NoMemory) }
 {
     let Sheet {
         of: _,

@@ -9,8 +9,9 @@ ghost use Rattle.htl_blocks.specs.declared.block.Tag.{Tag};
 ghost use Rattle.htl_blocks.specs.declared.block.Block.{Block};
 ghost use Rattle.htl_blocks.specs.declared.block.Block.TheVariants.{Text};
 ghost use Rattle.htl_blocks.specs.Parts.{Part, text_parts};
+ghost use Rattle.htl_blocks.specs.Refused.{FitsOrHasAFault, HasOneFaultAtMost, HasNoFaultIfItFits};
 ghost use Rattle.htl_blocks.specs.Written.{block_parts};
-ghost use Rattle.htl_blocks.specs.WrittenLaws.{IsLeftOutIfUntrue, IsItsContentIfUnwrappedWithoutListOrBody, IsWrittenWholeIfInTagsWithoutListOrBody, IsWrittenIfVariablesFit, IsRefusedIfVariablesAreTooLong, ListElementsWriteEachItem, ElementsWithoutListAreLeftOut, ElementsWithoutItemsAreLeftOut, TextsStandInTags, ScriptsStandInTags, ResourcesStandInTags};
+ghost use Rattle.htl_blocks.specs.WrittenLaws.{IsLeftOutIfUntrue, IsItsContentIfUnwrappedWithoutListOrBody, IsWrittenWholeIfInTagsWithoutListOrBody, IsWrittenIfVariablesFit, IsRefusedIfVariablesAreTooLong, IsRefusedIfRoundIsOneTooMany, ListElementsWriteEachItem, ElementsWithoutListAreLeftOut, ElementsWithoutItemsAreLeftOut, TextsStandInTags, ScriptsStandInTags, ResourcesStandInTags};
 
 /// An element whose test is false is left out.
 pub fn a_false_test_leaves_the_element_out()
@@ -23,11 +24,20 @@ pub fn a_content_stands_once_for_each_item()
     ensures { ListElementsWriteEachItem }
 {}
 
-/// Where the variables of a place have together at most 4,194,304 bytes, what stands there is written (`fit`); else the script is refused
-/// because it is too long, whatever stands before and after (`long`).
+/// Where the variables of a place have together at most 4,194,304 bytes, what stands there is written (`fit`). Else the script is refused,
+/// whatever stands before and after. If fewer than 1,000,000 rounds stand before, that is because it is too long (`long`). If as many do,
+/// the round is one too many: it is too long if what stands before is, and else has too many rounds, whatever the variables are (`late`).
 pub fn variables_that_are_too_long_refuse_a_script()
     ensures fit { (inside : Bindings → List Part) (scope : Bindings) (name item : List ℕ) → IsWrittenIfVariablesFit inside scope name item }
     ensures long { (inside : Bindings → List Part) (scope : Bindings) (name item : List ℕ) → IsRefusedIfVariablesAreTooLong inside scope name item }
+    ensures late { (inside : Bindings → List Part) (scope : Bindings) (name item : List ℕ) → IsRefusedIfRoundIsOneTooMany inside scope name item }
+{}
+
+/// What a script writes is within the limits or has a fault (`some`), and never two of them (`one`) or one beside the other (`none`).
+pub fn a_script_fits_or_has_one_fault()
+    ensures some { (ps : List Part) → FitsOrHasAFault ps }
+    ensures one { (ps : List Part) → HasOneFaultAtMost ps }
+    ensures none { (ps : List Part) → HasNoFaultIfItFits ps }
 {}
 
 /// An element whose list is none, or has no items, is left out.

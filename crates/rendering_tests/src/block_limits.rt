@@ -78,8 +78,7 @@ fn a_million_rounds_are_gone(rt: HostRuntime) {
     assert!(rt; are_too_many(rt.alloc(), &props, &ROUNDS));
 }
 
-// A property `long` of so many bytes.
-fn with_long(alloc: Global, len: usize) -> Mem<PropList> {
+fn long(alloc: Global, len: usize) -> Mem<Value> {
     let mut text = String::new(alloc);
     for _line in 0..len / 64 {
         text.push_str("xxxxxxxxxxxxxxxxxxxxxxxxxxxxxxxxxxxxxxxxxxxxxxxxxxxxxxxxxxxxxxxx")?;
@@ -87,8 +86,13 @@ fn with_long(alloc: Global, len: usize) -> Mem<PropList> {
     for _byte in 0..len % 64 {
         text.push_str("x")?;
     }
+    Ok(Value::Text(TextBuf::from(text)))
+}
+
+// A property `long` of so many bytes.
+fn with_long(alloc: Global, len: usize) -> Mem<PropList> {
     let mut props = PropList::new(alloc);
-    props.put(alloc, "long", Value::Text(TextBuf::from(text)))?;
+    props.put(alloc, "long", long(alloc, len)?)?;
     Ok(props)
 }
 
@@ -116,6 +120,54 @@ fn a_text_has_at_most_four_megabytes(rt: HostRuntime) {
             matches!(with_long(rt.alloc(), *len), Ok(props) if matches!(fault_of(rt.alloc(), &props, *text), Some(RunFault::TooLong)) == *is_refused)
         );
     }
+}
+
+// Scripts with a text that is too long and a round that is one too many; and whether it is the text that is told. It stands before all
+// rounds, after 1,000,000 of them, and as the variable of the round that is one too many.
+const LONG_AND_OFTEN: [(&str, bool); 3] = [
+    (
+        "${properties.long}<p data-sly-list='${properties.items}'><q data-sly-list='${properties.fewer}'></q></p><p data-sly-list='${[1]}'></p>",
+        true,
+    ),
+    (
+        "<p data-sly-list='${properties.items}'><q data-sly-list='${properties.fewer}'></q></p>${properties.long}<p data-sly-list='${[1]}'></p>",
+        true,
+    ),
+    (
+        "<p data-sly-list='${properties.items}'><q data-sly-list='${properties.fewer}'></q></p><p data-sly-list='${[properties.long]}'></p>",
+        false,
+    ),
+];
+
+fn is_told(fault: &Option<RunFault>, is_long: bool) -> bool {
+    match fault {
+        Some(RunFault::TooLong) => is_long,
+        Some(RunFault::TooMany) => !is_long,
+        _ => false,
+    }
+}
+
+fn are_told(alloc: Global, props: &PropList, rows: &[(&str, bool)]) -> bool {
+    for (text, is_long) in rows {
+        if !is_told(&fault_of(alloc, props, text), *is_long) {
+            return false;
+        }
+    }
+    true
+}
+
+fn with_items_and_long(alloc: Global) -> Mem<PropList> {
+    let mut props = with_items(alloc)?;
+    props.put(alloc, "long", long(alloc, MOST_BYTES + 1)?)?;
+    Ok(props)
+}
+
+#[test]
+fn a_round_that_is_one_too_many_ends_what_is_looked_at(rt: HostRuntime) {
+    let Ok(props) = with_items_and_long(rt.alloc()) else {
+        return;
+    };
+    assert!(rt; are_told(rt.alloc(), &props, &LONG_AND_OFTEN));
 }
 
 // Variables: one that is a text, one over that, and an item ten times as long as the outer one's, ten times over.

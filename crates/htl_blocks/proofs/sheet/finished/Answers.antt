@@ -1,11 +1,11 @@
 use Rattle.std.proofs.Common.{◌∙◌, ap, sym, string_bytes, rules}
 use Rattle.htl_blocks.specs.Sheets.{SheetText}
-use Rattle.htl_blocks.proofs.SheetSteps.{finished_over, finished_parts}
+use Rattle.htl_blocks.proofs.SheetSteps.{finished_parts, is_memory, memory_lacks}
 use Rattle.htl_blocks.proofs.sheet.finished.Goals as goal
 
 pub returns-in_err-push_text-clause-err : goal.returns-in_err-push_text-clause-err
 returns-in_err-push_text-clause-err c =
-    let over = finished_over c.in_err-push_text.field-0.0 c.args.sheet c.sheet.inside.of c.sheet.inside.keeping c.sheet.inside.pieces (string_bytes c.sheet.inside.tail) c.sheet.inside.rounds c.sheet.view_is c.in_err-push_text.ensures.fault in
+    let lacks = is_memory c.in_err-push_text.field-0.0 (memory_lacks c.in_err-push_text.field-0.0 c.sheet.inside.pieces (string_bytes c.sheet.inside.tail) c.sheet.invariant.1 c.in_err-push_text.ensures.fault) in
     search rules
 
 pub returns-clause-parts : goal.returns-clause-parts

@@ -9,4 +9,4 @@ pub returns : goal.returns
 returns c =
     rw (← c.sheet.view_is)
     (template_result c.push_template.result _ c.sheet.inside.of c.push_template.new.of c.sheet.inside.keeping c.sheet.inside.pieces (string_bytes c.sheet.inside.tail) (template_output (with_vars c.sheet.inside.of (vars_of c.args.vars.now)) c.args.template.now) (string_bytes c.push_template.new.text) c.sheet.inside.rounds c.room-room.result
-    refl c.room-room.ensures c.push_template.ensures.resource c.push_template.ensures.ok c.push_template.ensures.err)
+    refl c.sheet.invariant.0 c.room-room.ensures c.push_template.ensures.resource c.push_template.ensures.ok c.push_template.ensures.err)

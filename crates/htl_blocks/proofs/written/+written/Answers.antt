@@ -8,10 +8,11 @@ use Rattle.htl_blocks.specs.declared.block.Block.{Block}
 use Rattle.htl_blocks.specs.declared.piece.Round.{Round as RoundOf}
 use Rattle.htl_blocks.specs.Parts.{Round}
 use Rattle.htl_blocks.specs.Sheets.{Stops}
-use Rattle.htl_blocks.specs.Written.{block_parts, blocks_parts, body_parts, round_parts}
-use Rattle.htl_blocks.proofs.WrittenLemmas.{each_stopped, inner_place, item_is, place_stays, round_item, round_written, same_scope}
+use Rattle.htl_blocks.specs.Written.{block_parts, blocks_parts, body_parts, round_parts, with_variable, within_room}
+use Rattle.htl_blocks.proofs.WrittenLemmas.{each_stopped, inner_place, item_is, item_there, place_stays, round_item, round_written, same_scope}
 use Rattle.htl_blocks.specs.VariableRoom.{HasVariableRoom}
 use Rattle.htl_blocks.proofs.RoomLemmas.{item_stops}
+use Rattle.htl_blocks.proofs.SheetLemmas.{stopped}
 use Rattle.htl_blocks.proofs.ElementSteps.{repeated_some, tags_written, tags_stop, between_stops, block_element}
 use Rattle.htl_blocks.proofs.written.+written.Goals as goal
 
@@ -67,14 +68,23 @@ pub round-inside-requires : goal.round-inside-requires
 round-inside-requires t c =
     let one : RoundOf = record { list = c.args.repetition.now.list; name = c.args.repetition.now.name; place = c.args.index } in
     let there = sym c.in-Some.is ∙ c.in_ok-item.ensures.ok in
-    let outer = place_stays c.args.sheet.now c.begin_round.new.self (Round ∷ []) c.args.place.now.frame.now.rounds (vars_of c.args.place.now.vars.now) c.in_ok-begin_round.ensures c.requires.place in
-    let is = c.text.ensures ∙ round_item c.args.sheet.now c.begin_round.new.self (Round ∷ []) (vars_of c.args.place.now.vars.now) one c.args.repetition.now.items c.in-Some.item c.in_ok-begin_round.ensures c.requires.items there in
+    let outer = place_stays c.args.sheet.now c.begin_round.new.self (Round ∷ []) c.args.place.now.frame.now.rounds (vars_of c.args.place.now.vars.now) c.in_ok-begin_round.ensures.parts c.requires.place in
+    let is = c.text.ensures ∙ round_item c.args.sheet.now c.begin_round.new.self (Round ∷ []) (vars_of c.args.place.now.vars.now) one c.args.repetition.now.items c.in-Some.item c.in_ok-begin_round.ensures.parts c.requires.items there in
     let inner = inner_place c.begin_round.new.self.scope c.args.place.now.frame.now.rounds c.in_ok-frame.frame.rounds one (vars_of c.args.place.now.vars.now) c.text.result.now outer c.in_ok-frame.ensures is in
     (search rules, inner ∙ ap (with_vars c.begin_round.new.self.scope) (sym (with_one c.args.repetition.now.name c.text.result c.args.place.now.vars)))
 
+pub round-returns-in_err-begin_round : goal.round-returns-in_err-begin_round
+round-returns-in_err-begin_round t c =
+    let inner = with_variable (seen_at c.args.sheet.now.scope c.args.place.now) c.args.repetition.now.name.now (get_or c.args.repetition.now.items c.args.index []) in
+    let stops = stopped c.in_err-begin_round.field-0.0 c.args.sheet.now c.begin_round.new.self c.begin_round.new.self (Round ∷ []) (within_room (λ (s : Bindings). body_parts c.args.repetition.now.body.now (λ (s : Bindings). blocks_parts s c.args.content.now) s) inner) c.in_err-begin_round.ensures.parts in
+    search rules
+
+pub round-returns-in_default : goal.round-returns-in_default
+round-returns-in_default t c = absurd (item_there c.args.repetition.now.items c.args.index c.requires.index (sym c.in_default.is ∙ c.in_ok-item.ensures.ok))
+
 pub round-returns-in_err-item : goal.round-returns-in_err-item
 round-returns-in_err-item t c =
-    let stops = item_stops c.in_err-item.field-0.0 c.args.sheet.now (λ (s : Bindings). body_parts c.args.repetition.now.body.now (λ (s : Bindings). blocks_parts s c.args.content.now) s) (vars_of c.args.place.now.vars.now) c.args.repetition.now.name.now (get_or c.args.repetition.now.items c.args.index []) c.in_err-item.ensures.err in
+    let stops = item_stops c.in_err-item.field-0.0 c.args.sheet.now c.begin_round.new.self (λ (s : Bindings). body_parts c.args.repetition.now.body.now (λ (s : Bindings). blocks_parts s c.args.content.now) s) (vars_of c.args.place.now.vars.now) c.args.repetition.now.name.now (get_or c.args.repetition.now.items c.args.index []) c.in_ok-begin_round.ensures.parts c.in_ok-begin_round.ensures.within c.in_err-item.ensures.err in
     search rules
 
 pub round-returns : goal.round-returns
@@ -84,4 +94,4 @@ round-returns t c =
     let is = c.text.ensures ∙ same in
     let fits = subst (HasVariableRoom c.args.repetition.now.name.now (vars_of c.args.place.now.vars.now)) same (rw c.in-Some.is at c.in_ok-item.ensures.room) in
     round_written c.inside.result c.args.sheet.now c.begin_round.new.self c.inside.new.sheet (λ (s : Bindings). body_parts c.args.repetition.now.body.now (λ (s : Bindings). blocks_parts s c.args.content.now) s) (vars_of c.args.place.now.vars.now) _ c.args.repetition.now.name.now (get_or c.args.repetition.now.items c.args.index [])
-    c.in_ok-begin_round.ensures (with_one c.args.repetition.now.name c.text.result c.args.place.now.vars ∙ ap (λ (x : List ℕ). (c.args.repetition.now.name.now, x) ∷ (vars_of c.args.place.now.vars.now)) is) fits c.inside.ensures
+    c.in_ok-begin_round.ensures.parts (with_one c.args.repetition.now.name c.text.result c.args.place.now.vars ∙ ap (λ (x : List ℕ). (c.args.repetition.now.name.now, x) ∷ (vars_of c.args.place.now.vars.now)) is) fits c.inside.ensures

@@ -1,7 +1,7 @@
 use Rattle.std.proofs.Common.{◌≡◌, ◌∙◌, [], ap, refl, string_bytes, rules}
 use Rattle.htl_blocks.specs.Pieces.{piece_parts}
-use Rattle.htl_blocks.specs.Sheets.{SheetText}
-use Rattle.htl_blocks.proofs.SheetSteps.{inclusion_result, text_stops}
+use Rattle.htl_blocks.specs.Sheets.{SheetText, Stops}
+use Rattle.htl_blocks.proofs.SheetSteps.{inclusion_result, memory_lacks}
 use Rattle.htl_blocks.proofs.sheet.Sheet.include_kept.Goals as goal
 
 pub returns : goal.returns
@@ -16,5 +16,5 @@ returns c =
 pub returns-in_err-push_text : goal.returns-in_err-push_text
 returns-in_err-push_text c =
     let over = rw c.replace-text.ensures.value at c.in_err-push_text.ensures.fault in
-    let stopped = text_stops c.in_err-push_text.field-0.0 c.args.self.now c.self.inside.of c.self.inside.keeping c.self.inside.pieces (string_bytes c.self.inside.tail) c.self.inside.rounds c.args.self.now (piece_parts c.args.self.now.scope c.args.piece) c.self.view_is over in
+    let stops : Stops c.in_err-push_text.field-0.0 c.args.self.now (piece_parts c.args.self.now.scope c.args.piece) = λ known. absurd (memory_lacks c.in_err-push_text.field-0.0 c.self.inside.pieces (string_bytes c.self.inside.tail) c.self.invariant.1 over known) in
     search rules

@@ -2,10 +2,11 @@
 use Rattle.std.specs.Prelude.{◌≡◌, ℕ, ℤ, not, ◌||◌, ◌++◌, List, [], ◌∷◌, map, Bool, true, false, Option, Some, None, is_some, unwrap_or, if◌then◌else◌, ⊤}
 use Rattle.std.specs.Bool.{MatchBool}
 use Rattle.std.specs.Borrow.{Bor}
+use Rattle.std.specs.BTreeMap.{BTreeMap}
 use Rattle.sp_base.specs.Texts.{Segments, Text as Bytes, Properties}
 use Rattle.sp_base.specs.declared.value.Value.{Value}
 use Rattle.sp_base.specs.declared.value.Value.TheVariants.{Text, Long, Truth, Texts, Longs, Truths}
-use Rattle.serde_json.specs.Data.{Data, null, boolean, number, string, array, object, Items, no_items, item, Members, no_members, member}
+use Rattle.serde_json.specs.Data.{Data, null, boolean, number, string, array, object, Items, no_items, item, Members, no_members, member, put}
 use Rattle.serde_json.specs.Find.{of_integer, get_member}
 use Rattle.resource_tree.specs.declared.nodes.Node.{Node}
 use Rattle.resource_tree.specs.Content.{Content, kid}
@@ -97,6 +98,20 @@ AreMemberParts levels path (e ∷ es) (member name d ms) = (e.0.now ≡ name) ×
 abbrev pub HoldsMembers : ℕ → Segments → OpenObject → Members → Type 0
 HoldsMembers levels path parent ms = AreMemberParts levels path parent.members.entries ms
 
+-- so it is with one member more, whose value the part is made of, in place of a former one of its name
+abbrev pub TakesMemberIn : Bytes → Part → OpenObject → OpenObject → Type 0
+TakesMemberIn name part before after = (levels : ℕ) (path : Segments) (d : Data) (ms : Members) → IsMemberPart levels path name part d
+    → HoldsMembers levels path before ms → HoldsMembers levels path after (put name d ms)
+
+-- this is so of the members that the parts are made of, wherever their object stands
+abbrev pub IfHoldsMembers : BTreeMap (Bor Bytes) Part → (Members → Type 0) → Type 0
+IfHoldsMembers parts IsSo = (levels : ℕ) (path : Segments) (ms : Members) → HoldsMembers levels path (record { members = parts }) ms → IsSo ms
+
+-- this is so of them where none is unfit
+abbrev pub IfHoldsFitMembers : BTreeMap (Bor Bytes) Part → (Members → Type 0) → Type 0
+IfHoldsFitMembers parts IsSo = (levels : ℕ) (path : Segments) (ms : Members) → HoldsMembers levels path (record { members = parts }) ms
+    → has_unfit levels ms ≡ false → IsSo ms
+
 -- what is made of the object at a path
 abbrev pub IsObjectPart : ℕ → Segments → Part → Members → Type 0
 IsObjectPart levels path part.Nothing ms = ⊥
@@ -104,11 +119,20 @@ IsObjectPart levels path (part.Value value) ms = ⊥
 IsObjectPart levels path (part.Kid sprout) ms = (is_unfit_object levels ms ≡ false) × (nodes_of sprout.value ≡ nodes_in path (object ms))
 IsObjectPart levels path part.Unfit ms = is_unfit_object levels ms ≡ true
 
+-- the part is made of the object at a path, whatever members this is kept of
+abbrev pub IsMadeOfMembers : Segments → OpenObject → Part → Type 0
+IsMadeOfMembers path parent part = (levels : ℕ) (ms : Members) → HoldsMembers levels path parent ms → IsObjectPart levels path part ms
+
 -- a fit member adds its value or its nodes; one that isn't is told
-abbrev pub AddsPart : ℕ → Segments → Bytes → Data → Bool → Properties → Properties → List Placed → List Placed → Type 0
-AddsPart levels path name d done props more below lower = MatchBool done
+abbrev pub AddsMember : ℕ → Segments → Bytes → Data → Bool → Properties → Properties → List Placed → List Placed → Type 0
+AddsMember levels path name d done props more below lower = MatchBool done
     ((is_unfit_member levels name d ≡ false) × (more ≡ with_member name d props) × (map entry_of lower ≡ map entry_of below ++ member_nodes path name d))
     (is_unfit_member levels name d ≡ true)
+
+-- the part adds what the member does that it is made of
+abbrev pub AddsPart : Bytes → Part → Properties → Properties → List Placed → List Placed → Bool → Type 0
+AddsPart name part props more below lower done = (levels : ℕ) (path : Segments) (d : Data) → IsMemberPart levels path name part d
+    → AddsMember levels path name d done props more below lower
 
 -- ---- the kids
 

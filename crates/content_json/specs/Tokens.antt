@@ -1,16 +1,18 @@
 -- What proofs and private functions need: what tokens of JSON begin with, and what is made of it.
-use Rattle.std.specs.Prelude.{◌≡◌, ◌+◌, ◌==◌, ℕ, List, [], ◌∷◌, length, Bool, true, false, Option, Some, None, option_map, is_some, MatchOption}
+use Rattle.std.specs.Prelude.{◌≡◌, ◌<◌, ◌+◌, ◌==◌, ℕ, ℤ, List, [], ◌∷◌, length, Bool, true, false, Option, Some, None, option_map, option_and_then, is_some, MatchOption}
 use Rattle.std.specs.Bool.{MatchBool}
 use Rattle.sp_base.specs.Texts.{Segments, Text as Bytes}
+use Rattle.sp_base.specs.Paths.{most_segments}
 use Rattle.sp_base.specs.declared.value.Value.{Value}
 use Rattle.sp_base.specs.declared.value.Value.TheVariants.{Texts, Longs, Truths}
 use Rattle.json.specs.Token.{Token}
 use Rattle.json.specs.Token as token
 use Rattle.json.specs.Json as json
 use Rattle.serde_json.specs.Data.{Num, Data, null, boolean, number, string, array, object, Items, no_items, item, Members, no_members}
+use Rattle.serde_json.specs.Find.{as_i64, of_integer}
 use Rattle.serde_json.specs.Read.{number_of, of_json, of_items, of_members, converted, read}
 use Rattle.resource_tree.specs.Content.{Content}
-use Rattle.property_json.specs.PropertyJson.{has_longs}
+use Rattle.property_json.specs.PropertyJson.{fits_i64, has_longs}
 use Rattle.content_json.specs.declared.part.Part.{Part}
 use Rattle.content_json.specs.declared.part.Part.TheVariants as part
 use Rattle.content_json.specs.declared.open_object.OpenObject.{OpenObject}
@@ -106,19 +108,35 @@ IsValuePart (part.Value value) d = IsOfValue value d
 IsValuePart (part.Kid sprout) d = ⊥
 IsValuePart part.Unfit d = is_some (fault_in d) ≡ true
 
+-- the number as one of 64 bits with a sign; there is none where it isn't such a one
+abbrev pub IsLongOf : Option Num → Option ℤ → Type 0
+IsLongOf given found = MatchOption found (option_and_then as_i64 given ≡ None) (λ long. (given ≡ Some (of_integer long)) × (fits_i64 long ≡ true))
+
 abbrev pub IsNumberPart : Option Num → Part → Type 0
 IsNumberPart found made = (n : Num) × (found ≡ Some n) × IsValuePart made (number n)
 
 abbrev pub ReadsItems : ℕ → List Token → List Token → Part → Type 0
 ReadsItems depth ts rest made = (ds : Items) × (items_of_tokens depth ts ≡ Some (ds, rest)) × IsValuePart made (array ds)
 
+-- or nothing, where the tokens begin with no items up to a closing bracket
+abbrev pub ReadsItemsIfThere : ℕ → List Token → List Token → Option Part → Type 0
+ReadsItemsIfThere depth ts rest found = MatchOption found (items_of_tokens depth ts ≡ None) (ReadsItems depth ts rest)
+
 -- of a list, from an item on that is none
 abbrev pub EndsUnfit : ℕ → ℕ → List Token → List Token → Option Part → Type 0
 EndsUnfit n depth ts rest found = MatchOption found (items_within n depth ts ≡ None)
     (λ made. (made ≡ part.Unfit) × (d : Data) × (r : List Token) × (value_of_tokens depth ts ≡ Some (d, r)) × (ds : Items) × (items_within n depth ts ≡ Some (item d ds, rest)))
 
+-- so it ends from the item on that begins with this token, if the list isn't over there
+abbrev pub EndsUnfitFrom : ℕ → Token → List Token → List Token → Option Part → Type 0
+EndsUnfitFrom depth token ts rest found = (n : ℕ) → length ts < n → json.after_end_array (token ∷ ts) ≡ None → EndsUnfit n depth (token ∷ ts) rest found
+
 abbrev pub ReadsValue : ℕ → List Token → List Token → Part → Type 0
 ReadsValue depth ts rest made = (d : Data) × (value_of_tokens depth ts ≡ Some (d, rest)) × IsValuePart made d
+
+-- or nothing, where the tokens begin with no value
+abbrev pub ReadsValueIfThere : ℕ → List Token → List Token → Option Part → Type 0
+ReadsValueIfThere depth ts rest found = MatchOption found (value_of_tokens depth ts ≡ None) (ReadsValue depth ts rest)
 
 -- how deep values may nest in a member beside the levels of nodes: 127 in all, without the top and 64 levels
 abbrev pub depth_beside_levels : ℕ
@@ -128,13 +146,25 @@ depth_beside_levels = 62
 abbrev pub ReadsPart : ℕ → Segments → Bytes → List Token → List Token → Part → Type 0
 ReadsPart levels path name ts rest made = (d : Data) × (value_of_tokens (levels + depth_beside_levels) ts ≡ Some (d, rest)) × IsMemberPart levels path name made d
 
+-- or nothing, where the tokens begin with no value
+abbrev pub ReadsPartIfThere : ℕ → Segments → Bytes → List Token → List Token → Option Part → Type 0
+ReadsPartIfThere levels path name ts rest found = MatchOption found (value_of_tokens (levels + depth_beside_levels) ts ≡ None) (ReadsPart levels path name ts rest)
+
 -- of all members of an object up to its closing brace
 abbrev pub ReadsMembers : ℕ → Segments → OpenObject → List Token → List Token → Type 0
 ReadsMembers levels path after ts rest = (ms : Members) × (members_of_tokens (levels + depth_beside_levels) ts ≡ Some (ms, rest)) × HoldsMembers levels path after ms
 
--- and of the object
+-- or it is told that the tokens begin with no members up to a closing brace
+abbrev pub ReadsMembersIfThere : ℕ → Segments → OpenObject → List Token → List Token → Bool → Type 0
+ReadsMembersIfThere levels path after ts rest done = MatchBool done (ReadsMembers levels path after ts rest) (members_of_tokens (levels + depth_beside_levels) ts ≡ None)
+
+-- of the object that these members make
 abbrev pub ReadsObject : ℕ → Segments → List Token → List Token → Part → Type 0
 ReadsObject levels path ts rest made = (ms : Members) × (members_of_tokens (levels + depth_beside_levels) ts ≡ Some (ms, rest)) × IsObjectPart levels path made ms
+
+-- or nothing, where the tokens begin with no members up to a closing brace
+abbrev pub ReadsObjectIfThere : ℕ → Segments → List Token → List Token → Option Part → Type 0
+ReadsObjectIfThere levels path ts rest found = MatchOption found (members_of_tokens (levels + depth_beside_levels) ts ≡ None) (ReadsObject levels path ts rest)
 
 -- the text is sound content, and these are its nodes
 abbrev pub IsSoundContent : List ℕ → Content → Type 0
@@ -143,3 +173,11 @@ IsSoundContent text nodes = (ms : Members) × (read text ≡ Some (object ms)) �
 -- an object that the text is isn't sound content
 abbrev pub IsUnsound : List ℕ → Type 0
 IsUnsound text = (ms : Members) → read text ≡ Some (object ms) → is_sound ms ≡ false
+
+-- the nodes of the object of these members, or none where it isn't sound content
+abbrev pub AreNodesIfSound : Members → Option Content → Type 0
+AreNodesIfSound ms found = MatchOption found (is_sound ms ≡ false) (λ nodes. (is_sound ms ≡ true) × (nodes ≡ map_of (nodes_in [] (object ms))))
+
+-- of the top that the part is made of
+abbrev pub AreTopNodesIfSound : Part → Option Content → Type 0
+AreTopNodesIfSound part found = (ms : Members) → IsObjectPart most_segments [] part ms → AreNodesIfSound ms found

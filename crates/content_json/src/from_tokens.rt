@@ -1,15 +1,12 @@
 // Reads content straight from the tokens of its JSON.
-ghost use Rattle.std.specs.Prelude.{◌≡◌, ◌≤◌, ◌+◌, ◌∷◌, [], Some, None, true, false, length, IfOk, OnOk, MatchOption, if◌then◌else◌};
-ghost use Rattle.std.specs.Bool.{MatchBool};
+ghost use Rattle.std.specs.Prelude.{◌≡◌, ◌≤◌, ◌+◌, ◌∷◌, Some, None, true, length, IfOk, OnOk, MatchOption, if◌then◌else◌};
 ghost use Rattle.json.specs.Token.{begin_object};
-ghost use Rattle.serde_json.specs.Data.{object, Members, no_members};
+ghost use Rattle.serde_json.specs.Data.{no_members};
 ghost use Rattle.sp_base.specs.Paths.{most_segments};
 ghost use Rattle.content_json.specs.ContentOf.{map_of};
-ghost use Rattle.content_json.specs.Nodes.{nodes_in};
-ghost use Rattle.content_json.specs.Steps.{is_sound};
 ghost use Rattle.content_json.specs.declared.part.Part.TheVariants as part;
-ghost use Rattle.content_json.specs.Parts.{IsObjectPart, HoldsMembers, may_stand, nodes_of};
-ghost use Rattle.content_json.specs.Tokens.{value_of_tokens, members_of_tokens, depth_beside_levels, ReadsPart, ReadsMembers, ReadsObject, IsSoundContent, IsUnsound};
+ghost use Rattle.content_json.specs.Parts.{HoldsMembers, may_stand, nodes_of};
+ghost use Rattle.content_json.specs.Tokens.{ReadsPartIfThere, ReadsMembersIfThere, ReadsObjectIfThere, IsSoundContent, IsUnsound, AreTopNodesIfSound};
 
 use crate::names::{is_content_name, is_order, kid_path};
 use crate::open_object::OpenObject;
@@ -49,8 +46,7 @@ pub(crate) fn nodes_of_text(alloc: Global, seeds: RandomState, text: &str) -> Me
 
 // The nodes of what is made of the top. There are none where it is unfit, or there are too many.
 fn nodes_of_part(alloc: Global, seeds: RandomState, part: Part) -> Mem<Option<NodeMap>>
-    ensures { IfOk result (λ found. (ms : Members) → IsObjectPart most_segments [] part ms
-        → MatchOption found (is_sound ms ≡ false) (λ nodes. (is_sound ms ≡ true) × (nodes ≡ map_of (nodes_in [] (object ms))))) }
+    ensures { IfOk result (AreTopNodesIfSound part) }
 {
     match part {
         Part::Kid(sprout) => {
@@ -90,8 +86,7 @@ fn read_object(
 ) -> Mem<Option<Part>>
     requires levels { length path + levels ≡ most_segments }
     ensures shorter { OnOk result (length reader.new ≤ length reader.old) }
-    ensures read { IfOk result (λ found. MatchOption found (members_of_tokens (levels + depth_beside_levels) reader.old ≡ None)
-        (ReadsObject levels path reader.old reader.new)) }
+    ensures read { IfOk result (ReadsObjectIfThere levels path reader.old reader.new) }
 {
     let mut own = OpenObject::new(alloc);
     if !read_members(alloc, reader, &path, levels, &mut own)? {
@@ -112,8 +107,7 @@ fn read_members<'a>(
     requires levels { length path.now + levels ≡ most_segments }
     requires fresh { HoldsMembers levels path.now parent.old no_members }
     ensures shorter { OnOk result (length reader.new ≤ length reader.old) }
-    ensures read { IfOk result (λ done. MatchBool done (ReadsMembers levels path.now parent.new reader.old reader.new)
-        (members_of_tokens (levels + depth_beside_levels) reader.old ≡ None)) }
+    ensures read { IfOk result (ReadsMembersIfThere levels path.now parent.new reader.old reader.new) }
 {
     'members: loop {
         let Ok(key) = reader.next_key() else {
@@ -147,8 +141,7 @@ fn read_member(
 ) -> Mem<Option<Part>>
     requires levels { length path.now + levels ≡ most_segments }
     ensures shorter { OnOk result (length reader.new ≤ length reader.old) }
-    ensures read { IfOk result (λ found. MatchOption found (value_of_tokens (levels + depth_beside_levels) reader.old ≡ None)
-        (ReadsPart levels path.now name.now reader.old reader.new)) }
+    ensures read { IfOk result (ReadsPartIfThere levels path.now name.now reader.old reader.new) }
 {
     let Some(first) = reader.next() else {
         return Ok(None);
@@ -176,8 +169,7 @@ fn read_kid(
     requires levels { length path.now + levels ≡ most_segments }
     requires named { may_stand name.now ≡ true }
     ensures shorter { OnOk result (length reader.new ≤ length reader.old) }
-    ensures read { IfOk result (λ found. MatchOption found (value_of_tokens (levels + depth_beside_levels) (begin_object ∷ reader.old) ≡ None)
-        (ReadsPart levels path.now name.now (begin_object ∷ reader.old) reader.new)) }
+    ensures read { IfOk result (ReadsPartIfThere levels path.now name.now (begin_object ∷ reader.old) reader.new) }
 {
     if levels == 0 {
         return Ok(unfit_if(pass_members(reader, DEPTH_BESIDE_LEVELS - 1)));

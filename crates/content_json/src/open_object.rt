@@ -1,13 +1,11 @@
 // An object of content of which some members were read.
-ghost use Rattle.std.specs.Prelude.{◌≡◌, ◌++◌, ◌&&◌, ℕ, false, not, IfOk, OnOk, filter, option_map, MatchOption};
-ghost use Rattle.std.specs.BTreeSet.{contains_by, IsOrdered};
+ghost use Rattle.std.specs.Prelude.{◌≡◌, ◌++◌, ◌&&◌, false, not, IfOk, OnOk, filter, option_map, MatchOption};
+ghost use Rattle.std.specs.BTreeSet.{contains_by};
 ghost use Rattle.std.specs.Cmp.Lexicographic.{slice_cmp};
 ghost use Rattle.std.specs.Ordering.{nat_cmp};
-ghost use Rattle.serde_json.specs.Data.{Data, Members};
-ghost use Rattle.sp_base.specs.Texts.{Segments};
 ghost use Rattle.content_json.specs.Names.{is_order, is_kid};
 ghost use Rattle.content_json.specs.Faults.{has_good_order};
-ghost use Rattle.content_json.specs.Parts.{HoldsMembers, IsMemberPart, Lists, NamesKids, listed_in, AddsPart, is_kid_part, kid_keys, has_unfit};
+ghost use Rattle.content_json.specs.Parts.{IfHoldsMembers, IfHoldsFitMembers, Lists, NamesKids, listed_in, AddsPart, is_kid_part, kid_keys};
 
 use crate::names::{ORDER, is_order};
 use crate::part::{Part, Placed, Sprout};
@@ -23,10 +21,10 @@ pub(crate) struct OpenObject<'a> {
 }
 
 impl<'a> OpenObject<'a> {
-    ghost use Rattle.std.specs.Prelude.{◌≡◌, ℕ, IfOk, OnOk};
-    ghost use Rattle.serde_json.specs.Data.{Data, Members, no_members, put};
+    ghost use Rattle.std.specs.Prelude.{ℕ, IfOk, OnOk};
+    ghost use Rattle.serde_json.specs.Data.{no_members};
     ghost use Rattle.sp_base.specs.Texts.{Segments};
-    ghost use Rattle.content_json.specs.Parts.{HoldsMembers, IsMemberPart, IsObjectPart};
+    ghost use Rattle.content_json.specs.Parts.{HoldsMembers, TakesMemberIn, IsMadeOfMembers};
 
     pub(crate) fn new(alloc: Global) -> OpenObject<'a>
         ensures { (levels : ℕ) (path : Segments) → HoldsMembers levels path result no_members }
@@ -38,8 +36,7 @@ impl<'a> OpenObject<'a> {
 
     /// Takes a member in, in place of a former one of its name.
     pub(crate) fn put(&mut self, name: &'a str, part: Part) -> Mem<()>
-        ensures { OnOk result ((levels : ℕ) (path : Segments) (d : Data) (ms : Members) → IsMemberPart levels path name.entry.now part d
-            → HoldsMembers levels path self.old ms → HoldsMembers levels path self.new (put name.entry.now d ms)) }
+        ensures { OnOk result (TakesMemberIn name.entry.now part self.old self.new) }
     {
         drop(self.members.insert(name, part)?);
         Ok(())
@@ -47,7 +44,7 @@ impl<'a> OpenObject<'a> {
 
     /// What the object at a path makes of the one that it is a member of.
     pub(crate) fn into_part(self, alloc: Global, path: Path) -> Mem<Part>
-        ensures { IfOk result (λ part. (levels : ℕ) (ms : Members) → HoldsMembers levels path self.entry ms → IsObjectPart levels path part ms) }
+        ensures { IfOk result (IsMadeOfMembers path self.entry) }
     {
         let Some(kids) = kids_in_order(alloc, &self.members)? else {
             return Ok(Part::Unfit);
@@ -73,8 +70,7 @@ fn add_part(
     name: &str,
     part: Part,
 ) -> Mem<bool>
-    ensures { IfOk result (λ done. (levels : ℕ) (path : Segments) (d : Data) → IsMemberPart levels path name.now part d
-        → AddsPart levels path name.now d done props.old props.new below.old.items below.new.items) }
+    ensures { IfOk result (AddsPart name.now part props.old props.new below.old.items below.new.items) }
 {
     if is_order(name) {
         return Ok(true);
@@ -110,8 +106,7 @@ fn listed_in(part: &Part) -> Option<&[TextBuf]>
 
 // What `:order` lists. There is no answer where it is no list of texts.
 fn listed_names<'m>(members: &'m BTreeMap<&str, Part>) -> Option<&'m [TextBuf]>
-    ensures { (levels : ℕ) (path : Segments) (ms : Members) → HoldsMembers levels path (record { members = members.now }) ms
-        → MatchOption result (has_good_order ms ≡ false) (λ names. Lists ms names.now) }
+    ensures { IfHoldsMembers members.now (λ ms. MatchOption result (has_good_order ms ≡ false) (λ names. Lists ms names.now)) }
 {
     match members.get(ORDER) {
         Some(part) => listed_in(part),
@@ -127,8 +122,7 @@ fn is_kid_part(name: &str, part: &Part) -> bool
 }
 
 fn is_kid(members: &BTreeMap<&str, Part>, name: &str) -> bool
-    ensures { (levels : ℕ) (path : Segments) (ms : Members) → HoldsMembers levels path (record { members = members.now }) ms
-        → has_unfit levels ms ≡ false → result ≡ (not (is_order name.now) && is_kid ms name.now) }
+    ensures { IfHoldsFitMembers members.now (λ ms. result ≡ (not (is_order name.now) && is_kid ms name.now)) }
 {
     match members.get(name) {
         Some(part) => is_kid_part(name, part),
@@ -138,8 +132,7 @@ fn is_kid(members: &BTreeMap<&str, Part>, name: &str) -> bool
 
 // The names of the kids, those first that `:order` lists. There is no answer where it lists another name, or one twice, or is no list.
 fn kids_in_order(alloc: Global, members: &BTreeMap<&str, Part>) -> Mem<Option<TextList>>
-    ensures { IfOk result (λ found. (levels : ℕ) (path : Segments) (ms : Members) → HoldsMembers levels path (record { members = members.now }) ms
-        → has_unfit levels ms ≡ false → MatchOption found (has_good_order ms ≡ false) (NamesKids ms)) }
+    ensures { IfOk result (λ found. IfHoldsFitMembers members.now (λ ms. MatchOption found (has_good_order ms ≡ false) (NamesKids ms))) }
 {
     let Some(listed) = listed_names(members) else {
         return Ok(None);

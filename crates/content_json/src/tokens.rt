@@ -1,13 +1,11 @@
 // The values of properties, read from the tokens of JSON.
-ghost use Rattle.std.specs.Prelude.{◌≡◌, ◌<◌, ◌≤◌, ◌∷◌, ℕ, None, Some, true, false, length, IfOk, OnOk, MatchOption, option_and_then};
-ghost use Rattle.json.specs.Json.{after_end_array};
+ghost use Rattle.std.specs.Prelude.{◌≡◌, ◌<◌, ◌≤◌, ◌∷◌, None, true, false, length, IfOk, OnOk, MatchOption};
 ghost use Rattle.json.specs.Reads.{token_of};
-ghost use Rattle.serde_json.specs.Data.{Data, boolean, number, string};
-ghost use Rattle.serde_json.specs.Find.{as_i64, of_integer};
+ghost use Rattle.serde_json.specs.Data.{boolean, string};
 ghost use Rattle.serde_json.specs.Read.{number_from, number_of};
 ghost use Rattle.property_json.specs.PropertyJson.{fits_i64};
 ghost use Rattle.content_json.specs.Parts.{data_of_long};
-ghost use Rattle.content_json.specs.Tokens.{value_of_tokens, items_of_tokens, is_begin_object, is_open_list, IsList, HasItemMore, Mixes, MixesWith, AddsToken, ReadsValue, ReadsItems, IsNumberPart, EndsUnfit};
+ghost use Rattle.content_json.specs.Tokens.{is_begin_object, is_open_list, IsList, HasItemMore, Mixes, MixesWith, AddsToken, ReadsValueIfThere, ReadsItemsIfThere, IsLongOf, IsNumberPart, EndsUnfitFrom};
 
 use crate::part::Part;
 use crate::pass::{has_minus, has_number, pass_items, pass_value};
@@ -18,8 +16,7 @@ use std::alloc::Global;
 
 // The number whose digits stand after a minus. `-0` is none, since JSON is read with a float there.
 fn negative(numeral: &Numeral<'_>) -> Option<i64>
-    ensures { MatchOption result (option_and_then as_i64 (number_from true numeral.now) ≡ None)
-        (λ number. (number_from true numeral.now ≡ Some (of_integer number)) × (fits_i64 number ≡ true)) }
+    ensures { IsLongOf (number_from true numeral.now) result }
 {
     match numeral.to_i64(true) {
         Some(number) if number < 0 => Some(number),
@@ -28,16 +25,14 @@ fn negative(numeral: &Numeral<'_>) -> Option<i64>
 }
 
 fn unsigned(numeral: &Numeral<'_>) -> Option<i64>
-    ensures { MatchOption result (option_and_then as_i64 (number_from false numeral.now) ≡ None)
-        (λ number. (number_from false numeral.now ≡ Some (of_integer number)) × (fits_i64 number ≡ true)) }
+    ensures { IsLongOf (number_from false numeral.now) result }
 {
     numeral.to_i64(false)
 }
 
 // The number of a token, where it is written as a whole number of 64 bits with a sign.
 fn long_of(text: &str) -> Option<i64>
-    ensures { MatchOption result (option_and_then as_i64 (number_of text.now) ≡ None)
-        (λ number. (number_of text.now ≡ Some (of_integer number)) × (fits_i64 number ≡ true)) }
+    ensures { IsLongOf (number_of text.now) result }
 {
     let bytes = text.as_bytes();
     if has_minus(bytes) {
@@ -136,8 +131,7 @@ fn with_item(alloc: Global, list: Value, item: Token<'_>) -> Mem<Option<Value>>
 // What is made of a list of which no value comes, from the item on that begins with this token.
 fn unfit_list(reader: &mut Reader<'_>, item: Token<'_>, depth: usize) -> Option<Part>
     ensures shorter { length reader.new ≤ length reader.old }
-    ensures read { (n : ℕ) → length reader.old < n → after_end_array (token_of item.entry ∷ reader.old) ≡ None
-        → EndsUnfit n depth (token_of item.entry ∷ reader.old) reader.new result }
+    ensures read { EndsUnfitFrom depth (token_of item.entry) reader.old reader.new result }
 {
     if !pass_value(reader, item, depth) {
         return None;
@@ -151,7 +145,7 @@ fn unfit_list(reader: &mut Reader<'_>, item: Token<'_>, depth: usize) -> Option<
 // The list after its opening bracket, in whose items values may nest as deep.
 fn list(alloc: Global, reader: &mut Reader<'_>, depth: usize) -> Mem<Option<Part>>
     ensures shorter { OnOk result (length reader.new ≤ length reader.old) }
-    ensures read { IfOk result (λ found. MatchOption found (items_of_tokens depth reader.old ≡ None) (ReadsItems depth reader.old reader.new)) }
+    ensures read { IfOk result (ReadsItemsIfThere depth reader.old reader.new) }
 {
     // An array without items is one of texts.
     let mut list = Value::Texts(TextList::new(alloc));
@@ -211,8 +205,7 @@ pub(crate) fn value_part(
     requires nests { 0 < depth }
     requires no_object { is_begin_object (token_of first) ≡ false }
     ensures shorter { OnOk result (length reader.new ≤ length reader.old) }
-    ensures read { IfOk result (λ found. MatchOption found (value_of_tokens depth (token_of first.entry ∷ reader.old) ≡ None)
-        (ReadsValue depth (token_of first.entry ∷ reader.old) reader.new)) }
+    ensures read { IfOk result (ReadsValueIfThere depth (token_of first.entry ∷ reader.old) reader.new) }
 {
     match first {
         Token::Null => Ok(Some(Part::Nothing)),

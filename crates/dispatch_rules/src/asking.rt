@@ -15,7 +15,15 @@ pub fn ask_of(alloc: Global, farm: &Farm, req: &mut Req) -> Mem<Ask>
     ensures same { req.new ≡ req.old }
 {
     let body = posted_body(alloc, req)?;
-    let kind = if req.method() == "POST" { media_type(req) } else { "" };
+    ask_with(alloc, farm, req, body)
+}
+
+// What is asked with this body.
+fn ask_with(alloc: Global, farm: &Farm, req: &Req, body: ByteBuf) -> Mem<Ask>
+    ensures { IfOk result (λ ask. ask ≡ record (spec.publisher_ask farm.now req.now) { body = body }) }
+{
+    let post = req.method() == "POST";
+    let kind = if post { media_type(req) } else { "" };
     Ok(Ask {
         method: TextBuf::of(alloc, req.method())?,
         host: farm.ask_host.duplicate(alloc)?,

@@ -38,7 +38,11 @@ impl Cache {
         ensures ask { IfOk result (λ ask. (flying : model.Flying) → slice_get self.old.flying at ≡ Some flying → ask ≡ publisher_ask self.old.core.farm flying.request) }
         ensures same { self.new ≡ self.old }
     {
-        ask_of(alloc, self.core.farm(), &mut self.flights[at].flying.request)
+        ask_of(
+            alloc,
+            self.core.farm(),
+            &mut self.flights[at].flying.request,
+        )
     }
 
     /// The flight that stands there is rendered. Its number is given.

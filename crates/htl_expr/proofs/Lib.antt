@@ -6,6 +6,7 @@ pub mod Chains
 pub mod Trees
 pub mod SameItems
 pub mod PieceLemmas
+pub mod Cursors
 pub mod Items
 pub mod Places
 pub mod Remembered

@@ -116,12 +116,6 @@ pub told_at_place : (xs ys : List (List ℕ)) (place : ℕ) → place < length x
     → false ≡ pointwise nat_eq (with_commas xs) (with_commas ys)
 told_at_place xs ys place lt more agree differ len = not_same (with_commas xs) (with_commas ys) (commas_differ xs ys place lt more agree.2 (differ lt more) len)
 
--- the text of one piece more and a comma
-pub text_with_piece : (texts : List (List ℕ)) (i : ℕ) (text new : List ℕ) → i < length texts → text ≡ with_commas (take i texts) → new ≡ text ++ (codes "," ++ get_or texts i []) → new ≡ with_commas (take (i + 1) texts)
-text_with_piece texts i text new lt known is =
-    is ∙ ap (λ (l : List ℕ). l ++ (codes "," ++ get_or texts i [])) known ∙ ap (λ (l : List ℕ). with_commas (take i texts) ++ l) (sym (append-nil (codes "," ++ get_or texts i [])))
-    ∙ sym (commas_append (take i texts) (get_or texts i [] ∷ [])) ∙ ap with_commas (sym (take_more texts i [] lt))
-
 -- one piece more and a comma
 pub longer_by_piece : (texts : List (List ℕ)) (i len more new : ℕ) → i < length texts → len ≡ length (with_commas (take i texts)) → more ≡ length (get_or texts i []) → new ≡ len + (1 + more) → new ≡ length (with_commas (take (i + 1) texts))
 longer_by_piece texts i len more new lt known is sum =

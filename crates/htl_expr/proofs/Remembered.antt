@@ -13,10 +13,12 @@ use Rattle.std.specs.declared.cmp.Ordering.TheVariants.{Less, Equal, Greater}
 use Rattle.std.specs.Cmp.Lexicographic.{slice_cmp, pointwise, pointwise_decides, lists_ties, texts_ties}
 use Rattle.htl_expr.specs.Bindings.{Bindings}
 use Rattle.htl_expr.specs.declared.numbered.Aspect.{Aspect}
+use Rattle.htl_expr.specs.declared.pieces.ItemPiece.{ItemPiece}
+use Rattle.htl_expr.specs.declared.pieces.ItemPiece.TheVariants as piece
 use Rattle.htl_expr.specs.declared.scope.Scope.{Scope}
 use Rattle.htl_expr.specs.ComparedValue.{by_texts, number_in, TellsApart, AreNumbered, KeepsNumbers}
 use Rattle.htl_expr.specs.Lent.{property_item}
-use Rattle.htl_expr.specs.Remembered.{compared_by, Knows, RemembersJoined, RemembersItemTexts}
+use Rattle.htl_expr.specs.Remembered.{compared_by, Knows, RemembersJoined, RemembersItemTexts, KeepsItemTexts, HasPieceText}
 use Rattle.htl_expr.specs.Print.{plain}
 use Rattle.sp_base.specs.Names.{by_name}
 use Rattle.htl_expr.specs.Value.{property}
@@ -157,3 +159,9 @@ remembers_more_items scope old new name text updates is known q =
 
 pub what_is_kept : (scope : Scope) (known : BTreeMap (List ℕ) (List ℕ)) (name text : List ℕ) → get by_name known name ≡ Some text → RemembersItemTexts scope known → text ≡ property_item scope name
 what_is_kept scope known name text is remembers = subst (λ (o : Option (List ℕ)). IfSome o (λ t. t ≡ property_item scope name)) is (remembers name)
+
+-- a piece that has its text keeps it
+pub has_text_still : (scope : Bindings) (old new : BTreeMap (List ℕ) (List ℕ)) (of_it : ItemPiece) → KeepsItemTexts old new → HasPieceText scope old of_it → HasPieceText scope new of_it
+has_text_still scope old new (piece.Property name) keeps has = λ e. keeps name.now (has e)
+has_text_still scope old new (piece.Text text) keeps has = tt
+has_text_still scope old new (piece.Long n) keeps has = tt

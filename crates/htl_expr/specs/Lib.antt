@@ -1,5 +1,6 @@
 pub mod Bindings
 pub mod ComparedValue
+pub mod Cursors
 pub mod Lent
 pub mod Listed
 pub mod Pieces

@@ -1,15 +1,19 @@
 //! What is found out of a resource while expressions are evaluated for it.
 
-ghost use Rattle.std.specs.Prelude.{◌≡◌, ◌++◌, [], IfOk, IfSome, OnOk, nat_eq, length, string_bytes};
+ghost use Rattle.std.specs.Prelude.{◌≡◌, ◌≤◌, [], IfOk, IfSome, nat_eq, length};
 ghost use Rattle.std.specs.Cmp.Lexicographic.{pointwise};
+ghost use Rattle.htl_expr.specs.Cursors.{piece_left, AreSameFor};
 ghost use Rattle.htl_expr.specs.Lent.{property_item, IsToldBy};
+ghost use Rattle.htl_expr.specs.Pieces.{item_piece_text};
 ghost use Rattle.htl_expr.specs.Remembered.{compared_by};
 ghost use Rattle.htl_expr.specs.Print.{plain};
 ghost use Rattle.htl_expr.specs.Value as spec;
 
 use crate::compare::{SameBy, same_by};
-use crate::kept::{is_item, item_len, push_item};
+use crate::cursor::{keep_pieces, pieces_same_behind};
+use crate::kept::{is_item, item_len};
 use crate::numbered::{Aspect, Numbering, has_one_number};
+use crate::pieces::ItemPiece;
 use crate::scope::{Scope, property};
 use sp_base::{Mem, TextBuf};
 use std::alloc::Global;
@@ -117,12 +121,23 @@ impl<'a> Evaluation<'a> {
         is_item(alloc, &self.scope, &mut self.item_texts, name, text)
     }
 
-    /// Adds the text of a property as an item of a list literal.
-    pub(crate) fn push_item(&mut self, text: &mut String, alloc: Global, name: &TextBuf) -> Mem<()>
-        ensures text { OnOk result (string_bytes text.new ≡ string_bytes text.old ++ property_item self.old name.now) }
+    /// For how many bytes two pieces are the same, behind so many of each and up to the end of one of them or of its comma. Nothing where
+    /// a byte differs.
+    pub(crate) fn same_behind(
+        &mut self,
+        alloc: Global,
+        a: &ItemPiece,
+        bytes: usize,
+        b: &ItemPiece,
+        other_bytes: usize,
+    ) -> Mem<Option<usize>>
+        requires within { bytes ≤ length (item_piece_text self.old a.now) }
+        requires within_other { other_bytes ≤ length (item_piece_text self.old b.now) }
+        ensures same { IfOk result (λ same. AreSameFor same (piece_left (item_piece_text self.old a.now) bytes) (piece_left (item_piece_text self.old b.now) other_bytes)) }
         ensures scope { self.new ≡ self.old }
     {
-        push_item(text, alloc, &self.scope, &mut self.item_texts, name)
+        keep_pieces(alloc, &self.scope, &mut self.item_texts, a, b)?;
+        Ok(pieces_same_behind(&self.scope, &self.item_texts, a, bytes, b, other_bytes))
     }
 
     /// Whether two properties have the same kind and the same content.

@@ -1,11 +1,12 @@
 //! The texts that properties have as items of list literals. That of a text is lent, and that of any other value is made once.
 
-ghost use Rattle.std.specs.Prelude.{◌≡◌, ◌++◌, IfOk, IfSome, OnOk, IsSome, length, nat_eq, string_bytes};
+ghost use Rattle.std.specs.Prelude.{◌≡◌, IfOk, IfSome, OnOk, IsSome, is_some, length, nat_eq};
 ghost use Rattle.std.specs.Cmp.Lexicographic.{pointwise};
 ghost use Rattle.std.specs.BTreeMap.{get};
 ghost use Rattle.sp_base.specs.Names.{by_name};
-ghost use Rattle.htl_expr.specs.Lent.{property_item};
-ghost use Rattle.htl_expr.specs.Remembered.{RemembersItemTexts};
+ghost use Rattle.htl_expr.specs.Lent.{property_item, is_lent_text};
+ghost use Rattle.htl_expr.specs.Remembered.{RemembersItemTexts, KeepsItemTexts, HasItemText};
+ghost use Rattle.htl_expr.specs.Value as spec;
 
 use crate::lent::Lent;
 use crate::out::item_text;
@@ -16,7 +17,8 @@ use std::collections::BTreeMap;
 
 // The text of a property that is a text.
 fn lent_item<'t>(scope: &'t Scope, name: &TextBuf) -> Option<&'t str>
-    ensures { IfSome result (λ text. text.now ≡ property_item scope.now name.now) }
+    ensures text { IfSome result (λ text. text.now ≡ property_item scope.now name.now) }
+    ensures lent { is_some result ≡ is_lent_text (spec.property scope.now name.now) }
 {
     match property(scope, name.text()) {
         Lent::Text(text) => Some(text),
@@ -31,18 +33,19 @@ fn made_item(alloc: Global, scope: &Scope, name: &TextBuf) -> Mem<TextBuf>
     item_text(alloc, &property(scope, name.text()))
 }
 
-// Makes the text of a property, unless it was made before.
-fn keep(
+/// Makes the text of a property, unless it is lent or was made before.
+pub(crate) fn keep(
     alloc: Global,
     scope: &Scope,
     texts: &mut BTreeMap<TextBuf, TextBuf>,
     name: &TextBuf,
 ) -> Mem<()>
     requires { RemembersItemTexts scope.now texts.old }
-    ensures kept { OnOk result (IsSome (get by_name texts.new name.now)) }
+    ensures has { OnOk result (HasItemText scope.now texts.new name.now) }
+    ensures keeps { OnOk result (KeepsItemTexts texts.old texts.new) }
     ensures texts { RemembersItemTexts scope.now texts.new }
 {
-    if texts.contains_key(name) {
+    if lent_item(scope, name).is_some() || texts.contains_key(name) {
         return Ok(());
     }
     let text = made_item(alloc, scope, name)?;
@@ -62,6 +65,22 @@ fn kept<'t>(scope: &Scope, texts: &'t BTreeMap<TextBuf, TextBuf>, name: &TextBuf
     texts[name].text()
 }
 
+/// The text of a property, which is lent or was made before.
+pub(crate) fn item<'t>(
+    scope: &'t Scope,
+    texts: &'t BTreeMap<TextBuf, TextBuf>,
+    name: &TextBuf,
+) -> &'t str
+    requires texts { RemembersItemTexts scope.now texts.now }
+    requires has { HasItemText scope.now texts.now name.now }
+    ensures { result.now ≡ property_item scope.now name.now }
+{
+    match lent_item(scope, name) {
+        Some(text) => text,
+        None => kept(scope, texts, name),
+    }
+}
+
 /// How many bytes the text of a property has.
 pub(crate) fn item_len(
     alloc: Global,
@@ -73,11 +92,8 @@ pub(crate) fn item_len(
     ensures len { IfOk result (λ len. len ≡ length (property_item scope.now name.now)) }
     ensures texts { RemembersItemTexts scope.now texts.new }
 {
-    if let Some(text) = lent_item(scope, name) {
-        return Ok(text.len());
-    }
     keep(alloc, scope, texts, name)?;
-    Ok(kept(scope, texts, name).len())
+    Ok(item(scope, texts, name).len())
 }
 
 /// Whether a property has this text.
@@ -92,30 +108,6 @@ pub(crate) fn is_item(
     ensures same { IfOk result (λ same. same ≡ pointwise nat_eq (property_item scope.now name.now) text.now) }
     ensures texts { RemembersItemTexts scope.now texts.new }
 {
-    if let Some(item) = lent_item(scope, name) {
-        return Ok(item == text);
-    }
     keep(alloc, scope, texts, name)?;
-    Ok(kept(scope, texts, name) == text)
-}
-
-/// Adds the text of a property.
-pub(crate) fn push_item(
-    text: &mut String,
-    alloc: Global,
-    scope: &Scope,
-    texts: &mut BTreeMap<TextBuf, TextBuf>,
-    name: &TextBuf,
-) -> Mem<()>
-    requires { RemembersItemTexts scope.now texts.old }
-    ensures text { OnOk result (string_bytes text.new ≡ string_bytes text.old ++ property_item scope.now name.now) }
-    ensures texts { RemembersItemTexts scope.now texts.new }
-{
-    if let Some(item) = lent_item(scope, name) {
-        text.push_str(item)?;
-        return Ok(());
-    }
-    keep(alloc, scope, texts, name)?;
-    text.push_str(kept(scope, texts, name))?;
-    Ok(())
+    Ok(item(scope, texts, name) == text)
 }

@@ -4,6 +4,7 @@
 mod classes;
 mod compare;
 mod compared_value;
+mod cursor;
 mod empty_join;
 mod escape;
 mod evaluation;

@@ -1,10 +1,12 @@
 //! The pieces of which the text of an item of a list literal is put together.
 
-ghost use Rattle.std.specs.Prelude.{◌≡◌, ◌<◌, ◌+◌, ◌∷◌, ◌++◌, [], List, IfOk, OnOk, nat_eq, length, get_or, flat_map, codes, string_bytes, true};
+ghost use Rattle.std.specs.Prelude.{◌≡◌, ◌<◌, ◌≤◌, ◌+◌, ◌∷◌, [], List, IfOk, IfSome, OnOk, nat_eq, length, get_or, flat_map, true};
 ghost use Rattle.std.specs.Cmp.Lexicographic.{pointwise};
+ghost use Rattle.htl_expr.specs.Cursors.{piece_behind, left_behind, StandsIn, GoesOn, AreSameFor};
 ghost use Rattle.htl_expr.specs.declared.pieces.ItemPiece.{ItemPiece};
 ghost use Rattle.htl_expr.specs.Pieces.{item_piece_text, piece_texts, with_commas, AgreeUpTo, DifferAt, AreAsLongAt};
 
+use crate::cursor::Cursor;
 use crate::evaluation::Evaluation;
 use crate::lists::long_text;
 use sp_base::{Mem, NoMemory, TextBuf};
@@ -84,24 +86,6 @@ fn piece_len(alloc: Global, scope: &mut Evaluation, piece: &ItemPiece) -> Mem<us
         ItemPiece::Text(text) => Ok(text.len()),
         ItemPiece::Long(number) => Ok(long_text(alloc, *number)?.text().len()),
     }
-}
-
-// Adds the text of a piece.
-fn push_piece(
-    text: &mut String,
-    alloc: Global,
-    scope: &mut Evaluation,
-    piece: &ItemPiece,
-) -> Mem<()>
-    ensures text { OnOk result (string_bytes text.new ≡ string_bytes text.old ++ item_piece_text scope.old piece.now) }
-    ensures scope { scope.new ≡ scope.old }
-{
-    match piece {
-        ItemPiece::Property(name) => scope.push_item(text, alloc, name)?,
-        ItemPiece::Text(more) => text.push_str(more)?,
-        ItemPiece::Long(number) => text.push_str(long_text(alloc, *number)?.text())?,
-    }
-    Ok(())
 }
 
 #[tactic(auto, using(crate::proofs::SameItems::get_or_of_map))]
@@ -193,52 +177,114 @@ fn is_as_long_at(
     Ok(first == second)
 }
 
-// Adds a comma and the text of the piece at a place.
+// For how many bytes two items are the same behind their cursors, up to the end of a piece or a comma. Nothing where a byte differs.
 #[tactic(auto, using(crate::proofs::SameItems::get_or_of_map))]
-fn push_piece_at(
-    text: &mut String,
+fn same_behind(
+    alloc: Global,
+    scope: &mut Evaluation,
+    a: &[ItemPiece],
+    first: &Cursor,
+    b: &[ItemPiece],
+    second: &Cursor,
+) -> Mem<Option<usize>>
+    requires within { first.now.place < length a.now }
+    requires within_other { second.now.place < length b.now }
+    requires stands { StandsIn (piece_texts scope.old a.now) first.now }
+    requires stands_other { StandsIn (piece_texts scope.old b.now) second.now }
+    ensures same { IfOk result (λ same. AreSameFor same (piece_behind (piece_texts scope.old a.now) first.now) (piece_behind (piece_texts scope.old b.now) second.now)) }
+    ensures scope { scope.new ≡ scope.old }
+{
+    scope.same_behind(
+        alloc,
+        &a[first.place],
+        first.bytes,
+        &b[second.place],
+        second.bytes,
+    )
+}
+
+// Goes on by so many bytes of the piece there, and behind its last byte to the piece after it.
+fn advance(
     alloc: Global,
     scope: &mut Evaluation,
     pieces: &[ItemPiece],
-    place: usize,
+    cursor: &mut Cursor,
+    more: usize,
 ) -> Mem<()>
-    requires { place < length pieces.now }
-    ensures text { OnOk result (string_bytes text.new ≡ string_bytes text.old ++ (codes "," ++ get_or (piece_texts scope.old pieces.now) place [])) }
+    requires within { cursor.old.place < length pieces.now }
+    requires stands { StandsIn (piece_texts scope.old pieces.now) cursor.old }
+    requires more { more ≤ length (piece_behind (piece_texts scope.old pieces.now) cursor.old) }
+    ensures on { OnOk result (GoesOn (piece_texts scope.old pieces.now) cursor.old more cursor.new) }
     ensures scope { scope.new ≡ scope.old }
 {
-    text.push_str(",")?;
-    push_piece(text, alloc, scope, &pieces[place])
+    let len = len_at(alloc, scope, pieces, cursor.place)?;
+    *cursor = if more > len - cursor.bytes {
+        Cursor {
+            place: cursor.place + 1,
+            bytes: 0,
+        }
+    } else {
+        Cursor {
+            place: cursor.place,
+            bytes: cursor.bytes + more,
+        }
+    };
+    Ok(())
 }
 
-// The texts of the pieces, with a comma before each.
-fn text_with_commas(alloc: Global, scope: &mut Evaluation, pieces: &[ItemPiece]) -> Mem<TextBuf>
-    ensures text { IfOk result (λ text. text ≡ with_commas (piece_texts scope.old pieces.now)) }
+// Goes on behind what is the same, and says for how many bytes that is.
+fn go_on(
+    alloc: Global,
+    scope: &mut Evaluation,
+    a: &[ItemPiece],
+    first: &mut Cursor,
+    b: &[ItemPiece],
+    second: &mut Cursor,
+) -> Mem<Option<usize>>
+    requires within { first.old.place < length a.now }
+    requires within_other { second.old.place < length b.now }
+    requires stands { StandsIn (piece_texts scope.old a.now) first.old }
+    requires stands_other { StandsIn (piece_texts scope.old b.now) second.old }
+    ensures same { IfOk result (λ same. AreSameFor same (left_behind (piece_texts scope.old a.now) first.old) (left_behind (piece_texts scope.old b.now) second.old)) }
+    ensures first { IfOk result (λ same. IfSome same (λ more. GoesOn (piece_texts scope.old a.now) first.old more first.new)) }
+    ensures second { IfOk result (λ same. IfSome same (λ more. GoesOn (piece_texts scope.old b.now) second.old more second.new)) }
     ensures scope { scope.new ≡ scope.old }
 {
-    let mut text = String::new(alloc);
-    for place in 0..pieces.len() {
-        push_piece_at(&mut text, alloc, scope, pieces, place)?;
-    }
-    Ok(TextBuf::from(text))
+    let Some(more) = same_behind(alloc, scope, a, first, b, second)? else {
+        return Ok(None);
+    };
+    advance(alloc, scope, a, first, more)?;
+    advance(alloc, scope, b, second, more)?;
+    Ok(Some(more))
 }
 
-// Whether two items have the same text, by their bytes.
+// Whether two items that have as many bytes have the same text, by these. No text is put together.
 fn have_same_bytes(
     alloc: Global,
     scope: &mut Evaluation,
     a: &[ItemPiece],
     b: &[ItemPiece],
+    len: usize,
 ) -> Mem<bool>
+    requires len { len ≡ length (with_commas (piece_texts scope.old a.now)) }
+    requires other_len { len ≡ length (with_commas (piece_texts scope.old b.now)) }
     ensures same { IfOk result (λ same. same ≡ pointwise nat_eq (with_commas (piece_texts scope.old a.now)) (with_commas (piece_texts scope.old b.now))) }
     ensures scope { scope.new ≡ scope.old }
 {
-    let text = text_with_commas(alloc, scope, a)?;
-    let other = text_with_commas(alloc, scope, b)?;
-    Ok(text == other)
+    let mut first = Cursor { place: 0, bytes: 0 };
+    let mut second = Cursor { place: 0, bytes: 0 };
+    let mut left = len;
+    while left > 0 {
+        let Some(more) = go_on(alloc, scope, a, &mut first, b, &mut second)? else {
+            return Ok(false);
+        };
+        left -= more;
+    }
+    Ok(true)
 }
 
 /// Whether two items have the same text, by their pieces: they are the same, or the first that differ are as long, or all together are
-/// not as long. Where none of this tells, the texts are put together.
+/// not as long. Where none of this tells, their bytes are compared.
 pub(crate) fn have_same_text(
     alloc: Global,
     scope: &mut Evaluation,
@@ -260,5 +306,5 @@ pub(crate) fn have_same_text(
     if len != other_len {
         return Ok(false);
     }
-    have_same_bytes(alloc, scope, a, b)
+    have_same_bytes(alloc, scope, a, b, len)
 }

@@ -1,7 +1,8 @@
 -- The number that digits spell.
-use Rattle.std.proofs.Common.{◌≡◌, ◌<◌, ◌^◌, cond, ℕ, Bool, true, false, List, Some, None, Result, Ok, Err, length, codes, nat_eq, refl, ap, sym, arith}
+use Rattle.std.proofs.Common.{◌≡◌, ◌<◌, ◌&&◌, ◌^◌, cond, ℕ, Bool, true, false, List, [], ◌∷◌, Some, None, Result, Ok, Err, length, codes, nat_eq, refl, ap, sym, arith}
 use Rattle.std.specs.Prelude.{nat_lt}
-use Rattle.std.specs.List.{starts_with}
+use Rattle.std.specs.Char.{is_ascii_digit}
+use Rattle.std.specs.List.{list_all, starts_with}
 use Rattle.std.specs.Result.{result_ok, OkIff}
 use Rattle.std.specs.Str.{all_ascii_digits, bytes_eq}
 use Rattle.std.specs.Str.Parse.{ParsesUnsigned, digits_value}
@@ -10,6 +11,10 @@ use Rattle.std.proofs.lemmas.Bool.Decides.{nat_tests}
 use Rattle.std.proofs.lemmas.Str.Parse.{parse_digits}
 use Rattle.sp_base.proofs.TextLemmas.{digits_are_numerals}
 use Rattle.post_plan.specs.Plan.{is_numeral, place_number, place_at, place_named}
+
+pub all_digits : (word : List ℕ) → list_all is_ascii_digit word ≡ all_ascii_digits word
+all_digits [] = refl
+all_digits (b ∷ word) = ap (λ rest. is_ascii_digit b && rest) (all_digits word)
 
 record Spelled (word : List ℕ) : Type 0 where
   digits : all_ascii_digits word ≡ true

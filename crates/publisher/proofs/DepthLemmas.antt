@@ -1,5 +1,7 @@
 -- The number that a selector spells.
-use Rattle.std.proofs.Common.{◌≡◌, ◌<◌, ◌≤◌, ◌^◌, ℕ, true, List, Some, Result, length, ap, arith}
+use Rattle.std.proofs.Common.{◌≡◌, ◌<◌, ◌≤◌, ◌&&◌, ◌^◌, ℕ, true, List, [], ◌∷◌, Some, Result, length, refl, ap, arith}
+use Rattle.std.specs.Char.{is_ascii_digit}
+use Rattle.std.specs.List.{list_all}
 use Rattle.std.specs.Result.{result_ok}
 use Rattle.std.specs.Str.{all_ascii_digits}
 use Rattle.std.specs.Str.Parse.{ParsesUnsigned, digits_value}
@@ -7,6 +9,10 @@ use Rattle.std.proofs.lemmas.Bool.Decides.{nat_tests}
 use Rattle.std.proofs.lemmas.Str.Parse.{parse_gives, digits_value_short}
 use Rattle.sp_base.proofs.TextLemmas.{digits_are_numerals}
 use Rattle.publisher.specs.Depths.{is_depth}
+
+pub all_digits : (word : List ℕ) → list_all is_ascii_digit word ≡ all_ascii_digits word
+all_digits [] = refl
+all_digits (b ∷ word) = ap (λ rest. is_ascii_digit b && rest) (all_digits word)
 
 record Spelled (word : List ℕ) : Type 0 where
   digits : all_ascii_digits word ≡ true

@@ -5,10 +5,15 @@ use Rattle.std.proofs.lemmas.List.{get_or-take, take_all}
 use Rattle.std.specs.Result.{result_ok}
 use Rattle.sp_base.specs.Paths.{path_in, path_of}
 use Rattle.sp_base.proofs.ListLemmas.{drop_past}
+use Rattle.sp_base.proofs.PathTests.{ok_from_result_ok}
 use Rattle.sp_base.proofs.TextLemmas.{prefix_fits}
 use Rattle.url_split.specs.Split.{IsCut, Leads, IsSplit, selectors_of, extension_of, suffix_of}
 use Rattle.url_split.specs.Walk.{IsReading}
 use Rattle.url_split.specs.declared.decompose.Parts.{Parts}
+
+-- what a text spells it reads as
+pub spelled : (text : List ℕ) (path : List (List ℕ)) → Some path ≡ path_in text → path_of text ≡ Ok path
+spelled text path e = ok_from_result_ok (path_of text) path e
 
 pub unspelled : (text : List ℕ) (path : List (List ℕ)) → None ≡ path_in text → path_of text ≡ Ok path → ⊥
 unspelled text path none read = let some : None ≡ Some path = none ∙ ap result_ok read in cc

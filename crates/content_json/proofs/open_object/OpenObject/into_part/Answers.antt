@@ -3,7 +3,7 @@ use Rattle.std.specs.Prelude.{MatchOption}
 use Rattle.content_json.specs.declared.part.Part.{Part}
 use Rattle.content_json.specs.Nodes.{add_props, nodes_below}
 use Rattle.content_json.specs.Faults.{has_good_order}
-use Rattle.content_json.specs.Parts.{AreMemberParts, AddsPart, NamesKids, has_unfit, entry_of, nodes_of}
+use Rattle.content_json.specs.Parts.{AreMemberParts, AddsMember, NamesKids, has_unfit, entry_of, nodes_of}
 use Rattle.content_json.proofs.PartLemmas.{first_part, no_part, bad_order_unfit, good_fits, member_added, unfit_here}
 use Rattle.content_json.proofs.open_object.OpenObject.into_part.Goals as goal
 
@@ -19,7 +19,7 @@ returns-then-not-branch c levels ms held =
     let left = c.next.new.self in
     let steps : l.name-iterator ≡ e ∷ left = c.in-Some-2.ensures.steps in
     let one = first_part levels path e left inv.0 (subst (λ es. AreMemberParts levels path es inv.0) steps inv.1) in
-    let made = subst (λ b. AddsPart levels path e.0.now one.0 b l.props c.add_part.new.props l.below.items c.add_part.new.below.items) c.if-not-branch.true (c.in_ok-add_part.ensures levels path one.0 one.3) in
+    let made = subst (λ b. AddsMember levels path e.0.now one.0 b l.props c.add_part.new.props l.below.items c.add_part.new.below.items) c.if-not-branch.true (c.in_ok-add_part.ensures levels path one.0 one.3) in
     unfit_here levels e.0.now one.0 one.1 inv.0 ms one.2 inv.2 made
 
 pub loop-name-preserved : goal.loop-name-preserved
@@ -31,7 +31,7 @@ loop-name-preserved c levels ms held =
     let left = c.next.new.self in
     let steps : l.name-iterator ≡ e ∷ left = c.in-Some-2.ensures.steps in
     let one = first_part levels path e left inv.0 (subst (λ es. AreMemberParts levels path es inv.0) steps inv.1) in
-    let made = subst (λ b. AddsPart levels path e.0.now one.0 b l.props c.add_part.new.props l.below.items c.add_part.new.below.items) c.if-not-branch.false (c.in_ok-add_part.ensures levels path one.0 one.3) in
+    let made = subst (λ b. AddsMember levels path e.0.now one.0 b l.props c.add_part.new.props l.below.items c.add_part.new.below.items) c.if-not-branch.false (c.in_ok-add_part.ensures levels path one.0 one.3) in
     let next = member_added levels path e.0.now one.0 one.1 inv.0 ms l.props c.add_part.new.props (map entry_of l.below.items) (map entry_of c.add_part.new.below.items) one.2 inv.2 inv.3 inv.4 made.0 made.1 made.2 in
     (one.1, one.4, next.0, next.1, next.2)
 

@@ -37,16 +37,16 @@ Nests tree zero place ps = PutsSomethingIn ps
 Nests tree (suc levels) place ps = (written : Written) × PutsIn tree place ps written × Nests tree levels written.place written.parts
 
 -- A page passes a limit: of its text, of what is to be put in, of the contents of lists, or of how deep scripts and resources stand one in another.
-pub data PassesLimit (tree : Content) (place : Place) (blocks : List Block) : Type 0 where
-  TooLong : most_rendered_bytes < length (page_of tree place blocks).text → PassesLimit tree place blocks
-  TooMuchPutIn : most_inclusions < (page_of tree place blocks).inclusions → PassesLimit tree place blocks
-  TooManyRounds : most_rounds < (page_of tree place blocks).rounds → PassesLimit tree place blocks
-  TooDeep : Nests tree most_levels place (blocks_parts (bindings_at place []) blocks) → PassesLimit tree place blocks
+pub data PassesALimit (tree : Content) (place : Place) (blocks : List Block) : Type 0 where
+  TooLong : most_rendered_bytes < length (page_of tree place blocks).text → PassesALimit tree place blocks
+  TooMuchPutIn : most_inclusions < (page_of tree place blocks).inclusions → PassesALimit tree place blocks
+  TooManyRounds : most_rounds < (page_of tree place blocks).rounds → PassesALimit tree place blocks
+  TooDeep : Nests tree most_levels place (blocks_parts (bindings_at place []) blocks) → PassesALimit tree place blocks
 
 -- a page by a script is answered 500 exactly where it passes a limit
 abbrev pub IsRefusedWhereItPassesALimit : Content → Ask → Resource → Text → List Block → Type 0
 IsRefusedWhereItPassesALimit tree ask res text blocks = (reads : ReadsByScript tree ask res text) → SpellsBlocks most_nested_blocks text blocks
-    → ((answer_to_request tree ask).status ≡ 500) ↔ PassesLimit tree (place_for reads.script res) blocks
+    → ((answer_to_request tree ask).status ≡ 500) ↔ PassesALimit tree (place_for reads.script res) blocks
 
 -- so it is with each page by a script
 abbrev pub PagesAreRefusedWhereTheyPassALimit : Type 0

@@ -55,7 +55,7 @@ four_false a b c d v w x y z e f g h = cond-false a v (cond b w (cond c x (cond 
 -- a segment begins with one of the prefixes and goes on, or stays as it is
 pub mangled_cases : (P : List ℕ → Type 0) (seg : List ℕ) → ((x : ℕ) (more : List ℕ) → P (codes "jcr:" ++ x ∷ more)) → ((x : ℕ) (more : List ℕ) → P (codes "sling:" ++ x ∷ more))
     → ((x : ℕ) (more : List ℕ) → P (codes "nt:" ++ x ∷ more)) → ((x : ℕ) (more : List ℕ) → P (codes "cq:" ++ x ∷ more)) → (mangled_seg seg ≡ seg → P seg) → P seg
-mangled_cases P seg jcr sling nt cq plain =
+mangled_cases P seg jcr sling nt cq unprefixed =
     elim (is_namespaced (codes "jcr:") seg) as (λ t. is_namespaced (codes "jcr:") seg ≡ t → P seg) [
       | true ↦ λ e. let w = split_namespace_mark (codes "jcr:") seg e in subst P (sym w.2) (jcr w.0 w.1)
       | false ↦ λ e. elim (is_namespaced (codes "sling:") seg) as (λ t. is_namespaced (codes "sling:") seg ≡ t → P seg) [
@@ -64,7 +64,7 @@ mangled_cases P seg jcr sling nt cq plain =
           | true ↦ λ g. let w = split_namespace_mark (codes "nt:") seg g in subst P (sym w.2) (nt w.0 w.1)
           | false ↦ λ g. elim (is_namespaced (codes "cq:") seg) as (λ t. is_namespaced (codes "cq:") seg ≡ t → P seg) [
             | true ↦ λ h. let w = split_namespace_mark (codes "cq:") seg h in subst P (sym w.2) (cq w.0 w.1)
-            | false ↦ λ h. plain (four_false _ _ _ _ _ _ _ _ _ e f g h)
+            | false ↦ λ h. unprefixed (four_false _ _ _ _ _ _ _ _ _ e f g h)
           ] refl
         ] refl
       ] refl
@@ -73,7 +73,7 @@ mangled_cases P seg jcr sling nt cq plain =
 -- and so for a segment as URLs spell it
 pub unmangled_cases : (P : List ℕ → Type 0) (seg : List ℕ) → ((x : ℕ) (more : List ℕ) → P (codes "_jcr_" ++ x ∷ more)) → ((x : ℕ) (more : List ℕ) → P (codes "_sling_" ++ x ∷ more))
     → ((x : ℕ) (more : List ℕ) → P (codes "_nt_" ++ x ∷ more)) → ((x : ℕ) (more : List ℕ) → P (codes "_cq_" ++ x ∷ more)) → (unmangled_seg seg ≡ seg → P seg) → P seg
-unmangled_cases P seg jcr sling nt cq plain =
+unmangled_cases P seg jcr sling nt cq unprefixed =
     elim (is_mangled (codes "_jcr_") seg) as (λ t. is_mangled (codes "_jcr_") seg ≡ t → P seg) [
       | true ↦ λ e. let w = split_namespace_mark (codes "_jcr_") seg e in subst P (sym w.2) (jcr w.0 w.1)
       | false ↦ λ e. elim (is_mangled (codes "_sling_") seg) as (λ t. is_mangled (codes "_sling_") seg ≡ t → P seg) [
@@ -82,7 +82,7 @@ unmangled_cases P seg jcr sling nt cq plain =
           | true ↦ λ g. let w = split_namespace_mark (codes "_nt_") seg g in subst P (sym w.2) (nt w.0 w.1)
           | false ↦ λ g. elim (is_mangled (codes "_cq_") seg) as (λ t. is_mangled (codes "_cq_") seg ≡ t → P seg) [
             | true ↦ λ h. let w = split_namespace_mark (codes "_cq_") seg h in subst P (sym w.2) (cq w.0 w.1)
-            | false ↦ λ h. plain (four_false _ _ _ _ _ _ _ _ _ e f g h)
+            | false ↦ λ h. unprefixed (four_false _ _ _ _ _ _ _ _ _ e f g h)
           ] refl
         ] refl
       ] refl

@@ -26,7 +26,7 @@ fills : (n : ℕ) → 0 < n → not (n == 0) ≡ true
 fills n e = grind (arith, nat_tests)
 
 pub number_is : {E : Type 0} (word : List ℕ) (r : Result ℤ E) → ParsesSigned w64 10 word r → get_or word 0 0 ≢ 43 → result_ok r ≡ number_of word
-number_is word r h plain =
+number_is word r h without_plus =
     let ds = drop 1 word in
     elim (get_or word 0 0 == 45) as (λ b. (get_or word 0 0 == 45) ≡ b → result_ok r ≡ cond b
     (cond (are_digits ds && nat_le (digits_value 10 ds) 9223372036854775808) (Some (neg_ℤ (pos (digits_value 10 ds)))) None)
@@ -36,7 +36,7 @@ number_is word r h plain =
           (λ t. let d = and_first _ _ t in (and_second _ _ d, filled (length ds) (and_first _ _ d), leb-true (digits_value 10 ds) 9223372036854775808 (and_second _ _ t)))
           (λ p. and_from _ _ (and_from _ _ (fills (length ds) p.1) p.0) (le-leb (digits_value 10 ds) 9223372036854775808 p.2))
       | false ↦ λ e. tested r _ (are_digits word && nat_lt (digits_value 10 word) 9223372036854775808) (pos (digits_value 10 word))
-          (parse_signed_plain digits_are_numerals w64 word r h plain (eqb-false (get_or word 0 0) 45 e))
+          (parse_signed_plain digits_are_numerals w64 word r h without_plus (eqb-false (get_or word 0 0) 45 e))
           (λ t. let d = and_first _ _ t in (and_second _ _ d, filled (length word) (and_first _ _ d), ltb-true (digits_value 10 word) 9223372036854775808 (and_second _ _ t)))
           (λ p. and_from _ _ (and_from _ _ (fills (length word) p.1) p.0) (lt-ltb (digits_value 10 word) 9223372036854775808 p.2))
     ] refl

@@ -9,7 +9,7 @@ use Rattle.sp_base.specs.declared.value.Value.{Value}
 use Rattle.sp_base.specs.declared.value.Value.TheVariants.{Text, Long, Truth, Texts, Longs, Truths}
 use Rattle.sp_base.specs.declared.hint.Hint.{Hint}
 use Rattle.sp_base.specs.declared.hint.HintedType.{HintedType}
-use Rattle.sp_base.specs.declared.hint.HintedType.TheVariants.{Text as TextKind, Long as LongKind, Truth as TruthKind}
+use Rattle.sp_base.specs.declared.hint.HintedType.TheVariants.{Text as TextType, Long as LongType, Truth as TruthType}
 use Rattle.sp_base.specs.declared.hint.ValueFault.{ValueFault}
 use Rattle.sp_base.specs.declared.hint.ValueFault.TheVariants.{WrongCount, NotANumber}
 use Rattle.sp_base.specs.Texts as texts
@@ -44,9 +44,9 @@ long_value (Some n) = Ok (Long n)
 
 -- one word as a value
 abbrev pub one_of : HintedType → List ℕ → Result Value ValueFault
-one_of TextKind word = Ok (Text word)
-one_of LongKind word = long_value (number_of word)
-one_of TruthKind word = Ok (Truth (truth_of word))
+one_of TextType word = Ok (Text word)
+one_of LongType word = long_value (number_of word)
+one_of TruthType word = Ok (Truth (truth_of word))
 
 -- numbers as a list value, or their fault
 abbrev pub longs_value : Result (List ℤ) ValueFault → Result Value ValueFault
@@ -55,9 +55,9 @@ longs_value (Err e) = Err e
 
 -- words as a list value
 abbrev pub many_of : HintedType → List texts.Text → Result Value ValueFault
-many_of TextKind words = Ok (Texts words)
-many_of LongKind words = longs_value (longs_of words)
-many_of TruthKind words = Ok (Truths (map truth_of words))
+many_of TextType words = Ok (Texts words)
+many_of LongType words = longs_value (longs_of words)
+many_of TruthType words = Ok (Truths (map truth_of words))
 
 -- words as a single value: there must be just one
 abbrev pub single_of : HintedType → List texts.Text → Result Value ValueFault

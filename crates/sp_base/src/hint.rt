@@ -1,11 +1,11 @@
-//! What kind of value words are to become.
+//! Which type of value words are to become.
 ghost use Rattle.std.specs.Prelude.{◌≡◌};
 ghost use Rattle.sp_base.specs.declared.hint.ValueFault.TheVariants.{NoMemory as out_of_memory};
 
 use crate::NoMemory;
 use std::alloc::{AllocError, AllocFailed};
 
-/// The kind of value that words are to become.
+/// The type of value that words are to become.
 #[derive(Clone, Copy, PartialEq, Eq, Debug, Drop)]
 pub enum HintedType {
     Text,
@@ -13,7 +13,7 @@ pub enum HintedType {
     Truth,
 }
 
-/// What words are to become: one value of a kind, or a list of these.
+/// What words are to become: one value of a type, or a list of these.
 #[derive(Clone, Copy, PartialEq, Eq, Debug, Drop)]
 pub struct Hint {
     pub hinted: HintedType,

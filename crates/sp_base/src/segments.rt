@@ -186,12 +186,12 @@ pub fn first_pieces(alloc: Global, text: &str, n: usize) -> Mem<String>
 pub fn pieces_unmangled(alloc: Global, text: &str) -> Mem<String>
     ensures { IfOk result (λ t. string_bytes t ≡ spelling_of (unmangled_segs (pieces text.now))) }
 {
-    let mut plain = String::with_capacity(alloc, text.len().saturating_add(1))?;
+    let mut unmangled = String::with_capacity(alloc, text.len().saturating_add(1))?;
     for piece in text.split('/') {
-        plain.push_str("/")?;
-        add_unmangled(&mut plain, piece)?;
+        unmangled.push_str("/")?;
+        add_unmangled(&mut unmangled, piece)?;
     }
-    Ok(plain)
+    Ok(unmangled)
 }
 
 /// A segment as it is spelled in URLs, in two parts: `_jcr_` and `content` for `jcr:content`, and so for the other namespaces; else

@@ -6,7 +6,7 @@ use crate::items::{LongList, TextList, TruthList};
 use crate::{Mem, TextBuf};
 use std::alloc::Global;
 
-/// The value of a property: a text, a number, a truth, or a list of one kind of these.
+/// The value of a property: a text, a number, a truth, or a list of one of these types.
 #[derive(Drop)]
 pub enum Value {
     Text(TextBuf),

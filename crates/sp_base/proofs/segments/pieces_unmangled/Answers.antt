@@ -8,7 +8,7 @@ use Rattle.sp_base.proofs.segments.pieces_unmangled.Goals as goal
 
 pub loop-piece-preserved : goal.loop-piece-preserved
 loop-piece-preserved c =
-    unmangled-push c.loop-piece.yielded c.in-Some.piece (string_bytes c.loop-piece.plain) (string_bytes c.add_unmangled.new.text) c.loop-piece.invariant
+    unmangled-push c.loop-piece.yielded c.in-Some.piece (string_bytes c.loop-piece.unmangled) (string_bytes c.add_unmangled.new.text) c.loop-piece.invariant
     (c.in_ok-add_unmangled.ensures ∙ ap (λ (leading : List ℕ). leading ++ unmangled_seg c.in-Some.piece.now) c.in_ok-push_str.ensures.bytes)
 
 pub returns : goal.returns

@@ -4,4 +4,4 @@ use Rattle.sp_base.specs.PathTexts.{spelling_of}
 use Rattle.sp_base.proofs.segments.pieces_unmangled.Given as goal
 
 abbrev pub invariant-loop-piece : goal.invariant-loop-piece
-invariant-loop-piece l = string_bytes l.plain ≡ spelling_of (unmangled_segs (map (λ piece. piece.now) l.yielded))
+invariant-loop-piece l = string_bytes l.unmangled ≡ spelling_of (unmangled_segs (map (λ piece. piece.now) l.yielded))

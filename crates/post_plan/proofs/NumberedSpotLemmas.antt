@@ -19,7 +19,7 @@ use Rattle.post_plan.specs.declared.spot.Spot.{Spot}
 use Rattle.post_plan.specs.declared.operation.PropSet.{PropSet}
 use Rattle.post_plan.specs.Hints.{hint_of}
 use Rattle.post_plan.specs.Entries.{Entry, is_of_spot, is_spot_named, is_word_true, same_bool, same_spot, same_suffix, set_by, set_here, set_of, without_blanks, words_at, words_or_defaults, words_or_source}
-use Rattle.post_plan.specs.NumberedSpots.{NotesPlaces, first_place, first_places, noted_after, numbered, place_noted, spot_cmp}
+use Rattle.post_plan.specs.NumberedSpots.{NotesIndices, first_index, first_indices, index_noted, noted_after, numbered, spot_cmp}
 use Rattle.post_plan.proofs.SetLemmas.{drop_here, named_push, nothing_left, same_path, take_more}
 
 -- ---- spots that are alike are one
@@ -70,42 +70,42 @@ IsKeyOf spot key = (key.0 ≡ spot.at_target) × (key.1.now ≡ spot.path)
 abbrev pub key_cmp : Bool × Bor (List (List ℕ)) → Bool × Bor (List (List ℕ)) → Ordering
 key_cmp x y = ordering_then (bool_cmp x.0 y.0) (slice_cmp (slice_cmp nat_cmp) x.1.now y.1.now)
 
-pub noted_key : (first : Noted) (spot : Spot) (key : Bool × Bor (List (List ℕ))) → IsKeyOf spot key → get_by (key_cmp key) first ≡ place_noted first spot
+pub noted_key : (first : Noted) (spot : Spot) (key : Bool × Bor (List (List ℕ))) → IsKeyOf spot key → get_by (key_cmp key) first ≡ index_noted first spot
 noted_key first spot key is =
     let at = is.0 in
     let path = is.1 in
     λ i. get_by (λ (x : Bool × Bor (List (List ℕ))). ordering_then (bool_cmp (at i) x.0) (slice_cmp (slice_cmp nat_cmp) (path i) x.1.now)) first
 
--- a spot that has a place keeps it, and no other gets one
+-- a spot that has an index keeps it, and no other gets one
 pub noted_stays : (noted : Spot → Option ℕ) (spot : Spot) (n k : ℕ) → noted spot ≡ Some k → (other : Spot) → noted other ≡ noted_after noted spot n other
 noted_stays noted spot n k is other = sym (ap (λ o. cond (is_some o) (noted other) (cond (same_spot spot other) (Some n) (noted other))) is)
 
 -- one that has none gets one
-pub noted_new : (before after : Noted) (spot : Spot) (key : Bool × Bor (List (List ℕ))) (n : ℕ) → IsKeyOf spot key → place_noted before spot ≡ None
+pub noted_new : (before after : Noted) (spot : Spot) (key : Bool × Bor (List (List ℕ))) (n : ℕ) → IsKeyOf spot key → index_noted before spot ≡ None
     → ((q : Bool × Bor (List (List ℕ))) → get_by (key_cmp q) after ≡ cond (is_eq (key_cmp key q)) (Some n) (get_by (key_cmp q) before))
-    → (other : Spot) → place_noted after other ≡ noted_after (place_noted before) spot n other
+    → (other : Spot) → index_noted after other ≡ noted_after (index_noted before) spot n other
 noted_new before after spot key n is none updates other =
     let at = is.0 in
     let path = is.1 in
     let tie : is_eq (key_cmp key (other.at_target, record { ref_ptr = (0, 0); now = other.path })) ≡ same_spot spot other =
     (λ i. is_eq (ordering_then (bool_cmp (at i) other.at_target) (slice_cmp (slice_cmp nat_cmp) (path i) other.path))) ∙ key_ties spot.at_target other.at_target spot.path other.path in
-    updates (other.at_target, record { ref_ptr = (0, 0); now = other.path }) ∙ ap (λ t. cond t (Some n) (place_noted before other)) tie
-    ∙ sym (ap (λ o. cond (is_some o) (place_noted before other) (cond (same_spot spot other) (Some n) (place_noted before other))) none)
+    updates (other.at_target, record { ref_ptr = (0, 0); now = other.path }) ∙ ap (λ t. cond t (Some n) (index_noted before other)) tie
+    ∙ sym (ap (λ o. cond (is_some o) (index_noted before other) (cond (same_spot spot other) (Some n) (index_noted before other))) none)
 
--- ---- first places
+-- ---- first indices
 
 -- an entry that no earlier one is alike is the first of its spot
-pub first_here : (es : List Entry) (n : ℕ) (e : Entry) (spot : Spot) → slice_get es n ≡ Some e → is_spot_named spot (take n es) ≡ false → same_spot e.spot spot ≡ true → first_place es spot ≡ n
+pub first_here : (es : List Entry) (n : ℕ) (e : Entry) (spot : Spot) → slice_get es n ≡ Some e → is_spot_named spot (take n es) ≡ false → same_spot e.spot spot ≡ true → first_index es spot ≡ n
 first_here [] n e spot here none same = absurd cc
 first_here (f ∷ es) zero e spot here none same =
     let is : f ≡ e = cc in
-    ap (λ t. cond (not t) (1 + first_place es spot) 0) (ap (λ (x : Entry). same_spot x.spot spot) is ∙ same)
+    ap (λ t. cond (not t) (1 + first_index es spot) 0) (ap (λ (x : Entry). same_spot x.spot spot) is ∙ same)
 first_here (f ∷ es) (suc n) e spot here none same =
     let both = or_parts (same_spot f.spot spot) (is_spot_named spot (take n es)) none in
-    ap (λ t. cond (not t) (1 + first_place es spot) 0) both.0 ∙ ap (λ k. 1 + k) (first_here es n e spot here both.1 same) ∙ one-add n
+    ap (λ t. cond (not t) (1 + first_index es spot) 0) both.0 ∙ ap (λ k. 1 + k) (first_here es n e spot here both.1 same) ∙ one-add n
 
--- and where one of the first n is, the place is less
-pub first_before : (es : List Entry) (n : ℕ) (spot : Spot) → is_spot_named spot (take n es) ≡ true → first_place es spot < n
+-- and where one of the first n is, the index is less
+pub first_before : (es : List Entry) (n : ℕ) (spot : Spot) → is_spot_named spot (take n es) ≡ true → first_index es spot < n
 first_before [] n spot named = absurd (false≢true (sym (none_of n) ∙ named))
   where
     none_of : (k : ℕ) → is_spot_named spot (take k []) ≡ false
@@ -114,7 +114,7 @@ first_before [] n spot named = absurd (false≢true (sym (none_of n) ∙ named))
 first_before (f ∷ es) zero spot named = absurd (false≢true named)
 first_before (f ∷ es) (suc n) spot named = by (same_spot f.spot spot) named (first_before es n spot)
   where
-    by : (t : Bool) → (t || is_spot_named spot (take n es)) ≡ true → (is_spot_named spot (take n es) ≡ true → first_place es spot < n) → cond (not t) (1 + first_place es spot) 0 < suc n
+    by : (t : Bool) → (t || is_spot_named spot (take n es)) ≡ true → (is_spot_named spot (take n es) ≡ true → first_index es spot < n) → cond (not t) (1 + first_index es spot) 0 < suc n
     by true e later = omega arith
     by false e later = let less = later e in omega (arith, less)
 
@@ -130,14 +130,14 @@ paths_itself (x ∷ s) = ap (λ t. t && pointwise bytes_eq s s) (nat_list_eq_equ
 pub spot_itself : (s : Spot) → same_spot s s ≡ true
 spot_itself s = ap (λ t. t && pointwise bytes_eq s.path s.path) (same_bool_itself s.at_target) ∙ paths_itself s.path
 
-pub named_if_later : (es : List Entry) (n : ℕ) (e : Entry) → slice_get es n ≡ Some e → same_spot e.spot e.spot ≡ true → (first_place es e.spot ≡ n → ⊥) → is_spot_named e.spot (take n es) ≡ true
+pub named_if_later : (es : List Entry) (n : ℕ) (e : Entry) → slice_get es n ≡ Some e → same_spot e.spot e.spot ≡ true → (first_index es e.spot ≡ n → ⊥) → is_spot_named e.spot (take n es) ≡ true
 named_if_later es n e here same later = by (is_spot_named e.spot (take n es)) refl
   where
     by : (t : Bool) → is_spot_named e.spot (take n es) ≡ t → is_spot_named e.spot (take n es) ≡ true
     by true is = is
     by false is = absurd (later (first_here es n e e.spot here is same))
 
-pub not_named : (es : List Entry) (n : ℕ) (spot : Spot) → first_place es spot ≡ n → is_spot_named spot (take n es) ≡ false
+pub not_named : (es : List Entry) (n : ℕ) (spot : Spot) → first_index es spot ≡ n → is_spot_named spot (take n es) ≡ false
 not_named es n spot first = by (is_spot_named spot (take n es)) refl
   where
     by : (t : Bool) → is_spot_named spot (take n es) ≡ t → is_spot_named spot (take n es) ≡ false
@@ -146,11 +146,11 @@ not_named es n spot first = by (is_spot_named spot (take n es)) refl
 
 -- ---- what is noted
 
-module _ (es : List Entry) (n : ℕ) (e : Entry) (noted : Spot → Option ℕ) (notes : NotesPlaces es n noted) (here : slice_get es n ≡ Some e) (same : same_spot e.spot e.spot ≡ true) where
-  pub place_is : unwrap_or (noted e.spot) n ≡ first_place es e.spot
-  place_is = by (noted e.spot) refl
+module _ (es : List Entry) (n : ℕ) (e : Entry) (noted : Spot → Option ℕ) (notes : NotesIndices es n noted) (here : slice_get es n ≡ Some e) (same : same_spot e.spot e.spot ≡ true) where
+  pub index_is : unwrap_or (noted e.spot) n ≡ first_index es e.spot
+  index_is = by (noted e.spot) refl
     where
-      by : (o : Option ℕ) → noted e.spot ≡ o → unwrap_or (noted e.spot) n ≡ first_place es e.spot
+      by : (o : Option ℕ) → noted e.spot ≡ o → unwrap_or (noted e.spot) n ≡ first_index es e.spot
       by (Some k) is = ap (λ p. unwrap_or p n) is ∙ sym (notes.first e.spot k is)
       by None is = ap (λ p. unwrap_or p n) is ∙ sym (first_here es n e e.spot here (notes.none e.spot is) same)
 
@@ -168,10 +168,10 @@ module _ (es : List Entry) (n : ℕ) (e : Entry) (noted : Spot → Option ℕ) (
           absurd (cc)
       by false tie = tie
 
-  pub notes_step : NotesPlaces es (suc n) (noted_after noted e.spot n)
+  pub notes_step : NotesIndices es (suc n) (noted_after noted e.spot n)
   notes_step = by (noted e.spot) refl
     where
-      by : (o : Option ℕ) → noted e.spot ≡ o → NotesPlaces es (suc n) (noted_after noted e.spot n)
+      by : (o : Option ℕ) → noted e.spot ≡ o → NotesIndices es (suc n) (noted_after noted e.spot n)
       by (Some k) is = record {
         first = λ spot j found. notes.first spot j (sym (ap (λ p. cond (is_some p) (noted spot) (cond (same_spot e.spot spot) (Some n) (noted spot))) is) ∙ found);
         none = λ spot none.
@@ -183,11 +183,11 @@ module _ (es : List Entry) (n : ℕ) (e : Entry) (noted : Spot → Option ℕ) (
         none = λ spot none. nowhere spot (same_spot e.spot spot) refl (sym (ap (λ p. cond (is_some p) (noted spot) (cond (same_spot e.spot spot) (Some n) (noted spot))) is) ∙ none);
       }
         where
-          at : (spot : Spot) (j : ℕ) (t : Bool) → same_spot e.spot spot ≡ t → cond (same_spot e.spot spot) (Some n) (noted spot) ≡ Some j → first_place es spot ≡ j
+          at : (spot : Spot) (j : ℕ) (t : Bool) → same_spot e.spot spot ≡ t → cond (same_spot e.spot spot) (Some n) (noted spot) ≡ Some j → first_index es spot ≡ j
           at spot j true tie found =
               let n_is : Some n ≡ Some j = sym (ap (λ b. cond b (Some n) (noted spot)) tie) ∙ found in
               let number : n ≡ j = cc in
-              ap (first_place es) (sym (same_spot_is e.spot spot tie)) ∙ first_here es n e e.spot here (notes.none e.spot is) same ∙ number
+              ap (first_index es) (sym (same_spot_is e.spot spot tie)) ∙ first_here es n e e.spot here (notes.none e.spot is) same ∙ number
           at spot j false tie found = notes.first spot j (sym (ap (λ b. cond b (Some n) (noted spot)) tie) ∙ found)
 
           nowhere : (spot : Spot) (t : Bool) → same_spot e.spot spot ≡ t → cond (same_spot e.spot spot) (Some n) (noted spot) ≡ None → is_spot_named spot (take (suc n) es) ≡ false
@@ -196,42 +196,42 @@ module _ (es : List Entry) (n : ℕ) (e : Entry) (noted : Spot → Option ℕ) (
               absurd (cc)
           nowhere spot false tie none = none_more spot (sym (ap (λ b. cond b (Some n) (noted spot)) tie) ∙ none) tie
 
--- ---- the places of all
+-- ---- the indices of all
 
 -- before the first turn nothing is noted
-pub places_start : (es : List Entry) (first : Noted) (places : List ℕ) → first.entries ≡ [] → places ≡ []
-    → (places ≡ map (λ (e : Entry). first_place es e.spot) (take 0 es)) × NotesPlaces es 0 (place_noted first)
-places_start es first places empty none =
+pub indices_start : (es : List Entry) (first : Noted) (indices : List ℕ) → first.entries ≡ [] → indices ≡ []
+    → (indices ≡ map (λ (e : Entry). first_index es e.spot) (take 0 es)) × NotesIndices es 0 (index_noted first)
+indices_start es first indices empty none =
     (none, record { first = λ spot k found. absurd (nothing spot k found); none = λ spot missing. refl })
   where
-    nothing : (spot : Spot) (k : ℕ) → place_noted first spot ≡ Some k → ⊥
+    nothing : (spot : Spot) (k : ℕ) → index_noted first spot ≡ Some k → ⊥
     nothing spot k found =
         let no : Some k ≡ None = sym found ∙ ap (lookup (is_at (spot_cmp spot))) empty in
         cc
 
 -- what is noted may be told in other words
-notes_as : (es : List Entry) (n m : ℕ) (noted other : Spot → Option ℕ) → m ≡ n → ((spot : Spot) → other spot ≡ noted spot) → NotesPlaces es n noted → NotesPlaces es m other
+notes_as : (es : List Entry) (n m : ℕ) (noted other : Spot → Option ℕ) → m ≡ n → ((spot : Spot) → other spot ≡ noted spot) → NotesIndices es n noted → NotesIndices es m other
 notes_as es n m noted other one same notes = record {
   first = λ spot k found. notes.first spot k (sym (same spot) ∙ found);
   none = λ spot missing. ap (λ j. is_spot_named spot (take j es)) one ∙ notes.none spot (sym (same spot) ∙ missing);
 }
 
 -- one turn
-pub places_step : (es : List Entry) (n : ℕ) (e : Entry) (before after : Noted) (places next : List ℕ) (place : ℕ) (spot : Spot) → n < length es → e ≡ get_or es n e → spot ≡ e.spot
-    → (places ≡ map (λ (f : Entry). first_place es f.spot) (take n es)) × NotesPlaces es n (place_noted before) → place ≡ unwrap_or (place_noted before spot) n
-    → ((other : Spot) → place_noted after other ≡ noted_after (place_noted before) spot n other) → next ≡ places ++ place ∷ []
-    → (next ≡ map (λ (f : Entry). first_place es f.spot) (take (n + 1) es)) × NotesPlaces es (n + 1) (place_noted after)
-places_step es n e before after places next place spot lt at spot_is so_far found noted pushed =
+pub indices_step : (es : List Entry) (n : ℕ) (e : Entry) (before after : Noted) (indices next : List ℕ) (index : ℕ) (spot : Spot) → n < length es → e ≡ get_or es n e → spot ≡ e.spot
+    → (indices ≡ map (λ (f : Entry). first_index es f.spot) (take n es)) × NotesIndices es n (index_noted before) → index ≡ unwrap_or (index_noted before spot) n
+    → ((other : Spot) → index_noted after other ≡ noted_after (index_noted before) spot n other) → next ≡ indices ++ index ∷ []
+    → (next ≡ map (λ (f : Entry). first_index es f.spot) (take (n + 1) es)) × NotesIndices es (n + 1) (index_noted after)
+indices_step es n e before after indices next index spot lt at spot_is so_far found noted pushed =
     let here : slice_get es n ≡ Some e = slice_get-get_or es n e lt ∙ ap (λ (x : Entry). Some x) (sym at) in
     let one : n + 1 ≡ suc n = omega arith in
     let same = spot_itself e.spot in
-    let number : place ≡ first_place es e.spot = found ∙ ap (λ s. unwrap_or (place_noted before s) n) spot_is ∙ place_is es n e (place_noted before) so_far.1 here same in
-    let first_of : Entry → ℕ = λ f. first_place es f.spot in
+    let number : index ≡ first_index es e.spot = found ∙ ap (λ s. unwrap_or (index_noted before s) n) spot_is ∙ index_is es n e (index_noted before) so_far.1 here same in
+    let first_of : Entry → ℕ = λ f. first_index es f.spot in
     let all : next ≡ map first_of (take (n + 1) es) =
-    pushed ∙ ap (λ (l : List ℕ). l ++ place ∷ []) so_far.0 ∙ ap (λ k. map first_of (take n es) ++ k ∷ []) number
+    pushed ∙ ap (λ (l : List ℕ). l ++ index ∷ []) so_far.0 ∙ ap (λ k. map first_of (take n es) ++ k ∷ []) number
     ∙ sym (map_push first_of (take n es) e) ∙ sym (ap (map first_of) (take_more es n e here)) ∙ sym (ap (λ k. map first_of (take k es)) one)
     in
-    (all, notes_as es (suc n) (n + 1) (noted_after (place_noted before) e.spot n) (place_noted after) one (λ other. noted other ∙ ap (λ s. noted_after (place_noted before) s n other) spot_is) (notes_step es n e (place_noted before) so_far.1 here same))
+    (all, notes_as es (suc n) (n + 1) (noted_after (index_noted before) e.spot n) (index_noted after) one (λ other. noted other ∙ ap (λ s. noted_after (index_noted before) s n other) spot_is) (notes_step es n e (index_noted before) so_far.1 here same))
 
 take_all : (es : List Entry) (n : ℕ) → length es ≤ n → take n es ≡ es
 take_all [] zero le = refl
@@ -239,9 +239,9 @@ take_all [] (suc n) le = refl
 take_all (e ∷ es) zero le = absurd (omega arith)
 take_all (e ∷ es) (suc n) le = ap (λ (l : List Entry). e ∷ l) (take_all es n (omega (arith, le)))
 
-pub places_end : (es : List Entry) (n : ℕ) (first : Noted) (places : List ℕ) → length es ≤ n
-    → (places ≡ map (λ (e : Entry). first_place es e.spot) (take n es)) × NotesPlaces es n (place_noted first) → places ≡ first_places es
-places_end es n first places le so_far = so_far.0 ∙ ap (map (λ (e : Entry). first_place es e.spot)) (take_all es n le)
+pub indices_end : (es : List Entry) (n : ℕ) (first : Noted) (indices : List ℕ) → length es ≤ n
+    → (indices ≡ map (λ (e : Entry). first_index es e.spot) (take n es)) × NotesIndices es n (index_noted first) → indices ≡ first_indices es
+indices_end es n first indices le so_far = so_far.0 ∙ ap (map (λ (e : Entry). first_index es e.spot)) (take_all es n le)
 
 -- ---- the entries of a number
 
@@ -254,18 +254,18 @@ filter_within p q (e ∷ es) each = by (p e) refl (q e) refl (filter_within p q 
     by false ps true qt rest = absurd (false≢true (sym ps ∙ each e qt))
     by false ps false qt rest = ap (λ b. filter q (cond b (e ∷ filter p es) (filter p es))) ps ∙ rest ∙ sym (ap (λ b. cond b (e ∷ filter q es) (filter q es)) qt)
 
-own_words : (es : List Entry) (spot : Spot) (n : ℕ) → first_place es spot ≡ n → (suffix : Suffix) → words_at spot suffix (numbered es n) ≡ words_at spot suffix es
+own_words : (es : List Entry) (spot : Spot) (n : ℕ) → first_index es spot ≡ n → (suffix : Suffix) → words_at spot suffix (numbered es n) ≡ words_at spot suffix es
 own_words es spot n first suffix =
-    ap (map (λ (e : Entry). e.word)) (filter_within (λ e. first_place es e.spot == n) (is_of_spot spot suffix) es (λ e is.
+    ap (map (λ (e : Entry). e.word)) (filter_within (λ e. first_index es e.spot == n) (is_of_spot spot suffix) es (λ e is.
     let both = and_parts (same_suffix suffix e.suffix) (same_spot spot e.spot) is in
-    ap (λ k. k == n) (ap (first_place es) (sym (same_spot_is spot e.spot both.1)) ∙ first) ∙ nat_eq_itself n))
+    ap (λ k. k == n) (ap (first_index es) (sym (same_spot_is spot e.spot both.1)) ∙ first) ∙ nat_eq_itself n))
 
 abbrev set_with : List (List ℕ × List ℕ) → Spot → (Suffix → List (List ℕ)) → Option PropSet
 set_with pairs spot words = set_by spot (option_and_then hint_of (first_text (words TypeHint)))
     (words_or_defaults (words DefaultValue) (without_blanks (is_word_true (first_text (words IgnoreBlanks))) (words_or_source (first_text (words ValueFrom)) pairs (words Plain))))
 
 -- what sets a spot is told by the entries of its number alone
-pub own_set : (pairs : List (List ℕ × List ℕ)) (es : List Entry) (spot : Spot) (n : ℕ) → first_place es spot ≡ n → set_of pairs (numbered es n) spot ≡ set_of pairs es spot
+pub own_set : (pairs : List (List ℕ × List ℕ)) (es : List Entry) (spot : Spot) (n : ℕ) → first_index es spot ≡ n → set_of pairs (numbered es n) spot ≡ set_of pairs es spot
 own_set pairs es spot n first =
     let words = own_words es spot n first in
     λ i. set_with pairs spot (λ suffix. words suffix i)
@@ -278,20 +278,20 @@ number_there f (x ∷ es) zero e here = let is : x ≡ e = cc in ap f is
 number_there f (x ∷ es) (suc k) e here = number_there f es k e here
 
 -- each entry has its number
-pub within_places : (es : List Entry) (places : List ℕ) (k : ℕ) → places ≡ first_places es → k < length es → k < length places
-within_places es places k is lt =
-    let same : length places ≡ length es = ap length is ∙ length-map es (λ e. first_place es e.spot) in
+pub within_indices : (es : List Entry) (indices : List ℕ) (k : ℕ) → indices ≡ first_indices es → k < length es → k < length indices
+within_indices es indices k is lt =
+    let same : length indices ≡ length es = ap length is ∙ length-map es (λ e. first_index es e.spot) in
     omega (arith, same, lt)
 
 abbrev has_number : List Entry → ℕ → Entry → Bool
-has_number es n e = first_place es e.spot == n
+has_number es n e = first_index es e.spot == n
 
 -- one entry more
-pub own_step : (es : List Entry) (places : List ℕ) (k n : ℕ) (own next all : List Entry) (e : Entry) → places ≡ first_places es → k < length es → e ≡ get_or es k e
-    → next ≡ own ++ cond (get_or places k 0 == n) (e ∷ []) [] → own ++ filter (λ (f : Entry). first_place es f.spot == n) (drop k es) ≡ all → next ++ filter (λ (f : Entry). first_place es f.spot == n) (drop (k + 1) es) ≡ all
-own_step es places k n own next all e is lt at pushed so_far =
+pub own_step : (es : List Entry) (indices : List ℕ) (k n : ℕ) (own next all : List Entry) (e : Entry) → indices ≡ first_indices es → k < length es → e ≡ get_or es k e
+    → next ≡ own ++ cond (get_or indices k 0 == n) (e ∷ []) [] → own ++ filter (λ (f : Entry). first_index es f.spot == n) (drop k es) ≡ all → next ++ filter (λ (f : Entry). first_index es f.spot == n) (drop (k + 1) es) ≡ all
+own_step es indices k n own next all e is lt at pushed so_far =
     let here : slice_get es k ≡ Some e = slice_get-get_or es k e lt ∙ ap (λ (x : Entry). Some x) (sym at) in
-    let number : get_or places k 0 ≡ first_place es e.spot = ap (λ l. get_or l k 0) is ∙ number_there (λ f. first_place es f.spot) es k e here in
+    let number : get_or indices k 0 ≡ first_index es e.spot = ap (λ l. get_or l k 0) is ∙ number_there (λ f. first_index es f.spot) es k e here in
     let one : k + 1 ≡ suc k = omega arith in
     ap (λ (l : List Entry). l ++ rest (k + 1)) (pushed ∙ ap (λ j. own ++ cond (j == n) (e ∷ []) []) number)
     ∙ ap (λ j. (own ++ cond (has_number es n e) (e ∷ []) []) ++ rest j) one
@@ -300,17 +300,17 @@ own_step es places k n own next all e is lt at pushed so_far =
     ∙ so_far
   where
     rest : ℕ → List Entry
-    rest j = filter (λ (f : Entry). first_place es f.spot == n) (drop j es)
+    rest j = filter (λ (f : Entry). first_index es f.spot == n) (drop j es)
 
     by : (t : Bool) → (own ++ cond t (e ∷ []) []) ++ rest (suc k) ≡ own ++ cond t (e ∷ rest (suc k)) (rest (suc k))
     by true = append_assoc own (e ∷ []) (rest (suc k))
     by false = ap (λ (l : List Entry). l ++ rest (suc k)) (append-nil own)
 
-pub own_all : (es : List Entry) (k n : ℕ) (own : List Entry) → length es ≤ k → own ++ filter (λ (e : Entry). first_place es e.spot == n) (drop k es) ≡ filter (λ (e : Entry). first_place es e.spot == n) es → own ≡ numbered es n
+pub own_all : (es : List Entry) (k n : ℕ) (own : List Entry) → length es ≤ k → own ++ filter (λ (e : Entry). first_index es e.spot == n) (drop k es) ≡ filter (λ (e : Entry). first_index es e.spot == n) es → own ≡ numbered es n
 own_all es k n own le so_far =
-    sym (append-nil own) ∙ ap (λ (l : List Entry). own ++ filter (λ e. first_place es e.spot == n) l) (sym (nothing_left es k le)) ∙ so_far
+    sym (append-nil own) ∙ ap (λ (l : List Entry). own ++ filter (λ e. first_index es e.spot == n) l) (sym (nothing_left es k le)) ∙ so_far
 
--- ---- what the entry at a place sets
+-- ---- what the entry at an index sets
 
 same_number : (a b : ℕ) → not (a == b) ≡ false → a ≡ b
 same_number a b tied = by (a == b) refl tied
@@ -320,24 +320,24 @@ same_number a b tied = by (a == b) refl tied
     by false is e = absurd (true≢false e)
 
 -- nothing, where its spot was named before
-pub set_before : (pairs : List (List ℕ × List ℕ)) (es : List Entry) (places : List ℕ) (n : ℕ) → places ≡ first_places es → not (get_or places n 0 == n) ≡ true
+pub set_before : (pairs : List (List ℕ × List ℕ)) (es : List Entry) (indices : List ℕ) (n : ℕ) → indices ≡ first_indices es → not (get_or indices n 0 == n) ≡ true
     → (e : Entry) → slice_get es n ≡ Some e → None ≡ set_here pairs es (take n es) e
-set_before pairs es places n is later e here =
-    let number : get_or places n 0 ≡ first_place es e.spot = ap (λ l. get_or l n 0) is ∙ number_there (λ f. first_place es f.spot) es n e here in
+set_before pairs es indices n is later e here =
+    let number : get_or indices n 0 ≡ first_index es e.spot = ap (λ l. get_or l n 0) is ∙ number_there (λ f. first_index es f.spot) es n e here in
     let named = named_if_later es n e here (spot_itself e.spot)
-    (λ first. false≢true (sym (ap not (eq-eqb (get_or places n 0) n (number ∙ first))) ∙ later))
+    (λ first. false≢true (sym (ap not (eq-eqb (get_or indices n 0) n (number ∙ first))) ∙ later))
     in
     sym (ap (λ t. cond t None (set_of pairs es e.spot)) named)
 
 -- and else what the entries of its number set
-pub set_first : {E : Type 0} (r : Result (Option PropSet) E) (pairs : List (List ℕ × List ℕ)) (es : List Entry) (places : List ℕ) (n : ℕ) (first : Entry) (spot : Spot) (own : List Entry)
-    → n < length es → places ≡ first_places es → not (get_or places n 0 == n) ≡ false → first ≡ get_or es n first → spot ≡ first.spot → own ≡ numbered es n → IfOk r (λ o. o ≡ set_of pairs own spot)
+pub set_first : {E : Type 0} (r : Result (Option PropSet) E) (pairs : List (List ℕ × List ℕ)) (es : List Entry) (indices : List ℕ) (n : ℕ) (first : Entry) (spot : Spot) (own : List Entry)
+    → n < length es → indices ≡ first_indices es → not (get_or indices n 0 == n) ≡ false → first ≡ get_or es n first → spot ≡ first.spot → own ≡ numbered es n → IfOk r (λ o. o ≡ set_of pairs own spot)
     → IfOk r (λ o. (e : Entry) → slice_get es n ≡ Some e → o ≡ set_here pairs es (take n es) e)
-set_first (Err x) pairs es places n first spot own lt is sooner at spot_is own_is set = tt
-set_first (Ok o) pairs es places n first spot own lt is sooner at spot_is own_is set = λ e here.
+set_first (Err x) pairs es indices n first spot own lt is sooner at spot_is own_is set = tt
+set_first (Ok o) pairs es indices n first spot own lt is sooner at spot_is own_is set = λ e here.
     let there : slice_get es n ≡ Some first = slice_get-get_or es n first lt ∙ ap (λ (x : Entry). Some x) (sym at) in
     let both : Some first ≡ Some e = sym there ∙ here in
     let entry : first ≡ e = cc in
-    let number : first_place es e.spot ≡ n = sym (ap (λ l. get_or l n 0) is ∙ number_there (λ f. first_place es f.spot) es n e here) ∙ same_number (get_or places n 0) n sooner in
+    let number : first_index es e.spot ≡ n = sym (ap (λ l. get_or l n 0) is ∙ number_there (λ f. first_index es f.spot) es n e here) ∙ same_number (get_or indices n 0) n sooner in
     set ∙ ap (set_of pairs own) spot_is ∙ ap (λ (l : List Entry). set_of pairs l first.spot) own_is ∙ ap (λ (f : Entry). set_of pairs (numbered es n) f.spot) entry ∙ own_set pairs es e.spot n number
     ∙ sym (ap (λ t. cond t None (set_of pairs es e.spot)) (not_named es n e.spot number))

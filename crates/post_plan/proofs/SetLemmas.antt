@@ -110,7 +110,7 @@ turn pairs es n e list next all set lt at is pushed same =
     ∙ ap (λ (l : List PropSet). list ++ l) (sym (cons_is set (sets_from pairs es (take (n + 1) es) (drop (n + 1) es))) ∙ first)
     ∙ same
 
--- the same by what the entry at the place sets
+-- the same by what the entry at the index sets
 pub turn_by : (pairs : List (List ℕ × List ℕ)) (es : List Entry) (n : ℕ) (list next all : List PropSet) (set : Option PropSet) → n < length es
     → ((e : Entry) → slice_get es n ≡ Some e → set ≡ set_here pairs es (take n es) e) → next ≡ list ++ cons_option set []
     → list ++ sets_from pairs es (take n es) (drop n es) ≡ all → next ++ sets_from pairs es (take (n + 1) es) (drop (n + 1) es) ≡ all

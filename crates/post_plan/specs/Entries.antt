@@ -149,7 +149,7 @@ hint_at es spot = option_and_then hint_of (first_text (words_at spot TypeHint es
 abbrev pub set_of : Pairs → List Entry → Spot → Option PropSet
 set_of pairs es spot = set_by spot (hint_at es spot) (set_words pairs es spot)
 
--- the properties that are set, each at the place of the first parameter that names it
+-- the properties that are set, each at the index of the first parameter that names it
 abbrev pub sets : Pairs → List Entry → List PropSet
 sets pairs es = filter_map (set_of pairs es) (distinct (map (λ e. e.spot) es))
 

@@ -12,17 +12,17 @@ use Rattle.post_plan.specs.declared.fault.PlanFault.{PlanFault}
 use Rattle.post_plan.specs.declared.fault.PlanFault.TheVariants.{BadHint}
 use Rattle.post_plan.specs.Parameters.{parameter_suffix, any_marked, content_where}
 
--- whether a word names a kind whose values are texts here
+-- whether a word names a type whose values are texts here
 abbrev pub is_text_word : List ℕ → Bool
 is_text_word word = bytes_eq word (codes "String") || (bytes_eq word (codes "Date") || (bytes_eq word (codes "Name") || (bytes_eq word (codes "Path") || bytes_eq word (codes "URI"))))
 
--- the kind of value that a word names
+-- the type of value that a word names
 abbrev pub hinted_type : List ℕ → Option HintedType
 hinted_type word = if is_text_word word then Some Text
     else (if bytes_eq word (codes "Long") then Some Long
     else (if bytes_eq word (codes "Boolean") then Some Truth else None))
 
--- the hint of a kind, for one value or for many
+-- the hint of a type, for one value or for many
 abbrev pub hint_by : Bool → Option HintedType → Option Hint
 hint_by many None = None
 hint_by many (Some hinted) = Some (record { hinted = hinted; many = many })

@@ -42,7 +42,7 @@ full_path node spot = if spot.at_target then node ++ spot.path else spot.path
 abbrev pub if_changeable : Segments → Spot → Option Spot
 if_changeable node spot = if is_merged_path (full_path node spot) then None else Some spot
 
--- the place of a text that names one, absolute or seen from a node
+-- the spot of a text that names one, absolute or seen from a node
 abbrev pub any_spot : Segments → List ℕ → Option Spot
 any_spot node text = if is_absolute text then spot_there (path_in text) else option_and_then (relative_spot node) (relative_path_of text)
 

@@ -48,7 +48,7 @@ pub fn deletes(alloc: Global, entries: &[Entry]) -> Mem<SpotList>
     Ok(spots)
 }
 
-// The move or the copy that an entry asks for, where its word names a place.
+// The move or the copy that an entry asks for, where its word names a spot.
 fn carry_of(alloc: Global, node: &TargetNode, entry: &Entry) -> Mem<Option<Carry>>
     ensures { IfOk result (λ o. o ≡ spec.carry_of node.now entry.now) }
 {

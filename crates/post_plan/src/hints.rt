@@ -13,7 +13,7 @@ fn is_text_word(word: &[u8]) -> bool
                 || (word == b"Path".as_slice() || word == b"URI".as_slice())))
 }
 
-fn kind_of(word: &[u8]) -> Option<HintedType>
+fn hinted_type(word: &[u8]) -> Option<HintedType>
     ensures { result ≡ spec.hinted_type word.now }
 {
     if is_text_word(word) {
@@ -42,8 +42,8 @@ pub fn hint_of(word: &str) -> Option<Hint>
 {
     let bytes = word.as_bytes();
     if bytes.ends_with(b"[]") {
-        hint_by(true, kind_of(&bytes[..bytes.len() - 2]))
+        hint_by(true, hinted_type(&bytes[..bytes.len() - 2]))
     } else {
-        hint_by(false, kind_of(bytes))
+        hint_by(false, hinted_type(bytes))
     }
 }

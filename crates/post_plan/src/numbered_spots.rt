@@ -1,8 +1,8 @@
-//! Which entries name the same spot: each spot is numbered once, by the place of the first entry that names it, and numbers are compared
+//! Which entries name the same spot: each spot is numbered once, by the index of the first entry that names it, and numbers are compared
 //! from then on, however long the spots' paths are.
 ghost use Rattle.std.specs.Prelude.{◌≡◌, ◌<◌, ◌==◌, ◌++◌, ◌∷◌, [], None, IfOk, OnOk, if◌then◌else◌, length, not, slice_index, unwrap_or};
 ghost use Rattle.post_plan.specs.declared.spot.Spot.{Spot as NamedSpot};
-ghost use Rattle.post_plan.specs.NumberedSpots.{first_places, noted_after, numbered, place_noted};
+ghost use Rattle.post_plan.specs.NumberedSpots.{first_indices, index_noted, noted_after, numbered};
 
 use crate::Spot;
 use crate::entries::Entry;
@@ -61,75 +61,75 @@ fn key_of<'e>(spot: &'e Spot) -> SpotKey<'e>
     (spot.at_target, &spot.path)
 }
 
-// A spot that has no place yet gets this one.
-fn new_place<'e>(first: &mut BTreeMap<SpotKey<'e>, usize>, spot: &'e Spot, n: usize) -> Mem<usize>
-    requires { place_noted first.old spot.now ≡ None }
-    ensures place { IfOk result (λ place. place ≡ unwrap_or (place_noted first.old spot.entry.now) n) }
-    ensures noted { OnOk result ((other : NamedSpot) → place_noted first.new other ≡ noted_after (place_noted first.old) spot.entry.now n other) }
+// A spot that has no index yet gets this one.
+fn new_index<'e>(first: &mut BTreeMap<SpotKey<'e>, usize>, spot: &'e Spot, n: usize) -> Mem<usize>
+    requires { index_noted first.old spot.now ≡ None }
+    ensures index { IfOk result (λ index. index ≡ unwrap_or (index_noted first.old spot.entry.now) n) }
+    ensures noted { OnOk result ((other : NamedSpot) → index_noted first.new other ≡ noted_after (index_noted first.old) spot.entry.now n other) }
 {
     first.insert(key_of(spot), n)?;
     Ok(n)
 }
 
-// The place that is noted for a spot; one that has none yet gets this one.
-fn place_of<'e>(first: &mut BTreeMap<SpotKey<'e>, usize>, spot: &'e Spot, n: usize) -> Mem<usize>
-    ensures place { IfOk result (λ place. place ≡ unwrap_or (place_noted first.old spot.entry.now) n) }
-    ensures noted { OnOk result ((other : NamedSpot) → place_noted first.new other ≡ noted_after (place_noted first.old) spot.entry.now n other) }
+// The index that is noted for a spot; one that has none yet gets this one.
+fn index_of<'e>(first: &mut BTreeMap<SpotKey<'e>, usize>, spot: &'e Spot, n: usize) -> Mem<usize>
+    ensures index { IfOk result (λ index. index ≡ unwrap_or (index_noted first.old spot.entry.now) n) }
+    ensures noted { OnOk result ((other : NamedSpot) → index_noted first.new other ≡ noted_after (index_noted first.old) spot.entry.now n other) }
 {
     let key = key_of(spot);
     match first.get(&key).copied() {
-        Some(place) => Ok(place),
-        None => new_place(first, spot, n),
+        Some(index) => Ok(index),
+        None => new_index(first, spot, n),
     }
 }
 
-/// Of each entry the place of the first that names the same spot.
-pub fn first_places(alloc: Global, entries: &[Entry]) -> Mem<Vec<usize>>
-    ensures { IfOk result (λ places. places.items ≡ first_places entries.now) }
+/// Of each entry the index of the first that names the same spot.
+pub fn first_indices(alloc: Global, entries: &[Entry]) -> Mem<Vec<usize>>
+    ensures { IfOk result (λ indices. indices.items ≡ first_indices entries.now) }
 {
     let mut first = BTreeMap::new(alloc);
-    let mut places = Vec::new(alloc);
+    let mut indices = Vec::new(alloc);
     for n in 0..entries.len() {
         let entry = &entries[n];
-        let place = place_of(&mut first, &entry.spot, n)?;
-        places.push(place)?;
+        let index = index_of(&mut first, &entry.spot, n)?;
+        indices.push(index)?;
     }
-    Ok(places)
+    Ok(indices)
 }
 
 // Adds an entry at the end, where its number is this one.
 fn add_numbered<'e, 'a>(
     own: &mut LentEntries<'e, 'a>,
     entry: &'e Entry<'a>,
-    place: usize,
+    index: usize,
     n: usize,
 ) -> Mem<()>
-    ensures { OnOk result (own.new ≡ own.old ++ (if place == n then entry.entry.now ∷ [] else [])) }
+    ensures { OnOk result (own.new ≡ own.old ++ (if index == n then entry.entry.now ∷ [] else [])) }
 {
-    if place == n { own.push(entry) } else { Ok(()) }
+    if index == n { own.push(entry) } else { Ok(()) }
 }
 
 /// The entries whose spot has this number.
 pub fn numbered<'e, 'a>(
     alloc: Global,
     entries: &'e [Entry<'a>],
-    places: &[usize],
+    indices: &[usize],
     n: usize,
 ) -> Mem<LentEntries<'e, 'a>>
-    requires { places.now ≡ first_places entries.now }
+    requires { indices.now ≡ first_indices entries.now }
     ensures { IfOk result (λ own. own ≡ numbered entries.entry.now n) }
 {
     let mut own = LentEntries::new(alloc);
     for k in 0..entries.len() {
-        add_numbered(&mut own, &entries[k], places[k], n)?;
+        add_numbered(&mut own, &entries[k], indices[k], n)?;
     }
     Ok(own)
 }
 
-/// Whether the entry at a place names a spot that one before it names too.
-pub fn is_later(places: &[usize], n: usize) -> bool
-    requires { n < length places.now }
-    ensures { result ≡ not (slice_index places.now n == n) }
+/// Whether the entry at an index names a spot that one before it names too.
+pub fn is_later(indices: &[usize], n: usize) -> bool
+    requires { n < length indices.now }
+    ensures { result ≡ not (slice_index indices.now n == n) }
 {
-    places[n] != n
+    indices[n] != n
 }

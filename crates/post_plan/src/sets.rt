@@ -6,13 +6,13 @@ ghost use Rattle.std.specs.Str.{bytes_eq};
 ghost use Rattle.sp_base.specs.Bytes.{first_text};
 ghost use Rattle.post_plan.specs.Entries as spec;
 ghost use Rattle.post_plan.specs.Entries.{Entry as ContentEntry};
-ghost use Rattle.post_plan.specs.NumberedSpots.{first_places};
+ghost use Rattle.post_plan.specs.NumberedSpots.{first_indices};
 ghost use Rattle.post_plan.specs.Parameters.{words_of};
 
 use crate::entries::Entry;
 use crate::groups::{copy_of, same_suffix};
 use crate::hints::hint_of;
-use crate::numbered_spots::{LentEntries, first_places, is_later, numbered};
+use crate::numbered_spots::{LentEntries, first_indices, is_later, numbered};
 use crate::suffix::Suffix;
 use crate::words::words_of;
 use crate::{LentWords, PropSet, SetList, Spot};
@@ -185,23 +185,23 @@ fn set_of<'a>(
     }))
 }
 
-// What the entry at a place sets, where those before it don't name its spot. The other entries of its spot are those of its number.
+// What the entry at an index sets, where those before it don't name its spot. The other entries of its spot are those of its number.
 fn set_here<'a>(
     alloc: Global,
     pairs: &'a [(TextBuf, TextBuf)],
     entries: &[Entry<'a>],
-    places: &[usize],
+    indices: &[usize],
     n: usize,
 ) -> Mem<Option<PropSet<'a>>>
-    requires places { places.now ≡ first_places entries.now }
+    requires indices { indices.now ≡ first_indices entries.now }
     requires within { n < length entries.now }
     ensures { IfOk result (λ o. (e : ContentEntry) → slice_get entries.now n ≡ Some e → o ≡ spec.set_here pairs.now entries.now (take n entries.now) e) }
 {
-    if is_later(places, n) {
+    if is_later(indices, n) {
         return Ok(None);
     }
     let entry = &entries[n];
-    let own = numbered(alloc, entries, places, n)?;
+    let own = numbered(alloc, entries, indices, n)?;
     set_of(alloc, pairs, &own, &entry.spot)
 }
 
@@ -214,7 +214,7 @@ fn add<'a>(list: &mut SetList<'a>, set: Option<PropSet<'a>>) -> Mem<()>
     }
 }
 
-/// The properties that are set, each at the place of the first parameter that names it.
+/// The properties that are set, each at the index of the first parameter that names it.
 #[tactic(auto, using(crate::proofs::SetLemmas::turn, crate::proofs::SetLemmas::done))]
 pub fn sets<'a>(
     alloc: Global,
@@ -223,10 +223,10 @@ pub fn sets<'a>(
 ) -> Mem<SetList<'a>>
     ensures { IfOk result (λ l. l ≡ spec.sets pairs.now entries.now) }
 {
-    let places = first_places(alloc, entries)?;
+    let indices = first_indices(alloc, entries)?;
     let mut list = SetList::new(alloc);
     for n in 0..entries.len() {
-        let set = set_here(alloc, pairs, entries, &places, n)?;
+        let set = set_here(alloc, pairs, entries, &indices, n)?;
         add(&mut list, set)?;
     }
     Ok(list)

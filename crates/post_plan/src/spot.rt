@@ -1,7 +1,7 @@
 //! Where a node or a property stands.
 use sp_base::{Items, Path};
 
-/// The place of a node or a property, its last segment being its name.
+/// Where a node or a property stands, its last segment being its name.
 #[derive(Drop)]
 pub struct Spot {
     /// The path is relative to the node that is modified or made; else it is absolute.

@@ -1,4 +1,4 @@
-//! The places that texts name, seen from a node.
+//! The spots that texts name, seen from a node.
 ghost use Rattle.std.specs.Prelude.{◌≡◌, ◌<◌, ◌++◌, ◌-◌, IfOk, not, option_and_then, length, map, option_copied, slice_get, string_bytes};
 ghost use Rattle.std.specs.List.{list_all};
 ghost use Rattle.sp_base.specs.Paths.{is_path, path_or_none, pieces, seg_ok};

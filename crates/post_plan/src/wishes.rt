@@ -84,7 +84,7 @@ pub fn name_in(wish: &NameWish) -> &str
 /// How the target of a POST ends.
 #[derive(Clone, Copy, Drop)]
 pub struct TargetEnding {
-    /// A star, or a slash in its place, asks for a new node under the target.
+    /// A star, or a slash instead of it, asks for a new node under the target.
     pub star: bool,
 }
 

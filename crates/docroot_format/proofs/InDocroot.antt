@@ -13,7 +13,7 @@ use Rattle.cover_rules.specs.declared.page.PageKey.{PageKey}
 use Rattle.cover_rules.specs.Names.{file_name}
 use Rattle.cover_rules.specs.Pages.{IsPageKey, page_path}
 use Rattle.docroot_format.specs.Names.{body_name, folder_name, head_name, is_docroot_name, is_file_name_byte, is_docroot_name_byte, stat_name}
-use Rattle.docroot_format.proofs.FileKinds.{body_not_beside, head_not_beside, inside_segments, stat_not_beside}
+use Rattle.docroot_format.proofs.FileRoles.{body_not_beside, head_not_beside, inside_segments, stat_not_beside}
 use Rattle.docroot_format.proofs.Inside.{body_inside, bytes_ok, head_inside, stat_inside}
 use Rattle.docroot_format.proofs.NameLemmas.{append_both}
 

@@ -7,7 +7,7 @@ pub mod PagePlaces
 pub mod ReadBack
 pub mod Inside
 pub mod Apart
-pub mod FileKinds
+pub mod FileRoles
 pub mod InDocroot
 pub mod LastPieces
 pub mod Spelled

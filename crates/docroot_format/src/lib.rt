@@ -2,7 +2,7 @@
 #![tactic(auto)]
 
 mod fault;
-mod file_kind;
+mod file_role;
 mod head;
 mod laws;
 mod names;
@@ -11,7 +11,7 @@ mod stat;
 mod texts;
 
 pub use fault::FileFault;
-pub use file_kind::{is_page_file, is_stat_file};
+pub use file_role::{is_page_file, is_stat_file};
 pub use head::{PageHead, head_in};
 pub use laws::{
     a_page_has_files, deleted_pages_are_told_by_names, folders_are_mangled,

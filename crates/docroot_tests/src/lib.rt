@@ -4,7 +4,7 @@
 #[cfg(test)]
 mod disks;
 #[cfg(test)]
-mod file_kinds;
+mod file_roles;
 #[cfg(test)]
 mod flushes;
 #[cfg(test)]

@@ -18,7 +18,7 @@ use Rattle.docroot_format.specs.Deletions.{IsDeletedByName}
 use Rattle.docroot_format.specs.Names.{epoch_name, is_page_file, stat_name}
 use Rattle.docroot_format.specs.Readings.{epoch_of, head_of, stat_of}
 use Rattle.docroot_format.proofs.Apart.{pieces_body}
-use Rattle.docroot_format.proofs.FileKinds.{name_of_push}
+use Rattle.docroot_format.proofs.FileRoles.{name_of_push}
 use Rattle.cache_files.specs.Epochs.{epoch_after}
 use Rattle.cache_files.specs.HeldStamps.{HoldsStamp, KeepsOrder}
 use Rattle.cache_files.specs.Pages.{head_at, note_of, page_at, page_body_name, page_head_name, stored_page}

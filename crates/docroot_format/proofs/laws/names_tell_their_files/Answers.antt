@@ -1,6 +1,6 @@
 use Rattle.std.proofs.Common.{refl}
 use Rattle.cover_rules.specs.Pages.{page_path}
-use Rattle.docroot_format.proofs.FileKinds.{body_is_page_file, head_is_page_file, page_no_stat, stat_is_stat_file}
+use Rattle.docroot_format.proofs.FileRoles.{body_is_page_file, head_is_page_file, page_no_stat, stat_is_stat_file}
 use Rattle.docroot_format.proofs.laws.names_tell_their_files.Goals as goal
 
 pub returns-clause-body : goal.returns-clause-body

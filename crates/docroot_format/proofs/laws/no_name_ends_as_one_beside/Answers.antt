@@ -1,4 +1,4 @@
-use Rattle.docroot_format.proofs.FileKinds.{body_not_beside, epoch_not_beside, head_not_beside, stat_not_beside}
+use Rattle.docroot_format.proofs.FileRoles.{body_not_beside, epoch_not_beside, head_not_beside, stat_not_beside}
 use Rattle.docroot_format.proofs.laws.no_name_ends_as_one_beside.Goals as goal
 
 pub returns-clause-body : goal.returns-clause-body

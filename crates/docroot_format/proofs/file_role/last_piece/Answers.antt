@@ -2,7 +2,7 @@ use Rattle.std.proofs.Common.{Some, None, lit<, ◌∙◌}
 use Rattle.std.proofs.lemmas.Str.Pattern.{rfind_char}
 use Rattle.sp_base.proofs.PathParts.{last_found}
 use Rattle.docroot_format.proofs.LastPieces.{after_last_slash, without_slash}
-use Rattle.docroot_format.proofs.file_kind.last_piece.Goals as goal
+use Rattle.docroot_format.proofs.file_role.last_piece.Goals as goal
 
 pub returns-in-Some : goal.returns-in-Some
 returns-in-Some c =

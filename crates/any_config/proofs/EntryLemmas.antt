@@ -19,12 +19,12 @@ fails_on (NotSupported name) read next f = ap (λ (r : FarmOutcome _). r >>= nex
 goes_on : {A B : Type 0} (fault : FarmFault) (read : FarmOutcome A) (x : A) (next : A → FarmOutcome B) → read ≡ Ok x → FarmFails fault (next x) → FarmFails fault (read >>= next)
 goes_on fault read x next e f = subst (λ (r : FarmOutcome _). FarmFails fault (r >>= next)) (sym e) f
 
-pub query_fails : (ms : Members) (fault : FarmFault) (a : Bool) (line method url path selectors extension suffix : Option Test) → allow ms ≡ Ok a → test_at (codes "glob") ms ≡ Ok line
+pub query_fails : (ms : Members) (fault : FarmFault) (a : Bool) (request_line method url path selectors extension suffix : Option Test) → allow ms ≡ Ok a → test_at (codes "glob") ms ≡ Ok request_line
     → test_at (codes "method") ms ≡ Ok method → test_at (codes "url") ms ≡ Ok url → test_at (codes "path") ms ≡ Ok path → test_at (codes "selectors") ms ≡ Ok selectors
     → test_at (codes "extension") ms ≡ Ok extension → test_at (codes "suffix") ms ≡ Ok suffix → FarmFails fault (test_at (codes "query") ms) → FarmFails fault (filter ms)
 unfolding filter
-query_fails ms fault a line method url path selectors extension suffix e0 e1 e2 e3 e4 e5 e6 e7 f =
-    goes_on fault (allow ms) a _ e0 (goes_on fault (test_at (codes "glob") ms) line _ e1 (goes_on fault (test_at (codes "method") ms) method _ e2 (goes_on fault (test_at (codes "url") ms) url _ e3
+query_fails ms fault a request_line method url path selectors extension suffix e0 e1 e2 e3 e4 e5 e6 e7 f =
+    goes_on fault (allow ms) a _ e0 (goes_on fault (test_at (codes "glob") ms) request_line _ e1 (goes_on fault (test_at (codes "method") ms) method _ e2 (goes_on fault (test_at (codes "url") ms) url _ e3
     (goes_on fault (test_at (codes "path") ms) path _ e4 (goes_on fault (test_at (codes "selectors") ms) selectors _ e5 (goes_on fault (test_at (codes "extension") ms) extension _ e6
     (goes_on fault (test_at (codes "suffix") ms) suffix _ e7 (fails_on fault (test_at (codes "query") ms) _ f))))))))
 

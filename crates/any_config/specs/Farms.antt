@@ -196,7 +196,7 @@ rule ms = do
 unfoldable pub filter : Members → FarmOutcome Filter
 filter ms = do
   a ← allow ms
-  line ← test_at (codes "glob") ms
+  request_line ← test_at (codes "glob") ms
   method ← test_at (codes "method") ms
   url ← test_at (codes "url") ms
   path ← test_at (codes "path") ms
@@ -204,7 +204,7 @@ filter ms = do
   extension ← test_at (codes "extension") ms
   suffix ← test_at (codes "suffix") ms
   query ← test_at (codes "query") ms
-  Ok (record { allow = a; line = line; method = method; url = url; path = path; selectors = selectors; extension = extension; suffix = suffix; query = query })
+  Ok (record { allow = a; request_line = request_line; method = method; url = url; path = path; selectors = selectors; extension = extension; suffix = suffix; query = query })
 
 -- an entry of the group of this name
 abbrev pub entry : {B : Type 0} → List ℕ → (Members → FarmOutcome B) → List ℕ × AnyNode → FarmOutcome B

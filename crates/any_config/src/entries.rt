@@ -114,7 +114,7 @@ fn filter(alloc: Global, members: &[Member]) -> Result<Filter, FarmFault>
 {
     Ok(Filter {
         allow: allow(alloc, members)?,
-        line: test_at(alloc, "glob", members)?,
+        request_line: test_at(alloc, "glob", members)?,
         method: test_at(alloc, "method", members)?,
         url: test_at(alloc, "url", members)?,
         path: test_at(alloc, "path", members)?,

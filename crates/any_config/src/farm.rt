@@ -27,8 +27,7 @@ pub enum Test {
 #[derive(Drop)]
 pub struct Filter {
     pub allow: bool,
-    /// The request line.
-    pub line: Option<Test>,
+    pub request_line: Option<Test>,
     pub method: Option<Test>,
     /// The decoded path text.
     pub url: Option<Test>,

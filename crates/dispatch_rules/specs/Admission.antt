@@ -53,7 +53,7 @@ request_query req = utf8_lossy (unwrap_or req.query [])
 
 -- each test that a filter entry has fits its part of the request
 abbrev pub applies : Request → Filter → Bool
-applies req entry = fits entry.line req.line && (fits entry.method req.method && (fits entry.url (text_of req.path) && (fits entry.path (stem (text_of req.path))
+applies req entry = fits entry.request_line req.line && (fits entry.method req.method && (fits entry.url (text_of req.path) && (fits entry.path (stem (text_of req.path))
     && (fits entry.selectors (selectors (text_of req.path)) && (fits entry.extension (extension (text_of req.path)) && (fits entry.suffix (suffix (text_of req.path)) && fits entry.query (request_query req)))))))
 
 -- a host of the farm is asked, and the filter allows the request

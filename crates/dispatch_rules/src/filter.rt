@@ -74,7 +74,7 @@ fn applies(alloc: Global, entry: &Filter, seen: &RequestParts) -> Mem<bool>
     ensures { IfOk result (λ yes. yes ≡ applies_to seen.now entry.now) }
 {
     Ok(
-        fits(alloc, &entry.line, seen.line)?
+        fits(alloc, &entry.request_line, seen.line)?
             && (fits(alloc, &entry.method, seen.method)?
                 && (fits(alloc, &entry.url, seen.url)?
                     && (fits(alloc, &entry.path, seen.path)?

@@ -90,7 +90,7 @@ filter_alike : (ms others : Members) → HaveWordsAlike filter_names ms others �
 unfolding filter
 filter_alike ms others h =
     let type = allow_alike ms others h.0 in
-    let line = test_at_alike (codes "glob") ms others h.1.0 in
+    let request_line = test_at_alike (codes "glob") ms others h.1.0 in
     let method = test_at_alike (codes "method") ms others h.1.1.0 in
     let url = test_at_alike (codes "url") ms others h.1.1.1.0 in
     let path = test_at_alike (codes "path") ms others h.1.1.1.1.0 in
@@ -98,7 +98,7 @@ filter_alike ms others h =
     let extension = test_at_alike (codes "extension") ms others h.1.1.1.1.1.1.0 in
     let suffix = test_at_alike (codes "suffix") ms others h.1.1.1.1.1.1.1.0 in
     let query = test_at_alike (codes "query") ms others h.1.1.1.1.1.1.1.1.0 in
-    rw (type, line, method, url, path, selectors, extension, suffix, query) refl
+    rw (type, request_line, method, url, path, selectors, extension, suffix, query) refl
 
 entry_alike : {B : Type 0} (Alike : Members → Members → Type 0) (read : Members → FarmOutcome B) → ((ms others : Members) → Alike ms others → read ms ≡ read others)
     → (group : List ℕ) (m n : List ℕ × AnyNode) → AreEntriesAlike Alike group m n → entry group read m ≡ entry group read n

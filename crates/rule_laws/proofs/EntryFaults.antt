@@ -217,14 +217,14 @@ from_method = codes "method" ∷ from_url
 filter_fails : (ms : Members) (fault : FarmFault) → Fails (filter ms) fault (IsBadFilter ms fault)
 unfolding filter
 filter_fails ms fault = turn (allow ms) _ fault ((a : Bool) × SaysAllow ms a) (IsBadType ms fault) (IsFirstBadTest ms fault test_names) (type_row ms fault) (λ a.
-    test_turn ms fault (codes "glob") from_method _ (λ line.
+    test_turn ms fault (codes "glob") from_method _ (λ request_line.
     test_turn ms fault (codes "method") from_url _ (λ method.
     test_turn ms fault (codes "url") from_path _ (λ url.
     test_turn ms fault (codes "path") from_selectors _ (λ path.
     test_turn ms fault (codes "selectors") from_extension _ (λ selectors.
     test_turn ms fault (codes "extension") from_suffix _ (λ extension.
     test_turn ms fault (codes "suffix") from_query _ (λ suffix.
-    test_turn ms fault (codes "query") [] _ (λ query. never (record { allow = a; line = line; method = method; url = url; path = path; selectors = selectors; extension = extension; suffix = suffix; query = query }) fault)))))))))
+    test_turn ms fault (codes "query") [] _ (λ query. never (record { allow = a; request_line = request_line; method = method; url = url; path = path; selectors = selectors; extension = extension; suffix = suffix; query = query }) fault)))))))))
 
 pub filter_row : (group : List ℕ) (fault : FarmFault) (m : List ℕ × AnyNode) → Row (entry group filter m) ((f : Filter) × IsFilterEntry m f) fault (IsBadEntry IsBadFilter group m fault)
 filter_row group fault m = record {

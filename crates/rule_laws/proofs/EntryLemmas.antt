@@ -159,22 +159,22 @@ unfolding filter
 filter_found group m r e =
     let b = bind_found (group_of (name_or m.0 group) m.1) filter r e in
     let a = bind_found (allow b.0) _ r b.2 in
-    let line = bind_found (test_at (codes "glob") b.0) _ r a.2 in
-    let method = bind_found (test_at (codes "method") b.0) _ r line.2 in
+    let request_line = bind_found (test_at (codes "glob") b.0) _ r a.2 in
+    let method = bind_found (test_at (codes "method") b.0) _ r request_line.2 in
     let url = bind_found (test_at (codes "url") b.0) _ r method.2 in
     let path = bind_found (test_at (codes "path") b.0) _ r url.2 in
     let selectors = bind_found (test_at (codes "selectors") b.0) _ r path.2 in
     let extension = bind_found (test_at (codes "extension") b.0) _ r selectors.2 in
     let suffix = bind_found (test_at (codes "suffix") b.0) _ r extension.2 in
     let query = bind_found (test_at (codes "query") b.0) _ r suffix.2 in
-    let made : Filter = record { allow = a.0; line = line.0; method = method.0; url = url.0; path = path.0; selectors = selectors.0; extension = extension.0; suffix = suffix.0; query = query.0 } in
+    let made : Filter = record { allow = a.0; request_line = request_line.0; method = method.0; url = url.0; path = path.0; selectors = selectors.0; extension = extension.0; suffix = suffix.0; query = query.0 } in
     let same : made ≡ r = ok_is made r query.2 in
     subst (λ (s : Filter). IsFilterEntry m s) same
     (record {
       members = b.0;
       group = group_found (name_or m.0 group) m.1 b.0 b.1;
       allow = allow_found b.0 a.0 a.1;
-      line = test_found (codes "glob") b.0 line.0 line.1;
+      request_line = test_found (codes "glob") b.0 request_line.0 request_line.1;
       method = test_found (codes "method") b.0 method.0 method.1;
       url = test_found (codes "url") b.0 url.0 url.1;
       path = test_found (codes "path") b.0 path.0 path.1;
@@ -189,7 +189,7 @@ unfolding filter
 filter_only group m r h =
     bind_only (group_of (name_or m.0 group) m.1) filter h.members r (group_only (name_or m.0 group) m.1 h.members h.group)
     (bind_only (allow h.members) _ r.allow r (allow_only h.members r.allow h.allow)
-    (bind_only (test_at (codes "glob") h.members) _ r.line r (test_only (codes "glob") h.members r.line h.line)
+    (bind_only (test_at (codes "glob") h.members) _ r.request_line r (test_only (codes "glob") h.members r.request_line h.request_line)
     (bind_only (test_at (codes "method") h.members) _ r.method r (test_only (codes "method") h.members r.method h.method)
     (bind_only (test_at (codes "url") h.members) _ r.url r (test_only (codes "url") h.members r.url h.url)
     (bind_only (test_at (codes "path") h.members) _ r.path r (test_only (codes "path") h.members r.path h.path)

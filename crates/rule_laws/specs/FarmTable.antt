@@ -100,7 +100,7 @@ pub record IsFilterEntry (m : List ℕ × AnyNode) (filter : Filter) : Type 0 wh
   pub members : Members
   pub group : IsGroup m.1 members
   pub allow : SaysAllow members filter.allow
-  pub line : HasTest members (codes "glob") filter.line
+  pub request_line : HasTest members (codes "glob") filter.request_line
   pub method : HasTest members (codes "method") filter.method
   pub url : HasTest members (codes "url") filter.url
   pub path : HasTest members (codes "path") filter.path

@@ -21,7 +21,7 @@ use Rattle.sp_base.specs.declared.answer.Answer.{Answer}
 use Rattle.sp_base.specs.declared.answer.Mark.{Mark}
 use Rattle.sp_base.specs.declared.answer.Mark.TheVariants.{Plain, NoCache, NoStore, MustRevalidate}
 use Rattle.sp_base.proofs.TextLemmas.{one_run_of_digits}
-use Rattle.http_front.specs.Answers.{Field, allowed_methods, answer_bytes, answer_content, connection, content_length, directive_of, field_line, fields_of, fixed_507, is_without_content, plain_value, status_line, unless_empty}
+use Rattle.http_front.specs.Answers.{Field, allowed_methods, answer_bytes, answer_content, connection, content_length, directive_of, field_line, fields_of, fixed_507, is_without_content, printable_value, status_line, unless_empty}
 use Rattle.connections.specs.Slots.{IsHit, fixed_answer, are_fixed_507}
 use Rattle.connections.proofs.DigitLemmas.{decimal-all, written-0, written-507}
 
@@ -72,9 +72,9 @@ field_values kind location methods directive size last =
     unless_empty (codes "Content-Type") kind
     ++ (unless_empty (codes "Location") location ++ (unless_empty (codes "Allow") methods ++ (unless_empty (codes "Cache-Control") directive ++ (unless_empty (codes "Content-Length") size ++ unless_empty (codes "Connection") last))))
 
-fields_spread : (h c : Bool) (a : Answer) → fields_of h c a ≡ field_values (plain_value a.kind) (location_of a.location) (allowed_methods a.status) (directive_of a.mark) (content_length h a) (connection c)
+fields_spread : (h c : Bool) (a : Answer) → fields_of h c a ≡ field_values (printable_value a.kind) (location_of a.location) (allowed_methods a.status) (directive_of a.mark) (content_length h a) (connection c)
 fields_spread h c a =
-    let u = unless_empty (codes "Content-Type") (plain_value a.kind) in
+    let u = unless_empty (codes "Content-Type") (printable_value a.kind) in
     let v = unless_empty (codes "Location") (location_of a.location) in
     let w = unless_empty (codes "Allow") (allowed_methods a.status) in
     let x = unless_empty (codes "Cache-Control") (directive_of a.mark) in
@@ -144,15 +144,15 @@ answer_spread h c a =
     append_assoc (s ++ f) line_end (answer_content h a) ∙ append_assoc s f (line_end ++ answer_content h a)
 
 fixed_fields : (h c : Bool) (a : Answer) → answer_bytes h c a ≡ fixed_507
-    → (a.status ≡ 507) × (fields_text (field_values (plain_value a.kind) (location_of a.location) (allowed_methods a.status) (directive_of a.mark) (content_length h a) (connection c)) (answer_content h a) ≡ fixed_rest)
+    → (a.status ≡ 507) × (fields_text (field_values (printable_value a.kind) (location_of a.location) (allowed_methods a.status) (directive_of a.mark) (content_length h a) (connection c)) (answer_content h a) ≡ fixed_rest)
 fixed_fields h c a e =
     let at = one_status a.status (fields_text (fields_of h c a) (answer_content h a)) (sym (answer_spread h c a) ∙ e) in
     (at.0, ap (λ fields. fields_text fields (answer_content h a)) (sym (fields_spread h c a)) ∙ at.1)
 
-plain_none : (v : List ℕ) → plain_value v ≡ [] → v ≡ []
-unfolding plain_value
-plain_none [] e = refl
-plain_none (b ∷ v) e = absurd (let no : ⊥ = cc in no)
+printable_none : (v : List ℕ) → printable_value v ≡ [] → v ≡ []
+unfolding printable_value
+printable_none [] e = refl
+printable_none (b ∷ v) e = absurd (let no : ⊥ = cc in no)
 
 location_none : (v : List ℕ) → location_of v ≡ [] → v ≡ []
 unfolding location_of percent_encode_byte
@@ -196,12 +196,12 @@ pub fixed_is : (h c : Bool) (a : Answer) → answer_bytes h c a ≡ fixed_507 �
 fixed_is h c a e =
     let tail = answer_content h a in
     let first = fixed_fields h c a e in
-    let second = after_kind (plain_value a.kind) _ tail first.1 in
+    let second = after_kind (printable_value a.kind) _ tail first.1 in
     let third = after_location (location_of a.location) _ tail second.1 in
     let fourth = after_methods (allowed_methods a.status) _ tail third.1 in
     let fifth = after_directive (directive_of a.mark) _ tail fourth.1 in
     let sizes = sizes_fixed (is_without_content a.status) h c (length a.body) tail fifth.1 in
-    (sizes.0, sizes.1, fixed_by a first.0 (plain_none a.kind second.0) (location_none a.location third.0) (directive_none a.mark fifth.0) sizes.2)
+    (sizes.0, sizes.1, fixed_by a first.0 (printable_none a.kind second.0) (location_none a.location third.0) (directive_none a.mark fifth.0) sizes.2)
   where
     after_kind : (v : List ℕ) (later : List Field) (tail : List ℕ) → fields_text (unless_empty (codes "Content-Type") v ++ later) tail ≡ fixed_rest → (v ≡ []) × (fields_text later tail ≡ fixed_rest)
     after_kind v later tail e = let none = no_kind v later tail e in (none, subst (λ x. fields_text (unless_empty (codes "Content-Type") x ++ later) tail ≡ fixed_rest) none e)
@@ -226,7 +226,7 @@ pub are_fixed_507-fixed : (bytes : List ℕ) → bytes ≡ fixed_507 → are_fix
 are_fixed_507-fixed bytes e = rw e refl
 
 pub answer_fixed : answer_bytes false true fixed_answer ≡ fixed_507
-unfolding answer_bytes status_line field_line plain_value location_of phrase_of digits
+unfolding answer_bytes status_line field_line printable_value location_of phrase_of digits
 answer_fixed = refl
 
 -- An answer is sent as the fixed 507 where it is the fixed answer, is sent whole and closes its connection. That it is the fixed answer
@@ -263,7 +263,7 @@ unfolding field_line has_y
 typed_fields b v later tail = subst (λ u. has_y (fields_text (u ++ later) tail) ≡ true) (sym (unless_some (codes "Content-Type") b v)) refl
 
 error_fields : (h c : Bool) (status : ℕ) (tail : List ℕ) → has_y (fields_text (fields_of h c (error_answer status)) tail) ≡ true
-unfolding error_answer plain_value
+unfolding error_answer printable_value
 error_fields h c status tail =
     let a = error_answer status in
     ap (λ fields. has_y (fields_text fields tail)) (fields_spread h c a) ∙ typed_fields 116 (codes "ext/plain;charset=utf-8") _ tail

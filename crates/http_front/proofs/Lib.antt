@@ -1,4 +1,4 @@
-pub mod PlainPaths
+pub mod LiteralPaths
 pub mod TargetLemmas
 pub mod FieldLemmas
 pub mod HostLemmas

@@ -15,27 +15,27 @@ use Rattle.sp_base.specs.declared.answer.Answer.{Answer}
 use Rattle.sp_base.specs.declared.answer.Mark.{Mark}
 use Rattle.sp_base.specs.declared.answer.Mark.TheVariants.{Plain, NoCache, NoStore, MustRevalidate}
 use Rattle.sp_base.proofs.BoolLemmas.{and_first, and_second}
-use Rattle.http_front.specs.Answers.{plain_value, unless_empty, allowed_methods, directive_of, is_without_content, content_length, connection}
+use Rattle.http_front.specs.Answers.{printable_value, unless_empty, allowed_methods, directive_of, is_without_content, content_length, connection}
 use Rattle.http_front.specs.FieldValues.{IsPrintable, IsVisible, StaysInItsLine, ValuesStayInTheirLines}
 
 all_tested : (text : List ℕ) → list_all is_printable_ascii text ≡ true → All IsPrintable text
 all_tested [] h = All-nil IsPrintable
 all_tested (b ∷ text) h = All-cons IsPrintable b text (and_first _ _ h) (all_tested text (and_second _ _ h))
 
-plain_byte : (b : ℕ) → IsPrintable (if is_printable_ascii b then b else 32)
-plain_byte b =
+printable_byte : (b : ℕ) → IsPrintable (if is_printable_ascii b then b else 32)
+printable_byte b =
     elim (is_printable_ascii b) as (λ t. is_printable_ascii b ≡ t → IsPrintable (cond t b 32)) [
       | true ↦ λ e. e
       | false ↦ λ e. refl
     ] refl
 
-plain_all : (text : List ℕ) → All IsPrintable (map (λ b. if is_printable_ascii b then b else 32) text)
-plain_all [] = All-nil IsPrintable
-plain_all (b ∷ text) = All-cons IsPrintable _ _ (plain_byte b) (plain_all text)
+printable_all : (text : List ℕ) → All IsPrintable (map (λ b. if is_printable_ascii b then b else 32) text)
+printable_all [] = All-nil IsPrintable
+printable_all (b ∷ text) = All-cons IsPrintable _ _ (printable_byte b) (printable_all text)
 
-pub plain_printable : (text : List ℕ) → All IsPrintable (plain_value text)
-unfolding plain_value
-plain_printable text = plain_all text
+pub value_printable : (text : List ℕ) → All IsPrintable (printable_value text)
+unfolding printable_value
+value_printable text = printable_all text
 
 escape_visible : (b : ℕ) → IsEscapeByte b → IsVisible b
 escape_visible b h = grind (arith, nat_tests)
@@ -102,7 +102,7 @@ other_field name value other e = absurd (other (ap length e))
 pub values_stay : ValuesStayInTheirLines
 values_stay head_only close a h =
     let seen = location_visible a.location in
-    let kind = field_stays (codes "Content-Type") _ (plain_printable a.kind) (other_field (codes "Content-Type") _ (omega arith)) in
+    let kind = field_stays (codes "Content-Type") _ (value_printable a.kind) (other_field (codes "Content-Type") _ (omega arith)) in
     let location = field_stays (codes "Location") _ (All-weaker IsVisible IsPrintable visible_printable _ seen) (λ _. seen) in
     let methods = field_stays (codes "Allow") _ (methods_printable a.status) (other_field (codes "Allow") _ (omega arith)) in
     let directive = field_stays (codes "Cache-Control") _ (directive_printable a.mark) (other_field (codes "Cache-Control") _ (omega arith)) in

@@ -25,8 +25,8 @@ abbrev pub unless_empty : List ℕ → List ℕ → List Field
 unless_empty name value = if length value == 0 then [] else (name, value) ∷ []
 
 -- a text as a field's value: any byte but the printable ones of ASCII is a space, so that none ends the line (RFC 9110, section 5.5)
-unfoldable pub plain_value : List ℕ → List ℕ
-plain_value text = map (λ b. if is_printable_ascii b then b else 32) text
+unfoldable pub printable_value : List ℕ → List ℕ
+printable_value text = map (λ b. if is_printable_ascii b then b else 32) text
 
 -- the Cache-Control directive of a mark (RFC 9111, section 5.2.2)
 abbrev pub directive_of : Mark → List ℕ
@@ -55,7 +55,7 @@ connection close = if close then codes "close" else []
 -- the fields of an answer, in their order
 abbrev pub fields_of : Bool → Bool → Answer → List Field
 fields_of head_only close a =
-    unless_empty (codes "Content-Type") (plain_value a.kind)
+    unless_empty (codes "Content-Type") (printable_value a.kind)
     ++ unless_empty (codes "Location") (location_of a.location)
     ++ unless_empty (codes "Allow") (allowed_methods a.status)
     ++ unless_empty (codes "Cache-Control") (directive_of a.mark)

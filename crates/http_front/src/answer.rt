@@ -121,7 +121,7 @@ fn push_fields(
 ) -> Mem<()>
     ensures { OnOk result (out.new.items ≡ out.old.items ++ flat_map spec.field_line (spec.fields_of head_only close answer.now)) }
 {
-    let kind = plain_value(alloc, answer.kind.text())?;
+    let kind = printable_value(alloc, answer.kind.text())?;
     let location = location_of(alloc, answer.location.text())?;
     let length = content_length(alloc, head_only, answer)?;
     push_unless_empty(out, "Content-Type", kind.as_slice())?;
@@ -152,9 +152,9 @@ fn push_field(out: &mut Vec<u8>, name: &str, value: &[u8]) -> Mem<()>
     push(out, b"\r\n")
 }
 
-#[tactic(auto, unfolding(crate::specs::Answers::plain_value))]
-fn plain_value(alloc: Global, text: &str) -> Mem<Vec<u8>>
-    ensures { IfOk result (λ value. value.items ≡ spec.plain_value text.now) }
+#[tactic(auto, unfolding(crate::specs::Answers::printable_value))]
+fn printable_value(alloc: Global, text: &str) -> Mem<Vec<u8>>
+    ensures { IfOk result (λ value. value.items ≡ spec.printable_value text.now) }
 {
     let bytes = text.as_bytes().iter();
     let value = bytes.map(|b| printable_or_space(*b)).collect(alloc)?;

@@ -25,9 +25,9 @@ record Spelled (text : List ℕ) (b : ℕ) (r : List ℕ) : Type 0 where
   rest : rest_of text ≡ r
   begins : get_or text 0 0 ≢ 34
 
-told_plain : (b : ℕ) (r : List ℕ) → b ≢ 34 → b ≢ 92 → Spelled (b ∷ r) b r
+told_literal : (b : ℕ) (r : List ℕ) → b ≢ 34 → b ≢ 92 → Spelled (b ∷ r) b r
 unfolding spelled_byte rest_of
-told_plain b r quote slash =
+told_literal b r quote slash =
     let t : eqb b 92 ≡ false = grind (arith, nat_tests) in
     record { value = rw t refl; rest = rw t refl; begins = quote }
 
@@ -37,7 +37,7 @@ told_hex b r = record { value = omega (arith, unhex-hex (b / 16), unhex-hex (b %
 
 told_other : (b : ℕ) (r : List ℕ) → b ≢ 34 → b ≢ 92 → (visible : Bool) →
     Spelled ((if visible then b ∷ [] else codes "\\x" ++ hex (b / 16) ∷ hex (b % 16) ∷ []) ++ r) b r
-told_other b r quote slash true = told_plain b r quote slash
+told_other b r quote slash true = told_literal b r quote slash
 told_other b r quote slash false = told_hex b r
 
 told_at : (n : ℕ) (spelling r : List ℕ) → Spelled (spelling ++ r) n r → (b : ℕ) (other : List ℕ) → (b ≢ n → Spelled (other ++ r) b r)

@@ -53,21 +53,21 @@ newlines-choice : (t : Bool) (x y : List ℕ) → newlines x ≡ 0 → newlines 
 newlines-choice true x y p q = p
 newlines-choice false x y p q = q
 
-plain_above : (b : ℕ) → (nat_le 32 b && nat_le b 126) ≡ true → 11 ≤ b
-plain_above b e = grind (arith, nat_tests)
+printable_above : (b : ℕ) → (nat_le 32 b && nat_le b 126) ≡ true → 11 ≤ b
+printable_above b e = grind (arith, nat_tests)
 
 newlines-hex : (b : ℕ) → newlines (codes "\\x" ++ hex (b / 16) ∷ hex (b % 16) ∷ []) ≡ 0
 newlines-hex b =
     omega (arith, newlines-above (hex (b / 16)) (hex (b % 16) ∷ []) (hex_above (b / 16)), newlines-above (hex (b % 16)) [] (hex_above (b % 16)))
 
-newlines-plain : (b : ℕ) (t : Bool) → (t ≡ true → 11 ≤ b) → newlines (if t then b ∷ [] else codes "\\x" ++ hex (b / 16) ∷ hex (b % 16) ∷ []) ≡ 0
-newlines-plain b true above = newlines-above b [] (above refl)
-newlines-plain b false above = newlines-hex b
+newlines-printable : (b : ℕ) (t : Bool) → (t ≡ true → 11 ≤ b) → newlines (if t then b ∷ [] else codes "\\x" ++ hex (b / 16) ∷ hex (b % 16) ∷ []) ≡ 0
+newlines-printable b true above = newlines-above b [] (above refl)
+newlines-printable b false above = newlines-hex b
 
 newlines-quoted_byte : (b : ℕ) → newlines (quoted_byte b) ≡ 0
 newlines-quoted_byte b =
     newlines-choice (b == 34) _ _ refl (newlines-choice (b == 92) _ _ refl (newlines-choice (b == 13) _ _ refl (newlines-choice (b == 10) _ _ refl
-    (newlines-choice (b == 9) _ _ refl (newlines-plain b (nat_le 32 b && nat_le b 126) (plain_above b))))))
+    (newlines-choice (b == 9) _ _ refl (newlines-printable b (nat_le 32 b && nat_le b 126) (printable_above b))))))
 
 newlines-quoted : (bytes : List ℕ) → newlines (flat_map quoted_byte bytes) ≡ 0
 newlines-quoted [] = refl

@@ -10,7 +10,7 @@ use Rattle.std.proofs.lemmas.List.{length-map, take-append-drop, take_all}
 use Rattle.std.proofs.lemmas.List.Sums.{prefix_len-le-length}
 use lib.Lanes.{chunk, zip2, mask_l, top}
 use Rattle.replay_text.specs.Transcript.{quoted_byte}
-use Rattle.replay_text.specs.Quoting.{is_plain, ArePlain}
+use Rattle.replay_text.specs.Quoting.{is_literal, AreLiteral}
 
 zip2-map : (h : ℕ → ℕ → ℕ) (f g : ℕ → ℕ) (xs : List ℕ) → zip2 h (map f xs) (map g xs) ≡ map (λ x. h (f x) (g x)) xs
 zip2-map h f g [] = refl
@@ -37,9 +37,9 @@ all_pass q [] e k lt = absurd (omega arith)
 all_pass q (x ∷ xs) e zero lt = (all_byte (q x) _ (length xs) (prefix_len-le-length q xs) e).0
 all_pass q (x ∷ xs) e (suc k) lt = all_pass q xs (all_byte (q x) _ (length xs) (prefix_len-le-length q xs) e).1 k (omega arith)
 
--- no lane of a block stops, so each of its bytes is plain
+-- no lane of a block stops, so each of its bytes is literal
 no_lane : (d : List ℕ) (i n : ℕ) (z : List ℕ) (f : ℕ → ℕ) → i + n ≤ length d → n ≤ 64 → ((k : ℕ) → Fits w8 (get_or d k 0)) → z ≡ map f (chunk i n d)
-    → agree_below (λ x. top 7 (f x) || is_plain x) (λ _. true) 256 ≡ true → mask_l (map (top 7) z) % 2 ^ 64 ≡ 0 → ArePlain d i (i + n)
+    → agree_below (λ x. top 7 (f x) || is_literal x) (λ _. true) 256 ≡ true → mask_l (map (top 7) z) % 2 ^ 64 ≡ 0 → AreLiteral d i (i + n)
 no_lane d i n z f room few fits lanes all e k from to =
     let v = chunk i n d in
     let stops : ℕ → Bool = λ x. top 7 (f x) in
@@ -49,22 +49,22 @@ no_lane d i n z f room few fits lanes all e k from to =
     let back : i + (k - i) ≡ k = omega arith in
     let at = get_or-take n (drop i d) (k - i) 0 (omega arith) ∙ get_or-drop i d (k - i) 0 ∙ ap (λ j. get_or d j 0) back in
     let goes : stops (get_or d k 0) ≡ false = ap stops (sym at) ∙ not-true _ (all_pass (λ x. not (stops x)) v none (k - i) (omega (arith, long))) in
-    sym (ap (λ b. b || is_plain (get_or d k 0)) goes) ∙ agree_below_at (λ x. stops x || is_plain x) (λ _. true) 256 (get_or d k 0) all (fits k).fits
+    sym (ap (λ b. b || is_literal (get_or d k 0)) goes) ∙ agree_below_at (λ x. stops x || is_literal x) (λ _. true) 256 (get_or d k 0) all (fits k).fits
 
-pub plain_block : (d : List ℕ) (i n : ℕ) (z : List ℕ) (f : ℕ → ℕ) → i + n ≤ length d → n ≤ 64 → ((k : ℕ) → Fits w8 (get_or d k 0)) → z ≡ map f (chunk i n d)
-    → agree_below (λ x. top 7 (f x) || is_plain x) (λ _. true) 256 ≡ true → OnTrue (mask_l (map (top 7) z) % 2 ^ 64 == 0) (ArePlain d i (i + n))
-plain_block d i n z f room few fits lanes all =
-    on_true (mask_l (map (top 7) z) % 2 ^ 64 == 0) (ArePlain d i (i + n)) (λ e. no_lane d i n z f room few fits lanes all (eqb-true _ 0 e))
+pub literal_block : (d : List ℕ) (i n : ℕ) (z : List ℕ) (f : ℕ → ℕ) → i + n ≤ length d → n ≤ 64 → ((k : ℕ) → Fits w8 (get_or d k 0)) → z ≡ map f (chunk i n d)
+    → agree_below (λ x. top 7 (f x) || is_literal x) (λ _. true) 256 ≡ true → OnTrue (mask_l (map (top 7) z) % 2 ^ 64 == 0) (AreLiteral d i (i + n))
+literal_block d i n z f room few fits lanes all =
+    on_true (mask_l (map (top 7) z) % 2 ^ 64 == 0) (AreLiteral d i (i + n)) (λ e. no_lane d i n z f room few fits lanes all (eqb-true _ 0 e))
 
-quoted_alone : (b : ℕ) → is_plain b ≡ true → quoted_byte b ≡ b ∷ []
+quoted_alone : (b : ℕ) → is_literal b ≡ true → quoted_byte b ≡ b ∷ []
 quoted_alone b e = grind arith
 
 -- the first bytes are quoted as themselves
-pub quoted_run : (d : List ℕ) (n : ℕ) → n ≤ length d → ArePlain d 0 n → flat_map quoted_byte (take n d) ≡ take n d
-quoted_run d zero le plain = refl
-quoted_run [] (suc n) le plain = refl
-quoted_run (b ∷ d) (suc n) le plain =
-    ap₂ (λ x y. x ++ y) (quoted_alone b (plain 0 (omega arith) (omega arith))) (quoted_run d n (omega arith) (λ k from to. plain (suc k) (omega arith) (omega arith)))
+pub quoted_run : (d : List ℕ) (n : ℕ) → n ≤ length d → AreLiteral d 0 n → flat_map quoted_byte (take n d) ≡ take n d
+quoted_run d zero le literal = refl
+quoted_run [] (suc n) le literal = refl
+quoted_run (b ∷ d) (suc n) le literal =
+    ap₂ (λ x y. x ++ y) (quoted_alone b (literal 0 (omega arith) (omega arith))) (quoted_run d n (omega arith) (λ k from to. literal (suc k) (omega arith) (omega arith)))
 
 -- a run was written as it is, and the rest is left
 pub run_written : (before after bytes : List ℕ) (n : ℕ) → after ≡ before ++ take n bytes → flat_map quoted_byte (take n bytes) ≡ take n bytes

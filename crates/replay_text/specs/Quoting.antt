@@ -24,12 +24,12 @@ unfoldable pub spelled_byte : List ℕ → ℕ
 spelled_byte text = if get_or text 0 0 == 92 then escaped_byte (get_or text 1 0) (get_or text 2 0) (get_or text 3 0) else get_or text 0 0
 
 -- the byte stands for itself within quotes
-abbrev pub is_plain : ℕ → Bool
-is_plain b = is_printable_ascii b && (not (b == 34) && not (b == 92))
+abbrev pub is_literal : ℕ → Bool
+is_literal b = is_printable_ascii b && (not (b == 34) && not (b == 92))
 
 -- so does each byte from a place up to another
-abbrev pub ArePlain : List ℕ → ℕ → ℕ → Type 0
-ArePlain bytes from to = (k : ℕ) → from ≤ k → k < to → is_plain (get_or bytes k 0) ≡ true
+abbrev pub AreLiteral : List ℕ → ℕ → ℕ → Type 0
+AreLiteral bytes from to = (k : ℕ) → from ≤ k → k < to → is_literal (get_or bytes k 0) ≡ true
 
 -- no byte's spelling begins the text
 abbrev pub BeginsNoByte : List ℕ → Type 0

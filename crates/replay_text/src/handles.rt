@@ -9,9 +9,9 @@ use std::alloc::Global;
 fn push_mangled(out: &mut Vec<u8>, seg: &str) -> Mem<()>
     ensures { OnOk result (out.new.items ≡ out.old.items ++ 47 ∷ mangled_seg seg.now) }
 {
-    let (mark, rest) = mangled_parts(seg);
+    let (namespace_mark, rest) = mangled_parts(seg);
     push(out, b"/")?;
-    push(out, mark.as_bytes())?;
+    push(out, namespace_mark.as_bytes())?;
     push(out, rest.as_bytes())
 }
 

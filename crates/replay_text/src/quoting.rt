@@ -1,7 +1,7 @@
 //! Writes quoted texts. Bytes that stand for themselves are most of a text, and go as they are, run by run.
 ghost use Rattle.std.specs.Prelude.{◌≡◌, ◌+◌, ◌≤◌, ◌<◌, ◌++◌, OnOk, IfOk, flat_map, length, take};
 ghost use Rattle.std.specs.Bool.{OnTrue};
-ghost use Rattle.replay_text.specs.Quoting.{ArePlain, is_plain};
+ghost use Rattle.replay_text.specs.Quoting.{AreLiteral, is_literal};
 ghost use Rattle.replay_text.specs.Transcript.{quoted_byte, quotation};
 
 use crate::transcript::{hex_digit, push};
@@ -28,16 +28,16 @@ fn push_escaped(out: &mut Vec<u8>, b: u8) -> Mem<()>
 }
 
 // Whether the byte stands for itself.
-fn is_plain(b: u8) -> bool
-    ensures { result ≡ is_plain b }
+fn is_literal(b: u8) -> bool
+    ensures { result ≡ is_literal b }
 {
     b >= b' ' && b <= b'~' && b != b'"' && b != b'\\'
 }
 
 // Whether each byte of a block does.
-fn is_plain_block(bytes: &[u8], at: usize) -> bool
+fn is_literal_block(bytes: &[u8], at: usize) -> bool
     requires { at + LANES ≤ length bytes.now }
-    ensures { OnTrue result (ArePlain bytes.now at (at + LANES)) }
+    ensures { OnTrue result (AreLiteral bytes.now at (at + LANES)) }
 {
     let block = u8x32::from_slice(&bytes[at..]);
     let others = block.simd_lt(u8x32::splat(b' '))
@@ -48,24 +48,24 @@ fn is_plain_block(bytes: &[u8], at: usize) -> bool
 }
 
 // How many of the first bytes stand for themselves, as far as whole blocks of them do.
-fn plain_blocks(bytes: &[u8]) -> usize
+fn literal_blocks(bytes: &[u8]) -> usize
     ensures within { result ≤ length bytes.now }
-    ensures plain { ArePlain bytes.now 0 result }
+    ensures literal { AreLiteral bytes.now 0 result }
 {
     let mut n = 0;
-    while bytes.len() - n >= LANES && is_plain_block(bytes, n) {
+    while bytes.len() - n >= LANES && is_literal_block(bytes, n) {
         n += LANES;
     }
     n
 }
 
 // How many of the first bytes stand for themselves.
-fn plain_run(bytes: &[u8]) -> usize
+fn literal_run(bytes: &[u8]) -> usize
     ensures within { result ≤ length bytes.now }
-    ensures plain { flat_map quoted_byte (take result bytes.now) ≡ take result bytes.now }
+    ensures literal { flat_map quoted_byte (take result bytes.now) ≡ take result bytes.now }
 {
-    let mut n = plain_blocks(bytes);
-    while n < bytes.len() && is_plain(bytes[n]) {
+    let mut n = literal_blocks(bytes);
+    while n < bytes.len() && is_literal(bytes[n]) {
         n += 1;
     }
     n
@@ -77,7 +77,7 @@ fn push_front<'a>(out: &mut Vec<u8>, bytes: &'a [u8]) -> Mem<&'a [u8]>
     ensures written { IfOk result (λ rest. out.new.items ++ flat_map quoted_byte rest.now ≡ out.old.items ++ flat_map quoted_byte bytes.now) }
     ensures shorter { IfOk result (λ rest. length rest.now < length bytes.now) }
 {
-    let n = plain_run(bytes);
+    let n = literal_run(bytes);
     if n == 0 {
         push_escaped(out, bytes[0])?;
         Ok(&bytes[1..])

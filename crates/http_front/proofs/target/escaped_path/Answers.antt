@@ -2,7 +2,7 @@ use Rattle.std.proofs.Common.{◌≡◌, ◌∙◌, sym, subst}
 use Rattle.std.specs.Prelude.{IfOk}
 use Rattle.std.specs.Str.{IsUtf8}
 use Rattle.percent_encoding.specs.Percent.{percent_decode}
-use Rattle.http_front.proofs.PlainPaths.{text_says, no_text_says}
+use Rattle.http_front.proofs.LiteralPaths.{text_says, no_text_says}
 use Rattle.http_front.proofs.target.escaped_path.Goals as goal
 
 pub returns-in-Ok : goal.returns-in-Ok

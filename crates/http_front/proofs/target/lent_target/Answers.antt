@@ -4,7 +4,7 @@ use Rattle.std.specs.Option.{option_map}
 use Rattle.percent_encoding.specs.Percent.{percent_decode}
 use Rattle.http_front.specs.PathReading.{path_and_slash}
 use Rattle.http_front.specs.Targets.{utf8_text, query_of}
-use Rattle.http_front.proofs.PlainPaths.{with_query, target_told}
+use Rattle.http_front.proofs.LiteralPaths.{with_query, target_told}
 use Rattle.http_front.proofs.target.lent_target.Goals as goal
 
 pub returns-in-None : goal.returns-in-None

@@ -28,9 +28,9 @@ no_escape (b ∷ bytes) e =
 unmarked : (mark : List ℕ) (b : ℕ) (seg : List ℕ) → nat_eq 95 b ≡ false → is_mangled (95 ∷ mark) (b ∷ seg) ≡ false
 unmarked mark b seg e = ap (λ t. (t && pointwise nat_eq mark (take (length mark) seg)) && nat_lt (length (95 ∷ mark)) (length (b ∷ seg))) e
 
-plain_seg : (seg : List ℕ) → list_any is_underscore seg ≡ false → unmangled_seg seg ≡ seg
-plain_seg [] e = refl
-plain_seg (b ∷ seg) e =
+literal_seg : (seg : List ℕ) → list_any is_underscore seg ≡ false → unmangled_seg seg ≡ seg
+literal_seg [] e = refl
+literal_seg (b ∷ seg) e =
     let parts = or_parts (is_underscore b) (list_any is_underscore seg) e in
     let first : nat_eq 95 b ≡ false = grind (arith, nat_tests) in
     ap (λ t. cond t (unmangled_by (codes "_jcr_") (codes "jcr:") (b ∷ seg))
@@ -45,11 +45,11 @@ plain_seg (b ∷ seg) e =
     ∙ ap (λ t. cond t (unmangled_by (codes "_cq_") (codes "cq:") (b ∷ seg)) (b ∷ seg)) (unmarked (codes "cq_") b seg first)
 
 -- a path without an underscore has no mark
-pub plain_path : (segs : List (List ℕ)) → list_any is_underscore (spelling_of segs) ≡ false → unmangled_segs segs ≡ segs
-plain_path [] e = refl
-plain_path (seg ∷ segs) e =
+pub literal_path : (segs : List (List ℕ)) → list_any is_underscore (spelling_of segs) ≡ false → unmangled_segs segs ≡ segs
+literal_path [] e = refl
+literal_path (seg ∷ segs) e =
     let parts = or_parts (list_any is_underscore (47 ∷ seg)) (list_any is_underscore (spelling_of segs)) (sym (list_any-append is_underscore (47 ∷ seg) (spelling_of segs)) ∙ e) in
-    ap (λ s. s ∷ unmangled_segs segs) (plain_seg seg parts.0) ∙ ap (λ rest. seg ∷ rest) (plain_path segs parts.1)
+    ap (λ s. s ∷ unmangled_segs segs) (literal_seg seg parts.0) ∙ ap (λ rest. seg ∷ rest) (literal_path segs parts.1)
 
 -- a text says the path that its bytes spell, and bytes that are no text say none
 pub text_says : (text bytes : List ℕ) → text ≡ bytes → IsUtf8 bytes → path_and_slash text ≡ option_and_then path_and_slash (utf8_text bytes)

@@ -1,5 +1,5 @@
 -- Globs that are a text, or a text with a star at one end, and the bytes of both texts.
-use Rattle.std.proofs.Common.{◌≡◌, ℕ, Bool, true, List, [], ◌∷◌, ◌++◌, map, length, take, drop, ◌-◌, IsUtf8, refl, ap, sym, ◌∙◌, subst, eq-eqb, ◌==◌, arith}
+use Rattle.std.proofs.Common.{◌≡◌, ◌≢◌, ℕ, Bool, true, get_or, List, [], ◌∷◌, ◌++◌, map, length, take, drop, ◌-◌, IsUtf8, refl, ap, sym, ◌∙◌, subst, eq-eqb, ◌==◌, arith}
 use Rattle.std.specs.Prelude.{nat_eq, encode_utf8, encode_utf8_all}
 use Rattle.std.specs.Str.{chars}
 use Rattle.std.specs.Cmp.Lexicographic.{pointwise}
@@ -14,7 +14,7 @@ use Rattle.sp_base.proofs.BoolLemmas.{same_truth as same_bool}
 use Rattle.glob_rules.specs.declared.piece.GlobPiece.{GlobPiece}
 use Rattle.glob_rules.specs.declared.piece.GlobPiece.TheVariants.{Star, Literal}
 use Rattle.glob_rules.specs.Globs.{Matches, is_match}
-use Rattle.glob_rules.specs.Forms.{literals}
+use Rattle.glob_rules.specs.Forms.{IsNoComparison, literals}
 use Rattle.glob_rules.proofs.MatchLemmas.{sound, complete}
 
 abbrev literal : ℕ → GlobPiece
@@ -124,3 +124,60 @@ one_more text c u v =
 
 pub no_text : (text : List ℕ) → text ≡ [] → [] ≡ literals text
 no_text text e = sym (ap (map literal) (ap chars e ∙ chars-nil))
+
+-- ---- pieces that are no one comparison
+
+-- the piece at a place is a character, in what stands for a text
+abbrev IsCharacter : GlobPiece → Type 0
+IsCharacter piece = (c : ℕ) × (piece ≡ Literal c)
+
+character_at : (cs : List ℕ) (front later : List GlobPiece) (piece : GlobPiece) → front ++ piece ∷ later ≡ map literal cs → IsCharacter piece
+character_at [] [] later piece e = absurd cc
+character_at [] (x ∷ front) later piece e = absurd cc
+character_at (c ∷ cs) [] later piece e = (c, ap (λ l. get_or l 0 piece) e)
+character_at (c ∷ cs) (x ∷ front) later piece e = character_at cs front later piece (ap (drop 1) e)
+
+no_star : IsCharacter Star → ⊥
+no_star found = let same : Star ≡ Literal found.0 = found.1 in absurd cc
+
+-- a piece that is no character stands in no text
+pub no_literals : (pieces front later : List GlobPiece) (piece : GlobPiece) → pieces ≡ front ++ piece ∷ later → ((c : ℕ) → piece ≢ Literal c) → (text : List ℕ) → pieces ≢ literals text
+no_literals pieces front later piece parts other text e =
+    let found = character_at (chars text) front later piece (sym parts ∙ e) in
+    other found.0 found.1
+
+-- what stands before the same last piece is the same
+same_front : (xs ys : List GlobPiece) → xs ++ Star ∷ [] ≡ ys ++ Star ∷ [] → xs ≡ ys
+same_front [] [] e = refl
+same_front [] (y ∷ ys) e = absurd (omega (arith, ap length e, length-append ys (Star ∷ [])))
+same_front (x ∷ xs) [] e = absurd (omega (arith, ap length e, length-append xs (Star ∷ [])))
+same_front (x ∷ xs) (y ∷ ys) e =
+    let head : x ≡ y = ap (λ l. get_or l 0 x) e in
+    let tail : xs ≡ ys = same_front xs ys (ap (drop 1) e) in
+    cc
+
+-- with no star at an end, only a text is one comparison
+pub by_pieces : (pieces : List GlobPiece) → ((later : List GlobPiece) → pieces ≢ Star ∷ later) → ((run : List GlobPiece) → pieces ≢ run ++ Star ∷ []) → ((text : List ℕ) → pieces ≢ literals text) → IsNoComparison pieces
+by_pieces pieces first last none = record { whole = none; beginning = λ text e. last (literals text) e; ending = λ text e. first (literals text) e }
+
+-- with a star first, only a text after it is
+pub by_pieces_after : (later : List GlobPiece) → ((text : List ℕ) → later ≢ literals text) → IsNoComparison (Star ∷ later)
+by_pieces_after later none = record {
+  whole = λ text e. no_star (character_at (chars text) [] later Star e);
+  beginning = λ text e. by_text (chars text) (ap (map literal) chars-nil) e;
+  ending = λ text e. none text (ap (drop 1) e);
+} where
+  by_text : (cs : List ℕ) → literals [] ≡ [] → Star ∷ later ≡ map literal cs ++ Star ∷ [] → ⊥
+  by_text [] nil e = none [] (ap (drop 1) e ∙ sym nil)
+  by_text (c ∷ cs) nil e = let head : Star ≡ Literal c = ap (λ l. get_or l 0 Star) e in absurd cc
+
+-- with a star last, only a text before it is
+pub by_pieces_before : (run : List GlobPiece) → ((text : List ℕ) → run ≢ literals text) → IsNoComparison (run ++ Star ∷ [])
+by_pieces_before run none = record {
+  whole = λ text e. no_star (character_at (chars text) run [] Star e);
+  beginning = λ text e. none text (same_front run (literals text) e);
+  ending = λ text e. by_run run none text e;
+} where
+  by_run : (xs : List GlobPiece) → ((text : List ℕ) → xs ≢ literals text) → (text : List ℕ) → xs ++ Star ∷ [] ≡ Star ∷ literals text → ⊥
+  by_run [] other text e = other [] (sym (ap (map literal) chars-nil))
+  by_run (x ∷ xs) other text e = no_star (character_at (chars text) xs [] Star (ap (drop 1) e))

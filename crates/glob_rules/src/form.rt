@@ -1,8 +1,9 @@
 //! How a glob is compared with a text: most globs are one comparison of bytes.
-ghost use Rattle.std.specs.Prelude.{◌≡◌, ◌∷◌, ◌++◌, [], IfOk, IfSome};
+ghost use Rattle.std.specs.Prelude.{◌≡◌, ◌≢◌, ◌∷◌, ◌++◌, [], List, ℕ, IfOk, MatchOption};
 ghost use Rattle.std.specs.Str.{chars};
 ghost use Rattle.glob_rules.specs.Forms.{IsForm, literals};
 ghost use Rattle.glob_rules.specs.Globs.{is_match};
+ghost use Rattle.glob_rules.specs.declared.piece.GlobPiece.{GlobPiece as ContentPiece};
 ghost use Rattle.glob_rules.specs.declared.piece.GlobPiece.TheVariants.{Star};
 
 use crate::piece::GlobPiece;
@@ -24,14 +25,40 @@ pub(crate) enum GlobForm {
 pub(crate) fn form_of(alloc: Global, pieces: &[GlobPiece]) -> Mem<(GlobForm, TextBuf)>
     ensures { IfOk result (λ formed. IsForm formed.0 formed.1 pieces.now) }
 {
-    match pieces {
-        [GlobPiece::Star, later @ ..] => ending(alloc, later),
-        [run @ .., GlobPiece::Star] => beginning(alloc, run),
-        _ => whole(alloc, pieces),
+    if let Some(later) = after_star(pieces) {
+        return ending(alloc, later);
+    }
+    match before_star(pieces) {
+        Some(run) => beginning(alloc, run),
+        None => whole(alloc, pieces),
     }
 }
 
+// The pieces after a star that comes first.
+fn after_star(pieces: &[GlobPiece]) -> Option<&[GlobPiece]>
+    ensures { MatchOption result ((later : List ContentPiece) → pieces.now ≢ Star ∷ later) (λ later. pieces.now ≡ Star ∷ later.now) }
+{
+    match pieces {
+        [GlobPiece::Star, later @ ..] => Some(later),
+        _ => None,
+    }
+}
+
+// The pieces before a star that comes last.
+fn before_star(pieces: &[GlobPiece]) -> Option<&[GlobPiece]>
+    ensures { MatchOption result ((run : List ContentPiece) → pieces.now ≢ run ++ Star ∷ []) (λ run. pieces.now ≡ run.now ++ Star ∷ []) }
+{
+    match pieces {
+        [run @ .., GlobPiece::Star] => Some(run),
+        _ => None,
+    }
+}
+
+// The form of pieces with no star at an end.
+#[tactic(auto, using(crate::proofs::FormLemmas::by_pieces))]
 fn whole(alloc: Global, pieces: &[GlobPiece]) -> Mem<(GlobForm, TextBuf)>
+    requires first { (later : List ContentPiece) → pieces.now ≢ Star ∷ later }
+    requires last { (run : List ContentPiece) → pieces.now ≢ run ++ Star ∷ [] }
     ensures { IfOk result (λ formed. IsForm formed.0 formed.1 pieces.now) }
 {
     match literal_text(alloc, pieces)? {
@@ -41,6 +68,7 @@ fn whole(alloc: Global, pieces: &[GlobPiece]) -> Mem<(GlobForm, TextBuf)>
 }
 
 // The form of pieces and a star after them.
+#[tactic(auto, using(crate::proofs::FormLemmas::by_pieces_before))]
 fn beginning(alloc: Global, run: &[GlobPiece]) -> Mem<(GlobForm, TextBuf)>
     ensures { IfOk result (λ formed. IsForm formed.0 formed.1 (run.now ++ Star ∷ [])) }
 {
@@ -51,6 +79,7 @@ fn beginning(alloc: Global, run: &[GlobPiece]) -> Mem<(GlobForm, TextBuf)>
 }
 
 // The form of a star and the pieces after it.
+#[tactic(auto, using(crate::proofs::FormLemmas::by_pieces_after))]
 fn ending(alloc: Global, later: &[GlobPiece]) -> Mem<(GlobForm, TextBuf)>
     ensures { IfOk result (λ formed. IsForm formed.0 formed.1 (Star ∷ later.now)) }
 {
@@ -67,9 +96,9 @@ fn by_pieces(alloc: Global) -> (GlobForm, TextBuf)
     (GlobForm::Pieces, TextBuf::from(String::new(alloc)))
 }
 
-// The text of pieces that stand for one character each, if they all do.
+// The text of pieces that stand for one character each, exactly if they all do.
 fn literal_text(alloc: Global, pieces: &[GlobPiece]) -> Mem<Option<TextBuf>>
-    ensures { IfOk result (λ found. IfSome found (λ text. pieces.now ≡ literals text)) }
+    ensures { IfOk result (λ found. MatchOption found ((text : List ℕ) → pieces.now ≢ literals text) (λ text. pieces.now ≡ literals text)) }
 {
     let mut text = String::new(alloc);
     for piece in pieces {

@@ -178,8 +178,8 @@ fn read_turns(
             Ok(Some(turn)) => turns.push_back(turn)?,
             Ok(None) => return Ok(None),
             Err(fault) => {
-                let told = fault_or_memory(fault)?;
-                return Ok(Some(told));
+                let stream_fault = fault_or_memory(fault)?;
+                return Ok(Some(stream_fault));
             }
         }
     }
@@ -187,8 +187,8 @@ fn read_turns(
 
 // A fault that the stream has. Out of memory isn't one.
 fn fault_or_memory(fault: InFault) -> Mem<InFault>
-    ensures same { IfOk result (λ told. told ≡ fault) }
-    ensures other { IfOk result (λ told. fault ≢ variant.NoMemory) }
+    ensures same { IfOk result (λ stream_fault. stream_fault ≡ fault) }
+    ensures other { IfOk result (λ stream_fault. fault ≢ variant.NoMemory) }
 {
     match fault {
         InFault::NoMemory => Err(NoMemory),

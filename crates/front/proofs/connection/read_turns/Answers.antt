@@ -19,6 +19,6 @@ returns-in-Ok-None c =
 
 pub returns-in-Err : goal.returns-in-Err
 returns-in-Err c =
-    let told = c.in_ok-told-in-Err.ensures in
-    subst (λ fault. TellsTurns c.args.intake.now c.args.turns.now.items c.next.new.self c.loop-turn.turns.items (Some fault)) (sym told.same)
-    (tells_end _ _ _ _ _ (Some c.in-Err.fault) c.loop-turn.invariant c.in-Err.ensures.err (c.in-Err.ensures.breaks told.other))
+    let stream_fault = c.in_ok-stream_fault-in-Err.ensures in
+    subst (λ fault. TellsTurns c.args.intake.now c.args.turns.now.items c.next.new.self c.loop-turn.turns.items (Some fault)) (sym stream_fault.same)
+    (tells_end _ _ _ _ _ (Some c.in-Err.fault) c.loop-turn.invariant c.in-Err.ensures.err (c.in-Err.ensures.breaks stream_fault.other))

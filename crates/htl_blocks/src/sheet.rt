@@ -243,7 +243,7 @@ fn same_scope<'a>(scope: &Scope<'a>) -> Scope<'a>
         props: scope.props,
         path: scope.path,
         name: scope.name,
-        kind: scope.kind,
+        resource_type: scope.resource_type,
         vars: scope.vars,
     }
 }

@@ -4,7 +4,7 @@ use Rattle.std.proofs.lemmas.List.{length-append, length-drop, take-append-drop,
 use Rattle.std.proofs.lemmas.Slice.Eq.{bytes_eq-Decides}
 use Rattle.std.specs.Cmp.Lexicographic.{pointwise}
 use Rattle.htl_expr.specs.declared.cursor.Cursor.{Cursor}
-use Rattle.htl_expr.specs.Cursors.{piece_behind, left_behind, StandsIn, AreSameFor, GoesOn, AreComparedUpTo}
+use Rattle.htl_expr.specs.Cursors.{piece_behind, left_behind, StandsIn, AreSameFor, MovesOn, AreComparedUpTo}
 use Rattle.htl_expr.specs.Pieces.{with_commas}
 
 and_more : (a b c : Bool) → (a && (b && c)) ≡ ((a && b) && c)
@@ -66,7 +66,7 @@ same_for_pieces same xs ys first second within within_other stands stands_other 
     (same_for_longer same (piece_behind xs first) (piece_behind ys second) (with_commas (drop (first.place + 1) xs)) (with_commas (drop (second.place + 1) ys)) known)
 
 -- behind a piece
-pub behind_piece : (texts : List (List ℕ)) (old new : Cursor) (more : ℕ) → old.place < length texts → StandsIn texts old → old.bytes + more ≡ length (get_or texts old.place []) + 1 → new.place ≡ old.place + 1 → new.bytes ≡ 0 → GoesOn texts old more new
+pub behind_piece : (texts : List (List ℕ)) (old new : Cursor) (more : ℕ) → old.place < length texts → StandsIn texts old → old.bytes + more ≡ length (get_or texts old.place []) + 1 → new.place ≡ old.place + 1 → new.bytes ≡ 0 → MovesOn texts old more new
 behind_piece texts old new more within stands end place bytes =
     let text = get_or texts old.place [] in
     let rest = with_commas (drop (old.place + 1) texts) in (
@@ -77,7 +77,7 @@ behind_piece texts old new more within stands end place bytes =
 
 -- a comparison goes on
 pub compared_further : (xs ys : List (List ℕ)) (first second new other_new : Cursor) (left more : ℕ) → AreComparedUpTo xs ys first second left → AreSameFor (Some more) (left_behind xs first) (left_behind ys second)
-    → GoesOn xs first more new → GoesOn ys second more other_new → AreComparedUpTo xs ys new other_new (left - more)
+    → MovesOn xs first more new → MovesOn ys second more other_new → AreComparedUpTo xs ys new other_new (left - more)
 compared_further xs ys first second new other_new left more known same on other_on =
     let one = left_behind xs first in
     let other = left_behind ys second in

@@ -8,9 +8,9 @@ pub record Bindings : Type 0 where
   pub props : Properties
   pub path : List ℕ
   pub name : List ℕ
-  pub kind : List ℕ
+  pub resource_type : List ℕ
   pub vars : Pairs
 
 -- the same resource with these variables
 abbrev pub with_vars : Bindings → Pairs → Bindings
-with_vars scope vars = record { props = scope.props; path = scope.path; name = scope.name; kind = scope.kind; vars = vars }
+with_vars scope vars = record { props = scope.props; path = scope.path; name = scope.name; resource_type = scope.resource_type; vars = vars }

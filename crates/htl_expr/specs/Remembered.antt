@@ -6,6 +6,7 @@ use Rattle.sp_base.specs.Names.{by_name}
 use Rattle.htl_expr.specs.Bindings.{Bindings}
 use Rattle.htl_expr.specs.declared.numbered.Aspect.{Aspect}
 use Rattle.htl_expr.specs.declared.numbered.Aspect.TheVariants as aspect
+use Rattle.htl_expr.specs.declared.numbered.Numbering.{Numbering}
 use Rattle.htl_expr.specs.declared.pieces.ItemPiece.{ItemPiece}
 use Rattle.htl_expr.specs.declared.pieces.ItemPiece.TheVariants as piece
 use Rattle.htl_expr.specs.declared.scope.Scope.{Scope}
@@ -30,6 +31,11 @@ RemembersJoined scope known = (name : List ℕ) → IfSome (get by_name known na
 -- what is remembered of a property is its text as an item
 abbrev pub RemembersItemTexts : Scope → BTreeMap (List ℕ) (List ℕ) → Type 0
 RemembersItemTexts scope known = (name : List ℕ) → IfSome (get by_name known name) (λ text. text ≡ property_item scope name)
+
+-- what an evaluation remembers of its resource: the numbers of lists and of items, the joined texts, and the texts as items
+abbrev pub Remembers : Scope → Numbering → Numbering → BTreeMap (List ℕ) (List ℕ) → BTreeMap (List ℕ) (List ℕ) → Type 0
+Remembers scope lists items joined item_texts =
+    Knows scope aspect.List lists.classes lists.known × (Knows scope aspect.Item items.classes items.known × (RemembersJoined scope joined × RemembersItemTexts scope item_texts))
 
 -- each property whose text was remembered has one still
 abbrev pub KeepsItemTexts : BTreeMap (List ℕ) (List ℕ) → BTreeMap (List ℕ) (List ℕ) → Type 0

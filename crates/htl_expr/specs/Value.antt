@@ -95,7 +95,7 @@ abbrev pub field : Scope → List ℕ → Option (List ℕ)
 field scope name =
     if pointwise nat_eq name (codes "path") then Some scope.path
     else (if pointwise nat_eq name (codes "name") then Some scope.name
-    else (if pointwise nat_eq name (codes "resourceType") then Some scope.kind else None))
+    else (if pointwise nat_eq name (codes "resourceType") then Some scope.resource_type else None))
 
 -- nothing, where there is no such text
 abbrev pub text_or_nothing : Option (List ℕ) → Out

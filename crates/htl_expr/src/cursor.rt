@@ -1,7 +1,7 @@
 //! Cursors in the texts of two items, which are compared piece by piece, so that neither text is put together.
 
 ghost use Rattle.std.specs.Prelude.{◌≡◌, ◌<◌, ◌≤◌, IfOk, OnOk, length, take};
-ghost use Rattle.htl_expr.specs.Cursors.{piece_left, AreSameFor};
+ghost use Rattle.htl_expr.specs.Cursors.{item_piece_left, piece_left, AreSameFor};
 ghost use Rattle.htl_expr.specs.Pieces.{item_piece_text};
 ghost use Rattle.htl_expr.specs.Remembered.{RemembersItemTexts, KeepsItemTexts, HasPieceText};
 
@@ -126,7 +126,7 @@ pub(crate) fn pieces_same_behind(
     requires has_other { HasPieceText scope.now texts.now b.now }
     requires within { bytes ≤ length (item_piece_text scope.now a.now) }
     requires within_other { other_bytes ≤ length (item_piece_text scope.now b.now) }
-    ensures { AreSameFor result (piece_left (item_piece_text scope.now a.now) bytes) (piece_left (item_piece_text scope.now b.now) other_bytes) }
+    ensures { AreSameFor result (item_piece_left scope.now a.now bytes) (item_piece_left scope.now b.now other_bytes) }
 {
     let mut buffer = Buffer::new();
     let mut other = Buffer::new();

@@ -2,7 +2,7 @@
 
 ghost use Rattle.std.specs.Prelude.{◌≡◌, ◌≤◌, [], IfOk, IfSome, nat_eq, length};
 ghost use Rattle.std.specs.Cmp.Lexicographic.{pointwise};
-ghost use Rattle.htl_expr.specs.Cursors.{piece_left, AreSameFor};
+ghost use Rattle.htl_expr.specs.Cursors.{item_piece_left, AreSameFor};
 ghost use Rattle.htl_expr.specs.Lent.{property_item, IsToldBy};
 ghost use Rattle.htl_expr.specs.Pieces.{item_piece_text};
 ghost use Rattle.htl_expr.specs.Remembered.{compared_by};
@@ -34,14 +34,13 @@ pub struct Evaluation<'a> {
 
 impl<'a> Model for Evaluation<'a> {
     ghost use Rattle.htl_expr.specs.Bindings.{Bindings};
-    ghost use Rattle.htl_expr.specs.Remembered.{Knows, RemembersJoined, RemembersItemTexts};
-    ghost use Rattle.htl_expr.specs.declared.numbered.Aspect.TheVariants as aspect;
+    ghost use Rattle.htl_expr.specs.Remembered.{Remembers};
 
     ghost Value = { Bindings };
 
     ghost view = { λ e. e.scope };
 
-    ghost invariant = { λ e. Knows e.scope aspect.List e.lists.classes e.lists.known × (Knows e.scope aspect.Item e.items.classes e.items.known × (RemembersJoined e.scope e.joined × RemembersItemTexts e.scope e.item_texts)) };
+    ghost invariant = { λ e. Remembers e.scope e.lists e.items e.joined e.item_texts };
 }
 
 // What tells whether two properties of the resource are the same.
@@ -61,7 +60,7 @@ impl<'a> Evaluation<'a> {
                 props: scope.props,
                 path: scope.path,
                 name: scope.name,
-                kind: scope.kind,
+                resource_type: scope.resource_type,
                 vars: scope.vars,
             },
             lists: Numbering::new(alloc),
@@ -133,7 +132,7 @@ impl<'a> Evaluation<'a> {
     ) -> Mem<Option<usize>>
         requires within { bytes ≤ length (item_piece_text self.old a.now) }
         requires within_other { other_bytes ≤ length (item_piece_text self.old b.now) }
-        ensures same { IfOk result (λ same. AreSameFor same (piece_left (item_piece_text self.old a.now) bytes) (piece_left (item_piece_text self.old b.now) other_bytes)) }
+        ensures same { IfOk result (λ same. AreSameFor same (item_piece_left self.old a.now bytes) (item_piece_left self.old b.now other_bytes)) }
         ensures scope { self.new ≡ self.old }
     {
         keep_pieces(alloc, &self.scope, &mut self.item_texts, a, b)?;

@@ -2,7 +2,7 @@
 
 ghost use Rattle.std.specs.Prelude.{◌≡◌, ◌<◌, ◌≤◌, ◌+◌, ◌∷◌, [], List, IfOk, IfSome, OnOk, nat_eq, length, get_or, flat_map, true};
 ghost use Rattle.std.specs.Cmp.Lexicographic.{pointwise};
-ghost use Rattle.htl_expr.specs.Cursors.{piece_behind, left_behind, StandsIn, GoesOn, AreSameFor};
+ghost use Rattle.htl_expr.specs.Cursors.{item_left_behind, item_piece_behind, piece_behind, StandsIn, MovesOn, AreSameFor};
 ghost use Rattle.htl_expr.specs.declared.pieces.ItemPiece.{ItemPiece};
 ghost use Rattle.htl_expr.specs.Pieces.{item_piece_text, piece_texts, with_commas, AgreeUpTo, DifferAt, AreAsLongAt};
 
@@ -191,7 +191,7 @@ fn same_behind(
     requires within_other { second.now.place < length b.now }
     requires stands { StandsIn (piece_texts scope.old a.now) first.now }
     requires stands_other { StandsIn (piece_texts scope.old b.now) second.now }
-    ensures same { IfOk result (λ same. AreSameFor same (piece_behind (piece_texts scope.old a.now) first.now) (piece_behind (piece_texts scope.old b.now) second.now)) }
+    ensures same { IfOk result (λ same. AreSameFor same (item_piece_behind scope.old a.now first.now) (item_piece_behind scope.old b.now second.now)) }
     ensures scope { scope.new ≡ scope.old }
 {
     scope.same_behind(
@@ -214,7 +214,7 @@ fn advance(
     requires within { cursor.old.place < length pieces.now }
     requires stands { StandsIn (piece_texts scope.old pieces.now) cursor.old }
     requires more { more ≤ length (piece_behind (piece_texts scope.old pieces.now) cursor.old) }
-    ensures on { OnOk result (GoesOn (piece_texts scope.old pieces.now) cursor.old more cursor.new) }
+    ensures on { OnOk result (MovesOn (piece_texts scope.old pieces.now) cursor.old more cursor.new) }
     ensures scope { scope.new ≡ scope.old }
 {
     let len = len_at(alloc, scope, pieces, cursor.place)?;
@@ -245,9 +245,9 @@ fn go_on(
     requires within_other { second.old.place < length b.now }
     requires stands { StandsIn (piece_texts scope.old a.now) first.old }
     requires stands_other { StandsIn (piece_texts scope.old b.now) second.old }
-    ensures same { IfOk result (λ same. AreSameFor same (left_behind (piece_texts scope.old a.now) first.old) (left_behind (piece_texts scope.old b.now) second.old)) }
-    ensures first { IfOk result (λ same. IfSome same (λ more. GoesOn (piece_texts scope.old a.now) first.old more first.new)) }
-    ensures second { IfOk result (λ same. IfSome same (λ more. GoesOn (piece_texts scope.old b.now) second.old more second.new)) }
+    ensures same { IfOk result (λ same. AreSameFor same (item_left_behind scope.old a.now first.old) (item_left_behind scope.old b.now second.old)) }
+    ensures first { IfOk result (λ same. IfSome same (λ more. MovesOn (piece_texts scope.old a.now) first.old more first.new)) }
+    ensures second { IfOk result (λ same. IfSome same (λ more. MovesOn (piece_texts scope.old b.now) second.old more second.new)) }
     ensures scope { scope.new ≡ scope.old }
 {
     let Some(more) = same_behind(alloc, scope, a, first, b, second)? else {

@@ -18,7 +18,7 @@ pub struct Scope<'a> {
     pub props: &'a PropList,
     pub path: &'a str,
     pub name: &'a str,
-    pub kind: &'a str,
+    pub resource_type: &'a str,
     pub vars: &'a Variables<'a>,
 }
 
@@ -28,7 +28,7 @@ impl<'a> Model for Scope<'a> {
 
     ghost Value = { Bindings };
 
-    ghost view = { λ s. record { props = s.props.now; path = s.path.now; name = s.name.now; kind = s.kind.now; vars = vars_of s.vars.now } };
+    ghost view = { λ s. record { props = s.props.now; path = s.path.now; name = s.name.now; resource_type = s.resource_type.now; vars = vars_of s.vars.now } };
 }
 
 impl<'a> Scope<'a> {
@@ -70,7 +70,7 @@ pub(crate) fn field<'a>(scope: &Scope<'a>, name: &str) -> Option<&'a str>
     match name {
         "path" => Some(scope.path),
         "name" => Some(scope.name),
-        "resourceType" => Some(scope.kind),
+        "resourceType" => Some(scope.resource_type),
         _ => None,
     }
 }

@@ -33,7 +33,7 @@ place_for script res = record { script = script; path = res.path; props = res.pr
 
 -- what the expressions of a place see, with variables
 abbrev pub bindings_at : Place → Pairs → Bindings
-bindings_at place vars = record { props = place.props; path = text_of place.path; name = name_of place.path; kind = type_text place.props; vars = vars }
+bindings_at place vars = record { props = place.props; path = text_of place.path; name = name_of place.path; resource_type = type_text place.props; vars = vars }
 
 -- a place, and what a script writes there
 pub record Written : Type 0 where

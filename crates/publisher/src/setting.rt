@@ -30,7 +30,7 @@ pub(crate) fn scope_in<'p>(setting: &Setting<'p>) -> Scope<'p>
         props: setting.props,
         path: setting.path.as_text(),
         name: setting.path.name(),
-        kind: type_text(setting.props),
+        resource_type: type_text(setting.props),
         vars: setting.vars,
     }
 }

@@ -9,7 +9,7 @@ pub(crate) fn scope<'s>(props: &'s PropList, vars: &'s Variables<'s>) -> Scope<'
         props,
         path: "/content/en",
         name: "en",
-        kind: "s/page",
+        resource_type: "s/page",
         vars,
     }
 }

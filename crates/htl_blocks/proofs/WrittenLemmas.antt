@@ -77,16 +77,16 @@ pub no_tag : (old : SheetText) (keeps : Bool) (t : List ℕ) → keeps ≡ false
 no_tag old true t e = absurd (false≢true (sym e))
 no_tag old false t e = sym (with_none old)
 
--- ---- places
+-- ---- settings
 
--- a place stays one while more is written
-pub place_stays : (s mid : SheetText) (ps : List Part) (rounds : List RoundOf) (vars : List (List ℕ × List ℕ)) → mid ≡ with_parts s ps → within s.scope rounds ≡ with_vars s.scope vars → within mid.scope rounds ≡ with_vars mid.scope vars
-place_stays s mid ps rounds vars e h = subst (λ (scope : Bindings). within scope rounds ≡ with_vars scope vars) (sym (same_scope s mid ps e)) h
+-- a setting stays one while more is written
+pub setting_stays : (s mid : SheetText) (ps : List Part) (rounds : List RoundOf) (vars : List (List ℕ × List ℕ)) → mid ≡ with_parts s ps → within s.scope rounds ≡ with_vars s.scope vars → within mid.scope rounds ≡ with_vars mid.scope vars
+setting_stays s mid ps rounds vars e h = subst (λ (scope : Bindings). within scope rounds ≡ with_vars scope vars) (sym (same_scope s mid ps e)) h
 
--- a place in one round more
-pub inner_place : (scope : Bindings) (rounds inner : List RoundOf) (one : RoundOf) (vars : List (List ℕ × List ℕ)) (item : List ℕ) → within scope rounds ≡ with_vars scope vars → inner ≡ rounds ++ one ∷ []
+-- a setting in one round more
+pub inner_setting : (scope : Bindings) (rounds inner : List RoundOf) (one : RoundOf) (vars : List (List ℕ × List ℕ)) (item : List ℕ) → within scope rounds ≡ with_vars scope vars → inner ≡ rounds ++ one ∷ []
     → item ≡ item_of (with_vars scope vars) one → within scope inner ≡ with_vars scope ((one.name.now, item) ∷ vars)
-inner_place scope rounds inner one vars item outer more is =
+inner_setting scope rounds inner one vars item outer more is =
     ap (within scope) more ∙ fold-append with_round scope rounds (one ∷ []) ∙ ap (λ (here : Bindings). with_round here one) outer
     ∙ ap (λ (text : List ℕ). with_vars scope ((one.name.now, text) ∷ vars)) (sym is)
 
@@ -137,7 +137,7 @@ item_there [] i lt none = absurd (omega (arith, lt))
 item_there (x ∷ xs) zero lt none = let clash : None ≡ Some x = none in absurd cc
 item_there (x ∷ xs) (suc i) lt none = item_there xs i (omega (arith, lt)) none
 
--- the item at a place is that of its round
+-- the item at an index is that of its round
 pub item_is : (items : List (List ℕ)) (i : ℕ) (item : List ℕ) → Some item ≡ slice_get items i → item ≡ slice_index_or items i []
 item_is [] i item some = let clash : Some item ≡ None = some in absurd cc
 item_is (x ∷ xs) zero item some = let same : Some item ≡ Some x = some in let first : item ≡ x = cc in first
@@ -145,9 +145,9 @@ item_is (x ∷ xs) (suc i) item some = item_is xs i item some
 
 -- ---- whole scripts
 
--- a place in no round
-pub outer_place : (scope here : Bindings) (rounds : List RoundOf) (vars : List (List ℕ × List ℕ)) → here ≡ scope → rounds ≡ [] → with_vars scope vars ≡ scope → within here rounds ≡ with_vars here vars
-outer_place scope here rounds vars same none seen = ap (within here) none ∙ same ∙ sym seen ∙ ap (λ (s : Bindings). with_vars s vars) (sym same)
+-- a setting in no round
+pub outer_setting : (scope here : Bindings) (rounds : List RoundOf) (vars : List (List ℕ × List ℕ)) → here ≡ scope → rounds ≡ [] → with_vars scope vars ≡ scope → within here rounds ≡ with_vars here vars
+outer_setting scope here rounds vars same none seen = ap (within here) none ∙ same ∙ sym seen ∙ ap (λ (s : Bindings). with_vars s vars) (sym same)
 
 -- what is written on an empty sheet for what a scope sees
 pub from_empty : {A : Type 0} (r : Result A RunFault) (s0 s1 : SheetText) (scope : Bindings) (what : Keeping) (vars : List (List ℕ × List ℕ)) (g : Bindings → List Part)
@@ -166,9 +166,9 @@ rounds_more scope rounds i d one vars more lt is known e =
 pub rounds_done : (scope : Bindings) (rounds : List RoundOf) (i : ℕ) (vars : List (List ℕ × List ℕ)) → length rounds ≤ i → with_vars scope vars ≡ within scope (take i rounds) → vars ≡ (within scope rounds).vars
 rounds_done scope rounds i vars le known = ap (λ (here : Bindings). here.vars) known ∙ ap (λ (rs : List RoundOf). (within scope rs).vars) (take_all i rounds le)
 
--- the variables of a place
-pub place_vars : (scope : Bindings) (rounds : List RoundOf) (vars : List (List ℕ × List ℕ)) → within scope rounds ≡ with_vars scope vars → (within scope rounds).vars ≡ vars
-place_vars scope rounds vars h = ap (λ (here : Bindings). here.vars) h
+-- the variables of a setting
+pub setting_vars : (scope : Bindings) (rounds : List RoundOf) (vars : List (List ℕ × List ℕ)) → within scope rounds ≡ with_vars scope vars → (within scope rounds).vars ≡ vars
+setting_vars scope rounds vars h = ap (λ (here : Bindings). here.vars) h
 
 -- where no item is, the text is empty
 pub no_item_is : (items : List (List ℕ)) (i : ℕ) → None ≡ slice_get items i → [] ≡ slice_index_or items i []
@@ -177,14 +177,14 @@ no_item_is (x ∷ xs) zero none = let clash : None ≡ Some x = none in absurd c
 no_item_is (x ∷ xs) (suc i) none = no_item_is xs i none
 
 -- the item of a round is that of its list
-pub item_listed : (scope : Bindings) (one : RoundOf) (items : List (List ℕ)) (item : List ℕ) → Some items ≡ list_in (statement_value scope one.list.now) → Some item ≡ slice_get items one.place → item ≡ item_of scope one
-item_listed scope one items item some there = item_is items one.place item there ∙ ap (λ (l : Option (List (List ℕ))). slice_index_or (items_in l) one.place []) some
+pub item_listed : (scope : Bindings) (one : RoundOf) (items : List (List ℕ)) (item : List ℕ) → Some items ≡ list_in (statement_value scope one.list.now) → Some item ≡ slice_get items one.index → item ≡ item_of scope one
+item_listed scope one items item some there = item_is items one.index item there ∙ ap (λ (l : Option (List (List ℕ))). slice_index_or (items_in l) one.index []) some
 
-pub none_listed : (scope : Bindings) (one : RoundOf) (items : List (List ℕ)) → Some items ≡ list_in (statement_value scope one.list.now) → None ≡ slice_get items one.place → [] ≡ item_of scope one
-none_listed scope one items some there = no_item_is items one.place there ∙ ap (λ (l : Option (List (List ℕ))). slice_index_or (items_in l) one.place []) some
+pub none_listed : (scope : Bindings) (one : RoundOf) (items : List (List ℕ)) → Some items ≡ list_in (statement_value scope one.list.now) → None ≡ slice_get items one.index → [] ≡ item_of scope one
+none_listed scope one items some there = no_item_is items one.index there ∙ ap (λ (l : Option (List (List ℕ))). slice_index_or (items_in l) one.index []) some
 
 -- the item of a round, while more was written
 pub round_item : (s mid : SheetText) (ps : List Part) (vars : List (List ℕ × List ℕ)) (one : RoundOf) (items : List (List ℕ)) (item : List ℕ) → mid ≡ with_parts s ps
-    → Some items ≡ list_in (statement_value (with_vars s.scope vars) one.list.now) → Some item ≡ slice_get items one.place → item ≡ item_of (with_vars mid.scope vars) one
+    → Some items ≡ list_in (statement_value (with_vars s.scope vars) one.list.now) → Some item ≡ slice_get items one.index → item ≡ item_of (with_vars mid.scope vars) one
 round_item s mid ps vars one items item e some there =
     subst (λ (scope : Bindings). item ≡ item_of (with_vars scope vars) one) (sym (same_scope s mid ps e)) (item_listed (with_vars s.scope vars) one items item some there)

@@ -10,8 +10,8 @@ pub mod Written
 pub mod Refused
 pub mod Pieces
 pub mod Sheets
-pub mod Places
+pub mod Settings
 pub mod VariableRoom
 pub mod WrittenLaws
-pub mod PlaceParts
+pub mod SettingParts
 pub mod FaultTexts

@@ -4,7 +4,7 @@ use Rattle.std.specs.List.{flat_map, count_by}
 use Rattle.sp_base.specs.Texts.{Pairs}
 
 -- a byte; a round, in which the content of a list stands for one item, and which writes nothing by itself; the text of the script of this
--- name, with the variables of the place; the text of the resource of this name
+-- name, with the variables of the setting; the text of the resource of this name
 pub data Part : Type 0 where
   Byte : ℕ → Part
   Round : Part

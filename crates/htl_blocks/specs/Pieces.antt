@@ -20,7 +20,7 @@ items_in (Some items) = items
 
 -- the item of a round
 abbrev pub item_of : Bindings → Round → List ℕ
-item_of scope round = slice_index_or (items_in (list_in (statement_value scope round.list.now))) round.place []
+item_of scope round = slice_index_or (items_in (list_in (statement_value scope round.list.now))) round.index []
 
 -- a round's item as a variable
 abbrev pub with_round : Bindings → Round → Bindings
@@ -64,6 +64,10 @@ puts_in (piece.Resource name) = true
 -- how many pieces are put in from elsewhere
 abbrev pub inclusion_count : List Piece → ℕ
 inclusion_count pieces = count_by puts_in pieces
+
+-- so many bytes of text pieces have, and so many of them are put in from elsewhere, both within their limits
+abbrev pub AreCounted : List Piece → ℕ → ℕ → Type 0
+AreCounted pieces len included = (len ≡ text_len pieces) × (len ≤ most_rendered_bytes) × (included ≡ inclusion_count pieces) × (included ≤ most_inclusions)
 
 -- what the pieces of a script's text are seen as: what they were made for, what they stand for, and how often the contents of lists stood
 pub record ScriptText : Type 0 where

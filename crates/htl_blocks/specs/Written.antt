@@ -69,7 +69,7 @@ body_parts (Some (body.Resource value)) content scope = Resource (statement_name
 abbrev pub text_of_vars : Pairs → List ℕ
 text_of_vars vars = flat_map (λ var. var.0 ++ var.1) vars
 
--- What stands at a place with these variables. Where they have together more bytes than a text may have, they themselves stand there: so the
+-- What stands in a setting with these variables. Where they have together more bytes than a text may have, they themselves stand there: so the
 -- text is too long, and nobody sees them.
 abbrev pub within_room : (Bindings → List Part) → Bindings → List Part
 within_room inside scope = if nat_lt most_rendered_bytes (length (text_of_vars scope.vars)) then text_parts (text_of_vars scope.vars) else inside scope

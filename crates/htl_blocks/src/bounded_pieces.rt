@@ -25,12 +25,10 @@ pub struct BoundedPieces<'a> {
 
 impl<'a> Model for BoundedPieces<'a> {
     ghost use Rattle.std.specs.Coded.{codes};
-    ghost use Rattle.std.specs.Prelude.{◌≡◌, ◌≤◌, List};
+    ghost use Rattle.std.specs.Prelude.{List};
     ghost use Rattle.htl_syntax.specs.contracts.node.ExprNode as node;
-    ghost use Rattle.sp_base.specs.Limits.{most_rendered_bytes};
     ghost use Rattle.htl_blocks.specs.declared.piece.Piece.{Piece};
-    ghost use Rattle.htl_blocks.specs.Pieces.{inclusion_count, text_len};
-    ghost use Rattle.htl_blocks.specs.Refused.{most_inclusions};
+    ghost use Rattle.htl_blocks.specs.Pieces.{AreCounted};
 
     ghost Value = { List Piece };
 
@@ -38,7 +36,7 @@ impl<'a> Model for BoundedPieces<'a> {
 
     ghost view = { λ p. p.pieces };
 
-    ghost invariant = { λ p. (p.len ≡ text_len p.pieces) × (p.len ≤ most_rendered_bytes) × (p.included ≡ inclusion_count p.pieces) × (p.included ≤ most_inclusions) };
+    ghost invariant = { λ p. AreCounted p.pieces p.len p.included };
 }
 
 impl<'a> BoundedPieces<'a> {

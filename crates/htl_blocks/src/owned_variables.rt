@@ -91,12 +91,12 @@ fn with_variable<'a>(
     Ok(OwnedVariables { own: all, outer })
 }
 
-// The text of the item at a place of a list, or an empty one. A piece's place has none that is longer than a text may be.
+// The text of the item at an index of a list, or an empty one. A piece's round has none that is longer than a text may be.
 #[tactic(auto, using(crate::proofs::WrittenLemmas::item_is, crate::proofs::WrittenLemmas::no_item_is))]
-fn text_at(alloc: Global, items: &Listed, place: usize) -> Mem<TextBuf>
-    ensures { IfOk result (λ text. text ≡ slice_index_or items.now place []) }
+fn text_at(alloc: Global, items: &Listed, index: usize) -> Mem<TextBuf>
+    ensures { IfOk result (λ text. text ≡ slice_index_or items.now index []) }
 {
-    match items.item(alloc, place, MOST_RENDERED_BYTES) {
+    match items.item(alloc, index, MOST_RENDERED_BYTES) {
         Ok(Some(text)) => TextBuf::of(alloc, text.text()),
         Ok(None) => TextBuf::of(alloc, ""),
         Err(_) => Err(NoMemory),
@@ -118,7 +118,7 @@ fn item<'a>(
     let Some(items) = listed(alloc, of, &outer, round.list)? else {
         return TextBuf::of(alloc, "");
     };
-    text_at(alloc, &items, round.place)
+    text_at(alloc, &items, round.index)
 }
 
 fn in_round<'a>(
@@ -134,7 +134,7 @@ fn in_round<'a>(
     with_variable(alloc, round.name, text, vars)
 }
 
-/// The variables of a place, each with its text.
+/// The variables of a setting, each with its text.
 #[tactic(auto, using(crate::proofs::WrittenLemmas::rounds_more, crate::proofs::WrittenLemmas::rounds_done))]
 pub fn variables_of<'a>(
     alloc: Global,

@@ -7,15 +7,15 @@ use sp_base::{Mem, TextBuf};
 use sqlite_items::Items;
 use std::alloc::Global;
 
-/// A round of a list: the list, the name of the variable that has its items, and the item's place.
+/// A round of a list: the list, the name of the variable that has its items, and the item's index there.
 #[derive(Clone, Copy, Drop)]
 pub struct Round<'a> {
     pub list: &'a Template,
     pub name: &'a str,
-    pub place: usize,
+    pub index: usize,
 }
 
-/// The variables of a place, by the rounds that it stands in, the outer ones first. So no item is copied.
+/// The variables of a setting, by the rounds that it stands in, the outer ones first. So no item is copied.
 #[derive(Drop)]
 pub struct Frame<'a> {
     pub rounds: Items<Round<'a>>,
@@ -25,7 +25,7 @@ pub struct Frame<'a> {
 #[derive(Drop)]
 pub enum Piece<'a> {
     Text(TextBuf),
-    /// The text of the script of this name is put in, with the variables of this place.
+    /// The text of the script of this name is put in, with the variables of this setting.
     Script(TextBuf, Frame<'a>),
     /// The text of the resource of this name is put in.
     Resource(TextBuf),

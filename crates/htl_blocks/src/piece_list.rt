@@ -43,7 +43,7 @@ impl<'a> PieceList<'a> {
         self.rounds
     }
 
-    /// The variables of the place where a script is put in.
+    /// The variables of the setting where a script is put in.
     pub fn variables(&self, alloc: Global, frame: &Frame<'a>) -> Mem<OwnedVariables<'a>>
         ensures { IfOk result (λ vars. vars ≡ (within self.now.scope frame.now.rounds).vars) }
     {

@@ -12,8 +12,8 @@ use crate::blocks::Blocks;
 use crate::keeping::Keeping;
 use crate::piece::Frame;
 use crate::piece_list::PieceList;
-use crate::place::Place;
 use crate::run_fault::RunFault;
+use crate::setting::Setting;
 use crate::sheet::{Sheet, finished};
 use crate::written::blocks;
 use htl_expr::Scope;
@@ -31,11 +31,11 @@ fn filled<'a>(
 {
     let mut sheet = Sheet::new(alloc, scope, keeping);
     let frame = Frame::outer(alloc);
-    let place = Place {
+    let setting = Setting {
         vars: scope.variables(),
         frame: &frame,
     };
-    blocks(&mut sheet, alloc, &place, all)?;
+    blocks(&mut sheet, alloc, &setting, all)?;
     Ok(sheet)
 }
 

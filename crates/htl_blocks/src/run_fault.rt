@@ -11,7 +11,7 @@ use std::fmt;
 /// Why the blocks of a script write no text.
 #[derive(Drop)]
 pub enum RunFault {
-    /// The text, or the variables of a place, would have more than 4,194,304 bytes.
+    /// The text, or the variables of a setting, would have more than 4,194,304 bytes.
     TooLong,
     /// More than 1,000 scripts and resources would be put in, or the contents of lists would stand more than 1,000,000 times.
     TooMany,

@@ -8,19 +8,19 @@ ghost use Rattle.htl_expr.specs.Variables.{vars_of};
 ghost use Rattle.htl_text.specs.Template.{template_output};
 ghost use Rattle.htl_blocks.specs.Parts as part;
 ghost use Rattle.htl_blocks.specs.Pieces.{piece_parts, pieces_parts, puts_in, IsWithinLimits};
-ghost use Rattle.htl_blocks.specs.Places.{IsPlaceIn};
+ghost use Rattle.htl_blocks.specs.Settings.{IsSettingIn};
 ghost use Rattle.htl_blocks.specs.Refused.{most_inclusions, most_rounds};
 ghost use Rattle.htl_blocks.specs.Sheets as spec;
 ghost use Rattle.htl_blocks.specs.Written as written;
-ghost use Rattle.htl_blocks.specs.PlaceParts.{script_for_place};
+ghost use Rattle.htl_blocks.specs.SettingParts.{script_for_setting};
 
 use crate::attribute::Unwrap;
 use crate::bounded_pieces::BoundedPieces;
 use crate::keeping::Keeping;
 use crate::piece::Piece;
 use crate::piece_list::PieceList;
-use crate::place::Place;
 use crate::run_fault::RunFault;
+use crate::setting::Setting;
 use crate::statement_value;
 use crate::statement_value::name;
 use htl_expr::{Evaluation, Listed, Scope, Variables};
@@ -168,18 +168,18 @@ pub fn write<'v, 'a: 'v>(
     push_template(&mut sheet.tail, alloc, &mut sheet.of, vars, template, room)
 }
 
-/// Puts in the text of the script that a value names, with the variables of the place.
+/// Puts in the text of the script that a value names, with the variables of the setting.
 pub fn include_script<'v, 'a: 'v>(
     sheet: &mut Sheet<'a>,
     alloc: Global,
-    place: &Place<'v, 'a>,
+    setting: &Setting<'v, 'a>,
     value: &'v Template,
 ) -> Result<(), RunFault>
-    requires { IsPlaceIn sheet.old.scope place.now }
-    ensures { spec.WroteParts result sheet.old sheet.new (script_for_place sheet.old.scope place.now value.now) }
+    requires { IsSettingIn sheet.old.scope setting.now }
+    ensures { spec.WroteParts result sheet.old sheet.new (script_for_setting sheet.old.scope setting.now value.now) }
 {
-    let name = name(alloc, &mut sheet.of, place.vars, value)?;
-    let frame = place.frame.duplicate(alloc)?;
+    let name = name(alloc, &mut sheet.of, setting.vars, value)?;
+    let frame = setting.frame.duplicate(alloc)?;
     sheet.include(alloc, Piece::Script(name, frame))
 }
 

@@ -1,4 +1,4 @@
-//! How much room the variables of a place leave for the item of a list.
+//! How much room the variables of a setting leave for the item of a list.
 
 ghost use Rattle.std.specs.Prelude.{◌≡◌, ◌+◌, IfOk, IfErr, IfSome, [], length, get_or, slice_get};
 ghost use Rattle.htl_expr.specs.Variables.{lent_pairs, vars_of};
@@ -59,7 +59,7 @@ fn left_by_vars(room: usize, vars: &Variables) -> Result<usize, RunFault>
     }
 }
 
-/// The text of the item at a place of a list, where the variables have room for it. It isn't made beyond that.
+/// The text of the item at an index of a list, where the variables have room for it. It isn't made beyond that.
 pub fn item_at<'v, 'a: 'v>(
     alloc: Global,
     vars: &Variables<'v>,

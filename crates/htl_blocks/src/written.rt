@@ -4,18 +4,18 @@ ghost use Rattle.std.specs.Prelude.{◌<◌, length};
 ghost use Rattle.htl_expr.specs.Bindings.{with_vars};
 ghost use Rattle.htl_expr.specs.Variables.{vars_of};
 ghost use Rattle.htl_text.specs.Template.{template_output};
-ghost use Rattle.htl_blocks.specs.Places.{HasItems, IsPlaceIn, seen_at};
+ghost use Rattle.htl_blocks.specs.Settings.{HasItems, IsSettingIn, seen_at};
 ghost use Rattle.htl_blocks.specs.Sheets.{WroteParts};
 ghost use Rattle.htl_blocks.specs.Written as spec;
-ghost use Rattle.htl_blocks.specs.PlaceParts.{element_for_place, element_for_items, element_for_list, element_once, round_for_place, rounds_for_place};
+ghost use Rattle.htl_blocks.specs.SettingParts.{element_for_setting, element_for_items, element_for_list, element_once, round_for_setting, rounds_for_setting};
 
 use crate::attribute::Body;
 use crate::block::Block;
 use crate::element_tags::ElementTags;
 use crate::piece::Round;
-use crate::place::Place;
 use crate::repetition::Repetition;
 use crate::run_fault::RunFault;
+use crate::setting::Setting;
 use crate::sheet::{Sheet, include_resource, include_script, keeps_tags, listed, passes, write};
 use crate::variable_room::item_at;
 use htl_expr::Variables;
@@ -54,50 +54,50 @@ fn close_tag(sheet: &mut Sheet, keeps: bool, end_tag: &str) -> Result<(), RunFau
 fn inside<'v, 'a: 'v>(
     sheet: &mut Sheet<'a>,
     alloc: Global,
-    place: &Place<'v, 'a>,
+    setting: &Setting<'v, 'a>,
     body: &'a Option<Body>,
     content: &'a [Block],
 ) -> Result<(), RunFault>
-    requires { IsPlaceIn sheet.old.scope place.now }
-    ensures { WroteParts result sheet.old sheet.new (spec.body_parts body.now (λ scope. spec.blocks_parts scope content.now) (seen_at sheet.old.scope place.now)) }
+    requires { IsSettingIn sheet.old.scope setting.now }
+    ensures { WroteParts result sheet.old sheet.new (spec.body_parts body.now (λ scope. spec.blocks_parts scope content.now) (seen_at sheet.old.scope setting.now)) }
 {
     match body {
-        None => blocks(sheet, alloc, place, content),
-        Some(Body::Text(value)) => write(sheet, alloc, place.vars, value),
-        Some(Body::Include(value)) => include_script(sheet, alloc, place, value),
-        Some(Body::Resource(value)) => include_resource(sheet, alloc, place.vars, value),
+        None => blocks(sheet, alloc, setting, content),
+        Some(Body::Text(value)) => write(sheet, alloc, setting.vars, value),
+        Some(Body::Include(value)) => include_script(sheet, alloc, setting, value),
+        Some(Body::Resource(value)) => include_resource(sheet, alloc, setting.vars, value),
     }
 }
 
-/// What stands in an element for the item at a place of its list.
+/// What stands in an element for the item at an index of its list.
 #[cycle(written)]
 fn round<'v, 'a: 'v>(
     sheet: &mut Sheet<'a>,
     alloc: Global,
-    place: &Place<'v, 'a>,
+    setting: &Setting<'v, 'a>,
     content: &'a [Block],
     repetition: &Repetition<'v, 'a>,
     index: usize,
 ) -> Result<(), RunFault>
-    requires place { IsPlaceIn sheet.old.scope place.now }
-    requires items { HasItems (seen_at sheet.old.scope place.now) repetition.now }
+    requires setting { IsSettingIn sheet.old.scope setting.now }
+    requires items { HasItems (seen_at sheet.old.scope setting.now) repetition.now }
     requires index { index < length repetition.now.items }
-    ensures { WroteParts result sheet.old sheet.new (round_for_place sheet.old.scope place.now content.now repetition.now index) }
+    ensures { WroteParts result sheet.old sheet.new (round_for_setting sheet.old.scope setting.now content.now repetition.now index) }
 {
     sheet.begin_round()?;
-    let Some(item) = item_at(alloc, place.vars, repetition, index)? else {
+    let Some(item) = item_at(alloc, setting.vars, repetition, index)? else {
         return Ok(());
     };
-    let frame = place.frame.within(
+    let frame = setting.frame.within(
         alloc,
         Round {
             list: repetition.list,
             name: repetition.name,
-            place: index,
+            index,
         },
     )?;
-    let vars = Variables::With(repetition.name, item.text(), &*place.vars);
-    let inner = Place {
+    let vars = Variables::With(repetition.name, item.text(), &*setting.vars);
+    let inner = Setting {
         vars: &vars,
         frame: &frame,
     };
@@ -109,16 +109,16 @@ fn round<'v, 'a: 'v>(
 fn rounds<'v, 'a: 'v>(
     sheet: &mut Sheet<'a>,
     alloc: Global,
-    place: &Place<'v, 'a>,
+    setting: &Setting<'v, 'a>,
     content: &'a [Block],
     repetition: &Repetition<'v, 'a>,
 ) -> Result<(), RunFault>
-    requires place { IsPlaceIn sheet.old.scope place.now }
-    requires items { HasItems (seen_at sheet.old.scope place.now) repetition.now }
-    ensures { WroteParts result sheet.old sheet.new (rounds_for_place sheet.old.scope place.now content.now repetition.now) }
+    requires setting { IsSettingIn sheet.old.scope setting.now }
+    requires items { HasItems (seen_at sheet.old.scope setting.now) repetition.now }
+    ensures { WroteParts result sheet.old sheet.new (rounds_for_setting sheet.old.scope setting.now content.now repetition.now) }
 {
     for index in 0..repetition.items.len() {
-        round(sheet, alloc, place, content, repetition, index)?;
+        round(sheet, alloc, setting, content, repetition, index)?;
     }
     Ok(())
 }
@@ -128,17 +128,17 @@ fn rounds<'v, 'a: 'v>(
 fn once<'v, 'a: 'v>(
     sheet: &mut Sheet<'a>,
     alloc: Global,
-    place: &Place<'v, 'a>,
+    setting: &Setting<'v, 'a>,
     tags: &ElementTags<'a>,
     content: &'a [Block],
 ) -> Result<(), RunFault>
-    requires { IsPlaceIn sheet.old.scope place.now }
-    ensures { WroteParts result sheet.old sheet.new (element_once sheet.old.scope place.now tags.now content.now) }
+    requires { IsSettingIn sheet.old.scope setting.now }
+    ensures { WroteParts result sheet.old sheet.new (element_once sheet.old.scope setting.now tags.now content.now) }
 {
     let start = tags.start;
-    let keeps = keeps_tags(sheet, alloc, place.vars, &start.attributes.unwrap)?;
-    open_tag(sheet, alloc, place.vars, keeps, &start.start)?;
-    inside(sheet, alloc, place, &start.attributes.body, content)?;
+    let keeps = keeps_tags(sheet, alloc, setting.vars, &start.attributes.unwrap)?;
+    open_tag(sheet, alloc, setting.vars, keeps, &start.start)?;
+    inside(sheet, alloc, setting, &start.attributes.body, content)?;
     close_tag(sheet, keeps, tags.end)
 }
 
@@ -147,22 +147,22 @@ fn once<'v, 'a: 'v>(
 fn for_items<'v, 'a: 'v>(
     sheet: &mut Sheet<'a>,
     alloc: Global,
-    place: &Place<'v, 'a>,
+    setting: &Setting<'v, 'a>,
     tags: &ElementTags<'a>,
     content: &'a [Block],
     repetition: &Repetition<'v, 'a>,
 ) -> Result<(), RunFault>
-    requires place { IsPlaceIn sheet.old.scope place.now }
-    requires items { HasItems (seen_at sheet.old.scope place.now) repetition.now }
-    ensures { WroteParts result sheet.old sheet.new (element_for_items sheet.old.scope place.now tags.now content.now repetition.now) }
+    requires setting { IsSettingIn sheet.old.scope setting.now }
+    requires items { HasItems (seen_at sheet.old.scope setting.now) repetition.now }
+    ensures { WroteParts result sheet.old sheet.new (element_for_items sheet.old.scope setting.now tags.now content.now repetition.now) }
 {
     if repetition.items.len() == 0 {
         return Ok(());
     }
     let start = tags.start;
-    let keeps = keeps_tags(sheet, alloc, place.vars, &start.attributes.unwrap)?;
-    open_tag(sheet, alloc, place.vars, keeps, &start.start)?;
-    rounds(sheet, alloc, place, content, repetition)?;
+    let keeps = keeps_tags(sheet, alloc, setting.vars, &start.attributes.unwrap)?;
+    open_tag(sheet, alloc, setting.vars, keeps, &start.start)?;
+    rounds(sheet, alloc, setting, content, repetition)?;
     close_tag(sheet, keeps, tags.end)
 }
 
@@ -171,15 +171,15 @@ fn for_items<'v, 'a: 'v>(
 fn repeated<'v, 'a: 'v>(
     sheet: &mut Sheet<'a>,
     alloc: Global,
-    place: &Place<'v, 'a>,
+    setting: &Setting<'v, 'a>,
     tags: &ElementTags<'a>,
     content: &'a [Block],
     list: &'a (TextBuf, Template),
 ) -> Result<(), RunFault>
-    requires { IsPlaceIn sheet.old.scope place.now }
-    ensures { WroteParts result sheet.old sheet.new (element_for_list sheet.old.scope place.now tags.now content.now list.now) }
+    requires { IsSettingIn sheet.old.scope setting.now }
+    ensures { WroteParts result sheet.old sheet.new (element_for_list sheet.old.scope setting.now tags.now content.now list.now) }
 {
-    let Some(items) = listed(sheet, alloc, place.vars, &list.1)? else {
+    let Some(items) = listed(sheet, alloc, setting.vars, &list.1)? else {
         return Ok(());
     };
     let repetition = Repetition {
@@ -188,7 +188,7 @@ fn repeated<'v, 'a: 'v>(
         items,
         body: &tags.start.attributes.body,
     };
-    for_items(sheet, alloc, place, tags, content, &repetition)
+    for_items(sheet, alloc, setting, tags, content, &repetition)
 }
 
 /// An element with its start tag, its content and its end tag.
@@ -196,20 +196,20 @@ fn repeated<'v, 'a: 'v>(
 fn element<'v, 'a: 'v>(
     sheet: &mut Sheet<'a>,
     alloc: Global,
-    place: &Place<'v, 'a>,
+    setting: &Setting<'v, 'a>,
     tags: &ElementTags<'a>,
     content: &'a [Block],
 ) -> Result<(), RunFault>
-    requires { IsPlaceIn sheet.old.scope place.now }
-    ensures { WroteParts result sheet.old sheet.new (element_for_place sheet.old.scope place.now tags.now content.now) }
+    requires { IsSettingIn sheet.old.scope setting.now }
+    ensures { WroteParts result sheet.old sheet.new (element_for_setting sheet.old.scope setting.now tags.now content.now) }
 {
     let start = tags.start;
-    if !passes(sheet, alloc, place.vars, &start.attributes.test)? {
+    if !passes(sheet, alloc, setting.vars, &start.attributes.test)? {
         return Ok(());
     }
     match &start.attributes.list {
-        None => once(sheet, alloc, place, tags, content),
-        Some(list) => repeated(sheet, alloc, place, tags, content, list),
+        None => once(sheet, alloc, setting, tags, content),
+        Some(list) => repeated(sheet, alloc, setting, tags, content, list),
     }
 }
 
@@ -218,37 +218,37 @@ fn element<'v, 'a: 'v>(
 fn block<'v, 'a: 'v>(
     sheet: &mut Sheet<'a>,
     alloc: Global,
-    place: &Place<'v, 'a>,
+    setting: &Setting<'v, 'a>,
     one: &'a Block,
 ) -> Result<(), RunFault>
-    requires { IsPlaceIn sheet.old.scope place.now }
-    ensures { WroteParts result sheet.old sheet.new (spec.block_parts one.now (seen_at sheet.old.scope place.now)) }
+    requires { IsSettingIn sheet.old.scope setting.now }
+    ensures { WroteParts result sheet.old sheet.new (spec.block_parts one.now (seen_at sheet.old.scope setting.now)) }
 {
     match one {
-        Block::Text(template) => write(sheet, alloc, place.vars, template),
+        Block::Text(template) => write(sheet, alloc, setting.vars, template),
         Block::Element(tag, content, end_tag) => {
             let tags = ElementTags {
                 start: tag.get(),
                 end: end_tag.text(),
             };
-            element(sheet, alloc, place, &tags, content.as_slice())
+            element(sheet, alloc, setting, &tags, content.as_slice())
         }
     }
 }
 
-/// Writes what blocks write at a place.
+/// Writes what blocks write in a setting.
 #[cycle(written)]
 pub fn blocks<'v, 'a: 'v>(
     sheet: &mut Sheet<'a>,
     alloc: Global,
-    place: &Place<'v, 'a>,
+    setting: &Setting<'v, 'a>,
     all: &'a [Block],
 ) -> Result<(), RunFault>
-    requires { IsPlaceIn sheet.old.scope place.now }
-    ensures { WroteParts result sheet.old sheet.new (spec.blocks_parts (seen_at sheet.old.scope place.now) all.now) }
+    requires { IsSettingIn sheet.old.scope setting.now }
+    ensures { WroteParts result sheet.old sheet.new (spec.blocks_parts (seen_at sheet.old.scope setting.now) all.now) }
 {
     for one in all {
-        block(sheet, alloc, place, one)?;
+        block(sheet, alloc, setting, one)?;
     }
     Ok(())
 }

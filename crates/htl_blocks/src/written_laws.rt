@@ -24,7 +24,7 @@ pub fn a_content_stands_once_for_each_item()
     ensures { ListElementsWriteEachItem }
 {}
 
-/// Where the variables of a place have together at most 4,194,304 bytes, what stands there is written (`fit`). Else the script is refused,
+/// Where the variables of a setting have together at most 4,194,304 bytes, what stands there is written (`fit`). Else the script is refused,
 /// whatever stands before and after. If fewer than 1,000,000 rounds stand before, that is because it is too long (`long`). If as many do,
 /// the round is one too many: it is too long if what stands before is, and else has too many rounds, whatever the variables are (`late`).
 pub fn variables_that_are_too_long_refuse_a_script()
@@ -46,7 +46,7 @@ pub fn a_list_without_items_leaves_the_element_out()
     ensures empty { ElementsWithoutItemsAreLeftOut }
 {}
 
-/// The printed value, the text of a script with the variables of the place, or that of a resource stands in place of the content.
+/// The printed value, the text of a script with the variables of the setting, or that of a resource stands in place of the content.
 pub fn a_body_stands_in_place_of_the_content()
     ensures text { TextsStandInTags }
     ensures script { ScriptsStandInTags }

@@ -2,8 +2,7 @@
 
 ghost use Rattle.std.specs.Prelude.{◌≡◌, ◌≤◌, ◌++◌, IfOk, IfErr, OnOk, string_bytes, length};
 ghost use Rattle.sp_base.specs.Limits.{most_rendered_bytes};
-ghost use Rattle.htl_expr.specs.Bindings.{with_vars};
-ghost use Rattle.htl_expr.specs.Variables.{vars_of};
+ghost use Rattle.htl_expr.specs.Variables.{seen_by};
 ghost use Rattle.htl_text.specs.Template as spec;
 
 use crate::fault::RenderFault;
@@ -35,8 +34,8 @@ fn push_piece<'v, 'a: 'v>(
     most: usize,
 ) -> Result<(), RenderFault>
     requires { length (string_bytes text.old) ≤ most }
-    ensures ok { OnOk result (spec.Appends most (string_bytes text.old) (spec.piece_text (with_vars of.old (vars_of vars.now)) piece.now) (string_bytes text.new)) }
-    ensures err { IfErr result (spec.RenderFailsAsTooLongIfMemory most (string_bytes text.old ++ spec.piece_text (with_vars of.old (vars_of vars.now)) piece.now)) }
+    ensures ok { OnOk result (spec.Appends most (string_bytes text.old) (spec.piece_text (seen_by of.old vars.now) piece.now) (string_bytes text.new)) }
+    ensures err { IfErr result (spec.RenderFailsAsTooLongIfMemory most (string_bytes text.old ++ spec.piece_text (seen_by of.old vars.now) piece.now)) }
     ensures resource { of.new ≡ of.old }
 {
     match piece {
@@ -60,8 +59,8 @@ impl Template {
         vars: &'v Variables<'v>,
         most: usize,
     ) -> Result<(), RenderFault>
-        ensures ok { OnOk result (spec.Appends most (string_bytes text.old) (spec.template_output (with_vars of.old (vars_of vars.now)) self.now) (string_bytes text.new)) }
-        ensures err { IfErr result (spec.RenderFailsAsTooLongIfMemory most (string_bytes text.old ++ spec.template_output (with_vars of.old (vars_of vars.now)) self.now)) }
+        ensures ok { OnOk result (spec.Appends most (string_bytes text.old) (spec.template_output (seen_by of.old vars.now) self.now) (string_bytes text.new)) }
+        ensures err { IfErr result (spec.RenderFailsAsTooLongIfMemory most (string_bytes text.old ++ spec.template_output (seen_by of.old vars.now) self.now)) }
         ensures resource { of.new ≡ of.old }
     {
         if text.as_str().len() > most {

@@ -138,11 +138,11 @@ split-case tree ask s text reads (Some parts) split none = seen-case tree ask s 
 
 mapped-case : (tree : Content) (ask : Ask) → Searches tree ask → is_read ask.method ≡ true → (answer : MapAnswer) → IsMapped tree ask.host ask.port (text_of ask.path) answer → IsAnswer tree ask (mapped_answer tree answer)
 mapped-case tree ask s read (Inside text) is = split-case tree ask s text (record { method = read; mapped = is }) (split_of (has_resource tree) text) (s.split text) (s.not_split text)
-mapped-case tree ask s read (Away status target) is = read_away status target read is refl
+mapped-case tree ask s read (Away status reference) is = read_away status reference read is refl
 
 posted-case : (tree : Content) (ask : Ask) → is_post ask.method ≡ true → (answer : MapAnswer) → IsMapped tree ask.host ask.port (text_of ask.path) answer → IsAnswer tree ask (posted_answer tree ask answer)
 posted-case tree ask post (Inside text) is = posted text post is refl
-posted-case tree ask post (Away status target) is = posted_away status target post is refl
+posted-case tree ask post (Away status reference) is = posted_away status reference post is refl
 
 method-case : (tree : Content) (ask : Ask) → Searches tree ask → (read post : Bool) → is_read ask.method ≡ read → is_post ask.method ≡ post
     → IsAnswer tree ask (if read then mapped_answer tree (mapping tree ask) else (if post then posted_answer tree ask (mapping tree ask) else error_answer 405))
@@ -216,8 +216,8 @@ few-is tree res depth false false small is few = absurd (let deep : 1 < depth = 
 
 pub case_is : (tree : Content) (ask : Ask) → Searches tree ask → (answer : Answer) → IsAnswer tree ask answer → answer ≡ answer_to_request tree ask
 case_is tree ask s answer (not_allowed read post is) = is ∙ sym (refused-is tree ask _ _ refl refl read post)
-case_is tree ask s answer (read_away status target read away is) = is ∙ sym (read_is tree ask read ∙ ap (mapped_answer tree) (sym (s.mapped_only (Away status target) away)))
-case_is tree ask s answer (posted_away status target post away is) = is ∙ sym (post_is tree ask post ∙ ap (posted_answer tree ask) (sym (s.mapped_only (Away status target) away)))
+case_is tree ask s answer (read_away status reference read away is) = is ∙ sym (read_is tree ask read ∙ ap (mapped_answer tree) (sym (s.mapped_only (Away status reference) away)))
+case_is tree ask s answer (posted_away status reference post away is) = is ∙ sym (post_is tree ask post ∙ ap (posted_answer tree ask) (sym (s.mapped_only (Away status reference) away)))
 case_is tree ask s answer (posted text post inside is) = is ∙ sym (post_is tree ask post ∙ ap (posted_answer tree ask) (sym (s.mapped_only (Inside text) inside)))
 case_is tree ask s answer (lost text reads nowhere is) = is ∙ sym (text-is tree ask s text reads ∙ lost-is tree text (split_of (has_resource tree) text) refl (s.split text) nowhere)
 case_is tree ask s answer (refused_script res text reads none is) = is ∙ sym (script-is tree ask s res text reads ∙ by_reading (blocks_of text) refl)

@@ -54,7 +54,7 @@ target_cause None = refl
 form_cause : (fault : FormFault) → is_form_out_of_memory fault ≡ false → is_cause (of_form fault) ≡ true
 form_cause WrongKind e = refl
 form_cause NoBoundary e = refl
-form_cause (BadPart place) e = refl
+form_cause (BadPart at) e = refl
 form_cause TooMany e = refl
 form_cause NoMemoryOfForm e = absurd cc
 

@@ -127,7 +127,7 @@ HaveSameSupers after tree = (path : Segments) → super_at after path ≡ super_
 
 super_text_stays : (after tree : Content) → HaveSameSupers after tree → (type : TypeName) → super_text after type ≡ super_text tree type
 unfolding super_text
-super_text_stays after tree same type = λ i. first_of (λ place. same place i) (places type)
+super_text_stays after tree same type = λ i. first_of (λ type_place. same type_place i) (places type)
 
 super_type_stays : (after tree : Content) → HaveSameSupers after tree → (type : TypeName) → super_type after type ≡ super_type tree type
 unfolding super_type
@@ -161,17 +161,17 @@ script_in_stays : (after tree : Content) → HaveSameScripts after tree → (rea
 script_in_stays after tree same (Ok path) = ap (λ b. if b then Some path else None) (same path)
 script_in_stays after tree same (Err e) = refl
 
-script_at_stays : (after tree : Content) → HaveSameScripts after tree → (place : Segments) (spelling : List ℕ) → script_at after place spelling ≡ script_at tree place spelling
+script_at_stays : (after tree : Content) → HaveSameScripts after tree → (type_place : Segments) (spelling : List ℕ) → script_at after type_place spelling ≡ script_at tree type_place spelling
 unfolding script_at
-script_at_stays after tree same place spelling = script_in_stays after tree same (path_of (text_of place ++ (spelling ++ codes ".html")))
+script_at_stays after tree same type_place spelling = script_in_stays after tree same (path_of (text_of type_place ++ (spelling ++ codes ".html")))
 
-at_place_stays : (after tree : Content) → HaveSameScripts after tree → (names : List Text) (place : Segments) → at_place after names place ≡ at_place tree names place
+at_place_stays : (after tree : Content) → HaveSameScripts after tree → (names : List Text) (type_place : Segments) → at_place after names type_place ≡ at_place tree names type_place
 unfolding at_place
-at_place_stays after tree same names place = λ i. first_of (λ name. script_at_stays after tree same place name i) names
+at_place_stays after tree same names type_place = λ i. first_of (λ name. script_at_stays after tree same type_place name i) names
 
 at_type_stays : (after tree : Content) → HaveSameScripts after tree → (parts : Parts) (naming : Naming) (type : TypeName) → at_type after parts naming type ≡ at_type tree parts naming type
 unfolding at_type
-at_type_stays after tree same parts naming type = λ i. first_of (λ place. at_place_stays after tree same (spellings parts (name_of type.segs) naming) place i) (places type)
+at_type_stays after tree same parts naming type = λ i. first_of (λ type_place. at_place_stays after tree same (spellings parts (name_of type.segs) naming) type_place i) (places type)
 
 at_naming_stays : (after tree : Content) → HaveSameScripts after tree → (chain : List TypeName) (parts : Parts) (naming : Naming) → at_naming after chain parts naming ≡ at_naming tree chain parts naming
 unfolding at_naming

@@ -122,7 +122,7 @@ module _ (valid : (text : List ℕ) (path : List (List ℕ)) → path_of text �
 
     posted_good : (tree : Content) (ask : Ask) (answer : MapAnswer) → IsGood tree → IsGood (posted_content tree ask answer)
     posted_good tree ask (Inside text) good = left_good tree (posting tree ask text) good (posting_is tree ask text good)
-    posted_good tree ask (Away status target) good = good
+    posted_good tree ask (Away status reference) good = good
 
     either_good : (b : Bool) (one other : Content) → IsGood one → IsGood other → IsGood (cond b one other)
     either_good true one other this that = this

@@ -87,7 +87,7 @@ split_is streams tree (Some parts) = resource_is streams tree parts (seen_resour
 
 mapped_is : StreamsHaveKinds → (tree : Content) (answer : MapAnswer) → HasKind (mapped_answer tree answer)
 mapped_is streams tree (Inside text) = split_is streams tree (split_of (has_resource tree) text)
-mapped_is streams tree (Away status target) = refl
+mapped_is streams tree (Away status reference) = refl
 
 refusal_is : (refusal : Refusal) → HasKind (refusal_answer refusal)
 refusal_is (Status status) = error_kind status
@@ -99,7 +99,7 @@ outcome_is (Err refusal) = refusal_is refusal
 
 posted_is : (tree : Content) (ask : Ask) (answer : MapAnswer) → HasKind (posted_answer tree ask answer)
 posted_is tree ask (Inside text) = outcome_is (posting tree ask text)
-posted_is tree ask (Away status target) = refl
+posted_is tree ask (Away status reference) = refl
 
 pub answer_kind : StreamsHaveKinds → (tree : Content) (ask : Ask) → IsTrue (is_kind (answer_to_request tree ask).kind)
 unfolding answer_to_request

@@ -44,7 +44,7 @@ outcome_keeps tree (Err refusal) one other = refl
 
 posted_keeps : (tree : Content) (ask : Ask) (answer : MapAnswer) → (posted_answer tree ask answer).status ≢ 200 → (posted_answer tree ask answer).status ≢ 201 → posted_content tree ask answer ≡ tree
 posted_keeps tree ask (Inside text) one other = outcome_keeps tree (posting tree ask text) one other
-posted_keeps tree ask (Away status target) one other = refl
+posted_keeps tree ask (Away status reference) one other = refl
 
 pub post_is : (tree : Content) (ask : Ask) → is_post ask.method ≡ true → answer_to_request tree ask ≡ posted_answer tree ask (mapping tree ask)
 unfolding answer_to_request
@@ -64,8 +64,8 @@ refusals_keep tree ask one other = keeps_by (is_post ask.method) tree ask refl o
 
 -- ---- requests that are mapped away
 
-pub away_answer : (tree : Content) (ask : Ask) (status : ℕ) (target : List ℕ) → (is_read ask.method || is_post ask.method) ≡ true → mapping tree ask ≡ Away status target → answer_to_request tree ask ≡ redirect status target
-away_answer tree ask status target asks away =
+pub away_answer : (tree : Content) (ask : Ask) (status : ℕ) (reference : List ℕ) → (is_read ask.method || is_post ask.method) ≡ true → mapping tree ask ≡ Away status reference → answer_to_request tree ask ≡ redirect status reference
+away_answer tree ask status reference asks away =
     ⊎_elim
     (λ (read : is_read ask.method ≡ true). read_is tree ask read ∙ ap (mapped_answer tree) away)
     (λ (post : is_post ask.method ≡ true). post_is tree ask post ∙ ap (posted_answer tree ask) away)
@@ -75,6 +75,6 @@ either : (b : Bool) (tree : Content) → cond b tree tree ≡ tree
 either true tree = refl
 either false tree = refl
 
-pub away_keeps : (tree : Content) (ask : Ask) (status : ℕ) (target : List ℕ) → mapping tree ask ≡ Away status target → content_after_request tree ask ≡ tree
+pub away_keeps : (tree : Content) (ask : Ask) (status : ℕ) (reference : List ℕ) → mapping tree ask ≡ Away status reference → content_after_request tree ask ≡ tree
 unfolding content_after_request
-away_keeps tree ask status target away = ap (λ a. cond (is_post ask.method) (posted_content tree ask a) tree) away ∙ either (is_post ask.method) tree
+away_keeps tree ask status reference away = ap (λ a. cond (is_post ask.method) (posted_content tree ask a) tree) away ∙ either (is_post ask.method) tree

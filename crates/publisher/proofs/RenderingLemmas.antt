@@ -95,7 +95,7 @@ text_fits tree text = found_fits tree (split_of (has_resource tree) text)
 
 pub mapped_fits : (tree : Content) (answer : MapAnswer) → Fits (mapped_answer tree answer)
 mapped_fits tree (Inside text) = text_fits tree text
-mapped_fits tree (Away status target) = λ e. omega arith
+mapped_fits tree (Away status reference) = λ e. omega arith
 
 -- what is asked by a GET or a HEAD
 pub read_is : (tree : Content) (ask : Ask) → is_read ask.method ≡ true → answer_to_request tree ask ≡ mapped_answer tree (mapping tree ask)

@@ -105,9 +105,9 @@ split_short tree (Some parts) = resource_short tree parts (seen_resources tree p
 redirect_short : (status : ℕ) → is_redirect status ≡ true → status ≤ 500
 redirect_short status is = grind (arith, nat_tests)
 
-mapped_short : (tree : Content) (answer : MapAnswer) → ((status : ℕ) (target : List ℕ) → answer ≡ Away status target → is_redirect status ≡ true) → Short (mapped_answer tree answer)
+mapped_short : (tree : Content) (answer : MapAnswer) → ((status : ℕ) (reference : List ℕ) → answer ≡ Away status reference → is_redirect status ≡ true) → Short (mapped_answer tree answer)
 mapped_short tree (Inside text) away = split_short tree (split_of (has_resource tree) text)
-mapped_short tree (Away status target) away = redirect_short status (away status target refl)
+mapped_short tree (Away status reference) away = redirect_short status (away status reference refl)
 
 -- ---- POSTs
 
@@ -205,20 +205,20 @@ outcome_short : (outcome : PostOutcome PostEffect) → IsErrorOutcome outcome �
 outcome_short (Ok done) short = report_short done.report.created
 outcome_short (Err refusal) short = refusal_short refusal short
 
-posted_short : (tree : Content) (ask : Ask) (answer : MapAnswer) → ((status : ℕ) (target : List ℕ) → answer ≡ Away status target → is_redirect status ≡ true) → Short (posted_answer tree ask answer)
+posted_short : (tree : Content) (ask : Ask) (answer : MapAnswer) → ((status : ℕ) (reference : List ℕ) → answer ≡ Away status reference → is_redirect status ≡ true) → Short (posted_answer tree ask answer)
 posted_short tree ask (Inside text) away = outcome_short (posting tree ask text) (posting_short tree ask text)
-posted_short tree ask (Away status target) away = redirect_short status (away status target refl)
+posted_short tree ask (Away status reference) away = redirect_short status (away status reference refl)
 
 -- ---- all answers
 
 -- what leads away does so by a status of a redirect
 abbrev pub AwayRedirects : Type 0
-AwayRedirects = (tree : Content) (host : List ℕ) (port : ℕ) (text target : List ℕ) (status : ℕ) → map_answer tree host port text ≡ Away status target → is_redirect status ≡ true
+AwayRedirects = (tree : Content) (host : List ℕ) (port : ℕ) (text reference : List ℕ) (status : ℕ) → map_answer tree host port text ≡ Away status reference → is_redirect status ≡ true
 
 pub rendered_short : AwayRedirects → (tree : Content) (ask : Ask) → Short (answer_to_request tree ask)
 unfolding answer_to_request
 rendered_short away tree ask =
-    let leads = λ (status : ℕ) (target : List ℕ). away tree ask.host ask.port (text_of ask.path) target status in
+    let leads = λ (status : ℕ) (reference : List ℕ). away tree ask.host ask.port (text_of ask.path) reference status in
     either (is_read ask.method) _ _ (mapped_short tree (mapping tree ask) leads)
     (either (is_post ask.method) _ _ (posted_short tree ask (mapping tree ask) leads) (error_short 405 (omega arith)))
 

@@ -39,12 +39,12 @@ FitsIfReadAndAnswered tree ask = is_read ask.method ≡ true → (answer_to_requ
 
 -- where the path's text leads away, a GET, a HEAD or a POST is answered with a redirect
 abbrev pub IsRedirectIfAway : Content → Ask → ℕ → Text → Type 0
-IsRedirectIfAway tree ask status target = (is_read ask.method || is_post ask.method) ≡ true
-    → IsMapped tree ask.host ask.port (text_of ask.path) (Away status target) → answer_to_request tree ask ≡ redirect status target
+IsRedirectIfAway tree ask status reference = (is_read ask.method || is_post ask.method) ≡ true
+    → IsMapped tree ask.host ask.port (text_of ask.path) (Away status reference) → answer_to_request tree ask ≡ redirect status reference
 
 -- where it leads away the content is as before
 abbrev pub KeepsContentIfAway : Content → Ask → ℕ → Text → Type 0
-KeepsContentIfAway tree ask status target = IsMapped tree ask.host ask.port (text_of ask.path) (Away status target) → content_after_request tree ask ≡ tree
+KeepsContentIfAway tree ask status reference = IsMapped tree ask.host ask.port (text_of ask.path) (Away status reference) → content_after_request tree ask ≡ tree
 
 -- a page that the script gives is what the blocks write that its text spells, with what is put in
 abbrev pub WritesPageIfSpelled : Content → Ask → Resource → Text → List Block → Type 0

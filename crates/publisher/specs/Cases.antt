@@ -66,8 +66,8 @@ pub record ReadsJson (tree : Content) (ask : Ask) (res : Resource) (depth : Dept
 -- The answer to a request. A 200 that would have more than 4,194,304 bytes is a 500 (`representation_of`).
 pub data IsAnswer (tree : Content) (ask : Ask) (answer : Answer) : Type 0 where
   not_allowed : is_read ask.method ≡ false → is_post ask.method ≡ false → answer ≡ error_answer 405 → IsAnswer tree ask answer
-  read_away : (status : ℕ) (target : List ℕ) → is_read ask.method ≡ true → IsMapped tree ask.host ask.port (text_of ask.path) (Away status target) → answer ≡ redirect status target → IsAnswer tree ask answer
-  posted_away : (status : ℕ) (target : List ℕ) → is_post ask.method ≡ true → IsMapped tree ask.host ask.port (text_of ask.path) (Away status target) → answer ≡ redirect status target → IsAnswer tree ask answer
+  read_away : (status : ℕ) (reference : List ℕ) → is_read ask.method ≡ true → IsMapped tree ask.host ask.port (text_of ask.path) (Away status reference) → answer ≡ redirect status reference → IsAnswer tree ask answer
+  posted_away : (status : ℕ) (reference : List ℕ) → is_post ask.method ≡ true → IsMapped tree ask.host ask.port (text_of ask.path) (Away status reference) → answer ≡ redirect status reference → IsAnswer tree ask answer
   posted : (text : List ℕ) → is_post ask.method ≡ true → IsMapped tree ask.host ask.port (text_of ask.path) (Inside text) → answer ≡ posting_answer (posting tree ask text) → IsAnswer tree ask answer
   lost : (text : List ℕ) → ReadsText tree ask text → IsLost (has_resource tree) text → answer ≡ error_answer 404 → IsAnswer tree ask answer
   refused_script : (res : Resource) (text : List ℕ) → ReadsByScript tree ask res text → ((blocks : List Block) → SpellsBlocks most_nested_blocks text blocks → ⊥) → answer ≡ error_answer 500 → IsAnswer tree ask answer

@@ -8,11 +8,11 @@ use Rattle.sp_base.specs.Paths.{text_of}
 use Rattle.sp_base.specs.declared.value.Value.TheVariants.{Texts}
 use Rattle.property_json.specs.PropertyJson.{json_of_value}
 
--- the target of JSON at a depth, after the text of a resource's path
+-- the reference of JSON at a depth, after the text of a resource's path
 abbrev pub choice : List ℕ → ℕ → List ℕ
 choice path depth = path ++ codes "." ++ decimal depth ++ codes ".json"
 
--- the targets of the depths from this one down to 0
+-- the references of the depths from this one down to 0
 abbrev pub choices : List ℕ → ℕ → List Text
 choices path most = reverse (map (choice path) (range_with_len 0 (most + 1)))
 

@@ -9,6 +9,6 @@ use Rattle.location_field.specs.Location.{location_of}
 abbrev pub answer_with_body : ℕ → List ℕ → Mark → List ℕ → Answer
 answer_with_body status kind mark body = record { status = status; kind = kind; location = []; mark = mark; body = body }
 
--- a redirect to a target (RFC 9110, section 15.4): its location, and no representation
+-- a redirect to a URI reference (RFC 9110, sections 10.2.2 and 15.4): its location, and no representation
 abbrev pub redirect : ℕ → List ℕ → Answer
-redirect status target = record { status = status; kind = []; location = location_of target; mark = Plain; body = [] }
+redirect status reference = record { status = status; kind = []; location = location_of reference; mark = Plain; body = [] }

@@ -63,7 +63,7 @@ representation_of kind mark body = if nat_le (length body) most_rendered_bytes t
 abbrev pub json_kind : List ℕ
 json_kind = codes "application/json;charset=utf-8"
 
--- the JSON text, or the targets that may be asked for instead
+-- the JSON text, or the references that may be asked for instead
 abbrev pub json_representation : Resource → JsonAnswer → Answer
 json_representation res (Whole text) = representation_of json_kind (mark_of res) text
 json_representation res (Over most) = answer_with_body 300 json_kind Plain (choices_text res.path most)
@@ -152,7 +152,7 @@ text_answer tree text = split_answer tree (split_of (has_resource tree) text)
 -- a mapping that leads away is a redirect
 abbrev pub mapped_answer : Content → MapAnswer → Answer
 mapped_answer tree (Inside text) = text_answer tree text
-mapped_answer tree (Away status target) = redirect status target
+mapped_answer tree (Away status reference) = redirect status reference
 
 -- the method asks for a change of the content (RFC 9110, section 9.3.3)
 abbrev pub is_post : List ℕ → Bool
@@ -161,12 +161,12 @@ is_post method = pointwise nat_eq method (codes "POST")
 -- the answer to a POST: a mapping that leads away is a redirect of it too
 abbrev pub posted_answer : Content → Ask → MapAnswer → Answer
 posted_answer tree ask (Inside text) = posting_answer (posting tree ask text)
-posted_answer tree ask (Away status target) = redirect status target
+posted_answer tree ask (Away status reference) = redirect status reference
 
 -- the content after a POST: as before where it is led away
 abbrev pub posted_content : Content → Ask → MapAnswer → Content
 posted_content tree ask (Inside text) = posting_content tree (posting tree ask text)
-posted_content tree ask (Away status target) = tree
+posted_content tree ask (Away status reference) = tree
 
 -- the answer to a request: the text of the path is mapped; another method than GET, HEAD and POST isn't allowed
 unfoldable pub answer_to_request : Content → Ask → Answer

@@ -23,7 +23,7 @@ fn choices(alloc: Global, path: &str, most: u32) -> Mem<TextList>
     Ok(list)
 }
 
-/// The targets of a resource as JSON at the depths from this one down to 0, as a JSON array.
+/// The references of a resource as JSON at the depths from this one down to 0, as a JSON array.
 #[tactic(auto, unfolding(crate::specs::Choices::choices_text))]
 pub(crate) fn choices_text(alloc: Global, path: &Path, most: u32) -> Mem<TextBuf>
     ensures { IfOk result (λ text. text ≡ choices_text path.now most) }

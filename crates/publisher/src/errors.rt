@@ -25,14 +25,14 @@ pub(crate) fn answer_of(
     })
 }
 
-/// A redirect to a target, which is escaped.
-pub(crate) fn redirect(alloc: Global, status: u16, target: &str) -> Mem<Answer>
-    ensures { IfOk result (λ a. a ≡ redirect status target.now) }
+/// A redirect to a URI reference, which is escaped.
+pub(crate) fn redirect(alloc: Global, status: u16, reference: &str) -> Mem<Answer>
+    ensures { IfOk result (λ a. a ≡ redirect status reference.now) }
 {
     Ok(Answer {
         status,
         kind: TextBuf::of(alloc, "")?,
-        location: location_of(alloc, target)?,
+        location: location_of(alloc, reference)?,
         mark: Mark::Plain,
         body: ByteBuf::of(alloc, b"")?,
     })

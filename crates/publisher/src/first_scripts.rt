@@ -22,8 +22,8 @@ const MOST_FIRSTS: usize = 4_096;
 /// The most bytes of the texts of one: clients choose the selectors and the extension.
 const MOST_TEXT: usize = 512;
 
-/// The bytes of a text's place in a list.
-const TEXT_PLACE: usize = 24;
+/// The bytes of a text's entry in a list.
+const TEXT_ENTRY: usize = 24;
 
 // The sum of Fowler, Noll and Vo in 64 bits: where it begins, its factor, and what ends a text, which is no byte.
 const FIRST_SUM: u64 = 14_695_981_039_346_656_037;
@@ -152,7 +152,7 @@ fn text_len(props: &PropList, parts: &Parts, script: &Option<Path>) -> usize {
     for selector in parts.selectors.as_slice() {
         len = len
             .saturating_add(selector.text().len())
-            .saturating_add(TEXT_PLACE);
+            .saturating_add(TEXT_ENTRY);
     }
     len
 }
@@ -200,10 +200,10 @@ impl FirstScripts {
         }
     }
 
-    // Forgets all where there is no place for one more.
-    fn make_place(&mut self)
+    // Forgets all where there is no room for one more.
+    fn make_room(&mut self)
         ensures fewer { AreAmongFirsts self.old self.new }
-        ensures place { length self.new < most_firsts }
+        ensures room { length self.new < most_firsts }
     {
         if self.firsts.len() < MOST_FIRSTS {
             return;
@@ -245,7 +245,7 @@ fn remember(
     let Ok(first) = FirstScript::of(alloc, props, parts, script) else {
         return;
     };
-    firsts.make_place();
+    firsts.make_room();
     firsts.put(number_of(props, parts), first);
 }
 

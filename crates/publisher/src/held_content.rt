@@ -92,7 +92,7 @@ impl HeldContent {
     {
         match self.mapping(alloc, ask)? {
             MapAnswer::Inside(text) => self.text_answer(alloc, text.text()),
-            MapAnswer::Away(status, target) => redirect(alloc, status, target.text()),
+            MapAnswer::Away(status, reference) => redirect(alloc, status, reference.text()),
         }
     }
 

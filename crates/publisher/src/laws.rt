@@ -82,11 +82,11 @@ pub fn kinds_are_short()
     streams_have_media_types();
 }
 
-/// A GET, a HEAD or a POST of a path whose text is mapped away is a redirect to the escaped target. Whatever the method, it changes
+/// A GET, a HEAD or a POST of a path whose text is mapped away is a redirect to the escaped reference. Whatever the method, it changes
 /// nothing.
 pub fn what_leads_away_is_a_redirect()
-    ensures answer { (tree : Content) (ask : Ask) (status : ℕ) (target : Text) → IsGood tree → IsRedirectIfAway tree ask status target }
-    ensures content { (tree : Content) (ask : Ask) (status : ℕ) (target : Text) → IsGood tree → KeepsContentIfAway tree ask status target }
+    ensures answer { (tree : Content) (ask : Ask) (status : ℕ) (reference : Text) → IsGood tree → IsRedirectIfAway tree ask status reference }
+    ensures content { (tree : Content) (ask : Ask) (status : ℕ) (reference : Text) → IsGood tree → KeepsContentIfAway tree ask status reference }
 {
     the_answer_is_mapped();
 }

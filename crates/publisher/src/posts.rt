@@ -30,7 +30,7 @@ impl HeldContent {
     {
         match self.mapping(alloc, ask)? {
             MapAnswer::Inside(text) => self.posting(alloc, ask, text.text()),
-            MapAnswer::Away(status, target) => redirect(alloc, status, target.text()),
+            MapAnswer::Away(status, reference) => redirect(alloc, status, reference.text()),
         }
     }
 

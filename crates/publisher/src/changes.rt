@@ -48,8 +48,8 @@ fn forget_patched(alloc: Global, templates: &mut Templates, patch: &Patch) -> Me
     ensures fewer { AreAmong templates.old templates.new }
     ensures unpatched { OnOk result (AreUnpatched patch.now templates.new) }
 {
-    for index in 0..patch.len() {
-        let Some((path, _row)) = patch.at(index) else {
+    for position in 0..patch.len() {
+        let Some((path, _row)) = patch.at(position) else {
             continue;
         };
         forget_text(alloc, templates, path)?;
@@ -95,8 +95,8 @@ fn keeps_firsts(tree: &Tree, patch: &Patch, scripts: &ScriptChange) -> bool
 fn keeps_supers(tree: &Tree, patch: &Patch) -> bool
     ensures { result ≡ true → KeepsSupers tree.now patch.now }
 {
-    for index in 0..patch.len() {
-        let Some((path, row)) = patch.at(index) else {
+    for position in 0..patch.len() {
+        let Some((path, row)) = patch.at(position) else {
             continue;
         };
         if names_super_at(tree, path, row) {

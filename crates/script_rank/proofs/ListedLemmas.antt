@@ -100,11 +100,11 @@ between (s ∷ p) (r ∷ m) (a ∷ q) above up h =
 abbrev pub IsFound : List Segments → Segments → Result ℕ ℕ → Type 0
 IsFound xs x r = IsBinarySearchResult (λ y. by_path y x) xs r
 
-abbrev IsPlace : List Segments → Segments → ℕ → Type 0
-IsPlace xs x i = IsPartitionPoint (λ y. by_path y x ≡ Less) (λ y. by_path y x ≡ Greater) xs i
+abbrev IsPosition : List Segments → Segments → ℕ → Type 0
+IsPosition xs x i = IsPartitionPoint (λ y. by_path y x ≡ Less) (λ y. by_path y x ≡ Greater) xs i
 
-place : (xs : List Segments) (x : Segments) (i : ℕ) → IsSorted by_path xs → IsFound xs x (Err i) → IsPlace xs x i
-place xs x i up found = found (searchable_from_sorted by_path_total (λ p. p) xs x up)
+position_found : (xs : List Segments) (x : Segments) (i : ℕ) → IsSorted by_path xs → IsFound xs x (Err i) → IsPosition xs x i
+position_found xs x i up found = found (searchable_from_sorted by_path_total (λ p. p) xs x up)
 
 found_at : (xs : List Segments) (x : Segments) (i : ℕ) → IsFound xs x (Ok i) → get_or xs i x ≡ x
 found_at xs x i found = one_path (get_or xs i x) x (found x)
@@ -112,7 +112,7 @@ found_at xs x i found = one_path (get_or xs i x) x (found x)
 listed : (xs : List Segments) (x : Segments) (i : ℕ) → i < length xs → IsFound xs x (Ok i) → has_path xs x ≡ true
 listed xs x i within found = list_any_at (same_path x) xs i x within (ap is_eq (tied_back by_path_total (get_or xs i x) x (found x)))
 
-not_listed : (xs : List Segments) (x : Segments) (i : ℕ) → IsPlace xs x i → has_path xs x ≡ false
+not_listed : (xs : List Segments) (x : Segments) (i : ℕ) → IsPosition xs x i → has_path xs x ≡ false
 not_listed xs x i (low, high) = list_any_none (same_path x) xs (λ k d within. ⊎_elim
     (λ (before : k < i). apart_below x (get_or xs k d) (low k d (omega arith) before))
     (λ (after : i ≤ k). apart_above x (get_or xs k d) (high k d after within))
@@ -120,7 +120,7 @@ not_listed xs x i (low, high) = list_any_none (same_path x) xs (λ k d within. �
 
 pub lists_is : (xs : List Segments) (x : Segments) (r : Result ℕ ℕ) → IsSorted by_path xs → IsSearchInRange r (length xs) → IsFound xs x r → is_ok r ≡ has_path xs x
 lists_is xs x (Ok i) up range found = sym (listed xs x i range found)
-lists_is xs x (Err i) up range found = sym (not_listed xs x i (place xs x i up found))
+lists_is xs x (Err i) up range found = sym (not_listed xs x i (position_found xs x i up found))
 
 pub lacks_is : (xs : List Segments) (x : Segments) (r : Result ℕ ℕ) → IsSorted by_path xs → IsSearchInRange r (length xs) → IsFound xs x r → is_err r ≡ not (has_path xs x)
 lacks_is xs x r up range found = err_or_ok r ∙ ap not (lists_is xs x r up range found)
@@ -133,7 +133,7 @@ pub under_found : (xs : List Segments) (x : Segments) (i : ℕ) → i < length x
 under_found xs x i within found = list_any_at (λ p. is_under p x) xs i x within (ap (λ p. is_under p x) (found_at xs x i found) ∙ under_self x)
 
 -- no path is below, where the next isn't
-none_under : (xs : List Segments) (x : Segments) (i : ℕ) → IsSorted by_path xs → IsPlace xs x i → ((d : Segments) → i < length xs → is_under (get_or xs i d) x ≡ false) → has_under xs x ≡ false
+none_under : (xs : List Segments) (x : Segments) (i : ℕ) → IsSorted by_path xs → IsPosition xs x i → ((d : Segments) → i < length xs → is_under (get_or xs i d) x ≡ false) → has_under xs x ≡ false
 none_under xs x i up (low, high) next = list_any_none (λ p. is_under p x) xs (λ k d within. ⊎_elim
     (λ (before : k < i). not_under_below x (get_or xs k d) (low k d (omega arith) before))
     (λ (after : i ≤ k). false_from_ne_true (is_under (get_or xs k d) x) (λ h.
@@ -141,15 +141,15 @@ none_under xs x i up (low, high) next = list_any_none (λ p. is_under p x) xs (�
     true≢false (sym (between x (get_or xs i d) (get_or xs k d) (high i d (omega arith) here) (sorted_far less (ranks_by by_path_total (λ p. p)) xs up i k d after within) h) ∙ next d here)))
     (cases_lt k i))
 
-under_by : (xs : List Segments) (x : Segments) (i : ℕ) (t : Bool) (next : Segments) → IsSorted by_path xs → IsPlace xs x i → i < length xs → ((d : Segments) → next ≡ get_or xs i d) → is_under next x ≡ t → t ≡ has_under xs x
+under_by : (xs : List Segments) (x : Segments) (i : ℕ) (t : Bool) (next : Segments) → IsSorted by_path xs → IsPosition xs x i → i < length xs → ((d : Segments) → next ≡ get_or xs i d) → is_under next x ≡ t → t ≡ has_under xs x
 under_by xs x i true next up at within is h = sym (list_any_at (λ p. is_under p x) xs i next within (ap (λ p. is_under p x) (sym (is next)) ∙ h))
 under_by xs x i false next up at within is h = sym (none_under xs x i up at (λ d here. ap (λ p. is_under p x) (sym (is d)) ∙ h))
 
 pub under_next : (xs : List Segments) (x : Segments) (i : ℕ) (next : Segments) → IsSorted by_path xs → IsFound xs x (Err i) → i < length xs → ((d : Segments) → next ≡ get_or xs i d) → is_under next x ≡ has_under xs x
-under_next xs x i next up found within is = under_by xs x i (is_under next x) next up (place xs x i up found) within is refl
+under_next xs x i next up found within is = under_by xs x i (is_under next x) next up (position_found xs x i up found) within is refl
 
 pub under_none : (xs : List Segments) (x : Segments) (i : ℕ) → IsSorted by_path xs → IsFound xs x (Err i) → length xs ≤ i → has_under xs x ≡ false
-under_none xs x i up found past = none_under xs x i up (place xs x i up found) (λ d within. absurd (omega (arith, past, within)))
+under_none xs x i up found past = none_under xs x i up (position_found xs x i up found) (λ d within. absurd (omega (arith, past, within)))
 
 -- ---- an insert
 
@@ -181,7 +181,7 @@ listed_twice xs i x q within found = ⊎_elim
 
 pub rises_insert : (xs : List Segments) (i : ℕ) (x : Segments) → IsStrictlySortedBy by_path xs → i ≤ length xs → IsFound xs x (Err i) → IsStrictlySortedBy by_path (insert xs i x)
 rises_insert xs i x up le found =
-    let (low, high) = place xs x i (rises xs up) found in
+    let (low, high) = position_found xs x i (rises xs up) found in
     let ys = insert xs i x in
     let size : length ys ≡ length xs + 1 = length-insert xs i x le in
     sorted_from_all_adjacent by_path_total ys x (λ k within. ⊎_elim
@@ -222,7 +222,7 @@ rises_remove xs i up within =
 pub forgotten : (xs ys : List Segments) (x q : Segments) (i : ℕ) → IsSorted by_path ys → IsFound ys x (Err i) → (has_path ys q || same_path q x) ≡ (has_path xs q || same_path q x) → has_path ys q ≡ (has_path xs q && not (same_path q x))
 forgotten xs ys x q i up found alike = ⊎_elim
     (λ (e : same_path q x ≡ true).
-    ap (has_path ys) (path_from_same q x e) ∙ not_listed ys x i (place ys x i up found) ∙ sym (and_none (has_path xs q)) ∙ ap (λ b. has_path xs q && not b) (sym e))
+    ap (has_path ys) (path_from_same q x e) ∙ not_listed ys x i (position_found ys x i up found) ∙ sym (and_none (has_path xs q)) ∙ ap (λ b. has_path xs q && not b) (sym e))
     (λ (e : same_path q x ≡ false).
     sym (or_none (has_path ys q)) ∙ ap (λ b. has_path ys q || b) (sym e) ∙ alike ∙ ap (λ b. has_path xs q || b) e ∙ or_and (has_path xs q) ∙ ap (λ b. has_path xs q && not b) (sym e))
     (cases_Bool (same_path q x))

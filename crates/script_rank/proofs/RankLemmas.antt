@@ -17,7 +17,7 @@ use Rattle.script_rank.proofs.NamingLemmas.{weight, better-weight, namings-fall,
 use Rattle.script_rank.proofs.DepthLemmas.{few_selectors}
 use Rattle.script_rank.proofs.SearchLemmas.{Hit, hit, none-at}
 
--- one place of a list has one item
+-- one position of a list has one item
 one_item : {A : Type 0} (xs : List A) (i j : ℕ) (x y : A) → i ≡ j → slice_get xs i ≡ Some x → slice_get xs j ≡ Some y → x ≡ y
 one_item xs i j x y same e f = same_Some x y (sym e ∙ ap (slice_get xs) same ∙ f)
 

@@ -84,7 +84,7 @@ is_script_name name = ends_with nat_eq name (codes ".html")
 abbrev pub is_script : Content → Segments → Bool
 is_script tree path = is_script_name (name_of path) && (is_some (node_at tree path) && is_some (script_text tree path))
 
--- by what a candidate is ranked: its naming, and the places of its type in the chain, of its place among the type's, and of its
+-- by what a candidate is ranked: its naming, and the positions of its type in the chain, of its place among the type's, and of its
 -- spelling among the naming's
 pub record Key : Type 0 where
   pub naming : Naming

@@ -121,8 +121,8 @@ fn script_change(alloc: Global, tree: &Tree, patch: &Patch) -> Mem<ScriptChange>
         added: Vec::new(alloc),
         gone: Vec::new(alloc),
     };
-    for place in 0..patch.len() {
-        let Some((path, row)) = patch.at(place) else {
+    for position in 0..patch.len() {
+        let Some((path, row)) = patch.at(position) else {
             continue;
         };
         note_entry(&mut change, alloc, tree, path, row)?;

@@ -24,7 +24,7 @@ impl ScriptIndex {
     {
         match self.scripts.binary_search(path) {
             Ok(_) => true,
-            Err(place) => match self.scripts.get(place) {
+            Err(position) => match self.scripts.get(position) {
                 Some(next) => next.is_under(path),
                 None => false,
             },
@@ -46,8 +46,8 @@ impl ScriptIndex {
         ensures scripts { (q : Segments) → has_path self.new.scripts q ≡ (has_path self.old.scripts q || same_path q path) }
         ensures room { self.old.room ≤ self.new.room + 1 }
     {
-        if let Err(place) = self.scripts.binary_search(&path) {
-            drop(self.scripts.insert(place, path));
+        if let Err(position) = self.scripts.binary_search(&path) {
+            drop(self.scripts.insert(position, path));
         }
     }
 
@@ -127,7 +127,7 @@ fn remove_path(paths: &mut Vec<Path>, path: &Path)
     ensures room { vec_capacity paths.new ≡ vec_capacity paths.old }
     ensures fewer { vec_len paths.new ≤ vec_len paths.old }
 {
-    while let Ok(place) = paths.binary_search(path) {
-        drop(paths.remove(place));
+    while let Ok(position) = paths.binary_search(path) {
+        drop(paths.remove(position));
     }
 }

@@ -26,11 +26,11 @@ brace_after (a ∷ b ∷ s) e = (omega arith, is_brace (nat_eq 36 a) (nat_eq 123
     is_brace false y same e = absurd (false≢true e)
 
 -- a text can be cut after the `${`
-pub opening_boundary : (t : List ℕ) (place : ℕ) → IsUtf8 t → opens_at t place ≡ true → IsCharBoundary t (place + 2)
-opening_boundary t place utf8 opens =
-    let is = brace_after (drop place t) (and_second (nat_le place (length t)) (starts_with nat_eq (drop place t) (codes "${")) opens) in
-    let left : length (drop place t) ≡ length t - place = length-drop place t in
-    let brace : get_or t (place + 1) 0 ≡ 123 = sym (get_or-drop place t 1 0) ∙ is.1 in
+pub opening_boundary : (t : List ℕ) (position : ℕ) → IsUtf8 t → opens_at t position ≡ true → IsCharBoundary t (position + 2)
+opening_boundary t position utf8 opens =
+    let is = brace_after (drop position t) (and_second (nat_le position (length t)) (starts_with nat_eq (drop position t) (codes "${")) opens) in
+    let left : length (drop position t) ≡ length t - position = length-drop position t in
+    let brace : get_or t (position + 1) 0 ≡ 123 = sym (get_or-drop position t 1 0) ∙ is.1 in
     let within = is.0 in
-    let here : IsCharBoundary t (place + 1 + 1) = IsCharBoundary-after_ascii t (place + 1) utf8 (omega (arith, within, left)) (omega (arith, brace)) in
+    let here : IsCharBoundary t (position + 1 + 1) = IsCharBoundary-after_ascii t (position + 1) utf8 (omega (arith, within, left)) (omega (arith, brace)) in
     subst (IsCharBoundary t) (omega arith) here

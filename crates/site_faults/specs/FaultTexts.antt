@@ -6,7 +6,7 @@ use Rattle.site_faults.specs.declared.match_faults.MatchFault.TheVariants as mat
 use Rattle.site_faults.specs.declared.script_fault.ScriptFault.{ScriptFault}
 use Rattle.site_faults.specs.declared.script_fault.ScriptFault.TheVariants as script
 
--- by its name, and with its place
+-- by its name, and with its position
 abbrev pub script_fault_text : ScriptFault → List ℕ
 script_fault_text (script.Unclosed at) = codes "Unclosed at " ++ decimal at
 script_fault_text (script.Unexpected at) = codes "Unexpected at " ++ decimal at
@@ -16,7 +16,7 @@ script_fault_text (script.BadBlock at) = codes "BadBlock at " ++ decimal at
 script_fault_text (script.DeepBlock at) = codes "DeepBlock at " ++ decimal at
 script_fault_text (script.BadTag at) = codes "BadTag at " ++ decimal at
 
--- by its name, and with its place in the text
+-- by its name, and with its position in the text
 abbrev pub match_fault_text : MatchFault → List ℕ
 match_fault_text match.Misplaced = codes "Misplaced"
 match_fault_text match.NoText = codes "NoText"

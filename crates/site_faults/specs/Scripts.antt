@@ -24,41 +24,41 @@ use Rattle.site_faults.specs.declared.script_fault.ScriptFault.TheVariants.{Uncl
 
 -- ---- the fault of a text
 
--- the text after the `${` at a place
+-- the text after the `${` at a position
 abbrev pub after_opening : List ℕ → ℕ → List ℕ
-after_opening t place = drop (place + 2) t
+after_opening t position = drop (position + 2) t
 
--- what is wrong with the expression that opens at a place: the first byte after its `${` with which no expression goes on
+-- what is wrong with the expression that opens at a position: the first byte after its `${` with which no expression goes on
 abbrev pub expression_fault : ℕ → Result Expression ExprFault → ScriptFault
-expression_fault place (Err (expression.Unexpected at)) = Unexpected (place + 2 + at)
-expression_fault place (Err (expression.TooDeep at)) = TooDeep (place + 2 + at)
-expression_fault place (Err expression.NoMemory) = Unexpected place
-expression_fault place (Ok e) = Unexpected place
+expression_fault position (Err (expression.Unexpected at)) = Unexpected (position + 2 + at)
+expression_fault position (Err (expression.TooDeep at)) = TooDeep (position + 2 + at)
+expression_fault position (Err expression.NoMemory) = Unexpected position
+expression_fault position (Ok e) = Unexpected position
 
--- an expression opens at a place
+-- an expression opens at a position
 abbrev pub opens_at : List ℕ → ℕ → Bool
-opens_at t place = nat_le place (length t) && starts_with nat_eq (drop place t) (codes "${")
+opens_at t position = nat_le position (length t) && starts_with nat_eq (drop position t) (codes "${")
 
--- what is wrong where an expression that opens at a place isn't closed, or else one of the tag there
+-- what is wrong where an expression that opens at a position isn't closed, or else one of the tag there
 abbrev pub unclosed_fault : List ℕ → ℕ → ScriptFault
-unclosed_fault t place = if opens_at t place then Unclosed place else BadTag place
+unclosed_fault t position = if opens_at t position then Unclosed position else BadTag position
 
--- what is wrong with the expression that opens at a place, or else with one of the tag there
+-- what is wrong with the expression that opens at a position, or else with one of the tag there
 abbrev pub read_fault : List ℕ → ℕ → ScriptFault
-read_fault t place = if opens_at t place then expression_fault place (expression_of (after_opening t place)) else BadTag place
+read_fault t position = if opens_at t position then expression_fault position (expression_of (after_opening t position)) else BadTag position
 
 -- what is wrong with a script of which this is told of a template: at the expression, or at the tag in which it stands
 abbrev pub fault_of_template : List ℕ → TextFault → Option ScriptFault
-fault_of_template t (text.Unclosed place) = Some (unclosed_fault t place)
-fault_of_template t (text.BadExpr place) = Some (read_fault t place)
+fault_of_template t (text.Unclosed position) = Some (unclosed_fault t position)
+fault_of_template t (text.BadExpr position) = Some (read_fault t position)
 fault_of_template t text.NoMemory = None
 
 -- what is wrong with a script as which this was read
 abbrev pub fault_of_reading : List ℕ → Result (List Block) BlockFault → Option ScriptFault
 fault_of_reading t (Ok blocks) = None
-fault_of_reading t (Err (block.OpenTag place)) = Some (OpenTag place)
-fault_of_reading t (Err (block.BadBlock place)) = Some (BadBlock place)
-fault_of_reading t (Err (block.TooDeep place)) = Some (DeepBlock place)
+fault_of_reading t (Err (block.OpenTag position)) = Some (OpenTag position)
+fault_of_reading t (Err (block.BadBlock position)) = Some (BadBlock position)
+fault_of_reading t (Err (block.TooDeep position)) = Some (DeepBlock position)
 fault_of_reading t (Err (block.Text fault)) = fault_of_template t fault
 fault_of_reading t (Err block.NoMemory) = None
 

@@ -87,9 +87,9 @@ fn applies_to_all(entry: &FarmMember, tests: &[&str]) -> bool {
 // How many entries stand before the last one that applies to all.
 fn decided_count(entries: &[FarmMember], tests: &[&str]) -> usize {
     let mut count = 0;
-    for place in 0..entries.len() {
-        if applies_to_all(&entries[place], tests) {
-            count = place;
+    for index in 0..entries.len() {
+        if applies_to_all(&entries[index], tests) {
+            count = index;
         }
     }
     count

@@ -90,8 +90,8 @@ fn has_match(node: &Node) -> bool {
 // What a mapping is asked for: its path below the name of its host and port.
 fn prefix_of(alloc: Global, path: &Path) -> Mem<TextBuf> {
     let mut text = String::new(alloc);
-    for place in HOST_DEPTH..path.depth() {
-        if let Some(segment) = path.seg(place) {
+    for depth in HOST_DEPTH..path.depth() {
+        if let Some(segment) = path.seg(depth) {
             text.push_str("/")?;
             text.push_str(segment)?;
         }

@@ -21,9 +21,9 @@ pub enum MatchFault {
     Misplaced,
     /// It is no text.
     NoText,
-    /// With what stands at this place of this text no pattern goes on.
+    /// With what stands at this position of this text no pattern goes on.
     NoPattern(TextBuf, usize),
-    /// The bracket at this place of this text nests deeper than 32.
+    /// The bracket at this position of this text nests deeper than 32.
     TooDeep(TextBuf, usize),
     /// Its node leads nowhere.
     NoTarget,

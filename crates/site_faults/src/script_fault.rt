@@ -11,7 +11,8 @@ use sp_base::{Mem, NoMemory};
 use std::alloc::Global;
 use std::fmt;
 
-/// What is wrong first in a text that can't be read as a script. Places are counted in bytes from 0; that of a tag is the place of its `<`.
+/// What is wrong first in a text that can't be read as a script. Positions are counted in bytes from 0; that of a tag is the position of
+/// its `<`.
 #[derive(Clone, Copy, PartialEq, Eq, Drop)]
 pub enum ScriptFault {
     /// No `}` outside quotes closes the expression whose `$` is here.
@@ -46,54 +47,54 @@ impl fmt::Display for ScriptFault {
     }
 }
 
-// Whether an expression opens at a place.
-fn opens_at(text: &str, place: usize) -> bool
-    ensures { result ≡ spec.opens_at text.now place }
+// Whether an expression opens at a position.
+fn opens_at(text: &str, position: usize) -> bool
+    ensures { result ≡ spec.opens_at text.now position }
 {
     let bytes = text.as_bytes();
-    place <= bytes.len() && bytes.split_at(place).1.starts_with(b"${")
+    position <= bytes.len() && bytes.split_at(position).1.starts_with(b"${")
 }
 
-// The text after the `${` at a place.
-fn after_opening(text: &str, place: usize) -> &str
-    requires { spec.opens_at text.now place ≡ true }
-    ensures { result.now ≡ spec.after_opening text.now place }
+// The text after the `${` at a position.
+fn after_opening(text: &str, position: usize) -> &str
+    requires { spec.opens_at text.now position ≡ true }
+    ensures { result.now ≡ spec.after_opening text.now position }
 {
-    text.split_at(place + 2).1
+    text.split_at(position + 2).1
 }
 
-// What is wrong with the expression that opens at a place.
-fn expression_fault(alloc: Global, text: &str, place: usize) -> Mem<ScriptFault>
-    requires { spec.opens_at text.now place ≡ true }
-    ensures { IfOk result (λ fault. fault ≡ spec.expression_fault place (expression_of (spec.after_opening text.now place))) }
+// What is wrong with the expression that opens at a position.
+fn expression_fault(alloc: Global, text: &str, position: usize) -> Mem<ScriptFault>
+    requires { spec.opens_at text.now position ≡ true }
+    ensures { IfOk result (λ fault. fault ≡ spec.expression_fault position (expression_of (spec.after_opening text.now position))) }
 {
-    match Expression::read(alloc, after_opening(text, place)) {
-        Ok(_) => Ok(ScriptFault::Unexpected(place)),
-        Err(ExprFault::Unexpected(at)) => Ok(ScriptFault::Unexpected(place + 2 + at)),
-        Err(ExprFault::TooDeep(at)) => Ok(ScriptFault::TooDeep(place + 2 + at)),
+    match Expression::read(alloc, after_opening(text, position)) {
+        Ok(_) => Ok(ScriptFault::Unexpected(position)),
+        Err(ExprFault::Unexpected(at)) => Ok(ScriptFault::Unexpected(position + 2 + at)),
+        Err(ExprFault::TooDeep(at)) => Ok(ScriptFault::TooDeep(position + 2 + at)),
         Err(ExprFault::NoMemory) => Err(NoMemory),
     }
 }
 
-// What is wrong where something opens at a place that nothing closes: an expression, or else one of the tag there.
-fn unclosed_fault(text: &str, place: usize) -> ScriptFault
-    ensures { result ≡ spec.unclosed_fault text.now place }
+// What is wrong where something opens at a position that nothing closes: an expression, or else one of the tag there.
+fn unclosed_fault(text: &str, position: usize) -> ScriptFault
+    ensures { result ≡ spec.unclosed_fault text.now position }
 {
-    if opens_at(text, place) {
-        ScriptFault::Unclosed(place)
+    if opens_at(text, position) {
+        ScriptFault::Unclosed(position)
     } else {
-        ScriptFault::BadTag(place)
+        ScriptFault::BadTag(position)
     }
 }
 
-// What is wrong with the expression that opens at a place, or else with one of the tag there.
-fn read_fault(alloc: Global, text: &str, place: usize) -> Mem<ScriptFault>
-    ensures { IfOk result (λ fault. fault ≡ spec.read_fault text.now place) }
+// What is wrong with the expression that opens at a position, or else with one of the tag there.
+fn read_fault(alloc: Global, text: &str, position: usize) -> Mem<ScriptFault>
+    ensures { IfOk result (λ fault. fault ≡ spec.read_fault text.now position) }
 {
-    if opens_at(text, place) {
-        expression_fault(alloc, text, place)
+    if opens_at(text, position) {
+        expression_fault(alloc, text, position)
     } else {
-        Ok(ScriptFault::BadTag(place))
+        Ok(ScriptFault::BadTag(position))
     }
 }
 
@@ -102,8 +103,8 @@ fn template_fault(alloc: Global, text: &str, fault: TextFault) -> Mem<Option<Scr
     ensures { IfOk result (λ told. told ≡ spec.fault_of_template text.now fault) }
 {
     match fault {
-        TextFault::Unclosed(place) => Ok(Some(unclosed_fault(text, place))),
-        TextFault::BadExpr(place) => Ok(Some(read_fault(alloc, text, place)?)),
+        TextFault::Unclosed(position) => Ok(Some(unclosed_fault(text, position))),
+        TextFault::BadExpr(position) => Ok(Some(read_fault(alloc, text, position)?)),
         TextFault::NoMemory => Err(NoMemory),
     }
 }
@@ -114,9 +115,9 @@ pub fn text_fault(alloc: Global, text: &str) -> Mem<Option<ScriptFault>>
 {
     match Blocks::read(alloc, text) {
         Ok(_) => Ok(None),
-        Err(BlockFault::OpenTag(place)) => Ok(Some(ScriptFault::OpenTag(place))),
-        Err(BlockFault::BadBlock(place)) => Ok(Some(ScriptFault::BadBlock(place))),
-        Err(BlockFault::TooDeep(place)) => Ok(Some(ScriptFault::DeepBlock(place))),
+        Err(BlockFault::OpenTag(position)) => Ok(Some(ScriptFault::OpenTag(position))),
+        Err(BlockFault::BadBlock(position)) => Ok(Some(ScriptFault::BadBlock(position))),
+        Err(BlockFault::TooDeep(position)) => Ok(Some(ScriptFault::DeepBlock(position))),
         Err(BlockFault::Text(fault)) => template_fault(alloc, text, fault),
         Err(BlockFault::NoMemory) => Err(NoMemory),
     }

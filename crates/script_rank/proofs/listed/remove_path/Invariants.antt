@@ -6,13 +6,13 @@ use Rattle.resource_tree.specs.Content.{same_path}
 use Rattle.script_rank.specs.Index.{has_path}
 use Rattle.script_rank.proofs.listed.remove_path.Given as goal
 
-abbrev pub invariant-loop-place : goal.invariant-loop-place
-invariant-loop-place l = record {
+abbrev pub invariant-loop-position : goal.invariant-loop-position
+invariant-loop-position l = record {
   order : IsStrictlySortedBy by_path l.paths.items;
   others : (q : List (List ℕ)) → (has_path l.paths.items q || same_path q l.path) ≡ (has_path l.fn.paths.items q || same_path q l.path);
   room : vec_capacity l.paths ≡ vec_capacity l.fn.paths;
   fewer : vec_len l.paths ≤ vec_len l.fn.paths;
 }
 
-abbrev pub decreases-loop-place : goal.decreases-loop-place
-decreases-loop-place l = vec_len l.paths
+abbrev pub decreases-loop-position : goal.decreases-loop-position
+decreases-loop-position l = vec_len l.paths

@@ -16,14 +16,14 @@ pub returns-in-Some : goal.returns-in-Some
 returns-in-Some c =
     let items = c.deref-in-Err.result.now in
     let up = rises items (subst (IsStrictlySortedBy by_path) (sym c.deref-in-Err.ensures.value) c.self.invariant) in
-    let found = subst (λ (xs : List Segments). IsFound xs c.args.path.now (Err c.in-Err.place)) (c.deref.ensures.value ∙ sym c.deref-in-Err.ensures.value) c.in-Err.ensures.position in
-    c.is_under.ensures ∙ under_next items c.args.path.now c.in-Err.place c.in-Some.next.now up found c.in-Some.ensures.lookup.3.0 c.in-Some.ensures.lookup.3.1
+    let found = subst (λ (xs : List Segments). IsFound xs c.args.path.now (Err c.in-Err.position)) (c.deref.ensures.value ∙ sym c.deref-in-Err.ensures.value) c.in-Err.ensures.position in
+    c.is_under.ensures ∙ under_next items c.args.path.now c.in-Err.position c.in-Some.next.now up found c.in-Some.ensures.lookup.3.0 c.in-Some.ensures.lookup.3.1
     ∙ ap (λ xs. has_under xs c.args.path.now) (c.deref-in-Err.ensures.value ∙ ap (λ (v : ScriptPaths). v.scripts) c.self.view_is)
 
 pub returns-in-None : goal.returns-in-None
 returns-in-None c =
     let items = c.deref-in-Err.result.now in
     let up = rises items (subst (IsStrictlySortedBy by_path) (sym c.deref-in-Err.ensures.value) c.self.invariant) in
-    let found = subst (λ (xs : List Segments). IsFound xs c.args.path.now (Err c.in-Err.place)) (c.deref.ensures.value ∙ sym c.deref-in-Err.ensures.value) c.in-Err.ensures.position in
-    sym (under_none items c.args.path.now c.in-Err.place up found c.in-None.ensures.lookup.3)
+    let found = subst (λ (xs : List Segments). IsFound xs c.args.path.now (Err c.in-Err.position)) (c.deref.ensures.value ∙ sym c.deref-in-Err.ensures.value) c.in-Err.ensures.position in
+    sym (under_none items c.args.path.now c.in-Err.position up found c.in-None.ensures.lookup.3)
     ∙ ap (λ xs. has_under xs c.args.path.now) (c.deref-in-Err.ensures.value ∙ ap (λ (v : ScriptPaths). v.scripts) c.self.view_is)

@@ -14,17 +14,17 @@ invariant_of-self c =
     let up = subst (IsStrictlySortedBy by_path) (sym c.deref.ensures.value) c.self.invariant in
     let room = ap (λ (v : ScriptPaths). v.room) c.self.view_is in
     let ok : is_ok c.insert.result ≡ true = c.insert.ensures.succeeds (omega (arith, c.requires, room)) in
-    let items : c.insert.new.self.items ≡ insert old c.in-Err.place c.args.path =
-    c.insert.ensures.items ∙ ap (λ b. if b then insert c.self.inside.scripts.items c.in-Err.place c.args.path else c.self.inside.scripts.items) ok ∙ ap (λ xs. insert xs c.in-Err.place c.args.path) (sym c.deref.ensures.value) in
-    subst (IsStrictlySortedBy by_path) (sym items) (rises_insert old c.in-Err.place c.args.path up c.in-Err.ensures.bound c.in-Err.ensures.position)
+    let items : c.insert.new.self.items ≡ insert old c.in-Err.position c.args.path =
+    c.insert.ensures.items ∙ ap (λ b. if b then insert c.self.inside.scripts.items c.in-Err.position c.args.path else c.self.inside.scripts.items) ok ∙ ap (λ xs. insert xs c.in-Err.position c.args.path) (sym c.deref.ensures.value) in
+    subst (IsStrictlySortedBy by_path) (sym items) (rises_insert old c.in-Err.position c.args.path up c.in-Err.ensures.bound c.in-Err.ensures.position)
 
 pub returns-in-Err-clause-scripts : goal.returns-in-Err-clause-scripts
 returns-in-Err-clause-scripts c = λ q.
     let old = c.self.inside.scripts.items in
     let room = ap (λ (v : ScriptPaths). v.room) c.self.view_is in
     let ok : is_ok c.insert.result ≡ true = c.insert.ensures.succeeds (omega (arith, c.requires, room)) in
-    ap (λ xs. has_path xs q) (c.insert.ensures.items ∙ ap (λ b. if b then insert old c.in-Err.place c.args.path else old) ok)
-    ∙ inserted old c.in-Err.place c.args.path q ∙ ap (λ (v : ScriptPaths). has_path v.scripts q || same_path q c.args.path) c.self.view_is
+    ap (λ xs. has_path xs q) (c.insert.ensures.items ∙ ap (λ b. if b then insert old c.in-Err.position c.args.path else old) ok)
+    ∙ inserted old c.in-Err.position c.args.path q ∙ ap (λ (v : ScriptPaths). has_path v.scripts q || same_path q c.args.path) c.self.view_is
 
 pub returns-in_default-clause-scripts : goal.returns-in_default-clause-scripts
 returns-in_default-clause-scripts c = λ q.

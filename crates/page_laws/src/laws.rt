@@ -7,7 +7,7 @@ use htl_blocks::the_blocks_are_the_text;
 use publisher::an_answer_is_one_of_the_cases;
 use script_rank::{one_script_is_first, search_finds_the_first};
 
-/// For a script that is put in stands its page for the same resource with the variables of the place (`script`), and for a resource that of the
+/// For a script that is put in stands its page for the same resource with the variables of the setting (`script`), and for a resource that of the
 /// resource by the script that ranks first for it, without variables (`resource`); where none is there, nothing (`no_script`, `no_resource`). So
 /// the page of a script that is one include is that script's page, and one inclusion more (`include_page`), and likewise of a resource
 /// (`resource_page`); where it leads nowhere, the page is one inclusion and no text, so that what isn't there is counted too (`no_include_page`,

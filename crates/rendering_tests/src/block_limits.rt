@@ -1,4 +1,4 @@
-//! The limits of what scripts with blocks write: of their text, of the variables of a place, of what is put in, and of rounds.
+//! The limits of what scripts with blocks write: of their text, of the variables of a setting, of what is put in, and of rounds.
 use crate::block_texts::scope;
 use htl_blocks::{Blocks, Piece, RunFault};
 use htl_expr::{Scope, Variables};

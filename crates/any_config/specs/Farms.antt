@@ -9,7 +9,7 @@ use Rattle.glob_rules.specs.declared.piece.GlobPiece.{GlobPiece}
 use Rattle.glob_rules.specs.declared.rule.Rule.{Rule}
 use Rattle.glob_rules.specs.declared.fault.GlobFault.{GlobFault}
 use Rattle.glob_rules.specs.Reading.{glob_of}
-use Rattle.regex_rules.specs.declared.place.Place.{Place}
+use Rattle.regex_rules.specs.declared.place.PatternPlace.{PatternPlace}
 use Rattle.regex_rules.specs.declared.fault.PatternFault.{PatternFault}
 use Rattle.regex_rules.specs.Reading.{pattern_of}
 use Rattle.any_config.specs.declared.farm.Test.{Test}
@@ -149,12 +149,12 @@ unfoldable pub glob_at : List ℕ → Members → FarmOutcome (Option (List Glob
 glob_at name ms = glob_or_none name (member_value name ms)
 
 -- a pattern that could be read, or the fault that the member is of the wrong kind
-abbrev pub pattern_or_bad : List ℕ → Result (List Place) PatternFault → FarmOutcome (List Place)
+abbrev pub pattern_or_bad : List ℕ → Result (List PatternPlace) PatternFault → FarmOutcome (List PatternPlace)
 pattern_or_bad name (Ok pattern) = Ok pattern
 pattern_or_bad name (Err fault) = Err (BadKind name)
 
--- the pattern that a text spells (law `the_reading_is_the_grammar` of regex_rules: the places of its tree)
-unfoldable pub pattern : List ℕ → List ℕ → FarmOutcome (List Place)
+-- the pattern that a text spells (law `the_group_reading_is_the_grammar` of regex_rules: the places of its tree)
+unfoldable pub pattern : List ℕ → List ℕ → FarmOutcome (List PatternPlace)
 pattern name text = pattern_or_bad name (pattern_of text)
 
 -- what a member of a filter's entry stands for: a word for a glob, a text in single quotes for a pattern; a group is of the wrong kind

@@ -21,7 +21,7 @@ pub use farm::{Farm, Filter, FilterList, HostList, Test, VirtualHost};
 pub use farm_fault::FarmFault;
 pub use farm_reader::farm_of;
 pub use glob_rules::{Glob, GlobFault, Rule, RuleList};
-pub use laws::{a_fault_is_the_first, the_reading_is_the_grammar};
+pub use laws::{a_fault_is_the_first, the_group_reading_is_the_grammar};
 pub use node::{AnyList, AnyNode};
 pub use reader::{DEEPEST_GROUP, read_any};
 pub use regex_rules::Pattern;

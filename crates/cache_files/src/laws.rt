@@ -111,7 +111,7 @@ pub fn a_failed_drop_leaves_whole_pages()
 }
 
 /// Each session has a number above that of the last one, and so above every number up to it.
-pub fn epochs_rise()
+pub fn session_epochs_rise()
     ensures next { (files : Files) (epoch : ℕ) → 0 < epoch → epoch < greatest_epoch → next_epoch (with_file files epoch_name (epoch_text epoch)) ≡ Ok (epoch + 1) }
     ensures above { (files : Files) (epoch before : ℕ) → next_epoch files ≡ Ok epoch → before ≤ epoch_held files → before < epoch }
 {

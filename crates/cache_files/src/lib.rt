@@ -18,6 +18,7 @@ pub use laws::{
     a_failed_drop_leaves_whole_pages, a_failed_put_leaves_whole_pages,
     a_page_is_its_head_and_its_body, a_page_is_read_back,
     a_put_out_of_memory_leaves_the_old_page_or_none, a_removal_leaves_pages_or_none,
-    a_stopped_put_leaves_no_page, epochs_rise, pages_have_files_of_their_own, pages_stand_apart,
+    a_stopped_put_leaves_no_page, pages_have_files_of_their_own, pages_stand_apart,
+    session_epochs_rise,
 };
 pub use page::{Page, drop_page, get_page, put_page};

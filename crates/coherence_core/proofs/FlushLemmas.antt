@@ -6,7 +6,7 @@ use Rattle.any_config.specs.declared.farm.Farm.{Farm}
 use Rattle.cover_rules.specs.declared.stamp.Stamp.{Stamp}
 use Rattle.cover_rules.specs.declared.invalidation.Invalidation.{Invalidation}
 use Rattle.docroot_changes.specs.Changes.{IsStampFolder}
-use Rattle.invalidation.specs.declared.place.Place.{Place}
+use Rattle.invalidation.specs.declared.place.WalkPlace.{WalkPlace}
 use Rattle.invalidation.specs.declared.purge.Purge.{Purge}
 use Rattle.invalidation.specs.Slices.{IsBehindPlace, Progress}
 use Rattle.cache_log.specs.Entries.{LogEntry, Begun, Ended, FlushOutcome}
@@ -86,8 +86,8 @@ oldest p ps w inv later (inr h) = flush_later p ps w inv later h
 -- one that has made no slice is as far as it says
 untouched : (page : Pages) (stat : Stamps) (p : Purge) → p.place ≡ None → Progress p page stat
 untouched page stat p none = record {
-  touched = λ begun. absurd (cc (subst (λ (o : Option Place). IsSome o) none begun));
-  gone = λ k good del behind. absurd (subst (λ (o : Option Place). IsBehindPlace p.inv o k) none behind);
+  touched = λ begun. absurd (cc (subst (λ (o : Option WalkPlace). IsSome o) none begun));
+  gone = λ k good del behind. absurd (subst (λ (o : Option WalkPlace). IsBehindPlace p.inv o k) none behind);
 }
 
 -- the next is at work once the head has ended

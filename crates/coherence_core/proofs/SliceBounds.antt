@@ -8,7 +8,7 @@ use Rattle.sp_outside.specs.Files.{Files}
 use Rattle.any_config.specs.declared.farm.Farm.{Farm}
 use Rattle.cover_rules.specs.declared.invalidation.Invalidation.{Invalidation}
 use Rattle.docroot_changes.specs.Changes.{AddsNames}
-use Rattle.invalidation.specs.declared.place.Place.{Place}
+use Rattle.invalidation.specs.declared.place.WalkPlace.{WalkPlace}
 use Rattle.invalidation.specs.declared.purge.Purge.{Purge}
 use Rattle.invalidation.specs.Slices.{HasBegun, most_added, names_ahead, stamps_written}
 use Rattle.cache_log.specs.Entries.{LogEntry, Begun, Ended, FlushOutcome, Session, Sliced, flushes_begun, landings_stored, slices_made}
@@ -47,7 +47,7 @@ ahead_adds n old new p adds = adds _
 -- a flush that has no place, and of which the log has no slice
 not_begun : (p : Pending) (log : List LogEntry) → p.purge.place ≡ None → slices_made p.number log ≡ 0 → HasBegunInLog p log
 not_begun p log none unmade = (
-  λ (begun : HasBegun p.purge). absurd (cc (subst (λ (o : Option Place). IsSome o) none begun)),
+  λ (begun : HasBegun p.purge). absurd (cc (subst (λ (o : Option WalkPlace). IsSome o) none begun)),
   λ (made : 0 < slices_made p.number log). absurd (omega (arith, unmade, made)),
 )
 
@@ -163,7 +163,7 @@ module _ (farm : Farm) (found : ℕ) (old new : Files) (p : Pending) (queue : Li
     none_added : most_added q ≡ 0
     none_added = go q.place begun
       where
-        go : (o : Option Place) → IsSome o → stamps_written q.level o ≡ 0
+        go : (o : Option WalkPlace) → IsSome o → stamps_written q.level o ≡ 0
         go None h = absurd (cc h)
         go (Some place) h = refl
 

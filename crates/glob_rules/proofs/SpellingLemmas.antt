@@ -8,8 +8,8 @@ use Rattle.std.proofs.lemmas.Str.{encodes-chars}
 use Rattle.sp_base.proofs.TextLemmas.{encode_append}
 use Rattle.glob_rules.specs.declared.fault.GlobFault.{GlobFault}
 use Rattle.glob_rules.specs.declared.fault.GlobFault.TheVariants.{OpenClass, NoMemory}
-use Rattle.glob_rules.specs.declared.piece.CharRange.{CharRange}
-use Rattle.glob_rules.specs.declared.piece.CharClass.{CharClass}
+use Rattle.glob_rules.specs.declared.piece.GlobRange.{GlobRange}
+use Rattle.glob_rules.specs.declared.piece.GlobClass.{GlobClass}
 use Rattle.glob_rules.specs.declared.piece.GlobPiece.{GlobPiece}
 use Rattle.glob_rules.specs.declared.piece.GlobPiece.TheVariants.{Star, AnyChar, Literal, Class}
 use Rattle.glob_rules.specs.Reading.{is_open, is_close, is_negation, plain_piece, glob_range, ranges_of, class_of, pieces_from, unclosed_class, unless_unclosed, glob_of}
@@ -32,19 +32,19 @@ ranges_sound (c ∷ d ∷ e ∷ cs) = go (d == 45) refl (ranges_sound cs) (range
         not_dash : (last : ℕ) (more : List ℕ) → d ∷ e ∷ cs ≡ 45 ∷ last ∷ more → ⊥
         not_dash last more same = let dash : d ≡ 45 = cc in absurd (grind (arith, nat_tests))
 
-ranges_complete : (cs : List ℕ) (ranges : List CharRange) → AreGlobRanges cs ranges → ranges_of cs ≡ ranges
+ranges_complete : (cs : List ℕ) (ranges : List GlobRange) → AreGlobRanges cs ranges → ranges_of cs ≡ ranges
 ranges_complete _ _ AreGlobRanges.none = refl
-ranges_complete _ _ (AreGlobRanges.two_ends {first} {last} {cs} {ranges} inner) = ap (λ (l : List CharRange). glob_range first last ∷ l) (ranges_complete cs ranges inner)
+ranges_complete _ _ (AreGlobRanges.two_ends {first} {last} {cs} {ranges} inner) = ap (λ (l : List GlobRange). glob_range first last ∷ l) (ranges_complete cs ranges inner)
 ranges_complete _ _ (AreGlobRanges.alone {c} {cs} {ranges} apart inner) = go cs apart (ranges_complete cs ranges inner)
   where
     go : (cs : List ℕ) → (GoesOnAsRange cs → ⊥) → ranges_of cs ≡ ranges → ranges_of (c ∷ cs) ≡ glob_range c c ∷ ranges
-    go [] apart ih = ap (λ (l : List CharRange). glob_range c c ∷ l) ih
-    go (d ∷ []) apart ih = ap (λ (l : List CharRange). glob_range c c ∷ l) ih
+    go [] apart ih = ap (λ (l : List GlobRange). glob_range c c ∷ l) ih
+    go (d ∷ []) apart ih = ap (λ (l : List GlobRange). glob_range c c ∷ l) ih
     go (d ∷ e ∷ more) apart ih = at (d == 45) refl
       where
         at : (b : Bool) → (d == 45) ≡ b → cond b (glob_range c e ∷ ranges_of more) (glob_range c c ∷ ranges_of (d ∷ e ∷ more)) ≡ glob_range c c ∷ ranges
         at true is = absurd (apart (e, more, ap (λ (n : ℕ). n ∷ e ∷ more) (eqb-true d 45 is)))
-        at false is = ap (λ (l : List CharRange). glob_range c c ∷ l) ih
+        at false is = ap (λ (l : List GlobRange). glob_range c c ∷ l) ih
 
 head_is : (c d : ℕ) (cs more : List ℕ) → c ∷ cs ≡ d ∷ more → c ≡ d
 head_is c d cs more e = cc
@@ -57,13 +57,13 @@ class_sound (c ∷ cs) = go (is_negation c) refl
     go true is = IsGlobClass.others is (ranges_sound cs)
     go false is = IsGlobClass.these (λ d more e. let same : c ≡ d = head_is c d cs more e in subst (λ (n : ℕ). is_negation n ≡ false) same is) (ranges_sound (c ∷ cs))
 
-class_complete : (cs : List ℕ) (class : CharClass) → IsGlobClass cs class → class_of cs ≡ class
-class_complete _ _ (IsGlobClass.others {c} {cs} {ranges} is all) = rw is (ap (λ (l : List CharRange). record { negated = true; ranges = l }) (ranges_complete cs ranges all))
+class_complete : (cs : List ℕ) (class : GlobClass) → IsGlobClass cs class → class_of cs ≡ class
+class_complete _ _ (IsGlobClass.others {c} {cs} {ranges} is all) = rw is (ap (λ (l : List GlobRange). record { negated = true; ranges = l }) (ranges_complete cs ranges all))
 class_complete _ _ (IsGlobClass.these {cs} {ranges} apart all) = go cs apart (ranges_complete cs ranges all)
   where
     go : (cs : List ℕ) → ((c : ℕ) (more : List ℕ) → cs ≡ c ∷ more → is_negation c ≡ false) → ranges_of cs ≡ ranges → class_of cs ≡ record { negated = false; ranges = ranges }
-    go [] apart e = ap (λ (l : List CharRange). record { negated = false; ranges = l }) e
-    go (c ∷ more) apart e = rw (apart c more refl) (ap (λ (l : List CharRange). record { negated = false; ranges = l }) e)
+    go [] apart e = ap (λ (l : List GlobRange). record { negated = false; ranges = l }) e
+    go (c ∷ more) apart e = rw (apart c more refl) (ap (λ (l : List GlobRange). record { negated = false; ranges = l }) e)
 
 -- ---- globs
 
@@ -149,7 +149,7 @@ complete _ _ (SpellsGlob.literal {c} {cs} {pieces} plain later) =
 complete _ _ (SpellsGlob.class {cs} {pieces} inside rest class none is e later) =
     let ih = complete rest pieces later in (
       ap (unclosed_class (Some (91 ∷ cs))) e ∙ closes (91 ∷ cs) inside rest none ∙ ih.0,
-      ap (pieces_from (Some [])) e ∙ class_piece [] inside rest none ∙ ap (λ (k : CharClass). Class k ∷ pieces_from None rest) (class_complete inside class is)
+      ap (pieces_from (Some [])) e ∙ class_piece [] inside rest none ∙ ap (λ (k : GlobClass). Class k ∷ pieces_from None rest) (class_complete inside class is)
           ∙ ap (λ (l : List GlobPiece). Class class ∷ l) ih.1,
     )
 

@@ -1,17 +1,17 @@
 -- What a glob matches (Adobe Dispatcher manual, "Designing Patterns for glob Properties"): texts, as lists of their characters.
 use Rattle.std.specs.Prelude.{◌≡◌, ℕ, Bool, true, false, not, nat_le, ◌==◌, ◌&&◌, ◌||◌, if◌then◌else◌, List, [], ◌∷◌, ◌++◌}
 use Rattle.std.specs.List.{list_any}
-use Rattle.glob_rules.specs.declared.piece.CharRange.{CharRange}
-use Rattle.glob_rules.specs.declared.piece.CharClass.{CharClass}
+use Rattle.glob_rules.specs.declared.piece.GlobRange.{GlobRange}
+use Rattle.glob_rules.specs.declared.piece.GlobClass.{GlobClass}
 use Rattle.glob_rules.specs.declared.piece.GlobPiece.{GlobPiece}
 use Rattle.glob_rules.specs.declared.piece.GlobPiece.TheVariants.{Star, AnyChar, Literal, Class}
 
 -- a range has both its ends
-abbrev pub in_glob_range : ℕ → CharRange → Bool
+abbrev pub in_glob_range : ℕ → GlobRange → Bool
 in_glob_range c range = nat_le range.first c && nat_le c range.last
 
 -- a class has the characters of its ranges; a negated one all others
-abbrev pub in_glob_class : ℕ → CharClass → Bool
+abbrev pub in_glob_class : ℕ → GlobClass → Bool
 in_glob_class c class = if class.negated then not (list_any (in_glob_range c) class.ranges) else list_any (in_glob_range c) class.ranges
 
 -- whether a piece stands for one character, and for this one

@@ -3,8 +3,8 @@ use Rattle.std.specs.Prelude.{ℕ, Bool, true, false, ◌==◌, ◌||◌, ◌-�
 use Rattle.std.specs.Str.{chars}
 use Rattle.glob_rules.specs.declared.fault.GlobFault.{GlobFault}
 use Rattle.glob_rules.specs.declared.fault.GlobFault.TheVariants.{OpenClass}
-use Rattle.glob_rules.specs.declared.piece.CharRange.{CharRange}
-use Rattle.glob_rules.specs.declared.piece.CharClass.{CharClass}
+use Rattle.glob_rules.specs.declared.piece.GlobRange.{GlobRange}
+use Rattle.glob_rules.specs.declared.piece.GlobClass.{GlobClass}
 use Rattle.glob_rules.specs.declared.piece.GlobPiece.{GlobPiece}
 use Rattle.glob_rules.specs.declared.piece.GlobPiece.TheVariants.{Star, AnyChar, Literal, Class}
 
@@ -25,18 +25,18 @@ abbrev pub plain_piece : ℕ → GlobPiece
 plain_piece c = if c == 42 then Star else (if c == 63 then AnyChar else Literal c)
 
 -- the range of characters from the one to the other
-abbrev pub glob_range : ℕ → ℕ → CharRange
+abbrev pub glob_range : ℕ → ℕ → GlobRange
 glob_range first last = record { first = first; last = last }
 
 -- a character, `-` and another one are a range; any other character is a range of its own
-abbrev pub ranges_of : List ℕ → List CharRange
+abbrev pub ranges_of : List ℕ → List GlobRange
 ranges_of [] = []
 ranges_of (c ∷ []) = glob_range c c ∷ []
 ranges_of (c ∷ d ∷ []) = glob_range c c ∷ glob_range d d ∷ []
 ranges_of (c ∷ d ∷ e ∷ cs) = if d == 45 then glob_range c e ∷ ranges_of cs else glob_range c c ∷ ranges_of (d ∷ e ∷ cs)
 
 -- what stands between `[` and `]`
-abbrev pub class_of : List ℕ → CharClass
+abbrev pub class_of : List ℕ → GlobClass
 class_of [] = record { negated = false; ranges = [] }
 class_of (c ∷ cs) = if is_negation c then record { negated = true; ranges = ranges_of cs } else record { negated = false; ranges = ranges_of (c ∷ cs) }
 

@@ -3,8 +3,8 @@ use Rattle.std.specs.Prelude.{◌≡◌, ℕ, Bool, true, false, ◌||◌, ◌==
 use Rattle.std.specs.Str.{NonePass}
 use Rattle.glob_rules.specs.declared.fault.GlobFault.{GlobFault}
 use Rattle.glob_rules.specs.declared.fault.GlobFault.TheVariants.{OpenClass, NoMemory}
-use Rattle.glob_rules.specs.declared.piece.CharRange.{CharRange}
-use Rattle.glob_rules.specs.declared.piece.CharClass.{CharClass}
+use Rattle.glob_rules.specs.declared.piece.GlobRange.{GlobRange}
+use Rattle.glob_rules.specs.declared.piece.GlobClass.{GlobClass}
 use Rattle.glob_rules.specs.declared.piece.GlobPiece.{GlobPiece}
 use Rattle.glob_rules.specs.declared.piece.GlobPiece.TheVariants.{Star, AnyChar, Literal, Class}
 use Rattle.glob_rules.specs.Reading.{is_close, is_negation, glob_range}
@@ -18,15 +18,15 @@ abbrev pub GoesOnAsRange : List ℕ → Type 0
 GoesOnAsRange cs = (last : ℕ) × (more : List ℕ) × (cs ≡ 45 ∷ last ∷ more)
 
 -- Characters spell ranges: `a-z` is one range, and a character with which no range begins is a range of its own.
-pub data AreGlobRanges : List ℕ → List CharRange → Type 0 where
+pub data AreGlobRanges : List ℕ → List GlobRange → Type 0 where
   none : AreGlobRanges [] []
-  two_ends : {first last : ℕ} {cs : List ℕ} {ranges : List CharRange} → AreGlobRanges cs ranges → AreGlobRanges (first ∷ 45 ∷ last ∷ cs) (glob_range first last ∷ ranges)
-  alone : {c : ℕ} {cs : List ℕ} {ranges : List CharRange} → (GoesOnAsRange cs → ⊥) → AreGlobRanges cs ranges → AreGlobRanges (c ∷ cs) (glob_range c c ∷ ranges)
+  two_ends : {first last : ℕ} {cs : List ℕ} {ranges : List GlobRange} → AreGlobRanges cs ranges → AreGlobRanges (first ∷ 45 ∷ last ∷ cs) (glob_range first last ∷ ranges)
+  alone : {c : ℕ} {cs : List ℕ} {ranges : List GlobRange} → (GoesOnAsRange cs → ⊥) → AreGlobRanges cs ranges → AreGlobRanges (c ∷ cs) (glob_range c c ∷ ranges)
 
 -- What stands between `[` and `]` spells a class: with `!` or `^` before the ranges it is that of all other characters.
-pub data IsGlobClass : List ℕ → CharClass → Type 0 where
-  others : {c : ℕ} {cs : List ℕ} {ranges : List CharRange} → is_negation c ≡ true → AreGlobRanges cs ranges → IsGlobClass (c ∷ cs) (record { negated = true; ranges = ranges })
-  these : {cs : List ℕ} {ranges : List CharRange} → ((c : ℕ) (more : List ℕ) → cs ≡ c ∷ more → is_negation c ≡ false) → AreGlobRanges cs ranges → IsGlobClass cs (record { negated = false; ranges = ranges })
+pub data IsGlobClass : List ℕ → GlobClass → Type 0 where
+  others : {c : ℕ} {cs : List ℕ} {ranges : List GlobRange} → is_negation c ≡ true → AreGlobRanges cs ranges → IsGlobClass (c ∷ cs) (record { negated = true; ranges = ranges })
+  these : {cs : List ℕ} {ranges : List GlobRange} → ((c : ℕ) (more : List ℕ) → cs ≡ c ∷ more → is_negation c ≡ false) → AreGlobRanges cs ranges → IsGlobClass cs (record { negated = false; ranges = ranges })
 
 -- The characters of a text spell a glob, piece after piece. No `]` stands within a class.
 pub data SpellsGlob : List ℕ → List GlobPiece → Type 0 where
@@ -34,7 +34,7 @@ pub data SpellsGlob : List ℕ → List GlobPiece → Type 0 where
   star : {cs : List ℕ} {pieces : List GlobPiece} → SpellsGlob cs pieces → SpellsGlob (42 ∷ cs) (Star ∷ pieces)
   any : {cs : List ℕ} {pieces : List GlobPiece} → SpellsGlob cs pieces → SpellsGlob (63 ∷ cs) (AnyChar ∷ pieces)
   literal : {c : ℕ} {cs : List ℕ} {pieces : List GlobPiece} → is_glob_special c ≡ false → SpellsGlob cs pieces → SpellsGlob (c ∷ cs) (Literal c ∷ pieces)
-  class : {cs : List ℕ} {pieces : List GlobPiece} (inside rest : List ℕ) (class : CharClass) → NonePass is_close inside → IsGlobClass inside class → cs ≡ inside ++ 93 ∷ rest → SpellsGlob rest pieces
+  class : {cs : List ℕ} {pieces : List GlobPiece} (inside rest : List ℕ) (class : GlobClass) → NonePass is_close inside → IsGlobClass inside class → cs ≡ inside ++ 93 ∷ rest → SpellsGlob rest pieces
       → SpellsGlob (91 ∷ cs) (Class class ∷ pieces)
 
 -- a glob, and then a `[` that no `]` closes, at this place: the number of bytes before it

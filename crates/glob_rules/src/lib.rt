@@ -14,5 +14,5 @@ mod runs;
 pub use fault::GlobFault;
 pub use glob::Glob;
 pub use laws::a_test_is_the_relation;
-pub use piece::{CharClass, CharRange, GlobPiece};
+pub use piece::{GlobClass, GlobPiece, GlobRange};
 pub use rule::{Rule, RuleList, allows};

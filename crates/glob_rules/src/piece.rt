@@ -7,16 +7,16 @@ use sp_base::Items;
 
 /// The characters from one to another, both of them too. One that ends before it begins has none.
 #[derive(Clone, Copy, Drop)]
-pub struct CharRange {
+pub struct GlobRange {
     pub first: char,
     pub last: char,
 }
 
 /// The characters of some ranges, or all others.
 #[derive(Drop)]
-pub struct CharClass {
+pub struct GlobClass {
     pub negated: bool,
-    pub ranges: Items<CharRange>,
+    pub ranges: Items<GlobRange>,
 }
 
 /// A part of a glob. All but a star stand for one character.
@@ -26,22 +26,22 @@ pub enum GlobPiece {
     Star,
     AnyChar,
     Literal(char),
-    Class(CharClass),
+    Class(GlobClass),
 }
 
-fn is_in_range(c: char, range: &CharRange) -> bool
+fn is_in_range(c: char, range: &GlobRange) -> bool
     ensures { result ≡ in_glob_range c range.now }
 {
     range.first <= c && c <= range.last
 }
 
-fn is_in_ranges(c: char, ranges: &[CharRange]) -> bool
+fn is_in_ranges(c: char, ranges: &[GlobRange]) -> bool
     ensures { result ≡ list_any (in_glob_range c) ranges.now }
 {
     ranges.iter().any(|range| is_in_range(c, range))
 }
 
-fn is_in_class(c: char, class: &CharClass) -> bool
+fn is_in_class(c: char, class: &GlobClass) -> bool
     ensures { result ≡ in_glob_class c class.now }
 {
     if class.negated {

@@ -7,7 +7,7 @@ ghost use Rattle.glob_rules.specs.declared.piece.GlobPiece.{GlobPiece};
 
 use crate::chars::first_char;
 use crate::form::form_of;
-use crate::piece::{CharClass, CharRange, GlobPiece};
+use crate::piece::{GlobClass, GlobPiece, GlobRange};
 use crate::{Glob, GlobFault};
 use sp_base::{Items, Mem};
 use std::alloc::Global;
@@ -75,31 +75,31 @@ fn plain_piece(c: char) -> GlobPiece
     }
 }
 
-fn class_of(alloc: Global, inside: &str) -> Mem<CharClass>
+fn class_of(alloc: Global, inside: &str) -> Mem<GlobClass>
     ensures { IfOk result (λ class. class ≡ spec.class_of (chars inside.now)) }
 {
     if let Some((c, rest)) = first_char(inside)
         && (c == '!' || c == '^')
     {
-        return Ok(CharClass {
+        return Ok(GlobClass {
             negated: true,
             ranges: ranges_of(alloc, rest)?,
         });
     }
-    Ok(CharClass {
+    Ok(GlobClass {
         negated: false,
         ranges: ranges_of(alloc, inside)?,
     })
 }
 
-fn ranges_of(alloc: Global, inside: &str) -> Mem<Items<CharRange>>
+fn ranges_of(alloc: Global, inside: &str) -> Mem<Items<GlobRange>>
     ensures { IfOk result (λ ranges. ranges ≡ spec.ranges_of (chars inside.now)) }
 {
     let mut ranges = Items::new(alloc);
     let mut rest = inside;
     while let Some((first, later)) = first_char(rest) {
         let (last, after) = range_end(first, later);
-        ranges.push(CharRange { first, last })?;
+        ranges.push(GlobRange { first, last })?;
         rest = after;
     }
     Ok(ranges)

@@ -8,7 +8,7 @@ ghost use Rattle.htl_syntax.specs.Fault.{expression_of, IsExpressionFault, AreOn
 
 /// The reading from left to right, by which templates are defined, is the grammar: a text is read as an expression exactly where the
 /// grammar has it as that one, and the place of a fault is the first byte with which no expression goes on. It lacks no memory.
-pub fn the_reading_is_the_grammar()
+pub fn the_template_reading_is_the_grammar()
     ensures found { (text : List ℕ) (e : Expression) → expression_of text ≡ Ok e → Whole text e }
     ensures only { (text : List ℕ) (e : Expression) → Whole text e → expression_of text ≡ Ok e }
     ensures fault { (text : List ℕ) (f : ExprFault) → expression_of text ≡ Err f → IsExpressionFault f text }

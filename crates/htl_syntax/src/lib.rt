@@ -12,5 +12,5 @@ mod stop;
 mod tokens;
 
 pub use expression::{Context, ExprFault, Expression};
-pub use laws::{the_reading_is_the_grammar, too_deep_is_the_limit};
+pub use laws::{the_template_reading_is_the_grammar, too_deep_is_the_limit};
 pub use node::{Comparison, ExprNode};

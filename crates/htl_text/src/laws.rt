@@ -6,7 +6,7 @@ ghost use Rattle.htl_text.specs.declared.piece.TemplatePiece.{TemplatePiece};
 ghost use Rattle.htl_text.specs.Spelling.{SpellsTemplate, IsFirstOpening};
 ghost use Rattle.htl_text.specs.Template.{template_of};
 
-use htl_syntax::the_reading_is_the_grammar;
+use htl_syntax::the_template_reading_is_the_grammar;
 
 /// The reading from left to right is the relation on whole texts: a text is read as the pieces that it spells and as no others, and a
 /// fault is that of the first expression that is not closed, or that is none by the grammar. The reading lacks no memory.
@@ -16,5 +16,5 @@ pub fn the_pieces_are_the_text()
     ensures fault { (text : List ℕ) (f : TextFault) → template_of text ≡ Err f → IsFirstOpening f text }
     ensures only_fault { (text : List ℕ) (f : TextFault) → IsFirstOpening f text → template_of text ≡ Err f }
 {
-    the_reading_is_the_grammar();
+    the_template_reading_is_the_grammar();
 }

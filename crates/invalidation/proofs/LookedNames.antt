@@ -13,7 +13,7 @@ use Rattle.docroot_format.specs.Names.{is_page_file}
 use Rattle.docroot_changes.specs.Changes.{count_names}
 use Rattle.invalidation.specs.Slices.{IsHandlePage, IsListedPage, SliceLooked, is_passed, is_to_look_at, place_or_start, slice_names}
 use Rattle.invalidation.specs.Walks.{IsBegun, Opened, TakesFiles, WalkedOn}
-use Rattle.invalidation.specs.declared.place.Place.{Place}
+use Rattle.invalidation.specs.declared.place.WalkPlace.{WalkPlace}
 use Rattle.invalidation.specs.declared.purge.PurgeStep.TheVariants.{More, Done}
 use Rattle.invalidation.proofs.CountedFiles.{count_none, count_parts, count_within}
 use Rattle.invalidation.proofs.PrefixLemmas.{handle_page_apart}
@@ -40,11 +40,11 @@ new_no_page level inv stamp old mid o name none held = ⊎_elim
     (λ w. absurd (held w.1)) (o.takes.files name)
 
 -- the names that begin with these, and that a walk from this place has to look at
-abbrev Ahead : Invalidation → Option Place → Text → Bool
+abbrev Ahead : Invalidation → Option WalkPlace → Text → Bool
 Ahead inv place = is_to_look_at (deleted_prefixes inv) place
 
 -- what is to look at as the walk begins: what was, and what the slice wrote
-begun_ahead : (level : ℕ) (inv : Invalidation) (stamp : Stamp) (place : Option Place) (seen : ℕ) (old mid new : Files) → NameLaws inv → IsBegun level inv stamp place old mid → TakesFiles (IsListedPage (deleted_prefixes inv)) seen mid new
+begun_ahead : (level : ℕ) (inv : Invalidation) (stamp : Stamp) (place : Option WalkPlace) (seen : ℕ) (old mid new : Files) → NameLaws inv → IsBegun level inv stamp place old mid → TakesFiles (IsListedPage (deleted_prefixes inv)) seen mid new
     → count_names (Ahead inv place) mid ≡ count_names (Ahead inv place) old + count_names (λ name. Ahead inv place name && not (is_some (file_at old name))) new
 begun_ahead level inv stamp None seen old mid new laws o walk =
     let p = Ahead inv None in
@@ -73,21 +73,21 @@ begun_ahead level inv stamp (Some place) seen old mid new laws same walk =
 -- ---- the walk
 
 -- a walk that is through with all prefixes passed each name
-pub end_passed : (prefixes : List Text) (now : Place) (name : Text) → length prefixes ≤ now.prefix → begins_with_any prefixes name ≡ true → is_passed prefixes now name ≡ true
+pub end_passed : (prefixes : List Text) (now : WalkPlace) (name : Text) → length prefixes ≤ now.prefix → begins_with_any prefixes name ≡ true → is_passed prefixes now name ≡ true
 end_passed prefixes now name end begins = or_left _ _ (ap (λ (ps : List Text). begins_with_any ps name) (take_all now.prefix prefixes end) ∙ begins)
 
-none_ahead : (prefixes : List Text) (now : Place) (files : Files) → length prefixes ≤ now.prefix → count_names (is_to_look_at prefixes (Some now)) files ≡ 0
+none_ahead : (prefixes : List Text) (now : WalkPlace) (files : Files) → length prefixes ≤ now.prefix → count_names (is_to_look_at prefixes (Some now)) files ≡ 0
 none_ahead prefixes now files end = count_none (is_to_look_at prefixes (Some now)) files
     (λ name is held. let w = and_parts (begins_with_any prefixes name) (not (is_passed prefixes now name)) is in true≢false (sym (end_passed prefixes now name end w.0) ∙ not-true _ w.1))
 
-pub looked_more : (level : ℕ) (inv : Invalidation) (stamp : Stamp) (place : Option Place) (old mid new : Files) (now : Place) → NameLaws inv → IsBegun level inv stamp place old mid → WalkedOn (deleted_prefixes inv) (place_or_start place) now true mid new
+pub looked_more : (level : ℕ) (inv : Invalidation) (stamp : Stamp) (place : Option WalkPlace) (old mid new : Files) (now : WalkPlace) → NameLaws inv → IsBegun level inv stamp place old mid → WalkedOn (deleted_prefixes inv) (place_or_start place) now true mid new
     → SliceLooked (record { level = level; inv = inv; stamp = stamp; place = place }) (record { level = level; inv = inv; stamp = stamp; place = Some now }) More old new
 looked_more level inv stamp place old mid new now laws begun walked =
     let first = begun_ahead level inv stamp place slice_names old mid new laws begun walked.takes in
     let walk = walked.ahead in
     omega (arith, first, walk)
 
-pub looked_done : (level : ℕ) (inv : Invalidation) (stamp : Stamp) (place : Option Place) (old mid new : Files) (now : Place) → NameLaws inv → IsBegun level inv stamp place old mid → WalkedOn (deleted_prefixes inv) (place_or_start place) now false mid new
+pub looked_done : (level : ℕ) (inv : Invalidation) (stamp : Stamp) (place : Option WalkPlace) (old mid new : Files) (now : WalkPlace) → NameLaws inv → IsBegun level inv stamp place old mid → WalkedOn (deleted_prefixes inv) (place_or_start place) now false mid new
     → SliceLooked (record { level = level; inv = inv; stamp = stamp; place = place }) (record { level = level; inv = inv; stamp = stamp; place = Some now }) Done old new
 looked_done level inv stamp place old mid new now laws begun walked =
     let first = begun_ahead level inv stamp place walked.0 old mid new laws begun walked.1.0.takes in

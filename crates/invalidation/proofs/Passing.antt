@@ -26,7 +26,7 @@ use Rattle.docroot_format.specs.Names.{is_page_file}
 use Rattle.docroot_format.proofs.NameCode.{is_begun}
 use Rattle.invalidation.specs.Slices.{IsListedPage, is_passed, is_to_look_at}
 use Rattle.invalidation.specs.Walks.{AreNamesApart, AreGone, IsPageAmong, IsPlaceAfter, TakesFiles, Walked}
-use Rattle.invalidation.specs.declared.place.Place.{Place}
+use Rattle.invalidation.specs.declared.place.WalkPlace.{WalkPlace}
 use Rattle.invalidation.proofs.CountedFiles.{count_listed, count_parts, count_within}
 use Rattle.invalidation.proofs.LookedAt.{counted}
 use Rattle.invalidation.proofs.TakenFiles.{stays_gone, stays_there, takes_as, takes_none, takes_then}
@@ -91,15 +91,15 @@ pub begins_some : (prefixes : List Text) (n : ℕ) (prefix name : Text) → n < 
 begins_some prefixes n prefix name lt at has = list_any_at (λ p. has_prefix p name) prefixes n prefix lt (ap (λ p. has_prefix p name) (at_prefix prefixes n prefix lt at) ∙ has)
 
 -- what a place has passed, of names at and before its prefix
-abbrev PassedHere : List Text → Text → Place → Text → Type 0
+abbrev PassedHere : List Text → Text → WalkPlace → Text → Type 0
 PassedHere prefixes prefix place name = (begins_with_any (take place.prefix prefixes) name ≡ true) ⊎ ((has_prefix prefix name ≡ true) × (is_lt (by_name place.last name) ≡ false))
 
-passed_is : (prefixes : List Text) (prefix : Text) (place : Place) (name : Text) → place.prefix < length prefixes → slice_get prefixes place.prefix ≡ Some prefix → is_passed prefixes place name ≡ true → PassedHere prefixes prefix place name
+passed_is : (prefixes : List Text) (prefix : Text) (place : WalkPlace) (name : Text) → place.prefix < length prefixes → slice_get prefixes place.prefix ≡ Some prefix → is_passed prefixes place name ≡ true → PassedHere prefixes prefix place name
 passed_is prefixes prefix place name lt at passed = ⊎_elim (λ a. inl a)
     (λ b. (let w = and_parts _ _ b in inr (sym (stands_at prefixes place.prefix prefix name lt at) ∙ w.0, not-true _ w.1)))
     (or_cases (begins_with_any (take place.prefix prefixes) name) _ passed)
 
-is_passed_as : (prefixes : List Text) (prefix : Text) (place : Place) (name : Text) → place.prefix < length prefixes → slice_get prefixes place.prefix ≡ Some prefix → PassedHere prefixes prefix place name → is_passed prefixes place name ≡ true
+is_passed_as : (prefixes : List Text) (prefix : Text) (place : WalkPlace) (name : Text) → place.prefix < length prefixes → slice_get prefixes place.prefix ≡ Some prefix → PassedHere prefixes prefix place name → is_passed prefixes place name ≡ true
 is_passed_as prefixes prefix place name lt at passed = ⊎_elim (λ a. or_left _ _ a)
     (λ w. or_right (begins_with_any (take place.prefix prefixes) name) _
     (ap (λ b. b && not (is_lt (by_name place.last name))) (stands_at prefixes place.prefix prefix name lt at ∙ w.0) ∙ not_from_false _ w.1)) passed
@@ -107,7 +107,7 @@ is_passed_as prefixes prefix place name lt at passed = ⊎_elim (λ a. or_left _
 -- ---- after a list
 
 -- a list is there at a place, and this is the place after it
-record Lists (prefixes : List Text) (prefix : Text) (start now : Place) (most : ℕ) (names : List Text) : Type 0 where
+record Lists (prefixes : List Text) (prefix : Text) (start now : WalkPlace) (most : ℕ) (names : List Text) : Type 0 where
   lt : start.prefix < length prefixes
   at : slice_get prefixes start.prefix ≡ Some prefix
   listing : IsListing prefix start.last most names
@@ -115,14 +115,14 @@ record Lists (prefixes : List Text) (prefix : Text) (start now : Place) (most : 
   after : IsPlaceAfter start names most now
 
 -- a name that begins with the prefix was come to
-abbrev Reached : Place → ℕ → List Text → Text → Type 0
+abbrev Reached : WalkPlace → ℕ → List Text → Text → Type 0
 Reached now most names name = (length names < most) ⊎ (is_lt (by_name now.last name) ≡ false)
 
 -- the name is none that a place passes at the start of a prefix, before any of its names
 abbrev IsNotFirst : List Text → ℕ → Text → Type 0
 IsNotFirst prefixes n name = begins_with_any (take 1 (drop n prefixes)) name ≡ true → is_lt (by_name [] name) ≡ false → ⊥
 
-now_is : (prefixes : List Text) (prefix : Text) (start now : Place) (most : ℕ) (names : List Text) → Lists prefixes prefix start now most names → (name : Text) → IsNotFirst prefixes (start.prefix + 1) name → is_passed prefixes now name ≡ true
+now_is : (prefixes : List Text) (prefix : Text) (start now : WalkPlace) (most : ℕ) (names : List Text) → Lists prefixes prefix start now most names → (name : Text) → IsNotFirst prefixes (start.prefix + 1) name → is_passed prefixes now name ≡ true
     → (begins_with_any (take start.prefix prefixes) name ≡ true) ⊎ ((has_prefix prefix name ≡ true) × Reached now most names name)
 now_is prefixes prefix start now most names l name first passed = ⊎_elim
     (λ next. ⊎_elim
@@ -136,7 +136,7 @@ now_is prefixes prefix start now most names l name first passed = ⊎_elim
     ⊎_elim (λ a. inl (ap (λ n. begins_with_any (take n prefixes) name) (sym same.1) ∙ a)) (λ w. inr (w.0, inr w.1)) (passed_is prefixes prefix now name at.0 at.1 passed))
     l.after
 
-now_as : (prefixes : List Text) (prefix : Text) (start now : Place) (most : ℕ) (names : List Text) → Lists prefixes prefix start now most names → (name : Text)
+now_as : (prefixes : List Text) (prefix : Text) (start now : WalkPlace) (most : ℕ) (names : List Text) → Lists prefixes prefix start now most names → (name : Text)
     → (begins_with_any (take start.prefix prefixes) name ≡ true) ⊎ ((has_prefix prefix name ≡ true) × (length names ≡ most → is_lt (by_name now.last name) ≡ false)) → is_passed prefixes now name ≡ true
 now_as prefixes prefix start now most names l name passed = ⊎_elim
     (λ next. or_left _ _ (ap (λ n. begins_with_any (take n prefixes) name) next.1 ∙ goes_past prefixes start.prefix prefix name l.lt l.at ∙ ⊎_elim (λ a. or_left _ _ a) (λ w. or_right (begins_with_any (take start.prefix prefixes) name) _ w.0) passed))
@@ -150,7 +150,7 @@ last_listed : (names : List Text) (last : Text) → 0 < length names → slice_g
 last_listed names last some at = (length names - 1, omega (arith, some), get_or_from_slice_get names (length names - 1) last last at)
 
 -- a walk passes no name that it had not to
-still_passed : (prefixes : List Text) (prefix : Text) (start now : Place) (most : ℕ) (names : List Text) → Lists prefixes prefix start now most names → (name : Text) → is_passed prefixes start name ≡ true → is_passed prefixes now name ≡ true
+still_passed : (prefixes : List Text) (prefix : Text) (start now : WalkPlace) (most : ℕ) (names : List Text) → Lists prefixes prefix start now most names → (name : Text) → is_passed prefixes start name ≡ true → is_passed prefixes now name ≡ true
 still_passed prefixes prefix start now most names l name passed =
     now_as prefixes prefix start now most names l name
     (⊎_elim (λ a. inl a) (λ w. inr (
@@ -182,7 +182,7 @@ begun true true false e mono = absurd (true≢false (sym (mono refl)))
 begun true false q e mono = refl
 begun false p q e mono = e
 
-was_ahead : (prefixes : List Text) (prefix : Text) (start now : Place) (most : ℕ) (names : List Text) → AreNamesApart prefixes → Lists prefixes prefix start now most names → (name : Text) → Contains names name
+was_ahead : (prefixes : List Text) (prefix : Text) (start now : WalkPlace) (most : ℕ) (names : List Text) → AreNamesApart prefixes → Lists prefixes prefix start now most names → (name : Text) → Contains names name
     → (is_to_look_at prefixes (Some start) name ≡ true) × (is_to_look_at prefixes (Some now) name ≡ false)
 was_ahead prefixes prefix start now most names apart l name has =
     let begins = All-contains (λ n. IsTrue (has_prefix prefix n)) names name l.listing.prefixed has in
@@ -212,12 +212,12 @@ has_none (Some a) = inr (λ e. true≢false (ap is_some e))
 not_less : (o : Ordering) → is_lt o ≡ false → o ≢ Less
 not_less o e less = true≢false (sym (ap is_lt less) ∙ e)
 
-reaches : (prefixes : List Text) (prefix : Text) (start now : Place) (most : ℕ) (names : List Text) → Lists prefixes prefix start now most names → (name : Text) → Reached now most names name → HasReached names most name
+reaches : (prefixes : List Text) (prefix : Text) (start now : WalkPlace) (most : ℕ) (names : List Text) → Lists prefixes prefix start now most names → (name : Text) → Reached now most names name → HasReached names most name
 reaches prefixes prefix start now most names l name reached = ⊎_elim (λ room. inr room)
     (λ past. ⊎_elim (λ next. inr next.0)
     (λ same. inl (now.last, last_listed names now.last (omega (arith, l.some, same.0)) same.2, not_less _ past)) l.after) reached
 
-gone_or_passed : (prefixes : List Text) (prefix : Text) (start now : Place) (most : ℕ) (names : List Text) → NothingIsPassedOver → Lists prefixes prefix start now most names → (old new : Files)
+gone_or_passed : (prefixes : List Text) (prefix : Text) (start now : WalkPlace) (most : ℕ) (names : List Text) → NothingIsPassedOver → Lists prefixes prefix start now most names → (old new : Files)
     → names ≡ take most (names_after old prefix start.last) → TakesFiles (IsPageAmong names) (length names) old new → AreGone names new → (name : Text) → is_page_file name ≡ true → is_passed prefixes now name ≡ true
     → (is_passed prefixes start name ≡ true) ⊎ (file_at new name ≡ None)
 gone_or_passed prefixes prefix start now most names over l old new is takes gone name page passed = ⊎_elim
@@ -248,7 +248,7 @@ was_passed true true e f = refl
 was_passed true false e f = sym f
 was_passed false p e f = absurd (true≢false (sym e))
 
-is_listed : (prefixes : List Text) (prefix : Text) (start now : Place) (most : ℕ) (names : List Text) → NothingIsPassedOver → AreNamesApart prefixes → Lists prefixes prefix start now most names → (old : Files)
+is_listed : (prefixes : List Text) (prefix : Text) (start now : WalkPlace) (most : ℕ) (names : List Text) → NothingIsPassedOver → AreNamesApart prefixes → Lists prefixes prefix start now most names → (old : Files)
     → names ≡ take most (names_after old prefix start.last) → (name : Text) → is_to_look_at prefixes (Some start) name ≡ true → is_to_look_at prefixes (Some now) name ≡ false → file_at old name ≢ None → Contains names name
 is_listed prefixes prefix start now most names over apart l old is name ahead behind held =
     let was = and_parts (begins_with_any prefixes name) (not (is_passed prefixes start name)) ahead in
@@ -267,7 +267,7 @@ pub listed_pages : (prefixes : List Text) (n : ℕ) (prefix after : Text) (most 
 listed_pages prefixes n prefix after most few names lt at listing le old new takes =
     takes_as (IsPageAmong names) (IsListedPage prefixes) (length names) few old new le (λ name is. (is.1, begins_some prefixes n prefix name lt at (All-contains (λ x. IsTrue (has_prefix prefix x)) names name listing.prefixed is.0))) takes
 
-pub walk_list : (prefixes : List Text) (prefix : Text) (start now : Place) (most : ℕ) (names : List Text) → NothingIsPassedOver → AreNamesApart prefixes → start.prefix < length prefixes → slice_get prefixes start.prefix ≡ Some prefix
+pub walk_list : (prefixes : List Text) (prefix : Text) (start now : WalkPlace) (most : ℕ) (names : List Text) → NothingIsPassedOver → AreNamesApart prefixes → start.prefix < length prefixes → slice_get prefixes start.prefix ≡ Some prefix
     → IsListing prefix start.last most names → 0 < most → IsPlaceAfter start names most now → (old new : Files) → names ≡ take most (names_after old prefix start.last) → TakesFiles (IsPageAmong names) (length names) old new → AreGone names new
     → Walked prefixes start now (length names) old new
 walk_list prefixes prefix start now most names over apart lt at listing some after old new is takes gone =
@@ -291,12 +291,12 @@ walk_list prefixes prefix start now most names over apart lt at listing some aft
       ahead = omega (arith, seen, fewer, long, parts, ahead, listed);
     }
 
-pub walked_then : (prefixes : List Text) (p q r : Place) (m n : ℕ) (a b c : Files) → Walked prefixes p q m a b → Walked prefixes q r n b c → Walked prefixes p r (m + n) a c
+pub walked_then : (prefixes : List Text) (p q r : WalkPlace) (m n : ℕ) (a b c : Files) → Walked prefixes p q m a b → Walked prefixes q r n b c → Walked prefixes p r (m + n) a c
 walked_then prefixes p q r m n a b c first then = record {
   takes = takes_then (IsListedPage prefixes) m n a b c first.takes then.takes;
   passed = λ name page passed. ⊎_elim (λ e. ⊎_elim (λ d. inl d) (λ none. inr (stays_gone (IsListedPage prefixes) n b c name then.takes none)) (first.passed name page e)) (λ none. inr none) (then.passed name page passed);
   ahead = (let one = first.ahead in let two = then.ahead in omega (arith, one, two));
 }
 
-pub walked_none : (prefixes : List Text) (p : Place) (files : Files) → Walked prefixes p p 0 files files
+pub walked_none : (prefixes : List Text) (p : WalkPlace) (files : Files) → Walked prefixes p p 0 files files
 walked_none prefixes p files = record { takes = takes_none (IsListedPage prefixes) 0 files; passed = λ name page passed. inl passed; ahead = omega arith }

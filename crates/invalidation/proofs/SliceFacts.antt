@@ -27,12 +27,12 @@ use Rattle.stat_files.specs.Stamps.{stamp_at, stamp_in}
 use Rattle.docroot_changes.specs.Changes.{KeepsNumber, Told}
 use Rattle.invalidation.specs.Slices.{IsTakenFor, folders_of, stamps_written}
 use Rattle.invalidation.specs.Walks.{SliceChange, TakesFiles, handle_files}
-use Rattle.invalidation.specs.declared.place.Place.{Place}
+use Rattle.invalidation.specs.declared.place.WalkPlace.{WalkPlace}
 use Rattle.invalidation.proofs.Chains.{told_itself}
 use Rattle.invalidation.proofs.TakenFiles.{takes_none}
 use Rattle.invalidation.proofs.Touching.{touches_none}
 
-pub no_change : (IsTaken : Text → Type 0) (level : ℕ) (inv : Invalidation) (stamp : Stamp) (place : Option Place) (x : Option Files) → Told (SliceChange IsTaken (folders_of level inv place) (stamps_written level place) (handle_files place) stamp) x x
+pub no_change : (IsTaken : Text → Type 0) (level : ℕ) (inv : Invalidation) (stamp : Stamp) (place : Option WalkPlace) (x : Option Files) → Told (SliceChange IsTaken (folders_of level inv place) (stamps_written level place) (handle_files place) stamp) x x
 no_change IsTaken level inv stamp place x =
     told_itself (SliceChange IsTaken (folders_of level inv place) (stamps_written level place) (handle_files place) stamp) x
     (λ files. record { between = files; touches = touches_none (folders_of level inv place) (stamps_written level place) stamp files; takes = takes_none IsTaken (handle_files place) files; first = inr refl })

@@ -20,7 +20,7 @@ use Rattle.stat_files.specs.Stamps.{stamp_at}
 use Rattle.docroot_changes.specs.Changes.{IsStampFolder, Told, count_names}
 use Rattle.invalidation.specs.Slices.{IsBehindPlace, IsHandlePage, IsListedPage, IsSlice, IsTakenFor, IsTakenFrom, Progress, SliceLeft, SliceLooked, SliceRemoves, files_taken, folders_of, is_passed, is_to_look_at, most_added, place_or_start, slice_names, stamps_written}
 use Rattle.invalidation.specs.Walks.{AreTouched, IsBegun, IsTakenFirst, SliceChange, TakesFiles, Walked, WalkedOn, handle_files, purge_step_of}
-use Rattle.invalidation.specs.declared.place.Place.{Place}
+use Rattle.invalidation.specs.declared.place.WalkPlace.{WalkPlace}
 use Rattle.invalidation.specs.declared.purge.Purge.{Purge}
 use Rattle.invalidation.specs.declared.purge.PurgeStep.{PurgeStep}
 use Rattle.invalidation.specs.declared.purge.PurgeStep.TheVariants.{More, Done}
@@ -36,21 +36,21 @@ use Rattle.invalidation.proofs.Touching.{touches_none}
 none_in : (f : Segments) → Contains [] f → ⊥
 none_in f has = omega (arith, has.1)
 
-touched_by : (level : ℕ) (inv : Invalidation) (place : Option Place) (f : Segments) → Contains (folders_of level inv place) f → Contains (touched_of level inv) f
+touched_by : (level : ℕ) (inv : Invalidation) (place : Option WalkPlace) (f : Segments) → Contains (folders_of level inv place) f → Contains (touched_of level inv) f
 touched_by level inv None f has = has
 touched_by level inv (Some place) f has = absurd (none_in f has)
 
-none_later : (level : ℕ) (inv : Invalidation) (place : Option Place) (f : Segments) → IsSome place → Contains (folders_of level inv place) f → ⊥
+none_later : (level : ℕ) (inv : Invalidation) (place : Option WalkPlace) (f : Segments) → IsSome place → Contains (folders_of level inv place) f → ⊥
 none_later level inv None f some has = true≢false (sym some)
 none_later level inv (Some place) f some has = none_in f has
 
 -- the folders are touched before a page goes
-first_of : (level : ℕ) (inv : Invalidation) (stamp : Stamp) (place : Option Place) (old mid new : Files) → KeepsPages old mid → ((f : Segments) → stamp_at new f ≡ stamp_at mid f) → AreTouched (folders_of level inv place) stamp mid ⊎ (new ≡ mid)
+first_of : (level : ℕ) (inv : Invalidation) (stamp : Stamp) (place : Option WalkPlace) (old mid new : Files) → KeepsPages old mid → ((f : Segments) → stamp_at new f ≡ stamp_at mid f) → AreTouched (folders_of level inv place) stamp mid ⊎ (new ≡ mid)
     → IsSome place ⊎ (KeepsPages old new ⊎ ((f : Segments) → IsStampFolder f → Contains (touched_of level inv) f → stamp_at new f ≡ Some stamp))
 first_of level inv stamp (Some place) old mid new pages same first = inl refl
 first_of level inv stamp None old mid new pages same first = inr (⊎_elim (λ t. inr (λ f ok has. same f ∙ t f ok has)) (λ e. inl (subst (KeepsPages old) (sym e) pages)) first)
 
-taken_from : (inv : Invalidation) (place : Option Place) (name : Text) → IsTakenFrom inv place name → IsTakenFor inv name
+taken_from : (inv : Invalidation) (place : Option WalkPlace) (name : Text) → IsTakenFrom inv place name → IsTakenFor inv name
 taken_from inv None name taken = taken
 taken_from inv (Some place) name taken = inr taken
 
@@ -93,17 +93,17 @@ as_handle inv most few a b le takes = takes_as (IsHandlePage inv) (IsTakenFor in
 as_listed : (inv : Invalidation) (most few : ℕ) (a b : Files) → few ≤ most → TakesFiles (IsListedPage (deleted_prefixes inv)) few a b → TakesFiles (IsTakenFor inv) most a b
 as_listed inv most few a b le takes = takes_as (IsListedPage (deleted_prefixes inv)) (IsTakenFor inv) few most a b le (λ name l. inr l) takes
 
-opening_takes : (inv : Invalidation) (place : Option Place) (few : ℕ) (a b : Files) → few ≤ files_taken place → TakesFiles (IsTakenFirst inv place) few a b → TakesFiles (IsTakenFrom inv place) (files_taken place) a b
+opening_takes : (inv : Invalidation) (place : Option WalkPlace) (few : ℕ) (a b : Files) → few ≤ files_taken place → TakesFiles (IsTakenFirst inv place) few a b → TakesFiles (IsTakenFrom inv place) (files_taken place) a b
 opening_takes inv None few a b le takes = as_handle inv (files_taken None) few a b le takes
 opening_takes inv (Some place) few a b le takes = takes_as (λ name. ⊥) (IsListedPage (deleted_prefixes inv)) few (files_taken (Some place)) a b le (λ name none. absurd none) takes
 
 -- where it was stopped before the walk
-pub change_opening : (level : ℕ) (inv : Invalidation) (stamp : Stamp) (place : Option Place) (few : ℕ) (old new : Files) → few ≤ files_taken place → SliceChange (IsTakenFirst inv place) (folders_of level inv place) (stamps_written level place) few stamp old new
+pub change_opening : (level : ℕ) (inv : Invalidation) (stamp : Stamp) (place : Option WalkPlace) (few : ℕ) (old new : Files) → few ≤ files_taken place → SliceChange (IsTakenFirst inv place) (folders_of level inv place) (stamps_written level place) few stamp old new
     → SliceChange (IsTakenFrom inv place) (folders_of level inv place) (stamps_written level place) (files_taken place) stamp old new
 change_opening level inv stamp place few old new le c = record { between = c.between; touches = c.touches; takes = opening_takes inv place few c.between new le c.takes; first = c.first }
 
 -- after a walk, whether it was stopped or not
-pub change_walk : (level : ℕ) (inv : Invalidation) (stamp : Stamp) (place : Option Place) (old mid new : Files) → IsBegun level inv stamp place old mid → TakesFiles (IsListedPage (deleted_prefixes inv)) slice_names mid new
+pub change_walk : (level : ℕ) (inv : Invalidation) (stamp : Stamp) (place : Option WalkPlace) (old mid new : Files) → IsBegun level inv stamp place old mid → TakesFiles (IsListedPage (deleted_prefixes inv)) slice_names mid new
     → SliceChange (IsTakenFrom inv place) (folders_of level inv place) (stamps_written level place) (files_taken place) stamp old new
 change_walk level inv stamp None old mid new o takes = record {
   between = o.between;
@@ -121,11 +121,11 @@ change_walk level inv stamp (Some place) old mid new same takes = record {
 
 -- ---- how far it is
 
-record After (level : ℕ) (inv : Invalidation) (stamp : Stamp) (place : Option Place) (old mid : Files) : Type 0 where
+record After (level : ℕ) (inv : Invalidation) (stamp : Stamp) (place : Option WalkPlace) (old mid : Files) : Type 0 where
   touched : (f : Segments) → IsStampFolder f → Contains (touched_of level inv) f → stamp_at mid f ≡ Some stamp
   gone : (key : PageKey) → IsPageKey key → deletes inv key ≡ true → (page_path key ≡ handle_of inv) ⊎ IsTrue (is_passed (deleted_prefixes inv) (place_or_start place) (page_body_name key)) → page_at mid key ≡ None
 
-after_begun : (level : ℕ) (inv : Invalidation) (stamp : Stamp) (place : Option Place) (old mid : Files) → NameLaws inv → IsBegun level inv stamp place old mid
+after_begun : (level : ℕ) (inv : Invalidation) (stamp : Stamp) (place : Option WalkPlace) (old mid : Files) → NameLaws inv → IsBegun level inv stamp place old mid
     → Progress (record { level = level; inv = inv; stamp = stamp; place = place }) (page_at old) (stamp_at old) → After level inv stamp place old mid
 after_begun level inv stamp None old mid laws o progress = record {
   touched = λ f ok has. stamp_left inv 2 o.between mid laws (as_handle inv 2 2 o.between mid (omega arith) o.takes) f ∙ o.touched f ok has;
@@ -136,11 +136,11 @@ after_begun level inv stamp (Some place) old mid laws same progress = record {
   gone = λ key page del behind. ap (λ files. page_at files key) same ∙ progress.gone key page del behind;
 }
 
-walked_touched : (level : ℕ) (inv : Invalidation) (stamp : Stamp) (place : Option Place) (seen : ℕ) (old mid new : Files) (now : Place) → NameLaws inv → After level inv stamp place old mid → Walked (deleted_prefixes inv) (place_or_start place) now seen mid new
+walked_touched : (level : ℕ) (inv : Invalidation) (stamp : Stamp) (place : Option WalkPlace) (seen : ℕ) (old mid new : Files) (now : WalkPlace) → NameLaws inv → After level inv stamp place old mid → Walked (deleted_prefixes inv) (place_or_start place) now seen mid new
     → (f : Segments) → IsStampFolder f → Contains (touched_of level inv) f → stamp_at new f ≡ Some stamp
 walked_touched level inv stamp place seen old mid new now laws after walked f ok has = stamp_left inv seen mid new laws (as_listed inv seen seen mid new (omega arith) walked.takes) f ∙ after.touched f ok has
 
-walked_gone : (level : ℕ) (inv : Invalidation) (stamp : Stamp) (place : Option Place) (seen : ℕ) (old mid new : Files) (now : Place) → NameLaws inv → After level inv stamp place old mid → Walked (deleted_prefixes inv) (place_or_start place) now seen mid new
+walked_gone : (level : ℕ) (inv : Invalidation) (stamp : Stamp) (place : Option WalkPlace) (seen : ℕ) (old mid new : Files) (now : WalkPlace) → NameLaws inv → After level inv stamp place old mid → Walked (deleted_prefixes inv) (place_or_start place) now seen mid new
     → (key : PageKey) → IsPageKey key → deletes inv key ≡ true → IsBehindPlace inv (Some now) key → page_at new key ≡ None
 walked_gone level inv stamp place seen old mid new now laws after walked key page del behind =
     let still = λ (none : page_at mid key ≡ None). ⊎_elim (λ e. e ∙ none) (λ w. w.1) (page_left inv seen mid new laws (as_listed inv seen seen mid new (omega arith) walked.takes) key page) in
@@ -149,7 +149,7 @@ walked_gone level inv stamp place seen old mid new now laws after walked key pag
 
 -- ---- how many names are to look at
 
-ahead_of : (level : ℕ) (inv : Invalidation) (stamp : Stamp) (place : Option Place) (seen : ℕ) (old mid new : Files) (now : Place) → IsBegun level inv stamp place old mid → Walked (deleted_prefixes inv) (place_or_start place) now seen mid new
+ahead_of : (level : ℕ) (inv : Invalidation) (stamp : Stamp) (place : Option WalkPlace) (seen : ℕ) (old mid new : Files) (now : WalkPlace) → IsBegun level inv stamp place old mid → Walked (deleted_prefixes inv) (place_or_start place) now seen mid new
     → count_names (is_to_look_at (deleted_prefixes inv) (Some now)) new + seen ≤ count_names (is_to_look_at (deleted_prefixes inv) place) old + stamps_written level place
 ahead_of level inv stamp None seen old mid new now o walked =
     let prefixes = deleted_prefixes inv in
@@ -165,7 +165,7 @@ ahead_of level inv stamp (Some place) seen old mid new now same walked =
 
 -- ---- what it left
 
-pub left_more : (level : ℕ) (inv : Invalidation) (stamp : Stamp) (place : Option Place) (old mid new : Files) (now : Place) → NameLaws inv → IsBegun level inv stamp place old mid → WalkedOn (deleted_prefixes inv) (place_or_start place) now true mid new
+pub left_more : (level : ℕ) (inv : Invalidation) (stamp : Stamp) (place : Option WalkPlace) (old mid new : Files) (now : WalkPlace) → NameLaws inv → IsBegun level inv stamp place old mid → WalkedOn (deleted_prefixes inv) (place_or_start place) now true mid new
     → SliceLeft (record { level = level; inv = inv; stamp = stamp; place = place }) (record { level = level; inv = inv; stamp = stamp; place = Some now }) More old new
 left_more level inv stamp place old mid new now laws begun walked = (
   refl,
@@ -178,7 +178,7 @@ left_more level inv stamp place old mid new now laws begun walked = (
   ahead_of level inv stamp place slice_names old mid new now begun walked,
 )
 
-pub left_done : (level : ℕ) (inv : Invalidation) (stamp : Stamp) (place : Option Place) (old mid new : Files) (now : Place) → NameLaws inv → IsBegun level inv stamp place old mid → WalkedOn (deleted_prefixes inv) (place_or_start place) now false mid new
+pub left_done : (level : ℕ) (inv : Invalidation) (stamp : Stamp) (place : Option WalkPlace) (old mid new : Files) (now : WalkPlace) → NameLaws inv → IsBegun level inv stamp place old mid → WalkedOn (deleted_prefixes inv) (place_or_start place) now false mid new
     → SliceLeft (record { level = level; inv = inv; stamp = stamp; place = place }) (record { level = level; inv = inv; stamp = stamp; place = Some now }) Done old new
 left_done level inv stamp place old mid new now laws begun walked = λ progress.
     let prefixes = deleted_prefixes inv in
@@ -192,18 +192,18 @@ left_done level inv stamp place old mid new now laws begun walked = λ progress.
 
 -- ---- a slice, by the files that the disk tells
 
-abbrev AfterSlice : Purge → ℕ → Invalidation → Stamp → Place → PurgeStep → Files → Files → Type 0
+abbrev AfterSlice : Purge → ℕ → Invalidation → Stamp → WalkPlace → PurgeStep → Files → Files → Type 0
 AfterSlice before level inv stamp now step old new = SliceLeft before (record { level = level; inv = inv; stamp = stamp; place = Some now }) step old new
     × (SliceLooked before (record { level = level; inv = inv; stamp = stamp; place = Some now }) step old new × SliceRemoves before (record { level = level; inv = inv; stamp = stamp; place = Some now }) step old new)
 
-same_left : (before : Purge) (level : ℕ) (inv : Invalidation) (stamp : Stamp) (now : Place) (step : PurgeStep) (old new : Files) → level ≡ before.level → inv ≡ before.inv → stamp ≡ before.stamp
+same_left : (before : Purge) (level : ℕ) (inv : Invalidation) (stamp : Stamp) (now : WalkPlace) (step : PurgeStep) (old new : Files) → level ≡ before.level → inv ≡ before.inv → stamp ≡ before.stamp
     → AfterSlice before before.level before.inv before.stamp now step old new → AfterSlice before level inv stamp now step old new
 same_left before level inv stamp now step old new a b d left =
     subst (λ l. AfterSlice before l inv stamp now step old new) (sym a)
     (subst (λ i. AfterSlice before before.level i stamp now step old new) (sym b)
     (subst (λ s. AfterSlice before before.level before.inv s now step old new) (sym d) left))
 
-walk_left : (before : Purge) (level : ℕ) (inv : Invalidation) (stamp : Stamp) (now : Place) (more : Bool) (old mid new : Files) → level ≡ before.level → inv ≡ before.inv → stamp ≡ before.stamp → NameLaws before.inv
+walk_left : (before : Purge) (level : ℕ) (inv : Invalidation) (stamp : Stamp) (now : WalkPlace) (more : Bool) (old mid new : Files) → level ≡ before.level → inv ≡ before.inv → stamp ≡ before.stamp → NameLaws before.inv
     → IsBegun before.level before.inv before.stamp before.place old mid → WalkedOn (deleted_prefixes before.inv) (place_or_start before.place) now more mid new → AfterSlice before level inv stamp now (purge_step_of (Ok more)) old new
 walk_left before level inv stamp now true old mid new a b d laws begun walked = same_left before level inv stamp now More old new a b d (
   left_more before.level before.inv before.stamp before.place old mid new now laws begun walked,
@@ -224,7 +224,7 @@ fault_left : (before after : Purge) (fault : FileFault) (old new : Files) → Sl
 fault_left before after Disk old new = (tt, (tt, tt))
 fault_left before after OutOfMemory old new = (tt, (tt, tt))
 
-pub told_slice : (before : Purge) (level : ℕ) (inv : Invalidation) (stamp : Stamp) (now : Place) → level ≡ before.level → inv ≡ before.inv → stamp ≡ before.stamp → NameLaws before.inv → (r : Result Bool FileFault) (x y z : Option Files)
+pub told_slice : (before : Purge) (level : ℕ) (inv : Invalidation) (stamp : Stamp) (now : WalkPlace) → level ≡ before.level → inv ≡ before.inv → stamp ≡ before.stamp → NameLaws before.inv → (r : Result Bool FileFault) (x y z : Option Files)
     → Told (IsBegun before.level before.inv before.stamp before.place) x y → Told (TakesFiles (IsListedPage (deleted_prefixes before.inv)) slice_names) y z
     → IfOk r (λ more. Told (WalkedOn (deleted_prefixes before.inv) (place_or_start before.place) now more) y z)
     → Told (IsSlice before (record { level = level; inv = inv; stamp = stamp; place = Some now }) (purge_step_of r)) x z
@@ -241,7 +241,7 @@ told_slice before level inv stamp now a b d laws (Err fault) x y z begun takes w
     told_then (IsBegun before.level before.inv before.stamp before.place) (TakesFiles (IsListedPage (deleted_prefixes before.inv)) slice_names) (IsSlice before after (purge_step_of (Err fault))) x y z
     (λ old mid new p q. slice_is before after (purge_step_of (Err fault)) old new laws (change_walk before.level before.inv before.stamp before.place old mid new p q) (fault_left before after fault old new)) begun takes
 
-few_taken : (place : Option Place) → handle_files place ≤ files_taken place
+few_taken : (place : Option WalkPlace) → handle_files place ≤ files_taken place
 few_taken None = omega arith
 few_taken (Some place) = omega arith
 

@@ -21,7 +21,7 @@ use Rattle.cache_files.specs.HeldStamps.{KeepsOrder}
 use Rattle.cache_files.specs.Pages.{head_at, page_at, page_body_name, page_head_name}
 use Rattle.stat_files.specs.Stamps.{stamp_at}
 use Rattle.docroot_changes.specs.Changes.{AddsNames, IsStampFolder, KeepsNumber, count_names}
-use Rattle.invalidation.specs.declared.place.Place.{Place}
+use Rattle.invalidation.specs.declared.place.WalkPlace.{WalkPlace}
 use Rattle.invalidation.specs.declared.purge.Purge.{Purge}
 use Rattle.invalidation.specs.declared.purge.PurgeStep.{PurgeStep}
 use Rattle.invalidation.specs.declared.purge.PurgeStep.TheVariants.{More, Done, DiskFailed, NoMemory}
@@ -41,7 +41,7 @@ abbrev pub purge_stamp : Purge → Stamp
 purge_stamp purge = purge.stamp
 
 -- how far it is among the names of the files, once it has begun
-abbrev pub purge_place : Purge → Option Place
+abbrev pub purge_place : Purge → Option WalkPlace
 purge_place purge = purge.place
 
 -- it has made its first slice
@@ -58,21 +58,21 @@ pub record IsSamePurge (before after : Purge) : Type 0 where
 
 -- The name was looked at by a walk through these prefixes: it begins with one that the walk is through with, or with the one at which it
 -- stands, and isn't after the last name that it looked at there.
-abbrev pub is_passed : List Text → Place → Text → Bool
+abbrev pub is_passed : List Text → WalkPlace → Text → Bool
 is_passed prefixes place name = begins_with_any (take place.prefix prefixes) name
     || (begins_with_any (take 1 (drop place.prefix prefixes)) name && not (is_lt (by_name place.last name)))
 
 -- the start of a walk
-abbrev pub start_place : Place
+abbrev pub start_place : WalkPlace
 start_place = record { prefix = 0; last = [] }
 
 -- the place from which the next slice walks
-abbrev pub place_or_start : Option Place → Place
+abbrev pub place_or_start : Option WalkPlace → WalkPlace
 place_or_start None = start_place
 place_or_start (Some place) = place
 
 -- a walk through these prefixes has still to look at the name
-abbrev pub is_to_look_at : List Text → Option Place → Text → Bool
+abbrev pub is_to_look_at : List Text → Option WalkPlace → Text → Bool
 is_to_look_at prefixes place name = begins_with_any prefixes name && not (is_passed prefixes (place_or_start place) name)
 
 -- how many names of files the flush has still to look at
@@ -84,7 +84,7 @@ abbrev pub names_written : Purge → Files → Files → ℕ
 names_written purge old new = count_names (λ name. is_to_look_at (deleted_prefixes purge.inv) purge.place name && not (is_some (file_at old name))) new
 
 -- the page stands behind the place of a flush that has begun: it is the one at the handle, or the name of its body was looked at
-abbrev pub IsBehindPlace : Invalidation → Option Place → PageKey → Type 0
+abbrev pub IsBehindPlace : Invalidation → Option WalkPlace → PageKey → Type 0
 IsBehindPlace inv None key = ⊥
 IsBehindPlace inv (Some place) key = (page_path key ≡ handle_of inv) ⊎ IsTrue (is_passed (deleted_prefixes inv) place (body_name key.folder key.file))
 
@@ -131,18 +131,18 @@ abbrev pub IsTakenFor : Invalidation → Text → Type 0
 IsTakenFor inv name = IsHandlePage inv name ⊎ IsListedPage (deleted_prefixes inv) name
 
 -- the same, of a slice from this place: only the first takes those of the page at the handle
-abbrev pub IsTakenFrom : Invalidation → Option Place → Text → Type 0
+abbrev pub IsTakenFrom : Invalidation → Option WalkPlace → Text → Type 0
 IsTakenFrom inv None = IsTakenFor inv
 IsTakenFrom inv (Some place) = IsListedPage (deleted_prefixes inv)
 
 -- The name stands behind the place of a flush that has begun: it is that of a file of the page at the handle, or it was looked at, and is a page
 -- file's.
-abbrev pub IsFileBehind : Invalidation → Option Place → Text → Type 0
+abbrev pub IsFileBehind : Invalidation → Option WalkPlace → Text → Type 0
 IsFileBehind inv None name = ⊥
 IsFileBehind inv (Some place) name = IsHandlePage inv name ⊎ (IsTrue (is_page_file name) × IsTrue (is_passed (deleted_prefixes inv) place name))
 
 -- no file has the name, or it stood behind this place before, and its file is as it was
-abbrev pub IsGoneSince : Invalidation → Option Place → Files → Files → Text → Type 0
+abbrev pub IsGoneSince : Invalidation → Option WalkPlace → Files → Files → Text → Type 0
 IsGoneSince inv place old new name = (file_at new name ≡ None) ⊎ (IsFileBehind inv place name × (file_at new name ≡ file_at old name))
 
 -- the name is that of a folder's .stat file, of one of these
@@ -159,7 +159,7 @@ abbrev pub LosesNames : ℕ → Files → Files → Type 0
 LosesNames most old new = (is_counted : Text → Bool) → count_names is_counted old ≤ count_names is_counted new + most
 
 -- how many .stat files a slice from this place writes at most
-abbrev pub stamps_written : ℕ → Option Place → ℕ
+abbrev pub stamps_written : ℕ → Option WalkPlace → ℕ
 stamps_written level None = level + 1
 stamps_written level (Some place) = 0
 
@@ -173,12 +173,12 @@ slice_names = 64
 
 -- how many files a slice from this place takes away at most: one for each name that it looks at, and the two of the page at the handle, where
 -- it is the first
-abbrev pub files_taken : Option Place → ℕ
+abbrev pub files_taken : Option WalkPlace → ℕ
 files_taken None = slice_names + 2
 files_taken (Some place) = slice_names
 
 -- the folders that a slice from this place touches
-abbrev pub folders_of : ℕ → Invalidation → Option Place → List Segments
+abbrev pub folders_of : ℕ → Invalidation → Option WalkPlace → List Segments
 folders_of level inv None = touched_of level inv
 folders_of level inv (Some place) = []
 

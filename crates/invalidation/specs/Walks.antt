@@ -15,7 +15,7 @@ use Rattle.cache_files.specs.HeldStamps.{KeepsOrder}
 use Rattle.stat_files.specs.Stamps.{stamp_at}
 use Rattle.docroot_changes.specs.Changes.{AddsNames, IsStampFolder, KeepsNumber, count_names}
 use Rattle.invalidation.specs.Slices.{ChangesFiles, IsHandlePage, IsListedPage, IsStatOf, LosesNames, is_passed, is_to_look_at, slice_names, folders_of, most_added}
-use Rattle.invalidation.specs.declared.place.Place.{Place}
+use Rattle.invalidation.specs.declared.place.WalkPlace.{WalkPlace}
 use Rattle.invalidation.specs.declared.purge.PurgeStep.{PurgeStep}
 use Rattle.invalidation.specs.declared.purge.PurgeStep.TheVariants.{More, Done as PurgeDone, DiskFailed, NoMemory as PurgeNoMemory}
 use Rattle.invalidation.specs.declared.purge.Purge.{Purge}
@@ -48,18 +48,18 @@ pub record TakenTo (names : List Text) (seen : ℕ) (old new : Files) : Type 0 w
 -- ---- a walk through the names that begin with one of several prefixes
 
 -- The walk went on from a place to another, past exactly so many names: the page files among them are gone.
-pub record Walked (prefixes : List Text) (start now : Place) (seen : ℕ) (old new : Files) : Type 0 where
+pub record Walked (prefixes : List Text) (start now : WalkPlace) (seen : ℕ) (old new : Files) : Type 0 where
   pub takes : TakesFiles (IsListedPage prefixes) seen old new
   pub passed : (name : Text) → IsTrue (is_page_file name) → IsTrue (is_passed prefixes now name) → IsTrue (is_passed prefixes start name) ⊎ (file_at new name ≡ None)
   pub ahead : count_names (is_to_look_at prefixes (Some start)) old ≡ count_names (is_to_look_at prefixes (Some now)) new + seen
 
 -- The place after a list of at most so many names: at the last of them where the list was full, else at the start of the next prefix.
-abbrev pub IsPlaceAfter : Place → List Text → ℕ → Place → Type 0
+abbrev pub IsPlaceAfter : WalkPlace → List Text → ℕ → WalkPlace → Type 0
 IsPlaceAfter place names most now = ((length names < most) × (now.prefix ≡ place.prefix + 1) × (now.last ≡ []))
     ⊎ ((length names ≡ most) × (now.prefix ≡ place.prefix) × (slice_get names (length names - 1) ≡ Some now.last))
 
 -- the prefix at which a walk stands after a list: the same where the list was full, else the next
-abbrev pub IsNextPrefix : Place → ℕ → ℕ → Place → Type 0
+abbrev pub IsNextPrefix : WalkPlace → ℕ → ℕ → WalkPlace → Type 0
 IsNextPrefix place seen most now = ((seen < most) × (now.prefix ≡ place.prefix + 1)) ⊎ ((seen ≡ most) × (now.prefix ≡ place.prefix))
 
 -- a name that begins with one of the prefixes begins with none of those before it
@@ -67,7 +67,7 @@ abbrev pub AreNamesApart : List Text → Type 0
 AreNamesApart prefixes = (n : ℕ) (prefix name : Text) → slice_get prefixes n ≡ Some prefix → IsTrue (has_prefix prefix name) → begins_with_any (take n prefixes) name ≡ false
 
 -- The walk stopped at a place: past as many names as a slice looks at, or past fewer, at its end.
-abbrev pub WalkedOn : List Text → Place → Place → Bool → Files → Files → Type 0
+abbrev pub WalkedOn : List Text → WalkPlace → WalkPlace → Bool → Files → Files → Type 0
 WalkedOn prefixes start now true old new = Walked prefixes start now slice_names old new
 WalkedOn prefixes start now false old new = (seen : ℕ) × (Walked prefixes start now seen old new × ((length prefixes ≤ now.prefix) × (seen < slice_names)))
 
@@ -116,17 +116,17 @@ pub record Opened (level : ℕ) (inv : Invalidation) (stamp : Stamp) (old new : 
   pub gone : IsHandleGone inv new
 
 -- how many files of the page at the handle a slice from this place takes away at most
-abbrev pub handle_files : Option Place → ℕ
+abbrev pub handle_files : Option WalkPlace → ℕ
 handle_files None = 2
 handle_files (Some place) = 0
 
 -- the name is that of a file which a slice from this place takes away before it walks
-abbrev pub IsTakenFirst : Invalidation → Option Place → Text → Type 0
+abbrev pub IsTakenFirst : Invalidation → Option WalkPlace → Text → Type 0
 IsTakenFirst inv None = IsHandlePage inv
 IsTakenFirst inv (Some place) = λ name. ⊥
 
 -- the flush has begun: this slice opened it, or an earlier one
-abbrev pub IsBegun : ℕ → Invalidation → Stamp → Option Place → Files → Files → Type 0
+abbrev pub IsBegun : ℕ → Invalidation → Stamp → Option WalkPlace → Files → Files → Type 0
 IsBegun level inv stamp None old new = Opened level inv stamp old new
 IsBegun level inv stamp (Some place) old new = new ≡ old
 

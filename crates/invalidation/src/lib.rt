@@ -13,6 +13,6 @@ mod reading;
 mod walk;
 
 pub use inv_fault::InvFault;
-pub use place::Place;
+pub use place::WalkPlace;
 pub use purge::{Purge, PurgeStep};
 pub use reading::{is_invalidation, read_invalidation};

@@ -10,38 +10,38 @@ use std::alloc::Global;
 /// How far a walk through the names of files is that begin with one of several prefixes: through with the prefixes before this one, and
 /// with the names that begin with this one up to `last`.
 #[derive(Drop)]
-pub struct Place {
+pub struct WalkPlace {
     pub prefix: usize,
     pub last: TextBuf,
 }
 
-impl Place {
-    pub(crate) fn start(alloc: Global) -> Mem<Place>
+impl WalkPlace {
+    pub(crate) fn start(alloc: Global) -> Mem<WalkPlace>
         ensures { IfOk result (λ place. place ≡ start_place) }
     {
-        Place::at_prefix(alloc, 0)
+        WalkPlace::at_prefix(alloc, 0)
     }
 
-    fn at_prefix(alloc: Global, prefix: usize) -> Mem<Place>
+    fn at_prefix(alloc: Global, prefix: usize) -> Mem<WalkPlace>
         ensures prefix { IfOk result (λ place. place.prefix ≡ prefix) }
         ensures last { IfOk result (λ place. place.last ≡ []) }
     {
         let last = TextBuf::of(alloc, "")?;
-        Ok(Place { prefix, last })
+        Ok(WalkPlace { prefix, last })
     }
 
     /// The place after these names, which were listed at this place, and of which at most so many were asked for.
-    pub(crate) fn after(&self, alloc: Global, names: &NameList, most: usize) -> Mem<Place>
+    pub(crate) fn after(&self, alloc: Global, names: &NameList, most: usize) -> Mem<WalkPlace>
         requires most { (0 < most) × (length names.now ≤ most) }
         requires prefix { self.now.prefix < greatest_u64 }
         ensures { IfOk result (IsPlaceAfter self.now names.now most) }
     {
         let n = names.len();
         if n < most {
-            return Place::at_prefix(alloc, self.prefix + 1);
+            return WalkPlace::at_prefix(alloc, self.prefix + 1);
         }
         match names.get(n - 1) {
-            Some(last) => Ok(Place {
+            Some(last) => Ok(WalkPlace {
                 prefix: self.prefix,
                 last: last.duplicate(alloc)?,
             }),

@@ -7,7 +7,7 @@ ghost use Rattle.invalidation.specs.Slices.{HasSliceCause, IsSamePurge, IsSlice,
 ghost use Rattle.invalidation.specs.Walks.{IsBegun, purge_step_of, BeginsSlice};
 
 use crate::opening::open;
-use crate::place::Place;
+use crate::place::WalkPlace;
 use crate::prefixes::{deleted_prefixes, prefixes_are_apart};
 use crate::walk::walk;
 use cover_rules::{Invalidation, Stamp, a_page_has_one_key};
@@ -25,7 +25,7 @@ pub struct Purge {
     level: usize,
     inv: Invalidation,
     stamp: Stamp,
-    place: Option<Place>,
+    place: Option<WalkPlace>,
 }
 
 /// How a slice ended.
@@ -115,7 +115,7 @@ impl Purge {
         if self.place.is_some() {
             return Ok(());
         }
-        let start = Place::start(alloc)?;
+        let start = WalkPlace::start(alloc)?;
         open(alloc, disk, self.level, &self.inv, self.stamp)?;
         self.place = Some(start);
         Ok(())

@@ -10,7 +10,7 @@ ghost use Rattle.docroot_changes.specs.DocrootCalls.{IsListedPrefix, MakesDocroo
 ghost use Rattle.invalidation.specs.Slices.{IsListedPage, slice_names};
 ghost use Rattle.invalidation.specs.Walks.{AreNamesApart, AreGone, IsNextPrefix, IsPageAmong, IsThisPage, TakesFiles, Walked, WalkedOn};
 
-use crate::place::Place;
+use crate::place::WalkPlace;
 use docroot_changes::docroot_calls_add_up;
 use docroot_format::{FileFault, is_page_file};
 use sp_base::{NameList, TextBuf};
@@ -26,7 +26,7 @@ pub(crate) fn walk<D: Disk>(
     alloc: Global,
     disk: &mut D,
     prefixes: &NameList,
-    place: &mut Place,
+    place: &mut WalkPlace,
 ) -> Result<bool, FileFault>
     requires apart { AreNamesApart prefixes.now }
     requires listed { (prefix : Text) → Contains prefixes.now prefix → IsListedPrefix prefix }
@@ -52,7 +52,7 @@ fn look_at<D: Disk>(
     alloc: Global,
     disk: &mut D,
     prefixes: &NameList,
-    place: &mut Place,
+    place: &mut WalkPlace,
     most: usize,
 ) -> Result<usize, FileFault>
     requires most { 0 < most }

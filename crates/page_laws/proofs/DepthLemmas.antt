@@ -3,7 +3,7 @@ use Rattle.std.proofs.Common.{◌≡◌, ◌⊎◌, inl, inr, ℕ, zero, suc, Bo
 use Rattle.std.proofs.lemmas.Bool.{or_cases, or_right}
 use Rattle.resource_tree.specs.Content.{Content}
 use Rattle.htl_blocks.specs.Parts.{Part, Byte, Round, Script, Resource, is_inclusion}
-use Rattle.publisher.specs.Pages.{Page, Place, Written, inclusion, part_page, parts_page, put_in, written_page}
+use Rattle.publisher.specs.Pages.{Page, ScriptPlace, Written, inclusion, part_page, parts_page, put_in, written_page}
 use Rattle.publisher.proofs.PageLemmas.{parts_more, parts_none}
 use Rattle.page_laws.specs.Limits.{Nests}
 
@@ -42,16 +42,16 @@ deep_among put [] p after puts deep =
 deep_among put (q ∷ before) p after puts deep =
     ap (λ (page : Page). page.is_deep) (parts_more put q (before ++ p ∷ after)) ∙ or_right (part_page put q).is_deep (parts_page put (before ++ p ∷ after)).is_deep (deep_among put before p after puts deep)
 
-deep_at_none : (tree : Content) (place : Place) (p : Part) → (inclusion tree zero place p).is_deep ≡ true
+deep_at_none : (tree : Content) (place : ScriptPlace) (p : Part) → (inclusion tree zero place p).is_deep ≡ true
 unfolding inclusion
 deep_at_none tree place p = refl
 
-inclusion_is : (tree : Content) (levels : ℕ) (place : Place) (p : Part) → inclusion tree (suc levels) place p ≡ written_page (inclusion tree levels) (put_in tree place p)
+inclusion_is : (tree : Content) (levels : ℕ) (place : ScriptPlace) (p : Part) → inclusion tree (suc levels) place p ≡ written_page (inclusion tree levels) (put_in tree place p)
 unfolding inclusion
 inclusion_is tree levels place p = refl
 
 -- what is put in, if it is too deep
-deep_within : (tree : Content) (levels : ℕ) (place : Place) (p : Part) → (inclusion tree (suc levels) place p).is_deep ≡ true
+deep_within : (tree : Content) (levels : ℕ) (place : ScriptPlace) (p : Part) → (inclusion tree (suc levels) place p).is_deep ≡ true
     → (w : Written) × (put_in tree place p ≡ Some w) × ((parts_page (inclusion tree levels w.place) w.parts).is_deep ≡ true)
 deep_within tree levels place p e = go (put_in tree place p) refl (ap (λ (page : Page). page.is_deep) (sym (inclusion_is tree levels place p)) ∙ e)
   where
@@ -59,20 +59,20 @@ deep_within tree levels place p e = go (put_in tree place p) refl (ap (λ (page 
     go None is f = absurd cc
     go (Some w) is f = (w, is, f)
 
-is_put_in : (tree : Content) (place : Place) (p : Part) (w : Written) → put_in tree place p ≡ Some w → is_inclusion p ≡ true
+is_put_in : (tree : Content) (place : ScriptPlace) (p : Part) (w : Written) → put_in tree place p ≡ Some w → is_inclusion p ≡ true
 is_put_in tree place (Byte c) w e = absurd cc
 is_put_in tree place Round w e = absurd cc
 is_put_in tree place (Script name vars) w e = refl
 is_put_in tree place (Resource name) w e = refl
 
-pub deep_nests : (tree : Content) (levels : ℕ) (place : Place) (ps : List Part) → (parts_page (inclusion tree levels place) ps).is_deep ≡ true → Nests tree levels place ps
+pub deep_nests : (tree : Content) (levels : ℕ) (place : ScriptPlace) (ps : List Part) → (parts_page (inclusion tree levels place) ps).is_deep ≡ true → Nests tree levels place ps
 deep_nests tree zero place ps e = let x = deep_found (inclusion tree zero place) ps e in record { before = x.before; part = x.part; after = x.after; whole = x.whole; puts = x.puts }
 deep_nests tree (suc levels) place ps e =
     let x = deep_found (inclusion tree (suc levels) place) ps e in
     let y = deep_within tree levels place x.part x.deep in
     (y.0, record { before = x.before; part = x.part; after = x.after; whole = x.whole; there = y.1 }, deep_nests tree levels y.0.place y.0.parts y.2)
 
-pub nests_deep : (tree : Content) (levels : ℕ) (place : Place) (ps : List Part) → Nests tree levels place ps → (parts_page (inclusion tree levels place) ps).is_deep ≡ true
+pub nests_deep : (tree : Content) (levels : ℕ) (place : ScriptPlace) (ps : List Part) → Nests tree levels place ps → (parts_page (inclusion tree levels place) ps).is_deep ≡ true
 nests_deep tree zero place ps x =
     ap (λ (qs : List Part). (parts_page (inclusion tree zero place) qs).is_deep) x.whole ∙ deep_among (inclusion tree zero place) x.before x.part x.after x.puts (deep_at_none tree place x.part)
 nests_deep tree (suc levels) place ps x =

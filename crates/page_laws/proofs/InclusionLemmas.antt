@@ -17,7 +17,7 @@ use Rattle.htl_blocks.specs.declared.fault.BlockFault.{BlockFault}
 use Rattle.htl_blocks.specs.Parts.{Part, Script, Resource as ResourcePart}
 use Rattle.htl_blocks.specs.Reading.{blocks_of, most_nested_blocks}
 use Rattle.htl_blocks.specs.Spelling.{SpellsBlocks}
-use Rattle.publisher.specs.Pages.{Place, html_parts, included_resource, included_script, inclusion, joined, one_inclusion, parts_page, path_named, place_for, put_in, readable_blocks, resource_by, script_blocks, written_resource, written_at, written_page}
+use Rattle.publisher.specs.Pages.{ScriptPlace, html_parts, included_resource, included_script, inclusion, joined, one_inclusion, parts_page, path_named, place_for, put_in, readable_blocks, resource_by, script_blocks, written_resource, written_at, written_page}
 use Rattle.publisher.proofs.PageLemmas.{joined_blank, resource_is, script_is}
 use Rattle.publisher.proofs.ScriptLaw.{found_first}
 use Rattle.page_laws.specs.Inclusions.{HasScript, ScriptsStandForTheSameResource, ResourcesStandByTheirFirstScript, NothingStandsForMissingScripts, NothingStandsForMissingResources, PagesOfOneIncludeAreThatScripts, PagesOfOneResourceAreThatResources, MissingScriptsAreCounted, MissingResourcesAreCounted}
@@ -64,18 +64,18 @@ none_there known tree path apart = go (script_blocks tree path) refl
 
 -- ---- one part
 
-put_in_stands : (tree : Content) (levels : ℕ) (place : Place) (p : Part) (at : Place) (vars : Pairs) (blocks : List Block) → put_in tree place p ≡ written_at at vars (Some blocks)
+put_in_stands : (tree : Content) (levels : ℕ) (place : ScriptPlace) (p : Part) (at : ScriptPlace) (vars : Pairs) (blocks : List Block) → put_in tree place p ≡ written_at at vars (Some blocks)
     → inclusion tree (suc levels) place p ≡ written_page (inclusion tree levels) (written_at at vars (Some blocks))
 unfolding inclusion
 put_in_stands tree levels place p at vars blocks e = ap (written_page (inclusion tree levels)) e
 
-nothing_stands : (tree : Content) (levels : ℕ) (place : Place) (p : Part) → put_in tree place p ≡ None → inclusion tree (suc levels) place p ≡ written_page (inclusion tree levels) None
+nothing_stands : (tree : Content) (levels : ℕ) (place : ScriptPlace) (p : Part) → put_in tree place p ≡ None → inclusion tree (suc levels) place p ≡ written_page (inclusion tree levels) None
 unfolding inclusion
 nothing_stands tree levels place p e = ap (written_page (inclusion tree levels)) e
 
 pub scripts_stand : Known → ScriptsStandForTheSameResource
 scripts_stand known tree levels place name vars script blocks x =
-    let at : Place = record place { script = script } in
+    let at : ScriptPlace = record place { script = script } in
     put_in_stands tree levels place (Script name vars) at vars blocks (ap (included_script tree place vars) x.named ∙ ap (written_at at vars) (blocks_there known tree script blocks x.has))
 
 first_is : Known → (tree : Content) (res : Resource) (script : Segments) → IsFirstScript tree (chain_of tree res.props) (html_parts res.path) script → first_script tree (chain_of tree res.props) (html_parts res.path) ≡ Some script

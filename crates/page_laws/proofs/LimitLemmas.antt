@@ -10,7 +10,7 @@ use Rattle.htl_blocks.specs.Refused.{most_inclusions, most_rounds}
 use Rattle.htl_blocks.specs.Written.{blocks_parts}
 use Rattle.error_answers.specs.Errors.{error_answer}
 use Rattle.publisher.specs.Errors.{answer_with_body}
-use Rattle.publisher.specs.Pages.{Page, Place, bindings_at, is_over, most_levels, page_of}
+use Rattle.publisher.specs.Pages.{Page, ScriptPlace, bindings_at, is_over, most_levels, page_of}
 use Rattle.publisher.specs.Rendering.{html_kind, page_answer}
 use Rattle.page_laws.specs.Limits.{PassesALimit}
 use Rattle.page_laws.proofs.DepthLemmas.{deep_nests, nests_deep}
@@ -51,7 +51,7 @@ means_over page (inr (inl more)) =
 means_over page (inr (inr more)) =
     or_right page.is_deep (nat_lt most_inclusions page.inclusions || nat_lt most_rounds page.rounds) (or_right (nat_lt most_inclusions page.inclusions) (nat_lt most_rounds page.rounds) (lt-ltb most_rounds page.rounds more))
 
-over_passes : (tree : Content) (place : Place) (blocks : List Block) → is_over (page_of tree place blocks) ≡ true → PassesALimit tree place blocks
+over_passes : (tree : Content) (place : ScriptPlace) (blocks : List Block) → is_over (page_of tree place blocks) ≡ true → PassesALimit tree place blocks
 over_passes tree place blocks e = go (over_means (page_of tree place blocks) e)
   where
     go : ((page_of tree place blocks).is_deep ≡ true) ⊎ ((most_inclusions < (page_of tree place blocks).inclusions) ⊎ (most_rounds < (page_of tree place blocks).rounds)) → PassesALimit tree place blocks
@@ -60,18 +60,18 @@ over_passes tree place blocks e = go (over_means (page_of tree place blocks) e)
     go (inr (inr more)) = PassesALimit.TooManyRounds more
 
 -- a page that passes a limit is over, or too long
-passes_over : (tree : Content) (place : Place) (blocks : List Block) → PassesALimit tree place blocks
+passes_over : (tree : Content) (place : ScriptPlace) (blocks : List Block) → PassesALimit tree place blocks
     → (is_over (page_of tree place blocks) ≡ true) ⊎ (nat_le (length (page_of tree place blocks).text) most_rendered_bytes ≡ false)
 passes_over tree place blocks (PassesALimit.TooLong more) = inr (lt-leb (length (page_of tree place blocks).text) most_rendered_bytes more)
 passes_over tree place blocks (PassesALimit.TooMuchPutIn more) = inl (means_over (page_of tree place blocks) (inr (inl more)))
 passes_over tree place blocks (PassesALimit.TooManyRounds more) = inl (means_over (page_of tree place blocks) (inr (inr more)))
 passes_over tree place blocks (PassesALimit.TooDeep nests) = inl (means_over (page_of tree place blocks) (inl (nests_deep tree most_levels place (blocks_parts (bindings_at place []) blocks) nests)))
 
-refused_passes : (tree : Content) (place : Place) (blocks : List Block) → (is_over (page_of tree place blocks) ≡ true) ⊎ (nat_le (length (page_of tree place blocks).text) most_rendered_bytes ≡ false) → PassesALimit tree place blocks
+refused_passes : (tree : Content) (place : ScriptPlace) (blocks : List Block) → (is_over (page_of tree place blocks) ≡ true) ⊎ (nat_le (length (page_of tree place blocks).text) most_rendered_bytes ≡ false) → PassesALimit tree place blocks
 refused_passes tree place blocks (inl over) = over_passes tree place blocks over
 refused_passes tree place blocks (inr long) = PassesALimit.TooLong (leb-false (length (page_of tree place blocks).text) most_rendered_bytes long)
 
-pub refused_is : (tree : Content) (mark : Mark) (place : Place) (blocks : List Block) (answer : Answer) → answer ≡ page_answer mark (page_of tree place blocks) → (answer.status ≡ 500) ↔ PassesALimit tree place blocks
+pub refused_is : (tree : Content) (mark : Mark) (place : ScriptPlace) (blocks : List Block) (answer : Answer) → answer ≡ page_answer mark (page_of tree place blocks) → (answer.status ≡ 500) ↔ PassesALimit tree place blocks
 refused_is tree mark place blocks answer is =
     let page = page_of tree place blocks in
     let over = is_over page in

@@ -12,7 +12,7 @@ use Rattle.htl_blocks.specs.Refused.{most_inclusions, most_rounds}
 use Rattle.htl_blocks.specs.Spelling.{SpellsBlocks}
 use Rattle.htl_blocks.specs.Written.{blocks_parts}
 use Rattle.publisher.specs.Cases.{ReadsByScript}
-use Rattle.publisher.specs.Pages.{Place, Written, bindings_at, most_levels, page_of, place_for, put_in}
+use Rattle.publisher.specs.Pages.{ScriptPlace, Written, bindings_at, most_levels, page_of, place_for, put_in}
 use Rattle.publisher.specs.Rendering.{answer_to_request}
 
 -- among parts something is to be put in, whether it is there or not
@@ -24,7 +24,7 @@ pub record PutsSomethingIn (ps : List Part) : Type 0 where
   pub puts : is_inclusion part ≡ true
 
 -- among parts at a place one puts this in
-pub record PutsIn (tree : Content) (place : Place) (ps : List Part) (written : Written) : Type 0 where
+pub record PutsIn (tree : Content) (place : ScriptPlace) (ps : List Part) (written : Written) : Type 0 where
   pub before : List Part
   pub part : Part
   pub after : List Part
@@ -32,12 +32,12 @@ pub record PutsIn (tree : Content) (place : Place) (ps : List Part) (written : W
   pub there : put_in tree place part ≡ Some written
 
 -- so many scripts and resources are put in, one in another, and in the last something more is to be put in
-abbrev pub Nests : Content → ℕ → Place → List Part → Type 0
+abbrev pub Nests : Content → ℕ → ScriptPlace → List Part → Type 0
 Nests tree zero place ps = PutsSomethingIn ps
 Nests tree (suc levels) place ps = (written : Written) × PutsIn tree place ps written × Nests tree levels written.place written.parts
 
 -- A page passes a limit: of its text, of what is to be put in, of the contents of lists, or of how deep scripts and resources stand one in another.
-pub data PassesALimit (tree : Content) (place : Place) (blocks : List Block) : Type 0 where
+pub data PassesALimit (tree : Content) (place : ScriptPlace) (blocks : List Block) : Type 0 where
   TooLong : most_rendered_bytes < length (page_of tree place blocks).text → PassesALimit tree place blocks
   TooMuchPutIn : most_inclusions < (page_of tree place blocks).inclusions → PassesALimit tree place blocks
   TooManyRounds : most_rounds < (page_of tree place blocks).rounds → PassesALimit tree place blocks

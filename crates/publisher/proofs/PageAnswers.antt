@@ -14,12 +14,12 @@ use Rattle.publisher.specs.Errors.{answer_with_body}
 use Rattle.publisher.specs.Gathering.{IsPassed}
 use Rattle.publisher.specs.declared.waiting.Waiting.{Waiting}
 use Rattle.publisher.specs.Waits.{nothing}
-use Rattle.publisher.specs.Pages.{Page, Place, bindings_at, blank, inclusion, is_over, joined, most_levels, page_of, parts_page, place_for}
+use Rattle.publisher.specs.Pages.{Page, ScriptPlace, bindings_at, blank, inclusion, is_over, joined, most_levels, page_of, parts_page, place_for}
 use Rattle.publisher.specs.Rendering.{html_kind, page_answer, representation_of}
 use Rattle.publisher.proofs.PageLemmas.{blank_joined, not_over, over_or_long, too_long}
 
 -- what is gathered at the place of a resource, without variables, is its page
-pub page_is : (tree : Content) (res : Resource) (script path : Segments) (props : Properties) (vars : Pairs) (blocks : List Block) (place : Place) → place ≡ record { script = script; path = path; props = props } → path ≡ res.path → props ≡ res.props → vars ≡ []
+pub page_is : (tree : Content) (res : Resource) (script path : Segments) (props : Properties) (vars : Pairs) (blocks : List Block) (place : ScriptPlace) → place ≡ record { script = script; path = path; props = props } → path ≡ res.path → props ≡ res.props → vars ≡ []
     → parts_page (inclusion tree most_levels place) (blocks_parts (bindings_at place vars) blocks) ≡ page_of tree (place_for script res) blocks
 page_is tree res script path props vars blocks place here path_is props_is none =
     let there : place ≡ place_for script res = here ∙ (λ i. record { script = script; path = path_is i; props = props_is i }) in

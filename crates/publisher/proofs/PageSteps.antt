@@ -20,7 +20,7 @@ use Rattle.publisher.specs.declared.page_fault.PageFault.TheVariants.{NoMemory}
 use Rattle.publisher.specs.declared.waiting.Waiting.{Waiting}
 use Rattle.publisher.specs.Waits.{IsLeastOf, IsSizeOf, nothing}
 use Rattle.publisher.specs.Gathering.{Gathered, IsPassed, PassLimits}
-use Rattle.publisher.specs.Pages.{Page, Place, blank, html_parts, included_resource, included_script, inclusion, joined, one_inclusion, parts_page, path_named, put_in, resource_by, rounds_page, written_resource, too_deep, written_by_script, written_page}
+use Rattle.publisher.specs.Pages.{Page, ScriptPlace, blank, html_parts, included_resource, included_script, inclusion, joined, one_inclusion, parts_page, path_named, put_in, resource_by, rounds_page, written_resource, too_deep, written_by_script, written_page}
 use Rattle.publisher.proofs.PageLemmas.{after, has_at_least, joined_assoc, joined_blank, parts_append, parts_pass, passed_before, passed_then, resource_is, rounds_apart, script_is, stopped}
 
 -- ---- the blocks of a script
@@ -159,25 +159,25 @@ resource_stopped w f put old name h known = subst (λ (p : Page). IsPassed w (jo
 
 -- ---- what is put in
 
-pub nothing_deeper : (tree : Content) (n : ℕ) (place : Place) (p : Part) → n ≡ 0 → inclusion tree n place p ≡ too_deep
+pub nothing_deeper : (tree : Content) (n : ℕ) (place : ScriptPlace) (p : Part) → n ≡ 0 → inclusion tree n place p ≡ too_deep
 unfolding inclusion
 nothing_deeper tree zero place p none = refl
 nothing_deeper tree (suc n) place p none = absurd (omega (arith, none))
 
-one_deeper : (tree : Content) (n : ℕ) (place : Place) (p : Part) → n ≢ 0 → inclusion tree n place p ≡ written_page (inclusion tree (n - 1)) (put_in tree place p)
+one_deeper : (tree : Content) (n : ℕ) (place : ScriptPlace) (p : Part) → n ≢ 0 → inclusion tree n place p ≡ written_page (inclusion tree (n - 1)) (put_in tree place p)
 unfolding inclusion
 one_deeper tree zero place p some = absurd (some refl)
 one_deeper tree (suc n) place p some = let less : n ≡ suc n - 1 = omega arith in ap (λ m. written_page (inclusion tree m) (put_in tree place p)) less
 
 -- where something is too deep, a limit is passed
-pub deep_stops : (w : Waiting) (tree : Content) (n : ℕ) (place : Place) (p : Part) (old : Page) → n ≡ 0 → IsPassed w (joined old (inclusion tree n place p))
+pub deep_stops : (w : Waiting) (tree : Content) (n : ℕ) (place : ScriptPlace) (p : Part) (old : Page) → n ≡ 0 → IsPassed w (joined old (inclusion tree n place p))
 deep_stops w tree n place p old none = passed_before w old (inclusion tree n place p) (inl (ap (λ (q : Page). q.is_deep) (nothing_deeper tree n place p none)))
 
 -- nothing stands where there is nothing to put in
 pub nothing_more : (old page : Page) → page ≡ blank → old ≡ joined old page
 nothing_more old page none = sym (joined_blank old) ∙ ap (joined old) (sym none)
 
-pub script_step : (tree : Content) (n : ℕ) (place : Place) (name : Text) (vars : Pairs) (folder : Segments) (o : Option Segments) → n ≢ 0 → folder ≡ parent_of place.script → o ≡ path_named folder name
+pub script_step : (tree : Content) (n : ℕ) (place : ScriptPlace) (name : Text) (vars : Pairs) (folder : Segments) (o : Option Segments) → n ≢ 0 → folder ≡ parent_of place.script → o ≡ path_named folder name
     → inclusion tree n place (Script name vars) ≡ written_page (inclusion tree (n - 1)) (included_script tree place vars o)
 script_step tree n place name vars folder o some same named =
     one_deeper tree n place (Script name vars) some
@@ -196,7 +196,7 @@ shown_alone tree path = by (is_merged_path path) refl
     by true is = sym (shown_without_kids tree (merged_resource tree path))
     by false is = refl
 
-pub resource_step : (tree : Content) (n : ℕ) (place : Place) (name : Text) (o : Option Segments) → n ≢ 0 → o ≡ path_named place.path name
+pub resource_step : (tree : Content) (n : ℕ) (place : ScriptPlace) (name : Text) (o : Option Segments) → n ≢ 0 → o ≡ path_named place.path name
     → inclusion tree n place (ResourcePart name) ≡ written_page (inclusion tree (n - 1)) (included_resource tree o)
 resource_step tree n place name o some named =
     one_deeper tree n place (ResourcePart name) some ∙ ap (λ (q : Option Segments). written_page (inclusion tree (n - 1)) (included_resource tree q)) (sym named)
@@ -208,7 +208,7 @@ pub by_step : (tree : Content) (res : Resource) (o : Option Segments) → o ≡ 
 by_step tree res o first = ap (resource_by tree res) (sym first)
 
 -- what a script writes at the place of a resource
-pub written_for : {A : Type 0} (w : Waiting) (r : Result A PageFault) (put : Place → Part → Page) (tree : Content) (res : Resource) (script path : Segments) (props : Properties) (vars : Pairs) (old new : Page) → path ≡ res.path → props ≡ res.props → vars ≡ []
+pub written_for : {A : Type 0} (w : Waiting) (r : Result A PageFault) (put : ScriptPlace → Part → Page) (tree : Content) (res : Resource) (script path : Segments) (props : Properties) (vars : Pairs) (old new : Page) → path ≡ res.path → props ≡ res.props → vars ≡ []
     → Gathered w r old new (written_page put (written_by_script tree (record { script = script; path = path; props = props }) vars)) → Gathered w r old new (written_page put (resource_by tree res (Some script)))
 written_for w r put tree res script path props vars old new path_is props_is none written =
     subst (Gathered w r old new) (λ i. written_page put (written_by_script tree (record { script = script; path = path_is i; props = props_is i }) (none i))) written

@@ -12,10 +12,10 @@ use Rattle.publisher.specs.declared.page_fault.PageFault.{PageFault}
 use Rattle.publisher.specs.declared.page_fault.PageFault.TheVariants.{NoMemory}
 use Rattle.publisher.specs.declared.setting.Setting.{Setting}
 use Rattle.publisher.specs.declared.waiting.Waiting.{Waiting}
-use Rattle.publisher.specs.Pages.{Page, Place, bindings_at, inclusion, joined, written_by_script, written_page}
+use Rattle.publisher.specs.Pages.{Page, ScriptPlace, bindings_at, inclusion, joined, written_by_script, written_page}
 
 -- the place of a setting
-abbrev pub place_in : Setting → Place
+abbrev pub place_in : Setting → ScriptPlace
 place_in s = record { script = s.script.now; path = s.path.now; props = s.props.now }
 
 -- the variables that are seen in a setting

@@ -22,26 +22,26 @@ use Rattle.htl_blocks.specs.Written.{blocks_parts}
 -- ---- where scripts stand
 
 -- where a script stands: its path, and the path and the properties of the resource that it is for
-pub record Place : Type 0 where
+pub record ScriptPlace : Type 0 where
   pub script : Segments
   pub path : Segments
   pub props : Properties
 
 -- a script for a resource
-abbrev pub place_for : Segments → Resource → Place
+abbrev pub place_for : Segments → Resource → ScriptPlace
 place_for script res = record { script = script; path = res.path; props = res.props }
 
 -- what the expressions of a place see, with variables
-abbrev pub bindings_at : Place → Pairs → Bindings
+abbrev pub bindings_at : ScriptPlace → Pairs → Bindings
 bindings_at place vars = record { props = place.props; path = text_of place.path; name = name_of place.path; resource_type = type_text place.props; vars = vars }
 
 -- a place, and what a script writes there
 pub record Written : Type 0 where
-  pub place : Place
+  pub place : ScriptPlace
   pub parts : List Part
 
 -- the same of blocks that may not be there
-abbrev pub written_at : Place → Pairs → Option (List Block) → Option Written
+abbrev pub written_at : ScriptPlace → Pairs → Option (List Block) → Option Written
 written_at place vars None = None
 written_at place vars (Some blocks) = Some (record { place = place; parts = blocks_parts (bindings_at place vars) blocks })
 
@@ -54,7 +54,7 @@ unfoldable pub script_blocks : Content → Segments → Option (List Block)
 script_blocks tree path = if is_script_name (name_of path) then option_and_then readable_blocks (script_text tree path) else None
 
 -- what the script of a place writes there with variables, if it is there and has a reading
-abbrev pub written_by_script : Content → Place → Pairs → Option Written
+abbrev pub written_by_script : Content → ScriptPlace → Pairs → Option Written
 written_by_script tree place vars = written_at place vars (script_blocks tree place.script)
 
 -- ---- what is put in
@@ -64,7 +64,7 @@ unfoldable pub path_named : Segments → Text → Option Segments
 path_named folder name = result_ok (if begins_with_byte 47 name then path_of name else child_of folder name)
 
 -- a script on the resource of a place, with variables
-abbrev pub included_script : Content → Place → Pairs → Option Segments → Option Written
+abbrev pub included_script : Content → ScriptPlace → Pairs → Option Segments → Option Written
 included_script tree place vars None = None
 included_script tree place vars (Some script) = written_by_script tree (record place { script = script }) vars
 
@@ -89,7 +89,7 @@ included_resource tree (Some path) = written_resource tree (merged_resource tree
 
 -- What a part puts in at a place, if there is something to put in. A script's name is one below the folder of the script that names it, a
 -- resource's one below the resource.
-abbrev pub put_in : Content → Place → Part → Option Written
+abbrev pub put_in : Content → ScriptPlace → Part → Option Written
 put_in tree place (Byte c) = None
 put_in tree place Round = None
 put_in tree place (Script name vars) = included_script tree place vars (path_named (parent_of place.script) name)
@@ -142,12 +142,12 @@ parts_page inclusion [] = blank
 parts_page inclusion (p ∷ ps) = joined (part_page inclusion p) (parts_page inclusion ps)
 
 -- what is put in, whose own parts stand at its own place; where there is nothing to put in, nothing stands
-abbrev pub written_page : (Place → Part → Page) → Option Written → Page
+abbrev pub written_page : (ScriptPlace → Part → Page) → Option Written → Page
 written_page inner None = blank
 written_page inner (Some written) = parts_page (inner written.place) written.parts
 
 -- what stands for a part that puts something in, where so many scripts and resources may still stand one in another
-unfoldable pub inclusion : Content → ℕ → Place → Part → Page
+unfoldable pub inclusion : Content → ℕ → ScriptPlace → Part → Page
 inclusion tree zero place p = too_deep
 inclusion tree (suc levels) place p = written_page (inclusion tree levels) (put_in tree place p)
 
@@ -156,7 +156,7 @@ abbrev pub most_levels : ℕ
 most_levels = 16
 
 -- the page of a script at a place, which has these blocks and sees no variables
-abbrev pub page_of : Content → Place → List Block → Page
+abbrev pub page_of : Content → ScriptPlace → List Block → Page
 page_of tree place blocks = parts_page (inclusion tree most_levels place) (blocks_parts (bindings_at place []) blocks)
 
 -- something was to be put in too deep, too much was put in, or the contents of lists stood too often

@@ -2,7 +2,7 @@
 use Rattle.std.proofs.Common.{◌≡◌, ◌≢◌, ◌↔◌, ℕ, List, Option, Some, Ok, Err, Result, refl, ap, sym, ◌∙◌}
 use Rattle.regex_rules.specs.declared.fault.PatternFault.{PatternFault}
 use Rattle.regex_rules.specs.declared.fault.PatternFault.TheVariants.{NoMemory}
-use Rattle.regex_rules.specs.declared.place.Place.{Place}
+use Rattle.regex_rules.specs.declared.place.PatternPlace.{PatternPlace}
 use Rattle.regex_rules.specs.Trees.{Tree, places_of, tree_of}
 use Rattle.regex_rules.specs.Spelling.{IsPattern, strict}
 use Rattle.regex_rules.specs.Reading.{read_from, unread}
@@ -23,7 +23,7 @@ tree_spelled cs tree = (there, back (read_from strict 0 unread cs) refl)
     there : IsPattern cs tree → tree_if_read (read_from strict 0 unread cs) ≡ Some tree
     there spelled = ap tree_if_read (whole_read strict cs tree spelled) ∙ ap some_tree (tree_of_places tree)
 
-    back : (r : Result (List Place) PatternFault) → read_from strict 0 unread cs ≡ r → tree_if_read r ≡ Some tree → IsPattern cs tree
+    back : (r : Result (List PatternPlace) PatternFault) → read_from strict 0 unread cs ≡ r → tree_if_read r ≡ Some tree → IsPattern cs tree
     back (Ok places) is e = (spelled_is cs places is tree).1 (sym (some_is (tree_of places) tree e))
     back (Err fault) is e = absurd cc
 

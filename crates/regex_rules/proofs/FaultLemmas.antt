@@ -7,8 +7,8 @@ use Rattle.std.proofs.lemmas.List.{append-nil, length-append}
 use Rattle.sp_base.proofs.TextLemmas.{encode_append}
 use Rattle.regex_rules.specs.declared.character.CharRange.{CharRange}
 use Rattle.regex_rules.specs.declared.repeat.Repeat.TheVariants.{Optional, Any, AtLeastOnce}
-use Rattle.regex_rules.specs.declared.place.Place.{Place}
-use Rattle.regex_rules.specs.declared.place.Place.TheVariants.{Open}
+use Rattle.regex_rules.specs.declared.place.PatternPlace.{PatternPlace}
+use Rattle.regex_rules.specs.declared.place.PatternPlace.TheVariants.{Open}
 use Rattle.regex_rules.specs.declared.mode.Mode.{Mode}
 use Rattle.regex_rules.specs.declared.mode.Mode.TheVariants as mode
 use Rattle.regex_rules.specs.declared.reader.Reader.{Reader}
@@ -97,7 +97,7 @@ open_agrees cs c at r on e = go (strict.may_open r.depth)
     go true = Agrees.goes
     go false = Agrees.deep (eqb-true c 40 e) refl on
 
-repeat_agrees : (cs : List ℕ) (c at : ℕ) (r : Reader) (o : Option (List Place)) → Agrees cs c at (row_repeated at r o) (row_repeated at r o) (row_repeated at r o)
+repeat_agrees : (cs : List ℕ) (c at : ℕ) (r : Reader) (o : Option (List PatternPlace)) → Agrees cs c at (row_repeated at r o) (row_repeated at r o) (row_repeated at r o)
 repeat_agrees cs c at r None = Agrees.stray
 repeat_agrees cs c at r (Some places) = Agrees.goes
 
@@ -203,7 +203,7 @@ record Told (cs : List ℕ) (at : ℕ) (r : Reader) : Type 0 where
   pub reads_free : (rest : List ℕ) → read_from no_bounds 0 unread (cs ++ rest) ≡ read_from no_bounds at r rest
 
 -- what an answer says of a text
-abbrev pub Says : List ℕ → Result (List Place) PatternFault → Type 0
+abbrev pub Says : List ℕ → Result (List PatternPlace) PatternFault → Type 0
 Says text (Ok places) = (tree : Tree) × IsPattern text tree × (places ≡ places_of tree)
 Says text (Err fault) = IsFault fault text
 
@@ -246,14 +246,14 @@ told_first = record { here = refl; holds = (refl, refl, refl); holds_unlimited =
 nowhere : (bounds : Bounds) (cs : List ℕ) (c at : ℕ) (r : Reader) (fault : PatternFault) → ((rest : List ℕ) → read_from bounds 0 unread (cs ++ rest) ≡ read_from bounds at r rest) → step bounds at c r ≡ Err fault
     → GoesNowhere bounds (cs ++ c ∷ [])
 nowhere bounds cs c at r fault reads e more tree whole =
-    let answer : Result (List Place) PatternFault = Err fault in
+    let answer : Result (List PatternPlace) PatternFault = Err fault in
     let refused : read_from bounds 0 unread (cs ++ c ∷ [] ++ more) ≡ answer = ap (read_from bounds 0 unread) (append_assoc cs (c ∷ []) more) ∙ reads (c ∷ more) ∙ one_read_from bounds at r c more (Err fault) e in
     fault_or (places_of tree) fault (sym (whole_read bounds (cs ++ c ∷ [] ++ more) tree whole) ∙ refused)
   where
-    fault_or : (places : List Place) (f : PatternFault) → Ok places ≡ Err f → ⊥
+    fault_or : (places : List PatternPlace) (f : PatternFault) → Ok places ≡ Err f → ⊥
     fault_or places f h = absurd cc
 
-ok_not_err : {A : Type 0} (places : List Place) (f : PatternFault) → Ok places ≡ Err f → A
+ok_not_err : {A : Type 0} (places : List PatternPlace) (f : PatternFault) → Ok places ≡ Err f → A
 ok_not_err places f h = absurd cc
 
 -- the end of the text
@@ -266,13 +266,13 @@ unended cs at r t e = record {
 }
 
 -- a text that may end there, with the places of a pattern
-abbrev Ends : List ℕ → List Place → Type 0
+abbrev Ends : List ℕ → List PatternPlace → Type 0
 Ends cs places = (tree : Tree) × IsPattern cs tree × (places ≡ places_of tree)
 
 ends_in : (m : Mode) (cs : List ℕ) (r : Reader) → may_end m ≡ true → r.depth ≡ 0 → HoldsIn strict m cs r → Ends cs r.places
 ends_in mode.Begin cs r may none (e, places, depth) = ends_row cs r.places (subst (λ (n : ℕ). HoldsRow strict cs r.places n) none (begin_row strict cs r.places r.depth e places depth))
   where
-    ends_row : (ds : List ℕ) (places : List Place) → HoldsRow strict ds places 0 → Ends ds places
+    ends_row : (ds : List ℕ) (places : List PatternPlace) → HoldsRow strict ds places 0 → Ends ds places
     ends_row ds places h = let w = row_whole strict ds [] places h IsAnchor.absent in (w.0, subst (λ (l : List ℕ). IsWholePattern strict l w.0) (append-nil ds) w.1, w.2)
 ends_in mode.Row cs r may none h =
     let w = row_whole strict cs [] r.places (subst (λ (n : ℕ). HoldsRow strict cs r.places n) none h) IsAnchor.absent in
@@ -363,5 +363,5 @@ told (c ∷ rest) cs at r t =
     go ih _ _ _ s u f (Agrees.misordered {r = next} {place} m past) = misordered_told cs rest c at place r next t m past s f
 
 -- What is read is a pattern, or the fault of the text.
-pub read_says : (cs : List ℕ) (answer : Result (List Place) PatternFault) → read_from strict 0 unread cs ≡ answer → Says cs answer
+pub read_says : (cs : List ℕ) (answer : Result (List PatternPlace) PatternFault) → read_from strict 0 unread cs ≡ answer → Says cs answer
 read_says cs answer e = subst (Says cs) e (told cs [] 0 unread told_first)

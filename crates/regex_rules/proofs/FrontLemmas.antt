@@ -7,7 +7,7 @@ use Rattle.std.proofs.lemmas.Bool.Decides.{nat_tests}
 use Rattle.std.proofs.lemmas.List.{append-nil, append_cancel_right, take-append-drop, drop-drop, drop_at, get_or-drop}
 use Rattle.std.proofs.Math.Seq.{drop-cons, take-add, take-append-add, take-append_seam}
 use Rattle.std.proofs.lemmas.Str.{inside_one, IsUtf8-take, IsUtf8-past_char, IsCharBoundary-from_drop, chars-append, chars_past_char, length-encode, len_utf8_ascii}
-use Rattle.regex_rules.specs.declared.place.Place.{Place}
+use Rattle.regex_rules.specs.declared.place.PatternPlace.{PatternPlace}
 use Rattle.regex_rules.specs.Trees.{Tree, tree_of, places_of}
 use Rattle.regex_rules.specs.Languages.{InLanguage}
 use Rattle.regex_rules.specs.Fronts.{IsFront, IsLastFront, may_cut}
@@ -23,7 +23,7 @@ IsLastBefore tree text from place (Some last) = IsFront tree text from last × (
 IsLastBefore tree text from place None = (k : ℕ) → k < place → IsFront tree text from k → ⊥
 
 -- what is known where the rest of a text is still to be walked over, and the last front before it
-pub record Walked (places : List Place) (olds : List Bool) (answer enters : Bool) (text rest : List ℕ) (from : ℕ) (last : Option ℕ) : Type 0 where
+pub record Walked (places : List PatternPlace) (olds : List Bool) (answer enters : Bool) (text rest : List ℕ) (from : ℕ) (last : Option ℕ) : Type 0 where
   pub matched : Matched places olds answer enters (chars text) (chars rest)
   pub within : length rest ≤ length text
   pub rest_is : rest ≡ drop (length text - length rest) text
@@ -115,7 +115,7 @@ matched_is text rest w place whole utf8 within is parts =
 begins_none : (tree : Tree) (text : List ℕ) (from : ℕ) → IsLastBefore tree text from 0 None
 begins_none tree text from = λ k lt front. omega (arith, lt)
 
-pub begin_walked : (places : List Place) (olds : List Bool) (answer : Bool) (text : List ℕ) (from : ℕ) → IsUtf8 text → Matched places olds answer true (chars text) (chars text) → Walked places olds answer true text text from None
+pub begin_walked : (places : List PatternPlace) (olds : List Bool) (answer : Bool) (text : List ℕ) (from : ℕ) → IsUtf8 text → Matched places olds answer true (chars text) (chars text) → Walked places olds answer true text text from None
 begin_walked places olds answer text from utf8 matched =
     let none : length text - length text ≡ 0 = omega arith in
     record {
@@ -126,7 +126,7 @@ begin_walked places olds answer text from utf8 matched =
       before = subst (λ n. IsLastBefore (tree_of places) text from n None) (sym none) (begins_none (tree_of places) text from);
     }
 
-pub start_walked : (places : List Place) (first olds : List Bool) (answer : Bool) (text : List ℕ) (from : ℕ) → IsUtf8 text → places_of (tree_of places) ≡ places → first ≡ replicate (length places) false → olds ≡ first
+pub start_walked : (places : List PatternPlace) (first olds : List Bool) (answer : Bool) (text : List ℕ) (from : ℕ) → IsUtf8 text → places_of (tree_of places) ≡ places → first ≡ replicate (length places) false → olds ≡ first
     → answer ≡ takes_nothing (walked 0 places first (at (begun true) [] [])) → Walked places olds answer true text text from None
 start_walked places first olds answer text from utf8 held off same is =
     begin_walked places olds answer text from utf8
@@ -134,7 +134,7 @@ start_walked places first olds answer text from utf8 held off same is =
     (subst (λ (b : Bool). Matched places (replicate (length places) false) b true (chars text) (chars text)) (sym (is ∙ ap (λ (o : List Bool). takes_nothing (walked 0 places o (at (begun true) [] []))) off))
     (begin_matched places (chars text) held)))
 
-module _ (places : List Place) (olds : List Bool) (answer enters : Bool) (text rest : List ℕ) (from : ℕ) (last : Option ℕ) (utf8 : IsUtf8 text) (w : Walked places olds answer enters text rest from last) where
+module _ (places : List PatternPlace) (olds : List Bool) (answer enters : Bool) (text rest : List ℕ) (from : ℕ) (last : Option ℕ) (utf8 : IsUtf8 text) (w : Walked places olds answer enters text rest from last) where
   -- the place that the rest begins at is looked at
   looked : IsLastBefore (tree_of places) text from (length text - length rest + 1) (cond ((answer && nat_le from (length text - length rest)) && may_cut rest) (Some (length text - length rest)) last)
   looked =
@@ -191,7 +191,7 @@ none_beyond tree text from place (Some last) before none = (
 )
 
 -- no later beginning is in the language
-pub lost_walked : (places : List Place) (olds : List Bool) (answer : Bool) (text rest left : List ℕ) (from c : ℕ) (last found : Option ℕ) → IsUtf8 text → places_of (tree_of places) ≡ places → AreOff olds
+pub lost_walked : (places : List PatternPlace) (olds : List Bool) (answer : Bool) (text rest left : List ℕ) (from c : ℕ) (last found : Option ℕ) → IsUtf8 text → places_of (tree_of places) ≡ places → AreOff olds
     → Walked places olds answer false text rest from last → rest ≡ encode_utf8 c ++ left
     → found ≡ cond ((answer && nat_le from (length text - length rest)) && may_cut rest) (Some (length text - length rest)) last → IsLastFront (tree_of places) text from found
 lost_walked places olds answer text rest left from c last found utf8 held off w parts is =

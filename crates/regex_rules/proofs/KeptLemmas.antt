@@ -8,7 +8,7 @@ use Rattle.std.specs.Int.{bit_at, bit_not}
 use Rattle.regex_rules.specs.declared.linking.Linking.{Linking}
 use Rattle.regex_rules.specs.declared.takers.Takers.{Takers}
 use Rattle.regex_rules.specs.declared.positions.Positions.{Positions}
-use Rattle.regex_rules.specs.declared.place.Place.{Place}
+use Rattle.regex_rules.specs.declared.place.PatternPlace.{PatternPlace}
 use Rattle.regex_rules.specs.Trees.{Tree, places_of, tree_of}
 use Rattle.regex_rules.specs.Languages.{InLanguage, in_language}
 use Rattle.regex_rules.specs.Positions.{Has, bit_of, count, either, rows_at, Follows, Takes}
@@ -32,13 +32,13 @@ get_none zero q = refl
 get_none (suc n) zero = refl
 get_none (suc n) (suc q) = get_none n q
 
-module _ (places : List Place) (held : places_of (tree_of places) ≡ places) where
+module _ (places : List PatternPlace) (held : places_of (tree_of places) ≡ places) where
   pub count_of : ones places ≡ count (tree_of places)
   count_of = ap ones (sym held) ∙ ones_of (tree_of places)
 
   all_linked : (sets : List ℕ) → linked places (linking_at sets begun_rows [] 1) ≡ linking_at (table (tree_of places) 0 sets) (rows_of (tree_of places) 0) [] (bit_of (0 + count (tree_of places)))
   all_linked sets =
-      ap (λ (ps : List Place). linked ps (linking_at sets begun_rows [] 1)) (sym held ∙ sym (append-nil (places_of (tree_of places))))
+      ap (λ (ps : List PatternPlace). linked ps (linking_at sets begun_rows [] 1)) (sym held ∙ sym (append-nil (places_of (tree_of places))))
       ∙ ap (λ (b : ℕ). linked (places_of (tree_of places) ++ []) (linking_at sets begun_rows [] b)) (sym bit_first)
       ∙ links (tree_of places) 0 sets [] []
       ∙ none_linked (linking_at (table (tree_of places) 0 sets) (rows_of (tree_of places) 0) [] (bit_of (0 + count (tree_of places))))
@@ -49,7 +49,7 @@ module _ (places : List Place) (held : places_of (tree_of places) ≡ places) wh
       let tree = tree_of places in
       let small : 0 + count tree ≤ 64 = omega (arith, count_of, few) in
       let same : stood c places nothing_taken ≡ takers_at (takers c tree 0 0) (bit_of (0 + count tree)) =
-      ap (λ (ps : List Place). stood c ps nothing_taken) (sym held ∙ sym (append-nil (places_of tree)))
+      ap (λ (ps : List PatternPlace). stood c ps nothing_taken) (sym held ∙ sym (append-nil (places_of tree)))
       ∙ ap (λ (b : ℕ). stood c (places_of tree ++ []) (takers_at 0 b)) (sym bit_first)
       ∙ stands c tree 0 0 [] ∙ none_stood c (takers_at (takers c tree 0 0) (bit_of (0 + count tree)))
       in
@@ -79,7 +79,7 @@ module _ (places : List Place) (held : places_of (tree_of places) ≡ places) wh
         )
 
 -- the table that is made of them
-pub made : (places : List Place) (number : ℕ) (before after : Linking) (self : Positions) → number ≡ ones places → number ≤ 64 → before ≡ unlinked number
+pub made : (places : List PatternPlace) (number : ℕ) (before after : Linking) (self : Positions) → number ≡ ones places → number ≤ 64 → before ≡ unlinked number
     → after ≡ linked places before → self.whole ≡ either after.rows.earlier after.rows.row → self.follow ≡ after.follow
     → ((c : ℕ) → c < length self.listed.items → get_or self.listed.items c 0 ≡ takers_of c places) → IsTable places self
 made places number before after self counted few begins goes whole_of follow_of all =

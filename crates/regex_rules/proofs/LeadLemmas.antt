@@ -10,8 +10,8 @@ use Rattle.regex_rules.specs.declared.character.OneChar.{OneChar}
 use Rattle.regex_rules.specs.declared.character.OneChar.TheVariants.{AnyButNewline, Literal, Class}
 use Rattle.regex_rules.specs.declared.repeat.Repeat.{Repeat}
 use Rattle.regex_rules.specs.declared.repeat.Repeat.TheVariants.{Once, Optional, Any, AtLeastOnce}
-use Rattle.regex_rules.specs.declared.place.Place.{Place}
-use Rattle.regex_rules.specs.declared.place.Place.TheVariants.{One, Open, Bar, Close}
+use Rattle.regex_rules.specs.declared.place.PatternPlace.{PatternPlace}
+use Rattle.regex_rules.specs.declared.place.PatternPlace.TheVariants.{One, Open, Bar, Close}
 use Rattle.regex_rules.specs.declared.mode.Mode.{Mode}
 use Rattle.regex_rules.specs.declared.mode.Mode.TheVariants as mode
 use Rattle.regex_rules.specs.declared.reader.Reader.{Reader}
@@ -38,11 +38,11 @@ leads_on bounds at reader between next xs ys l m =
 
 -- ---- classes
 
-abbrev pub in_class_of : List Place → ℕ → Bool → List CharRange → Mode → Reader
+abbrev pub in_class_of : List PatternPlace → ℕ → Bool → List CharRange → Mode → Reader
 in_class_of places depth negated ranges place = record { places = places; depth = depth; negated = negated; ranges = ranges; mode = place }
 
 -- where a reading stands in a class with these ranges
-pub data IsPast (places : List Place) (depth : ℕ) (negated : Bool) : List CharRange → Reader → Type 0 where
+pub data IsPast (places : List PatternPlace) (depth : ℕ) (negated : Bool) : List CharRange → Reader → Type 0 where
   first : {reader : Reader} → negated ≡ false → reader ≡ in_class_of places depth false [] mode.ClassBegin → IsPast places depth negated [] reader
   after_sign : {reader : Reader} → negated ≡ true → reader ≡ in_class_of places depth true [] mode.ClassFirst → IsPast places depth negated [] reader
   single : {ranges : List CharRange} {reader : Reader} (before : List CharRange) (c place : ℕ) → ranges ≡ before ++ range c c ∷ []
@@ -53,7 +53,7 @@ unreserved_apart : (c : ℕ) → is_reserved c ≡ false → (c == 94) ≡ false
 unreserved_apart c h = grind (arith, nat_tests)
 
 -- a character may follow whatever stands there
-member_read : (bounds : Bounds) (places : List Place) (depth : ℕ) (negated : Bool) (ranges : List CharRange) (reader : Reader) (member : List ℕ) (c at : ℕ) → IsMember member c
+member_read : (bounds : Bounds) (places : List PatternPlace) (depth : ℕ) (negated : Bool) (ranges : List CharRange) (reader : Reader) (member : List ℕ) (c at : ℕ) → IsMember member c
     → IsPast places depth negated ranges reader → (place : ℕ) × Leads bounds at reader member (in_class_of places depth negated ranges (mode.Member c place))
 member_read bounds places depth negated _ reader _ c at (IsMember.itself h) (IsPast.first plain e) =
     (at, leads_one bounds at reader _ c (rw (e, plain, h, unreserved_apart c h) refl))
@@ -81,7 +81,7 @@ member_read bounds places depth negated ranges reader _ c at (IsMember.meant h) 
     (at, leads_on bounds at reader escape _ (92 ∷ []) (c ∷ []) one (leads_one bounds one.0 escape _ c (rw h refl)))
 
 -- the end of a range
-other_read : (bounds : Bounds) (places : List Place) (depth : ℕ) (negated : Bool) (ranges : List CharRange) (other : List ℕ) (c d place at : ℕ) → IsMember other d → bounds.may_span c d ≡ true
+other_read : (bounds : Bounds) (places : List PatternPlace) (depth : ℕ) (negated : Bool) (ranges : List CharRange) (other : List ℕ) (c d place at : ℕ) → IsMember other d → bounds.may_span c d ≡ true
     → Leads bounds at (in_class_of places depth negated ranges (mode.Hyphen c place)) other (in_class_of places depth negated (ranges ++ range c d ∷ []) mode.Spanned)
 other_read bounds places depth negated ranges _ c d place at (IsMember.itself h) may = leads_one bounds at _ _ d (rw (h, may) refl)
 other_read bounds places depth negated ranges _ c d place at (IsMember.meant h) may =
@@ -90,12 +90,12 @@ other_read bounds places depth negated ranges _ c d place at (IsMember.meant h) 
     leads_on bounds at _ escape _ (92 ∷ []) (d ∷ []) one (leads_one bounds one.0 escape _ d (rw (h, may) refl))
 
 -- characters and ranges, from where a class has none yet
-record Ranges (bounds : Bounds) (places : List Place) (depth : ℕ) (negated : Bool) (reader : Reader) (at : ℕ) (items : List ℕ) (ranges : List CharRange) : Type 0 where
+record Ranges (bounds : Bounds) (places : List PatternPlace) (depth : ℕ) (negated : Bool) (reader : Reader) (at : ℕ) (items : List ℕ) (ranges : List CharRange) : Type 0 where
   pub next : Reader
   pub past : IsPast places depth negated ranges next
   pub leads : Leads bounds at reader items next
 
-ranges_read : (bounds : Bounds) (places : List Place) (depth : ℕ) (negated : Bool) (reader : Reader) (at : ℕ) (items : List ℕ) (ranges : List CharRange) → IsPast places depth negated [] reader
+ranges_read : (bounds : Bounds) (places : List PatternPlace) (depth : ℕ) (negated : Bool) (reader : Reader) (at : ℕ) (items : List ℕ) (ranges : List CharRange) → IsPast places depth negated [] reader
     → AreRanges bounds items ranges → Ranges bounds places depth negated reader at items ranges
 ranges_read bounds places depth negated reader at _ _ begins AreRanges.none = record { next = reader; past = begins; leads = leads_none bounds at reader }
 ranges_read bounds places depth negated reader at _ _ begins (AreRanges.single {ranges} before member c spelled is e) =
@@ -138,10 +138,10 @@ ranges_some bounds _ _ (AreRanges.spanned {ranges} before member other c d spell
     snoc_some (y ∷ xs) x e = absurd cc
 
 -- past the `]`
-abbrev after_class : List Place → ℕ → Bool → List CharRange → Reader
+abbrev after_class : List PatternPlace → ℕ → Bool → List CharRange → Reader
 after_class places depth negated ranges = reader_in_row (places ++ One (Class (record { negated = negated; ranges = ranges })) Once ∷ []) depth
 
-tail_read : (bounds : Bounds) (places : List Place) (depth : ℕ) (negated : Bool) (ranges hyphens : List CharRange) (reader : Reader) (tail : List ℕ) (at : ℕ) → ((ranges ≡ []) → ⊥)
+tail_read : (bounds : Bounds) (places : List PatternPlace) (depth : ℕ) (negated : Bool) (ranges hyphens : List CharRange) (reader : Reader) (tail : List ℕ) (at : ℕ) → ((ranges ≡ []) → ⊥)
     → IsPast places depth negated ranges reader → IsClassTail tail hyphens → Leads bounds at reader (tail ++ 93 ∷ []) (after_class places depth negated (ranges ++ hyphens))
 tail_read bounds places depth negated _ hyphens reader tail at some (IsPast.first plain e) ends = absurd (some refl)
 tail_read bounds places depth negated _ hyphens reader tail at some (IsPast.after_sign signed e) ends = absurd (some refl)
@@ -159,12 +159,12 @@ tail_read bounds places depth negated ranges _ reader _ at some (IsPast.spanned 
     leads_on bounds at reader hyphen _ (45 ∷ []) (93 ∷ []) one (leads_one bounds one.0 hyphen _ 93 refl)
 
 -- a class begins
-record Begun (bounds : Bounds) (places : List Place) (depth : ℕ) (negated : Bool) (sign : List ℕ) (at : ℕ) : Type 0 where
+record Begun (bounds : Bounds) (places : List PatternPlace) (depth : ℕ) (negated : Bool) (sign : List ℕ) (at : ℕ) : Type 0 where
   pub next : Reader
   pub past : IsPast places depth negated [] next
   pub leads : Leads bounds at (reader_in_row places depth) (91 ∷ sign) next
 
-sign_read : (bounds : Bounds) (places : List Place) (depth : ℕ) (negated : Bool) (sign : List ℕ) (at : ℕ) → IsNegation sign negated → Begun bounds places depth negated sign at
+sign_read : (bounds : Bounds) (places : List PatternPlace) (depth : ℕ) (negated : Bool) (sign : List ℕ) (at : ℕ) → IsNegation sign negated → Begun bounds places depth negated sign at
 sign_read bounds places depth _ _ at IsNegation.these = record {
   next = in_class_of places depth false [] mode.ClassBegin;
   past = IsPast.first refl refl;
@@ -180,7 +180,7 @@ sign_read bounds places depth _ _ at IsNegation.others =
           (leads_one bounds one.0 open_ (in_class_of places depth true [] mode.ClassFirst) 94 refl);
     }
 
-class_read : (bounds : Bounds) (places : List Place) (depth : ℕ) (cs : List ℕ) (class : CharClass) (at : ℕ) → IsClass bounds cs class
+class_read : (bounds : Bounds) (places : List PatternPlace) (depth : ℕ) (cs : List ℕ) (class : CharClass) (at : ℕ) → IsClass bounds cs class
     → Leads bounds at (reader_in_row places depth) cs (reader_in_row (places ++ One (Class class) Once ∷ []) depth)
 class_read bounds places depth cs class at k =
     let b = sign_read bounds places depth class.negated k.sign at k.negation in
@@ -193,7 +193,7 @@ class_read bounds places depth cs class at k =
 
 -- ---- pieces
 
-one_read : (bounds : Bounds) (places : List Place) (depth : ℕ) (own : List ℕ) (one : OneChar) (at : ℕ) → SpellsOne bounds own one
+one_read : (bounds : Bounds) (places : List PatternPlace) (depth : ℕ) (own : List ℕ) (one : OneChar) (at : ℕ) → SpellsOne bounds own one
     → Leads bounds at (reader_in_row places depth) own (reader_in_row (places ++ One one Once ∷ []) depth)
 one_read bounds places depth _ _ at (SpellsOne.plain {c} h) = leads_one bounds at (reader_in_row places depth) (reader_in_row (places ++ One (Literal c) Once ∷ []) depth) c (rw h refl)
 one_read bounds places depth _ _ at (SpellsOne.meant {c} h) =
@@ -203,59 +203,59 @@ one_read bounds places depth _ _ at (SpellsOne.meant {c} h) =
 one_read bounds places depth _ _ at SpellsOne.dot = leads_one bounds at (reader_in_row places depth) (reader_in_row (places ++ One AnyButNewline Once ∷ []) depth) 46 refl
 one_read bounds places depth _ _ at (SpellsOne.class {cs} {class} is) = class_read bounds places depth cs class at is
 
-repeat_append : (repeat : Repeat) (places : List Place) (place after : Place) → with_repeat repeat (place ∷ []) ≡ Some (after ∷ []) → with_repeat repeat (places ++ place ∷ []) ≡ Some (places ++ after ∷ [])
+repeat_append : (repeat : Repeat) (places : List PatternPlace) (place after : PatternPlace) → with_repeat repeat (place ∷ []) ≡ Some (after ∷ []) → with_repeat repeat (places ++ place ∷ []) ≡ Some (places ++ after ∷ [])
 unfolding with_repeat
 repeat_append repeat [] place after e = e
 repeat_append repeat (p ∷ []) place after e = ap (before_place p) e
 repeat_append repeat (p ∷ q ∷ places) place after e = ap (before_place p) (repeat_append repeat (q ∷ places) place after e)
 
-pub one_again : (repeat : Repeat) (places : List Place) (one : OneChar) → with_repeat repeat (places ++ One one Once ∷ []) ≡ Some (places ++ One one repeat ∷ [])
+pub one_again : (repeat : Repeat) (places : List PatternPlace) (one : OneChar) → with_repeat repeat (places ++ One one Once ∷ []) ≡ Some (places ++ One one repeat ∷ [])
 unfolding with_repeat
 one_again repeat places one = repeat_append repeat places (One one Once) (One one repeat) refl
 
-pub close_again : (repeat : Repeat) (places : List Place) → with_repeat repeat (places ++ Close Once ∷ []) ≡ Some (places ++ Close repeat ∷ [])
+pub close_again : (repeat : Repeat) (places : List PatternPlace) → with_repeat repeat (places ++ Close Once ∷ []) ≡ Some (places ++ Close repeat ∷ [])
 unfolding with_repeat
 close_again repeat places = repeat_append repeat places (Close Once) (Close repeat) refl
 
-sign_leads : (bounds : Bounds) (places later : List Place) (depth : ℕ) (repeat : Repeat) (at : ℕ) → with_repeat repeat places ≡ Some later → (repeat ≡ Once → places ≡ later)
+sign_leads : (bounds : Bounds) (places later : List PatternPlace) (depth : ℕ) (repeat : Repeat) (at : ℕ) → with_repeat repeat places ≡ Some later → (repeat ≡ Once → places ≡ later)
     → Leads bounds at (reader_in_row places depth) (sign_of repeat) (reader_in_row later depth)
-sign_leads bounds places later depth Once at e same = subst (λ (ps : List Place). Leads bounds at (reader_in_row places depth) [] (reader_in_row ps depth)) (same refl) (leads_none bounds at (reader_in_row places depth))
+sign_leads bounds places later depth Once at e same = subst (λ (ps : List PatternPlace). Leads bounds at (reader_in_row places depth) [] (reader_in_row ps depth)) (same refl) (leads_none bounds at (reader_in_row places depth))
 sign_leads bounds places later depth Optional at e same = leads_one bounds at (reader_in_row places depth) (reader_in_row later depth) 63 (ap (row_repeated at (reader_in_row places depth)) e)
 sign_leads bounds places later depth Any at e same = leads_one bounds at (reader_in_row places depth) (reader_in_row later depth) 42 (ap (row_repeated at (reader_in_row places depth)) e)
 sign_leads bounds places later depth AtLeastOnce at e same = leads_one bounds at (reader_in_row places depth) (reader_in_row later depth) 43 (ap (row_repeated at (reader_in_row places depth)) e)
 
-one_sign : (bounds : Bounds) (places : List Place) (depth : ℕ) (one : OneChar) (repeat : Repeat) (at : ℕ)
+one_sign : (bounds : Bounds) (places : List PatternPlace) (depth : ℕ) (one : OneChar) (repeat : Repeat) (at : ℕ)
     → Leads bounds at (reader_in_row (places ++ One one Once ∷ []) depth) (sign_of repeat) (reader_in_row (places ++ One one repeat ∷ []) depth)
 one_sign bounds places depth one repeat at =
     sign_leads bounds (places ++ One one Once ∷ []) (places ++ One one repeat ∷ []) depth repeat at (one_again repeat places one) (λ (e : repeat ≡ Once). ap (λ (k : Repeat). places ++ One one k ∷ []) (sym e))
 
-close_sign : (bounds : Bounds) (places : List Place) (depth : ℕ) (repeat : Repeat) (at : ℕ) → Leads bounds at (reader_in_row (places ++ Close Once ∷ []) depth) (sign_of repeat) (reader_in_row (places ++ Close repeat ∷ []) depth)
+close_sign : (bounds : Bounds) (places : List PatternPlace) (depth : ℕ) (repeat : Repeat) (at : ℕ) → Leads bounds at (reader_in_row (places ++ Close Once ∷ []) depth) (sign_of repeat) (reader_in_row (places ++ Close repeat ∷ []) depth)
 close_sign bounds places depth repeat at =
     sign_leads bounds (places ++ Close Once ∷ []) (places ++ Close repeat ∷ []) depth repeat at (close_again repeat places) (λ (e : repeat ≡ Once). ap (λ (k : Repeat). places ++ Close k ∷ []) (sym e))
 
 -- ---- rows
 
-close_step : (bounds : Bounds) (at depth : ℕ) (places : List Place) → step bounds at 41 (reader_in_row places (depth + 1)) ≡ Ok (reader_in_row (places ++ Close Once ∷ []) depth)
+close_step : (bounds : Bounds) (at depth : ℕ) (places : List PatternPlace) → step bounds at 41 (reader_in_row places (depth + 1)) ≡ Ok (reader_in_row (places ++ Close Once ∷ []) depth)
 close_step bounds at depth places =
     let some : (depth + 1 == 0) ≡ false = grind (arith, nat_tests) in
     let back : depth + 1 - 1 ≡ depth = omega arith in
     rw (some, back) refl
 
-pub rows_read : (bounds : Bounds) (places : List Place) (depth : ℕ) (cs : List ℕ) (rows : Tree) (at : ℕ) → Spells bounds depth cs rows
+pub rows_read : (bounds : Bounds) (places : List PatternPlace) (depth : ℕ) (cs : List ℕ) (rows : Tree) (at : ℕ) → Spells bounds depth cs rows
     → Leads bounds at (reader_in_row places depth) cs (reader_in_row (places ++ places_of rows) depth)
-rows_read bounds places depth _ _ at Spells.nothing = subst (λ (ps : List Place). Leads bounds at (reader_in_row places depth) [] (reader_in_row ps depth)) (sym (append-nil places)) (leads_none bounds at (reader_in_row places depth))
+rows_read bounds places depth _ _ at Spells.nothing = subst (λ (ps : List PatternPlace). Leads bounds at (reader_in_row places depth) [] (reader_in_row ps depth)) (sym (append-nil places)) (leads_none bounds at (reader_in_row places depth))
 rows_read bounds places depth cs _ at (Spells.one {rows} {char} before own repeat spelled is e) =
-    let ps : List Place = places ++ places_of rows in
+    let ps : List PatternPlace = places ++ places_of rows in
     let r = rows_read bounds places depth before rows at spelled in
     let o = one_read bounds ps depth own char r.0 is in
     let s = one_sign bounds ps depth char repeat o.0 in
     let last : Reader = reader_in_row (ps ++ One char repeat ∷ []) depth in
     let whole = leads_on bounds at (reader_in_row places depth) (reader_in_row ps depth) last before (own ++ sign_of repeat) r (leads_on bounds r.0 (reader_in_row ps depth) (reader_in_row (ps ++ One char Once ∷ []) depth) last own (sign_of repeat) o s) in
-    subst (λ (qs : List Place). Leads bounds at (reader_in_row places depth) cs (reader_in_row qs depth)) (append_assoc places (places_of rows) (One char repeat ∷ []))
+    subst (λ (qs : List PatternPlace). Leads bounds at (reader_in_row places depth) cs (reader_in_row qs depth)) (append_assoc places (places_of rows) (One char repeat ∷ []))
     (subst (λ (l : List ℕ). Leads bounds at (reader_in_row places depth) l last) (sym e) whole)
 rows_read bounds places depth cs _ at (Spells.bracket {rows} {inner} before inside repeat spelled may within e) =
-    let ps : List Place = places ++ places_of rows in
-    let qs : List Place = ps ++ Open ∷ [] ++ places_of inner in
+    let ps : List PatternPlace = places ++ places_of rows in
+    let qs : List PatternPlace = ps ++ Open ∷ [] ++ places_of inner in
     let r = rows_read bounds places depth before rows at spelled in
     let plus : suc depth ≡ depth + 1 = omega arith in
     let o : Leads bounds r.0 (reader_in_row ps depth) (40 ∷ []) (reader_in_row (ps ++ Open ∷ []) (suc depth)) = leads_one bounds r.0 (reader_in_row ps depth) (reader_in_row (ps ++ Open ∷ []) (suc depth)) 40 (rw (may, plus) refl) in
@@ -271,28 +271,28 @@ rows_read bounds places depth cs _ at (Spells.bracket {rows} {inner} before insi
     append_assoc (ps ++ Open ∷ []) (places_of inner) (Close repeat ∷ []) ∙ append_assoc ps (Open ∷ []) (places_of inner ++ Close repeat ∷ [])
     ∙ append_assoc places (places_of rows) (Open ∷ places_of inner ++ (Close repeat ∷ []))
     in
-    subst (λ (us : List Place). Leads bounds at (reader_in_row places depth) cs (reader_in_row us depth)) same
+    subst (λ (us : List PatternPlace). Leads bounds at (reader_in_row places depth) cs (reader_in_row us depth)) same
     (subst (λ (l : List ℕ). Leads bounds at (reader_in_row places depth) l last) (sym e) whole)
 rows_read bounds places depth cs _ at (Spells.bar {rows} before spelled e) =
-    let ps : List Place = places ++ places_of rows in
+    let ps : List PatternPlace = places ++ places_of rows in
     let r = rows_read bounds places depth before rows at spelled in
     let last : Reader = reader_in_row (ps ++ Bar ∷ []) depth in
     let whole = leads_on bounds at (reader_in_row places depth) (reader_in_row ps depth) last before (124 ∷ []) r (leads_one bounds r.0 (reader_in_row ps depth) last 124 refl) in
-    subst (λ (qs : List Place). Leads bounds at (reader_in_row places depth) cs (reader_in_row qs depth)) (append_assoc places (places_of rows) (Bar ∷ []))
+    subst (λ (qs : List PatternPlace). Leads bounds at (reader_in_row places depth) cs (reader_in_row qs depth)) (append_assoc places (places_of rows) (Bar ∷ []))
     (subst (λ (l : List ℕ). Leads bounds at (reader_in_row places depth) l last) (sym e) whole)
 
 -- ---- whole texts
 
-end_read : (bounds : Bounds) (places : List Place) (end : List ℕ) (at : ℕ) → IsAnchor 36 end → read_from bounds at (reader_in_row places 0) end ≡ Ok places
+end_read : (bounds : Bounds) (places : List PatternPlace) (end : List ℕ) (at : ℕ) → IsAnchor 36 end → read_from bounds at (reader_in_row places 0) end ≡ Ok places
 unfolding read_from
 end_read bounds places _ at IsAnchor.absent = refl
 end_read bounds places _ at IsAnchor.present = refl
 
-fault_is_none : (fault : PatternFault) (places : List Place) → Err fault ≡ Ok places → ⊥
+fault_is_none : (fault : PatternFault) (places : List PatternPlace) → Err fault ≡ Ok places → ⊥
 fault_is_none fault places e = absurd cc
 
 -- a text that doesn't begin with `^`
-begin_read : (bounds : Bounds) (cs : List ℕ) (places : List Place) → read_from bounds 0 (reader_in_row [] 0) cs ≡ Ok places → read_from bounds 0 unread cs ≡ Ok places
+begin_read : (bounds : Bounds) (cs : List ℕ) (places : List PatternPlace) → read_from bounds 0 (reader_in_row [] 0) cs ≡ Ok places → read_from bounds 0 unread cs ≡ Ok places
 unfolding read_from
 begin_read bounds [] places e = e
 begin_read bounds (c ∷ cs) places e = go (c == 94) refl
@@ -305,7 +305,7 @@ begin_read bounds (c ∷ cs) places e = go (c == 94) refl
         let same : step bounds 0 c unread ≡ step bounds 0 c (reader_in_row [] 0) = rw not refl in
         ap (λ (s : Step). then_read (λ r. read_from bounds (0 + length (encode_utf8 c)) r cs) s) same ∙ e
 
-anchored_read : (bounds : Bounds) (begin cs : List ℕ) (places : List Place) → IsAnchor 94 begin → ((at : ℕ) → read_from bounds at (reader_in_row [] 0) cs ≡ Ok places) → read_from bounds 0 unread (begin ++ cs) ≡ Ok places
+anchored_read : (bounds : Bounds) (begin cs : List ℕ) (places : List PatternPlace) → IsAnchor 94 begin → ((at : ℕ) → read_from bounds at (reader_in_row [] 0) cs ≡ Ok places) → read_from bounds 0 unread (begin ++ cs) ≡ Ok places
 unfolding read_from
 anchored_read bounds _ cs places IsAnchor.absent f = begin_read bounds cs places (f 0)
 anchored_read bounds _ cs places IsAnchor.present f = f (0 + length (encode_utf8 94))

@@ -7,8 +7,8 @@ use Rattle.regex_rules.specs.declared.linking.Rows.{Rows}
 use Rattle.regex_rules.specs.declared.linking.Linking.{Linking}
 use Rattle.regex_rules.specs.declared.takers.Takers.{Takers}
 use Rattle.regex_rules.specs.declared.repeat.Repeat.{Repeat}
-use Rattle.regex_rules.specs.declared.place.Place.{Place}
-use Rattle.regex_rules.specs.declared.place.Place.TheVariants.{One, Open, Bar, Close}
+use Rattle.regex_rules.specs.declared.place.PatternPlace.{PatternPlace}
+use Rattle.regex_rules.specs.declared.place.PatternPlace.TheVariants.{One, Open, Bar, Close}
 use Rattle.regex_rules.specs.Trees.{Tree, Empty, Char, Bracket, Or, places_of}
 use Rattle.regex_rules.specs.Languages.{is_one, may_go_on, Last, Earlier}
 use Rattle.regex_rules.specs.Positions.{Has, bit_of, count, one_at, row_at, rows_at, Joins, Follows, Takes}
@@ -25,7 +25,7 @@ bit_after n = omega (arith, pow-suc 2 n)
 
 -- ---- the steps of the functions
 
-pub one_linked : (place : Place) (places : List Place) (self : Linking) → linked (place ∷ places) self ≡ linked places (past place self)
+pub one_linked : (place : PatternPlace) (places : List PatternPlace) (self : Linking) → linked (place ∷ places) self ≡ linked places (past place self)
 unfolding linked
 one_linked place places self = refl
 
@@ -33,7 +33,7 @@ pub none_linked : (self : Linking) → linked [] self ≡ self
 unfolding linked
 none_linked self = refl
 
-pub one_stood : (c : ℕ) (place : Place) (places : List Place) (self : Takers) → stood c (place ∷ places) self ≡ stood c places (stand c place self)
+pub one_stood : (c : ℕ) (place : PatternPlace) (places : List PatternPlace) (self : Takers) → stood c (place ∷ places) self ≡ stood c places (stand c place self)
 unfolding stood
 one_stood c place places self = refl
 
@@ -53,48 +53,48 @@ table (Or rows) n sets = table rows n sets
 abbrev pub rows_of : Tree → ℕ → Rows
 rows_of tree n = record { earlier = row_at Earlier tree n; row = row_at Last tree n }
 
-pub links : (tree : Tree) (n : ℕ) (sets : List ℕ) (places : List Place) (around : List Rows)
+pub links : (tree : Tree) (n : ℕ) (sets : List ℕ) (places : List PatternPlace) (around : List Rows)
     → linked (places_of tree ++ places) (linking_at sets begun_rows around (bit_of n)) ≡ linked places (linking_at (table tree n sets) (rows_of tree n) around (bit_of (n + count tree)))
 links Empty n sets places around = ap (λ (m : ℕ). linked places (linking_at sets begun_rows around (bit_of m))) (sym (add-zero n))
 links (Char rows one repeat) n sets places around =
     let m = n + count rows in
     let same : suc m ≡ n + suc (count rows) = omega arith in
     let bit : next_bit (bit_of m) ≡ bit_of (n + suc (count rows)) = bit_after m ∙ ap bit_of same in
-    ap (λ (ps : List Place). linked ps (linking_at sets begun_rows around (bit_of n))) (append_assoc (places_of rows) (One one repeat ∷ []) places)
+    ap (λ (ps : List PatternPlace). linked ps (linking_at sets begun_rows around (bit_of n))) (append_assoc (places_of rows) (One one repeat ∷ []) places)
     ∙ links rows n sets (One one repeat ∷ places) around
     ∙ one_linked (One one repeat) places (linking_at (table rows n sets) (rows_of rows n) around (bit_of m))
     ∙ ap (λ (b : ℕ). linked places (linking_at (table (Char rows one repeat) n sets) (rows_of (Char rows one repeat) n) around b)) bit
 links (Bracket rows inner repeat) n sets places around =
     let m = n + count rows in
     let sum : m + count inner ≡ n + (count rows + count inner) = omega arith in
-    ap (λ (ps : List Place). linked ps (linking_at sets begun_rows around (bit_of n)))
-    (append_assoc (places_of rows) (Open ∷ places_of inner ++ (Close repeat ∷ [])) places ∙ ap (λ (ps : List Place). places_of rows ++ (Open ∷ ps)) (append_assoc (places_of inner) (Close repeat ∷ []) places))
+    ap (λ (ps : List PatternPlace). linked ps (linking_at sets begun_rows around (bit_of n)))
+    (append_assoc (places_of rows) (Open ∷ places_of inner ++ (Close repeat ∷ [])) places ∙ ap (λ (ps : List PatternPlace). places_of rows ++ (Open ∷ ps)) (append_assoc (places_of inner) (Close repeat ∷ []) places))
     ∙ links rows n sets (Open ∷ (places_of inner ++ (Close repeat ∷ places))) around
     ∙ one_linked Open (places_of inner ++ (Close repeat ∷ places)) (linking_at (table rows n sets) (rows_of rows n) around (bit_of m))
     ∙ links inner m (table rows n sets) (Close repeat ∷ places) (rows_of rows n ∷ around)
     ∙ one_linked (Close repeat) places (linking_at (table inner m (table rows n sets)) (rows_of inner m) (rows_of rows n ∷ around) (bit_of (m + count inner)))
     ∙ ap (λ (k : ℕ). linked places (linking_at (table (Bracket rows inner repeat) n sets) (rows_of (Bracket rows inner repeat) n) around (bit_of k))) sum
 links (Or rows) n sets places around =
-    ap (λ (ps : List Place). linked ps (linking_at sets begun_rows around (bit_of n))) (append_assoc (places_of rows) (Bar ∷ []) places)
+    ap (λ (ps : List PatternPlace). linked ps (linking_at sets begun_rows around (bit_of n))) (append_assoc (places_of rows) (Bar ∷ []) places)
     ∙ links rows n sets (Bar ∷ places) around
     ∙ one_linked Bar places (linking_at (table rows n sets) (rows_of rows n) around (bit_of (n + count rows)))
 
 -- one place further, where the places come from a list
-pub linked_on : (places : List Place) (i : ℕ) (place : Place) (self next whole : Linking) → i < length places → place ≡ get_or places i place → next ≡ past place self
+pub linked_on : (places : List PatternPlace) (i : ℕ) (place : PatternPlace) (self next whole : Linking) → i < length places → place ≡ get_or places i place → next ≡ past place self
     → linked (drop i places) self ≡ whole → linked (drop (i + 1) places) next ≡ whole
 linked_on places i place self next whole lt e f h =
-    ap (linked (drop (i + 1) places)) f ∙ sym (ap (λ (ps : List Place). linked ps self) (item_at places i place place lt e) ∙ one_linked place (drop (i + 1) places) self) ∙ h
+    ap (linked (drop (i + 1) places)) f ∙ sym (ap (λ (ps : List PatternPlace). linked ps self) (item_at places i place place lt e) ∙ one_linked place (drop (i + 1) places) self) ∙ h
 
-pub linked_over : (places : List Place) (i : ℕ) (self : Linking) → length places ≤ i → linked (drop i places) self ≡ self
-linked_over places i self le = ap (λ (ps : List Place). linked ps self) (drop_past places i le) ∙ none_linked self
+pub linked_over : (places : List PatternPlace) (i : ℕ) (self : Linking) → length places ≤ i → linked (drop i places) self ≡ self
+linked_over places i self le = ap (λ (ps : List PatternPlace). linked ps self) (drop_past places i le) ∙ none_linked self
 
-pub stood_on : (c : ℕ) (places : List Place) (i : ℕ) (place : Place) (self next whole : Takers) → i < length places → place ≡ get_or places i place → next ≡ stand c place self
+pub stood_on : (c : ℕ) (places : List PatternPlace) (i : ℕ) (place : PatternPlace) (self next whole : Takers) → i < length places → place ≡ get_or places i place → next ≡ stand c place self
     → stood c (drop i places) self ≡ whole → stood c (drop (i + 1) places) next ≡ whole
 stood_on c places i place self next whole lt e f h =
-    ap (stood c (drop (i + 1) places)) f ∙ sym (ap (λ (ps : List Place). stood c ps self) (item_at places i place place lt e) ∙ one_stood c place (drop (i + 1) places) self) ∙ h
+    ap (stood c (drop (i + 1) places)) f ∙ sym (ap (λ (ps : List PatternPlace). stood c ps self) (item_at places i place place lt e) ∙ one_stood c place (drop (i + 1) places) self) ∙ h
 
-pub stood_over : (c : ℕ) (places : List Place) (i : ℕ) (self : Takers) → length places ≤ i → stood c (drop i places) self ≡ self
-stood_over c places i self le = ap (λ (ps : List Place). stood c ps self) (drop_past places i le) ∙ none_stood c self
+pub stood_over : (c : ℕ) (places : List PatternPlace) (i : ℕ) (self : Takers) → length places ≤ i → stood c (drop i places) self ≡ self
+stood_over c places i self le = ap (λ (ps : List PatternPlace). stood c ps self) (drop_past places i le) ∙ none_stood c self
 
 -- one set further, where sets are joined one by one
 pub link_on : (sets : List ℕ) (i left next v : ℕ) (whole : List ℕ) → i < length sets → v ≡ (if left % 2 == 1 then bit_or (get_or sets i 0) next else get_or sets i 0)
@@ -225,28 +225,28 @@ takers c (Or rows) n set = takers c rows n set
 abbrev pub takers_at : ℕ → ℕ → Takers
 takers_at set bit = record { set = set; bit = bit }
 
-pub stands : (c : ℕ) (tree : Tree) (n set : ℕ) (places : List Place) → stood c (places_of tree ++ places) (takers_at set (bit_of n)) ≡ stood c places (takers_at (takers c tree n set) (bit_of (n + count tree)))
+pub stands : (c : ℕ) (tree : Tree) (n set : ℕ) (places : List PatternPlace) → stood c (places_of tree ++ places) (takers_at set (bit_of n)) ≡ stood c places (takers_at (takers c tree n set) (bit_of (n + count tree)))
 stands c Empty n set places = ap (λ (m : ℕ). stood c places (takers_at set (bit_of m))) (sym (add-zero n))
 stands c (Char rows one repeat) n set places =
     let m = n + count rows in
     let same : suc m ≡ n + suc (count rows) = omega arith in
     let bit : next_bit (bit_of m) ≡ bit_of (n + suc (count rows)) = bit_after m ∙ ap bit_of same in
-    ap (λ (ps : List Place). stood c ps (takers_at set (bit_of n))) (append_assoc (places_of rows) (One one repeat ∷ []) places)
+    ap (λ (ps : List PatternPlace). stood c ps (takers_at set (bit_of n))) (append_assoc (places_of rows) (One one repeat ∷ []) places)
     ∙ stands c rows n set (One one repeat ∷ places)
     ∙ one_stood c (One one repeat) places (takers_at (takers c rows n set) (bit_of m))
     ∙ ap (λ (b : ℕ). stood c places (takers_at (takers c (Char rows one repeat) n set) b)) bit
 stands c (Bracket rows inner repeat) n set places =
     let m = n + count rows in
     let sum : m + count inner ≡ n + (count rows + count inner) = omega arith in
-    ap (λ (ps : List Place). stood c ps (takers_at set (bit_of n)))
-    (append_assoc (places_of rows) (Open ∷ places_of inner ++ (Close repeat ∷ [])) places ∙ ap (λ (ps : List Place). places_of rows ++ (Open ∷ ps)) (append_assoc (places_of inner) (Close repeat ∷ []) places))
+    ap (λ (ps : List PatternPlace). stood c ps (takers_at set (bit_of n)))
+    (append_assoc (places_of rows) (Open ∷ places_of inner ++ (Close repeat ∷ [])) places ∙ ap (λ (ps : List PatternPlace). places_of rows ++ (Open ∷ ps)) (append_assoc (places_of inner) (Close repeat ∷ []) places))
     ∙ stands c rows n set (Open ∷ (places_of inner ++ (Close repeat ∷ places)))
     ∙ one_stood c Open (places_of inner ++ (Close repeat ∷ places)) (takers_at (takers c rows n set) (bit_of m))
     ∙ stands c inner m (takers c rows n set) (Close repeat ∷ places)
     ∙ one_stood c (Close repeat) places (takers_at (takers c inner m (takers c rows n set)) (bit_of (m + count inner)))
     ∙ ap (λ (k : ℕ). stood c places (takers_at (takers c inner m (takers c rows n set)) (bit_of k))) sum
 stands c (Or rows) n set places =
-    ap (λ (ps : List Place). stood c ps (takers_at set (bit_of n))) (append_assoc (places_of rows) (Bar ∷ []) places)
+    ap (λ (ps : List PatternPlace). stood c ps (takers_at set (bit_of n))) (append_assoc (places_of rows) (Bar ∷ []) places)
     ∙ stands c rows n set (Bar ∷ places)
     ∙ one_stood c Bar places (takers_at (takers c rows n set) (bit_of (n + count rows)))
 
@@ -268,7 +268,7 @@ takers_say c (Or rows) n set p small = takers_say c rows n set p small
 
 -- ---- how many characters
 
-ones_more : (xs ys : List Place) → ones (xs ++ ys) ≡ ones xs + ones ys
+ones_more : (xs ys : List PatternPlace) → ones (xs ++ ys) ≡ ones xs + ones ys
 ones_more [] ys = omega arith
 ones_more (One one repeat ∷ xs) ys = let ih = ones_more xs ys in omega (arith, ih)
 ones_more (Open ∷ xs) ys = ones_more xs ys
@@ -286,13 +286,13 @@ ones_of (Bracket rows inner repeat) =
     omega (arith, more, inside, left, right)
 ones_of (Or rows) = let ih = ones_of rows in let more = ones_more (places_of rows) (Bar ∷ []) in omega (arith, ih, more)
 
-pub count_on : (places : List Place) (i count v whole : ℕ) (place : Place) → i < length places → place ≡ get_or places i place → v ≡ ones (place ∷ [])
+pub count_on : (places : List PatternPlace) (i count v whole : ℕ) (place : PatternPlace) → i < length places → place ≡ get_or places i place → v ≡ ones (place ∷ [])
     → count + ones (drop i places) ≡ whole → count + v + ones (drop (i + 1) places) ≡ whole
 count_on places i count v whole place lt e f h =
     let parts : ones (drop i places) ≡ ones (place ∷ []) + ones (drop (i + 1) places) = ap ones (item_at places i place place lt e) ∙ ones_more (place ∷ []) (drop (i + 1) places) in
     omega (arith, parts, f, h)
 
-pub count_over : (places : List Place) (i count whole : ℕ) → length places ≤ i → count + ones (drop i places) ≡ whole → count ≡ whole
+pub count_over : (places : List PatternPlace) (i count whole : ℕ) → length places ≤ i → count + ones (drop i places) ≡ whole → count ≡ whole
 count_over places i count whole le h = let none : ones (drop i places) ≡ 0 = ap ones (drop_past places i le) in omega (arith, none, h)
 
 -- a list of answers with one more

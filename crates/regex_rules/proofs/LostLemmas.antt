@@ -2,8 +2,8 @@
 use Rattle.std.proofs.Common.{◌≡◌, ℕ, Bool, true, false, ◌&&◌, ◌||◌, List, [], ◌∷◌, refl, ap, sym, ◌∙◌, subst}
 use Rattle.std.specs.Prelude.{set, replicate, length, IfOk, Result, Ok, Err, ⊤}
 use Rattle.std.proofs.lemmas.Bool.{and_right, or_from, true≢false}
-use Rattle.regex_rules.specs.declared.place.Place.{Place}
-use Rattle.regex_rules.specs.declared.place.Place.TheVariants.{One, Open, Bar, Close}
+use Rattle.regex_rules.specs.declared.place.PatternPlace.{PatternPlace}
+use Rattle.regex_rules.specs.declared.place.PatternPlace.TheVariants.{One, Open, Bar, Close}
 use Rattle.regex_rules.specs.declared.level.Level.{Level}
 use Rattle.regex_rules.specs.declared.level.Frame.{Frame}
 use Rattle.regex_rules.specs.declared.walk.Walk.{Walk}
@@ -56,7 +56,7 @@ still_past level lacks arrives s e = record {
   earlier = s.earlier;
 }
 
-lost_place : (c : ℕ) (place : Place) (level : Level) (around : List Frame) (marks : List Bool) → Lost level around marks → IsLost (past_place c place false (at level around marks))
+lost_place : (c : ℕ) (place : PatternPlace) (level : Level) (around : List Frame) (marks : List Bool) → Lost level around marks → IsLost (past_place c place false (at level around marks))
 lost_place c (One one repeat) level around marks lost =
     let none = none_takes level.here (may_go_on repeat) (is_one one c) lost.still.here in
     record { still = still_past level (may_lack repeat) ((level.here || (may_go_on repeat && false)) && is_one one c) lost.still none; all = lost.all; off = off_append marks ((level.here || (may_go_on repeat && false)) && is_one one c) lost.off none }
@@ -80,7 +80,7 @@ lost_place c (Close repeat) level (frame ∷ around) marks lost =
           (off_set marks frame.slot (may_go_on repeat && (level.earlier_arrives || level.arrives)) lost.off (and_right (may_go_on repeat) (level.earlier_arrives || level.arrives) none)) none;
     }
 
-lost_walked : (c : ℕ) (places : List Place) (olds : List Bool) (walk : Walk) → AreOff olds → IsLost walk → IsLost (walked c places olds walk)
+lost_walked : (c : ℕ) (places : List PatternPlace) (olds : List Bool) (walk : Walk) → AreOff olds → IsLost walk → IsLost (walked c places olds walk)
 unfolding walked
 lost_walked c [] olds walk off lost = lost
 lost_walked c (place ∷ places) [] walk off lost = lost
@@ -88,12 +88,12 @@ lost_walked c (place ∷ places) (old ∷ olds) walk off lost =
     lost_walked c places olds (past_place c place old walk) off.1
     (subst (λ (b : Bool). IsLost (past_place c place b walk)) (sym off.0) (lost_place c place walk.level walk.around walk.marks lost))
 
-lost_step : (c : ℕ) (places : List Place) (olds : List Bool) → AreOff olds → IsLost (walked c places olds (at (begun false) [] []))
+lost_step : (c : ℕ) (places : List PatternPlace) (olds : List Bool) → AreOff olds → IsLost (walked c places olds (at (begun false) [] []))
 lost_step c places olds off = lost_walked c places olds (at (begun false) [] []) off (record { still = still_begun false refl; all = tt; off = tt })
 
 -- ---- the rest of the text
 
-pub lost_matched : (places : List Place) (olds : List Bool) (answer : Bool) (text rest : List ℕ) (c : ℕ) → places_of (tree_of places) ≡ places → AreOff olds
+pub lost_matched : (places : List PatternPlace) (olds : List Bool) (answer : Bool) (text rest : List ℕ) (c : ℕ) → places_of (tree_of places) ≡ places → AreOff olds
     → Matched places olds answer false text (c ∷ rest) → InLanguage (tree_of places) text → ⊥
 lost_matched places olds answer text [] c held off m inside =
     let walk = walked c places olds (at (begun false) [] []) in
@@ -105,14 +105,14 @@ lost_matched places olds answer text (d ∷ rest) c held off m inside =
     lost_matched places walk.marks (walk_answer walk) text rest d held (lost_step c places olds off).off (more_matched places olds answer false text (d ∷ rest) c held m) inside
 
 -- the same where the rest begins with a character
-pub none_goes_on : (places : List Place) (olds : List Bool) (answer : Bool) (text rest later : List ℕ) (c : ℕ) → places_of (tree_of places) ≡ places → AreOff olds
+pub none_goes_on : (places : List PatternPlace) (olds : List Bool) (answer : Bool) (text rest later : List ℕ) (c : ℕ) → places_of (tree_of places) ≡ places → AreOff olds
     → Matched places olds answer false text rest → rest ≡ c ∷ later → Says false (InLanguage (tree_of places) text)
 none_goes_on places olds answer text rest later c held off m is =
     says_false (lost_matched places olds answer text later c held off (subst (λ (l : List ℕ). Matched places olds answer false text l) is m))
 
 -- ---- the beginning
 
-pub nothing_matched : {E : Type 0} (places : List Place) (olds : List Bool) (text : List ℕ) (result : Result Bool E) → places_of (tree_of places) ≡ places → olds ≡ replicate (length places) false → text ≡ []
+pub nothing_matched : {E : Type 0} (places : List PatternPlace) (olds : List Bool) (text : List ℕ) (result : Result Bool E) → places_of (tree_of places) ≡ places → olds ≡ replicate (length places) false → text ≡ []
     → IfOk result (λ answer. answer ≡ takes_nothing (walked 0 places olds (at (begun true) [] []))) → IfOk result (λ answer. Says answer (InLanguage (tree_of places) text))
 nothing_matched places olds text (Ok answer) held off none is =
     let walk = walked 0 places (replicate (length places) false) (at (begun true) [] []) in
@@ -122,7 +122,7 @@ nothing_matched places olds text (Ok answer) held off none is =
     (end_matched places (replicate (length places) false) (takes_nothing walk) true text (subst (λ (l : List ℕ). Matched places (replicate (length places) false) (takes_nothing walk) true text l) none m))
 nothing_matched places olds text (Err e) held off none is = tt
 
-pub begins_with : (places : List Place) (olds news : List Bool) (answer : Bool) (text rest : List ℕ) (c : ℕ) → places_of (tree_of places) ≡ places → olds ≡ replicate (length places) false → text ≡ c ∷ rest
+pub begins_with : (places : List PatternPlace) (olds news : List Bool) (answer : Bool) (text rest : List ℕ) (c : ℕ) → places_of (tree_of places) ≡ places → olds ≡ replicate (length places) false → text ≡ c ∷ rest
     → news ≡ (walked c places olds (at (begun true) [] [])).marks → answer ≡ walk_answer (walked c places olds (at (begun true) [] [])) → Matched places news answer false text rest
 begins_with places olds news answer text rest c held off some marks is =
     let none = replicate (length places) false in

@@ -4,8 +4,8 @@ use Rattle.std.specs.Prelude.{set}
 use Rattle.std.proofs.lemmas.List.{append-nil, set_at}
 use Rattle.regex_rules.specs.declared.character.OneChar.{OneChar}
 use Rattle.regex_rules.specs.declared.repeat.Repeat.{Repeat}
-use Rattle.regex_rules.specs.declared.place.Place.{Place}
-use Rattle.regex_rules.specs.declared.place.Place.TheVariants.{One, Open, Bar, Close}
+use Rattle.regex_rules.specs.declared.place.PatternPlace.{PatternPlace}
+use Rattle.regex_rules.specs.declared.place.PatternPlace.TheVariants.{One, Open, Bar, Close}
 use Rattle.regex_rules.specs.declared.level.Level.{Level}
 use Rattle.regex_rules.specs.declared.level.Frame.{Frame}
 use Rattle.regex_rules.specs.Trees.{Tree, Empty, Char, Bracket, Or, places_of}
@@ -45,7 +45,7 @@ pub record Steps (P : Texts) (rows : Tree) (w : List ℕ) (c : ℕ) (enters : Bo
   pub news : List Bool
   pub knows : Knows P rows w c level
   pub right : Right P rows news (w ++ c ∷ [])
-  pub walks : (places : List Place) (later : List Bool) (around : List Frame) (marks : List Bool)
+  pub walks : (places : List PatternPlace) (later : List Bool) (around : List Frame) (marks : List Bool)
       → walked c (places_of rows ++ places) (olds ++ later) (at (begun enters) around marks) ≡ walked c places later (at level around (marks ++ news))
 
 -- ---- one more piece
@@ -125,7 +125,7 @@ over_char P rows one repeat w c enters mark before olds s says e =
       right = (s.news, takes, s.right, arrives, refl);
       walks = λ places later around marks.
           ap (λ (o : List Bool). walked c (places_of rows ++ One one repeat ∷ [] ++ places) (o ++ later) (at (begun enters) around marks)) e
-          ∙ ap (λ (ps : List Place). walked c ps (before ++ mark ∷ [] ++ later) (at (begun enters) around marks)) (append_assoc (places_of rows) (One one repeat ∷ []) places)
+          ∙ ap (λ (ps : List PatternPlace). walked c ps (before ++ mark ∷ [] ++ later) (at (begun enters) around marks)) (append_assoc (places_of rows) (One one repeat ∷ []) places)
           ∙ ap (λ (o : List Bool). walked c (places_of rows ++ (One one repeat ∷ places)) o (at (begun enters) around marks)) (append_assoc before (mark ∷ []) later)
           ∙ s.walks (One one repeat ∷ places) (mark ∷ later) around marks
           ∙ one_walked c (One one repeat) places mark later (at s.level around (marks ++ s.news))
@@ -148,7 +148,7 @@ over_bar P rows w c enters mark before olds s e = record {
   right = (s.news, false, s.right, refl);
   walks = λ places later around marks.
       ap (λ (o : List Bool). walked c (places_of rows ++ Bar ∷ [] ++ places) (o ++ later) (at (begun enters) around marks)) e
-      ∙ ap (λ (ps : List Place). walked c ps (before ++ mark ∷ [] ++ later) (at (begun enters) around marks)) (append_assoc (places_of rows) (Bar ∷ []) places)
+      ∙ ap (λ (ps : List PatternPlace). walked c ps (before ++ mark ∷ [] ++ later) (at (begun enters) around marks)) (append_assoc (places_of rows) (Bar ∷ []) places)
       ∙ ap (λ (o : List Bool). walked c (places_of rows ++ (Bar ∷ places)) o (at (begun enters) around marks)) (append_assoc before (mark ∷ []) later)
       ∙ s.walks (Bar ∷ places) (mark ∷ later) around marks
       ∙ one_walked c Bar places mark later (at s.level around (marks ++ s.news))
@@ -198,7 +198,7 @@ over_bracket P rows inner repeat w c enters again mark before insides olds s say
       right = (s.news, may_go_on repeat && arrives, t.news, arrives, s.right, says_and (may_go_on repeat) arrives (says_itself (may_go_on repeat)) says_arrives, t.right, says_arrives, refl);
       walks = λ places later around marks.
           ap (λ (o : List Bool). walked c (places_of rows ++ (Open ∷ places_of inner ++ (Close repeat ∷ [])) ++ places) (o ++ later) (at (begun enters) around marks)) e
-          ∙ ap (λ (ps : List Place). walked c ps (before ++ (again ∷ insides ++ (mark ∷ [])) ++ later) (at (begun enters) around marks)) (inside_assoc (places_of rows) (places_of inner) places Open (Close repeat))
+          ∙ ap (λ (ps : List PatternPlace). walked c ps (before ++ (again ∷ insides ++ (mark ∷ [])) ++ later) (at (begun enters) around marks)) (inside_assoc (places_of rows) (places_of inner) places Open (Close repeat))
           ∙ ap (λ (o : List Bool). walked c (places_of rows ++ (Open ∷ (places_of inner ++ (Close repeat ∷ places)))) o (at (begun enters) around marks)) (inside_assoc before insides later again mark)
           ∙ s.walks (Open ∷ (places_of inner ++ (Close repeat ∷ places))) (again ∷ (insides ++ (mark ∷ later))) around marks
           ∙ one_walked c Open (places_of inner ++ (Close repeat ∷ places)) again (insides ++ (mark ∷ later)) (at s.level around (marks ++ s.news))

@@ -2,8 +2,8 @@
 use Rattle.std.proofs.Common.{◌≡◌, ◌↔◌, ℕ, Bool, true, false, ◌||◌, List, [], ◌∷◌, ◌++◌, length, refl, ap, sym, ◌∙◌, subst, append_assoc}
 use Rattle.std.specs.Prelude.{replicate}
 use Rattle.std.proofs.lemmas.List.{append-nil}
-use Rattle.regex_rules.specs.declared.place.Place.{Place}
-use Rattle.regex_rules.specs.declared.place.Place.TheVariants.{One, Open, Bar, Close}
+use Rattle.regex_rules.specs.declared.place.PatternPlace.{PatternPlace}
+use Rattle.regex_rules.specs.declared.place.PatternPlace.TheVariants.{One, Open, Bar, Close}
 use Rattle.regex_rules.specs.declared.walk.Walk.{Walk}
 use Rattle.regex_rules.specs.Trees.{Tree, Empty, Char, Bracket, Or, places_of, tree_of}
 use Rattle.regex_rules.specs.Languages.{Texts, InRow, Last, Earlier, InLanguage}
@@ -14,11 +14,11 @@ use Rattle.regex_rules.proofs.MarkLemmas.{Right, Steps, steps}
 
 -- ---- before the first character nothing is marked
 
-abbrev falses : List Place → List Bool
+abbrev falses : List PatternPlace → List Bool
 falses [] = []
 falses (place ∷ places) = false ∷ falses places
 
-falses_append : (ps qs : List Place) → falses (ps ++ qs) ≡ falses ps ++ falses qs
+falses_append : (ps qs : List PatternPlace) → falses (ps ++ qs) ≡ falses ps ++ falses qs
 falses_append [] qs = refl
 falses_append (p ∷ ps) qs = ap (λ (l : List Bool). false ∷ l) (falses_append ps qs)
 
@@ -38,14 +38,14 @@ none_right (Bracket rows inner repeat) P = (
 )
 none_right (Or rows) P = (falses (places_of rows), false, none_right rows P, falses_append (places_of rows) (Bar ∷ []))
 
-falses_are : (places : List Place) → falses places ≡ replicate (length places) false
+falses_are : (places : List PatternPlace) → falses places ≡ replicate (length places) false
 falses_are [] = refl
 falses_are (place ∷ places) = ap (λ (l : List Bool). false ∷ l) (falses_are places)
 
 -- ---- between two characters
 
 -- the characters read so far, with the marks of the places, the answer for them, and whether there are none yet
-pub record Matched (places : List Place) (olds : List Bool) (answer enters : Bool) (text rest : List ℕ) : Type 0 where
+pub record Matched (places : List PatternPlace) (olds : List Bool) (answer enters : Bool) (text rest : List ℕ) : Type 0 where
   pub w : List ℕ
   pub parts : text ≡ w ++ rest
   pub right : Right Whole (tree_of places) olds w
@@ -56,7 +56,7 @@ pub record Matched (places : List Place) (olds : List Bool) (answer enters : Boo
 whole_walk : (tree : Tree) (w : List ℕ) (c : ℕ) (enters : Bool) (olds : List Bool) (s : Steps Whole tree w c enters olds)
     → walked c (places_of tree) olds (at (begun enters) [] []) ≡ at s.level [] s.news
 whole_walk tree w c enters olds s =
-    ap (λ (ps : List Place). walked c ps olds (at (begun enters) [] [])) (sym (append-nil (places_of tree)))
+    ap (λ (ps : List PatternPlace). walked c ps olds (at (begun enters) [] [])) (sym (append-nil (places_of tree)))
     ∙ ap (λ (o : List Bool). walked c (places_of tree ++ []) o (at (begun enters) [] [])) (sym (append-nil olds))
     ∙ s.walks [] [] [] [] ∙ no_places c [] (at s.level [] s.news)
 
@@ -69,7 +69,7 @@ reaches_whole L v some = (there, λ l. ([], v, refl, l, some, refl))
 pub snoc_is_some : (w : List ℕ) (c : ℕ) → (w ++ c ∷ [] ≡ []) → ⊥
 snoc_is_some w c e = cons_is_some c [] (ends_empty w (c ∷ []) (sym e)).1
 
-pub begin_matched : (places : List Place) (text : List ℕ) → places_of (tree_of places) ≡ places
+pub begin_matched : (places : List PatternPlace) (text : List ℕ) → places_of (tree_of places) ≡ places
     → Matched places (replicate (length places) false) (takes_nothing (walked 0 places (replicate (length places) false) (at (begun true) [] []))) true text text
 begin_matched places text held =
     let tree = tree_of places in
@@ -78,7 +78,7 @@ begin_matched places text held =
     let begins : Says true (Whole []) = (λ e. refl, λ e. refl) in
     let s = steps tree Whole [] 0 true olds right begins in
     let same : walked 0 places olds (at (begun true) [] []) ≡ at s.level [] s.news =
-    ap (λ (ps : List Place). walked 0 ps olds (at (begun true) [] [])) (sym held) ∙ whole_walk tree [] 0 true olds s
+    ap (λ (ps : List PatternPlace). walked 0 ps olds (at (begun true) [] [])) (sym held) ∙ whole_walk tree [] 0 true olds s
     in
     record {
       w = [];
@@ -88,7 +88,7 @@ begin_matched places text held =
       begins = begins;
     }
 
-pub more_matched : (places : List Place) (olds : List Bool) (answer enters : Bool) (text rest : List ℕ) (c : ℕ) → places_of (tree_of places) ≡ places
+pub more_matched : (places : List PatternPlace) (olds : List Bool) (answer enters : Bool) (text rest : List ℕ) (c : ℕ) → places_of (tree_of places) ≡ places
     → Matched places olds answer enters text (c ∷ rest)
     → Matched places (walked c places olds (at (begun enters) [] [])).marks (walk_answer (walked c places olds (at (begun enters) [] []))) false text rest
 more_matched places olds answer enters text rest c held m =
@@ -96,7 +96,7 @@ more_matched places olds answer enters text rest c held m =
     let v : List ℕ = m.w ++ c ∷ [] in
     let s = steps tree Whole m.w c enters olds m.right m.begins in
     let same : walked c places olds (at (begun enters) [] []) ≡ at s.level [] s.news =
-    ap (λ (ps : List Place). walked c ps olds (at (begun enters) [] [])) (sym held) ∙ whole_walk tree m.w c enters olds s
+    ap (λ (ps : List PatternPlace). walked c ps olds (at (begun enters) [] [])) (sym held) ∙ whole_walk tree m.w c enters olds s
     in
     let answers : Says (s.level.earlier_arrives || s.level.arrives) (InLanguage tree v) =
     says_iff _ (says_iff _ (says_or s.level.earlier_arrives s.level.arrives s.knows.earlier_arrives s.knows.arrives) (reach_or Whole (InRow Earlier tree) (InRow Last tree) v))
@@ -110,5 +110,5 @@ more_matched places olds answer enters text rest c held m =
       begins = says_false (snoc_is_some m.w c);
     }
 
-pub end_matched : (places : List Place) (olds : List Bool) (answer enters : Bool) (text : List ℕ) → Matched places olds answer enters text [] → Says answer (InLanguage (tree_of places) text)
+pub end_matched : (places : List PatternPlace) (olds : List Bool) (answer enters : Bool) (text : List ℕ) → Matched places olds answer enters text [] → Says answer (InLanguage (tree_of places) text)
 end_matched places olds answer enters text m = subst (λ (l : List ℕ). Says answer (InLanguage (tree_of places) l)) (sym (m.parts ∙ append-nil m.w)) m.answers

@@ -8,8 +8,8 @@ use Rattle.regex_rules.specs.declared.character.CharClass.{CharClass}
 use Rattle.regex_rules.specs.declared.character.OneChar.TheVariants.{AnyButNewline, Literal, Class}
 use Rattle.regex_rules.specs.declared.repeat.Repeat.{Repeat}
 use Rattle.regex_rules.specs.declared.repeat.Repeat.TheVariants.{Once, Optional, Any, AtLeastOnce}
-use Rattle.regex_rules.specs.declared.place.Place.{Place}
-use Rattle.regex_rules.specs.declared.place.Place.TheVariants.{One, Open, Bar, Close}
+use Rattle.regex_rules.specs.declared.place.PatternPlace.{PatternPlace}
+use Rattle.regex_rules.specs.declared.place.PatternPlace.TheVariants.{One, Open, Bar, Close}
 use Rattle.regex_rules.specs.declared.mode.Mode.{Mode}
 use Rattle.regex_rules.specs.declared.mode.Mode.TheVariants as mode
 use Rattle.regex_rules.specs.declared.reader.Reader.{Reader}
@@ -26,7 +26,7 @@ by_if P false x y f g = g refl
 -- ---- what is held in each mode
 
 -- a class with these ranges so far
-pub record HoldsClass (bounds : Bounds) (cs : List ℕ) (places : List Place) (depth : ℕ) (negated : Bool) (ranges : List CharRange) : Type 0 where
+pub record HoldsClass (bounds : Bounds) (cs : List ℕ) (places : List PatternPlace) (depth : ℕ) (negated : Bool) (ranges : List CharRange) : Type 0 where
   pub before : List ℕ
   pub sign : List ℕ
   pub items : List ℕ
@@ -36,7 +36,7 @@ pub record HoldsClass (bounds : Bounds) (cs : List ℕ) (places : List Place) (d
   pub parts : cs ≡ before ++ (91 ∷ sign ++ items)
 
 -- with at least one
-pub record HoldsSome (bounds : Bounds) (cs : List ℕ) (places : List Place) (depth : ℕ) (negated : Bool) (ranges : List CharRange) : Type 0 where
+pub record HoldsSome (bounds : Bounds) (cs : List ℕ) (places : List PatternPlace) (depth : ℕ) (negated : Bool) (ranges : List CharRange) : Type 0 where
   pub class : HoldsClass bounds cs places depth negated ranges
   pub some : (class.items ≡ []) → ⊥
 
@@ -73,11 +73,11 @@ Sound bounds cs c (Err fault) = Unit {0}
 
 -- ---- rows
 
-pub begin_row : (bounds : Bounds) (cs : List ℕ) (places : List Place) (depth : ℕ) → cs ≡ [] → places ≡ [] → depth ≡ 0 → HoldsRow bounds cs places depth
+pub begin_row : (bounds : Bounds) (cs : List ℕ) (places : List PatternPlace) (depth : ℕ) → cs ≡ [] → places ≡ [] → depth ≡ 0 → HoldsRow bounds cs places depth
 begin_row bounds cs places depth e f g = rw (e, f, g) (row_begins bounds [] IsAnchor.absent)
 
 -- at a character that is known
-at_char : (bounds : Bounds) (cs : List ℕ) (places : List Place) (depth c k : ℕ) → (c == k) ≡ true → HoldsRow bounds (cs ++ k ∷ []) places depth → HoldsRow bounds (cs ++ c ∷ []) places depth
+at_char : (bounds : Bounds) (cs : List ℕ) (places : List PatternPlace) (depth c k : ℕ) → (c == k) ≡ true → HoldsRow bounds (cs ++ k ∷ []) places depth → HoldsRow bounds (cs ++ c ∷ []) places depth
 at_char bounds cs places depth c k e h = subst (λ (d : ℕ). HoldsRow bounds (cs ++ d ∷ []) places depth) (sym (eqb-true c k e)) h
 
 snoc_at : (cs : List ℕ) (c k : ℕ) → (c == k) ≡ true → cs ++ c ∷ [] ≡ cs ++ k ∷ []
@@ -87,7 +87,7 @@ repeat_sound : (bounds : Bounds) (cs : List ℕ) (c at k : ℕ) (r : Reader) (re
     → Sound bounds cs c (row_repeated at r (with_repeat repeat r.places))
 repeat_sound bounds cs c at k r repeat e sign row = go (with_repeat repeat r.places) refl
   where
-    go : (o : Option (List Place)) → with_repeat repeat r.places ≡ o → Sound bounds cs c (row_repeated at r o)
+    go : (o : Option (List PatternPlace)) → with_repeat repeat r.places ≡ o → Sound bounds cs c (row_repeated at r o)
     go None f = tt
     go (Some later) f =
         at_char bounds cs later r.depth c k e (subst (λ (l : List ℕ). HoldsRow bounds (cs ++ l) later r.depth) sign (row_again bounds cs r.places later r.depth repeat row f))

@@ -1,12 +1,12 @@
 -- Which tree a text spells, as an answer: the law `a_text_spells_the_tree_it_is_read_as` says that it is the grammar's.
 use Rattle.std.specs.Prelude.{ℕ, List, Option, Some, None, Result, Ok, Err}
 use Rattle.regex_rules.specs.declared.fault.PatternFault.{PatternFault}
-use Rattle.regex_rules.specs.declared.place.Place.{Place}
+use Rattle.regex_rules.specs.declared.place.PatternPlace.{PatternPlace}
 use Rattle.regex_rules.specs.Trees.{Tree, tree_of}
 use Rattle.regex_rules.specs.Spelling.{strict}
 use Rattle.regex_rules.specs.Reading.{read_from, unread}
 
-abbrev pub tree_if_read : Result (List Place) PatternFault → Option Tree
+abbrev pub tree_if_read : Result (List PatternPlace) PatternFault → Option Tree
 tree_if_read (Ok places) = Some (tree_of places)
 tree_if_read (Err fault) = None
 

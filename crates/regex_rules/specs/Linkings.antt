@@ -7,8 +7,8 @@ use Rattle.regex_rules.specs.declared.linking.Linking.{Linking}
 use Rattle.regex_rules.specs.declared.takers.Takers.{Takers}
 use Rattle.regex_rules.specs.declared.positions.Positions.{Positions}
 use Rattle.regex_rules.specs.declared.repeat.Repeat.{Repeat}
-use Rattle.regex_rules.specs.declared.place.Place.{Place}
-use Rattle.regex_rules.specs.declared.place.Place.TheVariants.{One, Open, Bar, Close}
+use Rattle.regex_rules.specs.declared.place.PatternPlace.{PatternPlace}
+use Rattle.regex_rules.specs.declared.place.PatternPlace.TheVariants.{One, Open, Bar, Close}
 use Rattle.regex_rules.specs.Languages.{is_one, may_go_on}
 use Rattle.regex_rules.specs.Positions.{piece_of, empty_row, no_rows, either, followed, so_often}
 
@@ -52,14 +52,14 @@ abbrev pub linked_past_bar : Linking → Linking
 linked_past_bar self = linking_at self.follow (record { earlier = either self.rows.earlier self.rows.row; row = empty_row }) self.around self.bit
 
 -- past one place
-abbrev pub past : Place → Linking → Linking
+abbrev pub past : PatternPlace → Linking → Linking
 past (One one repeat) self = linked_past_one repeat self
 past Open self = linking_at self.follow begun_rows (self.rows ∷ self.around) self.bit
 past Bar self = linked_past_bar self
 past (Close repeat) self = closed repeat self self.around
 
 -- past all these places
-unfoldable pub linked : List Place → Linking → Linking
+unfoldable pub linked : List PatternPlace → Linking → Linking
 linked [] self = self
 linked (place ∷ places) self = linked places (past place self)
 
@@ -68,11 +68,11 @@ linked (place ∷ places) self = linked places (past place self)
 abbrev pub one_stand : Bool → Takers → Takers
 one_stand fits self = record { set = if fits then bit_or self.set self.bit else self.set; bit = next_bit self.bit }
 
-abbrev pub stand : ℕ → Place → Takers → Takers
+abbrev pub stand : ℕ → PatternPlace → Takers → Takers
 stand c (One one repeat) self = one_stand (is_one one c) self
 stand c _ self = self
 
-unfoldable pub stood : ℕ → List Place → Takers → Takers
+unfoldable pub stood : ℕ → List PatternPlace → Takers → Takers
 stood c [] self = self
 stood c (place ∷ places) self = stood c places (stand c place self)
 
@@ -80,13 +80,13 @@ abbrev pub nothing_taken : Takers
 nothing_taken = record { set = 0; bit = 1 }
 
 -- the characters of the pattern with these places that take this one
-abbrev pub takers_of : ℕ → List Place → ℕ
+abbrev pub takers_of : ℕ → List PatternPlace → ℕ
 takers_of c places = (stood c places nothing_taken).set
 
 -- ---- of a whole pattern
 
 -- how many characters places have
-abbrev pub ones : List Place → ℕ
+abbrev pub ones : List PatternPlace → ℕ
 ones [] = 0
 ones (One one repeat ∷ places) = 1 + ones places
 ones (_ ∷ places) = ones places
@@ -96,7 +96,7 @@ abbrev pub unlinked : ℕ → Linking
 unlinked number = linking_at (replicate number 0) begun_rows [] 1
 
 -- The table of a pattern with these places, which has at most 64 characters.
-pub record IsTable (places : List Place) (table : Positions) : Type 0 where
+pub record IsTable (places : List PatternPlace) (table : Positions) : Type 0 where
   pub few : ones places ≤ 64
   pub whole : table.whole ≡ either (linked places (unlinked (ones places))).rows.earlier (linked places (unlinked (ones places))).rows.row
   pub follow : table.follow ≡ (linked places (unlinked (ones places))).follow

@@ -1,13 +1,13 @@
 -- What the functions that read promise one another: a pattern is read a character at a time.
--- A reader of which texts spell which pattern needs none of it: `pattern_of` gives a text the places of the tree that the grammar does (law `the_reading_is_the_grammar`).
+-- A reader of which texts spell which pattern needs none of it: `pattern_of` gives a text the places of the tree that the grammar does (law `the_pattern_reading_is_the_grammar`).
 use Rattle.std.specs.Prelude.{ℕ, Bool, true, false, ◌==◌, ◌+◌, ◌-◌, if◌then◌else◌, List, [], ◌∷◌, ◌++◌, Option, Some, None, Result, Ok, Err, length, encode_utf8}
 use Rattle.std.specs.Str.{chars}
 use Rattle.regex_rules.specs.declared.character.CharRange.{CharRange}
 use Rattle.regex_rules.specs.declared.character.OneChar.TheVariants.{AnyButNewline, Literal, Class}
 use Rattle.regex_rules.specs.declared.repeat.Repeat.{Repeat}
 use Rattle.regex_rules.specs.declared.repeat.Repeat.TheVariants.{Once, Optional, Any, AtLeastOnce}
-use Rattle.regex_rules.specs.declared.place.Place.{Place}
-use Rattle.regex_rules.specs.declared.place.Place.TheVariants.{One, Open, Bar, Close}
+use Rattle.regex_rules.specs.declared.place.PatternPlace.{PatternPlace}
+use Rattle.regex_rules.specs.declared.place.PatternPlace.TheVariants.{One, Open, Bar, Close}
 use Rattle.regex_rules.specs.declared.mode.Mode.{Mode}
 use Rattle.regex_rules.specs.declared.mode.Mode.TheVariants as mode
 use Rattle.regex_rules.specs.declared.reader.Reader.{Reader}
@@ -16,21 +16,21 @@ use Rattle.regex_rules.specs.declared.fault.PatternFault.TheVariants.{BadPattern
 use Rattle.regex_rules.specs.Spelling.{Bounds, range, is_special, is_meant, is_reserved, strict}
 
 -- a place whose piece stands once, with how often it does
-abbrev pub repeated_place : Repeat → Place → Option Place
+abbrev pub repeated_place : Repeat → PatternPlace → Option PatternPlace
 repeated_place repeat (One one Once) = Some (One one repeat)
 repeated_place repeat (Close Once) = Some (Close repeat)
 repeated_place repeat place = None
 
-abbrev pub then_place : List Place → Option Place → Option (List Place)
+abbrev pub then_place : List PatternPlace → Option PatternPlace → Option (List PatternPlace)
 then_place places None = None
 then_place places (Some place) = Some (places ++ place ∷ [])
 
-abbrev pub before_place : Place → Option (List Place) → Option (List Place)
+abbrev pub before_place : PatternPlace → Option (List PatternPlace) → Option (List PatternPlace)
 before_place place None = None
 before_place place (Some places) = Some (place ∷ places)
 
 -- places with how often the last piece stands, if there is one that stands once
-unfoldable pub with_repeat : Repeat → List Place → Option (List Place)
+unfoldable pub with_repeat : Repeat → List PatternPlace → Option (List PatternPlace)
 with_repeat repeat [] = None
 with_repeat repeat (place ∷ []) = then_place [] (repeated_place repeat place)
 with_repeat repeat (place ∷ next ∷ places) = before_place place (with_repeat repeat (next ∷ places))
@@ -40,7 +40,7 @@ abbrev pub Step : Type 0
 Step = Result Reader PatternFault
 
 -- among the pieces of a row within so many brackets
-abbrev pub reader_in_row : List Place → ℕ → Reader
+abbrev pub reader_in_row : List PatternPlace → ℕ → Reader
 reader_in_row places depth = record { places = places; depth = depth; negated = false; ranges = []; mode = mode.Row }
 
 abbrev pub reader_in_class : Reader → Bool → List CharRange → Mode → Reader
@@ -49,13 +49,13 @@ reader_in_class reader negated ranges place = record { places = reader.places; d
 abbrev pub in_mode : Reader → Mode → Reader
 in_mode reader place = record { places = reader.places; depth = reader.depth; negated = reader.negated; ranges = reader.ranges; mode = place }
 
-abbrev pub at_places : Reader → List Place → ℕ → Reader
+abbrev pub at_places : Reader → List PatternPlace → ℕ → Reader
 at_places reader places depth = record { places = places; depth = depth; negated = reader.negated; ranges = reader.ranges; mode = mode.Row }
 
-abbrev pub with_place : Reader → Place → Reader
+abbrev pub with_place : Reader → PatternPlace → Reader
 with_place reader place = at_places reader (reader.places ++ place ∷ []) reader.depth
 
-abbrev pub row_repeated : ℕ → Reader → Option (List Place) → Step
+abbrev pub row_repeated : ℕ → Reader → Option (List PatternPlace) → Step
 row_repeated at reader None = Err (BadPattern at)
 row_repeated at reader (Some places) = Ok (at_places reader places reader.depth)
 
@@ -158,15 +158,15 @@ may_end mode.Row = true
 may_end mode.End = true
 may_end other = false
 
-abbrev pub finished : ℕ → Reader → Result (List Place) PatternFault
+abbrev pub finished : ℕ → Reader → Result (List PatternPlace) PatternFault
 finished at reader = if may_end reader.mode then (if reader.depth == 0 then Ok reader.places else Err (BadPattern at)) else Err (BadPattern at)
 
-abbrev pub then_read : (Reader → Result (List Place) PatternFault) → Step → Result (List Place) PatternFault
+abbrev pub then_read : (Reader → Result (List PatternPlace) PatternFault) → Step → Result (List PatternPlace) PatternFault
 then_read more (Ok reader) = more reader
 then_read more (Err fault) = Err fault
 
 -- the characters from a place on
-unfoldable pub read_from : Bounds → ℕ → Reader → List ℕ → Result (List Place) PatternFault
+unfoldable pub read_from : Bounds → ℕ → Reader → List ℕ → Result (List PatternPlace) PatternFault
 read_from bounds at reader [] = finished at reader
 read_from bounds at reader (c ∷ cs) = then_read (λ next. read_from bounds (at + length (encode_utf8 c)) next cs) (step bounds at c reader)
 
@@ -175,5 +175,5 @@ abbrev pub unread : Reader
 unread = record { places = []; depth = 0; negated = false; ranges = []; mode = mode.Begin }
 
 -- the places of the pattern that a text spells, or why it spells none
-unfoldable pub pattern_of : List ℕ → Result (List Place) PatternFault
+unfoldable pub pattern_of : List ℕ → Result (List PatternPlace) PatternFault
 pattern_of text = read_from strict 0 unread (chars text)

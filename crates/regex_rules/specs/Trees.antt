@@ -2,8 +2,8 @@
 use Rattle.std.specs.Prelude.{List, [], ◌∷◌, ◌++◌}
 use Rattle.regex_rules.specs.declared.character.OneChar.{OneChar}
 use Rattle.regex_rules.specs.declared.repeat.Repeat.{Repeat}
-use Rattle.regex_rules.specs.declared.place.Place.{Place}
-use Rattle.regex_rules.specs.declared.place.Place.TheVariants.{One, Open, Bar, Close}
+use Rattle.regex_rules.specs.declared.place.PatternPlace.{PatternPlace}
+use Rattle.regex_rules.specs.declared.place.PatternPlace.TheVariants.{One, Open, Bar, Close}
 
 -- Rows, of which the last may go on.
 pub data Tree : Type 0 where
@@ -17,14 +17,14 @@ pub data Tree : Type 0 where
   Or : Tree → Tree
 
 -- The places of a tree, in the order of its text: that is how a pattern holds it.
-abbrev pub places_of : Tree → List Place
+abbrev pub places_of : Tree → List PatternPlace
 places_of Empty = []
 places_of (Char rows one repeat) = places_of rows ++ One one repeat ∷ []
 places_of (Bracket rows inner repeat) = places_of rows ++ (Open ∷ places_of inner ++ (Close repeat ∷ []))
 places_of (Or rows) = places_of rows ++ Bar ∷ []
 
 -- the tree within the innermost open bracket, and those around it, with one more place
-abbrev pub grown : Place → List Tree → List Tree
+abbrev pub grown : PatternPlace → List Tree → List Tree
 grown place [] = []
 grown (One one repeat) (rows ∷ around) = Char rows one repeat ∷ around
 grown Open (rows ∷ around) = Empty ∷ rows ∷ around
@@ -33,7 +33,7 @@ grown (Close repeat) (inner ∷ []) = inner ∷ []
 grown (Close repeat) (inner ∷ rows ∷ around) = Bracket rows inner repeat ∷ around
 
 -- the trees with these places more
-abbrev pub grown_all : List Place → List Tree → List Tree
+abbrev pub grown_all : List PatternPlace → List Tree → List Tree
 grown_all [] trees = trees
 grown_all (place ∷ places) trees = grown_all places (grown place trees)
 
@@ -42,5 +42,5 @@ innermost [] = Empty
 innermost (rows ∷ around) = rows
 
 -- the tree of places
-abbrev pub tree_of : List Place → Tree
+abbrev pub tree_of : List PatternPlace → Tree
 tree_of places = innermost (grown_all places (Empty ∷ []))

@@ -2,8 +2,8 @@
 -- A reader of what a pattern matches needs none of it.
 use Rattle.std.specs.Prelude.{ℕ, Bool, true, false, ◌&&◌, ◌||◌, List, [], ◌∷◌, ◌++◌, length, set}
 use Rattle.regex_rules.specs.declared.repeat.Repeat.{Repeat}
-use Rattle.regex_rules.specs.declared.place.Place.{Place}
-use Rattle.regex_rules.specs.declared.place.Place.TheVariants.{One, Open, Bar, Close}
+use Rattle.regex_rules.specs.declared.place.PatternPlace.{PatternPlace}
+use Rattle.regex_rules.specs.declared.place.PatternPlace.TheVariants.{One, Open, Bar, Close}
 use Rattle.regex_rules.specs.declared.level.Level.{Level}
 use Rattle.regex_rules.specs.declared.level.Frame.{Frame}
 use Rattle.regex_rules.specs.declared.walk.Walk.{Walk}
@@ -71,14 +71,14 @@ abbrev pub past_close : Repeat → Bool → Walk → Walk
 past_close repeat old walk = past_close_to walk.around repeat old walk
 
 -- one place further, by its old mark
-abbrev pub past_place : ℕ → Place → Bool → Walk → Walk
+abbrev pub past_place : ℕ → PatternPlace → Bool → Walk → Walk
 past_place c (One one repeat) old walk = past_one (is_one one c) repeat old walk
 past_place c Open old walk = past_open old walk
 past_place c Bar old walk = past_bar walk
 past_place c (Close repeat) old walk = past_close repeat old walk
 
 -- past all these places, by their old marks
-unfoldable pub walked : ℕ → List Place → List Bool → Walk → Walk
+unfoldable pub walked : ℕ → List PatternPlace → List Bool → Walk → Walk
 walked c [] olds walk = walk
 walked c (place ∷ places) [] walk = walk
 walked c (place ∷ places) (old ∷ olds) walk = walked c places olds (past_place c place old walk)

@@ -6,7 +6,7 @@ ghost use Rattle.regex_rules.specs.declared.mode.Mode.TheVariants as modes;
 
 use crate::mode::Mode;
 use crate::reader::Reader;
-use crate::{CharClass, CharRange, OneChar, PatternFault, Place, Repeat};
+use crate::{CharClass, CharRange, OneChar, PatternFault, PatternPlace, Repeat};
 use sp_base::Items;
 use std::alloc::Global;
 use std::mem;
@@ -33,7 +33,7 @@ impl Reader {
         let ranges = mem::replace(&mut self.ranges, Items::new(alloc));
         let negated = self.negated;
         self.negated = false;
-        self.push(Place::One(OneChar::Class(CharClass { negated, ranges }), Repeat::Once))
+        self.push(PatternPlace::One(OneChar::Class(CharClass { negated, ranges }), Repeat::Once))
     }
 
     pub(crate) fn class_first(&mut self, at: usize, c: char) -> Result<(), PatternFault>

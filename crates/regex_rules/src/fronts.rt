@@ -4,7 +4,7 @@ ghost use Rattle.std.specs.Prelude.{◌≡◌, ◌&&◌, IfOk, Some, cond, nat_l
 ghost use Rattle.regex_rules.specs.Trees.{tree_of, places_of};
 ghost use Rattle.regex_rules.specs.Fronts.{IsLastFront, may_cut};
 
-use crate::Place;
+use crate::PatternPlace;
 use crate::chars::first_char;
 use crate::matching::Sets;
 use sp_base::Mem;
@@ -14,7 +14,7 @@ use std::alloc::Global;
 /// the places at which it may be cut.
 pub(crate) fn last_front(
     alloc: Global,
-    places: &[Place],
+    places: &[PatternPlace],
     text: &str,
     from: usize,
 ) -> Mem<Option<usize>>

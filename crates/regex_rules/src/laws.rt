@@ -9,7 +9,7 @@ ghost use Rattle.regex_rules.specs.Languages.{InLanguage, in_language};
 ghost use Rattle.regex_rules.specs.Positions.{IsWay, count};
 ghost use Rattle.regex_rules.specs.Reading.{pattern_of};
 ghost use Rattle.regex_rules.specs.declared.fault.PatternFault.{PatternFault};
-ghost use Rattle.regex_rules.specs.declared.place.Place.{Place};
+ghost use Rattle.regex_rules.specs.declared.place.PatternPlace.{PatternPlace};
 
 /// A text spells one tree at most, and one that spells none has a fault.
 pub fn a_text_and_its_tree()
@@ -24,8 +24,8 @@ pub fn a_text_spells_the_tree_it_is_read_as()
 
 /// The reading from left to right is the grammar: a text is read as the places of a tree exactly where it spells that tree, and the
 /// fault of one that is refused is a fault of it.
-pub fn the_reading_is_the_grammar()
-    ensures found { (text : List ℕ) (places : List Place) → pattern_of text ≡ Ok places → IsPattern (chars text) (tree_of places) }
+pub fn the_pattern_reading_is_the_grammar()
+    ensures found { (text : List ℕ) (places : List PatternPlace) → pattern_of text ≡ Ok places → IsPattern (chars text) (tree_of places) }
     ensures only { (text : List ℕ) (tree : Tree) → IsPattern (chars text) tree → pattern_of text ≡ Ok (places_of tree) }
     ensures fault { (text : List ℕ) (fault : PatternFault) → pattern_of text ≡ Err fault → IsFault fault (chars text) }
 {}

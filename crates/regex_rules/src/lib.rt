@@ -28,9 +28,9 @@ mod walk;
 pub use character::{CharClass, CharRange, OneChar};
 pub use fault::PatternFault;
 pub use laws::{
-    a_text_and_its_tree, a_text_spells_the_tree_it_is_read_as, the_reading_is_the_grammar,
+    a_text_and_its_tree, a_text_spells_the_tree_it_is_read_as, the_pattern_reading_is_the_grammar,
     the_test_is_the_language, the_ways_are_the_language,
 };
 pub use pattern::Pattern;
-pub use place::Place;
+pub use place::PatternPlace;
 pub use repeat::Repeat;

@@ -5,7 +5,7 @@ ghost use Rattle.regex_rules.specs.Linkings as spec;
 
 use crate::follow_table::FollowTable;
 use crate::open_rows::OpenRows;
-use crate::{Place, Repeat};
+use crate::{PatternPlace, Repeat};
 use sp_base::Mem;
 use std::alloc::Global;
 
@@ -168,20 +168,20 @@ impl Linking {
         self.add(piece, repeat);
     }
 
-    fn pass(&mut self, place: &Place) -> Mem<()>
+    fn pass(&mut self, place: &PatternPlace) -> Mem<()>
         ensures { OnOk result (self.new ≡ spec.past place.now self.old) }
     {
         match place {
-            Place::One(_, repeat) => self.pass_one(*repeat),
-            Place::Open => self.pass_open()?,
-            Place::Bar => self.pass_bar(),
-            Place::Close(repeat) => self.pass_close(*repeat),
+            PatternPlace::One(_, repeat) => self.pass_one(*repeat),
+            PatternPlace::Open => self.pass_open()?,
+            PatternPlace::Bar => self.pass_bar(),
+            PatternPlace::Close(repeat) => self.pass_close(*repeat),
         }
         Ok(())
     }
 
     /// Goes over all these places.
-    pub(crate) fn go(&mut self, places: &[Place]) -> Mem<()>
+    pub(crate) fn go(&mut self, places: &[PatternPlace]) -> Mem<()>
         ensures { OnOk result (self.new ≡ spec.linked places.now self.old) }
     {
         let mut at = 0;

@@ -8,7 +8,7 @@ ghost use Rattle.regex_rules.specs.Languages.{InLanguage};
 ghost use Rattle.regex_rules.specs.Off.{AreOff};
 ghost use Rattle.regex_rules.specs.Walks as spec;
 
-use crate::Place;
+use crate::PatternPlace;
 use crate::chars::first_char;
 use crate::frames::Frames;
 use crate::marks::Marks;
@@ -39,7 +39,7 @@ impl Sets {
     }
 
     // Whether some row may take nothing.
-    pub(crate) fn take_nothing(&mut self, places: &[Place]) -> Mem<bool>
+    pub(crate) fn take_nothing(&mut self, places: &[PatternPlace]) -> Mem<bool>
         ensures answer { IfOk result (λ answer. answer ≡ spec.takes_nothing (spec.walked 0 places.now self.old.olds (spec.at (spec.begun true) [] []))) }
         ensures same { OnOk result (self.new.olds ≡ self.old.olds) }
     {
@@ -48,7 +48,7 @@ impl Sets {
     }
 
     // Takes one more character of the text: whether the text is now at the end of a row.
-    pub(crate) fn take(&mut self, c: char, places: &[Place], enters: bool) -> Mem<bool>
+    pub(crate) fn take(&mut self, c: char, places: &[PatternPlace], enters: bool) -> Mem<bool>
         ensures answer { IfOk result (λ answer. answer ≡ spec.walk_answer (spec.walked c places.now self.old.olds (spec.at (spec.begun enters) [] []))) }
         ensures marks { OnOk result (self.new.olds ≡ (spec.walked c places.now self.old.olds (spec.at (spec.begun enters) [] [])).marks) }
     {
@@ -67,7 +67,7 @@ impl Sets {
 
 /// Whether the whole text is in the language of the pattern with these places.
 #[tactic(auto, using(crate::proofs::MatchLemmas::more_matched, crate::proofs::MatchLemmas::end_matched))]
-pub(crate) fn is_match(alloc: Global, places: &[Place], text: &str) -> Mem<bool>
+pub(crate) fn is_match(alloc: Global, places: &[PatternPlace], text: &str) -> Mem<bool>
     requires { places_of (tree_of places.now) ≡ places.now }
     ensures { IfOk result (λ answer. IsTrue answer ↔ InLanguage (tree_of places.now) (chars text.now)) }
 {

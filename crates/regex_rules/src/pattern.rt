@@ -13,7 +13,7 @@ use crate::fronts::last_front;
 use crate::matching::is_match;
 use crate::positions::Positions;
 use crate::read::read_places;
-use crate::{PatternFault, Place};
+use crate::{PatternFault, PatternPlace};
 use sp_base::Mem;
 use std::alloc::Global;
 use std::marker::Model;
@@ -21,7 +21,7 @@ use std::marker::Model;
 /// A regular expression for whole texts. Contracts see its places, and speak of their tree.
 #[derive(Drop)]
 pub struct Pattern {
-    pub(crate) places: Vec<Place>,
+    pub(crate) places: Vec<PatternPlace>,
     // Where the pattern has at most 64 characters.
     positions: Option<Positions>,
 }
@@ -30,9 +30,9 @@ impl Model for Pattern {
     ghost use Rattle.std.specs.Prelude.{◌≡◌, List, IfSome};
     ghost use Rattle.regex_rules.specs.Trees.{tree_of, places_of};
     ghost use Rattle.regex_rules.specs.Linkings.{IsTable};
-    ghost use Rattle.regex_rules.specs.declared.place.Place.{Place};
+    ghost use Rattle.regex_rules.specs.declared.place.PatternPlace.{PatternPlace};
 
-    ghost Value = { List Place };
+    ghost Value = { List PatternPlace };
 
     ghost view = { λ p. p.places.items };
 
@@ -42,7 +42,7 @@ impl Model for Pattern {
 // Whether a text is in the language of the pattern with these places, by its sets of characters where it has them.
 fn is_matched(
     alloc: Global,
-    places: &[Place],
+    places: &[PatternPlace],
     positions: &Option<Positions>,
     text: &str,
 ) -> Mem<bool>

@@ -3,7 +3,7 @@ use crate::{OneChar, Repeat};
 
 /// A place of a pattern: what stands there.
 #[derive(Drop)]
-pub enum Place {
+pub enum PatternPlace {
     /// One character, and how often.
     One(OneChar, Repeat),
     /// `(`

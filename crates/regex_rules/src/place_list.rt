@@ -2,7 +2,7 @@
 ghost use Rattle.std.specs.Prelude.{◌≡◌, [], ◌∷◌, ◌++◌, OnOk, IfOk, Some, None, if◌then◌else◌, MatchOption};
 ghost use Rattle.regex_rules.specs.Reading.{repeated_place, with_repeat};
 
-use crate::{Place, Repeat};
+use crate::{PatternPlace, Repeat};
 use sp_base::Mem;
 use std::alloc::Global;
 use std::marker::Model;
@@ -10,25 +10,25 @@ use std::marker::Model;
 /// The places of a pattern, in the order of its text.
 #[derive(Drop)]
 pub(crate) struct PlaceList {
-    places: Vec<Place>,
+    places: Vec<PatternPlace>,
 }
 
 impl Model for PlaceList {
     ghost use Rattle.std.specs.Prelude.{List};
-    ghost use Rattle.regex_rules.specs.declared.place.Place.{Place};
+    ghost use Rattle.regex_rules.specs.declared.place.PatternPlace.{PatternPlace};
 
-    ghost Value = { List Place };
+    ghost Value = { List PatternPlace };
 
     ghost view = { λ l. l.places.items };
 }
 
 // A place whose piece stands once, with how often it does.
-fn repeated(place: Place, repeat: Repeat) -> Option<Place>
+fn repeated(place: PatternPlace, repeat: Repeat) -> Option<PatternPlace>
     ensures { result ≡ repeated_place repeat place }
 {
     match place {
-        Place::One(one, Repeat::Once) => Some(Place::One(one, repeat)),
-        Place::Close(Repeat::Once) => Some(Place::Close(repeat)),
+        PatternPlace::One(one, Repeat::Once) => Some(PatternPlace::One(one, repeat)),
+        PatternPlace::Close(Repeat::Once) => Some(PatternPlace::Close(repeat)),
         _ => None,
     }
 }
@@ -42,14 +42,14 @@ impl PlaceList {
         }
     }
 
-    pub(crate) fn push(&mut self, place: Place) -> Mem<()>
+    pub(crate) fn push(&mut self, place: PatternPlace) -> Mem<()>
         ensures { OnOk result (self.new ≡ self.old ++ place ∷ []) }
     {
         self.places.push(place)?;
         Ok(())
     }
 
-    fn pop(&mut self) -> Option<Place>
+    fn pop(&mut self) -> Option<PatternPlace>
         ensures { MatchOption result ((self.old ≡ []) × (self.new ≡ [])) (λ place. self.old ≡ self.new ++ place ∷ []) }
     {
         self.places.pop()
@@ -70,7 +70,7 @@ impl PlaceList {
         Ok(true)
     }
 
-    pub(crate) fn into_places(self) -> Vec<Place>
+    pub(crate) fn into_places(self) -> Vec<PatternPlace>
         ensures { result.items ≡ self }
     {
         self.places

@@ -6,7 +6,7 @@ ghost use Rattle.regex_rules.specs.Trees.{tree_of, places_of};
 ghost use Rattle.regex_rules.specs.Languages.{InLanguage};
 ghost use Rattle.regex_rules.specs.Linkings as spec;
 
-use crate::Place;
+use crate::PatternPlace;
 use crate::chars::first_char;
 use crate::follow_table::FollowTable;
 use crate::linking::{Linking, Piece};
@@ -28,7 +28,7 @@ pub(crate) struct Positions {
 
 impl Positions {
     /// The characters of the pattern with these places, where they aren't more than 64.
-    pub(crate) fn of(alloc: Global, places: &[Place]) -> Mem<Option<Positions>>
+    pub(crate) fn of(alloc: Global, places: &[PatternPlace]) -> Mem<Option<Positions>>
         ensures { IfOk result (λ table. IfSome table (spec.IsTable places.now)) }
     {
         let number = count(places);
@@ -46,7 +46,7 @@ impl Positions {
     }
 
     // Which characters take this one.
-    fn takers(&self, c: char, places: &[Place]) -> u64
+    fn takers(&self, c: char, places: &[PatternPlace]) -> u64
         requires { spec.IsTable places.now self.now }
         ensures { result ≡ spec.takers_of c places.now }
     {
@@ -57,7 +57,7 @@ impl Positions {
     }
 
     /// Whether the whole text is in the language of the pattern, which has these places.
-    pub(crate) fn is_match(&self, places: &[Place], text: &str) -> bool
+    pub(crate) fn is_match(&self, places: &[PatternPlace], text: &str) -> bool
         requires places { places_of (tree_of places.now) ≡ places.now }
         requires table { spec.IsTable places.now self.now }
         ensures { IsTrue result ↔ InLanguage (tree_of places.now) (chars text.now) }

@@ -6,7 +6,7 @@ ghost use Rattle.regex_rules.specs.declared.mode.Mode.TheVariants as modes;
 
 use crate::mode::Mode;
 use crate::place_list::PlaceList;
-use crate::{CharRange, OneChar, PatternFault, Place, Repeat};
+use crate::{CharRange, OneChar, PatternFault, PatternPlace, Repeat};
 use sp_base::Items;
 use std::alloc::Global;
 
@@ -52,7 +52,7 @@ impl Reader {
         }
     }
 
-    pub(crate) fn push(&mut self, place: Place) -> Result<(), PatternFault>
+    pub(crate) fn push(&mut self, place: PatternPlace) -> Result<(), PatternFault>
         ensures ok { OnOk result (self.new ≡ spec.with_place self.old place) }
         ensures err { IfErr result (λ e. e ≡ PatternFault.NoMemory) }
     {
@@ -79,7 +79,7 @@ impl Reader {
         if self.depth >= DEEPEST {
             return Err(PatternFault::TooDeep(at));
         }
-        self.push(Place::Open)?;
+        self.push(PatternPlace::Open)?;
         self.depth += 1;
         Ok(())
     }
@@ -91,7 +91,7 @@ impl Reader {
         if self.depth == 0 {
             return Err(PatternFault::BadPattern(at));
         }
-        self.push(Place::Close(Repeat::Once))?;
+        self.push(PatternPlace::Close(Repeat::Once))?;
         self.depth -= 1;
         Ok(())
     }
@@ -120,10 +120,10 @@ impl Reader {
         ensures err { IfErr result (λ e. e ≢ PatternFault.NoMemory → spec.special strict at c self.old ≡ Err e) }
     {
         match c {
-            '.' => self.push(Place::One(OneChar::AnyButNewline, Repeat::Once)),
+            '.' => self.push(PatternPlace::One(OneChar::AnyButNewline, Repeat::Once)),
             '(' => self.open(at),
             ')' => self.close(at),
-            '|' => self.push(Place::Bar),
+            '|' => self.push(PatternPlace::Bar),
             '*' => self.repeat(at, Repeat::Any),
             '+' => self.repeat(at, Repeat::AtLeastOnce),
             '?' => self.repeat(at, Repeat::Optional),
@@ -147,7 +147,7 @@ impl Reader {
         if is_special(c) {
             self.special(alloc, at, c)
         } else {
-            self.push(Place::One(OneChar::Literal(c), Repeat::Once))
+            self.push(PatternPlace::One(OneChar::Literal(c), Repeat::Once))
         }
     }
 
@@ -169,7 +169,7 @@ impl Reader {
         if !is_meant(c) {
             return Err(PatternFault::BadPattern(at));
         }
-        self.push(Place::One(OneChar::Literal(c), Repeat::Once))
+        self.push(PatternPlace::One(OneChar::Literal(c), Repeat::Once))
     }
 
     /// Takes the next character, whose first byte stands at this place.
@@ -194,7 +194,7 @@ impl Reader {
     }
 
     /// The places, if a pattern may end at this place.
-    pub(crate) fn finish(self, at: usize) -> Result<Vec<Place>, PatternFault>
+    pub(crate) fn finish(self, at: usize) -> Result<Vec<PatternPlace>, PatternFault>
         ensures ok { IfOk result (λ places. spec.finished at self ≡ Ok places.items) }
         ensures err { IfErr result (λ e. spec.finished at self ≡ Err e) }
     {

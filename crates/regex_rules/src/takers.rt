@@ -3,7 +3,7 @@ ghost use Rattle.std.specs.Prelude.{◌≡◌, ◌≤◌, ◌<◌, ℕ, [], ◌�
 ghost use Rattle.regex_rules.specs.Languages.{is_one};
 ghost use Rattle.regex_rules.specs.Linkings as spec;
 
-use crate::{OneChar, Place};
+use crate::{OneChar, PatternPlace};
 use sp_base::Mem;
 use std::alloc::Global;
 
@@ -31,18 +31,18 @@ impl Takers {
         }
     }
 
-    fn pass(self, c: char, place: &Place) -> Takers
+    fn pass(self, c: char, place: &PatternPlace) -> Takers
         ensures { result ≡ spec.stand c place.now self }
     {
         match place {
-            Place::One(one, _) => self.pass_one(c, one),
+            PatternPlace::One(one, _) => self.pass_one(c, one),
             _ => self,
         }
     }
 }
 
 /// The characters of the pattern with these places that take this one.
-pub(crate) fn takers_of(c: char, places: &[Place]) -> u64
+pub(crate) fn takers_of(c: char, places: &[PatternPlace]) -> u64
     ensures { result ≡ spec.takers_of c places.now }
 {
     let mut found = Takers { set: 0, bit: 1 };
@@ -55,7 +55,7 @@ pub(crate) fn takers_of(c: char, places: &[Place]) -> u64
 }
 
 /// The same of each of the first characters of all.
-pub(crate) fn listed(alloc: Global, places: &[Place]) -> Mem<Vec<u64>>
+pub(crate) fn listed(alloc: Global, places: &[PatternPlace]) -> Mem<Vec<u64>>
     ensures { IfOk result (λ sets. (c : ℕ) → c < length sets.items → slice_index sets.items c ≡ spec.takers_of c places.now) }
 {
     let mut sets = Vec::with_capacity(alloc, LISTED as usize)?;
@@ -66,18 +66,18 @@ pub(crate) fn listed(alloc: Global, places: &[Place]) -> Mem<Vec<u64>>
 }
 
 // How many characters a place has: one or none.
-fn count_one(place: &Place) -> usize
+fn count_one(place: &PatternPlace) -> usize
     ensures value { result ≡ spec.ones (place.now ∷ []) }
     ensures small { result ≤ 1 }
 {
     match place {
-        Place::One(_, _) => 1,
+        PatternPlace::One(_, _) => 1,
         _ => 0,
     }
 }
 
 /// How many characters the pattern with these places has.
-pub(crate) fn count(places: &[Place]) -> usize
+pub(crate) fn count(places: &[PatternPlace]) -> usize
     ensures { result ≡ spec.ones places.now }
 {
     let mut count = 0;

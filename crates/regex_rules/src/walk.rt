@@ -6,7 +6,7 @@ ghost use Rattle.regex_rules.specs.Walks as spec;
 use crate::frames::Frames;
 use crate::level::{Frame, Level};
 use crate::marks::Marks;
-use crate::{OneChar, Place, Repeat};
+use crate::{OneChar, PatternPlace, Repeat};
 use sp_base::Mem;
 
 /// A walk over the places of a pattern: what is known of the innermost open rows and of those around them, and the marks of the
@@ -102,19 +102,25 @@ impl Walk {
         self.marks.push(arrives)
     }
 
-    fn pass(&mut self, c: char, place: &Place, old: bool) -> Mem<()>
+    fn pass(&mut self, c: char, place: &PatternPlace, old: bool) -> Mem<()>
         ensures { OnOk result (self.new ≡ spec.past_place c place.now old self.old) }
     {
         match place {
-            Place::One(one, repeat) => self.pass_one(c, one, *repeat, old),
-            Place::Open => self.pass_open(old),
-            Place::Bar => self.pass_bar(),
-            Place::Close(repeat) => self.pass_close(*repeat, old),
+            PatternPlace::One(one, repeat) => self.pass_one(c, one, *repeat, old),
+            PatternPlace::Open => self.pass_open(old),
+            PatternPlace::Bar => self.pass_bar(),
+            PatternPlace::Close(repeat) => self.pass_close(*repeat, old),
         }
     }
 
     /// Goes over all places with this character, from the marks of the text before it.
-    pub(crate) fn go(&mut self, c: char, places: &[Place], olds: &[bool], enters: bool) -> Mem<()>
+    pub(crate) fn go(
+        &mut self,
+        c: char,
+        places: &[PatternPlace],
+        olds: &[bool],
+        enters: bool,
+    ) -> Mem<()>
         ensures { OnOk result (self.new ≡ spec.walked c places.now olds.now (spec.at (spec.begun enters) [] [])) }
     {
         self.level = begun(enters);

@@ -16,8 +16,8 @@ use Rattle.replay_text.specs.Transcript.{hex, quoted_byte, quotation, action_tex
 use Rattle.replay_text.specs.EventLines.{is_target, flight_text, scope_text, flushed_text, way_text, line_of, IsFlightText, IsEventLine}
 use Rattle.replay_text.specs.declared.event_line.EventLine.{EventLine}
 use Rattle.replay_text.specs.declared.event_line.EventLine.TheVariants.{Direct, Open, Close, Bytes, Get, Post, Flush, Render, Deliver, Lose, Purge, Restart, Fail, Stop}
-use Rattle.replay_text.specs.declared.event_line.Flight.{Flight}
-use Rattle.replay_text.specs.declared.event_line.Flight.TheVariants.{First, Numbered}
+use Rattle.replay_text.specs.declared.event_line.NamedFlight.{NamedFlight}
+use Rattle.replay_text.specs.declared.event_line.NamedFlight.TheVariants.{First, Numbered}
 use Rattle.replay_text.proofs.LineLaws.{newlines-append}
 use Rattle.replay_text.proofs.NumberLemmas.{one_number, decimal_not_first, newlines-decimal}
 use Rattle.replay_text.proofs.Escapes.{one_quoted}
@@ -80,7 +80,7 @@ newlines-quotation bytes = omega (arith, newlines-append (flat_map quoted_byte b
 newlines-connection : (c : ℕ) (rest : List ℕ) → IsConnectionNumber c → newlines rest ≡ 0 → newlines (decimal c ++ 32 ∷ rest) ≡ 0
 newlines-connection c rest is none = newlines-append (decimal c) (32 ∷ rest) ∙ omega (arith, newlines-decimal c (omega (arith, is)), none)
 
-newlines-flight : (f : Flight) → IsFlightText f → newlines (flight_text f) ≡ 0
+newlines-flight : (f : NamedFlight) → IsFlightText f → newlines (flight_text f) ≡ 0
 newlines-flight First is = refl
 newlines-flight (Numbered n) is = newlines-decimal n (omega (arith, is.1))
 
@@ -132,7 +132,7 @@ newlines-line_of (Stop n way) is = omega (arith, newlines-failing n way is.1)
 one_connection : (c d : ℕ) (r s : List ℕ) → IsConnectionNumber c → IsConnectionNumber d → decimal c ++ 32 ∷ r ≡ decimal d ++ 32 ∷ s → (c ≡ d) × (r ≡ s)
 one_connection c d r s p q e = one_number 32 c d r s refl (omega (arith, p)) (omega (arith, q)) e
 
-one_flight : (f g : Flight) → IsFlightText f → IsFlightText g → flight_text f ≡ flight_text g → f ≡ g
+one_flight : (f g : NamedFlight) → IsFlightText f → IsFlightText g → flight_text f ≡ flight_text g → f ≡ g
 one_flight First First p q e = refl
 one_flight First (Numbered n) p q e = absurd (decimal_not_first n (omega (arith, q.1)) e)
 one_flight (Numbered n) First p q e = absurd (decimal_not_first n (omega (arith, p.1)) (sym e))

@@ -13,8 +13,8 @@ use Rattle.replay_text.specs.Transcript.{IsConnectionNumber}
 use Rattle.sp_base.specs.Bytes.{is_visible_ascii}
 use Rattle.replay_text.specs.Quoting.{not_blank, connection_text}
 use Rattle.replay_text.specs.EventLines.{is_target, flight_text, IsFlightText}
-use Rattle.replay_text.specs.declared.event_line.Flight.{Flight}
-use Rattle.replay_text.specs.declared.event_line.Flight.TheVariants.{First, Numbered}
+use Rattle.replay_text.specs.declared.event_line.NamedFlight.{NamedFlight}
+use Rattle.replay_text.specs.declared.event_line.NamedFlight.TheVariants.{First, Numbered}
 
 all-append : (a b : List ℕ) → list_all not_blank a ≡ true → list_all not_blank b ≡ true → list_all not_blank (a ++ b) ≡ true
 all-append [] b p q = q
@@ -53,7 +53,7 @@ one_first_word (x ∷ a) (y ∷ b) r s p q e =
 
 -- a word names no flight
 pub no_flight : (word : List ℕ) → (word ≡ codes "first" → ⊥) → ((n : ℕ) → 1 ≤ n → n < 18446744073709551616 → word ≡ decimal n → ⊥)
-    → (f : Flight) → IsFlightText f → word ≡ flight_text f → ⊥
+    → (f : NamedFlight) → IsFlightText f → word ≡ flight_text f → ⊥
 no_flight word not_first none First is e = not_first e
 no_flight word not_first none (Numbered n) is e = none n is.0 is.1 e
 

@@ -9,15 +9,15 @@ use Rattle.cover_rules.specs.declared.invalidation.Action.{Action}
 use Rattle.replay_text.specs.Transcript.{quotation, action_text, IsConnectionNumber, IsFlightNumber}
 use Rattle.replay_text.specs.declared.event_line.EventLine.{EventLine}
 use Rattle.replay_text.specs.declared.event_line.EventLine.TheVariants.{Direct, Open, Close, Bytes, Get, Post, Flush, Render, Deliver, Lose, Purge, Restart, Fail, Stop}
-use Rattle.replay_text.specs.declared.event_line.Flight.{Flight}
-use Rattle.replay_text.specs.declared.event_line.Flight.TheVariants.{First, Numbered}
+use Rattle.replay_text.specs.declared.event_line.NamedFlight.{NamedFlight}
+use Rattle.replay_text.specs.declared.event_line.NamedFlight.TheVariants.{First, Numbered}
 
 -- a target: one or more visible bytes
 abbrev pub is_target : List ℕ → Bool
 is_target text = not (length text == 0) && list_all is_visible_ascii text
 
 -- a flight: the first there is, or that of a number
-abbrev pub flight_text : Flight → List ℕ
+abbrev pub flight_text : NamedFlight → List ℕ
 flight_text First = codes "first"
 flight_text (Numbered n) = decimal n
 
@@ -57,7 +57,7 @@ abbrev pub IsCallNumber : ℕ → Type 0
 IsCallNumber n = (1 ≤ n) × (n < 18446744073709551616)
 
 -- flights are numbered from 1, in 64 bits
-abbrev pub IsFlightText : Flight → Type 0
+abbrev pub IsFlightText : NamedFlight → Type 0
 IsFlightText First = Unit {0}
 IsFlightText (Numbered n) = (1 ≤ n) × IsFlightNumber n
 

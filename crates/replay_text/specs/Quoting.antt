@@ -8,7 +8,7 @@ use Rattle.cover_rules.specs.declared.invalidation.Action.{Action}
 use Rattle.connections.specs.Ids.{ConnectionId}
 use Rattle.replay_text.specs.Transcript.{quoted_byte, quotation, IsConnectionNumber}
 use Rattle.replay_text.specs.EventLines.{is_target, IsFlightText, IsCallNumber, flight_text, flushed_text, way_text}
-use Rattle.replay_text.specs.declared.event_line.Flight.{Flight}
+use Rattle.replay_text.specs.declared.event_line.NamedFlight.{NamedFlight}
 
 -- the number that a hexadecimal digit stands for
 abbrev pub unhex : ℕ → ℕ
@@ -83,7 +83,7 @@ IsNoFailureOf word line = (n : ℕ) (way : Way) → IsCallNumber n → line ≢ 
 
 -- a word and a flight
 abbrev pub IsNoFlightOf : List ℕ → List ℕ → Type 0
-IsNoFlightOf word line = (flight : Flight) → IsFlightText flight → line ≢ word ++ flight_text flight
+IsNoFlightOf word line = (flight : NamedFlight) → IsFlightText flight → line ≢ word ++ flight_text flight
 
 -- the line is of no connection
 pub record IsOfNoConnection (line : List ℕ) : Type 0 where

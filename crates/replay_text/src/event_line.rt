@@ -6,7 +6,7 @@ use sp_outside::Way;
 
 /// Which flight an event is about.
 #[derive(Drop)]
-pub enum Flight {
+pub enum NamedFlight {
     /// The first that the event can be about.
     First,
     /// The one of this number, from 1.
@@ -32,11 +32,11 @@ pub enum EventLine {
     /// is touched.
     Flush(ConnectionId, Action, TextBuf, bool),
     /// The answer of a flight is made.
-    Render(Flight),
+    Render(NamedFlight),
     /// The answer of a flight arrives.
-    Deliver(Flight),
+    Deliver(NamedFlight),
     /// The answer of a flight is lost.
-    Lose(Flight),
+    Lose(NamedFlight),
     /// A slice of the oldest flush under way is made.
     Purge,
     /// The cache begins anew over its files.

@@ -6,7 +6,7 @@ ghost use Rattle.replay_text.specs.Transcript.{IsConnectionNumber};
 ghost use Rattle.replay_text.specs.EventLines.{flight_text, IsFlightText};
 ghost use Rattle.replay_text.specs.Quoting.{not_blank, connection_text};
 
-use crate::event_line::Flight;
+use crate::event_line::NamedFlight;
 use crate::lines::same;
 use connections::{ConnectionId, FlightId};
 use sp_base::Mem;
@@ -75,17 +75,17 @@ pub fn number_from_one(alloc: Global, word: &[u8]) -> Mem<Option<u64>>
 }
 
 // The flight that a word names.
-fn flight(alloc: Global, word: &[u8]) -> Mem<Option<Flight>>
+fn flight(alloc: Global, word: &[u8]) -> Mem<Option<NamedFlight>>
     ensures some { IfOk result (λ o. IfSome o (λ f. IsFlightText f × (word.now ≡ flight_text f))) }
-    ensures none { IfOk result (λ o. IfNone o ((f : Flight) → IsFlightText f → word.now ≢ flight_text f)) }
+    ensures none { IfOk result (λ o. IfNone o ((f : NamedFlight) → IsFlightText f → word.now ≢ flight_text f)) }
 {
     if same(word, b"first") {
-        return Ok(Some(Flight::First));
+        return Ok(Some(NamedFlight::First));
     }
     let Some(n) = number_from_one(alloc, word)? else {
         return Ok(None);
     };
-    Ok(Some(Flight::Numbered(FlightId::new(n))))
+    Ok(Some(NamedFlight::Numbered(FlightId::new(n))))
 }
 
 // The text after a word that begins it.
@@ -97,9 +97,9 @@ pub fn after_word<'a>(line: &'a [u8], word: &[u8]) -> Option<&'a [u8]>
 }
 
 // A flight after a word that is the line's beginning.
-pub fn flight_after(alloc: Global, line: &[u8], word: &[u8]) -> Mem<Option<Flight>>
+pub fn flight_after(alloc: Global, line: &[u8], word: &[u8]) -> Mem<Option<NamedFlight>>
     ensures some { IfOk result (λ o. IfSome o (λ f. IsFlightText f × (line.now ≡ word.now ++ flight_text f))) }
-    ensures none { IfOk result (λ o. IfNone o ((f : Flight) → IsFlightText f → line.now ≢ word.now ++ flight_text f)) }
+    ensures none { IfOk result (λ o. IfNone o ((f : NamedFlight) → IsFlightText f → line.now ≢ word.now ++ flight_text f)) }
 {
     match after_word(line, word) {
         Some(rest) => flight(alloc, rest),

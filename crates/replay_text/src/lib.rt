@@ -18,7 +18,7 @@ mod transcript;
 mod writer;
 
 pub use acts::{acts_are_told_by_their_lines, first_act};
-pub use event_line::{EventLine, Flight};
+pub use event_line::{EventLine, NamedFlight};
 pub use event_lines::read_event_line;
 pub use event_reader::number;
 pub use laws::{a_scenario_has_one_text, a_transcript_tells_its_events, one_reading, one_refusal};

@@ -7,7 +7,7 @@ use Rattle.glob_rules.specs.declared.piece.GlobPiece.{GlobPiece}
 use Rattle.glob_rules.specs.declared.rule.Rule.{Rule}
 use Rattle.regex_rules.specs.Reading.{pattern_of}
 use Rattle.regex_rules.specs.declared.fault.PatternFault.{PatternFault}
-use Rattle.regex_rules.specs.declared.place.Place.{Place}
+use Rattle.regex_rules.specs.declared.place.PatternPlace.{PatternPlace}
 use Rattle.std.specs.Prelude.{Result}
 use Rattle.sp_base.specs.Outcomes.{◌>>=◌}
 use Rattle.any_config.specs.Farms.{FarmOutcome, is_member_name, member_value, group_of, name_or, member_word, or_bad, glob_or_bad, glob, glob_or_none, glob_at, pattern_or_bad, pattern, test_in, test_of, test_or_none, test_at, rule_type, allow, rule, filter, entry}
@@ -34,15 +34,15 @@ pub glob_only : (name text : List ℕ) (g : List GlobPiece) → glob_of text ≡
 unfolding glob
 glob_only name text g e = ap (glob_or_bad name) e
 
-pattern_found : (name text : List ℕ) (p : List Place) → pattern name text ≡ Ok p → pattern_of text ≡ Ok p
+pattern_found : (name text : List ℕ) (p : List PatternPlace) → pattern name text ≡ Ok p → pattern_of text ≡ Ok p
 unfolding pattern
 pattern_found name text p e = go (pattern_of text) refl e
   where
-    go : (o : Result (List Place) PatternFault) → pattern_of text ≡ o → pattern_or_bad name o ≡ Ok p → pattern_of text ≡ Ok p
+    go : (o : Result (List PatternPlace) PatternFault) → pattern_of text ≡ o → pattern_or_bad name o ≡ Ok p → pattern_of text ≡ Ok p
     go (Ok q) is f = is ∙ ap Ok (ok_is q p f)
     go (Err fault) is f = absurd cc
 
-pattern_only : (name text : List ℕ) (p : List Place) → pattern_of text ≡ Ok p → pattern name text ≡ Ok p
+pattern_only : (name text : List ℕ) (p : List PatternPlace) → pattern_of text ≡ Ok p → pattern name text ≡ Ok p
 unfolding pattern
 pattern_only name text p e = ap (pattern_or_bad name) e
 

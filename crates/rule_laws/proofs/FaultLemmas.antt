@@ -7,7 +7,7 @@ use Rattle.glob_rules.specs.declared.fault.GlobFault.{GlobFault}
 use Rattle.glob_rules.specs.declared.piece.GlobPiece.{GlobPiece}
 use Rattle.regex_rules.specs.Reading.{pattern_of}
 use Rattle.regex_rules.specs.declared.fault.PatternFault.{PatternFault}
-use Rattle.regex_rules.specs.declared.place.Place.{Place}
+use Rattle.regex_rules.specs.declared.place.PatternPlace.{PatternPlace}
 use Rattle.any_config.specs.Farms.{FarmOutcome, member_value, group_in, group_of, member_word_in, member_word, or_missing, needed_group, group_or_none, optional_group, each_after, each, decimal, or_bad, number_or_zero, member_number, glob_or_bad, glob, pattern_or_bad, pattern}
 use Rattle.any_config.specs.Read.{Members}
 use Rattle.any_config.specs.declared.farm_fault.FarmFault.{FarmFault}
@@ -216,6 +216,6 @@ pub pattern_fails : (name text : List ℕ) (fault : FarmFault) → Fails (patter
 unfolding pattern
 pattern_fails name text fault = record { found = λ e. go (pattern_of text) refl e; only = λ bad. ap (pattern_or_bad name) bad.0.1 ∙ ap Err (sym bad.1) }
   where
-    go : (o : Result (List Place) PatternFault) → pattern_of text ≡ o → pattern_or_bad name o ≡ Err fault → ((f : PatternFault) × (pattern_of text ≡ Err f)) × (fault ≡ BadKind name)
+    go : (o : Result (List PatternPlace) PatternFault) → pattern_of text ≡ o → pattern_or_bad name o ≡ Err fault → ((f : PatternFault) × (pattern_of text ≡ Err f)) × (fault ≡ BadKind name)
     go (Ok p) is e = absurd cc
     go (Err f) is e = ((f, is), sym (fault_is (BadKind name) fault e))

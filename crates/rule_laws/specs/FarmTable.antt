@@ -6,7 +6,7 @@ use Rattle.glob_rules.specs.Reading.{glob_of}
 use Rattle.glob_rules.specs.declared.piece.GlobPiece.{GlobPiece}
 use Rattle.glob_rules.specs.declared.rule.Rule.{Rule}
 use Rattle.regex_rules.specs.Reading.{pattern_of}
-use Rattle.regex_rules.specs.declared.place.Place.{Place}
+use Rattle.regex_rules.specs.declared.place.PatternPlace.{PatternPlace}
 use Rattle.any_config.specs.Farms.{decimal, deepest_level, name_or_localhost}
 use Rattle.any_config.specs.Read.{Members}
 use Rattle.any_config.specs.declared.farm.Farm.{Farm}
@@ -77,7 +77,7 @@ pub record HasGlob (ms : Members) (name : List ℕ) (glob : List GlobPiece) : Ty
   pub reads : glob_of text ≡ Ok glob
 
 -- the member of this name is a text in single quotes that this pattern reads
-pub record HasPatternMember (ms : Members) (name : List ℕ) (pattern : List Place) : Type 0 where
+pub record HasPatternMember (ms : Members) (name : List ℕ) (pattern : List PatternPlace) : Type 0 where
   pub text : List ℕ
   pub quoted : HasQuoted ms name text
   pub reads : pattern_of text ≡ Ok pattern
@@ -86,7 +86,7 @@ pub record HasPatternMember (ms : Members) (name : List ℕ) (pattern : List Pla
 pub data HasTest (ms : Members) (name : List ℕ) : Option Test → Type 0 where
   Lacks : LacksMember ms name → HasTest ms name None
   ByGlob : {glob : List GlobPiece} → HasGlob ms name glob → HasTest ms name (Some (test.Glob glob))
-  ByPattern : {pattern : List Place} → HasPatternMember ms name pattern → HasTest ms name (Some (test.Pattern pattern))
+  ByPattern : {pattern : List PatternPlace} → HasPatternMember ms name pattern → HasTest ms name (Some (test.Pattern pattern))
 
 -- an entry of a list of rules: a group with `/type` and `/glob`
 pub record IsRuleEntry (m : List ℕ × AnyNode) (rule : Rule) : Type 0 where

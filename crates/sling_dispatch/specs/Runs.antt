@@ -7,8 +7,8 @@ use Rattle.content_json.specs.ContentOf.{content as content_of}
 use Rattle.publisher.specs.Rendering.{answer_to_request, content_after_request}
 use Rattle.replay_text.specs.declared.event_line.EventLine.{EventLine}
 use Rattle.replay_text.specs.declared.event_line.EventLine.TheVariants as line
-use Rattle.replay_text.specs.declared.event_line.Flight.{Flight}
-use Rattle.replay_text.specs.declared.event_line.Flight.TheVariants as flight
+use Rattle.replay_text.specs.declared.event_line.NamedFlight.{NamedFlight}
+use Rattle.replay_text.specs.declared.event_line.NamedFlight.TheVariants as flight
 use Rattle.replay_text.specs.declared.scenario.Scenario.{Scenario}
 use Rattle.replay_text.specs.Scenario.{IsActs}
 use Rattle.replay_text.specs.Transcript.{action_text, transcript}
@@ -69,7 +69,7 @@ flush_bytes host action handle only =
 -- ---- what lines do
 
 -- the flight that a line names: the one with a number, or the first that can be taken
-abbrev pub pick_of : Flight → Pick
+abbrev pub pick_of : NamedFlight → Pick
 pick_of flight.First = First
 pick_of (flight.Numbered n) = Number n
 

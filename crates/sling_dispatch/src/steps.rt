@@ -9,7 +9,7 @@ use any_config::Farm;
 use connections::ConnectionId;
 use cover_rules::Action;
 use front::{Pick, Step};
-use replay_text::{EventLine, Flight};
+use replay_text::{EventLine, NamedFlight};
 use sp_base::{ByteBuf, HTTP_PORT, Mem};
 use sp_outside::Way;
 use std::alloc::Global;
@@ -76,12 +76,12 @@ fn piece(c: ConnectionId, bytes: ByteBuf) -> Task
     Task::Step(Step::Piece(c, bytes))
 }
 
-fn pick_of(flight: Flight) -> Pick
+fn pick_of(flight: NamedFlight) -> Pick
     ensures { result ≡ runs.pick_of flight }
 {
     match flight {
-        Flight::First => Pick::First,
-        Flight::Numbered(number) => Pick::Number(number),
+        NamedFlight::First => Pick::First,
+        NamedFlight::Numbered(number) => Pick::Number(number),
     }
 }
 

@@ -15,7 +15,7 @@ use Rattle.replay_text.specs.EventLines.{is_target, line_of, IsEventLine}
 use Rattle.replay_text.specs.Transcript.{quotation}
 use Rattle.replay_text.specs.declared.event_line.EventLine.{EventLine}
 use Rattle.replay_text.specs.declared.event_line.EventLine.TheVariants.{Open, Close, Get, Post, Flush, Render, Deliver, Lose, Purge, Restart, Fail}
-use Rattle.replay_text.specs.declared.event_line.Flight.TheVariants.{First}
+use Rattle.replay_text.specs.declared.event_line.NamedFlight.TheVariants.{First}
 use Rattle.soak_scenarios.specs.Drafts.{Draft, Piece, Words, drawn, given, with_draw, with_text, written}
 use Rattle.soak_scenarios.specs.Soaks.{closing_line, flush_line, get_line, opening_text, post_line, seldom_line, usual_line, with_block, with_drawn_blocks, with_drawn_round, with_rounds, with_seldom_line}
 use Rattle.soak_laws.proofs.Bytes.{bytes_by, bytes_of_digits, decimal_has_digits, quoted_around, visible-append, visible_digits}

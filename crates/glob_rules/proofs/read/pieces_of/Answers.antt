@@ -2,7 +2,7 @@ use Rattle.std.proofs.Common.{◌≡◌, ◌∷◌, ◌++◌, ◌∙◌, ap, rul
 use Rattle.std.specs.Str.{chars, NonePass}
 use Rattle.glob_rules.specs.declared.piece.GlobPiece.{GlobPiece}
 use Rattle.glob_rules.specs.declared.piece.GlobPiece.TheVariants.{Class}
-use Rattle.glob_rules.specs.declared.piece.CharClass.{CharClass}
+use Rattle.glob_rules.specs.declared.piece.GlobClass.{GlobClass}
 use Rattle.glob_rules.specs.Reading.{class_of, is_close, pieces_from}
 use Rattle.glob_rules.proofs.ReadLemmas.{open_class, class_read, class_closes}
 use Rattle.glob_rules.proofs.read.pieces_of.Goals as goal
@@ -19,7 +19,7 @@ loop-c-preserved-then-c-eq91 c =
     let parts = c.in-Some-cut_at_close.ensures.parts in
     let none = c.in-Some-cut_at_close.ensures.first in
     let class : c.in_ok-class_of.field-0 ≡ class_of (chars c.in-Some-cut_at_close.inside.now) = search rules in
-    let pushed = c.in_ok-push.ensures.items ∙ ap (λ (k : CharClass). c.loop-c.pieces.items ++ Class k ∷ []) class in
+    let pushed = c.in_ok-push.ensures.items ∙ ap (λ (k : GlobClass). c.loop-c.pieces.items ++ Class k ∷ []) class in
     record {
       text = search rules;
       pieces = ap (λ (l : List GlobPiece). l ++ pieces_from None (chars c.in-Some-cut_at_close.after.now)) pushed ∙ class_read c.loop-c.pieces.items _ _ _ _ _ parts none begins c.loop-c.invariant.pieces;

@@ -4,7 +4,7 @@ use Rattle.docroot_format.specs.Names.{epoch_name}
 use Rattle.docroot_format.specs.Texts.{epoch_text}
 use Rattle.cache_files.specs.Epochs.{after_epoch, epoch_after, greatest_epoch}
 use Rattle.cache_files.proofs.NextEpochs.{above}
-use Rattle.cache_files.proofs.laws.epochs_rise.Goals as goal
+use Rattle.cache_files.proofs.laws.session_epochs_rise.Goals as goal
 
 not_last : (epoch : ℕ) → epoch < greatest_epoch → nat_eq epoch greatest_epoch ≡ false
 not_last epoch short = grind (arith, nat_tests)

@@ -1,11 +1,12 @@
-use Rattle.std.proofs.Common.{◌≡◌, ◌++◌, ◌∷◌, [], ◌∙◌, sym, ap, arith, string_bytes, subst, IsUtf8, List, take}
+use Rattle.std.proofs.Common.{◌≡◌, ◌++◌, ◌∷◌, [], ◌∙◌, sym, ap, arith, string_bytes, subst, suc, IsUtf8, List, take, drop}
 use Rattle.std.specs.Prelude.{encode_utf8}
+use Rattle.std.proofs.Math.Seq.{split_at}
 use Rattle.std.proofs.lemmas.List.{take_more}
 use Rattle.std.proofs.lemmas.Str.{IsUtf8-string_bytes}
 use Rattle.glob_rules.specs.declared.piece.GlobPiece.{GlobPiece}
 use Rattle.glob_rules.specs.declared.piece.GlobPiece.TheVariants.{Literal}
 use Rattle.glob_rules.specs.Forms.{literals}
-use Rattle.glob_rules.proofs.FormLemmas.{no_text, one_more}
+use Rattle.glob_rules.proofs.FormLemmas.{no_literals, no_text, one_more}
 use Rattle.glob_rules.proofs.form.literal_text.Goals as goal
 
 pub loop-piece-init : goal.loop-piece-init
@@ -20,3 +21,11 @@ loop-piece-preserved c =
     ∙ ap (λ (l : List GlobPiece). l ++ Literal c.in-Literal.c ∷ []) c.loop-piece.invariant
     ∙ sym (one_more (string_bytes c.loop-piece.text) c.in-Literal.c (IsUtf8-string_bytes c.loop-piece.text) whole)
     ∙ ap literals (sym pushed)
+
+pub returns-in_default : goal.returns-in_default
+returns-in_default c =
+    let front = take c.loop-piece.piece-index c.args.pieces.now in
+    let later = drop (suc c.loop-piece.piece-index) c.args.pieces.now in
+    let parts = split_at c.args.pieces.now c.loop-piece.piece-index c.piece-item.result (omega arith) in
+    no_literals c.args.pieces.now front later c.piece-item.result
+    (parts ∙ ap (λ (p : GlobPiece). front ++ p ∷ later) (sym c.piece-item.is)) c.in_default.not-Literal

@@ -12,7 +12,7 @@ use Rattle.any_config.specs.declared.stop.AnyStop.TheVariants as stop
 use Rattle.any_config.specs.declared.any_fault.AnyFault.{AnyFault}
 use Rattle.any_config.specs.declared.tokens.ByteRun.{ByteRun}
 use Rattle.any_config.specs.declared.tokens.ByteRun.TheVariants.{Name, Plain, Quoted}
-use Rattle.any_config.specs.Tokens.{TokenOutcome, comments_skipped, is_config_name_byte, is_plain_byte, ends, run_len, member_name, word, quoted_value, quoted_node, ungrouped_value}
+use Rattle.any_config.specs.Tokens.{TokenOutcome, comments_skipped, is_config_name_byte, is_plain_byte, ends, run_len, member_name, unquoted_word, quoted_value, quoted_node, ungrouped_value}
 use Rattle.any_config.specs.Read.{Members, ends_members, value, member, more_members, members, braced_group, group, file_read, placed_answer, any_of}
 use Rattle.any_config.specs.Grammar.{IsValue, AreMembers}
 use Rattle.any_config.specs.Faults.{first_byte_passes, is_quote_mark, begins_value, IsBroken, IsFirstBroken, IsStop, IsConfigFault}
@@ -120,8 +120,8 @@ quoted_stops mark t s h = go (begins_with_byte mark (drop (run_len (Quoted mark)
 abbrev LeafStops : ℕ → List ℕ → AnyStop → Type 0
 LeafStops at t s = ((first_byte_passes is_quote_mark t ≡ true) × (stop.BadQuote (length t) ≡ s)) ⊎ ((first_byte_passes begins_value t ≡ false) × (stop.BadName at ≡ s))
 
-word_stops : (at : ℕ) (t : List ℕ) (s : AnyStop) → word at t ≡ Err s → (first_byte_passes is_plain_byte t ≡ false) × (stop.BadName at ≡ s)
-unfolding word
+word_stops : (at : ℕ) (t : List ℕ) (s : AnyStop) → unquoted_word at t ≡ Err s → (first_byte_passes is_plain_byte t ≡ false) × (stop.BadName at ≡ s)
+unfolding unquoted_word
 word_stops at t s h = go (run_len Plain t == 0) refl h
   where
     go : (b : Bool) → (run_len Plain t == 0) ≡ b → cond {A = TokenOutcome AnyNode} b (Err (stop.BadName at)) (Ok (node.Word (take (run_len Plain t) t), drop (run_len Plain t) t)) ≡ Err s → (first_byte_passes is_plain_byte t ≡ false) × (stop.BadName at ≡ s)
@@ -132,7 +132,7 @@ leaf_stops : (at : ℕ) (t : List ℕ) (s : AnyStop) → begins_with_byte 123 t 
 unfolding ungrouped_value
 leaf_stops at t s plain h = go (begins_with_byte 34 t) (begins_with_byte 39 t) refl refl h
   where
-    go : (p q : Bool) → begins_with_byte 34 t ≡ p → begins_with_byte 39 t ≡ q → cond p (quoted_value 34 t) (cond q (quoted_value 39 t) (word at t)) ≡ Err s → LeafStops at t s
+    go : (p q : Bool) → begins_with_byte 34 t ≡ p → begins_with_byte 39 t ≡ q → cond p (quoted_value 34 t) (cond q (quoted_value 39 t) (unquoted_word at t)) ≡ Err s → LeafStops at t s
     go true q ep eq e = inl (sym (mark_prefix t) ∙ rw ep refl, quoted_stops 34 t s e)
     go false true ep eq e = inl (sym (mark_prefix t) ∙ rw (ep, eq) refl, quoted_stops 39 t s e)
     go false false ep eq e = let w = word_stops at t s e in inr (value_prefix t plain ep eq w.0, w.1)
@@ -250,7 +250,7 @@ leaf_of_mark depth at t mark none = value_leaf (group depth) at t plain ∙ go (
     ]
 
 leaf_of_none : (inner : List ℕ → TokenOutcome AnyNode) (at : ℕ) (t : List ℕ) → first_byte_passes begins_value t ≡ false → value inner at t ≡ Err (stop.BadName at)
-unfolding value ungrouped_value word
+unfolding value ungrouped_value unquoted_word
 leaf_of_none inner at t none =
     let w = prefix_value t none in
     rw (w.0, w.1, w.2, empty_run Plain t (plain_prefix t ∙ w.3)) refl

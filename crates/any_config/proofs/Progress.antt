@@ -10,7 +10,7 @@ use Rattle.any_config.specs.declared.node.AnyNode.TheVariants as node
 use Rattle.any_config.specs.declared.stop.AnyStop.{AnyStop}
 use Rattle.any_config.specs.declared.stop.AnyStop.TheVariants.{BadName, BadQuote, Unclosed}
 use Rattle.any_config.specs.declared.tokens.ByteRun.TheVariants.{Name, Plain, Quoted}
-use Rattle.any_config.specs.Tokens.{TokenOutcome, after_blanks_and_comments, comments_skipped, is_line_end, is_config_blank, run_len, member_name, word, quoted_value, quoted_node, ungrouped_value}
+use Rattle.any_config.specs.Tokens.{TokenOutcome, after_blanks_and_comments, comments_skipped, is_line_end, is_config_blank, run_len, member_name, unquoted_word, quoted_value, quoted_node, ungrouped_value}
 use Rattle.any_config.specs.Read.{Members, ends_members, value, member, more_members, members, braced_group, group}
 use Rattle.any_config.proofs.TokenLemmas.{run_within}
 
@@ -52,7 +52,7 @@ name_less t x h = go (begins_with_byte 47 t) (run_len Name (drop 1 t) == 0) h
 
 -- a leaf is one whatever its member is
 pub leaf_any : (a b : ℕ) (t : List ℕ) (x : AnyNode × List ℕ) → ungrouped_value a t ≡ Ok x → ungrouped_value b t ≡ Ok x
-unfolding ungrouped_value word
+unfolding ungrouped_value unquoted_word
 leaf_any a b t x h = go (begins_with_byte 34 t) (begins_with_byte 39 t) (run_len Plain t == 0) h
   where
     go : (p q z : Bool) → cond p (quoted_value 34 t) (cond q (quoted_value 39 t) (cond z (Err (BadName a)) (Ok (node.Word (take (run_len Plain t) t), drop (run_len Plain t) t)))) ≡ Ok x
@@ -76,8 +76,8 @@ plain_within : (t : List ℕ) → run_len Plain t ≤ length t
 unfolding run_len
 plain_within t = run_within Plain t
 
-word_less : (a : ℕ) (t : List ℕ) (x : AnyNode × List ℕ) → word a t ≡ Ok x → length x.1 < length t
-unfolding word
+word_less : (a : ℕ) (t : List ℕ) (x : AnyNode × List ℕ) → unquoted_word a t ≡ Ok x → length x.1 < length t
+unfolding unquoted_word
 word_less a t x h = go (run_len Plain t == 0) refl h
   where
     go : (b : Bool) → (run_len Plain t == 0) ≡ b → cond b (Err (BadName a)) (Ok (node.Word (take (run_len Plain t) t), drop (run_len Plain t) t)) ≡ Ok x → length x.1 < length t
@@ -90,7 +90,7 @@ pub leaf_less : (a : ℕ) (t : List ℕ) (x : AnyNode × List ℕ) → ungrouped
 unfolding ungrouped_value
 leaf_less a t x h = go (begins_with_byte 34 t) (begins_with_byte 39 t) refl refl h
   where
-    go : (p q : Bool) → begins_with_byte 34 t ≡ p → begins_with_byte 39 t ≡ q → cond p (quoted_value 34 t) (cond q (quoted_value 39 t) (word a t)) ≡ Ok x → length x.1 < length t
+    go : (p q : Bool) → begins_with_byte 34 t ≡ p → begins_with_byte 39 t ≡ q → cond p (quoted_value 34 t) (cond q (quoted_value 39 t) (unquoted_word a t)) ≡ Ok x → length x.1 < length t
     go true q ep eq e = quoted_less 34 t x ep e
     go false true ep eq e = quoted_less 39 t x eq e
     go false false ep eq e = word_less a t x e

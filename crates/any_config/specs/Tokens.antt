@@ -78,8 +78,8 @@ member_name t =
     else Ok ([], t)
 
 -- a plain word; where there is none the fault is at the member
-unfoldable pub word : ℕ → List ℕ → TokenOutcome AnyNode
-word at t = if run_len Plain t == 0 then Err (BadName at) else Ok (node.Word (take (run_len Plain t) t), drop (run_len Plain t) t)
+unfoldable pub unquoted_word : ℕ → List ℕ → TokenOutcome AnyNode
+unquoted_word at t = if run_len Plain t == 0 then Err (BadName at) else Ok (node.Word (take (run_len Plain t) t), drop (run_len Plain t) t)
 
 -- a text in double quotes is a word, one in single quotes a pattern
 abbrev pub quoted_node : ℕ → List ℕ → AnyNode
@@ -94,4 +94,4 @@ quoted_value mark t =
 
 -- a value that is no group
 unfoldable pub ungrouped_value : ℕ → List ℕ → TokenOutcome AnyNode
-ungrouped_value at t = if begins_with_byte 34 t then quoted_value 34 t else (if begins_with_byte 39 t then quoted_value 39 t else word at t)
+ungrouped_value at t = if begins_with_byte 34 t then quoted_value 34 t else (if begins_with_byte 39 t then quoted_value 39 t else unquoted_word at t)

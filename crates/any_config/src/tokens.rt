@@ -134,9 +134,9 @@ pub fn name(alloc: Global, text: &[u8]) -> Result<(TextBuf, &[u8]), AnyStop>
     Ok((text_of(alloc, bytes)?, skip(rest)))
 }
 
-#[tactic(auto, using(crate::proofs::TokenLemmas::plain_utf8), unfolding(crate::specs::Tokens::word))]
-fn word(alloc: Global, at: usize, text: &[u8]) -> Result<(AnyNode, &[u8]), AnyStop>
-    ensures { TokenGives (λ x. (x.0, x.1.now)) result (spec.word at text.now) }
+#[tactic(auto, using(crate::proofs::TokenLemmas::plain_utf8), unfolding(crate::specs::Tokens::unquoted_word))]
+fn unquoted_word(alloc: Global, at: usize, text: &[u8]) -> Result<(AnyNode, &[u8]), AnyStop>
+    ensures { TokenGives (λ x. (x.0, x.1.now)) result (spec.unquoted_word at text.now) }
 {
     let len = run_len(ByteRun::Plain, text);
     if len == 0 {
@@ -181,6 +181,6 @@ pub fn leaf(alloc: Global, at: usize, text: &[u8]) -> Result<(AnyNode, &[u8]), A
     } else if begins_with_byte(b'\'', text) {
         quoted(alloc, b'\'', text)
     } else {
-        word(alloc, at, text)
+        unquoted_word(alloc, at, text)
     }
 }

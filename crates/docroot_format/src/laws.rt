@@ -106,7 +106,7 @@ pub fn no_name_ends_as_one_beside()
 
 /// An invalidation deletes exactly the page at its handle, and the pages whose files have names that begin with one of its prefixes. It is
 /// the same whether a page's body is looked at or its head.
-pub fn deleted_pages_are_told_by_names()
+pub fn deleted_pages_are_known_by_names()
     ensures body { (inv : Invalidation) (key : PageKey) → IsPageKey key → IsTrue (is_path inv.handle) → HaveBytes inv.handle → IsDeletedByBody inv key }
     ensures head { (inv : Invalidation) (key : PageKey) → IsPageKey key → IsTrue (is_path inv.handle) → HaveBytes inv.handle → IsDeletedByHead inv key }
 {

@@ -12,7 +12,7 @@ use Rattle.glob_rules.specs.declared.piece.GlobRange.{GlobRange}
 use Rattle.glob_rules.specs.declared.piece.GlobClass.{GlobClass}
 use Rattle.glob_rules.specs.declared.piece.GlobPiece.{GlobPiece}
 use Rattle.glob_rules.specs.declared.piece.GlobPiece.TheVariants.{Star, AnyChar, Literal, Class}
-use Rattle.glob_rules.specs.Reading.{is_open, is_close, is_negation, plain_piece, glob_range, ranges_of, class_of, pieces_from, unclosed_class, unless_unclosed, glob_of}
+use Rattle.glob_rules.specs.Reading.{is_open, is_close, is_negation, piece_of_char, glob_range, ranges_of, class_of, pieces_from, unclosed_class, unless_unclosed, glob_of}
 use Rattle.glob_rules.specs.Spelling.{GoesOnAsRange, AreGlobRanges, IsGlobClass, SpellsGlob, IsOpen, IsGlobFault}
 use Rattle.glob_rules.proofs.ReadLemmas.{closes, class_piece, stays_unclosed}
 
@@ -86,7 +86,7 @@ abbrev Told : List ℕ → Option (List ℕ) → Type 0
 Told cs None = SpellsGlob cs (pieces_from None cs)
 Told cs (Some rest) = (prefix : List ℕ) × (glob : List GlobPiece) × (inside : List ℕ) × (cs ≡ prefix ++ 91 ∷ inside) × (rest ≡ 91 ∷ inside) × SpellsGlob prefix glob × NonePass is_close inside
 
-plain_spells : (c : ℕ) (cs : List ℕ) (pieces : List GlobPiece) → is_open c ≡ false → SpellsGlob cs pieces → SpellsGlob (c ∷ cs) (plain_piece c ∷ pieces)
+plain_spells : (c : ℕ) (cs : List ℕ) (pieces : List GlobPiece) → is_open c ≡ false → SpellsGlob cs pieces → SpellsGlob (c ∷ cs) (piece_of_char c ∷ pieces)
 plain_spells c cs pieces apart later = go (c == 42) (c == 63) refl refl
   where
     go : (p q : Bool) → (c == 42) ≡ p → (c == 63) ≡ q → SpellsGlob (c ∷ cs) (cond p Star (cond q AnyChar (Literal c)) ∷ pieces)
@@ -101,7 +101,7 @@ told (suc n) (c ∷ cs) le = go (λ rest less. told n rest less) (is_open c) ref
   where
     plain : is_open c ≡ false → (o : Option (List ℕ)) → Told cs o → Told (c ∷ cs) o
     plain is None later = rw is (plain_spells c cs (pieces_from None cs) is later)
-    plain is (Some rest) (prefix, glob, inside, parts, same, spelled, none) = (c ∷ prefix, plain_piece c ∷ glob, inside, ap (λ (l : List ℕ). c ∷ l) parts, same, plain_spells c prefix glob is spelled, none)
+    plain is (Some rest) (prefix, glob, inside, parts, same, spelled, none) = (c ∷ prefix, piece_of_char c ∷ glob, inside, ap (λ (l : List ℕ). c ∷ l) parts, same, plain_spells c prefix glob is spelled, none)
 
     class : (inside rest : List ℕ) → c ≡ 91 → cs ≡ inside ++ 93 ∷ rest → NonePass is_close inside → (o : Option (List ℕ)) → Told rest o → Told (c ∷ cs) o
     class inside rest is e none None later =
@@ -133,8 +133,8 @@ told (suc n) (c ∷ cs) le = go (λ rest less. told n rest less) (is_open c) ref
 abbrev IsRead : List ℕ → List GlobPiece → Type 0
 IsRead cs glob = (unclosed_class None cs ≡ None) × (pieces_from None cs ≡ glob)
 
-plain_read : (c : ℕ) (cs : List ℕ) (glob : List GlobPiece) → is_open c ≡ false → IsRead cs glob → IsRead (c ∷ cs) (plain_piece c ∷ glob)
-plain_read c cs glob apart (ended, pieces) = (rw apart ended, rw apart (ap (λ (l : List GlobPiece). plain_piece c ∷ l) pieces))
+plain_read : (c : ℕ) (cs : List ℕ) (glob : List GlobPiece) → is_open c ≡ false → IsRead cs glob → IsRead (c ∷ cs) (piece_of_char c ∷ glob)
+plain_read c cs glob apart (ended, pieces) = (rw apart ended, rw apart (ap (λ (l : List GlobPiece). piece_of_char c ∷ l) pieces))
 
 complete : (cs : List ℕ) (glob : List GlobPiece) → SpellsGlob cs glob → IsRead cs glob
 complete _ _ SpellsGlob.nothing = (refl, refl)
@@ -144,7 +144,7 @@ complete _ _ (SpellsGlob.literal {c} {cs} {pieces} plain later) =
     let star : (c == 42) ≡ false = grind (arith, nat_tests) in
     let any : (c == 63) ≡ false = grind (arith, nat_tests) in
     let open_ : is_open c ≡ false = grind (arith, nat_tests) in
-    let piece : plain_piece c ≡ Literal c = rw (star, any) refl in
+    let piece : piece_of_char c ≡ Literal c = rw (star, any) refl in
     subst (λ (p : GlobPiece). IsRead (c ∷ cs) (p ∷ pieces)) piece (plain_read c cs pieces open_ (complete cs pieces later))
 complete _ _ (SpellsGlob.class {cs} {pieces} inside rest class none is e later) =
     let ih = complete rest pieces later in (

@@ -21,8 +21,8 @@ abbrev pub is_negation : ℕ → Bool
 is_negation c = c == 33 || c == 94
 
 -- a character outside a class: `*`, `?`, or itself
-abbrev pub plain_piece : ℕ → GlobPiece
-plain_piece c = if c == 42 then Star else (if c == 63 then AnyChar else Literal c)
+abbrev pub piece_of_char : ℕ → GlobPiece
+piece_of_char c = if c == 42 then Star else (if c == 63 then AnyChar else Literal c)
 
 -- the range of characters from the one to the other
 abbrev pub glob_range : ℕ → ℕ → GlobRange
@@ -43,7 +43,7 @@ class_of (c ∷ cs) = if is_negation c then record { negated = true; ranges = ra
 -- the pieces of a text; of a class that is open, the characters up to here
 abbrev pub pieces_from : Option (List ℕ) → List ℕ → List GlobPiece
 pieces_from inside [] = []
-pieces_from None (c ∷ cs) = if is_open c then pieces_from (Some []) cs else plain_piece c ∷ pieces_from None cs
+pieces_from None (c ∷ cs) = if is_open c then pieces_from (Some []) cs else piece_of_char c ∷ pieces_from None cs
 pieces_from (Some inside) (c ∷ cs) = if is_close c then Class (class_of inside) ∷ pieces_from None cs else pieces_from (Some (inside ++ c ∷ [])) cs
 
 -- what stands from a `[` on that no `]` closes; a `[` inside a class is a character of it

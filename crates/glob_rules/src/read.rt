@@ -39,7 +39,7 @@ fn pieces_of(alloc: Global, text: &str) -> Result<Glob, GlobFault>
             pieces.push(GlobPiece::Class(class_of(alloc, inside)?))?;
             rest = after;
         } else {
-            pieces.push(plain_piece(c))?;
+            pieces.push(piece_of_char(c))?;
             rest = later;
         }
     }
@@ -63,8 +63,8 @@ fn cut_at_close(text: &str) -> Option<(&str, &str)>
     }
 }
 
-fn plain_piece(c: char) -> GlobPiece
-    ensures { result ≡ spec.plain_piece c }
+fn piece_of_char(c: char) -> GlobPiece
+    ensures { result ≡ spec.piece_of_char c }
 {
     if c == '*' {
         GlobPiece::Star

@@ -15,7 +15,7 @@ fn first_star(pieces: &[GlobPiece]) -> Option<usize>
     pieces.iter().position(|piece| piece.is_star())
 }
 
-fn star_place(pieces: &[GlobPiece]) -> usize
+fn star_index(pieces: &[GlobPiece]) -> usize
     ensures value { result ≡ position_or_len is_star pieces.now }
     ensures within { result ≤ length pieces.now }
 {
@@ -32,7 +32,7 @@ pub fn split_at_star(pieces: &[GlobPiece]) -> (&[GlobPiece], &[GlobPiece])
     ensures run { spec.IsRun result.0.now }
     ensures rest { spec.IsAfterRun result.1.now }
 {
-    pieces.split_at(star_place(pieces))
+    pieces.split_at(star_index(pieces))
 }
 
 /// The text after the characters that a run stands for.

@@ -102,7 +102,7 @@ run_plain t x =
 pub run_tag : (t : List ℕ) (x : FirstTag t) → (run_of t ≡ whole_text x.before) × (after_text_run t ≡ whole_text (x.tag ∷ x.rest))
 unfolding run_of after_text_run
 run_tag t x =
-    let e : text_run_len (parts t) ≡ bytes_of x.before = ap text_run_len x.split ∙ run_to x.before x.tag x.rest x.plain x.block in
+    let e : text_run_len (parts t) ≡ bytes_of x.before = ap text_run_len x.split ∙ run_to x.before x.tag x.rest x.no_block x.block in
     (rw e (take_parts x.before (x.tag ∷ x.rest) t x.split), rw e (drop_parts x.before (x.tag ∷ x.rest) t x.split))
 
 -- parts have a block tag, or none
@@ -120,7 +120,7 @@ first_tag t = go (first_of (parts t))
   where
     go : HasNoBlock (parts t) ⊎ ((before : List (List ℕ)) × (tag : List ℕ) × (rest : List (List ℕ)) × (parts t ≡ before ++ tag ∷ rest) × HasNoBlock before × (is_block_tag tag ≡ true)) → HasNoBlock (parts t) ⊎ FirstTag t
     go (inl plain) = inl plain
-    go (inr x) = inr (record { before = x.0; tag = x.1; rest = x.2; split = x.3; plain = x.4; block = x.5 })
+    go (inr x) = inr (record { before = x.0; tag = x.1; rest = x.2; split = x.3; no_block = x.4; block = x.5 })
 
 -- ---- the element at a block tag
 

@@ -27,7 +27,7 @@ pub record FirstTag (t : List ℕ) : Type 0 where
   pub tag : List ℕ
   pub rest : List Text
   pub split : parts t ≡ before ++ tag ∷ rest
-  pub plain : HasNoBlock before
+  pub no_block : HasNoBlock before
   pub block : is_block_tag tag ≡ true
 
 -- what follows a tag, as its content, its end tag and the parts after the element; an element without content has no end tag

@@ -6,7 +6,7 @@ use Rattle.sp_base.specs.Texts.{Pairs, Text}
 use Rattle.htl_expr.specs.Bindings.{Bindings, with_vars}
 use Rattle.htl_expr.specs.declared.out.Out.{Out}
 use Rattle.htl_expr.specs.declared.out.Out.TheVariants as out
-use Rattle.htl_expr.specs.Value.{expr_value, is_true, list_in, plain_text}
+use Rattle.htl_expr.specs.Value.{expr_value, is_true, list_in, unescaped_text}
 use Rattle.htl_text.specs.declared.piece.TemplatePiece.{TemplatePiece}
 use Rattle.htl_text.specs.declared.piece.TemplatePiece.TheVariants as piece
 use Rattle.htl_text.specs.Template.{template_output}
@@ -29,7 +29,7 @@ statement_value scope (piece.Value e ∷ ps) = expr_value scope e
 abbrev pub statement_text : Bindings → List TemplatePiece → List ℕ
 statement_text scope [] = []
 statement_text scope (piece.Plain t ∷ ps) = t
-statement_text scope (piece.Value e ∷ ps) = plain_text scope e
+statement_text scope (piece.Value e ∷ ps) = unescaped_text scope e
 
 -- how many bytes the text of a path has at most: 64 segments of 200 bytes, each after a slash
 abbrev pub longest_name : ℕ

@@ -2,7 +2,7 @@
 
 ghost use Rattle.std.specs.Prelude.{◌≡◌, IfOk};
 ghost use Rattle.htl_expr.specs.Bindings.{with_vars};
-ghost use Rattle.htl_expr.specs.Value.{is_true, list_in, plain_text};
+ghost use Rattle.htl_expr.specs.Value.{is_true, list_in, unescaped_text};
 ghost use Rattle.htl_expr.specs.Variables.{vars_of};
 ghost use Rattle.htl_blocks.specs.Written as spec;
 
@@ -67,10 +67,10 @@ fn expression_name<'v, 'a: 'v>(
     vars: &'v Variables<'v>,
     expression: &'v Expr,
 ) -> Mem<TextBuf>
-    ensures name { IfOk result (λ name. name ≡ spec.name_in (plain_text (with_vars of.old (vars_of vars.now)) expression.now)) }
+    ensures name { IfOk result (λ name. name ≡ spec.name_in (unescaped_text (with_vars of.old (vars_of vars.now)) expression.now)) }
     ensures resource { of.new ≡ of.old }
 {
-    match expression.plain(alloc, of, vars, LONGEST_NAME) {
+    match expression.unescaped(alloc, of, vars, LONGEST_NAME) {
         Ok(text) => Ok(text),
         Err(WriteFault::TooLong) => TextBuf::of(alloc, ""),
         Err(WriteFault::NoMemory) => Err(NoMemory),

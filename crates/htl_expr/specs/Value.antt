@@ -149,8 +149,8 @@ list_in (out.List texts) = Some texts
 list_in _ = None
 
 -- the text of a whole expression before it is escaped
-abbrev pub plain_text : Scope → Expression → List ℕ
-plain_text scope e = plain (join_text e.join) (expr_value scope e)
+abbrev pub unescaped_text : Scope → Expression → List ℕ
+unescaped_text scope e = plain (join_text e.join) (expr_value scope e)
 
 -- the text that a whole expression writes
 abbrev pub print : Scope → Expression → List ℕ

@@ -1,4 +1,4 @@
--- The variables of a place in a script: names with texts, the inner before the outer.
+-- The variables of a setting in a script: names with texts, the inner before the outer.
 use Rattle.std.specs.Prelude.{ℕ, List, [], ◌∷◌, map}
 use Rattle.std.specs.Borrow.{Bor}
 use Rattle.sp_base.specs.Texts.{Pairs}

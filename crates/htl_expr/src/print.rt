@@ -3,7 +3,7 @@
 ghost use Rattle.std.specs.Prelude.{◌≡◌, ◌≤◌, ◌++◌, [], IfOk, IfErr, OnOk, OnErr, string_bytes, map, length};
 ghost use Rattle.htl_expr.specs.Lent.{out_of_lent, plain_item, IsOperand, plain_lent};
 ghost use Rattle.htl_expr.specs.Print as spec;
-ghost use Rattle.htl_expr.specs.Value.{plain_text, print};
+ghost use Rattle.htl_expr.specs.Value.{unescaped_text, print};
 ghost use Rattle.htl_expr.specs.Variables.{seen_by};
 ghost use Rattle.htl_expr.specs.Writing.{Wrote, WroteAs, WriteFailsAsTooLongIfMemory, IsWrittenWithin};
 
@@ -164,7 +164,7 @@ impl Expr {
         writing: Writing,
     ) -> Result<(), WriteFault>
         requires { length (string_bytes text.old) ≤ writing.most }
-        ensures text { WroteAs writing result (string_bytes text.old) (plain_text (seen_by of.old vars.now) self.now) (string_bytes text.new) }
+        ensures text { WroteAs writing result (string_bytes text.old) (unescaped_text (seen_by of.old vars.now) self.now) (string_bytes text.new) }
         ensures resource { of.new ≡ of.old }
     {
         match &self.expression.node {

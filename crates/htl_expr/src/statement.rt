@@ -51,15 +51,15 @@ impl Expr {
     }
 
     /// The text of the value before it is escaped, for a resource and variables, where it has at most `most` bytes.
-    pub fn plain<'v, 'a: 'v>(
+    pub fn unescaped<'v, 'a: 'v>(
         &'v self,
         alloc: Global,
         of: &mut Evaluation<'a>,
         vars: &'v Variables<'v>,
         most: usize,
     ) -> Result<TextBuf, WriteFault>
-        ensures ok { IfOk result (λ text. (text ≡ spec.plain_text (seen_by of.old vars.now) self.now) × (length text ≤ most)) }
-        ensures err { IfErr result (WriteFailsAsTooLongIfMemory most (spec.plain_text (seen_by of.old vars.now) self.now)) }
+        ensures ok { IfOk result (λ text. (text ≡ spec.unescaped_text (seen_by of.old vars.now) self.now) × (length text ≤ most)) }
+        ensures err { IfErr result (WriteFailsAsTooLongIfMemory most (spec.unescaped_text (seen_by of.old vars.now) self.now)) }
         ensures resource { of.new ≡ of.old }
     {
         let mut text = String::new(alloc);

@@ -48,7 +48,7 @@ from (state.Inside mark) c w left x = go (eqb c mark) (eqb c 92) refl refl x
     go : (a b : Bool) → eqb c mark ≡ a → eqb c 92 ≡ b → From (cond a state.Outside (cond b (state.Escaped mark) (state.Inside mark))) w → From (state.Inside mark) (c ∷ w)
     go true b ea eb y = (c ∷ [], w, refl, subst (λ (d : ℕ). Quotation mark (d ∷ [])) (sym (eqb-true c mark ea)) s.closes, y)
     go false true ea eb y = (c ∷ y.0 ∷ y.1, y.2, ap (λ (t : List ℕ). c ∷ t) y.3, subst (λ (d : ℕ). Quotation mark (d ∷ y.0 ∷ y.1)) (sym (eqb-true c 92 eb)) (s.escape y.4), y.5)
-    go false false ea eb y = (c ∷ y.0, y.1, ap (λ (t : List ℕ). c ∷ t) y.2, s.plain ea eb y.3, y.4)
+    go false false ea eb y = (c ∷ y.0, y.1, ap (λ (t : List ℕ). c ∷ t) y.2, s.other ea eb y.3, y.4)
 from (state.Escaped mark) c w left x = (c, x.0, x.1, ap (λ (t : List ℕ). c ∷ t) x.2, x.3, x.4)
 
 closed_here : (quotes : Quotes) (c n : ℕ) (t : List ℕ) (m : ℕ) → closes_expression quotes c ≡ true → Some n ≡ Some m → Closed quotes n (c ∷ t) m
@@ -75,7 +75,7 @@ closed quotes n (c ∷ t) m h =
 quoted_passed : (mark n : ℕ) (w u : List ℕ) → eqb 92 mark ≡ false → Quotation mark w → closing (state.Inside mark) n (w ++ u) ≡ closing state.Outside (n + length w) u
 unfolding closing
 quoted_passed mark n _ u m s.closes = rw (nat_eq_itself mark) refl
-quoted_passed mark n _ u m (s.plain {t = t} a b x) =
+quoted_passed mark n _ u m (s.other {t = t} a b x) =
     let more : (n + 1) + length t ≡ n + suc (length t) = omega arith in
     rw (a, b) (quoted_passed mark (n + 1) t u m x ∙ ap (λ (k : ℕ). closing state.Outside k u) more)
 quoted_passed mark n _ u m (s.escape {t = t} x) =

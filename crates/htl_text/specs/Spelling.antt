@@ -12,7 +12,7 @@ use Rattle.htl_text.specs.Template.{opens_expression, escapes, pieces_after_plai
 -- what stands after a quote mark, up to and with the same mark; a backslash takes the next byte with it
 pub data Quotation (mark : ℕ) : List ℕ → Type 0 where
   closes : Quotation mark (mark ∷ [])
-  plain : {c : ℕ} {t : List ℕ} → (c == mark) ≡ false → (c == 92) ≡ false → Quotation mark t → Quotation mark (c ∷ t)
+  other : {c : ℕ} {t : List ℕ} → (c == mark) ≡ false → (c == 92) ≡ false → Quotation mark t → Quotation mark (c ∷ t)
   escape : {c : ℕ} {t : List ℕ} → Quotation mark t → Quotation mark (92 ∷ c ∷ t)
 
 -- what may stand between the braces: whole strings, and other bytes than "}"

@@ -6,7 +6,7 @@ use Rattle.std.specs.Option.{is_none}
 use Rattle.std.proofs.lemmas.List.{append-nil, get_or-map, length-map, map-append, take_more}
 use Rattle.std.proofs.lemmas.List.Folds.{list_any-append}
 use Rattle.std.specs.List.{list_any}
-use Rattle.sp_base.specs.declared.field.FieldPlace.{FieldPlace}
+use Rattle.sp_base.specs.declared.field.FieldSpan.{FieldSpan}
 use Rattle.sp_base.specs.Fields.{field_at}
 use Rattle.httparse.specs.declared.spans.HeaderSpan.{HeaderSpan}
 use Rattle.httparse.specs.Spans.{header_bytes, span_bytes}
@@ -31,7 +31,7 @@ name_at bytes spans i d all inside =
     (all i (header_bytes bytes d) (omega (arith, length-map spans (header_bytes bytes))))
 
 -- one field more
-pub one_more : (bytes : List ℕ) (spans : List HeaderSpan) (i : ℕ) (d : HeaderSpan) (fields next : List FieldPlace) (field : FieldPlace)
+pub one_more : (bytes : List ℕ) (spans : List HeaderSpan) (i : ℕ) (d : HeaderSpan) (fields next : List FieldSpan) (field : FieldSpan)
     → map (field_at bytes) fields ≡ map lower_case_field (map (header_bytes bytes) (take i spans)) → next ≡ fields ++ field ∷ []
     → field_at bytes field ≡ lower_case_field (header_bytes bytes (get_or spans i d)) → i < length spans
     → map (field_at bytes) next ≡ map lower_case_field (map (header_bytes bytes) (take (i + 1) spans))

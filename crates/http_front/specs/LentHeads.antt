@@ -5,7 +5,7 @@ use Rattle.std.specs.Cmp.Lexicographic.{pointwise}
 use Rattle.http1.specs.Fields.{elements, has_option}
 use Rattle.httparse.specs.declared.spans.RequestSpans.{RequestSpans}
 use Rattle.httparse.specs.Spans.{span_bytes}
-use Rattle.sp_base.specs.declared.field.FieldPlace.{FieldPlace}
+use Rattle.sp_base.specs.declared.field.FieldSpan.{FieldSpan}
 use Rattle.sp_base.specs.Fields.{field_at}
 use Rattle.sp_base.specs.Requests.{Request, request_line}
 use Rattle.sp_base.specs.Texts.{Pairs}
@@ -23,7 +23,7 @@ abbrev pub asked_by : LentAsked → AskedFields
 asked_by asked = record { host = asked.host.now; port = asked.port; target = target_by asked.target; body_length = asked.body_length }
 
 -- the fields whose values stand at places of the bytes
-abbrev pub fields_at : List ℕ → List FieldPlace → Pairs
+abbrev pub fields_at : List ℕ → List FieldSpan → Pairs
 fields_at bytes fields = map (field_at bytes) fields
 
 -- a field in lower case that asks for the connection to close

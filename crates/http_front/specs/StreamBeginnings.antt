@@ -10,9 +10,9 @@ use Rattle.http_front.specs.declared.window.StreamStart.TheVariants.{Whole, Part
 use Rattle.http_front.specs.Heads.{request_parts_at, parts_of}
 use Rattle.http_front.specs.Turns.{BeginsAsking, BeginsRefused, AwaitsHead, HasNoHead, longest_head}
 
--- places for as many fields as no head has
-abbrev pub most_places : ℕ
-most_places = 8192
+-- spans for as many fields as no head has
+abbrev pub most_spans : ℕ
+most_spans = 8192
 
 -- the first bytes hold this head, and its parts stand at these places
 pub record HoldsHead (bytes : List ℕ) (fields : List HeaderSpan) (spans : RequestSpans) (head : RequestHead) : Type 0 where

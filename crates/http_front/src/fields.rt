@@ -13,11 +13,11 @@ ghost use Rattle.http_front.specs.Heads as spec;
 use http_header::{CONNECTION, HeaderName, HeaderNameError};
 use http1::fields::KnownFields;
 use httparse::spans::HeaderSpan;
-use sp_base::{FieldPlace, Mem, NoMemory};
+use sp_base::{FieldSpan, Mem, NoMemory};
 use std::alloc::Global;
 
 /// The fields that stand at these places, by name.
-pub fn named_fields(alloc: Global, bytes: &[u8], spans: &[HeaderSpan]) -> Mem<Vec<FieldPlace>>
+pub fn named_fields(alloc: Global, bytes: &[u8], spans: &[HeaderSpan]) -> Mem<Vec<FieldSpan>>
     requires within { All (IsHeaderWithin (length bytes.now)) spans.now }
     requires names { All (λ field. IsFieldName field.0) (map (header_bytes bytes.now) spans.now) }
     ensures fields { IfOk result (λ fields. fields_at bytes.now fields.items ≡ map spec.lower_case_field (map (header_bytes bytes.now) spans.now)) }
@@ -30,14 +30,14 @@ pub fn named_fields(alloc: Global, bytes: &[u8], spans: &[HeaderSpan]) -> Mem<Ve
     Ok(fields)
 }
 
-fn named_field(alloc: Global, bytes: &[u8], span: &HeaderSpan) -> Mem<FieldPlace>
+fn named_field(alloc: Global, bytes: &[u8], span: &HeaderSpan) -> Mem<FieldSpan>
     requires within { IsHeaderWithin (length bytes.now) span.now }
     requires name { IsFieldName (span_bytes bytes.now span.now.name) }
     ensures field { IfOk result (λ field. field_at bytes.now field ≡ spec.lower_case_field (header_bytes bytes.now span.now)) }
     ensures within { IfOk result (IsFieldWithin (length bytes.now)) }
 {
     match name_of(alloc, span.name.of(bytes)) {
-        Ok(name) => Ok(FieldPlace {
+        Ok(name) => Ok(FieldSpan {
             name,
             start: span.value.start,
             end: span.value.end,
@@ -56,7 +56,7 @@ fn name_of(alloc: Global, name: &[u8]) -> Result<HeaderName, HeaderNameError>
 }
 
 /// Whether two fields have the name.
-pub fn is_repeated(fields: &[FieldPlace], name: &HeaderName) -> bool
+pub fn is_repeated(fields: &[FieldSpan], name: &HeaderName) -> bool
     ensures { (bytes : List ℕ) → result ≡ spec.is_repeated name.now (fields_at bytes fields.now) }
 {
     let mut count: usize = 0;
@@ -69,14 +69,14 @@ pub fn is_repeated(fields: &[FieldPlace], name: &HeaderName) -> bool
 }
 
 /// Whether the connection closes after the answer (RFC 9112, section 9.3).
-pub fn is_closing(minor: u8, bytes: &[u8], fields: &[FieldPlace]) -> bool
+pub fn is_closing(minor: u8, bytes: &[u8], fields: &[FieldSpan]) -> bool
     requires { All (IsFieldWithin (length bytes.now)) fields.now }
     ensures { result ≡ is_closing_by_name minor (fields_at bytes.now fields.now) }
 {
     minor == 0 || asks_to_close(bytes, fields)
 }
 
-fn asks_to_close(bytes: &[u8], fields: &[FieldPlace]) -> bool
+fn asks_to_close(bytes: &[u8], fields: &[FieldSpan]) -> bool
     requires { All (IsFieldWithin (length bytes.now)) fields.now }
     ensures { result ≡ list_any is_closing_field (fields_at bytes.now fields.now) }
 {
@@ -87,7 +87,7 @@ fn asks_to_close(bytes: &[u8], fields: &[FieldPlace]) -> bool
     asks
 }
 
-fn is_closing_field(bytes: &[u8], field: &FieldPlace) -> bool
+fn is_closing_field(bytes: &[u8], field: &FieldSpan) -> bool
     requires { IsFieldWithin (length bytes.now) field.now }
     ensures { result ≡ is_closing_field (field_at bytes.now field.now) }
 {

@@ -14,7 +14,7 @@ use crate::target::{LentTarget, lent_target};
 use http_header::{CONTENT_LENGTH, EXPECT, HOST, TRANSFER_ENCODING};
 use http1::text::eq_ignore_case;
 use httparse::spans::{HeaderSpan, RequestSpans};
-use sp_base::{FieldPlace, LentHead, Mem, Req, field_value};
+use sp_base::{FieldSpan, LentHead, Mem, Req, field_value};
 use std::alloc::Global;
 use std::str::from_utf8_unchecked;
 
@@ -92,7 +92,7 @@ fn asked_of<'a>(
     minor: u8,
     target: &'a str,
     bytes: &'a [u8],
-    fields: &[FieldPlace],
+    fields: &[FieldSpan],
 ) -> Result<LentAsked<'a>, InFault>
     requires { All (IsFieldWithin (length bytes.now)) fields.now }
     ensures faultless { OnOk result (spec.first_refusal minor target.now (fields_at bytes.now fields.now) ≡ None) }
@@ -127,7 +127,7 @@ fn request_of(
     bytes: &[u8],
     at: &RequestSpans,
     asked: LentAsked<'_>,
-    fields: Vec<FieldPlace>,
+    fields: Vec<FieldSpan>,
 ) -> Mem<Req>
     requires method { IsWithin (length bytes.now) at.now.method }
     requires path { IsWithin (length bytes.now) at.now.path }
@@ -164,7 +164,7 @@ fn text_of(bytes: &[u8]) -> &str
     unsafe { from_utf8_unchecked(bytes) }
 }
 
-fn asked_host<'a>(minor: u8, bytes: &'a [u8], fields: &[FieldPlace]) -> Option<(&'a [u8], u16)>
+fn asked_host<'a>(minor: u8, bytes: &'a [u8], fields: &[FieldSpan]) -> Option<(&'a [u8], u16)>
     requires { All (IsFieldWithin (length bytes.now)) fields.now }
     ensures value { option_map lent_host result ≡ spec.asked_host minor (fields_at bytes.now fields.now) }
     ensures text { IfSome result (λ host. IsUtf8 host.0.now) }
@@ -177,7 +177,7 @@ fn asked_host<'a>(minor: u8, bytes: &'a [u8], fields: &[FieldPlace]) -> Option<(
 
 // The length of the body, or why it isn't read.
 #[tactic(auto, unfolding(crate::specs::Heads::length_or_fault))]
-fn body_length(bytes: &[u8], fields: &[FieldPlace]) -> Result<usize, InFault>
+fn body_length(bytes: &[u8], fields: &[FieldSpan]) -> Result<usize, InFault>
     requires { All (IsFieldWithin (length bytes.now)) fields.now }
     ensures { result ≡ spec.length_or_fault (fields_at bytes.now fields.now) }
 {
@@ -195,7 +195,7 @@ fn body_length(bytes: &[u8], fields: &[FieldPlace]) -> Result<usize, InFault>
 }
 
 // Whether the sender waits for 100 Continue with a body of this length.
-fn awaits_continue(minor: u8, content: usize, bytes: &[u8], fields: &[FieldPlace]) -> bool
+fn awaits_continue(minor: u8, content: usize, bytes: &[u8], fields: &[FieldSpan]) -> bool
     requires { All (IsFieldWithin (length bytes.now)) fields.now }
     ensures { result ≡ spec.awaits_continue minor content (fields_at bytes.now fields.now) }
 {

@@ -12,7 +12,7 @@ use std::alloc::Global;
 use std::mem;
 
 // Places for the fields of a head, unless it has more.
-const USUAL_PLACES: usize = 100;
+const USUAL_SPANS: usize = 100;
 
 // What an intake reads next.
 #[derive(Drop)]
@@ -37,9 +37,9 @@ enum Advance {
 #[derive(Drop)]
 pub struct Intake {
     buffer: Vec<u8>,
-    // Turns have taken the bytes before this place.
+    // Turns have taken the bytes before this one.
     start: usize,
-    places: Vec<HeaderSpan>,
+    spans: Vec<HeaderSpan>,
     phase: Phase,
     ghost taken: { start ≤ length buffer.items },
 }
@@ -57,7 +57,7 @@ impl Intake {
         Ok(Intake {
             buffer: Vec::new(alloc),
             start: 0,
-            places: vec![in alloc; EMPTY_HEADER_SPAN; USUAL_PLACES]?,
+            spans: vec![in alloc; EMPTY_HEADER_SPAN; USUAL_SPANS]?,
             phase: Phase::Heading,
         })
     }
@@ -119,7 +119,7 @@ impl Intake {
             Phase::Failed(fault) => return Err(*fault),
         }
         let rest = left(&self.buffer, self.start);
-        match read_front(alloc, rest, self.places.as_mut_slice())? {
+        match read_front(alloc, rest, self.spans.as_mut_slice())? {
             StreamStart::Whole(head, len) => Ok(self.begin_body(head, len)),
             StreamStart::Partial | StreamStart::Crowded => Ok(Advance::Waiting),
             StreamStart::Refused(fault) => {

@@ -1,7 +1,7 @@
 //! Finds the head with which a stream begins, in its first bytes.
 ghost use Rattle.std.specs.Prelude.{◌≡◌, ◌≤◌, ℕ, IfOk, length};
 ghost use Rattle.http_front.specs.Turns.{longest_head, window};
-ghost use Rattle.http_front.specs.StreamBeginnings.{IsWindowStart, IsStart, HoldsSomeHead, most_places};
+ghost use Rattle.http_front.specs.StreamBeginnings.{IsWindowStart, IsStart, HoldsSomeHead, most_spans};
 ghost use Rattle.http_front.specs.Heads.{AreWithin};
 
 use crate::fault::InFault;
@@ -14,7 +14,7 @@ use std::alloc::Global;
 const LONGEST_HEAD: usize = 16_384;
 
 // No head has more fields: each takes three bytes at least.
-const MOST_PLACES: usize = 8_192;
+const MOST_SPANS: usize = 8_192;
 
 /// What a stream begins with.
 #[derive(Drop)]
@@ -25,23 +25,23 @@ pub enum StreamStart {
     Partial,
     /// A head that is refused, or bytes that begin none.
     Refused(InFault),
-    /// More fields than there were places for them.
+    /// More fields than there were spans for them.
     Crowded,
 }
 
-/// Reads the head with which a stream begins. The places are written over.
-pub fn read_front(alloc: Global, stream: &[u8], places: &mut [HeaderSpan]) -> Mem<StreamStart>
+/// Reads the head with which a stream begins. The spans are written over.
+pub fn read_front(alloc: Global, stream: &[u8], spans: &mut [HeaderSpan]) -> Mem<StreamStart>
     ensures { IfOk result (IsStart stream.now) }
 {
     let window = window(stream);
-    match read_whole(alloc, window, places)? {
+    match read_whole(alloc, window, spans)? {
         StreamStart::Whole(head, len) => Ok(StreamStart::Whole(head, len)),
         StreamStart::Partial if window.len() == LONGEST_HEAD => {
             Ok(StreamStart::Refused(InFault::LongHead))
         }
         StreamStart::Partial => Ok(StreamStart::Partial),
         StreamStart::Refused(fault) => Ok(StreamStart::Refused(fault)),
-        // There are places for as many fields as the window can hold.
+        // There are spans for as many fields as the window can hold.
         StreamStart::Crowded => Ok(StreamStart::Refused(InFault::BadHead)),
     }
 }
@@ -56,29 +56,29 @@ fn window(stream: &[u8]) -> &[u8]
     }
 }
 
-// Most heads have fewer fields than there are places at hand. Those with more are read again with places for all.
-fn read_whole(alloc: Global, bytes: &[u8], places: &mut [HeaderSpan]) -> Mem<StreamStart>
+// Most heads have fewer fields than there are spans at hand. Those with more are read again with spans for all.
+fn read_whole(alloc: Global, bytes: &[u8], spans: &mut [HeaderSpan]) -> Mem<StreamStart>
     requires { length bytes.now ≤ longest_head }
-    ensures { IfOk result (IsWindowStart bytes.now most_places) }
+    ensures { IfOk result (IsWindowStart bytes.now most_spans) }
 {
-    match read_window(alloc, bytes, places)? {
+    match read_window(alloc, bytes, spans)? {
         StreamStart::Whole(head, len) => Ok(StreamStart::Whole(head, len)),
         StreamStart::Partial => Ok(StreamStart::Partial),
         StreamStart::Refused(fault) => Ok(StreamStart::Refused(fault)),
         StreamStart::Crowded => {
-            let mut all = vec![in alloc; EMPTY_HEADER_SPAN; MOST_PLACES]?;
+            let mut all = vec![in alloc; EMPTY_HEADER_SPAN; MOST_SPANS]?;
             read_window(alloc, bytes, all.as_mut_slice())
         }
     }
 }
 
-// Reads the head at the beginning of a window. The places are written over.
-fn read_window(alloc: Global, bytes: &[u8], places: &mut [HeaderSpan]) -> Mem<StreamStart>
+// Reads the head at the beginning of a window. The spans are written over.
+fn read_window(alloc: Global, bytes: &[u8], spans: &mut [HeaderSpan]) -> Mem<StreamStart>
     requires { length bytes.now ≤ longest_head }
-    ensures { IfOk result (IsWindowStart bytes.now (length places.old)) }
+    ensures { IfOk result (IsWindowStart bytes.now (length spans.old)) }
 {
-    match parse_request(bytes, places) {
-        Ok(Status::Complete(head)) => whole(alloc, bytes, &places[..head.headers], &head),
+    match parse_request(bytes, spans) {
+        Ok(Status::Complete(head)) => whole(alloc, bytes, &spans[..head.headers], &head),
         Ok(Status::Partial) => Ok(StreamStart::Partial),
         Err(Error::TooManyHeaders) => Ok(StreamStart::Crowded),
         Err(_) => Ok(StreamStart::Refused(InFault::BadHead)),

@@ -13,7 +13,7 @@ use crate::walk::walk;
 use cover_rules::{Invalidation, Stamp, a_page_has_one_key};
 use docroot_changes::docroot_calls_add_up;
 use docroot_format::{
-    FileFault, deleted_pages_are_told_by_names, names_are_apart, names_tell_their_files,
+    FileFault, deleted_pages_are_known_by_names, names_are_apart, names_tell_their_files,
 };
 use sp_base::a_path_has_bytes;
 use sp_outside::Disk;
@@ -90,7 +90,7 @@ impl Purge {
         prefixes_are_apart();
         names_are_apart();
         names_tell_their_files();
-        deleted_pages_are_told_by_names();
+        deleted_pages_are_known_by_names();
         a_path_has_bytes(&self.inv.handle);
         // The laws speak of paths, and that the handle is one is a clause of its depth.
         let _depth = self.inv.handle.depth();

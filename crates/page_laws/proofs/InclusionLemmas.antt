@@ -17,7 +17,7 @@ use Rattle.htl_blocks.specs.declared.fault.BlockFault.{BlockFault}
 use Rattle.htl_blocks.specs.Parts.{Part, Script, Resource as ResourcePart}
 use Rattle.htl_blocks.specs.Reading.{blocks_of, most_nested_blocks}
 use Rattle.htl_blocks.specs.Spelling.{SpellsBlocks}
-use Rattle.publisher.specs.Pages.{ScriptPlace, html_parts, included_resource, included_script, inclusion, joined, one_inclusion, parts_page, path_named, place_for, put_in, readable_blocks, resource_by, script_blocks, written_resource, written_at, written_page}
+use Rattle.publisher.specs.Pages.{ScriptSetting, html_parts, included_resource, included_script, inclusion, joined, one_inclusion, parts_page, path_named, setting_for, put_in, readable_blocks, resource_by, script_blocks, written_resource, written_at, written_page}
 use Rattle.publisher.proofs.PageLemmas.{joined_blank, resource_is, script_is}
 use Rattle.publisher.proofs.ScriptLaw.{found_first}
 use Rattle.page_laws.specs.Inclusions.{HasScript, ScriptsStandForTheSameResource, ResourcesStandByTheirFirstScript, NothingStandsForMissingScripts, NothingStandsForMissingResources, PagesOfOneIncludeAreThatScripts, PagesOfOneResourceAreThatResources, MissingScriptsAreCounted, MissingResourcesAreCounted}
@@ -64,19 +64,19 @@ none_there known tree path apart = go (script_blocks tree path) refl
 
 -- ---- one part
 
-put_in_stands : (tree : Content) (levels : ℕ) (place : ScriptPlace) (p : Part) (at : ScriptPlace) (vars : Pairs) (blocks : List Block) → put_in tree place p ≡ written_at at vars (Some blocks)
-    → inclusion tree (suc levels) place p ≡ written_page (inclusion tree levels) (written_at at vars (Some blocks))
+put_in_stands : (tree : Content) (levels : ℕ) (setting : ScriptSetting) (p : Part) (at : ScriptSetting) (vars : Pairs) (blocks : List Block) → put_in tree setting p ≡ written_at at vars (Some blocks)
+    → inclusion tree (suc levels) setting p ≡ written_page (inclusion tree levels) (written_at at vars (Some blocks))
 unfolding inclusion
-put_in_stands tree levels place p at vars blocks e = ap (written_page (inclusion tree levels)) e
+put_in_stands tree levels setting p at vars blocks e = ap (written_page (inclusion tree levels)) e
 
-nothing_stands : (tree : Content) (levels : ℕ) (place : ScriptPlace) (p : Part) → put_in tree place p ≡ None → inclusion tree (suc levels) place p ≡ written_page (inclusion tree levels) None
+nothing_stands : (tree : Content) (levels : ℕ) (setting : ScriptSetting) (p : Part) → put_in tree setting p ≡ None → inclusion tree (suc levels) setting p ≡ written_page (inclusion tree levels) None
 unfolding inclusion
-nothing_stands tree levels place p e = ap (written_page (inclusion tree levels)) e
+nothing_stands tree levels setting p e = ap (written_page (inclusion tree levels)) e
 
 pub scripts_stand : Known → ScriptsStandForTheSameResource
-scripts_stand known tree levels place name vars script blocks x =
-    let at : ScriptPlace = record place { script = script } in
-    put_in_stands tree levels place (Script name vars) at vars blocks (ap (included_script tree place vars) x.named ∙ ap (written_at at vars) (blocks_there known tree script blocks x.has))
+scripts_stand known tree levels setting name vars script blocks x =
+    let at : ScriptSetting = record setting { script = script } in
+    put_in_stands tree levels setting (Script name vars) at vars blocks (ap (included_script tree setting vars) x.named ∙ ap (written_at at vars) (blocks_there known tree script blocks x.has))
 
 first_is : Known → (tree : Content) (res : Resource) (script : Segments) → IsFirstScript tree (chain_of tree res.props) (html_parts res.path) script → first_script tree (chain_of tree res.props) (html_parts res.path) ≡ Some script
 first_is known tree res script first =
@@ -85,48 +85,48 @@ first_is known tree res script first =
     found_first tree chain parts script (first_script tree chain parts) (known.one tree chain parts) (known.first tree chain parts) (known.none tree chain parts) first
 
 pub resources_stand : Known → ResourcesStandByTheirFirstScript
-resources_stand known tree levels place name res script blocks x =
-    put_in_stands tree levels place (ResourcePart name) (place_for script res) [] blocks
-    (ap (included_resource tree) x.named ∙ ap (written_resource tree) x.seen ∙ ap (resource_by tree res) (first_is known tree res script x.first) ∙ ap (written_at (place_for script res) []) (blocks_there known tree script blocks x.has))
+resources_stand known tree levels setting name res script blocks x =
+    put_in_stands tree levels setting (ResourcePart name) (setting_for script res) [] blocks
+    (ap (included_resource tree) x.named ∙ ap (written_resource tree) x.seen ∙ ap (resource_by tree res) (first_is known tree res script x.first) ∙ ap (written_at (setting_for script res) []) (blocks_there known tree script blocks x.has))
 
 pub no_script_stands : Known → NothingStandsForMissingScripts
-no_script_stands known tree levels place name vars apart = nothing_stands tree levels place (Script name vars) (go (path_named (parent_of place.script) name) refl)
+no_script_stands known tree levels setting name vars apart = nothing_stands tree levels setting (Script name vars) (go (path_named (parent_of setting.script) name) refl)
   where
-    go : (o : Option Segments) → path_named (parent_of place.script) name ≡ o → included_script tree place vars o ≡ None
+    go : (o : Option Segments) → path_named (parent_of setting.script) name ≡ o → included_script tree setting vars o ≡ None
     go None is = refl
-    go (Some script) is = ap (written_at (record place { script = script }) vars) (none_there known tree script (λ blocks has. apart script blocks (record { named = is; has = has })))
+    go (Some script) is = ap (written_at (record setting { script = script }) vars) (none_there known tree script (λ blocks has. apart script blocks (record { named = is; has = has })))
 
 pub no_resource_stands : Known → NothingStandsForMissingResources
-no_resource_stands known tree levels place name apart = nothing_stands tree levels place (ResourcePart name) (named (path_named place.path name) refl)
+no_resource_stands known tree levels setting name apart = nothing_stands tree levels setting (ResourcePart name) (named (path_named setting.path name) refl)
   where
-    scripted : (path : Segments) (res : Resource) → path_named place.path name ≡ Some path → merged_resource tree path ≡ Some res
+    scripted : (path : Segments) (res : Resource) → path_named setting.path name ≡ Some path → merged_resource tree path ≡ Some res
         → (o : Option Segments) → IfSome o (IsFirstScript tree (chain_of tree res.props) (html_parts res.path)) → resource_by tree res o ≡ None
     scripted path res is seen None first = refl
     scripted path res is seen (Some script) first =
-        ap (written_at (place_for script res) []) (none_there known tree script (λ blocks has. apart res script blocks (record { path = path; named = is; seen = seen; first = first; has = has })))
+        ap (written_at (setting_for script res) []) (none_there known tree script (λ blocks has. apart res script blocks (record { path = path; named = is; seen = seen; first = first; has = has })))
 
-    shown : (path : Segments) → path_named place.path name ≡ Some path → (o : Option Resource) → merged_resource tree path ≡ o → written_resource tree o ≡ None
+    shown : (path : Segments) → path_named setting.path name ≡ Some path → (o : Option Resource) → merged_resource tree path ≡ o → written_resource tree o ≡ None
     shown path is None seen = refl
     shown path is (Some res) seen = scripted path res is seen (first_script tree (chain_of tree res.props) (html_parts res.path)) (known.first tree (chain_of tree res.props) (html_parts res.path))
 
-    named : (o : Option Segments) → path_named place.path name ≡ o → included_resource tree o ≡ None
+    named : (o : Option Segments) → path_named setting.path name ≡ o → included_resource tree o ≡ None
     named None is = refl
     named (Some path) is = shown path is (merged_resource tree path) refl
 
 -- ---- whole pages
 
 pub include_page : Known → PagesOfOneIncludeAreThatScripts
-include_page known tree place own name script blocks is x =
-    ap (parts_page (inclusion tree 16 place)) is ∙ script_is (inclusion tree 16 place) name [] ∙ ap (joined one_inclusion) (scripts_stand known tree 15 place name [] script blocks x)
+include_page known tree setting own name script blocks is x =
+    ap (parts_page (inclusion tree 16 setting)) is ∙ script_is (inclusion tree 16 setting) name [] ∙ ap (joined one_inclusion) (scripts_stand known tree 15 setting name [] script blocks x)
 
 pub resource_page : Known → PagesOfOneResourceAreThatResources
-resource_page known tree place own name res script blocks is x =
-    ap (parts_page (inclusion tree 16 place)) is ∙ resource_is (inclusion tree 16 place) name ∙ ap (joined one_inclusion) (resources_stand known tree 15 place name res script blocks x)
+resource_page known tree setting own name res script blocks is x =
+    ap (parts_page (inclusion tree 16 setting)) is ∙ resource_is (inclusion tree 16 setting) name ∙ ap (joined one_inclusion) (resources_stand known tree 15 setting name res script blocks x)
 
 pub no_include_page : Known → MissingScriptsAreCounted
-no_include_page known tree place own name is apart =
-    ap (parts_page (inclusion tree 16 place)) is ∙ script_is (inclusion tree 16 place) name [] ∙ ap (joined one_inclusion) (no_script_stands known tree 15 place name [] apart) ∙ joined_blank one_inclusion
+no_include_page known tree setting own name is apart =
+    ap (parts_page (inclusion tree 16 setting)) is ∙ script_is (inclusion tree 16 setting) name [] ∙ ap (joined one_inclusion) (no_script_stands known tree 15 setting name [] apart) ∙ joined_blank one_inclusion
 
 pub no_resource_page : Known → MissingResourcesAreCounted
-no_resource_page known tree place own name is apart =
-    ap (parts_page (inclusion tree 16 place)) is ∙ resource_is (inclusion tree 16 place) name ∙ ap (joined one_inclusion) (no_resource_stands known tree 15 place name apart) ∙ joined_blank one_inclusion
+no_resource_page known tree setting own name is apart =
+    ap (parts_page (inclusion tree 16 setting)) is ∙ resource_is (inclusion tree 16 setting) name ∙ ap (joined one_inclusion) (no_resource_stands known tree 15 setting name apart) ∙ joined_blank one_inclusion

@@ -12,7 +12,7 @@ use Rattle.htl_blocks.specs.Refused.{most_inclusions, most_rounds}
 use Rattle.htl_blocks.specs.Spelling.{SpellsBlocks}
 use Rattle.htl_blocks.specs.Written.{blocks_parts}
 use Rattle.publisher.specs.Cases.{ReadsByScript}
-use Rattle.publisher.specs.Pages.{ScriptPlace, Written, bindings_at, most_levels, page_of, place_for, put_in}
+use Rattle.publisher.specs.Pages.{ScriptSetting, Written, bindings_at, most_levels, page_of, setting_for, put_in}
 use Rattle.publisher.specs.Rendering.{answer_to_request}
 
 -- among parts something is to be put in, whether it is there or not
@@ -23,30 +23,30 @@ pub record PutsSomethingIn (ps : List Part) : Type 0 where
   pub whole : ps ≡ before ++ part ∷ after
   pub puts : is_inclusion part ≡ true
 
--- among parts at a place one puts this in
-pub record PutsIn (tree : Content) (place : ScriptPlace) (ps : List Part) (written : Written) : Type 0 where
+-- among parts in a setting one puts this in
+pub record PutsIn (tree : Content) (setting : ScriptSetting) (ps : List Part) (written : Written) : Type 0 where
   pub before : List Part
   pub part : Part
   pub after : List Part
   pub whole : ps ≡ before ++ part ∷ after
-  pub there : put_in tree place part ≡ Some written
+  pub there : put_in tree setting part ≡ Some written
 
 -- so many scripts and resources are put in, one in another, and in the last something more is to be put in
-abbrev pub Nests : Content → ℕ → ScriptPlace → List Part → Type 0
-Nests tree zero place ps = PutsSomethingIn ps
-Nests tree (suc levels) place ps = (written : Written) × PutsIn tree place ps written × Nests tree levels written.place written.parts
+abbrev pub Nests : Content → ℕ → ScriptSetting → List Part → Type 0
+Nests tree zero setting ps = PutsSomethingIn ps
+Nests tree (suc levels) setting ps = (written : Written) × PutsIn tree setting ps written × Nests tree levels written.setting written.parts
 
 -- A page passes a limit: of its text, of what is to be put in, of the contents of lists, or of how deep scripts and resources stand one in another.
-pub data PassesALimit (tree : Content) (place : ScriptPlace) (blocks : List Block) : Type 0 where
-  TooLong : most_rendered_bytes < length (page_of tree place blocks).text → PassesALimit tree place blocks
-  TooMuchPutIn : most_inclusions < (page_of tree place blocks).inclusions → PassesALimit tree place blocks
-  TooManyRounds : most_rounds < (page_of tree place blocks).rounds → PassesALimit tree place blocks
-  TooDeep : Nests tree most_levels place (blocks_parts (bindings_at place []) blocks) → PassesALimit tree place blocks
+pub data PassesALimit (tree : Content) (setting : ScriptSetting) (blocks : List Block) : Type 0 where
+  TooLong : most_rendered_bytes < length (page_of tree setting blocks).text → PassesALimit tree setting blocks
+  TooMuchPutIn : most_inclusions < (page_of tree setting blocks).inclusions → PassesALimit tree setting blocks
+  TooManyRounds : most_rounds < (page_of tree setting blocks).rounds → PassesALimit tree setting blocks
+  TooDeep : Nests tree most_levels setting (blocks_parts (bindings_at setting []) blocks) → PassesALimit tree setting blocks
 
 -- a page by a script is answered 500 exactly where it passes a limit
 abbrev pub IsRefusedWhereItPassesALimit : Content → Ask → Resource → Text → List Block → Type 0
 IsRefusedWhereItPassesALimit tree ask res text blocks = (reads : ReadsByScript tree ask res text) → SpellsBlocks most_nested_blocks text blocks
-    → ((answer_to_request tree ask).status ≡ 500) ↔ PassesALimit tree (place_for reads.script res) blocks
+    → ((answer_to_request tree ask).status ≡ 500) ↔ PassesALimit tree (setting_for reads.script res) blocks
 
 -- so it is with each page by a script
 abbrev pub PagesAreRefusedWhereTheyPassALimit : Type 0

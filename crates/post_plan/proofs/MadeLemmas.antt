@@ -7,7 +7,7 @@ use Rattle.std.specs.Char.{is_ascii_alphanumeric, to_ascii_lowercase}
 use Rattle.std.specs.List.{list_all, flat_map}
 use Rattle.sp_base.proofs.NatLemmas.{zero_below_suc}
 use Rattle.post_plan.specs.NewNames.{name_bytes, or_node, made_name, longest_made}
-use Rattle.post_plan.specs.MadeNames.{NameRun, bytes_of_run, run_name, is_run, is_other_byte, are_apart, alternate, AreRunsOf, HasRuns, is_made_byte, HasTwoMarks}
+use Rattle.post_plan.specs.MadeNames.{NameRun, bytes_of_run, run_name, is_run, is_other_byte, are_apart, alternate, AreRunsOf, HasRuns, is_made_byte, HasTwoUnderscores}
 
 -- ---- runs
 
@@ -211,7 +211,7 @@ two_marks true [] after e = absurd cc
 two_marks false [] after e = absurd cc
 two_marks run (b ∷ before) after e = two_marks (eqb b 95) before after (and_parts (not (run && eqb b 95)) (single (eqb b 95) (before ++ 95 ∷ 95 ∷ after)) e).1
 
-pub made_single : (word : List ℕ) → HasTwoMarks (made_name word) → ⊥
+pub made_single : (word : List ℕ) → HasTwoUnderscores (made_name word) → ⊥
 made_single word two =
     let e = or_node_single (take longest_made (name_bytes false word)) (single_take false longest_made (name_bytes false word) (single_read false word)) in
     two_marks false two.before two.after (sym (ap (single false) two.is) ∙ e)

@@ -55,7 +55,7 @@ abbrev pub is_made_byte : ℕ → Bool
 is_made_byte b = is_ascii_lowercase b || (is_ascii_digit b || b == 95)
 
 -- one `_` stands after another
-pub record HasTwoMarks (name : List ℕ) : Type 0 where
+pub record HasTwoUnderscores (name : List ℕ) : Type 0 where
   pub before : List ℕ
   pub after : List ℕ
   pub is : name ≡ before ++ 95 ∷ 95 ∷ after

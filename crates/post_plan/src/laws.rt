@@ -1,7 +1,7 @@
 //! What a form asks for: laws of the definitions, on functions that do nothing.
 ghost use Rattle.std.specs.List.{list_all};
 ghost use Rattle.std.specs.Prelude.{◌≡◌, ◌≤◌, ℕ, List, flat_map, length, take, true};
-ghost use Rattle.post_plan.specs.MadeNames.{is_made_byte, run_name, AreRunsOf, HasRuns, HasTwoMarks, NameRun};
+ghost use Rattle.post_plan.specs.MadeNames.{is_made_byte, run_name, AreRunsOf, HasRuns, HasTwoUnderscores, NameRun};
 ghost use Rattle.post_plan.specs.NewNames.{longest_made, made_name, or_node};
 ghost use Rattle.post_plan.specs.OperationPaths.{AsksForPaths};
 
@@ -22,5 +22,5 @@ pub fn made_names_are_their_words_runs()
     ensures bytes { (word : List ℕ) → list_all is_made_byte (made_name word) ≡ true }
     ensures some { (word : List ℕ) → 1 ≤ length (made_name word) }
     ensures few { (word : List ℕ) → length (made_name word) ≤ longest_made }
-    ensures single { (word : List ℕ) → HasTwoMarks (made_name word) → ⊥ }
+    ensures single { (word : List ℕ) → HasTwoUnderscores (made_name word) → ⊥ }
 {}

@@ -21,7 +21,7 @@ use Rattle.get_servlet.specs.Streams.{stream_of}
 use Rattle.publisher.specs.declared.templates.Reading.{Reading}
 use Rattle.publisher.specs.declared.templates.Reading.TheVariants.{Parsed, Refused}
 use Rattle.publisher.specs.Readings.{reading_of}
-use Rattle.publisher.specs.Pages.{is_over, page_of, place_for}
+use Rattle.publisher.specs.Pages.{is_over, page_of, setting_for}
 use Rattle.error_answers.specs.Errors.{error_answer}
 use Rattle.publisher.specs.Errors.{answer_with_body}
 use Rattle.publisher.specs.Depths.{depth_of}
@@ -70,7 +70,7 @@ default_is streams seen parts res =
 
 script_is : (tree : Content) (res : Resource) (script : Segments) (reading : Reading) → HasKind (script_representation tree res script reading)
 script_is tree res script (Parsed blocks) =
-    either (is_over (page_of tree (place_for script res) blocks)) _ _ (error_kind 500) (representation_kind html_kind (mark_of res) (page_of tree (place_for script res) blocks).text refl)
+    either (is_over (page_of tree (setting_for script res) blocks)) _ _ (error_kind 500) (representation_kind html_kind (mark_of res) (page_of tree (setting_for script res) blocks).text refl)
 script_is tree res script Refused = error_kind 500
 
 by_is : StreamsHaveKinds → (script : Option ScriptAt) (tree : Content) (parts : Parts) (res : Resource) → HasKind (answer_by script tree parts res)

@@ -14,22 +14,22 @@ use Rattle.publisher.specs.Errors.{answer_with_body}
 use Rattle.publisher.specs.Gathering.{IsPassed}
 use Rattle.publisher.specs.declared.waiting.Waiting.{Waiting}
 use Rattle.publisher.specs.Waits.{nothing}
-use Rattle.publisher.specs.Pages.{Page, ScriptPlace, bindings_at, blank, inclusion, is_over, joined, most_levels, page_of, parts_page, place_for}
+use Rattle.publisher.specs.Pages.{GatheredPage, ScriptSetting, bindings_at, blank, inclusion, is_over, joined, most_levels, page_of, parts_page, setting_for}
 use Rattle.publisher.specs.Rendering.{html_kind, page_answer, representation_of}
 use Rattle.publisher.proofs.PageLemmas.{blank_joined, not_over, over_or_long, too_long}
 
--- what is gathered at the place of a resource, without variables, is its page
-pub page_is : (tree : Content) (res : Resource) (script path : Segments) (props : Properties) (vars : Pairs) (blocks : List Block) (place : ScriptPlace) → place ≡ record { script = script; path = path; props = props } → path ≡ res.path → props ≡ res.props → vars ≡ []
-    → parts_page (inclusion tree most_levels place) (blocks_parts (bindings_at place vars) blocks) ≡ page_of tree (place_for script res) blocks
-page_is tree res script path props vars blocks place here path_is props_is none =
-    let there : place ≡ place_for script res = here ∙ (λ i. record { script = script; path = path_is i; props = props_is i }) in
+-- what is gathered in the setting of a resource, without variables, is its page
+pub page_is : (tree : Content) (res : Resource) (script path : Segments) (props : Properties) (vars : Pairs) (blocks : List Block) (setting : ScriptSetting) → setting ≡ record { script = script; path = path; props = props } → path ≡ res.path → props ≡ res.props → vars ≡ []
+    → parts_page (inclusion tree most_levels setting) (blocks_parts (bindings_at setting vars) blocks) ≡ page_of tree (setting_for script res) blocks
+page_is tree res script path props vars blocks setting here path_is props_is none =
+    let there : setting ≡ setting_for script res = here ∙ (λ i. record { script = script; path = path_is i; props = props_is i }) in
     λ i. parts_page (inclusion tree most_levels (there i)) (blocks_parts (bindings_at (there i) (none i)) blocks)
 
-gathered_whole : (old new page : Page) → old ≡ blank → new ≡ joined old page → new ≡ page
-gathered_whole old new page none is = is ∙ ap (λ (p : Page). joined p page) none ∙ blank_joined page
+gathered_whole : (old new page : GatheredPage) → old ≡ blank → new ≡ joined old page → new ≡ page
+gathered_whole old new page none is = is ∙ ap (λ (p : GatheredPage). joined p page) none ∙ blank_joined page
 
 -- within its limits it is its text
-pub within_limits : (mark : Mark) (old new page : Page) (body : List ℕ) → old ≡ blank → new ≡ joined old page → body ≡ new.text → new.inclusions ≤ most_inclusions → new.rounds ≤ most_rounds → new.is_deep ≡ false
+pub within_limits : (mark : Mark) (old new page : GatheredPage) (body : List ℕ) → old ≡ blank → new ≡ joined old page → body ≡ new.text → new.inclusions ≤ most_inclusions → new.rounds ≤ most_rounds → new.is_deep ≡ false
     → representation_of html_kind mark body ≡ page_answer mark page
 within_limits mark old new page body none is text included repeated deep =
     let whole : new ≡ page = gathered_whole old new page none is in
@@ -42,9 +42,9 @@ too_long_answer true mark text long = refl
 too_long_answer false mark text long = ap (λ (b : Bool). if b then answer_with_body 200 html_kind mark text else error_answer 500) (too_long most_rendered_bytes (length text) long)
 
 -- over them it is an error
-pub over_limits : (mark : Mark) (waiting : Waiting) (old page : Page) → waiting ≡ nothing → old ≡ blank → IsPassed waiting (joined old page) → error_answer 500 ≡ page_answer mark page
+pub over_limits : (mark : Mark) (waiting : Waiting) (old page : GatheredPage) → waiting ≡ nothing → old ≡ blank → IsPassed waiting (joined old page) → error_answer 500 ≡ page_answer mark page
 over_limits mark waiting old page empty none passed =
-    by_limit (over_or_long page (subst (λ (w : Waiting). IsPassed w page) empty (subst (IsPassed waiting) (ap (λ (p : Page). joined p page) none ∙ blank_joined page) passed)))
+    by_limit (over_or_long page (subst (λ (w : Waiting). IsPassed w page) empty (subst (IsPassed waiting) (ap (λ (p : GatheredPage). joined p page) none ∙ blank_joined page) passed)))
   where
     by_limit : (is_over page ≡ true) ⊎ (most_rendered_bytes < length page.text) → error_answer 500 ≡ page_answer mark page
     by_limit (inl over) = sym (ap (λ (b : Bool). if b then error_answer 500 else representation_of html_kind mark page.text) over)

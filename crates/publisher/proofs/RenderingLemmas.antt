@@ -23,7 +23,7 @@ use Rattle.get_servlet.specs.Streams.{stream_of}
 use Rattle.publisher.specs.declared.templates.Reading.{Reading}
 use Rattle.publisher.specs.declared.templates.Reading.TheVariants.{Parsed, Refused}
 use Rattle.publisher.specs.Readings.{reading_of}
-use Rattle.publisher.specs.Pages.{is_over, page_of, place_for}
+use Rattle.publisher.specs.Pages.{is_over, page_of, setting_for}
 use Rattle.error_answers.specs.Errors.{error_answer}
 use Rattle.publisher.specs.Errors.{answer_with_body}
 use Rattle.publisher.specs.Depths.{depth_of}
@@ -75,7 +75,7 @@ refused_fits : Fits (error_answer 500)
 refused_fits = error_fits 500 (λ h. absurd (omega (arith, h)))
 
 script_fits : (tree : Content) (res : Resource) (script : Segments) (reading : Reading) → Fits (script_representation tree res script reading)
-script_fits tree res script (Parsed blocks) = either (is_over (page_of tree (place_for script res) blocks)) _ _ refused_fits (page_fits _ (mark_of res) (page_of tree (place_for script res) blocks).text)
+script_fits tree res script (Parsed blocks) = either (is_over (page_of tree (setting_for script res) blocks)) _ _ refused_fits (page_fits _ (mark_of res) (page_of tree (setting_for script res) blocks).text)
 script_fits tree res script Refused = refused_fits
 
 by_fits : (script : Option ScriptAt) (tree : Content) (parts : Parts) (res : Resource) → Fits (answer_by script tree parts res)

@@ -21,7 +21,7 @@ use Rattle.htl_blocks.specs.Spelling.{SpellsBlocks, no_element, no_text, templat
 use Rattle.htl_blocks.specs.Written.{block_parts, blocks_parts}
 use Rattle.error_answers.specs.Errors.{error_answer}
 use Rattle.publisher.specs.Errors.{answer_with_body}
-use Rattle.publisher.specs.Pages.{Page, ScriptPlace, bindings_at, inclusion, is_over, most_levels, page_of, parts_page}
+use Rattle.publisher.specs.Pages.{GatheredPage, ScriptSetting, bindings_at, inclusion, is_over, most_levels, page_of, parts_page}
 use Rattle.publisher.specs.Rendering.{html_kind, page_answer, representation_of}
 use Rattle.publisher.proofs.PageLemmas.{text_is}
 
@@ -45,31 +45,31 @@ unfolding error_answer
 page_body true mark body ok = absurd (omega (arith, ok))
 page_body false mark body ok = written_body (nat_le (length body) most_rendered_bytes) mark body refl ok
 
-pub body_is : (answer : Answer) (mark : Mark) (page : Page) → answer ≡ page_answer mark page → answer.status ≡ 200 → answer.body ≡ page.text
+pub body_is : (answer : Answer) (mark : Mark) (page : GatheredPage) → answer ≡ page_answer mark page → answer.status ≡ 200 → answer.body ≡ page.text
 body_is answer mark page is ok =
     ap (λ (a : Answer). a.body) is ∙ page_body (is_over page) mark page.text (sym (ap (λ (a : Answer). a.status) is) ∙ ok)
 
 -- the page of one template is what it writes
-template_page : (tree : Content) (place : ScriptPlace) (pieces : List TemplatePiece) → ((scope : Bindings) (ps : List TemplatePiece) → block_parts (block.Text ps) scope ≡ text_parts (template_output scope ps))
-    → (page_of tree place (block.Text pieces ∷ [])).text ≡ template_output (bindings_at place []) pieces
-template_page tree place pieces writes =
-    let parts : blocks_parts (bindings_at place []) (block.Text pieces ∷ []) ≡ text_parts (template_output (bindings_at place []) pieces) =
-    append-nil (block_parts (block.Text pieces) (bindings_at place [])) ∙ writes (bindings_at place []) pieces in
-    ap (λ (ps : List Part). (parts_page (inclusion tree most_levels place) ps).text) parts
-    ∙ ap (λ (p : Page). p.text) (text_is (inclusion tree most_levels place) (template_output (bindings_at place []) pieces))
+template_page : (tree : Content) (setting : ScriptSetting) (pieces : List TemplatePiece) → ((scope : Bindings) (ps : List TemplatePiece) → block_parts (block.Text ps) scope ≡ text_parts (template_output scope ps))
+    → (page_of tree setting (block.Text pieces ∷ [])).text ≡ template_output (bindings_at setting []) pieces
+template_page tree setting pieces writes =
+    let parts : blocks_parts (bindings_at setting []) (block.Text pieces ∷ []) ≡ text_parts (template_output (bindings_at setting []) pieces) =
+    append-nil (block_parts (block.Text pieces) (bindings_at setting [])) ∙ writes (bindings_at setting []) pieces in
+    ap (λ (ps : List Part). (parts_page (inclusion tree most_levels setting) ps).text) parts
+    ∙ ap (λ (p : GatheredPage). p.text) (text_is (inclusion tree most_levels setting) (template_output (bindings_at setting []) pieces))
 
 pieces_in : Result (List TemplatePiece) TextFault → List TemplatePiece
 pieces_in (Ok pieces) = pieces
 pieces_in (Err fault) = []
 
 -- the page of an empty script is empty
-empty_page : (tree : Content) (place : ScriptPlace) (pieces : List TemplatePiece) → template_of [] ≡ Ok pieces → (page_of tree place []).text ≡ template_output (bindings_at place []) pieces
+empty_page : (tree : Content) (setting : ScriptSetting) (pieces : List TemplatePiece) → template_of [] ≡ Ok pieces → (page_of tree setting []).text ≡ template_output (bindings_at setting []) pieces
 unfolding template_pieces parts_page pieces_in
-empty_page tree place pieces is = ap (template_output (bindings_at place [])) (ap pieces_in is)
+empty_page tree setting pieces is = ap (template_output (bindings_at setting [])) (ap pieces_in is)
 
 -- what is the page of the blocks that a text spells is what its template writes, where no block tag stands in the text
-pub plain_page : (tree : Content) (place : ScriptPlace) (text : List ℕ) (pieces : List TemplatePiece) (body : List ℕ) → template_of text ≡ Ok pieces → HasNoBlock (markup_parts text)
+pub plain_page : (tree : Content) (setting : ScriptSetting) (text : List ℕ) (pieces : List TemplatePiece) (body : List ℕ) → template_of text ≡ Ok pieces → HasNoBlock (markup_parts text)
     → ((scope : Bindings) (ps : List TemplatePiece) → block_parts (block.Text ps) scope ≡ text_parts (template_output scope ps))
-    → ((blocks : List Block) → SpellsBlocks most_nested_blocks text blocks → body ≡ (page_of tree place blocks).text) → body ≡ template_output (bindings_at place []) pieces
-plain_page tree place [] pieces body is plain writes page = page [] (no_element plain no_text) ∙ empty_page tree place pieces is
-plain_page tree place (c ∷ text) pieces body is plain writes page = page (block.Text pieces ∷ []) (no_element plain (template is)) ∙ template_page tree place pieces writes
+    → ((blocks : List Block) → SpellsBlocks most_nested_blocks text blocks → body ≡ (page_of tree setting blocks).text) → body ≡ template_output (bindings_at setting []) pieces
+plain_page tree setting [] pieces body is plain writes page = page [] (no_element plain no_text) ∙ empty_page tree setting pieces is
+plain_page tree setting (c ∷ text) pieces body is plain writes page = page (block.Text pieces ∷ []) (no_element plain (template is)) ∙ template_page tree setting pieces writes

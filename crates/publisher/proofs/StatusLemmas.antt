@@ -26,7 +26,7 @@ use Rattle.get_servlet.specs.Streams.{stream_of}
 use Rattle.publisher.specs.declared.templates.Reading.{Reading}
 use Rattle.publisher.specs.declared.templates.Reading.TheVariants.{Parsed, Refused}
 use Rattle.publisher.specs.Readings.{reading_of}
-use Rattle.publisher.specs.Pages.{is_over, page_of, place_for}
+use Rattle.publisher.specs.Pages.{is_over, page_of, setting_for}
 use Rattle.error_answers.specs.Errors.{error_answer}
 use Rattle.publisher.specs.Errors.{answer_with_body}
 use Rattle.publisher.specs.Depths.{depth_of}
@@ -87,7 +87,7 @@ default_short seen_resources parts res =
 
 script_short : (tree : Content) (res : Resource) (script : Segments) (reading : Reading) → Short (script_representation tree res script reading)
 script_short tree res script (Parsed blocks) =
-    either (is_over (page_of tree (place_for script res) blocks)) _ _ (error_short 500 (omega arith)) (representation_short _ (mark_of res) (page_of tree (place_for script res) blocks).text)
+    either (is_over (page_of tree (setting_for script res) blocks)) _ _ (error_short 500 (omega arith)) (representation_short _ (mark_of res) (page_of tree (setting_for script res) blocks).text)
 script_short tree res script Refused = error_short 500 (omega arith)
 
 by_short : (script : Option ScriptAt) (tree : Content) (parts : Parts) (res : Resource) → Short (answer_by script tree parts res)

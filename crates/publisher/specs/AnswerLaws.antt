@@ -18,7 +18,7 @@ use Rattle.htl_blocks.specs.Reading.{most_nested_blocks}
 use Rattle.htl_blocks.specs.Spelling.{SpellsBlocks}
 use Rattle.publisher.specs.Cases.{ReadsByScript}
 use Rattle.publisher.specs.Errors.{redirect}
-use Rattle.publisher.specs.Pages.{bindings_at, page_of, place_for}
+use Rattle.publisher.specs.Pages.{bindings_at, page_of, setting_for}
 use Rattle.publisher.specs.Rendering.{content_after_request, is_post, is_read, answer_to_request}
 
 -- each is a GET or a HEAD, of one path at one host and port
@@ -49,10 +49,10 @@ KeepsContentIfAway tree ask status reference = IsMapped tree ask.host ask.port (
 -- a page that the script gives is what the blocks write that its text spells, with what is put in
 abbrev pub WritesPageIfSpelled : Content → Ask → Resource → Text → List Block → Type 0
 WritesPageIfSpelled tree ask res text blocks = (reads : ReadsByScript tree ask res text) → SpellsBlocks most_nested_blocks text blocks
-    → (answer_to_request tree ask).status ≡ 200 → (answer_to_request tree ask).body ≡ (page_of tree (place_for reads.script res) blocks).text
+    → (answer_to_request tree ask).status ≡ 200 → (answer_to_request tree ask).body ≡ (page_of tree (setting_for reads.script res) blocks).text
 
 -- a page that a script without a block tag gives is what the pieces write that its text spells
-abbrev pub IsWrittenIfPlain : Content → Ask → Resource → Text → List TemplatePiece → Type 0
-IsWrittenIfPlain tree ask res text pieces = (reads : ReadsByScript tree ask res text) → HasNoBlock (markup_parts text)
+abbrev pub IsWrittenIfNoBlock : Content → Ask → Resource → Text → List TemplatePiece → Type 0
+IsWrittenIfNoBlock tree ask res text pieces = (reads : ReadsByScript tree ask res text) → HasNoBlock (markup_parts text)
     → SpellsTemplate text pieces [] → (answer_to_request tree ask).status ≡ 200
-    → (answer_to_request tree ask).body ≡ template_output (bindings_at (place_for reads.script res) []) pieces
+    → (answer_to_request tree ask).body ≡ template_output (bindings_at (setting_for reads.script res) []) pieces

@@ -27,7 +27,7 @@ use Rattle.error_answers.specs.Errors.{error_answer}
 use Rattle.publisher.specs.Choices.{choices_text}
 use Rattle.publisher.specs.Depths.{depth_of}
 use Rattle.publisher.specs.Errors.{answer_with_body, redirect}
-use Rattle.publisher.specs.Pages.{page_of, place_for}
+use Rattle.publisher.specs.Pages.{page_of, setting_for}
 use Rattle.publisher.specs.Posting.{posting, posting_answer}
 use Rattle.publisher.specs.Rendering.{is_bare, is_json, is_post, is_read, json_kind, mark_of, page_answer, representation_of, seen_resources}
 
@@ -72,7 +72,7 @@ pub data IsAnswer (tree : Content) (ask : Ask) (answer : Answer) : Type 0 where
   lost : (text : List ℕ) → ReadsText tree ask text → IsLost (has_resource tree) text → answer ≡ error_answer 404 → IsAnswer tree ask answer
   refused_script : (res : Resource) (text : List ℕ) → ReadsByScript tree ask res text → ((blocks : List Block) → SpellsBlocks most_nested_blocks text blocks → ⊥) → answer ≡ error_answer 500 → IsAnswer tree ask answer
   by_script : (res : Resource) (text : List ℕ) (blocks : List Block) (reads : ReadsByScript tree ask res text) → SpellsBlocks most_nested_blocks text blocks
-      → answer ≡ page_answer (mark_of res) (page_of tree (place_for reads.script res) blocks) → IsAnswer tree ask answer
+      → answer ≡ page_answer (mark_of res) (page_of tree (setting_for reads.script res) blocks) → IsAnswer tree ask answer
   no_depth : (parts : Parts) (res : Resource) → ReadsByDefault tree ask parts res → is_json parts.extension ≡ true → depth_of parts.selectors ≡ None → answer ≡ error_answer 400 → IsAnswer tree ask answer
   too_many : (res : Resource) (depth : Depth) (most : ℕ) → ReadsJson tree ask res depth → IsOver (seen_resources tree) res (levels_of depth) most
       → answer ≡ answer_with_body 300 json_kind Plain (choices_text res.path most) → IsAnswer tree ask answer

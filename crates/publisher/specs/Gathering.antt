@@ -12,11 +12,11 @@ use Rattle.publisher.specs.declared.page_fault.PageFault.{PageFault}
 use Rattle.publisher.specs.declared.page_fault.PageFault.TheVariants.{NoMemory}
 use Rattle.publisher.specs.declared.setting.Setting.{Setting}
 use Rattle.publisher.specs.declared.waiting.Waiting.{Waiting}
-use Rattle.publisher.specs.Pages.{Page, ScriptPlace, bindings_at, inclusion, joined, written_by_script, written_page}
+use Rattle.publisher.specs.Pages.{GatheredPage, ScriptSetting, bindings_at, inclusion, joined, written_by_script, written_page}
 
--- the place of a setting
-abbrev pub place_in : Setting → ScriptPlace
-place_in s = record { script = s.script.now; path = s.path.now; props = s.props.now }
+-- where the script of a setting stands
+abbrev pub setting_in : Setting → ScriptSetting
+setting_in s = record { script = s.script.now; path = s.path.now; props = s.props.now }
 
 -- the variables that are seen in a setting
 abbrev pub vars_in : Setting → Pairs
@@ -24,22 +24,22 @@ vars_in s = vars_of s.vars.now
 
 -- what the expressions see in a setting
 abbrev pub bindings_in : Setting → Bindings
-bindings_in s = bindings_at (place_in s) (vars_in s)
+bindings_in s = bindings_at (setting_in s) (vars_in s)
 
 -- the parts that blocks write in a setting
 abbrev pub parts_in : Setting → List Block → List Part
 parts_in s blocks = blocks_parts (bindings_in s) blocks
 
 -- what stands in a setting for a part that puts something in
-abbrev pub inclusion_in : Setting → Part → Page
-inclusion_in s = inclusion s.content.now s.levels (place_in s)
+abbrev pub inclusion_in : Setting → Part → GatheredPage
+inclusion_in s = inclusion s.content.now s.levels (setting_in s)
 
 -- what the script of a setting writes there, with what it puts in
-abbrev pub script_page : Setting → Page
-script_page s = written_page (inclusion s.content.now s.levels) (written_by_script s.content.now (place_in s) (vars_in s))
+abbrev pub script_page : Setting → GatheredPage
+script_page s = written_page (inclusion s.content.now s.levels) (written_by_script s.content.now (setting_in s) (vars_in s))
 
 -- a limit is passed, what waits counted too
-abbrev pub IsPassed : Waiting → Page → Type 0
+abbrev pub IsPassed : Waiting → GatheredPage → Type 0
 IsPassed waiting page = (page.is_deep ≡ true) ⊎ ((most_rendered_bytes < length page.text + waiting.text) ⊎ ((most_inclusions < page.inclusions + waiting.inclusions) ⊎ (most_rounds < page.rounds)))
 
 -- a limit is passed by what stands in parts, whatever they put in
@@ -47,6 +47,6 @@ abbrev pub PassLimits : List Part → Type 0
 PassLimits ps = (most_rendered_bytes < length (text_of_parts ps)) ⊎ ((most_inclusions < inclusions ps) ⊎ (most_rounds < rounds ps))
 
 -- a page is gathered after another, or with it a limit is passed
-abbrev pub Gathered : {A : Type 0} → Waiting → Result A PageFault → Page → Page → Page → Type 0
+abbrev pub Gathered : {A : Type 0} → Waiting → Result A PageFault → GatheredPage → GatheredPage → GatheredPage → Type 0
 Gathered waiting (Ok _) old new page = new ≡ joined old page
 Gathered waiting (Err fault) old new page = fault ≢ NoMemory → IsPassed waiting (joined old page)

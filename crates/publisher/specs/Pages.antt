@@ -22,28 +22,28 @@ use Rattle.htl_blocks.specs.Written.{blocks_parts}
 -- ---- where scripts stand
 
 -- where a script stands: its path, and the path and the properties of the resource that it is for
-pub record ScriptPlace : Type 0 where
+pub record ScriptSetting : Type 0 where
   pub script : Segments
   pub path : Segments
   pub props : Properties
 
 -- a script for a resource
-abbrev pub place_for : Segments → Resource → ScriptPlace
-place_for script res = record { script = script; path = res.path; props = res.props }
+abbrev pub setting_for : Segments → Resource → ScriptSetting
+setting_for script res = record { script = script; path = res.path; props = res.props }
 
--- what the expressions of a place see, with variables
-abbrev pub bindings_at : ScriptPlace → Pairs → Bindings
-bindings_at place vars = record { props = place.props; path = text_of place.path; name = name_of place.path; resource_type = type_text place.props; vars = vars }
+-- what the expressions of a setting see, with variables
+abbrev pub bindings_at : ScriptSetting → Pairs → Bindings
+bindings_at setting vars = record { props = setting.props; path = text_of setting.path; name = name_of setting.path; resource_type = type_text setting.props; vars = vars }
 
--- a place, and what a script writes there
+-- a setting, and what a script writes there
 pub record Written : Type 0 where
-  pub place : ScriptPlace
+  pub setting : ScriptSetting
   pub parts : List Part
 
 -- the same of blocks that may not be there
-abbrev pub written_at : ScriptPlace → Pairs → Option (List Block) → Option Written
-written_at place vars None = None
-written_at place vars (Some blocks) = Some (record { place = place; parts = blocks_parts (bindings_at place vars) blocks })
+abbrev pub written_at : ScriptSetting → Pairs → Option (List Block) → Option Written
+written_at setting vars None = None
+written_at setting vars (Some blocks) = Some (record { setting = setting; parts = blocks_parts (bindings_at setting vars) blocks })
 
 -- the blocks of a text that has a reading
 abbrev pub readable_blocks : Text → Option (List Block)
@@ -53,9 +53,9 @@ readable_blocks text = result_ok (blocks_of text)
 unfoldable pub script_blocks : Content → Segments → Option (List Block)
 script_blocks tree path = if is_script_name (name_of path) then option_and_then readable_blocks (script_text tree path) else None
 
--- what the script of a place writes there with variables, if it is there and has a reading
-abbrev pub written_by_script : Content → ScriptPlace → Pairs → Option Written
-written_by_script tree place vars = written_at place vars (script_blocks tree place.script)
+-- what the script of a setting writes there with variables, if it is there and has a reading
+abbrev pub written_by_script : Content → ScriptSetting → Pairs → Option Written
+written_by_script tree setting vars = written_at setting vars (script_blocks tree setting.script)
 
 -- ---- what is put in
 
@@ -63,10 +63,10 @@ written_by_script tree place vars = written_at place vars (script_blocks tree pl
 unfoldable pub path_named : Segments → Text → Option Segments
 path_named folder name = result_ok (if begins_with_byte 47 name then path_of name else child_of folder name)
 
--- a script on the resource of a place, with variables
-abbrev pub included_script : Content → ScriptPlace → Pairs → Option Segments → Option Written
-included_script tree place vars None = None
-included_script tree place vars (Some script) = written_by_script tree (record place { script = script }) vars
+-- a script on the resource of a setting, with variables
+abbrev pub included_script : Content → ScriptSetting → Pairs → Option Segments → Option Written
+included_script tree setting vars None = None
+included_script tree setting vars (Some script) = written_by_script tree (record setting { script = script }) vars
 
 -- a URL that asks for the resource at a path with the extension html
 abbrev pub html_parts : Segments → Parts
@@ -75,7 +75,7 @@ html_parts path = record { path = path; selectors = []; extension = codes "html"
 -- a resource by a script, without variables
 abbrev pub resource_by : Content → Resource → Option Segments → Option Written
 resource_by tree res None = None
-resource_by tree res (Some script) = written_by_script tree (place_for script res) []
+resource_by tree res (Some script) = written_by_script tree (setting_for script res) []
 
 -- what is seen at a path, by the script that ranks first for it with the extension html
 abbrev pub written_resource : Content → Option Resource → Option Written
@@ -87,78 +87,78 @@ abbrev pub included_resource : Content → Option Segments → Option Written
 included_resource tree None = None
 included_resource tree (Some path) = written_resource tree (merged_resource tree path)
 
--- What a part puts in at a place, if there is something to put in. A script's name is one below the folder of the script that names it, a
+-- What a part puts in in a setting, if there is something to put in. A script's name is one below the folder of the script that names it, a
 -- resource's one below the resource.
-abbrev pub put_in : Content → ScriptPlace → Part → Option Written
-put_in tree place (Byte c) = None
-put_in tree place Round = None
-put_in tree place (Script name vars) = included_script tree place vars (path_named (parent_of place.script) name)
-put_in tree place (ResourcePart name) = included_resource tree (path_named place.path name)
+abbrev pub put_in : Content → ScriptSetting → Part → Option Written
+put_in tree setting (Byte c) = None
+put_in tree setting Round = None
+put_in tree setting (Script name vars) = included_script tree setting vars (path_named (parent_of setting.script) name)
+put_in tree setting (ResourcePart name) = included_resource tree (path_named setting.path name)
 
 -- ---- what a page gathers
 
 -- its text; how many scripts and resources were to be put in; how often the contents of lists stood; and whether something was to be put
 -- in where nothing may be any more
-pub record Page : Type 0 where
+pub record GatheredPage : Type 0 where
   pub text : Text
   pub inclusions : ℕ
   pub rounds : ℕ
   pub is_deep : Bool
 
 -- nothing
-abbrev pub blank : Page
+abbrev pub blank : GatheredPage
 blank = record { text = []; inclusions = 0; rounds = 0; is_deep = false }
 
 -- a text
-abbrev pub text_page : Text → Page
+abbrev pub text_page : Text → GatheredPage
 text_page text = record { text = text; inclusions = 0; rounds = 0; is_deep = false }
 
 -- contents of lists, by themselves
-abbrev pub rounds_page : ℕ → Page
+abbrev pub rounds_page : ℕ → GatheredPage
 rounds_page rounds = record { text = []; inclusions = 0; rounds = rounds; is_deep = false }
 
 -- something that is to be put in, by itself
-abbrev pub one_inclusion : Page
+abbrev pub one_inclusion : GatheredPage
 one_inclusion = record { text = []; inclusions = 1; rounds = 0; is_deep = false }
 
 -- what is to be put in where nothing may be any more
-abbrev pub too_deep : Page
+abbrev pub too_deep : GatheredPage
 too_deep = record { text = []; inclusions = 0; rounds = 0; is_deep = true }
 
 -- one after the other
-abbrev pub joined : Page → Page → Page
+abbrev pub joined : GatheredPage → GatheredPage → GatheredPage
 joined a b = record { text = a.text ++ b.text; inclusions = a.inclusions + b.inclusions; rounds = a.rounds + b.rounds; is_deep = a.is_deep || b.is_deep }
 
 -- what a part gives, where this is given for what it puts in
-abbrev pub part_page : (Part → Page) → Part → Page
+abbrev pub part_page : (Part → GatheredPage) → Part → GatheredPage
 part_page inclusion (Byte c) = text_page (c ∷ [])
 part_page inclusion Round = rounds_page 1
 part_page inclusion (Script name vars) = joined one_inclusion (inclusion (Script name vars))
 part_page inclusion (ResourcePart name) = joined one_inclusion (inclusion (ResourcePart name))
 
 -- what parts give, one after another
-unfoldable pub parts_page : (Part → Page) → List Part → Page
+unfoldable pub parts_page : (Part → GatheredPage) → List Part → GatheredPage
 parts_page inclusion [] = blank
 parts_page inclusion (p ∷ ps) = joined (part_page inclusion p) (parts_page inclusion ps)
 
--- what is put in, whose own parts stand at its own place; where there is nothing to put in, nothing stands
-abbrev pub written_page : (ScriptPlace → Part → Page) → Option Written → Page
+-- what is put in, whose own parts stand in its own setting; where there is nothing to put in, nothing stands
+abbrev pub written_page : (ScriptSetting → Part → GatheredPage) → Option Written → GatheredPage
 written_page inner None = blank
-written_page inner (Some written) = parts_page (inner written.place) written.parts
+written_page inner (Some written) = parts_page (inner written.setting) written.parts
 
 -- what stands for a part that puts something in, where so many scripts and resources may still stand one in another
-unfoldable pub inclusion : Content → ℕ → ScriptPlace → Part → Page
-inclusion tree zero place p = too_deep
-inclusion tree (suc levels) place p = written_page (inclusion tree levels) (put_in tree place p)
+unfoldable pub inclusion : Content → ℕ → ScriptSetting → Part → GatheredPage
+inclusion tree zero setting p = too_deep
+inclusion tree (suc levels) setting p = written_page (inclusion tree levels) (put_in tree setting p)
 
 -- how many scripts and resources may stand one in another, in the script of the page itself
 abbrev pub most_levels : ℕ
 most_levels = 16
 
--- the page of a script at a place, which has these blocks and sees no variables
-abbrev pub page_of : Content → ScriptPlace → List Block → Page
-page_of tree place blocks = parts_page (inclusion tree most_levels place) (blocks_parts (bindings_at place []) blocks)
+-- the page of a script in a setting, which has these blocks and sees no variables
+abbrev pub page_of : Content → ScriptSetting → List Block → GatheredPage
+page_of tree setting blocks = parts_page (inclusion tree most_levels setting) (blocks_parts (bindings_at setting []) blocks)
 
 -- something was to be put in too deep, too much was put in, or the contents of lists stood too often
-abbrev pub is_over : Page → Bool
+abbrev pub is_over : GatheredPage → Bool
 is_over page = page.is_deep || (nat_lt most_inclusions page.inclusions || nat_lt most_rounds page.rounds)

@@ -29,7 +29,7 @@ use Rattle.get_servlet.specs.Streams.{stream_of}
 use Rattle.publisher.specs.declared.templates.Reading.{Reading}
 use Rattle.publisher.specs.declared.templates.Reading.TheVariants.{Parsed, Refused}
 use Rattle.publisher.specs.Readings.{reading_of}
-use Rattle.publisher.specs.Pages.{Page, is_over, page_of, place_for}
+use Rattle.publisher.specs.Pages.{GatheredPage, is_over, page_of, setting_for}
 use Rattle.error_answers.specs.Errors.{error_answer}
 use Rattle.publisher.specs.Errors.{answer_with_body, redirect}
 use Rattle.publisher.specs.Depths.{depth_of}
@@ -114,12 +114,12 @@ abbrev pub html_kind : List ℕ
 html_kind = codes "text/html;charset=utf-8"
 
 -- a page within its limits; one that is over them is an error, as one is whose text is too long
-abbrev pub page_answer : Mark → Page → Answer
+abbrev pub page_answer : Mark → GatheredPage → Answer
 page_answer mark page = if is_over page then error_answer 500 else representation_of html_kind mark page.text
 
 -- the page that the script at a path writes for a resource; a text that has no reading is an error
 abbrev pub script_representation : Content → Resource → Segments → Reading → Answer
-script_representation tree res script (Parsed blocks) = page_answer (mark_of res) (page_of tree (place_for script res) blocks)
+script_representation tree res script (Parsed blocks) = page_answer (mark_of res) (page_of tree (setting_for script res) blocks)
 script_representation tree res script Refused = error_answer 500
 
 -- what is seen at a path: the merged resource. Types and scripts are looked up among the tree's own nodes.

@@ -10,7 +10,7 @@ ghost use Rattle.htl_text.specs.declared.piece.TemplatePiece.{TemplatePiece};
 ghost use Rattle.htl_blocks.specs.declared.block.Block.{Block};
 ghost use Rattle.error_answers.specs.Errors.{error_answer};
 ghost use Rattle.publisher.specs.AnswerLaws.{AreReadsOfOnePath, FitsIfReadAndAnswered, IsRedirectIfAway, KeepsContentIfAway, KeepsContentIfRefused};
-ghost use Rattle.publisher.specs.AnswerLaws.{WritesPageIfSpelled, IsWrittenIfPlain};
+ghost use Rattle.publisher.specs.AnswerLaws.{WritesPageIfSpelled, IsWrittenIfNoBlock};
 ghost use Rattle.publisher.specs.Cases.{IsAnswer};
 ghost use Rattle.publisher.specs.PostLaws.{PostsAreRefusedForCauses, RequestsKeepContentGood};
 ghost use Rattle.publisher.specs.Rendering.{content_after_request, is_read, answer_to_request};
@@ -101,7 +101,7 @@ pub fn a_script_writes_its_page()
 
 /// The page of a script without a block tag is what the pieces write that its text spells, for the resource and without variables.
 pub fn a_script_without_blocks_writes_its_pieces()
-    ensures { (tree : Content) (ask : Ask) (res : Resource) (text : Text) (pieces : List TemplatePiece) → IsGood tree → IsWrittenIfPlain tree ask res text pieces }
+    ensures { (tree : Content) (ask : Ask) (res : Resource) (text : Text) (pieces : List TemplatePiece) → IsGood tree → IsWrittenIfNoBlock tree ask res text pieces }
 {
     a_script_writes_its_page();
     the_pieces_are_the_text();

@@ -31,9 +31,9 @@ impl Model for PageText {
     ghost use Rattle.std.specs.Prelude.{◌≤◌, false, length, string_bytes};
     ghost use Rattle.sp_base.specs.Limits.{most_rendered_bytes};
     ghost use Rattle.htl_blocks.specs.Refused.{most_inclusions, most_rounds};
-    ghost use Rattle.publisher.specs.Pages.{Page};
+    ghost use Rattle.publisher.specs.Pages.{GatheredPage};
 
-    ghost Value = { Page };
+    ghost Value = { GatheredPage };
 
     ghost view = { λ p. record { text = string_bytes p.text; inclusions = p.inclusions; rounds = p.rounds; is_deep = false } };
 

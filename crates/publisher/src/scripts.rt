@@ -1,7 +1,7 @@
 // Rendering by a script.
 ghost use Rattle.std.specs.Prelude.{◌≡◌, IfOk};
 ghost use Rattle.publisher.specs.Kept.{AreReadings};
-ghost use Rattle.publisher.specs.Pages.{page_of, place_for};
+ghost use Rattle.publisher.specs.Pages.{page_of, setting_for};
 ghost use Rattle.publisher.specs.Rendering.{mark_of, page_answer, script_representation};
 
 use crate::lent_content::LentContent;
@@ -35,7 +35,7 @@ fn page_representation(
     res: &Res,
 ) -> Mem<Answer>
     requires kept { AreReadings content.now templates.old }
-    ensures answer { IfOk result (λ a. a ≡ page_answer (mark_of res.now) (page_of content.now (place_for script.now res.now) blocks.now)) }
+    ensures answer { IfOk result (λ a. a ≡ page_answer (mark_of res.now) (page_of content.now (setting_for script.now res.now) blocks.now)) }
     ensures kept { AreReadings content.now templates.new }
 {
     let setting = Setting {

@@ -5,7 +5,7 @@ use Rattle.sp_base.proofs.BoolLemmas.{or_true}
 use Rattle.regex_rules.specs.declared.repeat.Repeat.{Repeat}
 use Rattle.regex_rules.specs.declared.repeat.Repeat.TheVariants.{Once, Optional, Any, AtLeastOnce}
 use Rattle.regex_rules.specs.declared.character.OneChar.{OneChar}
-use Rattle.regex_rules.specs.Trees.{Tree, Empty, Char, Bracket, Or}
+use Rattle.regex_rules.specs.Trees.{PatternTree, Empty, Char, Bracket, Or}
 use Rattle.regex_rules.specs.Languages.{Texts, Cut, Times, Repeated, IsOne, is_one, Which, Last, Earlier, InRow, InLanguage, lacks_characters, is_one_text, is_cut_in_two, is_times, is_times_at_most, is_any_times, is_repetition, in_row, in_language}
 use Rattle.regex_rules.proofs.TextLemmas.{Says, says_or, says_and, says_iff, says_false, ends_empty, cons_is_some}
 
@@ -110,7 +110,7 @@ tells_repeated {P = P} p sp AtLeastOnce cs = says_iff (is_cut_in_two p (is_any_t
 
 -- ---- trees
 
-tells_row : (which : Which) (tree : Tree) → Tells (in_row which tree) (InRow which tree)
+tells_row : (which : Which) (tree : PatternTree) → Tells (in_row which tree) (InRow which tree)
 tells_row Last Empty cs = tells_empty cs
 tells_row Last (Char rows one repeat) cs = tells_cut {P = InRow Last rows} {Q = Repeated repeat (IsOne one)} (in_row Last rows) (is_repetition repeat (is_one_text one)) (tells_row Last rows) (tells_repeated (is_one_text one) (tells_one one) repeat) cs
 tells_row Last (Bracket rows inner repeat) cs =
@@ -122,7 +122,7 @@ tells_row Earlier (Char rows one repeat) cs = tells_row Earlier rows cs
 tells_row Earlier (Bracket rows inner repeat) cs = tells_row Earlier rows cs
 tells_row Earlier (Or rows) cs = says_or (in_row Earlier rows cs) (in_row Last rows cs) (tells_row Earlier rows cs) (tells_row Last rows cs)
 
-pub tells_language : (tree : Tree) (cs : List ℕ) → IsTrue (in_language tree cs) ↔ InLanguage tree cs
+pub tells_language : (tree : PatternTree) (cs : List ℕ) → IsTrue (in_language tree cs) ↔ InLanguage tree cs
 unfolding in_language
 tells_language tree cs = says_or (in_row Earlier tree cs) (in_row Last tree cs) (tells_row Earlier tree cs) (tells_row Last tree cs)
 
@@ -133,6 +133,6 @@ same_test true false sa sb = sym (sb.1 (sa.0 refl))
 same_test false true sa sb = sa.1 (sb.0 refl)
 same_test false false sa sb = refl
 
-pub told : {E : Type 0} (tree : Tree) (cs : List ℕ) (result : Result Bool E) → IfOk result (λ answer. IsTrue answer ↔ InLanguage tree cs) → IfOk result (λ answer. answer ≡ in_language tree cs)
+pub told : {E : Type 0} (tree : PatternTree) (cs : List ℕ) (result : Result Bool E) → IfOk result (λ answer. IsTrue answer ↔ InLanguage tree cs) → IfOk result (λ answer. answer ≡ in_language tree cs)
 told tree cs (Ok answer) says = same_test answer (in_language tree cs) says (tells_language tree cs)
 told tree cs (Err fault) says = tt

@@ -14,10 +14,10 @@ use Rattle.regex_rules.specs.declared.mode.Mode.TheVariants as mode
 use Rattle.regex_rules.specs.declared.reader.Reader.{Reader}
 use Rattle.regex_rules.specs.declared.fault.PatternFault.{PatternFault}
 use Rattle.regex_rules.specs.declared.fault.PatternFault.TheVariants.{BadPattern, TooDeep}
-use Rattle.regex_rules.specs.Trees.{Tree, places_of}
+use Rattle.regex_rules.specs.Trees.{PatternTree, places_of}
 use Rattle.regex_rules.specs.Spelling.{Bounds, range, is_special, is_meant, is_reserved, IsMember, IsAnchor, IsWholePattern, IsPattern, strict, unlimited, no_bounds}
-use Rattle.regex_rules.specs.Faults.{BeginsPattern, GoesOnTo, GoesNowhere, place_behind, IsFault, IsUnended}
-use Rattle.regex_rules.specs.Reading.{Step, with_repeat, in_mode, reader_in_class, at_places, row_repeated, opened, special, in_a_row, class_first, class_next, class_goes_on, spanned, class_hyphen, class_last_escaped, step, step_in, may_end, finished, then_read, read_from, unread}
+use Rattle.regex_rules.specs.Faults.{BeginsPattern, GoesOnTo, GoesNowhere, offset_behind, IsFault, IsUnended}
+use Rattle.regex_rules.specs.Reading.{ReadingStep, with_repeat, in_mode, reader_in_class, at_places, row_repeated, opened, special, in_a_row, class_first, class_next, class_goes_on, spanned, class_hyphen, class_last_escaped, step, step_in, may_end, finished, then_read, read_from, unread}
 use Rattle.regex_rules.proofs.StandLemmas.{HoldsRow, row_goes_on, goes_on_before, row_whole}
 use Rattle.regex_rules.proofs.SoundLemmas.{HoldsSome, HoldsMember, HoldsIn, Holds, Sound, begin_row, escape_sound, first_sound, begun_sound, member_sound, spanned_sound, hyphen_held, last_held, class_escape_sound, last_escape_sound, step_sound}
 use Rattle.regex_rules.proofs.LeadLemmas.{whole_read}
@@ -25,13 +25,13 @@ use Rattle.regex_rules.proofs.LeadLemmas.{whole_read}
 -- ---- what is held goes on
 
 member_goes_on : (bounds : Bounds) (cs : List ℕ) (r : Reader) (c place : ℕ) → HoldsMember bounds cs r c place [] → BeginsPattern bounds cs
-member_goes_on bounds cs r c place h = goes_on_before bounds cs (93 ∷ []) (row_goes_on bounds (cs ++ 93 ∷ []) _ _ (member_sound bounds cs 93 (place_behind cs) c place r refl h))
+member_goes_on bounds cs r c place h = goes_on_before bounds cs (93 ∷ []) (row_goes_on bounds (cs ++ 93 ∷ []) _ _ (member_sound bounds cs 93 (offset_behind cs) c place r refl h))
 
 hyphen_goes_on : (bounds : Bounds) (cs : List ℕ) (r : Reader) (c place : ℕ) → HoldsMember bounds cs r c place (45 ∷ []) → BeginsPattern bounds cs
 hyphen_goes_on bounds cs r c place h = goes_on_before bounds cs (93 ∷ []) (row_goes_on bounds (cs ++ 93 ∷ []) _ _ (hyphen_held bounds cs r c place h))
 
 some_goes_on : (bounds : Bounds) (cs : List ℕ) (r : Reader) → HoldsSome bounds cs r.places r.depth r.negated r.ranges → BeginsPattern bounds cs
-some_goes_on bounds cs r h = goes_on_before bounds cs (93 ∷ []) (row_goes_on bounds (cs ++ 93 ∷ []) _ _ (spanned_sound bounds cs 93 (place_behind cs) r refl h))
+some_goes_on bounds cs r h = goes_on_before bounds cs (93 ∷ []) (row_goes_on bounds (cs ++ 93 ∷ []) _ _ (spanned_sound bounds cs 93 (offset_behind cs) r refl h))
 
 -- without the `\` at its end
 before_escape : (cs : List ℕ) (r : Reader) (c place : ℕ) (h : HoldsMember strict cs r c place (45 ∷ 92 ∷ [])) → BeginsPattern strict (h.before ++ (h.own ++ 45 ∷ []))
@@ -45,9 +45,9 @@ held_goes_on mode.End cs r (before, row, none, e) f =
     let w = row_whole strict before (36 ∷ []) r.places (subst (λ (n : ℕ). HoldsRow strict before r.places n) none row) IsAnchor.present in
     inl ([], w.0, subst (λ (l : List ℕ). IsWholePattern strict l w.0) (sym e ∙ sym (append-nil cs)) w.1)
 held_goes_on mode.ClassBegin cs r (before, row, plain, none, e) f =
-    inl (goes_on_before strict cs (97 ∷ []) (member_goes_on strict (cs ++ 97 ∷ []) (in_mode r (mode.Member 97 (place_behind cs))) 97 (place_behind cs) (begun_sound strict cs before 97 (place_behind cs) r refl row plain none e)))
+    inl (goes_on_before strict cs (97 ∷ []) (member_goes_on strict (cs ++ 97 ∷ []) (in_mode r (mode.Member 97 (offset_behind cs))) 97 (offset_behind cs) (begun_sound strict cs before 97 (offset_behind cs) r refl row plain none e)))
 held_goes_on mode.ClassFirst cs r h f =
-    inl (goes_on_before strict cs (97 ∷ []) (member_goes_on strict (cs ++ 97 ∷ []) (in_mode r (mode.Member 97 (place_behind cs))) 97 (place_behind cs) (first_sound strict cs 97 (place_behind cs) r refl h)))
+    inl (goes_on_before strict cs (97 ∷ []) (member_goes_on strict (cs ++ 97 ∷ []) (in_mode r (mode.Member 97 (offset_behind cs))) 97 (offset_behind cs) (first_sound strict cs 97 (offset_behind cs) r refl h)))
 held_goes_on (mode.Member c place) cs r h f = inl (member_goes_on strict cs r c place h)
 held_goes_on (mode.Hyphen c place) cs r h f = inl (hyphen_goes_on strict cs r c place h)
 held_goes_on mode.Spanned cs r h f = inl (some_goes_on strict cs r h)
@@ -76,17 +76,17 @@ pub record Misorders (cs : List ℕ) (c place : ℕ) : Type 0 where
   pub ends : IsMember other last
   pub order : nat_le first last ≡ false
   pub goes_on : BeginsPattern strict (before ++ (own ++ (45 ∷ [])))
-  pub here : place ≡ place_behind before
+  pub here : place ≡ offset_behind before
   pub parts : cs ++ c ∷ [] ≡ before ++ (own ++ (45 ∷ other))
 
 -- the answers of a step within strict bounds, within unlimited ones, and free
-pub data Agrees (cs : List ℕ) (c at : ℕ) : Step → Step → Step → Type 0 where
+pub data Agrees (cs : List ℕ) (c at : ℕ) : ReadingStep → ReadingStep → ReadingStep → Type 0 where
   goes : {r : Reader} → Agrees cs c at (Ok r) (Ok r) (Ok r)
   stray : Agrees cs c at (Err (BadPattern at)) (Err (BadPattern at)) (Err (BadPattern at))
   deep : {r : Reader} → c ≡ 40 → r.mode ≡ mode.Row → BeginsPattern strict cs → Agrees cs c at (Err (TooDeep at)) (Ok r) (Ok r)
   misordered : {r : Reader} {place : ℕ} → Misorders cs c place → r.mode ≡ mode.Spanned → Agrees cs c at (Err (BadPattern place)) (Err (BadPattern place)) (Ok r)
 
-cond3 : (Q : Step → Step → Step → Type 0) (b : Bool) (x y x' y' x'' y'' : Step) → (b ≡ true → Q x x' x'') → (b ≡ false → Q y y' y'') → Q (cond b x y) (cond b x' y') (cond b x'' y'')
+cond3 : (Q : ReadingStep → ReadingStep → ReadingStep → Type 0) (b : Bool) (x y x' y' x'' y'' : ReadingStep) → (b ≡ true → Q x x' x'') → (b ≡ false → Q y y' y'') → Q (cond b x y) (cond b x' y') (cond b x'' y'')
 cond3 Q true x y x' y' x'' y'' f g = f refl
 cond3 Q false x y x' y' x'' y'' f g = g refl
 
@@ -194,7 +194,7 @@ step_agrees (mode.LastEscape first place) cs c at r h = last_agrees cs c at firs
 
 -- what is known of a reading between two characters
 record Told (cs : List ℕ) (at : ℕ) (r : Reader) : Type 0 where
-  pub here : at ≡ place_behind cs
+  pub here : at ≡ offset_behind cs
   pub holds : Holds strict cs r
   pub holds_unlimited : Holds unlimited cs r
   pub holds_free : Holds no_bounds cs r
@@ -204,14 +204,14 @@ record Told (cs : List ℕ) (at : ℕ) (r : Reader) : Type 0 where
 
 -- what an answer says of a text
 abbrev pub Says : List ℕ → Result (List PatternPlace) PatternFault → Type 0
-Says text (Ok places) = (tree : Tree) × IsPattern text tree × (places ≡ places_of tree)
+Says text (Ok places) = (tree : PatternTree) × IsPattern text tree × (places ≡ places_of tree)
 Says text (Err fault) = IsFault fault text
 
-place_next : (cs : List ℕ) (c : ℕ) → place_behind (cs ++ c ∷ []) ≡ place_behind cs + length (encode_utf8 c)
+place_next : (cs : List ℕ) (c : ℕ) → offset_behind (cs ++ c ∷ []) ≡ offset_behind cs + length (encode_utf8 c)
 place_next cs c =
-    ap length (encode_append cs (c ∷ [])) ∙ length-append (encode_utf8_all cs) (encode_utf8 c ++ []) ∙ ap (λ (l : List ℕ). place_behind cs + length l) (append-nil (encode_utf8 c))
+    ap length (encode_append cs (c ∷ [])) ∙ length-append (encode_utf8_all cs) (encode_utf8 c ++ []) ∙ ap (λ (l : List ℕ). offset_behind cs + length l) (append-nil (encode_utf8 c))
 
-pub one_read_from : (bounds : Bounds) (at : ℕ) (r : Reader) (c : ℕ) (rest : List ℕ) (s : Step) → step bounds at c r ≡ s
+pub one_read_from : (bounds : Bounds) (at : ℕ) (r : Reader) (c : ℕ) (rest : List ℕ) (s : ReadingStep) → step bounds at c r ≡ s
     → read_from bounds at r (c ∷ rest) ≡ then_read (λ next. read_from bounds (at + length (encode_utf8 c)) next rest) s
 unfolding read_from
 one_read_from bounds at r c rest s e = ap (then_read (λ next. read_from bounds (at + length (encode_utf8 c)) next rest)) e
@@ -224,7 +224,7 @@ reads_on : (bounds : Bounds) (cs : List ℕ) (c at : ℕ) (r next : Reader) → 
     → (rest : List ℕ) → read_from bounds 0 unread (cs ++ c ∷ [] ++ rest) ≡ read_from bounds (at + length (encode_utf8 c)) next rest
 reads_on bounds cs c at r next reads e rest = ap (read_from bounds 0 unread) (append_assoc cs (c ∷ []) rest) ∙ reads (c ∷ rest) ∙ one_read_from bounds at r c rest (Ok next) e
 
-held_next : (bounds : Bounds) (cs : List ℕ) (c at : ℕ) (r next : Reader) → at ≡ place_behind cs → Holds bounds cs r → step bounds at c r ≡ Ok next → Holds bounds (cs ++ c ∷ []) next
+held_next : (bounds : Bounds) (cs : List ℕ) (c at : ℕ) (r next : Reader) → at ≡ offset_behind cs → Holds bounds cs r → step bounds at c r ≡ Ok next → Holds bounds (cs ++ c ∷ []) next
 held_next bounds cs c at r next here h e = subst (Sound bounds cs c) e (step_sound bounds r.mode cs c at r here h)
 
 told_next : (cs : List ℕ) (c at : ℕ) (r next : Reader) → Told cs at r → step strict at c r ≡ Ok next → step unlimited at c r ≡ Ok next → step no_bounds at c r ≡ Ok next
@@ -267,7 +267,7 @@ unended cs at r t e = record {
 
 -- a text that may end there, with the places of a pattern
 abbrev Ends : List ℕ → List PatternPlace → Type 0
-Ends cs places = (tree : Tree) × IsPattern cs tree × (places ≡ places_of tree)
+Ends cs places = (tree : PatternTree) × IsPattern cs tree × (places ≡ places_of tree)
 
 ends_in : (m : Mode) (cs : List ℕ) (r : Reader) → may_end m ≡ true → r.depth ≡ 0 → HoldsIn strict m cs r → Ends cs r.places
 ends_in mode.Begin cs r may none (e, places, depth) = ends_row cs r.places (subst (λ (n : ℕ). HoldsRow strict cs r.places n) none (begin_row strict cs r.places r.depth e places depth))
@@ -354,7 +354,7 @@ told [] cs at r t = subst (λ (l : List ℕ). Says l (read_from strict at r []))
 told (c ∷ rest) cs at r t =
     subst (Says (cs ++ c ∷ rest)) (sym (one_read_from strict at r c rest (step strict at c r) refl)) (go (told rest) (step strict at c r) (step unlimited at c r) (step no_bounds at c r) refl refl refl (step_agrees r.mode cs c at r t.holds))
   where
-    go : ((ds : List ℕ) (n : ℕ) (k : Reader) → Told ds n k → Says (ds ++ rest) (read_from strict n k rest)) → (s u f : Step) → step strict at c r ≡ s → step unlimited at c r ≡ u → step no_bounds at c r ≡ f
+    go : ((ds : List ℕ) (n : ℕ) (k : Reader) → Told ds n k → Says (ds ++ rest) (read_from strict n k rest)) → (s u f : ReadingStep) → step strict at c r ≡ s → step unlimited at c r ≡ u → step no_bounds at c r ≡ f
         → Agrees cs c at s u f → Says (cs ++ c ∷ rest) (then_read (λ next. read_from strict (at + length (encode_utf8 c)) next rest) s)
     go ih _ _ _ s u f (Agrees.goes {r = next}) =
         subst (λ (l : List ℕ). Says l (read_from strict (at + length (encode_utf8 c)) next rest)) (append_assoc cs (c ∷ []) rest) (ih (cs ++ c ∷ []) (at + length (encode_utf8 c)) next (told_next cs c at r next t s u f))

@@ -8,7 +8,7 @@ use Rattle.std.proofs.lemmas.List.{append-nil, append_cancel_right, take-append-
 use Rattle.std.proofs.Math.Seq.{drop-cons, take-add, take-append-add, take-append_seam}
 use Rattle.std.proofs.lemmas.Str.{inside_one, IsUtf8-take, IsUtf8-past_char, IsCharBoundary-from_drop, chars-append, chars_past_char, length-encode, len_utf8_ascii}
 use Rattle.regex_rules.specs.declared.place.PatternPlace.{PatternPlace}
-use Rattle.regex_rules.specs.Trees.{Tree, tree_of, places_of}
+use Rattle.regex_rules.specs.Trees.{PatternTree, tree_of, places_of}
 use Rattle.regex_rules.specs.Languages.{InLanguage}
 use Rattle.regex_rules.specs.Fronts.{IsFront, IsLastFront, may_cut}
 use Rattle.regex_rules.specs.Off.{AreOff}
@@ -18,7 +18,7 @@ use Rattle.regex_rules.proofs.MatchLemmas.{Matched, begin_matched, more_matched}
 use Rattle.regex_rules.proofs.LostLemmas.{lost_matched}
 
 -- the last front before a place
-abbrev pub IsLastBefore : Tree → List ℕ → ℕ → ℕ → Option ℕ → Type 0
+abbrev pub IsLastBefore : PatternTree → List ℕ → ℕ → ℕ → Option ℕ → Type 0
 IsLastBefore tree text from place (Some last) = IsFront tree text from last × ((k : ℕ) → k < place → IsFront tree text from k → k ≤ last)
 IsLastBefore tree text from place None = (k : ℕ) → k < place → IsFront tree text from k → ⊥
 
@@ -56,7 +56,7 @@ between_characters text rest left c place k is parts within low high cut =
 
 -- ---- one place, and past one character
 
-module _ (tree : Tree) (text : List ℕ) (from : ℕ) where
+module _ (tree : PatternTree) (text : List ℕ) (from : ℕ) where
   upto : (place : ℕ) (last : Option ℕ) → (IsFront tree text from place → ⊥) → IsLastBefore tree text from place last → IsLastBefore tree text from (place + 1) last
   upto place None none before = λ k lt front. ⊎_elim
       (λ (less : k < place). before k less front)
@@ -112,7 +112,7 @@ matched_is text rest w place whole utf8 within is parts =
     append_cancel_right w (chars (take place text)) (chars rest)
     (sym parts ∙ ap chars (sym (take-append-drop place text)) ∙ chars-append (take place text) (drop place text) front ∙ ap (λ l. chars (take place text) ++ chars l) (sym is))
 
-begins_none : (tree : Tree) (text : List ℕ) (from : ℕ) → IsLastBefore tree text from 0 None
+begins_none : (tree : PatternTree) (text : List ℕ) (from : ℕ) → IsLastBefore tree text from 0 None
 begins_none tree text from = λ k lt front. omega (arith, lt)
 
 pub begin_walked : (places : List PatternPlace) (olds : List Bool) (answer : Bool) (text : List ℕ) (from : ℕ) → IsUtf8 text → Matched places olds answer true (chars text) (chars text) → Walked places olds answer true text text from None
@@ -183,7 +183,7 @@ one_and_more rest left c n utf8 parts le =
     let cut : take n rest ≡ one ++ beyond = ap (take n) parts ∙ ap (λ m. take m (one ++ left)) number ∙ take-append-add one left (n - length one) in
     (chars [] ++ chars beyond, ap chars cut ∙ chars-append one beyond alone ∙ ap (λ l. l ++ chars beyond) (chars_past_char one [] c alone (sym (append-nil one))))
 
-none_beyond : (tree : Tree) (text : List ℕ) (from place : ℕ) (last : Option ℕ) → IsLastBefore tree text from place last → ((k : ℕ) → place ≤ k → IsFront tree text from k → ⊥) → IsLastFront tree text from last
+none_beyond : (tree : PatternTree) (text : List ℕ) (from place : ℕ) (last : Option ℕ) → IsLastBefore tree text from place last → ((k : ℕ) → place ≤ k → IsFront tree text from k → ⊥) → IsLastFront tree text from last
 none_beyond tree text from place None before none = λ k front. ⊎_elim (λ (less : k < place). before k less front) (λ (more : place ≤ k). none k more front) (cases_lt k place)
 none_beyond tree text from place (Some last) before none = (
   before.0,

@@ -9,7 +9,7 @@ use Rattle.regex_rules.specs.declared.linking.Linking.{Linking}
 use Rattle.regex_rules.specs.declared.takers.Takers.{Takers}
 use Rattle.regex_rules.specs.declared.positions.Positions.{Positions}
 use Rattle.regex_rules.specs.declared.place.PatternPlace.{PatternPlace}
-use Rattle.regex_rules.specs.Trees.{Tree, places_of, tree_of}
+use Rattle.regex_rules.specs.Trees.{PatternTree, places_of, tree_of}
 use Rattle.regex_rules.specs.Languages.{InLanguage, in_language}
 use Rattle.regex_rules.specs.Positions.{Has, bit_of, count, either, rows_at, Follows, Takes}
 use Rattle.regex_rules.specs.Linkings.{linked, linking_at, begun_rows, unlinked, stood, takers_of, nothing_taken, ones, IsTable}
@@ -94,17 +94,17 @@ made places number before after self counted few begins goes whole_of follow_of 
 -- ---- between two characters
 
 -- the characters read so far, at least one, and those of the pattern that took the last of them
-pub record Kept (tree : Tree) (text rest : List ℕ) (set : ℕ) : Type 0 where
+pub record Kept (tree : PatternTree) (text rest : List ℕ) (set : ℕ) : Type 0 where
   pub w : List ℕ
   pub some : (w ≡ []) → ⊥
   pub parts : text ≡ w ++ rest
   pub ends : (p : ℕ) → Has set p ↔ At Whole tree 0 p w
 
-pub nothing_kept : (tree : Tree) (text : List ℕ) (answer : Bool) → text ≡ [] → answer ≡ (rows_at tree 0).lacks → Says answer (InLanguage tree text)
+pub nothing_kept : (tree : PatternTree) (text : List ℕ) (answer : Bool) → text ≡ [] → answer ≡ (rows_at tree 0).lacks → Says answer (InLanguage tree text)
 nothing_kept tree text answer none is =
     subst (λ (l : List ℕ). Says answer (InLanguage tree l)) (sym none) (subst (λ (b : Bool). Says b (InLanguage tree [])) (sym is) (whole_lacks tree 0))
 
-pub begin_kept : (tree : Tree) (text rest : List ℕ) (c first set : ℕ) → count tree ≤ 64 → ((p : ℕ) → Has set p ↔ Takes tree 0 p c) → first ≡ (rows_at tree 0).first → text ≡ c ∷ rest
+pub begin_kept : (tree : PatternTree) (text rest : List ℕ) (c first set : ℕ) → count tree ≤ 64 → ((p : ℕ) → Has set p ↔ Takes tree 0 p c) → first ≡ (rows_at tree 0).first → text ≡ c ∷ rest
     → Kept tree text rest (bit_and first set)
 begin_kept tree text rest c first set few takes is parts = record { w = c ∷ []; some = snoc_is_some [] c; parts = parts; ends = λ p. (there p, back p) }
   where
@@ -122,7 +122,7 @@ begin_kept tree text rest c first set few takes is parts = record { w = c ∷ []
         begins (inl (none, h)) = subst (λ (n : ℕ). Has n p) (sym is) h
         begins (inr (q, b, f)) = absurd (at_nothing tree Whole 0 q b)
 
-pub more_kept : (tree : Tree) (text rest : List ℕ) (ends c set after : ℕ) (sets : List ℕ) → count tree ≤ 64 → ((p : ℕ) → Has set p ↔ Takes tree 0 p c)
+pub more_kept : (tree : PatternTree) (text rest : List ℕ) (ends c set after : ℕ) (sets : List ℕ) → count tree ≤ 64 → ((p : ℕ) → Has set p ↔ Takes tree 0 p c)
     → ((q p : ℕ) → q < count tree → Has (get_or sets q 0) p ↔ Follows tree 0 q p)
     → ((p : ℕ) → Has after p ↔ ((q : ℕ) × Has ends q × Has (get_or sets q 0) p))
     → Kept tree text (c ∷ rest) ends → Kept tree text rest (bit_and after set)
@@ -151,7 +151,7 @@ more_kept tree text rest ends c set after sets few takes follow go k = record {
     back p a = let s = (step tree Whole 0 k.w c p (omega (arith, few))).0 a in (has_and after set p).1 (goes p s.1, (takes p).1 s.0)
 
 -- where none is left, no longer text is in the language
-pub none_kept : (tree : Tree) (text rest : List ℕ) (ends : ℕ) → count tree ≤ 64 → ends ≡ 0 → Kept tree text rest ends → Says false (InLanguage tree text)
+pub none_kept : (tree : PatternTree) (text rest : List ℕ) (ends : ℕ) → count tree ≤ 64 → ends ≡ 0 → Kept tree text rest ends → Says false (InLanguage tree text)
 none_kept tree text rest ends few none k = says_false no
   where
     no : InLanguage tree text → ⊥
@@ -160,7 +160,7 @@ none_kept tree text rest ends few none k = says_false no
         has_nothing s.0 (subst (λ (n : ℕ). Has n s.0) none ((k.ends s.0).1 s.1))
 
 -- the end of a text
-pub end_kept : (tree : Tree) (text : List ℕ) (ends end : ℕ) (answer : Bool) → count tree ≤ 64 → end ≡ (rows_at tree 0).last
+pub end_kept : (tree : PatternTree) (text : List ℕ) (ends end : ℕ) (answer : Bool) → count tree ≤ 64 → end ≡ (rows_at tree 0).last
     → (answer ≡ not (bit_and ends end == 0)) → Kept tree text [] ends → Says answer (InLanguage tree text)
 end_kept tree text ends end answer few ends_are said k = (λ passed. inside (in_language tree text) refl (sym is ∙ passed), λ l. is ∙ outside l)
   where

@@ -16,9 +16,9 @@ use Rattle.regex_rules.specs.declared.mode.Mode.{Mode}
 use Rattle.regex_rules.specs.declared.mode.Mode.TheVariants as mode
 use Rattle.regex_rules.specs.declared.reader.Reader.{Reader}
 use Rattle.regex_rules.specs.declared.fault.PatternFault.{PatternFault}
-use Rattle.regex_rules.specs.Trees.{Tree, places_of}
+use Rattle.regex_rules.specs.Trees.{PatternTree, places_of}
 use Rattle.regex_rules.specs.Spelling.{Bounds, range, is_reserved, IsMember, AreRanges, IsClassTail, IsNegation, IsClass, SpellsOne, sign_of, Spells, IsAnchor, IsWholePattern}
-use Rattle.regex_rules.specs.Reading.{Step, with_repeat, before_place, reader_in_row, step, then_read, read_from, unread, row_repeated}
+use Rattle.regex_rules.specs.Reading.{ReadingStep, with_repeat, before_place, reader_in_row, step, then_read, read_from, unread, row_repeated}
 
 -- characters lead a reading from one reader to another
 abbrev pub Leads : Bounds → ℕ → Reader → List ℕ → Reader → Type 0
@@ -27,7 +27,7 @@ Leads bounds at reader cs next = (later : ℕ) × ((rest : List ℕ) → read_fr
 pub leads_one : (bounds : Bounds) (at : ℕ) (reader next : Reader) (c : ℕ) → step bounds at c reader ≡ Ok next → Leads bounds at reader (c ∷ []) next
 unfolding read_from
 leads_one bounds at reader next c e =
-    (at + length (encode_utf8 c), λ rest. ap (λ (s : Step). then_read (λ r. read_from bounds (at + length (encode_utf8 c)) r rest) s) e)
+    (at + length (encode_utf8 c), λ rest. ap (λ (s : ReadingStep). then_read (λ r. read_from bounds (at + length (encode_utf8 c)) r rest) s) e)
 
 pub leads_none : (bounds : Bounds) (at : ℕ) (reader : Reader) → Leads bounds at reader [] reader
 leads_none bounds at reader = (at, λ rest. refl)
@@ -241,7 +241,7 @@ close_step bounds at depth places =
     let back : depth + 1 - 1 ≡ depth = omega arith in
     rw (some, back) refl
 
-pub rows_read : (bounds : Bounds) (places : List PatternPlace) (depth : ℕ) (cs : List ℕ) (rows : Tree) (at : ℕ) → Spells bounds depth cs rows
+pub rows_read : (bounds : Bounds) (places : List PatternPlace) (depth : ℕ) (cs : List ℕ) (rows : PatternTree) (at : ℕ) → Spells bounds depth cs rows
     → Leads bounds at (reader_in_row places depth) cs (reader_in_row (places ++ places_of rows) depth)
 rows_read bounds places depth _ _ at Spells.nothing = subst (λ (ps : List PatternPlace). Leads bounds at (reader_in_row places depth) [] (reader_in_row ps depth)) (sym (append-nil places)) (leads_none bounds at (reader_in_row places depth))
 rows_read bounds places depth cs _ at (Spells.one {rows} {char} before own repeat spelled is e) =
@@ -303,7 +303,7 @@ begin_read bounds (c ∷ cs) places e = go (c == 94) refl
         absurd (fault_is_none _ places f)
     go false not =
         let same : step bounds 0 c unread ≡ step bounds 0 c (reader_in_row [] 0) = rw not refl in
-        ap (λ (s : Step). then_read (λ r. read_from bounds (0 + length (encode_utf8 c)) r cs) s) same ∙ e
+        ap (λ (s : ReadingStep). then_read (λ r. read_from bounds (0 + length (encode_utf8 c)) r cs) s) same ∙ e
 
 anchored_read : (bounds : Bounds) (begin cs : List ℕ) (places : List PatternPlace) → IsAnchor 94 begin → ((at : ℕ) → read_from bounds at (reader_in_row [] 0) cs ≡ Ok places) → read_from bounds 0 unread (begin ++ cs) ≡ Ok places
 unfolding read_from
@@ -311,7 +311,7 @@ anchored_read bounds _ cs places IsAnchor.absent f = begin_read bounds cs places
 anchored_read bounds _ cs places IsAnchor.present f = f (0 + length (encode_utf8 94))
 
 -- A whole text that spells a pattern is read as its places.
-pub whole_read : (bounds : Bounds) (cs : List ℕ) (tree : Tree) → IsWholePattern bounds cs tree → read_from bounds 0 unread cs ≡ Ok (places_of tree)
+pub whole_read : (bounds : Bounds) (cs : List ℕ) (tree : PatternTree) → IsWholePattern bounds cs tree → read_from bounds 0 unread cs ≡ Ok (places_of tree)
 whole_read bounds cs tree w =
     ap (read_from bounds 0 unread) w.parts
     ∙ anchored_read bounds w.begin (w.rows ++ w.end) (places_of tree) w.begins (λ at.

@@ -9,7 +9,7 @@ use Rattle.regex_rules.specs.declared.takers.Takers.{Takers}
 use Rattle.regex_rules.specs.declared.repeat.Repeat.{Repeat}
 use Rattle.regex_rules.specs.declared.place.PatternPlace.{PatternPlace}
 use Rattle.regex_rules.specs.declared.place.PatternPlace.TheVariants.{One, Open, Bar, Close}
-use Rattle.regex_rules.specs.Trees.{Tree, Empty, Char, Bracket, Or, places_of}
+use Rattle.regex_rules.specs.Trees.{PatternTree, Empty, Char, Bracket, Or, places_of}
 use Rattle.regex_rules.specs.Languages.{is_one, may_go_on, Last, Earlier}
 use Rattle.regex_rules.specs.Positions.{Has, bit_of, count, one_at, row_at, rows_at, Joins, Follows, Takes}
 use Rattle.regex_rules.specs.Linkings.{next_bit, link, join, begun_rows, linking_at, past, linked, stand, stood, ones}
@@ -44,16 +44,16 @@ none_stood c self = refl
 -- ---- what may come after which
 
 -- the list of the sets, with what a tree adds
-abbrev pub table : Tree → ℕ → List ℕ → List ℕ
+abbrev pub table : PatternTree → ℕ → List ℕ → List ℕ
 table Empty n sets = sets
 table (Char rows one repeat) n sets = join repeat (row_at Last rows n) (one_at (n + count rows)) (table rows n sets)
 table (Bracket rows inner repeat) n sets = join repeat (row_at Last rows n) (rows_at inner (n + count rows)) (table inner (n + count rows) (table rows n sets))
 table (Or rows) n sets = table rows n sets
 
-abbrev pub rows_of : Tree → ℕ → Rows
+abbrev pub rows_of : PatternTree → ℕ → Rows
 rows_of tree n = record { earlier = row_at Earlier tree n; row = row_at Last tree n }
 
-pub links : (tree : Tree) (n : ℕ) (sets : List ℕ) (places : List PatternPlace) (around : List Rows)
+pub links : (tree : PatternTree) (n : ℕ) (sets : List ℕ) (places : List PatternPlace) (around : List Rows)
     → linked (places_of tree ++ places) (linking_at sets begun_rows around (bit_of n)) ≡ linked places (linking_at (table tree n sets) (rows_of tree n) around (bit_of (n + count tree)))
 links Empty n sets places around = ap (λ (m : ℕ). linked places (linking_at sets begun_rows around (bit_of m))) (sym (add-zero n))
 links (Char rows one repeat) n sets places around =
@@ -173,7 +173,7 @@ join_says repeat one next sets q p lt = (λ h. there ((link_says one.last next.f
     back (inr (first, inl last)) = inr (last, first)
     back (inr (first, inr (go, last))) = inl ((again_says (may_go_on repeat) next.last next.first sets q p lt).1 (inr (go, (last, first))))
 
-length_table : (tree : Tree) (n : ℕ) (sets : List ℕ) → length (table tree n sets) ≡ length sets
+length_table : (tree : PatternTree) (n : ℕ) (sets : List ℕ) → length (table tree n sets) ≡ length sets
 length_table Empty n sets = refl
 length_table (Char rows one repeat) n sets = length_join repeat (row_at Last rows n) (one_at (n + count rows)) (table rows n sets) ∙ length_table rows n sets
 length_table (Bracket rows inner repeat) n sets =
@@ -197,7 +197,7 @@ nothing_more : (A : Type 0) → A ↔ (A ⊎ ⊥)
 nothing_more A = (λ x. inl x, λ s. elim s [ inl x ↦ x | inr y ↦ absurd y ])
 
 -- The list says what may come after each character.
-pub table_says : (tree : Tree) (n : ℕ) (sets : List ℕ) (q p : ℕ) → q < length sets → Has (get_or (table tree n sets) q 0) p ↔ (Has (get_or sets q 0) p ⊎ Follows tree n q p)
+pub table_says : (tree : PatternTree) (n : ℕ) (sets : List ℕ) (q p : ℕ) → q < length sets → Has (get_or (table tree n sets) q 0) p ↔ (Has (get_or sets q 0) p ⊎ Follows tree n q p)
 table_says Empty n sets q p lt = nothing_more (Has (get_or sets q 0) p)
 table_says (Char rows one repeat) n sets q p lt =
     iff_then (join_says repeat (row_at Last rows n) (one_at (n + count rows)) (table rows n sets) q p (subst (λ (k : ℕ). q < k) (sym (length_table rows n sets)) lt))
@@ -216,7 +216,7 @@ table_says (Or rows) n sets q p lt = table_says rows n sets q p lt
 -- ---- which characters take one of a text
 
 -- the set, with what a tree adds
-abbrev pub takers : ℕ → Tree → ℕ → ℕ → ℕ
+abbrev pub takers : ℕ → PatternTree → ℕ → ℕ → ℕ
 takers c Empty n set = set
 takers c (Char rows one repeat) n set = if is_one one c then bit_or (takers c rows n set) (bit_of (n + count rows)) else takers c rows n set
 takers c (Bracket rows inner repeat) n set = takers c inner (n + count rows) (takers c rows n set)
@@ -225,7 +225,7 @@ takers c (Or rows) n set = takers c rows n set
 abbrev pub takers_at : ℕ → ℕ → Takers
 takers_at set bit = record { set = set; bit = bit }
 
-pub stands : (c : ℕ) (tree : Tree) (n set : ℕ) (places : List PatternPlace) → stood c (places_of tree ++ places) (takers_at set (bit_of n)) ≡ stood c places (takers_at (takers c tree n set) (bit_of (n + count tree)))
+pub stands : (c : ℕ) (tree : PatternTree) (n set : ℕ) (places : List PatternPlace) → stood c (places_of tree ++ places) (takers_at set (bit_of n)) ≡ stood c places (takers_at (takers c tree n set) (bit_of (n + count tree)))
 stands c Empty n set places = ap (λ (m : ℕ). stood c places (takers_at set (bit_of m))) (sym (add-zero n))
 stands c (Char rows one repeat) n set places =
     let m = n + count rows in
@@ -251,7 +251,7 @@ stands c (Or rows) n set places =
     ∙ one_stood c Bar places (takers_at (takers c rows n set) (bit_of (n + count rows)))
 
 -- The set has the characters that take it.
-pub takers_say : (c : ℕ) (tree : Tree) (n set p : ℕ) → n + count tree ≤ 64 → Has (takers c tree n set) p ↔ (Has set p ⊎ Takes tree n p c)
+pub takers_say : (c : ℕ) (tree : PatternTree) (n set p : ℕ) → n + count tree ≤ 64 → Has (takers c tree n set) p ↔ (Has set p ⊎ Takes tree n p c)
 takers_say c Empty n set p small = nothing_more (Has set p)
 takers_say c (Char rows one repeat) n set p small =
     let m = n + count rows in
@@ -275,7 +275,7 @@ ones_more (Open ∷ xs) ys = ones_more xs ys
 ones_more (Bar ∷ xs) ys = ones_more xs ys
 ones_more (Close repeat ∷ xs) ys = ones_more xs ys
 
-pub ones_of : (tree : Tree) → ones (places_of tree) ≡ count tree
+pub ones_of : (tree : PatternTree) → ones (places_of tree) ≡ count tree
 ones_of Empty = refl
 ones_of (Char rows one repeat) = let ih = ones_of rows in let more = ones_more (places_of rows) (One one repeat ∷ []) in omega (arith, ih, more)
 ones_of (Bracket rows inner repeat) =

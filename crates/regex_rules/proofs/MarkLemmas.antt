@@ -8,18 +8,18 @@ use Rattle.regex_rules.specs.declared.place.PatternPlace.{PatternPlace}
 use Rattle.regex_rules.specs.declared.place.PatternPlace.TheVariants.{One, Open, Bar, Close}
 use Rattle.regex_rules.specs.declared.level.Level.{Level}
 use Rattle.regex_rules.specs.declared.level.Frame.{Frame}
-use Rattle.regex_rules.specs.Trees.{Tree, Empty, Char, Bracket, Or, places_of}
+use Rattle.regex_rules.specs.Trees.{PatternTree, Empty, Char, Bracket, Or, places_of}
 use Rattle.regex_rules.specs.Languages.{Texts, Cut, Repeated, IsOne, is_one, may_lack, may_go_on, Last, Earlier, InRow, InLanguage}
 use Rattle.regex_rules.specs.Walks.{walked, at, begun, past_piece, next_row}
 use Rattle.regex_rules.proofs.TextLemmas.{Reach, Inside, Says, says_or, says_and, says_iff, says_true, says_false, iff_then, cut_step, reach_step, cut_empty, repeated_empty, reach_inside, enters_inside, one_end, reach_whole, cut_whole, reach_or}
 use Rattle.regex_rules.proofs.WalkLemmas.{one_walked}
 
 -- where the next piece of the last row begins
-abbrev pub Next : Texts → Tree → Texts
+abbrev pub Next : Texts → PatternTree → Texts
 Next P rows = Cut P (InRow Last rows)
 
 -- The marks of the places of rows, which begin after a text of this set, say what this text reaches.
-abbrev pub Right : Texts → Tree → List Bool → List ℕ → Type 0
+abbrev pub Right : Texts → PatternTree → List Bool → List ℕ → Type 0
 Right P Empty marks w = marks ≡ []
 Right P (Char rows one repeat) marks w =
     (olds : List Bool) × (mark : Bool) × Right P rows olds w × Says mark (Reach (Next P rows) (Repeated repeat (IsOne one)) w) × (marks ≡ olds ++ mark ∷ [])
@@ -31,7 +31,7 @@ Right P (Bracket rows inner repeat) marks w =
 Right P (Or rows) marks w = (olds : List Bool) × (mark : Bool) × Right P rows olds w × (marks ≡ olds ++ mark ∷ [])
 
 -- what a level past rows says
-pub record Knows (P : Texts) (rows : Tree) (w : List ℕ) (c : ℕ) (level : Level) : Type 0 where
+pub record Knows (P : Texts) (rows : PatternTree) (w : List ℕ) (c : ℕ) (level : Level) : Type 0 where
   pub enters : Says level.enters (P w)
   pub here : Says level.here (Cut P (InRow Last rows) w)
   pub arrives : Says level.arrives (Reach P (InRow Last rows) (w ++ c ∷ []))
@@ -40,7 +40,7 @@ pub record Knows (P : Texts) (rows : Tree) (w : List ℕ) (c : ℕ) (level : Lev
   pub earlier_lacks : Says level.earlier_lacks (InRow Earlier rows [])
 
 -- a walk over rows
-pub record Steps (P : Texts) (rows : Tree) (w : List ℕ) (c : ℕ) (enters : Bool) (olds : List Bool) : Type 0 where
+pub record Steps (P : Texts) (rows : PatternTree) (w : List ℕ) (c : ℕ) (enters : Bool) (olds : List Bool) : Type 0 where
   pub level : Level
   pub news : List Bool
   pub knows : Knows P rows w c level
@@ -50,15 +50,15 @@ pub record Steps (P : Texts) (rows : Tree) (w : List ℕ) (c : ℕ) (enters : Bo
 
 -- ---- one more piece
 
-here_past : (P L : Texts) (rows : Tree) (w : List ℕ) (here lacks old : Bool) → Says here (Cut P (InRow Last rows) w) → Says lacks (L []) → Says old (Reach (Next P rows) L w)
+here_past : (P L : Texts) (rows : PatternTree) (w : List ℕ) (here lacks old : Bool) → Says here (Cut P (InRow Last rows) w) → Says lacks (L []) → Says old (Reach (Next P rows) L w)
     → Says ((here && lacks) || old) (Cut P (Cut (InRow Last rows) L) w)
 here_past P L rows w here lacks old sh sl so = says_iff _ (says_or (here && lacks) old (says_and here lacks sh sl) so) (cut_step P (InRow Last rows) L w)
 
-arrives_past : (P L : Texts) (rows : Tree) (v : List ℕ) (arrived lacks arrives : Bool) → Says arrived (Reach P (InRow Last rows) v) → Says lacks (L []) → Says arrives (Reach (Next P rows) L v)
+arrives_past : (P L : Texts) (rows : PatternTree) (v : List ℕ) (arrived lacks arrives : Bool) → Says arrived (Reach P (InRow Last rows) v) → Says lacks (L []) → Says arrives (Reach (Next P rows) L v)
     → Says ((arrived && lacks) || arrives) (Reach P (Cut (InRow Last rows) L) v)
 arrives_past P L rows v arrived lacks arrives sh sl sa = says_iff _ (says_or (arrived && lacks) arrives (says_and arrived lacks sh sl) sa) (reach_step P (InRow Last rows) L v)
 
-pub lacks_past : (L : Texts) (rows : Tree) (lacked lacks : Bool) → Says lacked (InRow Last rows []) → Says lacks (L []) → Says (lacked && lacks) (Cut (InRow Last rows) L [])
+pub lacks_past : (L : Texts) (rows : PatternTree) (lacked lacks : Bool) → Says lacked (InRow Last rows []) → Says lacks (L []) → Says (lacked && lacks) (Cut (InRow Last rows) L [])
 lacks_past L rows lacked lacks sr sl = says_iff _ (says_and lacked lacks sr sl) (cut_empty (InRow Last rows) L)
 
 pub says_itself : (b : Bool) → Says b (b ≡ true)
@@ -106,7 +106,7 @@ over_empty P w c enters olds none says = record {
       ∙ ap (λ (m : List Bool). walked c places later (at (begun enters) around m)) (sym (append-nil marks));
 }
 
-over_char : (P : Texts) (rows : Tree) (one : OneChar) (repeat : Repeat) (w : List ℕ) (c : ℕ) (enters mark : Bool) (before olds : List Bool) → Steps P rows w c enters before
+over_char : (P : Texts) (rows : PatternTree) (one : OneChar) (repeat : Repeat) (w : List ℕ) (c : ℕ) (enters mark : Bool) (before olds : List Bool) → Steps P rows w c enters before
     → Says mark (Reach (Next P rows) (Repeated repeat (IsOne one)) w) → olds ≡ before ++ mark ∷ [] → Steps P (Char rows one repeat) w c enters olds
 over_char P rows one repeat w c enters mark before olds s says e =
     let takes : Bool = (s.level.here || (may_go_on repeat && mark)) && is_one one c in
@@ -132,7 +132,7 @@ over_char P rows one repeat w c enters mark before olds s says e =
           ∙ ap (λ (m : List Bool). walked c places later (at (past_piece s.level (may_lack repeat) mark takes) around m)) (append_assoc marks s.news (takes ∷ []));
     }
 
-over_bar : (P : Texts) (rows : Tree) (w : List ℕ) (c : ℕ) (enters mark : Bool) (before olds : List Bool) → Steps P rows w c enters before
+over_bar : (P : Texts) (rows : PatternTree) (w : List ℕ) (c : ℕ) (enters mark : Bool) (before olds : List Bool) → Steps P rows w c enters before
     → olds ≡ before ++ mark ∷ [] → Steps P (Or rows) w c enters olds
 over_bar P rows w c enters mark before olds s e = record {
   level = next_row s.level;
@@ -168,7 +168,7 @@ marks_past marks news insides again mark =
     ∙ append_assoc (marks ++ news) (again ∷ insides) (mark ∷ [])
     ∙ append_assoc marks news (again ∷ insides ++ (mark ∷ []))
 
-over_bracket : (P : Texts) (rows inner : Tree) (repeat : Repeat) (w : List ℕ) (c : ℕ) (enters again mark : Bool) (before insides olds : List Bool) (s : Steps P rows w c enters before)
+over_bracket : (P : Texts) (rows inner : PatternTree) (repeat : Repeat) (w : List ℕ) (c : ℕ) (enters again mark : Bool) (before insides olds : List Bool) (s : Steps P rows w c enters before)
     → Says again ((may_go_on repeat ≡ true) × Reach (Next P rows) (Repeated repeat (InLanguage inner)) w)
     → Says mark (Reach (Next P rows) (Repeated repeat (InLanguage inner)) w) → olds ≡ before ++ (again ∷ insides ++ (mark ∷ []))
     → Steps (Inside (Next P rows) repeat (InLanguage inner)) inner w c (s.level.here || again) insides → Steps P (Bracket rows inner repeat) w c enters olds
@@ -208,7 +208,7 @@ over_bracket P rows inner repeat w c enters again mark before insides olds s say
     }
 
 -- A walk keeps what the marks say.
-pub steps : (rows : Tree) (P : Texts) (w : List ℕ) (c : ℕ) (enters : Bool) (olds : List Bool) → Right P rows olds w → Says enters (P w) → Steps P rows w c enters olds
+pub steps : (rows : PatternTree) (P : Texts) (w : List ℕ) (c : ℕ) (enters : Bool) (olds : List Bool) → Right P rows olds w → Says enters (P w) → Steps P rows w c enters olds
 steps Empty P w c enters olds right says = over_empty P w c enters olds right says
 steps (Char rows one repeat) P w c enters olds (before, mark, right, says_mark, e) says =
     over_char P rows one repeat w c enters mark before olds (steps rows P w c enters before right says) says_mark e

@@ -5,7 +5,7 @@ use Rattle.std.proofs.lemmas.List.{append-nil}
 use Rattle.regex_rules.specs.declared.place.PatternPlace.{PatternPlace}
 use Rattle.regex_rules.specs.declared.place.PatternPlace.TheVariants.{One, Open, Bar, Close}
 use Rattle.regex_rules.specs.declared.walk.Walk.{Walk}
-use Rattle.regex_rules.specs.Trees.{Tree, Empty, Char, Bracket, Or, places_of, tree_of}
+use Rattle.regex_rules.specs.Trees.{PatternTree, Empty, Char, Bracket, Or, places_of, tree_of}
 use Rattle.regex_rules.specs.Languages.{Texts, InRow, Last, Earlier, InLanguage}
 use Rattle.regex_rules.specs.Walks.{walked, at, begun, walk_answer, takes_nothing}
 use Rattle.regex_rules.proofs.TextLemmas.{Reach, Whole, Says, says_or, says_iff, says_false, reach_nothing, reach_or, ends_empty, cons_is_some}
@@ -22,7 +22,7 @@ falses_append : (ps qs : List PatternPlace) → falses (ps ++ qs) ≡ falses ps 
 falses_append [] qs = refl
 falses_append (p ∷ ps) qs = ap (λ (l : List Bool). false ∷ l) (falses_append ps qs)
 
-none_right : (rows : Tree) (P : Texts) → Right P rows (falses (places_of rows)) []
+none_right : (rows : PatternTree) (P : Texts) → Right P rows (falses (places_of rows)) []
 none_right Empty P = refl
 none_right (Char rows one repeat) P = (falses (places_of rows), false, none_right rows P, says_false (reach_nothing _ _), falses_append (places_of rows) (One one repeat ∷ []))
 none_right (Bracket rows inner repeat) P = (
@@ -53,7 +53,7 @@ pub record Matched (places : List PatternPlace) (olds : List Bool) (answer enter
   pub begins : Says enters (Whole w)
 
 -- the walk over all places of a tree
-whole_walk : (tree : Tree) (w : List ℕ) (c : ℕ) (enters : Bool) (olds : List Bool) (s : Steps Whole tree w c enters olds)
+whole_walk : (tree : PatternTree) (w : List ℕ) (c : ℕ) (enters : Bool) (olds : List Bool) (s : Steps Whole tree w c enters olds)
     → walked c (places_of tree) olds (at (begun enters) [] []) ≡ at s.level [] s.news
 whole_walk tree w c enters olds s =
     ap (λ (ps : List PatternPlace). walked c ps olds (at (begun enters) [] [])) (sym (append-nil (places_of tree)))

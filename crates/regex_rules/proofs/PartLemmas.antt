@@ -64,22 +64,22 @@ module _ (P L A : Texts) (repeat : Repeat) (row next : Piece) (AtRow : ℕ → T
       (next_step : AtNext (Inside (Cut P L) repeat A) p v ↔ (TakesNext × Comes (Inside (Cut P L) repeat A w) (Has next.first p) (AtNext (Inside (Cut P L) repeat A)) FollowNext w))
       (takes_row : TakesRow → p < mid) (takes_next : TakesNext → mid ≤ p) (first_row : FirstRow → p < mid) (first_next : Has next.first p → mid ≤ p)
       (follow_row : (q : ℕ) → FollowRow q → (q < mid) × (p < mid)) (follow_next : (q : ℕ) → FollowNext q → (mid ≤ q) × (mid ≤ p)) where
-    abbrev pub Step : Type 0
-    Step =
+    abbrev pub ReadingStep : Type 0
+    ReadingStep =
         (TakesRow ⊎ TakesNext)
         × (((P w) × (FirstRow ⊎ ((row.lacks ≡ true) × Has next.first p)))
         ⊎ ((q : ℕ) × (AtRow q w ⊎ AtNext (Inside (Cut P L) repeat A) q w) × (FollowRow q ⊎ (FollowNext q ⊎ Joins row next repeat q p))))
 
-    from_row : TakesRow × Comes (P w) FirstRow AtRow FollowRow w → Step
+    from_row : TakesRow × Comes (P w) FirstRow AtRow FollowRow w → ReadingStep
     from_row (takes, inl (begins, first)) = (inl takes, inl (begins, inl first))
     from_row (takes, inr (q, a, follows)) = (inl takes, inr (q, inl a, inl follows))
 
-    from_begin : TakesNext → Has next.first p → ((P w × (row.lacks ≡ true)) ⊎ EndsIn AtRow row.last w) ⊎ ((may_go_on repeat ≡ true) × EndsIn (AtNext (Inside (Cut P L) repeat A)) next.last w) → Step
+    from_begin : TakesNext → Has next.first p → ((P w × (row.lacks ≡ true)) ⊎ EndsIn AtRow row.last w) ⊎ ((may_go_on repeat ≡ true) × EndsIn (AtNext (Inside (Cut P L) repeat A)) next.last w) → ReadingStep
     from_begin takes first (inl (inl (begins, lacks))) = (inr takes, inl (begins, inr (lacks, first)))
     from_begin takes first (inl (inr (q, a, last))) = (inr takes, inr (q, inl a, inr (inr (first, inl last))))
     from_begin takes first (inr (go, (q, a, last))) = (inr takes, inr (q, inr a, inr (inr (first, inr (go, last)))))
 
-    from_next : TakesNext × Comes (Inside (Cut P L) repeat A w) (Has next.first p) (AtNext (Inside (Cut P L) repeat A)) FollowNext w → Step
+    from_next : TakesNext × Comes (Inside (Cut P L) repeat A w) (Has next.first p) (AtNext (Inside (Cut P L) repeat A)) FollowNext w → ReadingStep
     from_next (takes, inl (begins, first)) = from_begin takes first (piece_begins.1 begins)
     from_next (takes, inr (q, a, follows)) = (inr takes, inr (q, inr a, inr (inl follows)))
 
@@ -104,13 +104,13 @@ module _ (P L A : Texts) (repeat : Repeat) (row next : Piece) (AtRow : ℕ → T
     into_next takes (inr (q, inl a, inr (inr (first, inr (go, last))))) = clash q mid (at_row q a) (last_next q last)
     into_next takes (inr (q, inr a, inr (inr (first, inr (go, last))))) = next_step.1 (takes, inl (piece_begins.0 (inr (go, (q, a, last))), first))
 
-    pub both_step : (AtRow p v ⊎ AtNext (Inside (Cut P L) repeat A) p v) ↔ Step
+    pub both_step : (AtRow p v ⊎ AtNext (Inside (Cut P L) repeat A) p v) ↔ ReadingStep
     both_step = (there, back)
       where
-        there : AtRow p v ⊎ AtNext (Inside (Cut P L) repeat A) p v → Step
+        there : AtRow p v ⊎ AtNext (Inside (Cut P L) repeat A) p v → ReadingStep
         there (inl a) = from_row (row_step.0 a)
         there (inr a) = from_next (next_step.0 a)
 
-        back : Step → AtRow p v ⊎ AtNext (Inside (Cut P L) repeat A) p v
+        back : ReadingStep → AtRow p v ⊎ AtNext (Inside (Cut P L) repeat A) p v
         back (inl takes, how) = inl (into_row takes how)
         back (inr takes, how) = inr (into_next takes how)

@@ -15,8 +15,8 @@ use Rattle.regex_rules.specs.declared.mode.Mode.TheVariants as mode
 use Rattle.regex_rules.specs.declared.reader.Reader.{Reader}
 use Rattle.regex_rules.specs.declared.fault.PatternFault.TheVariants.{BadPattern, TooDeep}
 use Rattle.regex_rules.specs.Spelling.{Bounds, range, is_special, is_meant, is_reserved, IsMember, AreRanges, IsClassTail, IsNegation, IsClass, SpellsOne, sign_of, IsAnchor}
-use Rattle.regex_rules.specs.Faults.{place_behind}
-use Rattle.regex_rules.specs.Reading.{Step, with_repeat, in_mode, reader_in_class, at_places, with_place, row_repeated, opened, bracket_closed, ended, special, in_a_row, escaped, class_closed, class_goes_on, class_first, class_begun, class_next, spanned, class_hyphen, class_last, class_escaped, class_last_escaped, step_in}
+use Rattle.regex_rules.specs.Faults.{offset_behind}
+use Rattle.regex_rules.specs.Reading.{ReadingStep, with_repeat, in_mode, reader_in_class, at_places, with_place, row_repeated, opened, bracket_closed, ended, special, in_a_row, escaped, class_closed, class_goes_on, class_first, class_begun, class_next, spanned, class_hyphen, class_last, class_escaped, class_last_escaped, step_in}
 use Rattle.regex_rules.proofs.StandLemmas.{HoldsRow, row_more, row_bar, row_again, row_open, row_close, row_begins}
 
 pub by_if : {A : Type 0} (P : A → Type 0) (b : Bool) (x y : A) → (b ≡ true → P x) → (b ≡ false → P y) → P (cond b x y)
@@ -46,7 +46,7 @@ pub record HoldsMember (bounds : Bounds) (cs : List ℕ) (reader : Reader) (c pl
   pub own : List ℕ
   pub class : HoldsClass bounds before reader.places reader.depth reader.negated reader.ranges
   pub member : IsMember own c
-  pub here : place ≡ place_behind before
+  pub here : place ≡ offset_behind before
   pub parts : cs ≡ before ++ (own ++ more)
 
 abbrev pub HoldsIn : Bounds → Mode → List ℕ → Reader → Type 0
@@ -60,14 +60,14 @@ HoldsIn bounds (mode.Member c place) cs r = HoldsMember bounds cs r c place []
 HoldsIn bounds (mode.Hyphen c place) cs r = HoldsMember bounds cs r c place (45 ∷ [])
 HoldsIn bounds mode.Spanned cs r = HoldsSome bounds cs r.places r.depth r.negated r.ranges
 HoldsIn bounds mode.LastHyphen cs r = (before : List ℕ) × HoldsSome bounds before r.places r.depth r.negated r.ranges × (cs ≡ before ++ 45 ∷ [])
-HoldsIn bounds (mode.MemberEscape place) cs r = (before : List ℕ) × HoldsClass bounds before r.places r.depth r.negated r.ranges × (place ≡ place_behind before) × (cs ≡ before ++ 92 ∷ [])
+HoldsIn bounds (mode.MemberEscape place) cs r = (before : List ℕ) × HoldsClass bounds before r.places r.depth r.negated r.ranges × (place ≡ offset_behind before) × (cs ≡ before ++ 92 ∷ [])
 HoldsIn bounds (mode.LastEscape c place) cs r = HoldsMember bounds cs r c place (45 ∷ 92 ∷ [])
 
 abbrev pub Holds : Bounds → List ℕ → Reader → Type 0
 Holds bounds cs r = HoldsIn bounds r.mode cs r
 
 -- what a step leaves is held of one character more
-abbrev pub Sound : Bounds → List ℕ → ℕ → Step → Type 0
+abbrev pub Sound : Bounds → List ℕ → ℕ → ReadingStep → Type 0
 Sound bounds cs c (Ok r) = Holds bounds (cs ++ c ∷ []) r
 Sound bounds cs c (Err fault) = Unit {0}
 
@@ -218,15 +218,15 @@ close_at bounds cs c r ranges e h =
     (subst (λ (rs : List CharRange). HoldsRow bounds (cs ++ 93 ∷ []) (r.places ++ One (Class (record { negated = r.negated; ranges = rs })) Once ∷ []) r.depth) (append-nil ranges) row)
 
 -- a class that may have another character
-goes_sound : (bounds : Bounds) (cs : List ℕ) (c at : ℕ) (r : Reader) (ranges : List CharRange) → at ≡ place_behind cs → HoldsClass bounds cs r.places r.depth r.negated ranges → is_reserved c ≡ false
+goes_sound : (bounds : Bounds) (cs : List ℕ) (c at : ℕ) (r : Reader) (ranges : List CharRange) → at ≡ offset_behind cs → HoldsClass bounds cs r.places r.depth r.negated ranges → is_reserved c ≡ false
     → Sound bounds cs c (class_goes_on r ranges (mode.Member c at))
 goes_sound bounds cs c at r ranges here h plain = record { before = cs; own = c ∷ []; class = h; member = IsMember.itself plain; here = here; parts = refl }
 
-escape_goes : (bounds : Bounds) (cs : List ℕ) (c at : ℕ) (r : Reader) (ranges : List CharRange) → at ≡ place_behind cs → HoldsClass bounds cs r.places r.depth r.negated ranges → (c == 92) ≡ true
+escape_goes : (bounds : Bounds) (cs : List ℕ) (c at : ℕ) (r : Reader) (ranges : List CharRange) → at ≡ offset_behind cs → HoldsClass bounds cs r.places r.depth r.negated ranges → (c == 92) ≡ true
     → Sound bounds cs c (class_goes_on r ranges (mode.MemberEscape at))
 escape_goes bounds cs c at r ranges here h e = (cs, h, here, snoc_at cs c 92 e)
 
-pub first_sound : (bounds : Bounds) (cs : List ℕ) (c at : ℕ) (r : Reader) → at ≡ place_behind cs → HoldsClass bounds cs r.places r.depth r.negated r.ranges → Sound bounds cs c (class_first at c r)
+pub first_sound : (bounds : Bounds) (cs : List ℕ) (c at : ℕ) (r : Reader) → at ≡ offset_behind cs → HoldsClass bounds cs r.places r.depth r.negated r.ranges → Sound bounds cs c (class_first at c r)
 first_sound bounds cs c at r here h =
     let P = Sound bounds cs c in
     by_if P (is_reserved c) _ _ (λ s. by_if P (c == 92) _ _ (λ e. escape_goes bounds cs c at r r.ranges here h e) (λ n. tt)) (λ plain. goes_sound bounds cs c at r r.ranges here h plain)
@@ -242,7 +242,7 @@ class_of_begin bounds cs before r row plain none e = record {
   parts = e;
 }
 
-pub begun_sound : (bounds : Bounds) (cs before : List ℕ) (c at : ℕ) (r : Reader) → at ≡ place_behind cs → HoldsRow bounds before r.places r.depth → r.negated ≡ false → r.ranges ≡ [] → cs ≡ before ++ 91 ∷ []
+pub begun_sound : (bounds : Bounds) (cs before : List ℕ) (c at : ℕ) (r : Reader) → at ≡ offset_behind cs → HoldsRow bounds before r.places r.depth → r.negated ≡ false → r.ranges ≡ [] → cs ≡ before ++ 91 ∷ []
     → Sound bounds cs c (class_begun at c r)
 begun_sound bounds cs before c at r here row plain none e =
     by_if (Sound bounds cs c) (c == 94) (Ok (reader_in_class r true [] mode.ClassFirst)) (class_first at c r) (λ f. record {
@@ -255,7 +255,7 @@ begun_sound bounds cs before c at r here row plain none e =
       parts = ap (λ (l : List ℕ). l ++ c ∷ []) e ∙ append_assoc before (91 ∷ []) (c ∷ []) ∙ ap (λ (d : ℕ). before ++ (91 ∷ d ∷ [])) (eqb-true c 94 f);
     }) (λ n. first_sound bounds cs c at r here (class_of_begin bounds cs before r row plain none e))
 
-next_sound : (bounds : Bounds) (cs : List ℕ) (c at : ℕ) (r : Reader) (ranges : List CharRange) (hyphen : Step) → at ≡ place_behind cs → HoldsSome bounds cs r.places r.depth r.negated ranges
+next_sound : (bounds : Bounds) (cs : List ℕ) (c at : ℕ) (r : Reader) (ranges : List CharRange) (hyphen : ReadingStep) → at ≡ offset_behind cs → HoldsSome bounds cs r.places r.depth r.negated ranges
     → ((c == 45) ≡ true → Sound bounds cs c hyphen) → Sound bounds cs c (class_next at c r ranges hyphen)
 next_sound bounds cs c at r ranges hyphen here h f =
     let P = Sound bounds cs c in
@@ -271,7 +271,7 @@ member_held bounds cs r c place h =
 more_parts : (before own more : List ℕ) (c : ℕ) (cs : List ℕ) → cs ≡ before ++ (own ++ more) → cs ++ c ∷ [] ≡ before ++ (own ++ (more ++ c ∷ []))
 more_parts before own more c cs e = ap (λ (l : List ℕ). l ++ c ∷ []) e ∙ append_assoc before (own ++ more) (c ∷ []) ∙ ap (λ (l : List ℕ). before ++ l) (append_assoc own more (c ∷ []))
 
-pub member_sound : (bounds : Bounds) (cs : List ℕ) (c at first place : ℕ) (r : Reader) → at ≡ place_behind cs → HoldsMember bounds cs r first place [] → Sound bounds cs c (step_in bounds (mode.Member first place) at c r)
+pub member_sound : (bounds : Bounds) (cs : List ℕ) (c at first place : ℕ) (r : Reader) → at ≡ offset_behind cs → HoldsMember bounds cs r first place [] → Sound bounds cs c (step_in bounds (mode.Member first place) at c r)
 member_sound bounds cs c at first place r here h =
     next_sound bounds cs c at r (r.ranges ++ range first first ∷ []) (Ok (in_mode r (mode.Hyphen first place))) here (member_held bounds cs r first place h) (λ e. record {
       before = h.before;
@@ -282,7 +282,7 @@ member_sound bounds cs c at first place r here h =
       parts = more_parts h.before h.own [] c cs h.parts ∙ ap (λ (d : ℕ). h.before ++ (h.own ++ (d ∷ []))) (eqb-true c 45 e);
     })
 
-pub spanned_sound : (bounds : Bounds) (cs : List ℕ) (c at : ℕ) (r : Reader) → at ≡ place_behind cs → HoldsSome bounds cs r.places r.depth r.negated r.ranges → Sound bounds cs c (step_in bounds mode.Spanned at c r)
+pub spanned_sound : (bounds : Bounds) (cs : List ℕ) (c at : ℕ) (r : Reader) → at ≡ offset_behind cs → HoldsSome bounds cs r.places r.depth r.negated r.ranges → Sound bounds cs c (step_in bounds mode.Spanned at c r)
 spanned_sound bounds cs c at r here h = next_sound bounds cs c at r r.ranges (Ok (in_mode r mode.LastHyphen)) here h (λ e. (cs, h, snoc_at cs c 45 e))
 
 span_sound : (bounds : Bounds) (cs other : List ℕ) (c last at first place : ℕ) (r : Reader) (before own : List ℕ) → HoldsClass bounds before r.places r.depth r.negated r.ranges → IsMember own first → IsMember other last
@@ -327,7 +327,7 @@ last_sound : (bounds : Bounds) (cs before : List ℕ) (c at : ℕ) (r : Reader) 
 last_sound bounds cs before c at r h e =
     by_if (Sound bounds cs c) (c == 93) (class_closed r (r.ranges ++ range 45 45 ∷ [])) (Err (BadPattern at)) (λ f. at_char bounds cs _ r.depth c 93 f (last_held bounds cs before r h e)) (λ n. tt)
 
-pub class_escape_sound : (bounds : Bounds) (cs before : List ℕ) (c at place : ℕ) (r : Reader) → HoldsClass bounds before r.places r.depth r.negated r.ranges → place ≡ place_behind before → cs ≡ before ++ 92 ∷ []
+pub class_escape_sound : (bounds : Bounds) (cs before : List ℕ) (c at place : ℕ) (r : Reader) → HoldsClass bounds before r.places r.depth r.negated r.ranges → place ≡ offset_behind before → cs ≡ before ++ 92 ∷ []
     → Sound bounds cs c (class_escaped at c place r)
 class_escape_sound bounds cs before c at place r h here e =
     by_if (Sound bounds cs c) (is_reserved c) (Ok (in_mode r (mode.Member c place))) (Err (BadPattern at)) (λ s. record {
@@ -345,7 +345,7 @@ last_escape_sound bounds cs c at first place r h =
     (λ s. span_sound bounds cs (92 ∷ c ∷ []) c c at first place r h.before h.own h.class h.member (IsMember.meant s) (more_parts h.before h.own (45 ∷ 92 ∷ []) c cs h.parts)) (λ n. tt)
 
 -- A step keeps what is held.
-pub step_sound : (bounds : Bounds) (m : Mode) (cs : List ℕ) (c at : ℕ) (r : Reader) → at ≡ place_behind cs → HoldsIn bounds m cs r → Sound bounds cs c (step_in bounds m at c r)
+pub step_sound : (bounds : Bounds) (m : Mode) (cs : List ℕ) (c at : ℕ) (r : Reader) → at ≡ offset_behind cs → HoldsIn bounds m cs r → Sound bounds cs c (step_in bounds m at c r)
 step_sound bounds mode.Begin cs c at r here (none, places, depth) = begin_sound bounds cs c at r none places depth
 step_sound bounds mode.Row cs c at r here row = row_sound bounds cs c at r row
 step_sound bounds mode.Escape cs c at r here (before, row, e) = escape_sound bounds cs before c at r row e

@@ -8,21 +8,21 @@ use Rattle.regex_rules.specs.declared.repeat.Repeat.{Repeat}
 use Rattle.regex_rules.specs.declared.repeat.Repeat.TheVariants.{Once, Optional, Any, AtLeastOnce}
 use Rattle.regex_rules.specs.declared.place.PatternPlace.{PatternPlace}
 use Rattle.regex_rules.specs.declared.place.PatternPlace.TheVariants.{One, Open, Bar, Close}
-use Rattle.regex_rules.specs.Trees.{Tree, Empty, Char, Bracket, Or, places_of}
+use Rattle.regex_rules.specs.Trees.{PatternTree, Empty, Char, Bracket, Or, places_of}
 use Rattle.regex_rules.specs.Spelling.{Bounds, SpellsOne, sign_of, Spells, IsAnchor, IsWholePattern}
 use Rattle.regex_rules.specs.Faults.{BeginsPattern}
 use Rattle.regex_rules.specs.Reading.{with_repeat, before_place}
 use Rattle.regex_rules.proofs.LeadLemmas.{one_again, close_again}
 
 -- Characters with this many open brackets, their places, and the rows within the innermost one.
-pub data Stands (bounds : Bounds) : ℕ → List ℕ → List PatternPlace → Tree → Type 0 where
-  bottom : {cs : List ℕ} {places : List PatternPlace} {rows : Tree} → Spells bounds 0 cs rows → places ≡ places_of rows → Stands bounds 0 cs places rows
-  deeper : {depth : ℕ} {cs : List ℕ} {places : List PatternPlace} {inner : Tree} (before inside : List ℕ) (outer : List PatternPlace) (rows : Tree) → Stands bounds depth before outer rows
+pub data Stands (bounds : Bounds) : ℕ → List ℕ → List PatternPlace → PatternTree → Type 0 where
+  bottom : {cs : List ℕ} {places : List PatternPlace} {rows : PatternTree} → Spells bounds 0 cs rows → places ≡ places_of rows → Stands bounds 0 cs places rows
+  deeper : {depth : ℕ} {cs : List ℕ} {places : List PatternPlace} {inner : PatternTree} (before inside : List ℕ) (outer : List PatternPlace) (rows : PatternTree) → Stands bounds depth before outer rows
       → bounds.may_open depth ≡ true → Spells bounds (suc depth) inside inner → cs ≡ before ++ 40 ∷ inside → places ≡ outer ++ (Open ∷ places_of inner)
       → Stands bounds (suc depth) cs places inner
 
 -- the rows further on
-pub stands_more : (bounds : Bounds) (depth : ℕ) (cs own : List ℕ) (places new : List PatternPlace) (rows more : Tree) → Stands bounds depth cs places rows
+pub stands_more : (bounds : Bounds) (depth : ℕ) (cs own : List ℕ) (places new : List PatternPlace) (rows more : PatternTree) → Stands bounds depth cs places rows
     → ((before : List ℕ) → Spells bounds depth before rows → Spells bounds depth (before ++ own) more) → places_of more ≡ places_of rows ++ new
     → Stands bounds depth (cs ++ own) (places ++ new) more
 stands_more bounds _ cs own places new rows more (Stands.bottom spelled e) f g = Stands.bottom (f cs spelled) (ap (λ (l : List PatternPlace). l ++ new) e ∙ sym g)
@@ -40,7 +40,7 @@ repeat_none repeat (p ∷ q ∷ places) place e = ap (before_place p) (repeat_no
 
 -- rows of which the last piece stands so often
 record Again (bounds : Bounds) (depth : ℕ) (cs : List ℕ) (front later : List PatternPlace) (repeat : Repeat) : Type 0 where
-  pub more : Tree
+  pub more : PatternTree
   pub spelled : Spells bounds depth (cs ++ sign_of repeat) more
   pub same : later ≡ front ++ places_of more
 
@@ -68,10 +68,10 @@ no_repeat repeat front xs later place none e =
 once_more : (before own sign cs : List ℕ) → cs ≡ before ++ (own ++ []) → cs ++ sign ≡ before ++ (own ++ sign)
 once_more before own sign cs e = ap (λ (l : List ℕ). l ++ sign) (e ∙ ap (λ (l : List ℕ). before ++ l) (append-nil own)) ∙ append_assoc before own sign
 
-bracket_places : (rows inner : Tree) (repeat : Repeat) → places_of rows ++ (Open ∷ places_of inner) ++ Close repeat ∷ [] ≡ places_of rows ++ (Open ∷ places_of inner ++ (Close repeat ∷ []))
+bracket_places : (rows inner : PatternTree) (repeat : Repeat) → places_of rows ++ (Open ∷ places_of inner) ++ Close repeat ∷ [] ≡ places_of rows ++ (Open ∷ places_of inner ++ (Close repeat ∷ []))
 bracket_places rows inner repeat = append_assoc (places_of rows) (Open ∷ places_of inner) (Close repeat ∷ [])
 
-again : (bounds : Bounds) (depth : ℕ) (cs : List ℕ) (front later : List PatternPlace) (rows : Tree) (repeat : Repeat) → Spells bounds depth cs rows → with_repeat repeat front ≡ None
+again : (bounds : Bounds) (depth : ℕ) (cs : List ℕ) (front later : List PatternPlace) (rows : PatternTree) (repeat : Repeat) → Spells bounds depth cs rows → with_repeat repeat front ≡ None
     → with_repeat repeat (front ++ places_of rows) ≡ Some later → Again bounds depth cs front later repeat
 again bounds depth _ front later _ repeat Spells.nothing none e = absurd (none_or_some (with_repeat repeat (front ++ [])) later (ap (with_repeat repeat) (append-nil front) ∙ none) e)
 again bounds depth cs front later _ repeat (Spells.one {rows} {char} before own Once spelled is f) none e = record {
@@ -106,8 +106,8 @@ unfolding with_repeat
 nothing_none repeat = refl
 
 -- the last piece stands so often
-pub stands_again : (bounds : Bounds) (depth : ℕ) (cs : List ℕ) (places later : List PatternPlace) (rows : Tree) (repeat : Repeat) → Stands bounds depth cs places rows → with_repeat repeat places ≡ Some later
-    → (more : Tree) × Stands bounds depth (cs ++ sign_of repeat) later more
+pub stands_again : (bounds : Bounds) (depth : ℕ) (cs : List ℕ) (places later : List PatternPlace) (rows : PatternTree) (repeat : Repeat) → Stands bounds depth cs places rows → with_repeat repeat places ≡ Some later
+    → (more : PatternTree) × Stands bounds depth (cs ++ sign_of repeat) later more
 stands_again bounds _ cs places later rows repeat (Stands.bottom spelled e) h =
     let a = again bounds 0 cs [] later rows repeat spelled (nothing_none repeat) (ap (with_repeat repeat) (sym e) ∙ h) in
     (a.more, Stands.bottom a.spelled a.same)
@@ -120,8 +120,8 @@ stands_again bounds _ cs places later rows repeat (Stands.deeper {depth} before 
 
 -- ---- brackets
 
-pub stands_closed : (bounds : Bounds) (depth : ℕ) (cs : List ℕ) (places : List PatternPlace) (inner : Tree) → Stands bounds (suc depth) cs places inner
-    → (rows : Tree) × Stands bounds depth (cs ++ 41 ∷ []) (places ++ Close Once ∷ []) (Bracket rows inner Once)
+pub stands_closed : (bounds : Bounds) (depth : ℕ) (cs : List ℕ) (places : List PatternPlace) (inner : PatternTree) → Stands bounds (suc depth) cs places inner
+    → (rows : PatternTree) × Stands bounds depth (cs ++ 41 ∷ []) (places ++ Close Once ∷ []) (Bracket rows inner Once)
 stands_closed bounds depth cs places inner (Stands.deeper before inside outer rows stands may spelled e p) =
     let own : List ℕ = 40 ∷ inside ++ (41 ∷ []) in
     let new : List PatternPlace = Open ∷ places_of inner ++ (Close Once ∷ []) in
@@ -130,10 +130,10 @@ stands_closed bounds depth cs places inner (Stands.deeper before inside outer ro
     let list : outer ++ new ≡ places ++ Close Once ∷ [] = sym (append_assoc outer (Open ∷ places_of inner) (Close Once ∷ [])) ∙ ap (λ (l : List PatternPlace). l ++ Close Once ∷ []) (sym p) in
     (rows, subst (λ (l : List ℕ). Stands bounds depth l (places ++ Close Once ∷ []) (Bracket rows inner Once)) chars (subst (λ (l : List PatternPlace). Stands bounds depth (before ++ own) l (Bracket rows inner Once)) list s))
 
-pub stands_spelled : (bounds : Bounds) (cs : List ℕ) (places : List PatternPlace) (rows : Tree) → Stands bounds 0 cs places rows → Spells bounds 0 cs rows × (places ≡ places_of rows)
+pub stands_spelled : (bounds : Bounds) (cs : List ℕ) (places : List PatternPlace) (rows : PatternTree) → Stands bounds 0 cs places rows → Spells bounds 0 cs rows × (places ≡ places_of rows)
 stands_spelled bounds cs places rows (Stands.bottom spelled e) = (spelled, e)
 
-stands_goes_on : (bounds : Bounds) (depth : ℕ) (cs : List ℕ) (places : List PatternPlace) (rows : Tree) → Stands bounds depth cs places rows → (more : List ℕ) × (tree : Tree) × Spells bounds 0 (cs ++ more) tree
+stands_goes_on : (bounds : Bounds) (depth : ℕ) (cs : List ℕ) (places : List PatternPlace) (rows : PatternTree) → Stands bounds depth cs places rows → (more : List ℕ) × (tree : PatternTree) × Spells bounds 0 (cs ++ more) tree
 stands_goes_on bounds zero cs places rows stands = ([], rows, subst (λ (l : List ℕ). Spells bounds 0 l rows) (sym (append-nil cs)) (stands_spelled bounds cs places rows stands).0)
 stands_goes_on bounds (suc depth) cs places rows stands =
     let c = stands_closed bounds depth cs places rows stands in
@@ -146,7 +146,7 @@ stands_goes_on bounds (suc depth) cs places rows stands =
 pub record HoldsRow (bounds : Bounds) (cs : List ℕ) (places : List PatternPlace) (depth : ℕ) : Type 0 where
   pub begin : List ℕ
   pub body : List ℕ
-  pub rows : Tree
+  pub rows : PatternTree
   pub anchor : IsAnchor 94 begin
   pub parts : cs ≡ begin ++ body
   pub stands : Stands bounds depth body places rows
@@ -233,7 +233,7 @@ pub row_begins : (bounds : Bounds) (begin : List ℕ) → IsAnchor 94 begin → 
 row_begins bounds begin anchor = record { begin = begin; body = []; rows = Empty; anchor = anchor; parts = sym (append-nil begin); stands = Stands.bottom Spells.nothing refl }
 
 -- a whole text
-pub row_whole : (bounds : Bounds) (cs end : List ℕ) (places : List PatternPlace) → HoldsRow bounds cs places 0 → IsAnchor 36 end → (tree : Tree) × IsWholePattern bounds (cs ++ end) tree × (places ≡ places_of tree)
+pub row_whole : (bounds : Bounds) (cs end : List ℕ) (places : List PatternPlace) → HoldsRow bounds cs places 0 → IsAnchor 36 end → (tree : PatternTree) × IsWholePattern bounds (cs ++ end) tree × (places ≡ places_of tree)
 row_whole bounds cs end places h ends =
     let s = stands_spelled bounds h.body places h.rows h.stands in
     (h.rows, record { begin = h.begin; rows = h.body; end = end; begins = h.anchor; spelled = s.0; ends = ends; parts = ap (λ (l : List ℕ). l ++ end) h.parts ∙ append_assoc h.begin h.body end }, s.1)

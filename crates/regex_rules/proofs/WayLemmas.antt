@@ -3,7 +3,7 @@ use Rattle.std.proofs.Common.{◌≡◌, ◌↔◌, ◌⊎◌, inl, inr, ℕ, su
 use Rattle.regex_rules.specs.declared.character.OneChar.{OneChar}
 use Rattle.regex_rules.specs.declared.linking.Piece.{Piece}
 use Rattle.regex_rules.specs.declared.repeat.Repeat.{Repeat}
-use Rattle.regex_rules.specs.Trees.{Tree, Empty, Char, Bracket, Or}
+use Rattle.regex_rules.specs.Trees.{PatternTree, Empty, Char, Bracket, Or}
 use Rattle.regex_rules.specs.Languages.{Texts, Repeated, IsOne, is_one, may_lack, may_go_on, Which, Last, Earlier, InRow, InLanguage}
 use Rattle.regex_rules.specs.Positions.{Has, bit_of, count, piece_of, either, followed, so_often, one_at, row_at, rows_at, Joins, Follows, Takes, GoesOn, IsWay}
 use Rattle.regex_rules.proofs.TextLemmas.{Reach, Inside, Whole, Says, says_or, says_iff, says_true, says_false, iff_then, repeated_empty, one_end, reach_nothing, reach_whole, reach_or}
@@ -13,7 +13,7 @@ use Rattle.regex_rules.proofs.BitLemmas.{has_or, has_nothing, has_only, has_if}
 use Rattle.regex_rules.proofs.PartLemmas.{EndsIn, Comes, both_end, both_step}
 
 -- A text, which begins after one of the set, has just taken this character of rows.
-abbrev pub At : Texts → Tree → ℕ → ℕ → Texts
+abbrev pub At : Texts → PatternTree → ℕ → ℕ → Texts
 At P Empty n p w = ⊥
 At P (Char rows one repeat) n p w = At P rows n p w ⊎ ((p ≡ n + count rows) × Reach (Inside (Next P rows) repeat (IsOne one)) (IsOne one) w)
 At P (Bracket rows inner repeat) n p w = At P rows n p w ⊎ At (Inside (Next P rows) repeat (InLanguage inner)) inner (n + count rows) p w
@@ -27,7 +27,7 @@ Within low high p = (low ≤ p) × (p < high)
 wider : (low mid high p : ℕ) → mid ≤ high → Within low mid p → Within low high p
 wider low mid high p le r = (r.0, omega (arith, r.1, le))
 
-pub at_within : (tree : Tree) (P : Texts) (n p : ℕ) (w : List ℕ) → At P tree n p w → Within n (n + count tree) p
+pub at_within : (tree : PatternTree) (P : Texts) (n p : ℕ) (w : List ℕ) → At P tree n p w → Within n (n + count tree) p
 at_within Empty P n p w a = absurd a
 at_within (Char rows one repeat) P n p w (inl a) = let r = at_within rows P n p w a in (r.0, omega (arith, r.1))
 at_within (Char rows one repeat) P n p w (inr (e, a)) = (omega (arith, e), omega (arith, e))
@@ -35,7 +35,7 @@ at_within (Bracket rows inner repeat) P n p w (inl a) = let r = at_within rows P
 at_within (Bracket rows inner repeat) P n p w (inr a) = let r = at_within inner (Inside (Next P rows) repeat (InLanguage inner)) (n + count rows) p w a in (omega (arith, r.0), omega (arith, r.1))
 at_within (Or rows) P n p w a = at_within rows P n p w a
 
-pub takes_within : (tree : Tree) (n p c : ℕ) → Takes tree n p c → Within n (n + count tree) p
+pub takes_within : (tree : PatternTree) (n p c : ℕ) → Takes tree n p c → Within n (n + count tree) p
 takes_within Empty n p c t = absurd t
 takes_within (Char rows one repeat) n p c (inl t) = let r = takes_within rows n p c t in (r.0, omega (arith, r.1))
 takes_within (Char rows one repeat) n p c (inr (e, fits)) = (omega (arith, e), omega (arith, e))
@@ -78,7 +78,7 @@ spans_then low high one next s t = record {
 spans_so_often : (low high : ℕ) (repeat : Repeat) (one : Piece) → Spans low high one → Spans low high (so_often repeat one)
 spans_so_often low high repeat one s = record { first = s.first; last = s.last }
 
-pub row_spans : (tree : Tree) (which : Which) (n : ℕ) → n + count tree ≤ 64 → Spans n (n + count tree) (row_at which tree n)
+pub row_spans : (tree : PatternTree) (which : Which) (n : ℕ) → n + count tree ≤ 64 → Spans n (n + count tree) (row_at which tree n)
 row_spans Empty Last n small = spans_none n (n + 0) true
 row_spans Empty Earlier n small = spans_none n (n + 0) false
 row_spans (Char rows one repeat) Last n small =
@@ -98,10 +98,10 @@ row_spans (Bracket rows inner repeat) Earlier n small =
 row_spans (Or rows) Last n small = spans_none n (n + count rows) true
 row_spans (Or rows) Earlier n small = spans_either n (n + count rows) (row_at Earlier rows n) (row_at Last rows n) (row_spans rows Earlier n small) (row_spans rows Last n small)
 
-pub whole_spans : (tree : Tree) (n : ℕ) → n + count tree ≤ 64 → Spans n (n + count tree) (rows_at tree n)
+pub whole_spans : (tree : PatternTree) (n : ℕ) → n + count tree ≤ 64 → Spans n (n + count tree) (rows_at tree n)
 whole_spans tree n small = spans_either n (n + count tree) (row_at Earlier tree n) (row_at Last tree n) (row_spans tree Earlier n small) (row_spans tree Last n small)
 
-pub follows_within : (tree : Tree) (n q p : ℕ) → n + count tree ≤ 64 → Follows tree n q p → Within n (n + count tree) q × Within n (n + count tree) p
+pub follows_within : (tree : PatternTree) (n q p : ℕ) → n + count tree ≤ 64 → Follows tree n q p → Within n (n + count tree) q × Within n (n + count tree) p
 follows_within Empty n q p small f = absurd f
 follows_within (Char rows one repeat) n q p small (inl f) =
     let r = follows_within rows n q p (omega (arith, small)) f in
@@ -138,7 +138,7 @@ so_often_lacks : (repeat : Repeat) (A : Texts) (lacks : Bool) → Says lacks (A 
 so_often_lacks repeat A lacks says = says_iff (may_lack repeat || lacks) (says_or (may_lack repeat) lacks (says_itself (may_lack repeat)) says) (repeated_empty repeat A)
 
 -- Nothing is a text of a row exactly where the row lacks.
-pub row_lacks : (tree : Tree) (which : Which) (n : ℕ) → Says (row_at which tree n).lacks (InRow which tree [])
+pub row_lacks : (tree : PatternTree) (which : Which) (n : ℕ) → Says (row_at which tree n).lacks (InRow which tree [])
 row_lacks Empty Last n = says_true refl
 row_lacks Empty Earlier n = says_false (λ x. x)
 row_lacks (Char rows one repeat) Last n =
@@ -153,7 +153,7 @@ row_lacks (Bracket rows inner repeat) Earlier n = row_lacks rows Earlier n
 row_lacks (Or rows) Last n = says_true refl
 row_lacks (Or rows) Earlier n = says_or (row_at Earlier rows n).lacks (row_at Last rows n).lacks (row_lacks rows Earlier n) (row_lacks rows Last n)
 
-pub whole_lacks : (tree : Tree) (n : ℕ) → Says (rows_at tree n).lacks (InLanguage tree [])
+pub whole_lacks : (tree : PatternTree) (n : ℕ) → Says (rows_at tree n).lacks (InLanguage tree [])
 whole_lacks tree n = says_or (row_at Earlier tree n).lacks (row_at Last tree n).lacks (row_lacks tree Earlier n) (row_lacks tree Last n)
 
 -- ---- the end of a text
@@ -185,7 +185,7 @@ only_end : (Q : Texts) (one : OneChar) (m : ℕ) (w : List ℕ) → m < 64 → R
 only_end Q one m w small = (λ r. (m, (refl, r), (has_only m m small).1 refl), λ e. e.1.1)
 
 -- Of a text that takes more than nothing of a row, the last character is taken by one with which the row ends.
-pub row_ends : (tree : Tree) (which : Which) (P : Texts) (n : ℕ) (w : List ℕ) → n + count tree ≤ 64 → Reach P (InRow which tree) w ↔ EndsIn (λ q v. At P tree n q v) (row_at which tree n).last w
+pub row_ends : (tree : PatternTree) (which : Which) (P : Texts) (n : ℕ) (w : List ℕ) → n + count tree ≤ 64 → Reach P (InRow which tree) w ↔ EndsIn (λ q v. At P tree n q v) (row_at which tree n).last w
 row_ends Empty Last P n w small = (λ r. absurd (reach_whole P w r), λ e. absurd e.1)
 row_ends Empty Earlier P n w small = (λ r. absurd r.3, λ e. absurd e.1)
 row_ends (Char rows one repeat) Last P n w small =
@@ -222,7 +222,7 @@ row_ends (Or rows) Earlier P n w small =
     (ends_either (Reach P (InRow Earlier rows) w) (Reach P (InRow Last rows) w) (λ q v. At P rows n q v) (row_at Earlier rows n).last (row_at Last rows n).last w
     (row_ends rows Earlier P n w small) (row_ends rows Last P n w small))
 
-pub whole_ends : (tree : Tree) (P : Texts) (n : ℕ) (w : List ℕ) → n + count tree ≤ 64 → Reach P (InLanguage tree) w ↔ EndsIn (λ q v. At P tree n q v) (rows_at tree n).last w
+pub whole_ends : (tree : PatternTree) (P : Texts) (n : ℕ) (w : List ℕ) → n + count tree ≤ 64 → Reach P (InLanguage tree) w ↔ EndsIn (λ q v. At P tree n q v) (rows_at tree n).last w
 whole_ends tree P n w small =
     iff_then (flip (reach_or P (InRow Earlier tree) (InRow Last tree) w))
     (ends_either (Reach P (InRow Earlier tree) w) (Reach P (InRow Last tree) w) (λ q v. At P tree n q v) (row_at Earlier tree n).last (row_at Last tree n).last w
@@ -281,7 +281,7 @@ only_step Q one m p c w small = (there, back)
     back ((e, fits), inr (q, a, x)) = absurd x
 
 -- A character takes the next one of a text where it is one with which texts begin, or one that may come after the one before.
-pub step : (tree : Tree) (P : Texts) (n : ℕ) (w : List ℕ) (c p : ℕ) → n + count tree ≤ 64
+pub step : (tree : PatternTree) (P : Texts) (n : ℕ) (w : List ℕ) (c p : ℕ) → n + count tree ≤ 64
     → At P tree n p (w ++ c ∷ []) ↔ (Takes tree n p c × Comes (P w) (Has (rows_at tree n).first p) (λ q v. At P tree n q v) (λ q. Follows tree n q p) w)
 step Empty P n w c p small = (λ a. absurd a, λ s. absurd s.0)
 step (Char rows one repeat) P n w c p small =
@@ -325,7 +325,7 @@ step (Or rows) P n w c p small =
 
 -- ---- whole texts
 
-pub at_nothing : (tree : Tree) (P : Texts) (n p : ℕ) → At P tree n p [] → ⊥
+pub at_nothing : (tree : PatternTree) (P : Texts) (n p : ℕ) → At P tree n p [] → ⊥
 at_nothing Empty P n p a = a
 at_nothing (Char rows one repeat) P n p (inl a) = at_nothing rows P n p a
 at_nothing (Char rows one repeat) P n p (inr (e, reach)) = reach_nothing (Inside (Next P rows) repeat (IsOne one)) (IsOne one) reach
@@ -334,23 +334,23 @@ at_nothing (Bracket rows inner repeat) P n p (inr a) = at_nothing inner (Inside 
 at_nothing (Or rows) P n p a = at_nothing rows P n p a
 
 -- a text that isn't empty is in the language where its last character is taken by one with which texts end
-pub text_ends : (tree : Tree) (w : List ℕ) → count tree ≤ 64 → ((w ≡ []) → ⊥) → InLanguage tree w ↔ EndsIn (λ q v. At Whole tree 0 q v) (rows_at tree 0).last w
+pub text_ends : (tree : PatternTree) (w : List ℕ) → count tree ≤ 64 → ((w ≡ []) → ⊥) → InLanguage tree w ↔ EndsIn (λ q v. At Whole tree 0 q v) (rows_at tree 0).last w
 text_ends tree w small some = iff_then (flip (reaches_whole (InLanguage tree) w some)) (whole_ends tree Whole 0 w (omega (arith, small)))
 
-way_there : (tree : Tree) → count tree ≤ 64 → (cs w : List ℕ) (p : ℕ) → ((w ≡ []) → ⊥) → At Whole tree 0 p w → GoesOn tree p cs → InLanguage tree (w ++ cs)
+way_there : (tree : PatternTree) → count tree ≤ 64 → (cs w : List ℕ) (p : ℕ) → ((w ≡ []) → ⊥) → At Whole tree 0 p w → GoesOn tree p cs → InLanguage tree (w ++ cs)
 way_there tree small [] w p some a h = subst (λ (l : List ℕ). InLanguage tree l) (sym (append-nil w)) ((text_ends tree w small some).1 (p, a, h))
 way_there tree small (c ∷ cs) w p some a (q, f, t, g) =
     subst (λ (l : List ℕ). InLanguage tree l) (append_assoc w (c ∷ []) cs)
     (way_there tree small cs (w ++ c ∷ []) q (snoc_is_some w c) ((step tree Whole 0 w c q (omega (arith, small))).1 (t, inr (p, a, f))) g)
 
-pub way_back : (tree : Tree) → count tree ≤ 64 → (cs w : List ℕ) → ((w ≡ []) → ⊥) → InLanguage tree (w ++ cs) → (p : ℕ) × At Whole tree 0 p w × GoesOn tree p cs
+pub way_back : (tree : PatternTree) → count tree ≤ 64 → (cs w : List ℕ) → ((w ≡ []) → ⊥) → InLanguage tree (w ++ cs) → (p : ℕ) × At Whole tree 0 p w × GoesOn tree p cs
 way_back tree small [] w some l = (text_ends tree w small some).0 (subst (λ (t : List ℕ). InLanguage tree t) (append-nil w) l)
 way_back tree small (c ∷ cs) w some l =
     let s = way_back tree small cs (w ++ c ∷ []) (snoc_is_some w c) (subst (λ (t : List ℕ). InLanguage tree t) (sym (append_assoc w (c ∷ []) cs)) l) in
     let t = (step tree Whole 0 w c s.0 (omega (arith, small))).0 s.1 in
     elim t.1 [ inl b ↦ absurd (some b.0) | inr b ↦ (b.0, b.1, (s.0, b.2, t.0, s.2)) ]
 
-pub ways_are_language : (tree : Tree) (cs : List ℕ) → count tree ≤ 64 → IsWay tree cs ↔ InLanguage tree cs
+pub ways_are_language : (tree : PatternTree) (cs : List ℕ) → count tree ≤ 64 → IsWay tree cs ↔ InLanguage tree cs
 ways_are_language tree [] small = whole_lacks tree 0
 ways_are_language tree (c ∷ cs) small = (there, back)
   where

@@ -7,7 +7,7 @@ use Rattle.regex_rules.specs.declared.character.OneChar.{OneChar}
 use Rattle.regex_rules.specs.declared.character.OneChar.TheVariants.{AnyButNewline, Literal, Class}
 use Rattle.regex_rules.specs.declared.repeat.Repeat.{Repeat}
 use Rattle.regex_rules.specs.declared.repeat.Repeat.TheVariants.{Once, Optional, Any, AtLeastOnce}
-use Rattle.regex_rules.specs.Trees.{Tree, Empty, Char, Bracket, Or}
+use Rattle.regex_rules.specs.Trees.{PatternTree, Empty, Char, Bracket, Or}
 
 -- a range has both its ends
 abbrev pub in_range : ℕ → CharRange → Bool
@@ -52,7 +52,7 @@ pub data Which : Type 0 where
   Last Earlier : Which
 
 -- A row is a cutting of the text into parts of its pieces in order. Brackets hold what one of their rows does.
-abbrev pub InRow : Which → Tree → Texts
+abbrev pub InRow : Which → PatternTree → Texts
 InRow Last Empty cs = cs ≡ []
 InRow Last (Char rows one repeat) cs = Cut (InRow Last rows) (Repeated repeat (IsOne one)) cs
 InRow Last (Bracket rows inner repeat) cs = Cut (InRow Last rows) (Repeated repeat (λ ds. InRow Earlier inner ds ⊎ InRow Last inner ds)) cs
@@ -63,7 +63,7 @@ InRow Earlier (Bracket rows inner repeat) cs = InRow Earlier rows cs
 InRow Earlier (Or rows) cs = InRow Earlier rows cs ⊎ InRow Last rows cs
 
 -- The characters are in the language of the pattern with this tree: in that of one of its rows.
-abbrev pub InLanguage : Tree → Texts
+abbrev pub InLanguage : PatternTree → Texts
 InLanguage tree cs = InRow Earlier tree cs ⊎ InRow Last tree cs
 
 -- ---- the same as tests, which try every cutting of a text
@@ -103,7 +103,7 @@ is_repetition Optional part cs = lacks_characters cs || part cs
 is_repetition Any part cs = is_any_times part cs
 is_repetition AtLeastOnce part cs = is_cut_in_two part (is_any_times part) cs
 
-abbrev pub in_row : Which → Tree → List ℕ → Bool
+abbrev pub in_row : Which → PatternTree → List ℕ → Bool
 in_row Last Empty cs = lacks_characters cs
 in_row Last (Char rows one repeat) cs = is_cut_in_two (in_row Last rows) (is_repetition repeat (is_one_text one)) cs
 in_row Last (Bracket rows inner repeat) cs = is_cut_in_two (in_row Last rows) (is_repetition repeat (λ part. in_row Earlier inner part || in_row Last inner part)) cs
@@ -114,7 +114,7 @@ in_row Earlier (Bracket rows inner repeat) cs = in_row Earlier rows cs
 in_row Earlier (Or rows) cs = in_row Earlier rows cs || in_row Last rows cs
 
 -- whether the characters are in the language: law `the_test_is_the_language`
-unfoldable pub in_language : Tree → List ℕ → Bool
+unfoldable pub in_language : PatternTree → List ℕ → Bool
 in_language tree cs = in_row Earlier tree cs || in_row Last tree cs
 
 -- ---- of a repetition

@@ -4,7 +4,7 @@ use Rattle.std.specs.Prelude.{◌≡◌, ℕ, suc, ◌+◌, ◌^◌, ◌%◌, Bo
 use Rattle.std.specs.Int.{bit_at}
 use Rattle.regex_rules.specs.declared.linking.Piece.{Piece}
 use Rattle.regex_rules.specs.declared.repeat.Repeat.{Repeat}
-use Rattle.regex_rules.specs.Trees.{Tree, Empty, Char, Bracket, Or}
+use Rattle.regex_rules.specs.Trees.{PatternTree, Empty, Char, Bracket, Or}
 use Rattle.regex_rules.specs.Languages.{Which, Last, Earlier, is_one, may_lack, may_go_on}
 
 -- a set of characters of a pattern, as a number, has this one
@@ -16,7 +16,7 @@ unfoldable pub bit_of : ℕ → ℕ
 bit_of p = 2 ^ p % 2 ^ 64
 
 -- how many characters a pattern has
-abbrev pub count : Tree → ℕ
+abbrev pub count : PatternTree → ℕ
 count Empty = 0
 count (Char rows one repeat) = suc (count rows)
 count (Bracket rows inner repeat) = count rows + count inner
@@ -52,7 +52,7 @@ abbrev pub one_at : ℕ → Piece
 one_at p = piece_of (bit_of p) (bit_of p) false
 
 -- the last row of a tree, and those before it together; its characters are counted from a number on
-abbrev pub row_at : Which → Tree → ℕ → Piece
+abbrev pub row_at : Which → PatternTree → ℕ → Piece
 row_at Last Empty n = empty_row
 row_at Last (Char rows one repeat) n = followed (row_at Last rows n) (so_often repeat (one_at (n + count rows)))
 row_at Last (Bracket rows inner repeat) n = followed (row_at Last rows n) (so_often repeat (either (row_at Earlier inner (n + count rows)) (row_at Last inner (n + count rows))))
@@ -63,7 +63,7 @@ row_at Earlier (Bracket rows inner repeat) n = row_at Earlier rows n
 row_at Earlier (Or rows) n = either (row_at Earlier rows n) (row_at Last rows n)
 
 -- all rows together
-abbrev pub rows_at : Tree → ℕ → Piece
+abbrev pub rows_at : PatternTree → ℕ → Piece
 rows_at tree n = either (row_at Earlier tree n) (row_at Last tree n)
 
 -- ---- which characters may come after which
@@ -72,14 +72,14 @@ rows_at tree n = either (row_at Earlier tree n) (row_at Last tree n)
 abbrev pub Joins : Piece → Piece → Repeat → ℕ → ℕ → Type 0
 Joins row next repeat q p = Has next.first p × (Has row.last q ⊎ ((may_go_on repeat ≡ true) × Has next.last q))
 
-abbrev pub Follows : Tree → ℕ → ℕ → ℕ → Type 0
+abbrev pub Follows : PatternTree → ℕ → ℕ → ℕ → Type 0
 Follows Empty n q p = ⊥
 Follows (Char rows one repeat) n q p = Follows rows n q p ⊎ Joins (row_at Last rows n) (one_at (n + count rows)) repeat q p
 Follows (Bracket rows inner repeat) n q p = Follows rows n q p ⊎ (Follows inner (n + count rows) q p ⊎ Joins (row_at Last rows n) (rows_at inner (n + count rows)) repeat q p)
 Follows (Or rows) n q p = Follows rows n q p
 
 -- a character of a text may stand at this one of the pattern
-abbrev pub Takes : Tree → ℕ → ℕ → ℕ → Type 0
+abbrev pub Takes : PatternTree → ℕ → ℕ → ℕ → Type 0
 Takes Empty n p c = ⊥
 Takes (Char rows one repeat) n p c = Takes rows n p c ⊎ ((p ≡ n + count rows) × (is_one one c ≡ true))
 Takes (Bracket rows inner repeat) n p c = Takes rows n p c ⊎ Takes inner (n + count rows) p c
@@ -88,12 +88,12 @@ Takes (Or rows) n p c = Takes rows n p c
 -- ---- ways of a text through a pattern
 
 -- from a character of the pattern on, the text is taken up to an end
-abbrev pub GoesOn : Tree → ℕ → List ℕ → Type 0
+abbrev pub GoesOn : PatternTree → ℕ → List ℕ → Type 0
 GoesOn tree p [] = Has (rows_at tree 0).last p
 GoesOn tree p (c ∷ cs) = (q : ℕ) × Follows tree 0 p q × Takes tree 0 q c × GoesOn tree q cs
 
 -- Each character of the text is taken by one of the pattern: the first by one with which texts begin, each next one by one that may come after the one before, the last
 -- by one with which texts end. The empty text is taken where nothing is a text of the pattern.
-abbrev pub IsWay : Tree → List ℕ → Type 0
+abbrev pub IsWay : PatternTree → List ℕ → Type 0
 IsWay tree [] = (rows_at tree 0).lacks ≡ true
 IsWay tree (c ∷ cs) = (p : ℕ) × Has (rows_at tree 0).first p × Takes tree 0 p c × GoesOn tree p cs

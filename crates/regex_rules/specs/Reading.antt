@@ -36,8 +36,8 @@ with_repeat repeat (place ∷ []) = then_place [] (repeated_place repeat place)
 with_repeat repeat (place ∷ next ∷ places) = before_place place (with_repeat repeat (next ∷ places))
 
 -- what a reading makes of a character, or of the end
-abbrev pub Step : Type 0
-Step = Result Reader PatternFault
+abbrev pub ReadingStep : Type 0
+ReadingStep = Result Reader PatternFault
 
 -- among the pieces of a row within so many brackets
 abbrev pub reader_in_row : List PatternPlace → ℕ → Reader
@@ -55,21 +55,21 @@ at_places reader places depth = record { places = places; depth = depth; negated
 abbrev pub with_place : Reader → PatternPlace → Reader
 with_place reader place = at_places reader (reader.places ++ place ∷ []) reader.depth
 
-abbrev pub row_repeated : ℕ → Reader → Option (List PatternPlace) → Step
+abbrev pub row_repeated : ℕ → Reader → Option (List PatternPlace) → ReadingStep
 row_repeated at reader None = Err (BadPattern at)
 row_repeated at reader (Some places) = Ok (at_places reader places reader.depth)
 
-abbrev pub opened : Bounds → ℕ → Reader → Step
+abbrev pub opened : Bounds → ℕ → Reader → ReadingStep
 opened bounds at reader = if bounds.may_open reader.depth then Ok (at_places reader (reader.places ++ Open ∷ []) (reader.depth + 1)) else Err (TooDeep at)
 
-abbrev pub bracket_closed : ℕ → Reader → Step
+abbrev pub bracket_closed : ℕ → Reader → ReadingStep
 bracket_closed at reader = if reader.depth == 0 then Err (BadPattern at) else Ok (at_places reader (reader.places ++ Close Once ∷ []) (reader.depth - 1))
 
-abbrev pub ended : ℕ → Reader → Step
+abbrev pub ended : ℕ → Reader → ReadingStep
 ended at reader = if reader.depth == 0 then Ok (in_mode reader mode.End) else Err (BadPattern at)
 
 -- a character that doesn't stand for itself
-abbrev pub special : Bounds → ℕ → ℕ → Reader → Step
+abbrev pub special : Bounds → ℕ → ℕ → Reader → ReadingStep
 special bounds at c reader =
     if c == 46 then Ok (with_place reader (One AnyButNewline Once))
     else (if c == 40 then opened bounds at reader
@@ -83,57 +83,57 @@ special bounds at c reader =
     else (if c == 36 then ended at reader
     else Err (BadPattern at))))))))))
 
-abbrev pub in_a_row : Bounds → ℕ → ℕ → Reader → Step
+abbrev pub in_a_row : Bounds → ℕ → ℕ → Reader → ReadingStep
 in_a_row bounds at c reader = if is_special c then special bounds at c reader else Ok (with_place reader (One (Literal c) Once))
 
-abbrev pub escaped : ℕ → ℕ → Reader → Step
+abbrev pub escaped : ℕ → ℕ → Reader → ReadingStep
 escaped at c reader = if is_meant c then Ok (with_place reader (One (Literal c) Once)) else Err (BadPattern at)
 
 -- past the `]` of a class with these ranges
-abbrev pub class_closed : Reader → List CharRange → Step
+abbrev pub class_closed : Reader → List CharRange → ReadingStep
 class_closed reader ranges = Ok (reader_in_row (reader.places ++ One (Class (record { negated = reader.negated; ranges = ranges })) Once ∷ []) reader.depth)
 
 -- a class with these ranges, further on
-abbrev pub class_goes_on : Reader → List CharRange → Mode → Step
+abbrev pub class_goes_on : Reader → List CharRange → Mode → ReadingStep
 class_goes_on reader ranges place = Ok (reader_in_class reader reader.negated ranges place)
 
 -- where a class has nothing yet
-abbrev pub class_first : ℕ → ℕ → Reader → Step
+abbrev pub class_first : ℕ → ℕ → Reader → ReadingStep
 class_first at c reader =
     if is_reserved c then (if c == 92 then Ok (in_mode reader (mode.MemberEscape at)) else Err (BadPattern at))
     else Ok (in_mode reader (mode.Member c at))
 
-abbrev pub class_begun : ℕ → ℕ → Reader → Step
+abbrev pub class_begun : ℕ → ℕ → Reader → ReadingStep
 class_begun at c reader = if c == 94 then Ok (reader_in_class reader true [] mode.ClassFirst) else class_first at c reader
 
 -- where another character or range may begin, with these ranges before it, and after what a `-` means
-abbrev pub class_next : ℕ → ℕ → Reader → List CharRange → Step → Step
+abbrev pub class_next : ℕ → ℕ → Reader → List CharRange → ReadingStep → ReadingStep
 class_next at c reader ranges hyphen =
     if is_reserved c then (if c == 45 then hyphen else (if c == 93 then class_closed reader ranges else (if c == 92 then class_goes_on reader ranges (mode.MemberEscape at) else Err (BadPattern at))))
     else class_goes_on reader ranges (mode.Member c at)
 
 -- a range from one character to another
-abbrev pub spanned : Bounds → ℕ → ℕ → ℕ → Reader → Step
+abbrev pub spanned : Bounds → ℕ → ℕ → ℕ → Reader → ReadingStep
 spanned bounds first place c reader =
     if bounds.may_span first c then class_goes_on reader (reader.ranges ++ range first c ∷ []) mode.Spanned else Err (BadPattern place)
 
 -- after a character and a `-`
-abbrev pub class_hyphen : Bounds → ℕ → ℕ → ℕ → ℕ → Reader → Step
+abbrev pub class_hyphen : Bounds → ℕ → ℕ → ℕ → ℕ → Reader → ReadingStep
 class_hyphen bounds at c first place reader =
     if is_reserved c then (if c == 93 then class_closed reader (reader.ranges ++ (range first first ∷ range 45 45 ∷ [])) else (if c == 92 then Ok (in_mode reader (mode.LastEscape first place)) else Err (BadPattern at)))
     else spanned bounds first place c reader
 
-abbrev pub class_last : ℕ → ℕ → Reader → Step
+abbrev pub class_last : ℕ → ℕ → Reader → ReadingStep
 class_last at c reader = if c == 93 then class_closed reader (reader.ranges ++ range 45 45 ∷ []) else Err (BadPattern at)
 
-abbrev pub class_escaped : ℕ → ℕ → ℕ → Reader → Step
+abbrev pub class_escaped : ℕ → ℕ → ℕ → Reader → ReadingStep
 class_escaped at c place reader = if is_reserved c then Ok (in_mode reader (mode.Member c place)) else Err (BadPattern at)
 
-abbrev pub class_last_escaped : Bounds → ℕ → ℕ → ℕ → ℕ → Reader → Step
+abbrev pub class_last_escaped : Bounds → ℕ → ℕ → ℕ → ℕ → Reader → ReadingStep
 class_last_escaped bounds at c first place reader = if is_reserved c then spanned bounds first place c reader else Err (BadPattern at)
 
 -- one character further, at this place
-abbrev pub step_in : Bounds → Mode → ℕ → ℕ → Reader → Step
+abbrev pub step_in : Bounds → Mode → ℕ → ℕ → Reader → ReadingStep
 step_in bounds mode.Begin at c reader = if c == 94 then Ok (in_mode reader mode.Row) else in_a_row bounds at c reader
 step_in bounds mode.Row at c reader = in_a_row bounds at c reader
 step_in bounds mode.Escape at c reader = escaped at c reader
@@ -148,7 +148,7 @@ step_in bounds mode.LastHyphen at c reader = class_last at c reader
 step_in bounds (mode.MemberEscape place) at c reader = class_escaped at c place reader
 step_in bounds (mode.LastEscape first place) at c reader = class_last_escaped bounds at c first place reader
 
-abbrev pub step : Bounds → ℕ → ℕ → Reader → Step
+abbrev pub step : Bounds → ℕ → ℕ → Reader → ReadingStep
 step bounds at c reader = step_in bounds reader.mode at c reader
 
 -- whether a pattern may end there
@@ -161,7 +161,7 @@ may_end other = false
 abbrev pub finished : ℕ → Reader → Result (List PatternPlace) PatternFault
 finished at reader = if may_end reader.mode then (if reader.depth == 0 then Ok reader.places else Err (BadPattern at)) else Err (BadPattern at)
 
-abbrev pub then_read : (Reader → Result (List PatternPlace) PatternFault) → Step → Result (List PatternPlace) PatternFault
+abbrev pub then_read : (Reader → Result (List PatternPlace) PatternFault) → ReadingStep → Result (List PatternPlace) PatternFault
 then_read more (Ok reader) = more reader
 then_read more (Err fault) = Err fault
 

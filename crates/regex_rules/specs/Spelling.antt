@@ -12,7 +12,7 @@ use Rattle.regex_rules.specs.declared.character.OneChar.{OneChar}
 use Rattle.regex_rules.specs.declared.character.OneChar.TheVariants.{AnyButNewline, Literal, Class}
 use Rattle.regex_rules.specs.declared.repeat.Repeat.{Repeat}
 use Rattle.regex_rules.specs.declared.repeat.Repeat.TheVariants.{Once, Optional, Any, AtLeastOnce}
-use Rattle.regex_rules.specs.Trees.{Tree, Empty, Char, Bracket, Or}
+use Rattle.regex_rules.specs.Trees.{PatternTree, Empty, Char, Bracket, Or}
 
 -- `\ . [ ] ( ) { } * + ? | ^ $` don't stand for themselves
 abbrev pub is_special : ℕ → Bool
@@ -87,13 +87,13 @@ sign_of Any = 42 ∷ []
 sign_of AtLeastOnce = 43 ∷ []
 
 -- Characters within this number of brackets spell rows.
-pub data Spells (bounds : Bounds) : ℕ → List ℕ → Tree → Type 0 where
+pub data Spells (bounds : Bounds) : ℕ → List ℕ → PatternTree → Type 0 where
   nothing : {depth : ℕ} → Spells bounds depth [] Empty
-  one : {depth : ℕ} {cs : List ℕ} {rows : Tree} {char : OneChar} (before own : List ℕ) (repeat : Repeat) → Spells bounds depth before rows → SpellsOne bounds own char
+  one : {depth : ℕ} {cs : List ℕ} {rows : PatternTree} {char : OneChar} (before own : List ℕ) (repeat : Repeat) → Spells bounds depth before rows → SpellsOne bounds own char
       → cs ≡ before ++ (own ++ sign_of repeat) → Spells bounds depth cs (Char rows char repeat)
-  bracket : {depth : ℕ} {cs : List ℕ} {rows inner : Tree} (before inside : List ℕ) (repeat : Repeat) → Spells bounds depth before rows → bounds.may_open depth ≡ true → Spells bounds (suc depth) inside inner
+  bracket : {depth : ℕ} {cs : List ℕ} {rows inner : PatternTree} (before inside : List ℕ) (repeat : Repeat) → Spells bounds depth before rows → bounds.may_open depth ≡ true → Spells bounds (suc depth) inside inner
       → cs ≡ before ++ (40 ∷ inside ++ (41 ∷ sign_of repeat)) → Spells bounds depth cs (Bracket rows inner repeat)
-  bar : {depth : ℕ} {cs : List ℕ} {rows : Tree} (before : List ℕ) → Spells bounds depth before rows → cs ≡ before ++ 124 ∷ [] → Spells bounds depth cs (Or rows)
+  bar : {depth : ℕ} {cs : List ℕ} {rows : PatternTree} (before : List ℕ) → Spells bounds depth before rows → cs ≡ before ++ 124 ∷ [] → Spells bounds depth cs (Or rows)
 
 -- a `^` at the beginning, and a `$` at the end, or none
 pub data IsAnchor (sign : ℕ) : List ℕ → Type 0 where
@@ -101,7 +101,7 @@ pub data IsAnchor (sign : ℕ) : List ℕ → Type 0 where
   present : IsAnchor sign (sign ∷ [])
 
 -- the characters of a whole text spell a pattern
-pub record IsWholePattern (bounds : Bounds) (cs : List ℕ) (tree : Tree) : Type 0 where
+pub record IsWholePattern (bounds : Bounds) (cs : List ℕ) (tree : PatternTree) : Type 0 where
   pub begin : List ℕ
   pub rows : List ℕ
   pub end : List ℕ
@@ -123,5 +123,5 @@ abbrev pub no_bounds : Bounds
 no_bounds = record { may_open = λ depth. true; may_span = λ first last. true }
 
 -- The characters of a text are a pattern with this tree.
-abbrev pub IsPattern : List ℕ → Tree → Type 0
+abbrev pub IsPattern : List ℕ → PatternTree → Type 0
 IsPattern cs tree = IsWholePattern strict cs tree

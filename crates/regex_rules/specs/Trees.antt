@@ -6,25 +6,25 @@ use Rattle.regex_rules.specs.declared.place.PatternPlace.{PatternPlace}
 use Rattle.regex_rules.specs.declared.place.PatternPlace.TheVariants.{One, Open, Bar, Close}
 
 -- Rows, of which the last may go on.
-pub data Tree : Type 0 where
+pub data PatternTree : Type 0 where
   -- one row, without a piece
-  Empty : Tree
+  Empty : PatternTree
   -- these rows, the last with one more piece: a character of some kind, so often
-  Char : Tree → OneChar → Repeat → Tree
+  Char : PatternTree → OneChar → Repeat → PatternTree
   -- these rows, the last with one more piece: the rows in brackets, so often
-  Bracket : Tree → Tree → Repeat → Tree
+  Bracket : PatternTree → PatternTree → Repeat → PatternTree
   -- these rows, and one more without a piece
-  Or : Tree → Tree
+  Or : PatternTree → PatternTree
 
 -- The places of a tree, in the order of its text: that is how a pattern holds it.
-abbrev pub places_of : Tree → List PatternPlace
+abbrev pub places_of : PatternTree → List PatternPlace
 places_of Empty = []
 places_of (Char rows one repeat) = places_of rows ++ One one repeat ∷ []
 places_of (Bracket rows inner repeat) = places_of rows ++ (Open ∷ places_of inner ++ (Close repeat ∷ []))
 places_of (Or rows) = places_of rows ++ Bar ∷ []
 
 -- the tree within the innermost open bracket, and those around it, with one more place
-abbrev pub grown : PatternPlace → List Tree → List Tree
+abbrev pub grown : PatternPlace → List PatternTree → List PatternTree
 grown place [] = []
 grown (One one repeat) (rows ∷ around) = Char rows one repeat ∷ around
 grown Open (rows ∷ around) = Empty ∷ rows ∷ around
@@ -33,14 +33,14 @@ grown (Close repeat) (inner ∷ []) = inner ∷ []
 grown (Close repeat) (inner ∷ rows ∷ around) = Bracket rows inner repeat ∷ around
 
 -- the trees with these places more
-abbrev pub grown_all : List PatternPlace → List Tree → List Tree
+abbrev pub grown_all : List PatternPlace → List PatternTree → List PatternTree
 grown_all [] trees = trees
 grown_all (place ∷ places) trees = grown_all places (grown place trees)
 
-abbrev pub innermost : List Tree → Tree
+abbrev pub innermost : List PatternTree → PatternTree
 innermost [] = Empty
 innermost (rows ∷ around) = rows
 
 -- the tree of places
-abbrev pub tree_of : List PatternPlace → Tree
+abbrev pub tree_of : List PatternPlace → PatternTree
 tree_of places = innermost (grown_all places (Empty ∷ []))

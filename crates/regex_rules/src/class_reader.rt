@@ -85,13 +85,13 @@ impl Reader {
         at: usize,
         c: char,
         first: char,
-        place: usize,
+        offset: usize,
     ) -> Result<(), PatternFault>
-        ensures ok { OnOk result (spec.step_in strict (modes.Member first place) at c self.old ≡ Ok self.new) }
-        ensures err { IfErr result (λ e. e ≢ PatternFault.NoMemory → spec.step_in strict (modes.Member first place) at c self.old ≡ Err e) }
+        ensures ok { OnOk result (spec.step_in strict (modes.Member first offset) at c self.old ≡ Ok self.new) }
+        ensures err { IfErr result (λ e. e ≢ PatternFault.NoMemory → spec.step_in strict (modes.Member first offset) at c self.old ≡ Err e) }
     {
         if c == '-' {
-            self.mode = Mode::Hyphen(first, place);
+            self.mode = Mode::Hyphen(first, offset);
             return Ok(());
         }
         self.add_range(first, first)?;
@@ -114,12 +114,12 @@ impl Reader {
         self.class_next(alloc, at, c)
     }
 
-    fn span(&mut self, first: char, place: usize, c: char) -> Result<(), PatternFault>
-        ensures ok { OnOk result (spec.spanned strict first place c self.old ≡ Ok self.new) }
-        ensures err { IfErr result (λ e. e ≢ PatternFault.NoMemory → spec.spanned strict first place c self.old ≡ Err e) }
+    fn span(&mut self, first: char, offset: usize, c: char) -> Result<(), PatternFault>
+        ensures ok { OnOk result (spec.spanned strict first offset c self.old ≡ Ok self.new) }
+        ensures err { IfErr result (λ e. e ≢ PatternFault.NoMemory → spec.spanned strict first offset c self.old ≡ Err e) }
     {
         if first > c {
-            return Err(PatternFault::BadPattern(place));
+            return Err(PatternFault::BadPattern(offset));
         }
         self.add_range(first, c)?;
         self.mode = Mode::Spanned;
@@ -132,16 +132,16 @@ impl Reader {
         at: usize,
         c: char,
         first: char,
-        place: usize,
+        offset: usize,
     ) -> Result<(), PatternFault>
-        ensures ok { OnOk result (spec.class_hyphen strict at c first place self.old ≡ Ok self.new) }
-        ensures err { IfErr result (λ e. e ≢ PatternFault.NoMemory → spec.class_hyphen strict at c first place self.old ≡ Err e) }
+        ensures ok { OnOk result (spec.class_hyphen strict at c first offset self.old ≡ Ok self.new) }
+        ensures err { IfErr result (λ e. e ≢ PatternFault.NoMemory → spec.class_hyphen strict at c first offset self.old ≡ Err e) }
     {
         if !is_reserved(c) {
-            return self.span(first, place, c);
+            return self.span(first, offset, c);
         }
         if c == '\\' {
-            self.mode = Mode::LastEscape(first, place);
+            self.mode = Mode::LastEscape(first, offset);
             return Ok(());
         }
         if c != ']' {
@@ -172,15 +172,15 @@ impl Reader {
         &mut self,
         at: usize,
         c: char,
-        place: usize,
+        offset: usize,
     ) -> Result<(), PatternFault>
-        ensures ok { OnOk result (spec.class_escaped at c place self.old ≡ Ok self.new) }
-        ensures err { IfErr result (λ e. e ≢ PatternFault.NoMemory → spec.class_escaped at c place self.old ≡ Err e) }
+        ensures ok { OnOk result (spec.class_escaped at c offset self.old ≡ Ok self.new) }
+        ensures err { IfErr result (λ e. e ≢ PatternFault.NoMemory → spec.class_escaped at c offset self.old ≡ Err e) }
     {
         if !is_reserved(c) {
             return Err(PatternFault::BadPattern(at));
         }
-        self.mode = Mode::Member(c, place);
+        self.mode = Mode::Member(c, offset);
         Ok(())
     }
 
@@ -189,14 +189,14 @@ impl Reader {
         at: usize,
         c: char,
         first: char,
-        place: usize,
+        offset: usize,
     ) -> Result<(), PatternFault>
-        ensures ok { OnOk result (spec.class_last_escaped strict at c first place self.old ≡ Ok self.new) }
-        ensures err { IfErr result (λ e. e ≢ PatternFault.NoMemory → spec.class_last_escaped strict at c first place self.old ≡ Err e) }
+        ensures ok { OnOk result (spec.class_last_escaped strict at c first offset self.old ≡ Ok self.new) }
+        ensures err { IfErr result (λ e. e ≢ PatternFault.NoMemory → spec.class_last_escaped strict at c first offset self.old ≡ Err e) }
     {
         if !is_reserved(c) {
             return Err(PatternFault::BadPattern(at));
         }
-        self.span(first, place, c)
+        self.span(first, offset, c)
     }
 }

@@ -1,7 +1,7 @@
 //! A pattern, and which texts it matches.
 ghost use Rattle.std.specs.Prelude.{◌≡◌, ◌≢◌, ◌↔◌, IsTrue, IfOk, IfErr, IfSome, Ok, Err};
 ghost use Rattle.std.specs.Str.{chars};
-ghost use Rattle.regex_rules.specs.Trees.{Tree, tree_of, places_of};
+ghost use Rattle.regex_rules.specs.Trees.{PatternTree, tree_of, places_of};
 ghost use Rattle.regex_rules.specs.Fronts.{IsLastFront};
 ghost use Rattle.regex_rules.specs.Languages.{InLanguage, in_language};
 ghost use Rattle.regex_rules.specs.Spelling.{IsPattern};
@@ -64,9 +64,9 @@ impl Pattern {
     pub fn read(alloc: Global, text: &str) -> Result<Pattern, PatternFault>
         ensures ok { IfOk result (λ p. pattern_of text.now ≡ Ok p) }
         ensures err { IfErr result (λ e. e ≢ PatternFault.NoMemory → pattern_of text.now ≡ Err e) }
-        ensures spelled { IfOk result (λ p. (tree : Tree) → IsPattern (chars text.now) tree ↔ tree ≡ tree_of p) }
+        ensures spelled { IfOk result (λ p. (tree : PatternTree) → IsPattern (chars text.now) tree ↔ tree ≡ tree_of p) }
         ensures fault { IfErr result (λ e. e ≢ PatternFault.NoMemory → IsFault e (chars text.now)) }
-        ensures none { IfErr result (λ e. e ≢ PatternFault.NoMemory → (tree : Tree) → IsPattern (chars text.now) tree → ⊥) }
+        ensures none { IfErr result (λ e. e ≢ PatternFault.NoMemory → (tree : PatternTree) → IsPattern (chars text.now) tree → ⊥) }
     {
         match read_places(alloc, text) {
             Ok(places) => {

@@ -145,7 +145,7 @@ fn a_test_is_asked_for_each_item(rt: HostRuntime) {
 
 fn plain<'x>(alloc: Global, scope: &'x Scope<'x>, e: &'x Expr, most: usize) -> Option<TextBuf> {
     let mut of = Evaluation::of(alloc, scope);
-    e.plain(alloc, &mut of, scope.vars, most).ok()
+    e.unescaped(alloc, &mut of, scope.vars, most).ok()
 }
 
 #[test]

@@ -13,7 +13,7 @@ use Rattle.cover_rules.specs.declared.invalidation.Action.{Action}
 use Rattle.cover_rules.specs.declared.invalidation.Action.TheVariants.{Activate, Deactivate, Delete}
 use Rattle.replay_text.specs.Lines.{newlines}
 use Rattle.replay_text.specs.Transcript.{hex, quoted_byte, quotation, action_text, IsConnectionNumber}
-use Rattle.replay_text.specs.EventLines.{is_target, flight_text, scope_text, flushed_text, way_text, line_of, IsFlightText, IsEventLine}
+use Rattle.replay_text.specs.EventLines.{is_visible_text, flight_text, scope_text, flushed_text, way_text, line_of, IsFlightText, IsEventLine}
 use Rattle.replay_text.specs.declared.event_line.EventLine.{EventLine}
 use Rattle.replay_text.specs.declared.event_line.EventLine.TheVariants.{Direct, Open, Close, Bytes, Get, Post, Flush, Render, Deliver, Lose, Purge, Restart, Fail, Stop}
 use Rattle.replay_text.specs.declared.event_line.NamedFlight.{NamedFlight}
@@ -37,7 +37,7 @@ newlines-visible (b ∷ text) e =
     let apart = visible_is_no_newline b parts.0 in
     rw apart (omega (arith, newlines-visible text parts.1))
 
-newlines-target : (text : List ℕ) → is_target text ≡ true → newlines text ≡ 0
+newlines-target : (text : List ℕ) → is_visible_text text ≡ true → newlines text ≡ 0
 newlines-target text is = newlines-visible text (and_parts (not (eqb (length text) 0)) (list_all is_visible_ascii text) is).1
 
 above_is_no_newline : (b : ℕ) → 11 ≤ b → eqb b 10 ≡ false
@@ -84,7 +84,7 @@ newlines-flight : (f : NamedFlight) → IsFlightText f → newlines (flight_text
 newlines-flight First is = refl
 newlines-flight (Numbered n) is = newlines-decimal n (omega (arith, is.1))
 
-newlines-form : (target body : List ℕ) → is_target target ≡ true → newlines (target ++ 32 ∷ quotation body) ≡ 0
+newlines-form : (target body : List ℕ) → is_visible_text target ≡ true → newlines (target ++ 32 ∷ quotation body) ≡ 0
 newlines-form target body is =
     newlines-append target (32 ∷ quotation body) ∙ omega (arith, newlines-target target is, newlines-quotation body)
 
@@ -97,7 +97,7 @@ newlines-scope : (only : Bool) → newlines (scope_text only) ≡ 0
 newlines-scope true = refl
 newlines-scope false = refl
 
-newlines-flushed : (action : Action) (handle : List ℕ) (only : Bool) → is_target handle ≡ true → newlines (flushed_text action handle only) ≡ 0
+newlines-flushed : (action : Action) (handle : List ℕ) (only : Bool) → is_visible_text handle ≡ true → newlines (flushed_text action handle only) ≡ 0
 newlines-flushed action handle only is =
     newlines-append (action_text action) (32 ∷ (handle ++ scope_text only))
     ∙ omega (arith, newlines-action action, newlines-append handle (scope_text only), newlines-target handle is, newlines-scope only)
@@ -152,7 +152,7 @@ one_action Deactivate Deactivate e = refl
 one_action Delete Delete e = refl
 one_action a b e = absurd (omega (arith, ap (λ t. get_or t 0 0) e, ap (λ t. get_or t 2 0) e))
 
-one_scoped : (h k : List ℕ) (x y : Bool) → is_target h ≡ true → is_target k ≡ true → h ++ scope_text x ≡ k ++ scope_text y → (h ≡ k) × (x ≡ y)
+one_scoped : (h k : List ℕ) (x y : Bool) → is_visible_text h ≡ true → is_visible_text k ≡ true → h ++ scope_text x ≡ k ++ scope_text y → (h ≡ k) × (x ≡ y)
 one_scoped h k true true p q e =
     ((one_first_word h k (codes "only") (codes "only") (target_no_blank h p) (target_no_blank k q) e).0, refl)
 one_scoped h k true false p q e =
@@ -162,7 +162,7 @@ one_scoped h k false true p q e =
 one_scoped h k false false p q e = (sym (append-nil h) ∙ e ∙ append-nil k, refl)
 
 -- what stands before ` only` is the handle
-pub before_scope : (word handle : List ℕ) (only : Bool) → list_all not_blank word ≡ true → is_target handle ≡ true
+pub before_scope : (word handle : List ℕ) (only : Bool) → list_all not_blank word ≡ true → is_visible_text handle ≡ true
     → word ++ codes " only" ≡ handle ++ scope_text only → word ≡ handle
 before_scope word handle true none is e = (one_first_word word handle (codes "only") (codes "only") none (target_no_blank handle is) e).0
 before_scope word handle false none is e =
@@ -170,11 +170,11 @@ before_scope word handle false none is e =
 
 -- where no ` only` stands all is the handle
 pub without_scope : (text handle : List ℕ) (only : Bool) → ((word : List ℕ) → list_all not_blank word ≡ true → text ≢ word ++ codes " only")
-    → is_target handle ≡ true → text ≡ handle ++ scope_text only → text ≡ handle
+    → is_visible_text handle ≡ true → text ≡ handle ++ scope_text only → text ≡ handle
 without_scope text handle true none is e = absurd (none handle (target_no_blank handle is) e)
 without_scope text handle false none is e = e ∙ append-nil handle
 
-one_flushed : (a b : Action) (h k : List ℕ) (x y : Bool) → is_target h ≡ true → is_target k ≡ true → flushed_text a h x ≡ flushed_text b k y
+one_flushed : (a b : Action) (h k : List ℕ) (x y : Bool) → is_visible_text h ≡ true → is_visible_text k ≡ true → flushed_text a h x ≡ flushed_text b k y
     → (a ≡ b) × (h ≡ k) × (x ≡ y)
 one_flushed a b h k x y p q e =
     let words = one_first_word (action_text a) (action_text b) (h ++ scope_text x) (k ++ scope_text y) (action_no_blank a) (action_no_blank b) e in

@@ -12,7 +12,7 @@ use Rattle.std.specs.Fmt.{decimal}
 use Rattle.replay_text.specs.Transcript.{IsConnectionNumber}
 use Rattle.sp_base.specs.Bytes.{is_visible_ascii}
 use Rattle.replay_text.specs.Quoting.{not_blank, connection_text}
-use Rattle.replay_text.specs.EventLines.{is_target, flight_text, IsFlightText}
+use Rattle.replay_text.specs.EventLines.{is_visible_text, flight_text, IsFlightText}
 use Rattle.replay_text.specs.declared.event_line.NamedFlight.{NamedFlight}
 use Rattle.replay_text.specs.declared.event_line.NamedFlight.TheVariants.{First, Numbered}
 
@@ -96,7 +96,7 @@ visible_not_blank b e = not_blank_from b (grind (arith, nat_tests))
     not_blank_from b le = let t : eqb b 32 ≡ false = grind (arith, nat_tests) in rw t refl
 
 -- no target has a blank
-pub target_no_blank : (text : List ℕ) → is_target text ≡ true → list_all not_blank text ≡ true
+pub target_no_blank : (text : List ℕ) → is_visible_text text ≡ true → list_all not_blank text ≡ true
 target_no_blank text is = list_all-from_AllPass not_blank text (λ k d lt.
     visible_not_blank (get_or text k d) (AllPass-from_list_all is_visible_ascii text (and_second (not (length text == 0)) (list_all is_visible_ascii text) is) k d lt))
   where

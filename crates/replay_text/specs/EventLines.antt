@@ -12,9 +12,9 @@ use Rattle.replay_text.specs.declared.event_line.EventLine.TheVariants.{Direct, 
 use Rattle.replay_text.specs.declared.event_line.NamedFlight.{NamedFlight}
 use Rattle.replay_text.specs.declared.event_line.NamedFlight.TheVariants.{First, Numbered}
 
--- a target: one or more visible bytes
-abbrev pub is_target : List ℕ → Bool
-is_target text = not (length text == 0) && list_all is_visible_ascii text
+-- a target, a peer or a handle: one or more visible bytes
+abbrev pub is_visible_text : List ℕ → Bool
+is_visible_text text = not (length text == 0) && list_all is_visible_ascii text
 
 -- a flight: the first there is, or that of a number
 abbrev pub flight_text : NamedFlight → List ℕ
@@ -63,13 +63,13 @@ IsFlightText (Numbered n) = (1 ≤ n) × IsFlightNumber n
 
 -- what it asks for can be asked for: peers, targets and handles are visible bytes, and a piece has some bytes
 abbrev pub IsEventLine : EventLine → Type 0
-IsEventLine (Direct target) = IsTrue (is_target target)
-IsEventLine (Open c peer) = IsConnectionNumber c × IsTrue (is_target peer)
+IsEventLine (Direct target) = IsTrue (is_visible_text target)
+IsEventLine (Open c peer) = IsConnectionNumber c × IsTrue (is_visible_text peer)
 IsEventLine (Close c) = IsConnectionNumber c
 IsEventLine (Bytes c bytes) = IsConnectionNumber c × AreBytes bytes × (bytes ≢ [])
-IsEventLine (Get c target) = IsConnectionNumber c × IsTrue (is_target target)
-IsEventLine (Post c target body) = IsConnectionNumber c × IsTrue (is_target target) × AreBytes body
-IsEventLine (Flush c action handle only) = IsConnectionNumber c × IsTrue (is_target handle)
+IsEventLine (Get c target) = IsConnectionNumber c × IsTrue (is_visible_text target)
+IsEventLine (Post c target body) = IsConnectionNumber c × IsTrue (is_visible_text target) × AreBytes body
+IsEventLine (Flush c action handle only) = IsConnectionNumber c × IsTrue (is_visible_text handle)
 IsEventLine (Render flight) = IsFlightText flight
 IsEventLine (Deliver flight) = IsFlightText flight
 IsEventLine (Lose flight) = IsFlightText flight

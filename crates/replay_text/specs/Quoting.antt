@@ -7,7 +7,7 @@ use Rattle.sp_outside.specs.declared.mem_disk.Way.{Way}
 use Rattle.cover_rules.specs.declared.invalidation.Action.{Action}
 use Rattle.connections.specs.Ids.{ConnectionId}
 use Rattle.replay_text.specs.Transcript.{quoted_byte, quotation, IsConnectionNumber}
-use Rattle.replay_text.specs.EventLines.{is_target, IsFlightText, IsCallNumber, flight_text, flushed_text, way_text}
+use Rattle.replay_text.specs.EventLines.{is_visible_text, IsFlightText, IsCallNumber, flight_text, flushed_text, way_text}
 use Rattle.replay_text.specs.declared.event_line.NamedFlight.{NamedFlight}
 
 -- the number that a hexadecimal digit stands for
@@ -49,11 +49,11 @@ connection_text word c rest = word ++ (decimal c ++ 32 ∷ rest)
 
 -- the line has none of these forms
 abbrev pub IsNoDirect : List ℕ → Type 0
-IsNoDirect line = (target : List ℕ) → IsTrue (is_target target) → line ≢ codes "direct " ++ target
+IsNoDirect line = (target : List ℕ) → IsTrue (is_visible_text target) → line ≢ codes "direct " ++ target
 
 -- a word, a connection, and visible bytes
 abbrev pub IsNoTargetOf : List ℕ → List ℕ → Type 0
-IsNoTargetOf word line = (c : ConnectionId) (target : List ℕ) → IsConnectionNumber c → IsTrue (is_target target) → line ≢ connection_text word c target
+IsNoTargetOf word line = (c : ConnectionId) (target : List ℕ) → IsConnectionNumber c → IsTrue (is_visible_text target) → line ≢ connection_text word c target
 
 -- `close` and a connection
 abbrev pub IsNoClose : List ℕ → Type 0
@@ -65,16 +65,16 @@ IsNoBytes line = (c : ConnectionId) (bytes : List ℕ) → IsConnectionNumber c 
 
 -- `post`, a connection, a target, and bytes in quotes
 abbrev pub IsNoPost : List ℕ → Type 0
-IsNoPost line = (c : ConnectionId) (target body : List ℕ) → IsConnectionNumber c → IsTrue (is_target target) → AreBytes body
+IsNoPost line = (c : ConnectionId) (target body : List ℕ) → IsConnectionNumber c → IsTrue (is_visible_text target) → AreBytes body
     → line ≢ connection_text (codes "post ") c (target ++ 32 ∷ quotation body)
 
 -- an action, a handle and a scope
 abbrev pub IsNoFlushed : List ℕ → Type 0
-IsNoFlushed text = (action : Action) (handle : List ℕ) (only : Bool) → IsTrue (is_target handle) → text ≢ flushed_text action handle only
+IsNoFlushed text = (action : Action) (handle : List ℕ) (only : Bool) → IsTrue (is_visible_text handle) → text ≢ flushed_text action handle only
 
 -- `flush`, a connection, and these
 abbrev pub IsNoFlush : List ℕ → Type 0
-IsNoFlush line = (c : ConnectionId) (action : Action) (handle : List ℕ) (only : Bool) → IsConnectionNumber c → IsTrue (is_target handle)
+IsNoFlush line = (c : ConnectionId) (action : Action) (handle : List ℕ) (only : Bool) → IsConnectionNumber c → IsTrue (is_visible_text handle)
     → line ≢ connection_text (codes "flush ") c (flushed_text action handle only)
 
 -- a word, the number of a call, and what it leaves

@@ -3,14 +3,14 @@ ghost use Rattle.std.specs.Prelude.{◌≡◌, ◌≢◌, ◌++◌, ℕ, Bool, L
 ghost use Rattle.std.specs.List.{list_all};
 ghost use Rattle.cover_rules.specs.declared.invalidation.Action as models;
 ghost use Rattle.sp_outside.specs.declared.mem_disk.Way as ways;
-ghost use Rattle.replay_text.specs.EventLines.{is_target, line_of, scope_text, flushed_text, way_text, IsCallNumber, IsEventLine};
+ghost use Rattle.replay_text.specs.EventLines.{is_visible_text, line_of, scope_text, flushed_text, way_text, IsCallNumber, IsEventLine};
 ghost use Rattle.replay_text.specs.Quoting.{connection_text, not_blank, IsNoFlushed, IsNoFlush, IsNoFailureOf, IsOfNoCache};
 ghost use Rattle.replay_text.specs.Transcript.{action_text};
 
 use crate::event_line::EventLine;
 use crate::event_reader::{after_word, connection_after, first_word, number_from_one};
 use crate::lines::same;
-use crate::targets::target;
+use crate::targets::as_visible_text;
 use connections::ConnectionId;
 use cover_rules::Action;
 use sp_base::{Mem, TextBuf};
@@ -49,16 +49,16 @@ fn before_only(text: &[u8]) -> Option<&[u8]>
 
 // A handle, and whether the word `only` stands after it.
 fn handle_and_scope(alloc: Global, text: &[u8]) -> Mem<Option<(TextBuf, bool)>>
-    ensures some { IfOk result (λ o. IfSome o (λ p. IsTrue (is_target p.0) × (text.now ≡ p.0 ++ scope_text p.1))) }
-    ensures none { IfOk result (λ o. IfNone o ((handle : List ℕ) (only : Bool) → IsTrue (is_target handle) → text.now ≢ handle ++ scope_text only)) }
+    ensures some { IfOk result (λ o. IfSome o (λ p. IsTrue (is_visible_text p.0) × (text.now ≡ p.0 ++ scope_text p.1))) }
+    ensures none { IfOk result (λ o. IfNone o ((handle : List ℕ) (only : Bool) → IsTrue (is_visible_text handle) → text.now ≢ handle ++ scope_text only)) }
 {
     if let Some(word) = before_only(text) {
-        let Some(handle) = target(alloc, word)? else {
+        let Some(handle) = as_visible_text(alloc, word)? else {
             return Ok(None);
         };
         return Ok(Some((handle, true)));
     }
-    let Some(handle) = target(alloc, text)? else {
+    let Some(handle) = as_visible_text(alloc, text)? else {
         return Ok(None);
     };
     Ok(Some((handle, false)))
@@ -66,7 +66,7 @@ fn handle_and_scope(alloc: Global, text: &[u8]) -> Mem<Option<(TextBuf, bool)>>
 
 // An action, a handle and a scope.
 fn flushed(alloc: Global, text: &[u8]) -> Mem<Option<(Action, TextBuf, bool)>>
-    ensures some { IfOk result (λ o. IfSome o (λ p. IsTrue (is_target p.1) × (text.now ≡ flushed_text p.0 p.1 p.2))) }
+    ensures some { IfOk result (λ o. IfSome o (λ p. IsTrue (is_visible_text p.1) × (text.now ≡ flushed_text p.0 p.1 p.2))) }
     ensures none { IfOk result (λ o. IfNone o (IsNoFlushed text.now)) }
 {
     let Some((word, rest)) = first_word(text) else {

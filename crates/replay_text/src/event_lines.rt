@@ -1,7 +1,7 @@
 //! What the lines of events ask for.
 ghost use Rattle.std.specs.Prelude.{◌≡◌, ◌≢◌, ◌↔◌, ◌++◌, ◌∷◌, [], ℕ, List, IfOk, IfSome, IfNone, IsTrue};
 ghost use Rattle.sp_base.specs.Bytes.{AreBytes};
-ghost use Rattle.replay_text.specs.EventLines.{is_target, line_of, IsEventLine};
+ghost use Rattle.replay_text.specs.EventLines.{is_visible_text, line_of, IsEventLine};
 ghost use Rattle.replay_text.specs.Quoting.{connection_text, IsNoDirect, IsNoTargetOf, IsNoClose, IsNoBytes, IsNoPost, IsOfNoConnection, IsOfNoFlight};
 ghost use Rattle.replay_text.specs.Transcript.{quotation, IsConnectionNumber};
 
@@ -9,7 +9,7 @@ use crate::cache_lines::{cache_line, flush_line};
 use crate::event_line::EventLine;
 use crate::event_reader::{after_word, connection, connection_after, first_word, flight_after};
 use crate::quoted::unquoted;
-use crate::targets::target;
+use crate::targets::as_visible_text;
 use connections::ConnectionId;
 use sp_base::{ByteBuf, Mem, TextBuf};
 use std::alloc::Global;
@@ -21,7 +21,7 @@ fn direct_line(alloc: Global, line: &[u8]) -> Mem<Option<EventLine>>
     let Some(rest) = after_word(line, b"direct ") else {
         return Ok(None);
     };
-    let Some(target) = target(alloc, rest)? else {
+    let Some(target) = as_visible_text(alloc, rest)? else {
         return Ok(None);
     };
     Ok(Some(EventLine::Direct(target)))
@@ -29,13 +29,13 @@ fn direct_line(alloc: Global, line: &[u8]) -> Mem<Option<EventLine>>
 
 // A connection and a target after a word.
 fn target_after(alloc: Global, line: &[u8], word: &[u8]) -> Mem<Option<(ConnectionId, TextBuf)>>
-    ensures some { IfOk result (λ o. IfSome o (λ p. IsConnectionNumber p.0 × IsTrue (is_target p.1) × (line.now ≡ connection_text word.now p.0 p.1))) }
+    ensures some { IfOk result (λ o. IfSome o (λ p. IsConnectionNumber p.0 × IsTrue (is_visible_text p.1) × (line.now ≡ connection_text word.now p.0 p.1))) }
     ensures none { IfOk result (λ o. IfNone o (IsNoTargetOf word.now line.now)) }
 {
     let Some((c, rest)) = connection_after(alloc, line, word)? else {
         return Ok(None);
     };
-    let Some(target) = target(alloc, rest)? else {
+    let Some(target) = as_visible_text(alloc, rest)? else {
         return Ok(None);
     };
     Ok(Some((ConnectionId::new(c), target)))
@@ -78,13 +78,13 @@ fn bytes_line(alloc: Global, line: &[u8]) -> Mem<Option<EventLine>>
 
 // A target, and the body that is quoted after it.
 fn target_and_body(alloc: Global, text: &[u8]) -> Mem<Option<(TextBuf, ByteBuf)>>
-    ensures some { IfOk result (λ o. IfSome o (λ p. IsTrue (is_target p.0) × AreBytes p.1 × (text.now ≡ p.0 ++ 32 ∷ quotation p.1))) }
-    ensures none { IfOk result (λ o. IfNone o ((t b : List ℕ) → IsTrue (is_target t) → AreBytes b → text.now ≢ t ++ 32 ∷ quotation b)) }
+    ensures some { IfOk result (λ o. IfSome o (λ p. IsTrue (is_visible_text p.0) × AreBytes p.1 × (text.now ≡ p.0 ++ 32 ∷ quotation p.1))) }
+    ensures none { IfOk result (λ o. IfNone o ((t b : List ℕ) → IsTrue (is_visible_text t) → AreBytes b → text.now ≢ t ++ 32 ∷ quotation b)) }
 {
     let Some((word, rest)) = first_word(text) else {
         return Ok(None);
     };
-    let Some(target) = target(alloc, word)? else {
+    let Some(target) = as_visible_text(alloc, word)? else {
         return Ok(None);
     };
     let Some(body) = unquoted(alloc, rest)? else {

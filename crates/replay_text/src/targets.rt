@@ -1,8 +1,8 @@
-//! Targets and peers: visible bytes of ASCII.
+//! Targets, peers and handles: visible bytes of ASCII.
 ghost use Rattle.std.specs.Prelude.{◌≡◌, ◌≢◌, ℕ, List, IfOk, IfSome, IfNone, IsTrue};
 ghost use Rattle.std.specs.List.{list_all};
 ghost use Rattle.sp_base.specs.Bytes.{is_visible_ascii};
-ghost use Rattle.replay_text.specs.EventLines.{is_target};
+ghost use Rattle.replay_text.specs.EventLines.{is_visible_text};
 
 use sp_base::{Mem, TextBuf};
 use std::alloc::Global;
@@ -14,8 +14,8 @@ fn all_visible(text: &[u8]) -> bool
     text.iter().all(|b| *b >= b'!' && *b <= b'~')
 }
 
-fn is_target_text(text: &[u8]) -> bool
-    ensures { result ≡ is_target text.now }
+fn is_visible(text: &[u8]) -> bool
+    ensures { result ≡ is_visible_text text.now }
 {
     !text.is_empty() && all_visible(text)
 }
@@ -30,12 +30,12 @@ fn visible_text(alloc: Global, bytes: &[u8]) -> Mem<TextBuf>
     }
 }
 
-// The target or the peer that a text is.
-pub fn target(alloc: Global, text: &[u8]) -> Mem<Option<TextBuf>>
-    ensures some { IfOk result (λ o. IfSome o (λ t. IsTrue (is_target t) × (text.now ≡ t))) }
-    ensures none { IfOk result (λ o. IfNone o ((t : List ℕ) → IsTrue (is_target t) → text.now ≢ t)) }
+// The text, where it is one of visible bytes: a target, a peer or a handle.
+pub fn as_visible_text(alloc: Global, text: &[u8]) -> Mem<Option<TextBuf>>
+    ensures some { IfOk result (λ o. IfSome o (λ t. IsTrue (is_visible_text t) × (text.now ≡ t))) }
+    ensures none { IfOk result (λ o. IfNone o ((t : List ℕ) → IsTrue (is_visible_text t) → text.now ≢ t)) }
 {
-    if is_target_text(text) {
+    if is_visible(text) {
         Ok(Some(visible_text(alloc, text)?))
     } else {
         Ok(None)

@@ -8,7 +8,7 @@ use cover_rules::page_key;
 use dispatch_rules::{ask_of, auto_of, key_of, may_flush, storable};
 use http_header::{AUTHORIZATION, CONTENT_TYPE, HeaderName};
 use sp_base::{
-    Answer, ByteBuf, FieldPlace, LentHead, Mark, Mem, NoMemory, Path, PathFault, Req, TextBuf,
+    Answer, ByteBuf, FieldSpan, LentHead, Mark, Mem, NoMemory, Path, PathFault, Req, TextBuf,
 };
 use std::alloc::Global;
 
@@ -33,12 +33,7 @@ fn farm(alloc: Global, text: &str) -> Mem<Farm> {
 }
 
 // A request of this method, path and query that names no host. The values of its fields stand in these bytes.
-fn request(
-    alloc: Global,
-    row: &Row,
-    fields: Vec<FieldPlace>,
-    bytes: &[u8],
-) -> Result<Req, PathFault>
+fn request(alloc: Global, row: &Row, fields: Vec<FieldSpan>, bytes: &[u8]) -> Result<Req, PathFault>
     requires { All (IsFieldWithin (length bytes.now)) fields.items }
 {
     let head = LentHead {
@@ -110,7 +105,7 @@ const KEPT: Row = ("GET", "/en.html", "", "/en.html");
 // The request of that row with a field of this name and value.
 fn request_with(alloc: Global, name: HeaderName, value: &[u8]) -> Result<Req, PathFault> {
     let mut fields = Vec::new(alloc);
-    fields.push(FieldPlace {
+    fields.push(FieldSpan {
         name,
         start: 0,
         end: value.len(),

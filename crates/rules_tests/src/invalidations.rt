@@ -5,7 +5,7 @@ ghost use Rattle.sp_base.specs.Fields.{IsFieldWithin};
 use cover_rules::{Action, Invalidation};
 use http_header::HeaderName;
 use invalidation::{InvFault, is_invalidation, read_invalidation};
-use sp_base::{FieldPlace, LentHead, Mem, NoMemory, Path, PathFault, Req};
+use sp_base::{FieldSpan, LentHead, Mem, NoMemory, Path, PathFault, Req};
 use std::alloc::Global;
 
 // A request of this method and path, whose fields stand at these places of the bytes.
@@ -14,7 +14,7 @@ fn request(
     method: &str,
     path: &str,
     bytes: &[u8],
-    fields: Vec<FieldPlace>,
+    fields: Vec<FieldSpan>,
 ) -> Result<Req, PathFault>
     requires { All (IsFieldWithin (length bytes.now)) fields.items }
 {
@@ -70,12 +70,12 @@ fn joined(alloc: Global, fields: &[Field]) -> Mem<Vec<u8>> {
 }
 
 // The field of this name whose value stands at the place, as far as that lies in this number of bytes.
-fn placed(alloc: Global, name: &str, start: usize, end: usize, most: usize) -> Mem<FieldPlace>
+fn placed(alloc: Global, name: &str, start: usize, end: usize, most: usize) -> Mem<FieldSpan>
     ensures { IfOk result (IsFieldWithin most) }
 {
     let end = end.min(most);
     match HeaderName::from_bytes(alloc, name.as_bytes()) {
-        Ok(name) => Ok(FieldPlace {
+        Ok(name) => Ok(FieldSpan {
             name,
             start: start.min(end),
             end,
@@ -85,7 +85,7 @@ fn placed(alloc: Global, name: &str, start: usize, end: usize, most: usize) -> M
 }
 
 // The fields, whose values stand one after another in this number of bytes.
-fn places(alloc: Global, fields: &[Field], most: usize) -> Mem<Vec<FieldPlace>>
+fn places(alloc: Global, fields: &[Field], most: usize) -> Mem<Vec<FieldSpan>>
     ensures { IfOk result (λ places. All (IsFieldWithin most) places.items) }
 {
     let mut places = Vec::new(alloc);

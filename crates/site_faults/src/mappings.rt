@@ -193,7 +193,7 @@ fn passed_over_for(alloc: Global, tree: &Tree, path: &Path) -> Mem<Option<Path>>
 }
 
 // Where a mapping by its path leads.
-fn plain_end(
+fn path_end(
     alloc: Global,
     tree: &Tree,
     index: &MapIndex,
@@ -283,7 +283,7 @@ pub fn lost_mappings(alloc: Global, tree: &Tree, ask: Option<(&str, u16)>) -> Me
             let end = if has_match(row.1) {
                 pattern_end(alloc, tree, &index, asked.name, row.0, row.1)?
             } else {
-                plain_end(alloc, tree, &index, asked, row.0)?
+                path_end(alloc, tree, &index, asked, row.0)?
             };
             tell_mapping(&mut told, alloc, row.0, end)?;
         }

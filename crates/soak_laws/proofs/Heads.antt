@@ -11,7 +11,7 @@ use Rattle.replay_text.specs.Lines.{AreLines, newlines, text_of_lines}
 use Rattle.replay_text.specs.Scenario.{HaveNoDot, IsBlock, IsScenario, ReadsScenario, SpellsScenario, act_lines, longest_scenario}
 use Rattle.replay_text.specs.declared.event_line.EventLine.{EventLine}
 use Rattle.replay_text.specs.declared.scenario.Scenario.{Scenario}
-use Rattle.soak_scenarios.specs.Drafts.{Draft, begun_draft, with_text}
+use Rattle.soak_scenarios.specs.Drafts.{ScenarioDraft, begun_draft, with_text}
 use Rattle.soak_scenarios.specs.Sites.{apps_member, content_line, farm_lines, folder_members, page_members, pages_order}
 use Rattle.soak_scenarios.specs.Soaks.{generated_text, scenario_head, with_drawn_blocks}
 use Rattle.soak_laws.proofs.Lines.{Drafted}
@@ -102,7 +102,7 @@ head_short = leb-true (length scenario_head) 100000 refl
 abbrev pub scenario_of_acts : List EventLine → Scenario
 scenario_of_acts acts = record { content = content_text ++ 10 ∷ []; farm = Some (text_of_lines farm_block); acts = text_of_lines (map line_of acts) }
 
-drafted_spells : (lines : ℕ) (d : Draft) (p : Drafted lines d) → SpellsScenario (d.text ++ codes "end\n") (scenario_of_acts p.acts)
+drafted_spells : (lines : ℕ) (d : ScenarioDraft) (p : Drafted lines d) → SpellsScenario (d.text ++ codes "end\n") (scenario_of_acts p.acts)
 drafted_spells lines d p = record {
   block = content_text ∷ [];
   content = content_block;

@@ -9,15 +9,15 @@ use std::marker::Model;
 
 /// A text so far, and the seed after its draws.
 #[derive(Drop)]
-pub struct Draft {
+pub struct ScenarioDraft {
     text: Vec<u8>,
     seed: u64,
 }
 
-impl Model for Draft {
+impl Model for ScenarioDraft {
     ghost use Rattle.soak_scenarios.specs.Drafts as spec;
 
-    ghost Value = { spec.Draft };
+    ghost Value = { spec.ScenarioDraft };
 
     ghost view = { λ draft. record { text = draft.text.items; seed = draft.seed } };
 }
@@ -29,11 +29,11 @@ fn next(seed: u64) -> u64
         .wrapping_add(1_442_695_040_888_963_407)
 }
 
-impl Draft {
-    pub fn new(alloc: Global, number: u32) -> Draft
+impl ScenarioDraft {
+    pub fn new(alloc: Global, number: u32) -> ScenarioDraft
         ensures { result ≡ begun_draft number }
     {
-        Draft {
+        ScenarioDraft {
             text: Vec::new(alloc),
             seed: u64::from(number),
         }

@@ -2,7 +2,7 @@
 ghost use Rattle.std.specs.Prelude.{◌≡◌, IfOk, OnOk};
 ghost use Rattle.soak_scenarios.specs.Soaks.{generated_text, with_drawn_blocks};
 
-use crate::draft::Draft;
+use crate::draft::ScenarioDraft;
 use crate::rounds::push_block;
 use crate::site::push_head;
 use sp_base::Mem;
@@ -10,7 +10,7 @@ use std::alloc::Global;
 
 const BLOCKS: u64 = 625;
 
-fn push_blocks(alloc: Global, draft: &mut Draft, count: u64) -> Mem<()>
+fn push_blocks(alloc: Global, draft: &mut ScenarioDraft, count: u64) -> Mem<()>
     ensures { OnOk result (draft.new ≡ with_drawn_blocks count draft.old) }
 {
     for before in 0..count {
@@ -23,7 +23,7 @@ fn push_blocks(alloc: Global, draft: &mut Draft, count: u64) -> Mem<()>
 pub fn generated(alloc: Global, number: u32) -> Mem<Vec<u8>>
     ensures { IfOk result (λ text. text.items ≡ generated_text number) }
 {
-    let mut draft = Draft::new(alloc, number);
+    let mut draft = ScenarioDraft::new(alloc, number);
     push_head(alloc, &mut draft)?;
     push_blocks(alloc, &mut draft, BLOCKS)?;
     draft.push(b"end\n")?;

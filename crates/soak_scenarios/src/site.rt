@@ -4,7 +4,7 @@ ghost use Rattle.soak_scenarios.specs.Drafts.{with_text};
 ghost use Rattle.soak_scenarios.specs.Sites.{folder_member, page_member, pages, folders, content_line, farm_lines};
 ghost use Rattle.soak_scenarios.specs.Soaks.{scenario_head};
 
-use crate::draft::Draft;
+use crate::draft::ScenarioDraft;
 use sp_base::Mem;
 use std::alloc::Global;
 
@@ -42,7 +42,7 @@ const FARM: &[u8] = br#"# site farm
 } }
 "#;
 
-fn push_page_member(alloc: Global, draft: &mut Draft, page: u64) -> Mem<()>
+fn push_page_member(alloc: Global, draft: &mut ScenarioDraft, page: u64) -> Mem<()>
     ensures { OnOk result (draft.new ≡ with_text (page_member page) draft.old) }
 {
     draft.push(b",\"p")?;
@@ -50,7 +50,7 @@ fn push_page_member(alloc: Global, draft: &mut Draft, page: u64) -> Mem<()>
     draft.push(b"\":{\"n\":0,\"sling:resourceType\":\"site/page\"}")
 }
 
-fn push_pages(alloc: Global, draft: &mut Draft, numbers: &[u64]) -> Mem<()>
+fn push_pages(alloc: Global, draft: &mut ScenarioDraft, numbers: &[u64]) -> Mem<()>
     ensures { OnOk result (draft.new ≡ with_text (flat_map page_member numbers.now) draft.old) }
 {
     for page in numbers {
@@ -59,7 +59,7 @@ fn push_pages(alloc: Global, draft: &mut Draft, numbers: &[u64]) -> Mem<()>
     Ok(())
 }
 
-fn push_folder(alloc: Global, draft: &mut Draft, folder: u64) -> Mem<()>
+fn push_folder(alloc: Global, draft: &mut ScenarioDraft, folder: u64) -> Mem<()>
     ensures { OnOk result (draft.new ≡ with_text (folder_member folder) draft.old) }
 {
     draft.push(b",\"a")?;
@@ -70,7 +70,7 @@ fn push_folder(alloc: Global, draft: &mut Draft, folder: u64) -> Mem<()>
     draft.push(b"}")
 }
 
-fn push_folders(alloc: Global, draft: &mut Draft, numbers: &[u64]) -> Mem<()>
+fn push_folders(alloc: Global, draft: &mut ScenarioDraft, numbers: &[u64]) -> Mem<()>
     ensures { OnOk result (draft.new ≡ with_text (flat_map folder_member numbers.now) draft.old) }
 {
     for folder in numbers {
@@ -79,7 +79,7 @@ fn push_folders(alloc: Global, draft: &mut Draft, numbers: &[u64]) -> Mem<()>
     Ok(())
 }
 
-fn push_content(alloc: Global, draft: &mut Draft) -> Mem<()>
+fn push_content(alloc: Global, draft: &mut ScenarioDraft) -> Mem<()>
     ensures { OnOk result (draft.new ≡ with_text content_line draft.old) }
 {
     draft.push(APPS)?;
@@ -91,7 +91,7 @@ fn push_content(alloc: Global, draft: &mut Draft) -> Mem<()>
 }
 
 /// The lines before the first block.
-pub fn push_head(alloc: Global, draft: &mut Draft) -> Mem<()>
+pub fn push_head(alloc: Global, draft: &mut ScenarioDraft) -> Mem<()>
     ensures { OnOk result (draft.new ≡ with_text scenario_head draft.old) }
 {
     draft.push(b"scenario 1\ncontent\n")?;

@@ -5,15 +5,15 @@ use Rattle.std.specs.Borrow.{Bor}
 use Rattle.std.proofs.lemmas.List.Elements.{All-head, All-tail}
 use Rattle.std.specs.List.{find}
 use Rattle.std.specs.Cmp.Lexicographic.{pointwise}
-use Rattle.sp_base.specs.declared.field.FieldPlace.{FieldPlace}
+use Rattle.sp_base.specs.declared.field.FieldSpan.{FieldSpan}
 use Rattle.sp_base.specs.Fields.{field_at, field_of}
 
 -- the field has the name
-abbrev pub has_name : List ℕ → FieldPlace → Bool
+abbrev pub has_name : List ℕ → FieldSpan → Bool
 has_name name field = pointwise nat_eq field.name name
 
 -- what is found among the fields is what is found among their places
-find_map : (bytes name : List ℕ) (fields : List FieldPlace)
+find_map : (bytes name : List ℕ) (fields : List FieldSpan)
     → find (λ (field : List ℕ × List ℕ). pointwise nat_eq field.0 name) (map (field_at bytes) fields) ≡ option_map (field_at bytes) (find (has_name name) fields)
 find_map bytes name [] = refl
 find_map bytes name (field ∷ fields) = at (find_map bytes name fields) refl
@@ -37,7 +37,7 @@ pub found_at : {X : Type 0} (P : X → Type 0) (test : X → Bool) (xs : List X)
 found_at P test xs found x all is some = subst (λ o. IfSome o P) (sym is ∙ ap option_copied some) (found_in P test xs all)
 
 -- the value of the field that was found
-pub value_found : (bytes name : List ℕ) (fields : List FieldPlace) (found : Option (Bor FieldPlace)) (field : Bor FieldPlace) (value : List ℕ)
+pub value_found : (bytes name : List ℕ) (fields : List FieldSpan) (found : Option (Bor FieldSpan)) (field : Bor FieldSpan) (value : List ℕ)
     → option_copied found ≡ find (has_name name) fields → found ≡ Some field → value ≡ slice_range bytes field.now.start field.now.end
     → Some value ≡ field_of (map (field_at bytes) fields) name
 value_found bytes name fields found field value is some v =
@@ -45,7 +45,7 @@ value_found bytes name fields found field value is some v =
     ap Some v ∙ sym (ap (option_map (λ (f : List ℕ × List ℕ). f.1)) (find_map bytes name fields ∙ ap (option_map (field_at bytes)) place))
 
 -- no field has the name
-pub none_found : (bytes name : List ℕ) (fields : List FieldPlace) (found : Option (Bor FieldPlace)) → option_copied found ≡ find (has_name name) fields → found ≡ None
+pub none_found : (bytes name : List ℕ) (fields : List FieldSpan) (found : Option (Bor FieldSpan)) → option_copied found ≡ find (has_name name) fields → found ≡ None
     → None ≡ field_of (map (field_at bytes) fields) name
 none_found bytes name fields found is none =
     let place : find (has_name name) fields ≡ None = sym is ∙ ap option_copied none in

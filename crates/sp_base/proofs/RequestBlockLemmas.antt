@@ -8,7 +8,7 @@ use Rattle.std.proofs.lemmas.List.Elements.{All-cons}
 use Rattle.std.specs.Option.{is_some}
 use Rattle.std.proofs.Math.Seq.{take-append_seam, drop-append_seam}
 use Rattle.std.proofs.lemmas.List.{take-append-le, drop-append-le, take_all}
-use Rattle.sp_base.specs.declared.field.FieldPlace.{FieldPlace}
+use Rattle.sp_base.specs.declared.field.FieldSpan.{FieldSpan}
 use Rattle.sp_base.specs.declared.request.BlockEnds.{BlockEnds}
 use Rattle.sp_base.specs.declared.request.LentHead.{LentHead}
 use Rattle.sp_base.specs.Fields.{IsFieldWithin}
@@ -31,7 +31,7 @@ range_stays xs ys a b order fits =
     ap (λ l. take (b - a) l) (drop-append-le a xs ys (omega (arith, order, fits))) ∙ take-append-le (b - a) (drop a xs) ys short
 
 -- the block of a request lies as it has to, once the bytes of its fields are written after its parts
-pub laid_out : (block bytes all : List ℕ) (ends : BlockEnds) (head : LentHead) (fields : List FieldPlace) → ArePushed block ends head → all ≡ block ++ bytes
+pub laid_out : (block bytes all : List ℕ) (ends : BlockEnds) (head : LentHead) (fields : List FieldSpan) → ArePushed block ends head → all ≡ block ++ bytes
     → All (IsFieldWithin (length bytes)) fields → IsLaidOut all ends fields
 laid_out block bytes all ends head fields pushed is within =
     let line_in : ends.line ≤ length block = omega (arith, pushed.line_fits, pushed.host_fits, pushed.ends_there) in

@@ -1,7 +1,7 @@
 -- How a request lies in memory. Private functions and proofs alone speak of this.
 use Rattle.std.specs.Prelude.{◌≡◌, ◌≤◌, ℕ, if◌then◌else◌, List, Option, Some, None, All, IsUtf8, length, option_copied, take, drop, slice_range}
 use Rattle.sp_base.specs.Fields.{IsFieldWithin}
-use Rattle.sp_base.specs.declared.field.FieldPlace.{FieldPlace}
+use Rattle.sp_base.specs.declared.field.FieldSpan.{FieldSpan}
 use Rattle.sp_base.specs.declared.request.BlockEnds.{BlockEnds}
 use Rattle.sp_base.specs.declared.request.LentHead.{LentHead}
 use Rattle.sp_base.specs.Requests.{request_line}
@@ -15,7 +15,7 @@ abbrev pub query_in : List ℕ → BlockEnds → Option (List ℕ)
 query_in block ends = if ends.has_query then Some (slice_range block ends.host ends.query) else None
 
 -- the parts of a block stand one after another, texts where texts are lent, and the values of the fields after them
-pub record IsLaidOut (block : List ℕ) (ends : BlockEnds) (fields : List FieldPlace) : Type 0 where
+pub record IsLaidOut (block : List ℕ) (ends : BlockEnds) (fields : List FieldSpan) : Type 0 where
   pub method_fits : ends.method ≤ ends.line
   pub line_fits : ends.line ≤ ends.host
   pub host_fits : ends.host ≤ ends.query

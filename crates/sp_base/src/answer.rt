@@ -34,7 +34,7 @@ pub struct Answer {
     pub status: u16,
     /// The media type of the body, empty where there is none.
     pub kind: TextBuf,
-    /// The target of a redirect or the place of a new resource, empty where there is none.
+    /// Where a redirect leads, or where the new resource is: a reference (RFC 9110, section 10.2.2), empty where there is none.
     pub location: TextBuf,
     pub mark: Mark,
     pub body: ByteBuf,

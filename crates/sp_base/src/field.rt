@@ -8,13 +8,13 @@ use http_header::HeaderName;
 
 /// A header field of bytes: its name, and where its value stands in them, without blanks round it (RFC 9110, section 5).
 #[derive(Drop)]
-pub struct FieldPlace {
+pub struct FieldSpan {
     pub name: HeaderName,
     pub start: usize,
     pub end: usize,
 }
 
-impl FieldPlace {
+impl FieldSpan {
     /// The value of the field.
     pub fn value<'a>(&self, bytes: &'a [u8]) -> &'a [u8]
         requires { IsFieldWithin (length bytes.now) self.now }
@@ -25,11 +25,7 @@ impl FieldPlace {
 }
 
 /// The value of the first field of a name.
-pub fn field_value<'a>(
-    bytes: &'a [u8],
-    fields: &[FieldPlace],
-    name: &HeaderName,
-) -> Option<&'a [u8]>
+pub fn field_value<'a>(bytes: &'a [u8], fields: &[FieldSpan], name: &HeaderName) -> Option<&'a [u8]>
     requires { All (IsFieldWithin (length bytes.now)) fields.now }
     ensures { option_copied result ≡ field_of (map (field_at bytes.now) fields.now) name.now }
 {
@@ -39,7 +35,7 @@ pub fn field_value<'a>(
     }
 }
 
-fn first_named<'a>(fields: &'a [FieldPlace], name: &HeaderName) -> Option<&'a FieldPlace>
+fn first_named<'a>(fields: &'a [FieldSpan], name: &HeaderName) -> Option<&'a FieldSpan>
     ensures { option_copied result ≡ find (λ field. pointwise nat_eq field.name name.now) fields.now }
 {
     fields.iter().find(|field| field.name == *name)

@@ -24,7 +24,7 @@ mod value;
 
 pub use answer::{Answer, Ask, Mark};
 pub use bytes::{ByteBuf, begins_with_byte};
-pub use field::{FieldPlace, field_value};
+pub use field::{FieldSpan, field_value};
 pub use hint::{Hint, HintedType, ValueFault};
 pub use items::{CallList, Items, LongList, NameList, PathList, TextList, TruthList};
 pub use laws::{

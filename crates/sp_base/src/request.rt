@@ -4,7 +4,7 @@ ghost use Rattle.sp_base.specs.Fields.{IsFieldWithin, field_at, field_of};
 ghost use Rattle.sp_base.specs.Requests.{request_of, version_text, with_body};
 ghost use Rattle.sp_base.specs.RequestBlocks.{ArePushed};
 
-use crate::field::{FieldPlace, field_value};
+use crate::field::{FieldSpan, field_value};
 use crate::{ByteBuf, Mem, Path};
 use http_header::HeaderName;
 use std::alloc::Global;
@@ -50,7 +50,7 @@ struct BlockEnds {
 pub struct Req {
     block: Vec<u8>,
     ends: BlockEnds,
-    fields: Vec<FieldPlace>,
+    fields: Vec<FieldSpan>,
     path: Path,
     body: ByteBuf,
     minor: u8,
@@ -91,7 +91,7 @@ impl Req {
         head: &LentHead<'_>,
         path: Path,
         bytes: &[u8],
-        fields: Vec<FieldPlace>,
+        fields: Vec<FieldSpan>,
     ) -> Mem<Req>
         requires version { head.now.minor ≤ 1 }
         requires within { All (IsFieldWithin (length bytes.now)) fields.items }

@@ -12,7 +12,7 @@ use Rattle.std.proofs.Math.Seq.{take-append-add, drop-append-add}
 use Rattle.sp_base.specs.Names.{by_name}
 use Rattle.sp_base.specs.Paths.{is_path, path_or_none}
 use Rattle.sp_base.proofs.OrderingLemmas.{less_from_test}
-use Rattle.regex_rules.specs.Trees.{Tree, tree_of}
+use Rattle.regex_rules.specs.Trees.{PatternTree, tree_of}
 use Rattle.regex_rules.specs.Languages.{InLanguage}
 use Rattle.regex_rules.specs.Fronts.{IsFront, IsLastFront, may_cut}
 use Rattle.resource_tree.specs.declared.nodes.Node.{Node}
@@ -184,7 +184,7 @@ whole_of asked = name_of asked.host_node ++ asked.text
 abbrev pub from_of : Asked → ℕ
 from_of asked = length (name_of asked.host_node)
 
-front_in : (pattern : Tree) (asked : Asked) (j : ℕ) → IsFront pattern (whole_of asked) (from_of asked) j → IsFrontOf pattern asked (j - from_of asked)
+front_in : (pattern : PatternTree) (asked : Asked) (j : ℕ) → IsFront pattern (whole_of asked) (from_of asked) j → IsFrontOf pattern asked (j - from_of asked)
 front_in pattern asked j front =
     let after : from_of asked ≤ j = front.after in
     let there : from_of asked + (j - from_of asked) ≡ j = omega (arith, after) in
@@ -194,7 +194,7 @@ front_in pattern asked j front =
       matches = subst (λ (t : List ℕ). InLanguage pattern (chars t)) (ap (λ n. take n (whole_of asked)) (sym there) ∙ take-append-add (name_of asked.host_node) asked.text (j - from_of asked)) front.matches;
     }
 
-front_out : (pattern : Tree) (asked : Asked) (k : ℕ) → IsFrontOf pattern asked k → IsFront pattern (whole_of asked) (from_of asked) (from_of asked + k)
+front_out : (pattern : PatternTree) (asked : Asked) (k : ℕ) → IsFrontOf pattern asked k → IsFront pattern (whole_of asked) (from_of asked) (from_of asked + k)
 front_out pattern asked k front = record {
   after = omega arith;
   within = let le = front.within in omega (arith, le, length-append (name_of asked.host_node) asked.text);
@@ -216,7 +216,7 @@ module _ (tree : Content) (good : IsTree (node_at tree)) (rows : List PatternNod
 
   giver_front : (name prefix : List ℕ) (to : List ℕ × Option ℕ) (g : GivesPair tree asked name prefix to) (has : HasRowOf rows name g.pattern) → IsFront (tree_of has.row.pattern) (whole_of asked) (from_of asked) (from_of asked + length prefix)
   giver_front name prefix to g has =
-      subst (λ (p : Tree). IsFront p (whole_of asked) (from_of asked) (from_of asked + length prefix)) (sym has.pattern_is) (front_out g.pattern asked (length prefix) g.front.front)
+      subst (λ (p : PatternTree). IsFront p (whole_of asked) (from_of asked) (from_of asked + length prefix)) (sym has.pattern_is) (front_out g.pattern asked (length prefix) g.front.front)
 
   pub no_pair : IsFirstFront rows (whole_of asked) (from_of asked) (length rows) None → IsLongestPair tree (Some asked) asked.text None
   no_pair none prefix pair p =

@@ -7,7 +7,7 @@ use Rattle.std.specs.Str.{chars}
 use Rattle.std.proofs.lemmas.Bool.{cases_Bool, true≢false, false≢true, and_parts, and_from, cases_eq}
 use Rattle.std.proofs.lemmas.List.{length-take-le}
 use Rattle.sp_base.proofs.TextLemmas.{text_is, text_itself}
-use Rattle.regex_rules.specs.Trees.{Tree}
+use Rattle.regex_rules.specs.Trees.{PatternTree}
 use Rattle.regex_rules.specs.Deciding.{pattern_tree}
 use Rattle.regex_rules.specs.Languages.{in_language}
 use Rattle.regex_rules.specs.Fronts.{may_cut}
@@ -26,21 +26,21 @@ use Rattle.url_maps.proofs.NameLemmas.{is_named, keeps_name, kept_name, least_is
 
 -- ---- the longest front
 
-front_is : (pattern : Tree) (asked : Asked) (at : ℕ) → at ≤ length asked.text → is_front pattern asked at ≡ true → IsFrontOf pattern asked at
+front_is : (pattern : PatternTree) (asked : Asked) (at : ℕ) → at ≤ length asked.text → is_front pattern asked at ≡ true → IsFrontOf pattern asked at
 front_is pattern asked at within is =
     let parts = and_parts (may_cut (drop at asked.text)) (in_language pattern (chars (name_of asked.host_node ++ take at asked.text))) is in
     record { within = within; cut = parts.0; matches = (tells_language pattern (chars (name_of asked.host_node ++ take at asked.text))).0 parts.1 }
 
-front_only : (pattern : Tree) (asked : Asked) (at : ℕ) → IsFrontOf pattern asked at → is_front pattern asked at ≡ true
+front_only : (pattern : PatternTree) (asked : Asked) (at : ℕ) → IsFrontOf pattern asked at → is_front pattern asked at ≡ true
 front_only pattern asked at front =
     and_from (may_cut (drop at asked.text)) (in_language pattern (chars (name_of asked.host_node ++ take at asked.text))) front.cut ((tells_language pattern (chars (name_of asked.host_node ++ take at asked.text))).1 front.matches)
 
 -- the last front before a place, or that there is none
-abbrev IsLast : Tree → Asked → ℕ → Option ℕ → Type 0
+abbrev IsLast : PatternTree → Asked → ℕ → Option ℕ → Type 0
 IsLast pattern asked n (Some at) = IsFrontOf pattern asked at × ((k : ℕ) → k < n → IsFrontOf pattern asked k → k ≤ at)
 IsLast pattern asked n None = (k : ℕ) → k < n → IsFrontOf pattern asked k → ⊥
 
-one_more : (pattern : Tree) (asked : Asked) (n : ℕ) (o : Option ℕ) → (IsFrontOf pattern asked n → ⊥) → IsLast pattern asked n o → IsLast pattern asked (suc n) o
+one_more : (pattern : PatternTree) (asked : Asked) (n : ℕ) (o : Option ℕ) → (IsFrontOf pattern asked n → ⊥) → IsLast pattern asked n o → IsLast pattern asked (suc n) o
 one_more pattern asked n None lacks last = λ k lt front. ⊎_elim
     (λ (same : k ≡ n). lacks (subst (λ i. IsFrontOf pattern asked i) same front))
     (λ (other : k ≢ n). last k (omega (arith, lt, other)) front)
@@ -53,7 +53,7 @@ one_more pattern asked n (Some at) lacks last = (
       (cases_eq k n),
 )
 
-last_told : (pattern : Tree) (asked : Asked) (n : ℕ) → n ≤ suc (length asked.text) → IsLast pattern asked n (last_front pattern asked n)
+last_told : (pattern : PatternTree) (asked : Asked) (n : ℕ) → n ≤ suc (length asked.text) → IsLast pattern asked n (last_front pattern asked n)
 last_told pattern asked zero within = λ k lt front. omega (arith, lt)
 last_told pattern asked (suc n) within = ⊎_elim
     (λ (fits : is_front pattern asked n ≡ true).
@@ -64,22 +64,22 @@ last_told pattern asked (suc n) within = ⊎_elim
     (one_more pattern asked n (last_front pattern asked n) (λ front. true≢false (sym (front_only pattern asked n front) ∙ fails)) (last_told pattern asked n (omega (arith, within)))))
     (cases_Bool (is_front pattern asked n))
 
-longest_told : (asked : Asked) (pattern : Tree) → IsLast pattern asked (suc (length asked.text)) (longest_front asked pattern)
+longest_told : (asked : Asked) (pattern : PatternTree) → IsLast pattern asked (suc (length asked.text)) (longest_front asked pattern)
 longest_told asked pattern = last_told pattern asked (suc (length asked.text)) (omega arith)
 
 -- ---- the pair of a node
 
-pattern_had : (node : Node) (pattern : Tree) → node_pattern node ≡ Some pattern → HasPattern node pattern
+pattern_had : (node : Node) (pattern : PatternTree) → node_pattern node ≡ Some pattern → HasPattern node pattern
 pattern_had node pattern e =
     elim (match_text node) as (λ o. match_text node ≡ o → option_and_then (λ text. pattern_tree (chars text)) o ≡ Some pattern → HasPattern node pattern) [
       | None ↦ λ is none. cc
       | Some text ↦ λ is some. record { text = text; is = is; reads = (tree_spelled (chars text) pattern).1 some }
     ] refl e
 
-pattern_has : (node : Node) (pattern : Tree) → HasPattern node pattern → node_pattern node ≡ Some pattern
+pattern_has : (node : Node) (pattern : PatternTree) → HasPattern node pattern → node_pattern node ≡ Some pattern
 pattern_has node pattern has = ap (option_and_then (λ text. pattern_tree (chars text))) has.is ∙ (tree_spelled (chars has.text) pattern).0 has.reads
 
-front_taken : (asked : Asked) (prefix : List ℕ) (pattern : Tree) (at : ℕ) → IsLast pattern asked (suc (length asked.text)) (Some at) → pointwise nat_eq prefix (take at asked.text) ≡ true → IsLongestFront pattern asked prefix
+front_taken : (asked : Asked) (prefix : List ℕ) (pattern : PatternTree) (at : ℕ) → IsLast pattern asked (suc (length asked.text)) (Some at) → pointwise nat_eq prefix (take at asked.text) ≡ true → IsLongestFront pattern asked prefix
 front_taken asked prefix pattern at last same =
     let is : prefix ≡ take at asked.text = text_is prefix (take at asked.text) same in
     let within : at ≤ length asked.text = last.0.within in
@@ -90,14 +90,14 @@ front_taken asked prefix pattern at last same =
       longest = λ k front. subst (λ n. k ≤ n) (sym size) (last.1 k (let le = front.within in omega (arith, le)) front);
     }
 
-front_had : (asked : Asked) (prefix : List ℕ) (pattern : Tree) → option_map_or (λ at. pointwise nat_eq prefix (take at asked.text)) (longest_front asked pattern) false ≡ true → IsLongestFront pattern asked prefix
+front_had : (asked : Asked) (prefix : List ℕ) (pattern : PatternTree) → option_map_or (λ at. pointwise nat_eq prefix (take at asked.text)) (longest_front asked pattern) false ≡ true → IsLongestFront pattern asked prefix
 front_had asked prefix pattern e =
     elim (longest_front asked pattern) as (λ o. IsLast pattern asked (suc (length asked.text)) o → option_map_or (λ at. pointwise nat_eq prefix (take at asked.text)) o false ≡ true → IsLongestFront pattern asked prefix) [
       | None ↦ λ last none. absurd (false≢true none)
       | Some at ↦ λ last same. front_taken asked prefix pattern at last same
     ] (longest_told asked pattern) e
 
-front_has : (asked : Asked) (prefix : List ℕ) (pattern : Tree) → IsLongestFront pattern asked prefix → longest_front asked pattern ≡ Some (length prefix)
+front_has : (asked : Asked) (prefix : List ℕ) (pattern : PatternTree) → IsLongestFront pattern asked prefix → longest_front asked pattern ≡ Some (length prefix)
 front_has asked prefix pattern front =
     elim (longest_front asked pattern) as (λ o. IsLast pattern asked (suc (length asked.text)) o → o ≡ Some (length prefix)) [
       | None ↦ λ last. absurd (last (length prefix) (let le = front.front.within in omega (arith, le)) front.front)

@@ -11,7 +11,7 @@ use Rattle.std.proofs.lemmas.Option.{get_or_from_slice_get, same_Some, slice_get
 use Rattle.std.specs.Str.{chars}
 use Rattle.sp_base.specs.Paths.{is_path, path_or_none}
 use Rattle.sp_base.proofs.TextLemmas.{text_is}
-use Rattle.regex_rules.specs.Trees.{Tree, tree_of}
+use Rattle.regex_rules.specs.Trees.{PatternTree, tree_of}
 use Rattle.regex_rules.specs.Spelling.{IsPattern}
 use Rattle.regex_rules.specs.declared.fault.PatternFault.{PatternFault}
 use Rattle.regex_rules.specs.declared.fault.PatternFault.TheVariants.{NoMemory as memory}
@@ -45,10 +45,10 @@ no_text name node none = λ pattern leads. let both : None ≡ Some leads.has.te
 pub leads_nowhere : (name : List ℕ) (node : Node) → is_some (mapping_of node) ≡ false → IsRowOrNone name node None
 leads_nowhere name node none = λ pattern leads. absurd (true≢false (sym leads.leads ∙ none))
 
-pub no_pattern : (name : List ℕ) (node : Node) (text : List ℕ) → match_text node ≡ Some text → ((tree : Tree) → IsPattern (chars text) tree → ⊥) → IsRowOrNone name node None
+pub no_pattern : (name : List ℕ) (node : Node) (text : List ℕ) → match_text node ≡ Some text → ((tree : PatternTree) → IsPattern (chars text) tree → ⊥) → IsRowOrNone name node None
 no_pattern name node text is none = λ pattern leads. none pattern (subst (λ (t : List ℕ). IsPattern (chars t) pattern) (same_Some leads.has.text text (sym leads.has.is ∙ is)) leads.has.reads)
 
-pub read_row : (name : List ℕ) (node : Node) (text : List ℕ) (row : PatternNode) → match_text node ≡ Some text → is_some (mapping_of node) ≡ true → ((tree : Tree) → IsPattern (chars text) tree ↔ tree ≡ tree_of row.pattern) → row.name ≡ name
+pub read_row : (name : List ℕ) (node : Node) (text : List ℕ) (row : PatternNode) → match_text node ≡ Some text → is_some (mapping_of node) ≡ true → ((tree : PatternTree) → IsPattern (chars text) tree ↔ tree ≡ tree_of row.pattern) → row.name ≡ name
     → IsRowOrNone name node (Some row)
 read_row name node text row is leads spelled named = (
   named,
@@ -58,7 +58,7 @@ read_row name node text row is leads spelled named = (
 
 -- ---- one more name
 
-adds_nothing : (at : Lookup) (name : List ℕ) (rows : List PatternNode) → ((node : Node) (pattern : Tree) → is_path (kid mappings_path name) ≡ true → at (kid mappings_path name) ≡ Some node → LeadsBy node pattern → ⊥) → AddsPattern at name rows rows
+adds_nothing : (at : Lookup) (name : List ℕ) (rows : List PatternNode) → ((node : Node) (pattern : PatternTree) → is_path (kid mappings_path name) ≡ true → at (kid mappings_path name) ≡ Some node → LeadsBy node pattern → ⊥) → AddsPattern at name rows rows
 adds_nothing at name rows none = record {
   rows_are = λ k row there. inl there;
   stay = λ k row there. there;
@@ -185,7 +185,7 @@ left_patterns tree patch none rows are =
     }
 
 -- a reading that fails for a fault of the text
-pub none_read : {E : Type 0} (name : List ℕ) (node : Node) (text : List ℕ) (fault : PatternFault) (r : Result (Option PatternNode) E) → match_text node ≡ Some text → (fault ≢ memory → (tree : Tree) → IsPattern (chars text) tree → ⊥) → IfOk r (λ o. (o ≡ None) × (fault ≢ memory))
+pub none_read : {E : Type 0} (name : List ℕ) (node : Node) (text : List ℕ) (fault : PatternFault) (r : Result (Option PatternNode) E) → match_text node ≡ Some text → (fault ≢ memory → (tree : PatternTree) → IsPattern (chars text) tree → ⊥) → IfOk r (λ o. (o ≡ None) × (fault ≢ memory))
     → IfOk r (IsRowOrNone name node)
 none_read name node text fault (Ok o) is none (empty, apart) = subst (IsRowOrNone name node) (sym empty) (no_pattern name node text is (none apart))
 none_read name node text fault (Err e) is none ok = ok

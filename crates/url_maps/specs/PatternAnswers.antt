@@ -6,7 +6,7 @@ use Rattle.std.specs.Ordering.{is_lt}
 use Rattle.std.specs.Str.{chars}
 use Rattle.sp_base.specs.Texts.{Text}
 use Rattle.sp_base.specs.Names.{by_name}
-use Rattle.regex_rules.specs.Trees.{Tree}
+use Rattle.regex_rules.specs.Trees.{PatternTree}
 use Rattle.regex_rules.specs.Deciding.{pattern_tree}
 use Rattle.regex_rules.specs.Languages.{in_language}
 use Rattle.regex_rules.specs.Fronts.{may_cut}
@@ -21,22 +21,22 @@ use Rattle.url_maps.specs.Patterns.{Asked, mappings_path, match_text}
 -- ---- the longest front
 
 -- whether the text after HOST.PORT is in the language up to a place at which it may be cut
-abbrev pub is_front : Tree → Asked → ℕ → Bool
+abbrev pub is_front : PatternTree → Asked → ℕ → Bool
 is_front pattern asked at = may_cut (drop at asked.text) && in_language pattern (chars (name_of asked.host_node ++ take at asked.text))
 
 -- the last such place before another
-abbrev pub last_front : Tree → Asked → ℕ → Option ℕ
+abbrev pub last_front : PatternTree → Asked → ℕ → Option ℕ
 last_front pattern asked zero = None
 last_front pattern asked (suc at) = if is_front pattern asked at then Some at else last_front pattern asked at
 
 -- the last in the text
-abbrev pub longest_front : Asked → Tree → Option ℕ
+abbrev pub longest_front : Asked → PatternTree → Option ℕ
 longest_front asked pattern = last_front pattern asked (suc (length asked.text))
 
 -- ---- the pair of a node
 
 -- the pattern that a node has
-abbrev pub node_pattern : Node → Option Tree
+abbrev pub node_pattern : Node → Option PatternTree
 node_pattern node = option_and_then (λ text. pattern_tree (chars text)) (match_text node)
 
 -- whether a prefix is the longest front of a node's pattern

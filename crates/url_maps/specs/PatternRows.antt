@@ -5,7 +5,7 @@ use Rattle.std.specs.List.{list_any}
 use Rattle.std.specs.Option.{option_map_or}
 use Rattle.sp_base.specs.Texts.{Segments, Text}
 use Rattle.sp_base.specs.Paths.{is_path, is_under}
-use Rattle.regex_rules.specs.Trees.{Tree, tree_of}
+use Rattle.regex_rules.specs.Trees.{PatternTree, tree_of}
 use Rattle.resource_tree.specs.declared.nodes.Node.{Node}
 use Rattle.resource_tree.specs.Content.{kid}
 use Rattle.resource_tree.specs.Patches.{PatchEntries}
@@ -14,14 +14,14 @@ use Rattle.url_maps.specs.Mappings.{mapping_of}
 use Rattle.url_maps.specs.Patterns.{HasPattern, mappings_path}
 
 -- a node has the pattern and leads somewhere
-pub record LeadsBy (node : Node) (pattern : Tree) : Type 0 where
+pub record LeadsBy (node : Node) (pattern : PatternTree) : Type 0 where
   pub has : HasPattern node pattern
   pub leads : is_some (mapping_of node) ≡ true
 
 -- the row of a node of a name, or that the node has no pattern or leads nowhere
 abbrev pub IsRowOrNone : List ℕ → Node → Option PatternNode → Type 0
-IsRowOrNone name node (Some row) = (row.name ≡ name) × LeadsBy node (tree_of row.pattern) × ((pattern : Tree) → LeadsBy node pattern → tree_of row.pattern ≡ pattern)
-IsRowOrNone name node None = (pattern : Tree) → LeadsBy node pattern → ⊥
+IsRowOrNone name node (Some row) = (row.name ≡ name) × LeadsBy node (tree_of row.pattern) × ((pattern : PatternTree) → LeadsBy node pattern → tree_of row.pattern ≡ pattern)
+IsRowOrNone name node None = (pattern : PatternTree) → LeadsBy node pattern → ⊥
 
 -- the row at a place
 abbrev pub IsRowAt : List PatternNode → ℕ → PatternNode → Type 0
@@ -34,7 +34,7 @@ pub record IsRowOf (at : Segments → Option Node) (row : PatternNode) : Type 0 
   pub leads : LeadsBy node (tree_of row.pattern)
 
 -- some row is of this name and this pattern
-pub record HasRowOf (rows : List PatternNode) (name : List ℕ) (pattern : Tree) : Type 0 where
+pub record HasRowOf (rows : List PatternNode) (name : List ℕ) (pattern : PatternTree) : Type 0 where
   pub place : ℕ
   pub row : PatternNode
   pub there : IsRowAt rows place row
@@ -43,7 +43,7 @@ pub record HasRowOf (rows : List PatternNode) (name : List ℕ) (pattern : Tree)
 
 -- The node that a look-up has under a name has its row.
 abbrev pub IsListed : (Segments → Option Node) → List PatternNode → List ℕ → Type 0
-IsListed at rows name = (node : Node) (pattern : Tree) → is_path (kid mappings_path name) ≡ true → at (kid mappings_path name) ≡ Some node → LeadsBy node pattern → HasRowOf rows name pattern
+IsListed at rows name = (node : Node) (pattern : PatternTree) → is_path (kid mappings_path name) ≡ true → at (kid mappings_path name) ≡ Some node → LeadsBy node pattern → HasRowOf rows name pattern
 
 -- The rows are those of the nodes that a look-up has under some names directly below `/etc/map/http`.
 pub record AreRowsOfNames (at : Segments → Option Node) (names : List Text) (rows : List PatternNode) : Type 0 where

@@ -6,7 +6,7 @@ use Rattle.std.specs.declared.cmp.Ordering.TheVariants.{Less}
 use Rattle.sp_base.specs.Texts.{Segments}
 use Rattle.sp_base.specs.Names.{by_name}
 use Rattle.sp_base.specs.Properties.{text_in}
-use Rattle.regex_rules.specs.Trees.{Tree}
+use Rattle.regex_rules.specs.Trees.{PatternTree}
 use Rattle.regex_rules.specs.Spelling.{IsPattern}
 use Rattle.regex_rules.specs.Languages.{InLanguage}
 use Rattle.regex_rules.specs.Fronts.{may_cut}
@@ -36,19 +36,19 @@ abbrev pub match_text : Node → Option (List ℕ)
 match_text node = text_in node.props (codes "sling:match")
 
 -- The node's text `sling:match` reads as the pattern with this tree.
-pub record HasPattern (node : Node) (pattern : Tree) : Type 0 where
+pub record HasPattern (node : Node) (pattern : PatternTree) : Type 0 where
   pub text : List ℕ
   pub is : match_text node ≡ Some text
   pub reads : IsPattern (chars text) pattern
 
 -- Up to a place, at its end or before a slash or a dot, the text after HOST.PORT is in the pattern's language.
-pub record IsFrontOf (pattern : Tree) (asked : Asked) (at : ℕ) : Type 0 where
+pub record IsFrontOf (pattern : PatternTree) (asked : Asked) (at : ℕ) : Type 0 where
   pub within : at ≤ length asked.text
   pub cut : may_cut (drop at asked.text) ≡ true
   pub matches : InLanguage pattern (chars (name_of asked.host_node ++ take at asked.text))
 
 -- The longest prefix of the text that ends at such a place.
-pub record IsLongestFront (pattern : Tree) (asked : Asked) (prefix : List ℕ) : Type 0 where
+pub record IsLongestFront (pattern : PatternTree) (asked : Asked) (prefix : List ℕ) : Type 0 where
   pub is : prefix ≡ take (length prefix) asked.text
   pub front : IsFrontOf pattern asked (length prefix)
   pub longest : (k : ℕ) → IsFrontOf pattern asked k → k ≤ length prefix
@@ -58,7 +58,7 @@ pub record IsLongestFront (pattern : Tree) (asked : Asked) (prefix : List ℕ) :
 pub record GivesPair (tree : Content) (asked : Asked) (name prefix : List ℕ) (to : List ℕ × Option ℕ) : Type 0 where
   pub node : Node
   pub there : node_at tree (kid mappings_path name) ≡ Some node
-  pub pattern : Tree
+  pub pattern : PatternTree
   pub has : HasPattern node pattern
   pub front : IsLongestFront pattern asked prefix
   pub leads : mapping_of node ≡ Some to

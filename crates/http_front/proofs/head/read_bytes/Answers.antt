@@ -1,6 +1,6 @@
 use Rattle.std.proofs.Common.{◌≡◌, ◌∙◌, List, None, Some, ap, subst}
 use Rattle.std.specs.Prelude.{map}
-use Rattle.sp_base.specs.declared.field.FieldPlace.{FieldPlace}
+use Rattle.sp_base.specs.declared.field.FieldSpan.{FieldSpan}
 use Rattle.sp_base.specs.Fields.{field_at}
 use Rattle.http_front.specs.LentHeads.{asked_by}
 use Rattle.http_front.specs.Heads as spec
@@ -12,7 +12,7 @@ returns-clause-ok c =
     let p = spec.request_parts_at c.args.bytes.now c.args.spans.now c.args.at.now in
     let target = c.text_of-target.result.now in
     let asked = asked_by c.in-Ok.asked in
-    let read = λ (fields : List FieldPlace). map (field_at c.args.bytes.now) fields in
+    let read = λ (fields : List FieldSpan). map (field_at c.args.bytes.now) fields in
     asks p target (read c.in_ok-fields.fields.items) asked (c.text_of-target.ensures ∙ c.of.ensures) c.in_ok-fields.ensures.fields
     (subst (λ fields. spec.first_refusal p.minor target (read fields) ≡ None) c.as_slice.ensures.value c.in-Ok.ensures.faultless)
     (subst (λ fields. spec.asked_of p.minor target (read fields) ≡ Some asked) c.as_slice.ensures.value c.in-Ok.ensures.ok)

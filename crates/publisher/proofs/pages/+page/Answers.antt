@@ -9,7 +9,7 @@ use Rattle.htl_blocks.specs.declared.piece.Piece.{Piece}
 use Rattle.htl_blocks.specs.Pieces.{piece_parts, pieces_parts, within}
 use Rattle.htl_blocks.specs.Written.{blocks_parts}
 use Rattle.publisher.specs.Waits.{IsLeastOf, nothing}
-use Rattle.publisher.specs.Gathering.{Gathered, IsPassed, PassLimits, bindings_in, inclusion_in, place_in}
+use Rattle.publisher.specs.Gathering.{Gathered, IsPassed, PassLimits, bindings_in, inclusion_in, setting_in}
 use Rattle.publisher.specs.declared.page_fault.PageFault.TheVariants.{NoMemory}
 use Rattle.publisher.specs.Pages.{inclusion, joined, parts_page, text_page, written_page}
 use Rattle.publisher.proofs.PageLemmas.{gathered_alone, parts_none, text_is}
@@ -19,26 +19,26 @@ use Rattle.publisher.proofs.pages.+page.Goals as goal
 pub include_resource-returns-then-setting-eq0-clause-page : goal.include_resource-returns-then-setting-eq0-clause-page
 include_resource-returns-then-setting-eq0-clause-page t c known =
     let s = c.args.setting.now in
-    deep_stops s.waiting s.content.now s.levels (place_in s) (part.Resource c.args.name.now) c.args.page.now c.if-setting-eq0.true
+    deep_stops s.waiting s.content.now s.levels (setting_in s) (part.Resource c.args.name.now) c.args.page.now c.if-setting-eq0.true
 
 pub include_resource-returns-in_default-clause-page : goal.include_resource-returns-in_default-clause-page
 include_resource-returns-in_default-clause-page t c =
     let s = c.args.setting.now in
     nothing_more c.args.page.now (inclusion_in s (part.Resource c.args.name.now))
-    (resource_step s.content.now s.levels (place_in s) c.args.name.now None c.if-setting-eq0.false (sym c.in_default.is ∙ c.in_ok-path.ensures))
+    (resource_step s.content.now s.levels (setting_in s) c.args.name.now None c.if-setting-eq0.false (sym c.in_default.is ∙ c.in_ok-path.ensures))
 
 pub include_resource-returns-in_default-2-clause-page : goal.include_resource-returns-in_default-2-clause-page
 include_resource-returns-in_default-2-clause-page t c =
     let s = c.args.setting.now in
     nothing_more c.args.page.now (inclusion_in s (part.Resource c.args.name.now))
-    (resource_step s.content.now s.levels (place_in s) c.args.name.now (Some c.in-Some.path) c.if-setting-eq0.false (sym c.in-Some.is ∙ c.in_ok-path.ensures)
+    (resource_step s.content.now s.levels (setting_in s) c.args.name.now (Some c.in-Some.path) c.if-setting-eq0.false (sym c.in-Some.is ∙ c.in_ok-path.ensures)
     ∙ ap (written_page (inclusion s.content.now (s.levels - 1))) (shown_step s.content.now c.in-Some.path None (sym c.in_default-2.is ∙ c.in_ok-res.ensures ∙ ap (λ (t : Content). merged_alone t c.in-Some.path) c.tree.ensures)))
 
 pub include_resource-returns-in_default-3-clause-page : goal.include_resource-returns-in_default-3-clause-page
 include_resource-returns-in_default-3-clause-page t c =
     let s = c.args.setting.now in
     nothing_more c.args.page.now (inclusion_in s (part.Resource c.args.name.now))
-    (resource_step s.content.now s.levels (place_in s) c.args.name.now (Some c.in-Some.path) c.if-setting-eq0.false (sym c.in-Some.is ∙ c.in_ok-path.ensures)
+    (resource_step s.content.now s.levels (setting_in s) c.args.name.now (Some c.in-Some.path) c.if-setting-eq0.false (sym c.in-Some.is ∙ c.in_ok-path.ensures)
     ∙ ap (written_page (inclusion s.content.now (s.levels - 1)))
     (shown_step s.content.now c.in-Some.path (Some c.in-Some-2.res) (sym c.in-Some-2.is ∙ c.in_ok-res.ensures ∙ ap (λ (t : Content). merged_alone t c.in-Some.path) c.tree.ensures) ∙ by_step s.content.now c.in-Some-2.res None (sym c.in_default-3.is ∙ c.in_ok-script.ensures)))
 
@@ -48,7 +48,7 @@ include_resource-returns-clause-page t c =
     let old = c.args.page.now in
     let new = c.write_script.new.page in
     let inner = inclusion s.content.now (s.levels - 1) in
-    let is = resource_step s.content.now s.levels (place_in s) c.args.name.now (Some c.in-Some.path) c.if-setting-eq0.false (sym c.in-Some.is ∙ c.in_ok-path.ensures)
+    let is = resource_step s.content.now s.levels (setting_in s) c.args.name.now (Some c.in-Some.path) c.if-setting-eq0.false (sym c.in-Some.is ∙ c.in_ok-path.ensures)
     ∙ ap (written_page inner)
     (shown_step s.content.now c.in-Some.path (Some c.in-Some-2.res) (sym c.in-Some-2.is ∙ c.in_ok-res.ensures ∙ ap (λ (t : Content). merged_alone t c.in-Some.path) c.tree.ensures) ∙ by_step s.content.now c.in-Some-2.res (Some c.in-Some-3.script) (sym c.in-Some-3.is ∙ c.in_ok-script.ensures)) in
     subst (Gathered s.waiting c.write_script.result old new) (sym is)
@@ -57,19 +57,19 @@ include_resource-returns-clause-page t c =
 pub include_script-returns-then-setting-eq0-clause-page : goal.include_script-returns-then-setting-eq0-clause-page
 include_script-returns-then-setting-eq0-clause-page t c known =
     let s = c.args.setting.now in
-    deep_stops s.waiting s.content.now s.levels (place_in s) (part.Script c.args.name.now (vars_of c.args.vars.now)) c.args.page.now c.if-setting-eq0.true
+    deep_stops s.waiting s.content.now s.levels (setting_in s) (part.Script c.args.name.now (vars_of c.args.vars.now)) c.args.page.now c.if-setting-eq0.true
 
 pub include_script-returns-in_default-clause-page : goal.include_script-returns-in_default-clause-page
 include_script-returns-in_default-clause-page t c =
     let s = c.args.setting.now in
     nothing_more c.args.page.now (inclusion_in s (part.Script c.args.name.now (vars_of c.args.vars.now)))
-    (script_step s.content.now s.levels (place_in s) c.args.name.now (vars_of c.args.vars.now) c.in_ok-folder.folder None c.if-setting-eq0.false c.in_ok-folder.ensures (sym c.in_default.is ∙ c.in_ok-script.ensures))
+    (script_step s.content.now s.levels (setting_in s) c.args.name.now (vars_of c.args.vars.now) c.in_ok-folder.folder None c.if-setting-eq0.false c.in_ok-folder.ensures (sym c.in_default.is ∙ c.in_ok-script.ensures))
 
 pub include_script-returns-clause-page : goal.include_script-returns-clause-page
 include_script-returns-clause-page t c =
     let s = c.args.setting.now in
     subst (Gathered s.waiting c.write_script.result c.args.page.now c.write_script.new.page)
-    (sym (script_step s.content.now s.levels (place_in s) c.args.name.now (vars_of c.args.vars.now) c.in_ok-folder.folder (Some c.in-Some.script) c.if-setting-eq0.false c.in_ok-folder.ensures (sym c.in-Some.is ∙ c.in_ok-script.ensures)))
+    (sym (script_step s.content.now s.levels (setting_in s) c.args.name.now (vars_of c.args.vars.now) c.in_ok-folder.folder (Some c.in-Some.script) c.if-setting-eq0.false c.in_ok-folder.ensures (sym c.in-Some.is ∙ c.in_ok-script.ensures)))
     c.write_script.ensures.page
 
 pub write_blocks-returns-in_err-list-clause-page : goal.write_blocks-returns-in_err-list-clause-page

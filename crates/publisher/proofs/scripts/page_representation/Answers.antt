@@ -1,7 +1,7 @@
 use Rattle.std.proofs.Common.{◌∙◌, ap, refl, subst}
 use Rattle.htl_expr.proofs.VariableLemmas.{none_are}
 use Rattle.publisher.specs.Gathering.{IsPassed}
-use Rattle.publisher.specs.Pages.{Page, joined, page_of, place_for}
+use Rattle.publisher.specs.Pages.{GatheredPage, joined, page_of, setting_for}
 use Rattle.publisher.specs.Rendering.{html_kind, mark_of, representation_of}
 use Rattle.publisher.proofs.PageAnswers.{over_limits, page_is, within_limits}
 use Rattle.publisher.proofs.SeenAloneLemmas.{answer-as}
@@ -10,7 +10,7 @@ use Rattle.publisher.proofs.scripts.page_representation.Goals as goal
 pub returns-in-Ok-clause-answer : goal.returns-in-Ok-clause-answer
 returns-in-Ok-clause-answer c =
     let res = c.args.res.now in
-    let page = page_of c.args.content.now (place_for c.args.script.now res) c.args.blocks.now in
+    let page = page_of c.args.content.now (setting_for c.args.script.now res) c.args.blocks.now in
     let is = page_is c.args.content.now res c.args.script.now c.path.result.now c.props.result.now _ c.args.blocks.now _ refl c.path.ensures c.props.ensures none_are in
     answer-as c.representation_of.result _ _
     (ap (λ m. representation_of html_kind m c.into_text.result) c.mark_of.ensures
@@ -21,8 +21,8 @@ returns-in-Ok-clause-answer c =
 pub returns-in-Err-Over-clause-answer : goal.returns-in-Err-Over-clause-answer
 returns-in-Err-Over-clause-answer c =
     let res = c.args.res.now in
-    let page = page_of c.args.content.now (place_for c.args.script.now res) c.args.blocks.now in
+    let page = page_of c.args.content.now (setting_for c.args.script.now res) c.args.blocks.now in
     let is = page_is c.args.content.now res c.args.script.now c.path.result.now c.props.result.now _ c.args.blocks.now _ refl c.path.ensures c.props.ensures none_are in
     answer-as c.error_answer.result _ _
-    (over_limits (mark_of res) c.nothing.result c.new-page.result page c.nothing.ensures c.new-page.ensures (subst (λ (p : Page). IsPassed c.nothing.result (joined c.new-page.result p)) is (c.in-Err-Over.ensures.page (λ same. cc))))
+    (over_limits (mark_of res) c.nothing.result c.new-page.result page c.nothing.ensures c.new-page.ensures (subst (λ (p : GatheredPage). IsPassed c.nothing.result (joined c.new-page.result p)) is (c.in-Err-Over.ensures.page (λ same. cc))))
     c.error_answer.ensures

@@ -14,8 +14,8 @@ pub returns-in_err-begin_walk-clause-slice : goal.returns-in_err-begin_walk-clau
 returns-in_err-begin_walk-clause-slice g c =
     let before = c.args.self.now in
     let laws : NameLaws before.inv = record {
-      body_deleted = λ key page. c.deleted_pages_are_told_by_names.ensures.body before.inv key page c.depth-depth.ensures.valid c.a_path_has_bytes.ensures;
-      head_deleted = λ key page. c.deleted_pages_are_told_by_names.ensures.head before.inv key page c.depth-depth.ensures.valid c.a_path_has_bytes.ensures;
+      body_deleted = λ key page. c.deleted_pages_are_known_by_names.ensures.body before.inv key page c.depth-depth.ensures.valid c.a_path_has_bytes.ensures;
+      head_deleted = λ key page. c.deleted_pages_are_known_by_names.ensures.head before.inv key page c.depth-depth.ensures.valid c.a_path_has_bytes.ensures;
       bodies = c.names_are_apart.ensures.bodies;
       heads = c.names_are_apart.ensures.heads;
       head = c.names_are_apart.ensures.head;
@@ -30,8 +30,8 @@ pub returns-clause-slice : goal.returns-clause-slice
 returns-clause-slice g c =
     let before = c.args.self.now in
     let laws : NameLaws before.inv = record {
-      body_deleted = λ key page. c.deleted_pages_are_told_by_names.ensures.body before.inv key page c.depth-depth.ensures.valid c.a_path_has_bytes.ensures;
-      head_deleted = λ key page. c.deleted_pages_are_told_by_names.ensures.head before.inv key page c.depth-depth.ensures.valid c.a_path_has_bytes.ensures;
+      body_deleted = λ key page. c.deleted_pages_are_known_by_names.ensures.body before.inv key page c.depth-depth.ensures.valid c.a_path_has_bytes.ensures;
+      head_deleted = λ key page. c.deleted_pages_are_known_by_names.ensures.head before.inv key page c.depth-depth.ensures.valid c.a_path_has_bytes.ensures;
       bodies = c.names_are_apart.ensures.bodies;
       heads = c.names_are_apart.ensures.heads;
       head = c.names_are_apart.ensures.head;

@@ -2,7 +2,7 @@ use Rattle.std.proofs.Common.{[], codes}
 use Rattle.docroot_format.specs.Names.{body_name, head_name}
 use Rattle.docroot_format.proofs.DeletedNames.{told_by_name, told_of}
 use Rattle.docroot_format.proofs.NameCode.{body_spells, end_begins_none, head_spells, mark_begins_none}
-use Rattle.docroot_format.proofs.laws.deleted_pages_are_told_by_names.Goals as goal
+use Rattle.docroot_format.proofs.laws.deleted_pages_are_known_by_names.Goals as goal
 
 pub returns-clause-body : goal.returns-clause-body
 returns-clause-body c = λ inv key page valid small.

@@ -1,4 +1,4 @@
-//! Variables in expressions, which no script of the program has yet, and what block statements ask of an expression.
+//! Variables in expressions, and what block statements ask of an expression.
 use htl_expr::{Evaluation, Expr, Listed, Scope, Variables, WriteFault};
 use htl_text::{Template, TextFault};
 use sp_base::{Mem, PropList, TextBuf, TextList, Value};

@@ -106,7 +106,7 @@ any_sound text top h = go (file_read text) refl h
   where
     go : (o : Result AnyNode AnyStop) → file_read text ≡ o → placed_answer text o ≡ Ok top → IsFile text top
     go (Ok n) e f = read_sound text top (e ∙ same_ok n top f)
-    go (Err stop.Memory) e f = absurd cc
+    go (Err stop.NoMemory) e f = absurd cc
     go (Err (stop.BadName k)) e f = absurd cc
     go (Err (stop.BadQuote k)) e f = absurd cc
     go (Err (stop.TooDeep k)) e f = absurd cc

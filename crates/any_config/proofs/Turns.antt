@@ -2,7 +2,7 @@
 use Rattle.std.proofs.Common.{◌≡◌, ◌≢◌, ◌<◌, ℕ, zero, suc, ◌-◌, ◌+◌, false, List, [], ◌∷◌, ◌++◌, length, Ok, Err, refl, sym, ◌∙◌, arith, sub-one}
 use Rattle.any_config.specs.declared.node.AnyNode.{AnyNode}
 use Rattle.any_config.specs.declared.stop.AnyStop.{AnyStop}
-use Rattle.any_config.specs.declared.stop.AnyStop.TheVariants.{Memory, BadName, BadQuote, TooDeep, Unclosed}
+use Rattle.any_config.specs.declared.stop.AnyStop.TheVariants.{NoMemory, BadName, BadQuote, TooDeep, Unclosed}
 use Rattle.any_config.specs.Tokens.{TokenOutcome, TokenFails, comments_skipped}
 use Rattle.any_config.specs.Read.{Members, ends_members, member, more_members, braced_group, group}
 
@@ -29,7 +29,7 @@ more_err inner n i found t e lt on f =
     rw (k, on, f) refl
 
 pub more_fails : (inner : List ℕ → TokenOutcome AnyNode) (n i : ℕ) (found : Members) (t : List ℕ) (e : AnyStop) (whole : TokenOutcome Members) → i < n → ends_members t ≡ false → more_members inner (n - i) found t ≡ whole → TokenFails e (member inner t) → TokenFails e whole
-more_fails inner n i found t Memory whole lt on same f = tt
+more_fails inner n i found t NoMemory whole lt on same f = tt
 more_fails inner n i found t (BadName k) whole lt on same f = sym same ∙ more_err inner n i found t (BadName k) lt on f
 more_fails inner n i found t (BadQuote k) whole lt on same f = sym same ∙ more_err inner n i found t (BadQuote k) lt on f
 more_fails inner n i found t (TooDeep k) whole lt on same f = sym same ∙ more_err inner n i found t (TooDeep k) lt on f

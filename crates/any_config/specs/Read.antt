@@ -66,7 +66,7 @@ file_read t = do
 -- the answer of the reading, with its place counted from the beginning
 abbrev pub placed_answer : List ℕ → Result AnyNode AnyStop → Result AnyNode AnyFault
 placed_answer t (Ok n) = Ok n
-placed_answer t (Err stop.Memory) = Err fault.NoMemory
+placed_answer t (Err stop.NoMemory) = Err fault.NoMemory
 placed_answer t (Err (stop.BadName left)) = Err (fault.BadName (length t - left))
 placed_answer t (Err (stop.BadQuote left)) = Err (fault.BadQuote (length t - left))
 placed_answer t (Err (stop.TooDeep left)) = Err (fault.TooDeep (length t - left))

@@ -6,7 +6,7 @@ use Rattle.std.specs.Str.{is_utf8}
 use Rattle.sp_base.specs.Outcomes.{◌>>=◌}
 use Rattle.sp_base.specs.Bytes.{begins_with_byte}
 use Rattle.any_config.specs.declared.stop.AnyStop.{AnyStop}
-use Rattle.any_config.specs.declared.stop.AnyStop.TheVariants.{Memory, BadName, BadQuote, TooDeep, Unclosed}
+use Rattle.any_config.specs.declared.stop.AnyStop.TheVariants.{NoMemory, BadName, BadQuote, TooDeep, Unclosed}
 use Rattle.any_config.specs.declared.tokens.ByteRun.{ByteRun}
 use Rattle.any_config.specs.declared.tokens.ByteRun.TheVariants.{Name, Plain, Quoted}
 use Rattle.any_config.specs.declared.node.AnyNode.{AnyNode}
@@ -18,7 +18,7 @@ TokenOutcome A = Result (A × List ℕ) AnyStop
 
 -- the reason is that of the reading, unless memory ran out
 abbrev pub TokenFails : {Y : Type 0} → AnyStop → Result Y AnyStop → Type 0
-TokenFails Memory read = Unit {0}
+TokenFails NoMemory read = Unit {0}
 TokenFails (BadName n) read = read ≡ Err (BadName n)
 TokenFails (BadQuote n) read = read ≡ Err (BadQuote n)
 TokenFails (TooDeep n) read = read ≡ Err (TooDeep n)

@@ -103,7 +103,7 @@ pub fn read_any(alloc: Global, bytes: &[u8]) -> Result<AnyNode, AnyFault>
 {
     match read(alloc, bytes) {
         Ok(node) => Ok(node),
-        Err(AnyStop::Memory) => Err(AnyFault::NoMemory),
+        Err(AnyStop::NoMemory) => Err(AnyFault::NoMemory),
         Err(AnyStop::BadName(left)) => Err(AnyFault::BadName(bytes.len().saturating_sub(left))),
         Err(AnyStop::BadQuote(left)) => Err(AnyFault::BadQuote(bytes.len().saturating_sub(left))),
         Err(AnyStop::TooDeep(left)) => Err(AnyFault::TooDeep(bytes.len().saturating_sub(left))),

@@ -1,6 +1,6 @@
 //! Why bytes could not be read.
 ghost use Rattle.std.specs.Prelude.{◌≡◌};
-ghost use Rattle.any_config.specs.declared.stop.AnyStop.TheVariants.{Memory};
+ghost use Rattle.any_config.specs.declared.stop.AnyStop.TheVariants.{NoMemory};
 
 use sp_base::NoMemory;
 use std::alloc::{AllocError, AllocFailed};
@@ -8,7 +8,7 @@ use std::alloc::{AllocError, AllocFailed};
 /// A place is told by how many bytes are left there.
 #[derive(Clone, Copy, Drop)]
 pub enum AnyStop {
-    Memory,
+    NoMemory,
     BadName(usize),
     BadQuote(usize),
     TooDeep(usize),
@@ -16,25 +16,25 @@ pub enum AnyStop {
 }
 
 impl From<NoMemory> for AnyStop {
-    ghost from_gives = { λ _ e. e ≡ Memory };
+    ghost from_gives = { λ _ e. e ≡ NoMemory };
 
     fn from(_fault: NoMemory) -> AnyStop {
-        AnyStop::Memory
+        AnyStop::NoMemory
     }
 }
 
 impl From<AllocError> for AnyStop {
-    ghost from_gives = { λ _ e. e ≡ Memory };
+    ghost from_gives = { λ _ e. e ≡ NoMemory };
 
     fn from(_fault: AllocError) -> AnyStop {
-        AnyStop::Memory
+        AnyStop::NoMemory
     }
 }
 
 impl<T: Drop> From<AllocFailed<T>> for AnyStop {
-    ghost from_gives = { λ _ e. e ≡ Memory };
+    ghost from_gives = { λ _ e. e ≡ NoMemory };
 
     fn from(_fault: AllocFailed<T>) -> AnyStop {
-        AnyStop::Memory
+        AnyStop::NoMemory
     }
 }

@@ -22,7 +22,7 @@ use Rattle.connections.specs.declared.place.Reply.TheVariants.{Own}
 use Rattle.run_events.specs.declared.conditions.Conditions.{Conditions}
 use Rattle.run_events.specs.declared.flying.Flying.{Flying}
 use Rattle.run_events.specs.declared.flying.Flushing.{Flushing}
-use Rattle.run_events.specs.declared.note.Failure.TheVariants.{Disk, Memory}
+use Rattle.run_events.specs.declared.note.Failure.TheVariants.{Disk, NoMemory}
 use Rattle.run_events.specs.declared.note.Note.{Note}
 use Rattle.run_events.specs.declared.note.Note.TheVariants as note
 use Rattle.run_events.specs.Moves.{GivesSlice, flush_at, state_after_ending, state_after_note, without_flush}
@@ -139,7 +139,7 @@ by-purged core after_ gs f fs files later faults after_faults w (purged.Failed v
     slice-last core after_ gs f fs files later faults after_faults w v 500 failed_outcome (purged_under (purged.Failed v)) (only_disk true) (note.Failed f.number Disk) is purge log (record { disk = told; spoils = λ spoilt. refl; shows = λ ran_out. no-false ran_out }) refl
     (λ m allows. inr (inr (inl (refl, allows.disk_failed refl))))
 by-purged core after_ gs f fs files later faults after_faults w (purged.NoMemory v) is purge log told =
-    slice-last core after_ gs f fs files later faults after_faults w v insufficient_storage failed_outcome (purged_under (purged.NoMemory v)) (record { disk_failed = false; out_of_memory = true }) (note.Failed f.number Memory) is purge log
+    slice-last core after_ gs f fs files later faults after_faults w v insufficient_storage failed_outcome (purged_under (purged.NoMemory v)) (record { disk_failed = false; out_of_memory = true }) (note.Failed f.number NoMemory) is purge log
     (record { disk = told; spoils = λ spoilt. absurd (let no : ⊥ = cc in no); shows = λ ran_out. refl }) refl (λ m allows. inr (inr (inr (refl, allows.out_of_memory refl))))
 
 -- of each state that is stood for

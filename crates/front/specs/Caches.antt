@@ -32,7 +32,7 @@ use Rattle.run_events.specs.declared.conditions.Conditions.{Conditions}
 use Rattle.run_events.specs.declared.flying.Flying.{Flying}
 use Rattle.run_events.specs.declared.flying.Flushing.{Flushing}
 use Rattle.run_events.specs.declared.note.Note.{Note}
-use Rattle.run_events.specs.declared.note.Failure.TheVariants.{Disk, Memory}
+use Rattle.run_events.specs.declared.note.Failure.TheVariants.{Disk, NoMemory}
 use Rattle.run_events.specs.declared.note.Note.TheVariants.{Done, Failed, Kept, Lost, Passed, Sliced, Unkept, Local}
 use Rattle.run_events.specs.declared.step.Pick.{Pick}
 use Rattle.run_events.specs.Causes.{ShowsOutOfMemory, Spoils}
@@ -209,7 +209,7 @@ slice_end_of flush purged.Idle = None
 slice_end_of flush (purged.More number) = flush_end flush None (only_disk false) (Sliced flush.number)
 slice_end_of flush (purged.Done number) = flush_end flush (Some (Own 200)) (only_disk false) (Done flush.number)
 slice_end_of flush (purged.Failed number) = flush_end flush (Some (Own 500)) (only_disk true) (Failed flush.number Disk)
-slice_end_of flush (purged.NoMemory number) = flush_end flush (Some (Own insufficient_storage)) (record { disk_failed = false; out_of_memory = true }) (Failed flush.number Memory)
+slice_end_of flush (purged.NoMemory number) = flush_end flush (Some (Own insufficient_storage)) (record { disk_failed = false; out_of_memory = true }) (Failed flush.number NoMemory)
 
 -- the slice ended its flush
 abbrev pub is_ending : Purged → Bool

@@ -162,7 +162,7 @@ fn slice_end(flush: Flushing, purged: Purged) -> Option<Ended>
             Some(Reply::Own(500)),
         ),
         Purged::NoMemory(_) => (
-            Note::Failed(number, Failure::Memory),
+            Note::Failed(number, Failure::NoMemory),
             out_of_memory(false),
             Some(Reply::Own(INSUFFICIENT_STORAGE)),
         ),

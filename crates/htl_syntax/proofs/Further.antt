@@ -3,13 +3,13 @@ use Rattle.std.proofs.Common.{◌≡◌, ℕ, ◌<◌, ◌≤◌, Bool, true, fa
 use Rattle.sp_base.specs.Outcomes.{◌>>=◌}
 use Rattle.sp_base.proofs.ListLemmas.{drop_short}
 use Rattle.htl_syntax.specs.declared.stop.ExprStop.{ExprStop}
-use Rattle.htl_syntax.specs.declared.stop.ExprStop.TheVariants.{Memory, Unexpected, TooDeep}
+use Rattle.htl_syntax.specs.declared.stop.ExprStop.TheVariants.{NoMemory, Unexpected, TooDeep}
 use Rattle.htl_syntax.specs.Tokens.{blanks_skipped}
 use Rattle.htl_syntax.proofs.TokensAgain.{skip-short}
 
 -- how many bytes are left where reading stopped
 abbrev pub left_of : ExprStop → ℕ
-left_of Memory = 0
+left_of NoMemory = 0
 left_of (Unexpected left) = left
 left_of (TooDeep left) = left
 
@@ -25,7 +25,7 @@ Beyond size n (Err d) = left_of d < n
 
 abbrev pub Further : {A : Type 0} → (A → ℕ) → Result A ExprStop → Result A ExprStop → Type 0
 Further {A = A} size (Ok x) p = ◌≡◌ {A = Result A ExprStop} p (Ok x)
-Further {A = A} size (Err Memory) p = ◌≡◌ {A = Result A ExprStop} p (Err Memory)
+Further {A = A} size (Err NoMemory) p = ◌≡◌ {A = Result A ExprStop} p (Err NoMemory)
 Further {A = A} size (Err (Unexpected left)) p = ◌≡◌ {A = Result A ExprStop} p (Err (Unexpected left))
 Further size (Err (TooDeep left)) p = Beyond size left p
 
@@ -52,7 +52,7 @@ beyond_bind size end n (Err d) k w next = w
 
 further_bind : {A B : Type 0} (size : A → ℕ) (end : B → ℕ) (o p : Result A ExprStop) (h k : A → Result B ExprStop) → Further size o p → ((x : A) → Goes end (size x) (h x) (k x)) → Further end (o >>= h) (p >>= k)
 further_bind size end (Ok x) p h k f next = subst (λ q. Further end (h x) (q >>= k)) (sym f) (next x).further
-further_bind size end (Err Memory) p h k f next = rw f refl
+further_bind size end (Err NoMemory) p h k f next = rw f refl
 further_bind size end (Err (Unexpected left)) p h k f next = rw f refl
 further_bind size end (Err (TooDeep left)) p h k f next = beyond_bind size end left p k f (λ x. (next x).within)
 

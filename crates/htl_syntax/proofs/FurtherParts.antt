@@ -4,7 +4,7 @@ use Rattle.std.proofs.lemmas.List.{length-append}
 use Rattle.sp_base.specs.Outcomes.{◌>>=◌}
 use Rattle.sp_base.specs.Bytes.{begins_with_byte, is_digit}
 use Rattle.htl_syntax.specs.declared.stop.ExprStop.{ExprStop}
-use Rattle.htl_syntax.specs.declared.stop.ExprStop.TheVariants.{Memory, Unexpected, TooDeep}
+use Rattle.htl_syntax.specs.declared.stop.ExprStop.TheVariants.{NoMemory, Unexpected, TooDeep}
 use Rattle.htl_syntax.specs.declared.node.ExprNode.{ExprNode}
 use Rattle.htl_syntax.specs.declared.node.ExprNode.TheVariants as expr_node
 use Rattle.htl_syntax.specs.declared.expression.Expression.{Expression}
@@ -167,7 +167,7 @@ forward which s = go (deeper zero which s) refl
     line = local_deeper zero which
 
     stops : (d : ExprStop) (leading rest : List ℕ) → s ≡ leading ++ rest → IsAt d rest → left_of d ≤ length s
-    stops Memory leading rest e at = absurd at
+    stops NoMemory leading rest e at = absurd at
     stops (Unexpected left) leading rest e at = omega (arith, ap length e, length-append leading rest, at)
     stops (TooDeep left) leading rest e at = omega (arith, ap length e, length-append leading rest, at.0)
 

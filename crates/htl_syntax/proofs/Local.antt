@@ -4,7 +4,7 @@ use Rattle.sp_base.specs.Outcomes.{◌>>=◌}
 use Rattle.sp_base.specs.Bytes.{begins_with_byte}
 use Rattle.sp_base.proofs.BoolLemmas.{cond_either}
 use Rattle.htl_syntax.specs.declared.stop.ExprStop.{ExprStop}
-use Rattle.htl_syntax.specs.declared.stop.ExprStop.TheVariants.{Memory, Unexpected, TooDeep}
+use Rattle.htl_syntax.specs.declared.stop.ExprStop.TheVariants.{NoMemory, Unexpected, TooDeep}
 use Rattle.htl_syntax.specs.declared.tokens.NameKind.TheVariants.{Field}
 use Rattle.htl_syntax.specs.Tokens.{Outcome, begins, goes_on, is_letter, is_word_byte}
 use Rattle.htl_syntax.specs.Fault.{SameHead, nests}
@@ -57,13 +57,13 @@ nil_same (c ∷ z) h = absurd h.0
 
 -- the reason speaks of the text that is left
 abbrev pub IsAt : ExprStop → List ℕ → Type 0
-IsAt Memory rest = ⊥
+IsAt NoMemory rest = ⊥
 IsAt (Unexpected left) rest = length rest ≡ left
 IsAt (TooDeep left) rest = (length rest ≡ left) × (begins nests rest ≡ true)
 
 -- the same reason where `left` bytes are left
 abbrev pub moved : ExprStop → ℕ → ExprStop
-moved Memory left = Memory
+moved NoMemory left = NoMemory
 moved (Unexpected _) left = Unexpected left
 moved (TooDeep _) left = TooDeep left
 

@@ -5,7 +5,7 @@ use Rattle.std.proofs.lemmas.Bool.{eqb-true}
 use Rattle.std.proofs.lemmas.Bool.Decides.{nat_tests}
 use Rattle.sp_base.specs.Bytes.{begins_with_byte}
 use Rattle.htl_syntax.specs.declared.stop.ExprStop.{ExprStop}
-use Rattle.htl_syntax.specs.declared.stop.ExprStop.TheVariants.{Memory, Unexpected, TooDeep}
+use Rattle.htl_syntax.specs.declared.stop.ExprStop.TheVariants.{NoMemory, Unexpected, TooDeep}
 use Rattle.htl_syntax.specs.declared.expression.Expression.{Expression}
 use Rattle.htl_syntax.specs.Read.{expression_read}
 use Rattle.htl_syntax.specs.Grammar.{WholeWithin}
@@ -52,7 +52,7 @@ module _ (levels : ℕ) where
   -- reading passed the colon
   passed : (p : List ℕ) (r : Result Expression ExprStop) → expression_read levels (p ++ colon_letter) ≡ r → passes_colon r ≡ true → Begun (p ++ 58 ∷ [])
   passed p (Ok e) r-is h = whole_letter p e (read_sound levels (p ++ colon_letter) e r-is)
-  passed p (Err Memory) r-is h = absurd cc
+  passed p (Err NoMemory) r-is h = absurd cc
   passed p (Err (Unexpected zero)) r-is h = with_letter p (more_here (p ++ colon_letter) 0 r-is)
   passed p (Err (Unexpected (suc zero))) r-is h = without_letter p (more_here (p ++ colon_letter) 1 r-is)
   passed p (Err (Unexpected (suc (suc n)))) r-is h = absurd (grind (arith, nat_tests))

@@ -5,7 +5,7 @@ use Rattle.std.proofs.lemmas.Bool.{eqb-true}
 use Rattle.std.proofs.lemmas.Bool.Decides.{nat_tests}
 use Rattle.sp_base.specs.Bytes.{begins_with_byte}
 use Rattle.htl_syntax.specs.declared.stop.ExprStop.{ExprStop}
-use Rattle.htl_syntax.specs.declared.stop.ExprStop.TheVariants.{Memory, Unexpected, TooDeep}
+use Rattle.htl_syntax.specs.declared.stop.ExprStop.TheVariants.{NoMemory, Unexpected, TooDeep}
 use Rattle.htl_syntax.specs.declared.expression.Expression.{Expression}
 use Rattle.htl_syntax.specs.declared.tokens.NameKind.TheVariants.{Field}
 use Rattle.htl_syntax.specs.Tokens.{begins, goes_on, is_letter, is_word_byte}
@@ -66,7 +66,7 @@ module _ (levels : ℕ) where
   deep_rest leading begin (c ∷ d ∷ rest) e n = omega arith
 
   rest_len : (leading : List ℕ) (d : ExprStop) (begin rest : List ℕ) → leading ++ colon_letter ≡ begin ++ rest → IsAt d rest → passes_colon (Err d) ≡ false → 2 ≤ length rest
-  rest_len leading Memory begin rest e i p = absurd i
+  rest_len leading NoMemory begin rest e i p = absurd i
   rest_len leading (Unexpected left) begin rest e i p = rw i (grind (arith, nat_tests))
   rest_len leading (TooDeep left) begin rest e i p = deep_rest leading begin rest e i.1
 

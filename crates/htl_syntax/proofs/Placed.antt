@@ -15,7 +15,7 @@ use Rattle.htl_syntax.proofs.LocalOptions.{failed}
 
 ok_read : (s : List ℕ) (r : Result Expression ExprStop) (e : Expression) → expression_answer nesting_limit s r ≡ Ok e → r ≡ Ok e
 ok_read s (Ok x) e p = let same : ◌≡◌ {A = Result Expression ExprFault} (Ok x) (Ok e) = p in cc
-ok_read s (Err stop.Memory) e p = absurd cc
+ok_read s (Err stop.NoMemory) e p = absurd cc
 ok_read s (Err (stop.Unexpected left)) e p = absurd cc
 ok_read s (Err (stop.TooDeep left)) e p = absurd cc
 
@@ -24,7 +24,7 @@ fault_is s f g p i = let same : f ≡ g = cc in subst (λ h. IsExpressionFault h
 
 fault_read : (s : List ℕ) (r : Result Expression ExprStop) (f : ExprFault) → expression_read nesting_limit s ≡ r → expression_answer nesting_limit s r ≡ Err f → IsExpressionFault f s
 fault_read s (Ok x) f q p = absurd cc
-fault_read s (Err stop.Memory) f q p = fault_is s _ f p tt
+fault_read s (Err stop.NoMemory) f q p = fault_is s _ f p tt
 fault_read s (Err (stop.Unexpected left)) f q p = fault_is s _ f p (unexpected_is s left _ q refl)
 fault_read s (Err (stop.TooDeep left)) f q p = fault_is s _ f p (too_deep_is s left _ q refl)
 
@@ -39,7 +39,7 @@ fault s f p = fault_read s (expression_read nesting_limit s) f refl p
 
 none_lacks : (s : List ℕ) (r : Result Expression ExprStop) → expression_read nesting_limit s ≡ r → expression_answer nesting_limit s r ≢ Err NoMemory
 none_lacks s (Ok x) q p = absurd cc
-none_lacks s (Err stop.Memory) q p = (failed nesting_limit stop.Memory s q).left
+none_lacks s (Err stop.NoMemory) q p = (failed nesting_limit stop.NoMemory s q).left
 none_lacks s (Err (stop.Unexpected left)) q p = absurd cc
 none_lacks s (Err (stop.TooDeep left)) q p = absurd cc
 

@@ -7,7 +7,7 @@ use Rattle.std.proofs.lemmas.List.{append-nil, length-drop}
 use Rattle.sp_base.specs.Outcomes.{◌>>=◌}
 use Rattle.sp_base.specs.Bytes.{begins_with_byte}
 use Rattle.htl_syntax.specs.declared.stop.ExprStop.{ExprStop}
-use Rattle.htl_syntax.specs.declared.stop.ExprStop.TheVariants.{Memory, Unexpected, TooDeep}
+use Rattle.htl_syntax.specs.declared.stop.ExprStop.TheVariants.{NoMemory, Unexpected, TooDeep}
 
 pub ok_is : {A : Type 0} (x y : A) → done x ≡ done y → x ≡ y
 ok_is x y e = cc
@@ -133,7 +133,7 @@ module _ (mark n : ℕ) (found leading rest after found' : List ℕ) (whole : Ou
   escapes h k = sym taken ∙ ap (read_with_prefix found') (backslash mark after h k ∙ escape_step mark (drop 1 after))
 
   pub escape_fails : (e : ExprStop) → begins_with_byte mark after ≡ false → begins_with_byte 92 after ≡ true → Fails e (escape (drop 1 after)) → Fails e whole
-  escape_fails Memory h k f = tt
+  escape_fails NoMemory h k f = tt
   escape_fails (Unexpected m) h k f = escapes h k ∙ rw f refl
   escape_fails (TooDeep m) h k f = escapes h k ∙ rw f refl
 

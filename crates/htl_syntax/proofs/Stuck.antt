@@ -1,24 +1,24 @@
 -- Where reading stops, the text before can be made a text of the grammar: how what was read and what is missing are put together.
 use Rattle.std.proofs.Common.{◌≡◌, ℕ, ◌<◌, false, List, [], ◌∷◌, ◌++◌, drop, length, Result, Err, refl, ap, sym, subst, ◌∙◌, inl, inr, append_assoc}
 use Rattle.htl_syntax.specs.declared.stop.ExprStop.{ExprStop}
-use Rattle.htl_syntax.specs.declared.stop.ExprStop.TheVariants.{Memory, Unexpected, TooDeep}
+use Rattle.htl_syntax.specs.declared.stop.ExprStop.TheVariants.{NoMemory, Unexpected, TooDeep}
 use Rattle.htl_syntax.specs.declared.tokens.NameKind.TheVariants.{Field}
 use Rattle.htl_syntax.specs.Tokens.{goes_on}
 use Rattle.htl_syntax.proofs.Moves.{Plain, plain_fresh, Clear, Near, Fits, near_clear, fits_near, near_in, fits_in, fits_after, clear_in, Moves, Steps, Jumps, Then}
 
 -- reading stopped where k bytes were left
 abbrev pub At : ExprStop → ℕ → Type 0
-At Memory k = ⊥
+At NoMemory k = ⊥
 At (Unexpected n) k = n ≡ k
 At (TooDeep n) k = n ≡ k
 
 pub at_length : {A : Type 0} (m : ℕ) (d : ExprStop) (k : ℕ) → ◌≡◌ {A = Result A ExprStop} (Err (Unexpected m)) (Err d) → At d k → m ≡ k
-at_length m Memory k e a = absurd a
+at_length m NoMemory k e a = absurd a
 at_length m (Unexpected n) k e a = (let same : m ≡ n = cc in same ∙ a)
 at_length m (TooDeep n) k e a = absurd cc
 
 pub at_depth : {A : Type 0} (m : ℕ) (d : ExprStop) (k : ℕ) → ◌≡◌ {A = Result A ExprStop} (Err (TooDeep m)) (Err d) → At d k → m ≡ k
-at_depth m Memory k e a = absurd a
+at_depth m NoMemory k e a = absurd a
 at_depth m (Unexpected n) k e a = absurd cc
 at_depth m (TooDeep n) k e a = (let same : m ≡ n = cc in same ∙ a)
 

@@ -17,7 +17,7 @@ colon_letter = 58 ∷ 98 ∷ []
 -- whether reading passes the colon, where a colon and a letter stand at the end
 abbrev pub passes_colon : Result Expression ExprStop → Bool
 passes_colon (Ok e) = true
-passes_colon (Err stop.Memory) = false
+passes_colon (Err stop.NoMemory) = false
 passes_colon (Err (stop.Unexpected left)) = nat_le left 1
 passes_colon (Err (stop.TooDeep left)) = false
 
@@ -32,7 +32,7 @@ fault_place levels t place = if begins_with_byte 58 (drop place t) && takes_colo
 -- the answer of the reading, with its place counted from the beginning of the text
 abbrev pub expression_answer : ℕ → List ℕ → Result Expression ExprStop → Result Expression ExprFault
 expression_answer levels t (Ok e) = Ok e
-expression_answer levels t (Err stop.Memory) = Err NoMemory
+expression_answer levels t (Err stop.NoMemory) = Err NoMemory
 expression_answer levels t (Err (stop.Unexpected left)) = Err (Unexpected (fault_place levels t (length t - left)))
 expression_answer levels t (Err (stop.TooDeep left)) = Err (TooDeep (length t - left))
 

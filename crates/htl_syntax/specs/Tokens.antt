@@ -5,7 +5,7 @@ use Rattle.sp_base.specs.Outcomes.{◌>>=◌}
 use Rattle.sp_base.specs.Limits.{greatest_i64, least_i64_magnitude}
 use Rattle.sp_base.specs.Bytes.{begins_with_byte, is_digit}
 use Rattle.htl_syntax.specs.declared.stop.ExprStop.{ExprStop}
-use Rattle.htl_syntax.specs.declared.stop.ExprStop.TheVariants.{Memory, Unexpected, TooDeep}
+use Rattle.htl_syntax.specs.declared.stop.ExprStop.TheVariants.{NoMemory, Unexpected, TooDeep}
 use Rattle.htl_syntax.specs.declared.tokens.NameKind.{NameKind}
 use Rattle.htl_syntax.specs.declared.tokens.NameKind.TheVariants.{Name, Field}
 
@@ -15,7 +15,7 @@ Outcome A = Result (A × List ℕ) ExprStop
 
 -- the reason is that of the reading, unless memory ran out
 abbrev pub Fails : {Y : Type 0} → ExprStop → Result Y ExprStop → Type 0
-Fails Memory read = Unit {0}
+Fails NoMemory read = Unit {0}
 Fails (Unexpected n) read = read ≡ Err (Unexpected n)
 Fails (TooDeep n) read = read ≡ Err (TooDeep n)
 

@@ -90,7 +90,7 @@ fn takes_colon(alloc: Global, leading: &str) -> Mem<bool>
     let text = with_colon(alloc, leading)?;
     match whole(alloc, text.as_str()) {
         Ok(_) => Ok(true),
-        Err(ExprStop::Memory) => Err(NoMemory),
+        Err(ExprStop::NoMemory) => Err(NoMemory),
         Err(ExprStop::Unexpected(left)) => Ok(left <= 1),
         Err(ExprStop::TooDeep(_)) => Ok(false),
     }
@@ -130,7 +130,7 @@ impl Expression {
     {
         match whole(alloc, text) {
             Ok(e) => Ok(e),
-            Err(ExprStop::Memory) => Err(ExprFault::NoMemory),
+            Err(ExprStop::NoMemory) => Err(ExprFault::NoMemory),
             Err(ExprStop::Unexpected(left)) => {
                 match place_of(alloc, text, text.len().saturating_sub(left)) {
                     Ok(place) => Err(ExprFault::Unexpected(place)),

@@ -74,7 +74,7 @@ fn push_flush_notes(alloc: Global, notes: &mut NoteList) -> Mem<()> {
     };
     notes.push(Note::Flush(flush, ConnectionId::new(3), inv))?;
     notes.push(Note::Sliced(flush))?;
-    notes.push(Note::Failed(flush, Failure::Memory))
+    notes.push(Note::Failed(flush, Failure::NoMemory))
 }
 
 const NOTES: &str = r#"@ 12

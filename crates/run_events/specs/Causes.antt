@@ -7,7 +7,7 @@ use Rattle.connections.specs.Connections.{IsInPlaceOfDue}
 use Rattle.connections.specs.Ids.{ConnectionId}
 use Rattle.connections.specs.Slots.{fixed_answer}
 use Rattle.run_events.specs.declared.conditions.Conditions.{Conditions}
-use Rattle.run_events.specs.declared.note.Failure.TheVariants.{Disk, Memory}
+use Rattle.run_events.specs.declared.note.Failure.TheVariants.{Disk, NoMemory}
 use Rattle.run_events.specs.declared.note.Note.{Note}
 use Rattle.run_events.specs.declared.note.Note.TheVariants.{Answer as answered, Ask as asked, Local, Failed, Rendered, Unkept, Sent, Down}
 use Rattle.run_events.specs.States.{RunState}
@@ -19,7 +19,7 @@ use Rattle.run_events.specs.Moves.{due_of_connection, state_after_note, treated_
 abbrev pub ShowsOutOfMemory : RunState → Note → Type 0
 ShowsOutOfMemory w (answered answer) = answer ≡ fixed_answer
 ShowsOutOfMemory w (Local c status) = status ≡ insufficient_storage
-ShowsOutOfMemory w (Failed number failure) = failure ≡ Memory
+ShowsOutOfMemory w (Failed number failure) = failure ≡ NoMemory
 ShowsOutOfMemory w (Rendered number answer) = answer ≡ fixed_answer
 ShowsOutOfMemory w (Unkept number) = Unit {0}
 ShowsOutOfMemory w (Sent c bytes) = IsInPlaceOfDue (due_of_connection w c) bytes

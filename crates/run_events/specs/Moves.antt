@@ -25,7 +25,7 @@ use Rattle.run_events.specs.declared.conditions.Conditions.{Conditions}
 use Rattle.run_events.specs.declared.flying.Flying.{Flying}
 use Rattle.run_events.specs.declared.flying.Flushing.{Flushing}
 use Rattle.run_events.specs.declared.note.Failure.{Failure}
-use Rattle.run_events.specs.declared.note.Failure.TheVariants.{Disk, Memory, Restart as cut_off}
+use Rattle.run_events.specs.declared.note.Failure.TheVariants.{Disk, NoMemory, Restart as cut_off}
 use Rattle.run_events.specs.declared.note.Note.{Note}
 use Rattle.run_events.specs.declared.note.Note.TheVariants.{Ask as asked, Hit, Local, Flush, Sliced, Done, Failed, Rendered, Kept, Unkept, Passed, Lost, Sent, Shut, Up, Down}
 use Rattle.run_events.specs.Publishers.{Publication}
@@ -98,7 +98,7 @@ GivesDue m w c Nothing note = ⊥
 
 -- a slice of the flush ended it, or left more to do; it failed only where the disk did, or memory ran out
 abbrev pub GivesSlice : Conditions → FlushId → Note → Type 0
-GivesSlice m flush note = (note ≡ Done flush) ⊎ ((note ≡ Sliced flush) ⊎ (((note ≡ Failed flush Disk) × IsTrue m.disk_failed) ⊎ ((note ≡ Failed flush Memory) × IsTrue m.out_of_memory)))
+GivesSlice m flush note = (note ≡ Done flush) ⊎ ((note ≡ Sliced flush) ⊎ (((note ≡ Failed flush Disk) × IsTrue m.disk_failed) ⊎ ((note ≡ Failed flush NoMemory) × IsTrue m.out_of_memory)))
 
 -- the note gives what is due next: the first slice of a flush that just began, or what the connection is owed
 abbrev pub GivesNext : Conditions → RunState → ConnectionId → Option FlushId → Note → Type 0
@@ -183,7 +183,7 @@ state_after_ending w number outcome response (Some flush) =
 -- section 11.5) where memory ran out (a restart has shut the connection)
 abbrev pub failure_status : Failure → ℕ
 failure_status Disk = 500
-failure_status Memory = insufficient_storage
+failure_status NoMemory = insufficient_storage
 failure_status cut_off = 500
 
 -- a flight is out of the air, and its connection has this answer

@@ -10,7 +10,7 @@ pub enum Failure {
     /// The disk failed.
     Disk,
     /// Memory ran out.
-    Memory,
+    NoMemory,
     /// A restart cut it off.
     Restart,
 }

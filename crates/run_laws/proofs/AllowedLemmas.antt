@@ -14,7 +14,7 @@ use Rattle.run_events.specs.declared.conditions.Conditions.{Conditions}
 use Rattle.run_events.specs.declared.flying.Flying.{Flying}
 use Rattle.run_events.specs.declared.flying.Flushing.{Flushing}
 use Rattle.run_events.specs.declared.note.Failure.{Failure}
-use Rattle.run_events.specs.declared.note.Failure.TheVariants.{Disk, Memory, Restart as cut_off}
+use Rattle.run_events.specs.declared.note.Failure.TheVariants.{Disk, NoMemory, Restart as cut_off}
 use Rattle.run_events.specs.declared.note.Note.{Note}
 use Rattle.run_events.specs.declared.note.Note.TheVariants.{Ask as asked, Hit, Local, Flush, Sliced, Done, Failed, Rendered, Kept, Unkept, Passed, Lost, Sent, Shut, Up, Down}
 use Rattle.run_events.specs.declared.step.Step.{Step}
@@ -80,7 +80,7 @@ ending-adds m restarts w v outcome response allowed (Some flush) = adds-one _ _ 
 
 failing : (m : Conditions) (restarts : Bool) (v : ℕ) (failure : Failure) → FitsCall restarts (Failed v failure) → MayFail m failure → HasFallenShort (call_conditions m restarts) ⊎ IsTrue restarts
 failing m restarts v Disk fits may = inl (inl may)
-failing m restarts v Memory fits may = inl (inr may)
+failing m restarts v NoMemory fits may = inl (inr may)
 failing m true v cut_off fits may = inr refl
 failing m false v cut_off fits may = absurd fits
 

@@ -16,7 +16,7 @@ use Rattle.run_events.specs.declared.conditions.Conditions.{Conditions}
 use Rattle.run_events.specs.declared.flying.Flying.{Flying}
 use Rattle.run_events.specs.declared.flying.Flushing.{Flushing}
 use Rattle.run_events.specs.declared.note.Failure.{Failure}
-use Rattle.run_events.specs.declared.note.Failure.TheVariants.{Disk, Memory, Restart as cut_off}
+use Rattle.run_events.specs.declared.note.Failure.TheVariants.{Disk, NoMemory, Restart as cut_off}
 use Rattle.run_events.specs.declared.note.Note.{Note}
 use Rattle.run_events.specs.declared.note.Note.TheVariants.{Ask as asked, Hit, Flush, Sliced, Done, Failed, Kept, Unkept, Passed, Lost, Up, Down}
 use Rattle.run_events.specs.States.{RunState}
@@ -38,7 +38,7 @@ pub record IsFirstFlush (flushes : List Flushing) (v : ℕ) : Type 0 where
 -- why a flush may fail
 abbrev pub MayFail : Conditions → Failure → Type 0
 MayFail m Disk = IsTrue m.disk_failed
-MayFail m Memory = IsTrue m.out_of_memory
+MayFail m NoMemory = IsTrue m.out_of_memory
 MayFail m cut_off = Unit {0}
 
 -- the request that is treated

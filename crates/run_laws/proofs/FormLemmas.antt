@@ -15,7 +15,7 @@ use Rattle.run_events.specs.declared.conditions.Conditions.{Conditions}
 use Rattle.run_events.specs.declared.flying.Flying.{Flying}
 use Rattle.run_events.specs.declared.flying.Flushing.{Flushing}
 use Rattle.run_events.specs.declared.note.Failure.{Failure}
-use Rattle.run_events.specs.declared.note.Failure.TheVariants.{Disk, Memory, Restart as cut_off}
+use Rattle.run_events.specs.declared.note.Failure.TheVariants.{Disk, NoMemory, Restart as cut_off}
 use Rattle.run_events.specs.declared.note.Note.{Note}
 use Rattle.run_events.specs.declared.note.Note.TheVariants.{Ask as asked, Hit, Local, Flush, Sliced, Done, Failed, Kept, Unkept, Passed, Lost, Sent, Shut, Up, Down}
 use Rattle.run_events.specs.States.{RunState}
@@ -63,7 +63,7 @@ pub slice-form : (m : Conditions) (v : ℕ) (note : Note) → GivesSlice m v not
 slice-form m v note (inl done) = inl done
 slice-form m v note (inr (inl sliced)) = inr (inl sliced)
 slice-form m v note (inr (inr (inl disk))) = inr (inr (Disk, disk.0))
-slice-form m v note (inr (inr (inr memory))) = inr (inr (Memory, memory.0))
+slice-form m v note (inr (inr (inr memory))) = inr (inr (NoMemory, memory.0))
 
 -- ---- a landing
 abbrev pub IsLandingNote : ℕ → Note → Type 0

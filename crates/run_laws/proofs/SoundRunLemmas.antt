@@ -12,7 +12,7 @@ use Rattle.run_events.specs.declared.conditions.Conditions.{Conditions}
 use Rattle.run_events.specs.declared.flying.Flying.{Flying}
 use Rattle.run_events.specs.declared.flying.Flushing.{Flushing}
 use Rattle.run_events.specs.declared.note.Failure.{Failure}
-use Rattle.run_events.specs.declared.note.Failure.TheVariants.{Disk, Memory, Restart as cut_off}
+use Rattle.run_events.specs.declared.note.Failure.TheVariants.{Disk, NoMemory, Restart as cut_off}
 use Rattle.run_events.specs.declared.note.Note.{Note}
 use Rattle.run_events.specs.declared.note.Note.TheVariants.{Ask as asked, Hit, Local, Flush, Sliced, Done, Failed, Rendered, Kept, Unkept, Passed, Lost, Sent, Shut, Up, Down}
 use Rattle.run_events.specs.States.{RunState}
@@ -61,7 +61,7 @@ ending-sound under w v outcome response allowed sound (Some flush) = sound-ended
 
 failed-under : (m : Conditions) (failure : Failure) → MayFail m failure → (under : CallConditions) × (HasFallenShort under ⊎ IsTrue under.restarts)
 failed-under m Disk may = (call_conditions m false, inl (inl may))
-failed-under m Memory may = (call_conditions m false, inl (inr may))
+failed-under m NoMemory may = (call_conditions m false, inl (inr may))
 failed-under m cut_off may = (call_conditions m true, inr refl)
 
 -- ---- notes that tell of a flight

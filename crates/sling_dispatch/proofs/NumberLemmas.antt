@@ -29,7 +29,7 @@ use Rattle.run_events.specs.declared.conditions.Conditions.{Conditions}
 use Rattle.run_events.specs.declared.flying.Flying.{Flying}
 use Rattle.run_events.specs.declared.flying.Flushing.{Flushing}
 use Rattle.run_events.specs.declared.note.Failure.{Failure}
-use Rattle.run_events.specs.declared.note.Failure.TheVariants.{Disk, Memory, Restart as cut_off}
+use Rattle.run_events.specs.declared.note.Failure.TheVariants.{Disk, NoMemory, Restart as cut_off}
 use Rattle.run_events.specs.declared.note.Note.{Note}
 use Rattle.run_events.specs.declared.note.Note.TheVariants.{Answer as answered, Ask as asked, Hit, Local, Flush, Done, Failed, Rendered, Kept, Unkept, Passed, Lost, Sent, Shut, Refused, Idle, Up, Hurt, OutOfMemory}
 use Rattle.run_events.specs.declared.step.Pick.{Pick}
@@ -242,7 +242,7 @@ slice-fits : (top : ℕ) (m : Conditions) (w : RunState) (v : ℕ) (note : Note)
 slice-fits top m w v note fits most (inl done) = rw done (record { numbers = omega (arith, most); state = ending-fits top w v _ _ (flush_at v w.flushes) fits })
 slice-fits top m w v note fits most (inr (inl sliced)) = rw sliced (record { numbers = tt; state = record { stamps_are = fits.stamps_are; epochs_are = fits.epochs_are; flights = fits.flights; flushes = fits.flushes; slicing = tt; open_fit = fits.open_fit; publishing_is = fits.publishing_is } })
 slice-fits top m w v note fits most (inr (inr (inl disk))) = rw disk.0 (failed-fits top w v Disk fits most)
-slice-fits top m w v note fits most (inr (inr (inr memory))) = rw memory.0 (failed-fits top w v Memory fits most)
+slice-fits top m w v note fits most (inr (inr (inr memory))) = rw memory.0 (failed-fits top w v NoMemory fits most)
 
 -- ---- a request
 fault-short : (f : InFault) → fault_status f < 65536

@@ -1,2 +1,3 @@
 pub mod Inclusions
 pub mod Limits
+pub mod Slashes

@@ -1,7 +1,8 @@
-//! What a page puts in, and where it is refused: laws of the definitions, on functions that do nothing.
+//! What a page puts in, where it is refused, and what a slash changes: laws of the definitions, on functions that do nothing.
 
 ghost use Rattle.page_laws.specs.Inclusions.{ScriptsStandForTheSameResource, ResourcesStandByTheirFirstScript, NothingStandsForMissingScripts, NothingStandsForMissingResources, PagesOfOneIncludeAreThatScripts, PagesOfOneResourceAreThatResources, MissingScriptsAreCounted, MissingResourcesAreCounted};
 ghost use Rattle.page_laws.specs.Limits.{PagesAreRefusedWhereTheyPassALimit};
+ghost use Rattle.page_laws.specs.Slashes.{ReadsAreAnsweredAlike};
 
 use htl_blocks::the_blocks_are_the_text;
 use publisher::an_answer_is_one_of_the_cases;
@@ -34,3 +35,9 @@ pub fn a_page_is_refused_where_a_limit_is_passed()
 {
     an_answer_is_one_of_the_cases();
 }
+
+/// A GET or HEAD is answered alike with a slash at the path's end and without one. What two requests for one page are asked differs in no more
+/// (`requests_for_one_page_are_asked_alike` of `dispatch_rules`), so a page that was kept for one is the answer to the other on that content.
+pub fn a_slash_changes_no_answer_to_a_read()
+    ensures { ReadsAreAnsweredAlike }
+{}

@@ -5,7 +5,7 @@ use Rattle.std.proofs.lemmas.List.{length-append}
 use Rattle.std.proofs.Math.Seq.{drop-nil}
 use Rattle.sp_base.specs.Bytes.{begins_with_byte}
 use Rattle.htl_syntax.specs.declared.stop.ExprStop.{ExprStop}
-use Rattle.htl_syntax.specs.declared.stop.ExprStop.TheVariants.{NoMemory as stopped, Unexpected, TooDeep}
+use Rattle.htl_syntax.specs.declared.stop.ExprStop.TheVariants.{NoMemory as out_of_memory, Unexpected, TooDeep}
 use Rattle.htl_syntax.specs.declared.expression.Expression.{Expression}
 use Rattle.htl_syntax.specs.declared.expression.ExprFault.{ExprFault}
 use Rattle.htl_syntax.specs.declared.expression.ExprFault.TheVariants as fault
@@ -103,7 +103,7 @@ some_deeper levels s left e = go (expression_read (suc levels) s) refl (deeper_b
 
     go : (o : Result Expression ExprStop) → expression_read (suc levels) s ≡ o → Beyond nothing left o → HasSome (suc levels) s (length s - left)
     go (Ok x) r b = record { text = s; tree = x; agree = agree_same (length s - left) s; whole = read_sound (suc levels) s x r }
-    go (Err stopped) r b = absurd ((failed (suc levels) stopped s r).left)
+    go (Err out_of_memory) r b = absurd ((failed (suc levels) out_of_memory s r).left)
     go (Err (Unexpected k)) r b = later_some (suc levels) s (length s - left) (length s - k) (omega (arith, within, b)) (omega (arith, within, b)) (stopped (suc levels) s (Unexpected k) k r refl)
     go (Err (TooDeep k)) r b = later_some (suc levels) s (length s - left) (length s - k) (omega (arith, within, b)) (omega (arith, within, b)) (stopped (suc levels) s (TooDeep k) k r refl)
 
@@ -145,7 +145,7 @@ same_takes levels s place m = go (expression_read levels u) refl
 
     go : (o : Result Expression ExprStop) → expression_read levels u ≡ o → passes_colon (expression_read (suc levels) u) ≡ passes_colon (expression_read levels u)
     go (Ok e) r = ap passes_colon (deeper_ok levels u e r ∙ sym r)
-    go (Err stopped) r = absurd ((failed levels stopped u r).left)
+    go (Err out_of_memory) r = absurd ((failed levels out_of_memory u r).left)
     go (Err (Unexpected k)) r = ap passes_colon (deeper_unexpected levels u k r ∙ sym r)
     go (Err (TooDeep k)) r = absurd (letter_not_deep levels s place m k r)
 

@@ -47,6 +47,14 @@ not_blank b = not (b == 32)
 abbrev pub connection_text : List ℕ → ℕ → List ℕ → List ℕ
 connection_text word c rest = word ++ (decimal c ++ 32 ∷ rest)
 
+-- the word is no connection's number
+abbrev pub IsNoConnection : List ℕ → Type 0
+IsNoConnection word = (c : ConnectionId) → IsConnectionNumber c → word ≢ decimal c
+
+-- no connection's number stands after a word that the line begins with, before a blank
+abbrev pub IsOfNoConnectionAfter : List ℕ → List ℕ → Type 0
+IsOfNoConnectionAfter word line = (c : ConnectionId) (rest : List ℕ) → IsConnectionNumber c → line ≢ connection_text word c rest
+
 -- the line has none of these forms
 abbrev pub IsNoDirect : List ℕ → Type 0
 IsNoDirect line = (target : List ℕ) → IsTrue (is_visible_text target) → line ≢ codes "direct " ++ target

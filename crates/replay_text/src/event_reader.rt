@@ -4,7 +4,7 @@ ghost use Rattle.std.specs.List.{list_all};
 ghost use Rattle.std.specs.Fmt.{decimal};
 ghost use Rattle.replay_text.specs.Transcript.{IsConnectionNumber};
 ghost use Rattle.replay_text.specs.EventLines.{flight_text, IsFlightText};
-ghost use Rattle.replay_text.specs.Quoting.{not_blank, connection_text};
+ghost use Rattle.replay_text.specs.Quoting.{not_blank, connection_text, IsNoConnection, IsOfNoConnectionAfter};
 
 use crate::event_line::NamedFlight;
 use crate::lines::same;
@@ -51,7 +51,7 @@ pub fn number(alloc: Global, word: &[u8]) -> Mem<Option<u64>>
 // The number of a connection that a word spells.
 pub fn connection(alloc: Global, word: &[u8]) -> Mem<Option<ConnectionId>>
     ensures some { IfOk result (λ o. IfSome o (λ c. IsConnectionNumber c × (word.now ≡ decimal c))) }
-    ensures none { IfOk result (λ o. IfNone o ((c : ℕ) → IsConnectionNumber c → word.now ≢ decimal c)) }
+    ensures none { IfOk result (λ o. IfNone o (IsNoConnection word.now)) }
 {
     let Some(n) = number(alloc, word)? else {
         return Ok(None);
@@ -107,14 +107,15 @@ pub fn flight_after(alloc: Global, line: &[u8], word: &[u8]) -> Mem<Option<Named
     }
 }
 
-// The number of a connection after a word that is the line's beginning, and the text after a blank.
+// The number of a connection after a word that is the line's beginning, and the text after a blank. It is the number alone, since the kit's
+// borrow checker has no rule for a pair of a struct and a lent text.
 pub fn connection_after<'a>(
     alloc: Global,
     line: &'a [u8],
     word: &[u8],
 ) -> Mem<Option<(u32, &'a [u8])>>
     ensures some { IfOk result (λ o. IfSome o (λ p. IsConnectionNumber p.0 × (line.now ≡ connection_text word.now p.0 p.1.now))) }
-    ensures none { IfOk result (λ o. IfNone o ((c : ℕ) (rest : List ℕ) → IsConnectionNumber c → line.now ≢ connection_text word.now c rest)) }
+    ensures none { IfOk result (λ o. IfNone o (IsOfNoConnectionAfter word.now line.now)) }
 {
     let Some(after) = after_word(line, word) else {
         return Ok(None);
